@@ -1,0 +1,43 @@
+// The chip: its registers by name, images of its program memory, and what a run of it is.
+//
+// In: words of program memory. Out: images, and the addresses and names of registers and bits.
+// The promise: a name has the address that the data sheet gives it, and an image holds exactly
+// the words that were set. The definitions of the chip's run stand in specs/.
+#![tactic(auto)]
+
+pub mod image;
+
+pub use image::Image;
+
+/// Whose code a function copy belongs to: `main`, or the interrupt handler.
+#[derive(Clone, Copy, PartialEq, Eq, Debug)]
+pub enum Root {
+    Main,
+    Isr,
+}
+
+/// An interrupt flag of INTCON that the outside can set (Microchip data sheet DS39582, INTCON):
+/// the change of port B's upper half, the external pin, or the overflow of timer 0.
+#[derive(Clone, Copy, PartialEq, Eq, Debug)]
+pub enum Flag {
+    Rbif,
+    Intf,
+    Tmr0if,
+}
+
+/// A flag that is set before the instruction of index `t`, counted from 0 at reset.
+#[derive(Clone, Copy, PartialEq, Eq, Debug)]
+pub struct Arrival {
+    pub t: u32,
+    pub flag: Flag,
+}
+
+/// What is unknown after power-on. `flags` is below 8 and has Z, DC and C as bits 2, 1 and 0.
+/// The bytes of `ram` are the 368 general bytes in order of address.
+#[derive(Clone, Copy)]
+pub struct Start {
+    pub w: u8,
+    pub fsr: u8,
+    pub flags: u8,
+    pub ram: [u8; 368],
+}
