@@ -1,0 +1,4 @@
+pub mod Ticks
+
+pub mod Stages
+pub mod Faithful

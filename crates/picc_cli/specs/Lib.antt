@@ -1,0 +1,4 @@
+pub mod MapContent
+pub mod Headline
+pub mod PortProgram
+pub mod PortCode
