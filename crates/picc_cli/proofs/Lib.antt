@@ -2,3 +2,4 @@ pub mod Ticks
 
 pub mod Stages
 pub mod Faithful
+pub mod Placing
