@@ -34,7 +34,7 @@ impl Image {
     pub fn blank(alloc: Global) -> Result<Image, AllocError>
         ensures { IfOk result (λ image. image ≡ replicate 8192 0x3fff) }
     {
-        let words = vec![in alloc; BLANK; WORDS as usize]?;
+        let words = erased(alloc)?;
         Ok(Image { words })
     }
 
@@ -56,4 +56,10 @@ impl Image {
     {
         self.words[at as usize] = word;
     }
+}
+
+fn erased(alloc: Global) -> Result<Vec<u16>, AllocError>
+    ensures { IfOk result (λ words. words.items ≡ replicate 8192 0x3fff) }
+{
+    vec![in alloc; BLANK; WORDS as usize]
 }

@@ -41,3 +41,19 @@ pub struct Start {
     pub flags: u8,
     pub ram: [u8; 368],
 }
+
+/// What an event of a trace is about: a device register, by its lowest address, or a byte of a static
+/// object, by the number of the object's line in the map and the byte's offset.
+#[derive(Clone, Copy, PartialEq, Eq, Debug)]
+pub enum Cell {
+    Device { address: u8 },
+    Static { object: u16, offset: u16 },
+}
+
+/// An event of a trace: one byte access, or the end of main.
+#[derive(Clone, Copy, PartialEq, Eq, Debug)]
+pub enum Event {
+    Read { cell: Cell, value: u8 },
+    Write { cell: Cell, value: u8 },
+    End,
+}

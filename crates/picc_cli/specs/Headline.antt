@@ -1,0 +1,139 @@
+-- The headline: what a HEX image does on the chip is a run of the source program that calls the handler whole.
+use Rattle.std.specs.Prelude.{ℕ, ◌+◌, ◌-◌, ◌*◌, ◌≡◌, ◌≢◌, ◌<◌, ◌≤◌, Bool, true, false, ◌&&◌, ◌||◌, nat_eq, nat_le, if◌then◌else◌, List, [], ◌∷◌, length, take, slice_index, slice_index_or, slice_get, Some, Contains}
+use Rattle.pic_chip.specs.declared.Arrival.{Arrival}
+use Rattle.pic_chip.specs.declared.Root.{Root}
+use Rattle.pic_chip.specs.declared.Root.TheVariants.{Main, Isr}
+use Rattle.pic_chip.specs.declared.Start.{Start}
+use Rattle.pic_chip.specs.declared.Cell.{Cell}
+use Rattle.pic_chip.specs.declared.Cell.TheVariants as cells
+use Rattle.pic_chip.specs.declared.Event.{Event}
+use Rattle.pic_chip.specs.declared.Event.TheVariants as events
+use Rattle.pic_chip.specs.Address.{byte_at}
+use Rattle.pic_chip.specs.Instructions.{is_modelled}
+use Rattle.pic_isa.specs.Lookup.{row_of}
+use Rattle.pic_chip.specs.Interrupts.{arriving}
+use Rattle.pic_chip.specs.Run.{IsStart, Setting, Moment, moment, is_handling}
+use Rattle.picc_cli.specs.MapContent.{ObjectLine, FrameLine, MapContent, watch_of, overlap}
+
+-- ---- the source
+-- A run of the source under one schedule, over one input list.
+pub record SourceRun : Type 0 where
+  -- the trace after so many steps, its values as the map shows them; it stays where the run goes no further
+  pub trace : ℕ → List Event
+  -- the step of this number, counted from 0, is not undefined
+  pub is_defined : ℕ → Bool
+
+-- What the theorem needs of a program.
+pub record Source : Type 0 where
+  -- its static objects and its function copies, in the order of placing, where they are to stand
+  pub objects : List ObjectLine
+  pub frames : List FrameLine
+  -- the copies of these two numbers may be live together
+  pub live_together : ℕ → ℕ → Bool
+  -- the initial bytes of each static object, as the map shows them
+  pub initial : List (List ℕ)
+  -- how many nodes the typed tree has
+  pub nodes : ℕ
+  -- A schedule has pairs of a trace length and a flag: the flag is set as soon as the trace has that length.
+  pub run : List Arrival → List ℕ → SourceRun
+
+-- ---- the schedule, read off the chip's own trace
+-- Each arrival before moment n falls where the chip's trace stood at that moment.
+abbrev pub read_off : (ℕ → List Event) → ℕ → List Arrival → List Arrival
+read_off trace n [] = []
+read_off trace n (a ∷ arrivals) =
+    if nat_le a.t n then record a { t = length (trace a.t) } ∷ read_off trace n arrivals else read_off trace n arrivals
+
+-- ---- words
+-- xs stands at the front of ys
+abbrev pub IsFrontOf : List Event → List Event → Type 0
+IsFrontOf xs ys = take (length xs) ys ≡ xs
+
+-- after j steps, and not before, the trace has this length
+pub record ComesTo (trace : ℕ → List Event) (long j : ℕ) : Type 0 where
+  pub here : length (trace j) ≡ long
+  pub before : (i : ℕ) → i < j → length (trace i) < long
+
+-- no arrival falls after moment t and up to moment n
+abbrev pub IsQuiet : List Arrival → ℕ → ℕ → Type 0
+IsQuiet arrivals t n = (a : Arrival) → Contains arrivals a → t < a.t → n < a.t
+
+-- the event writes this byte of this object
+abbrev pub writes : ℕ → ℕ → Event → Bool
+writes object offset (events.Write (cells.Static i k) v) = nat_eq i object && nat_eq k offset
+writes object offset _ = false
+
+abbrev pub written_by : Event → ℕ
+written_by (events.Write cell v) = v
+written_by _ = 0
+
+-- the last value written, or the one from before
+abbrev pub last_written : ℕ → ℕ → ℕ → List Event → ℕ
+last_written object offset v [] = v
+last_written object offset v (e ∷ es) = last_written object offset (if writes object offset e then written_by e else v) es
+
+-- Frames of this root stay as they are: main's while the handler runs, and the handler's at other times.
+abbrev pub is_guarded : Bool → Root → Bool
+is_guarded true Main = true
+is_guarded true Isr = false
+is_guarded false Main = false
+is_guarded false Isr = true
+
+-- ---- one run of the chip
+module _ (source : Source) (content : MapContent) (g : Setting) where
+  abbrev pub trace_at : ℕ → List Event
+  trace_at n = (moment g n).trace
+
+  -- the source run whose handler is called where the arrivals up to moment n fall in the chip's trace
+  abbrev pub run_at : ℕ → SourceRun
+  run_at n = source.run (read_off trace_at n g.arrivals) g.inputs
+
+  -- No step that counts is undefined: one that is among the first (m + 1) * nodes, and begins while the
+  -- source's trace is no longer than the chip's.
+  abbrev pub IsClean : ℕ → Type 0
+  IsClean n =
+      (m j : ℕ) → m ≤ n → j < (m + 1) * source.nodes → length ((run_at m).trace j) ≤ length (trace_at m) → (run_at m).is_defined j ≡ true
+
+  pub record Follows : Type 0 where
+    -- the chip's trace is a prefix of the source's
+    pub prefix : (n : ℕ) → IsClean n → (k : ℕ) × IsFrontOf (trace_at n) ((run_at n).trace k)
+    -- 8,192 (m + 1) instructions without an arrival make the events of the source's next m steps
+    pub pace : (n t m j : ℕ) → IsClean n → t ≤ n → IsQuiet g.arrivals t n → 8192 * (m + 1) ≤ n - t
+      → ComesTo (run_at n).trace (length (trace_at t)) j → IsFrontOf ((run_at n).trace (j + m)) (trace_at n)
+    -- each byte of a static object that isn't const holds its initial value or the last one written
+    pub end_state : (n i k : ℕ) (line : ObjectLine) → IsClean n → (moment g n).met ≡ true
+      → slice_get content.objects i ≡ Some line → line.constant ≡ false → k < line.size
+      → byte_at (moment g n).state (line.address + k) ≡ last_written i k (slice_index (slice_index_or source.initial i []) k) (trace_at n)
+    -- the return stack never runs over nor under
+    pub no_underflow : (n k : ℕ) → IsClean n → k ≤ n → (moment g k).state.pops ≤ (moment g k).state.pushes
+    pub no_overflow : (n k : ℕ) → IsClean n → k ≤ n → (moment g k).state.pushes ≤ (moment g k).state.pops + 8
+    -- the handler changes no byte of a frame of main's, and main none of the handler's
+    pub frames : (n k b : ℕ) (line : FrameLine) → IsClean n → k < n → (moment g k).met ≡ true
+      → Contains content.frames line → b < line.size
+      → is_guarded (is_handling (arriving g.arrivals k) (moment g k)) line.root ≡ true
+      → byte_at (moment g (k + 1)).state (line.address + b) ≡ byte_at (moment g k).state (line.address + b)
+    -- main is met within 4,096 instructions, and no device register is accessed before
+    pub start_up : (moment g 4096).met ≡ true
+    pub no_early_access : (n : ℕ) → (moment g n).early ≡ []
+
+-- ---- all runs
+-- from anything that power-on leaves, over any input list and any arrivals
+abbrev pub setting_of : MapContent → List ℕ → Start → List ℕ → List Arrival → Setting
+setting_of content image start inputs arrivals =
+    record { image = image; watch = watch_of content; start = start; inputs = inputs; arrivals = arrivals }
+
+pub record IsFaithful (source : Source) (content : MapContent) (image : List ℕ) : Type 0 where
+  -- every word is one of an instruction that the model has
+  pub words : (at : ℕ) → at < 8192 → is_modelled (row_of (slice_index image at)) ≡ true
+  -- the map has exactly the program's objects and copies, where they are to stand
+  pub objects : content.objects ≡ source.objects
+  pub copies : content.frames ≡ source.frames
+  pub main : content.main < 0x2000
+  pub halt : content.halt < 0x2000
+  -- frames that may be live together have no byte in common, nor has a frame with a static object
+  pub apart : (i j : ℕ) (x y : FrameLine) → i ≢ j → slice_get content.frames i ≡ Some x → slice_get content.frames j ≡ Some y
+    → source.live_together i j ≡ true → overlap x.address x.size y.address y.size ≡ false
+  pub clear_of_objects : (x : FrameLine) (y : ObjectLine) → Contains content.frames x → Contains content.objects y
+    → overlap x.address x.size y.address y.size ≡ false
+  pub runs : (start : Start) (inputs : List ℕ) (arrivals : List Arrival) → IsStart start → ((k : ℕ) → slice_index inputs k < 256)
+    → Follows source content (setting_of content image start inputs arrivals)
