@@ -6,8 +6,10 @@
 #![tactic(auto)]
 
 pub mod image;
+pub mod registers;
 
 pub use image::Image;
+pub use registers::{bit, register, register_name};
 
 /// Whose code a function copy belongs to: `main`, or the interrupt handler.
 #[derive(Clone, Copy, PartialEq, Eq, Debug)]
