@@ -3,3 +3,4 @@ pub mod Ticks
 pub mod Stages
 pub mod Faithful
 pub mod Placing
+pub mod Spelling

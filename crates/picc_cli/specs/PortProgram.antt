@@ -33,22 +33,30 @@ number_text n =
     if nat_lt n 100 then digit (n / 10) ∷ digit (n % 10) ∷ [] else
     digit (n / 100) ∷ digit (n / 10 % 10) ∷ digit (n % 10) ∷ []
 
--- REG=N;
+-- REG=N; with a port's letter from A (65) on, `=` (61) and `;` (59)
 abbrev pub assignment_text : Assignment → List ℕ
-assignment_text a = side_text a.side ++ (65 + a.port) ∷ codes "=" ++ number_text a.value ++ codes ";"
+assignment_text a = side_text a.side ++ ((65 + a.port) ∷ 61 ∷ (number_text a.value ++ 59 ∷ []))
 
 abbrev pub assignments_text : List Assignment → List ℕ
 assignments_text [] = []
 assignments_text (a ∷ rest) = assignment_text a ++ assignments_text rest
 
-abbrev pub program_text : List Assignment → List ℕ
-program_text assignments = codes "void main(void){" ++ assignments_text assignments ++ codes "}"
+abbrev pub beginning : List ℕ
+beginning = codes "void main(void){"
+
+-- no assignment stands at the front
+abbrev pub HasNoAssignment : List ℕ → Type 0
+HasNoAssignment text = (a : Assignment) (rest : List ℕ) → IsFine a → text ≡ assignment_text a ++ rest → ⊥
+
+-- the closing brace, and at most one line feed
+abbrev pub IsEnd : List ℕ → Type 0
+IsEnd text = (text ≡ codes "}") ⊎ (text ≡ 125 ∷ 10 ∷ [])
 
 -- the text is this program
 pub record IsProgram (text : List ℕ) (assignments : List Assignment) : Type 0 where
   pub few : length assignments ≤ 146
   pub fit : AllFit assignments
-  pub spelled : (text ≡ program_text assignments) ⊎ (text ≡ program_text assignments ++ 10 ∷ [])
+  pub spelled : (end : List ℕ) × IsEnd end × (text ≡ beginning ++ (assignments_text assignments ++ end))
 
 -- ---- meaning
 -- a register's lowest address
