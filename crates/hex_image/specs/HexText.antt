@@ -1,5 +1,5 @@
 -- The one text that is written for an image.
-use Rattle.std.specs.Prelude.{ℕ, zero, suc, ◌+◌, ◌-◌, ◌*◌, ◌/◌, ◌%◌, nat_eq, List, [], ◌∷◌, ◌++◌, if◌then◌else◌, slice_index, codes}
+use Rattle.std.specs.Prelude.{ℕ, zero, suc, ◌+◌, ◌-◌, ◌*◌, ◌/◌, ◌%◌, nat_eq, Bool, List, [], ◌∷◌, ◌++◌, if◌then◌else◌, slice_index, codes}
 use Rattle.std.specs.List.{sum, list_all}
 use Rattle.pic_chip.specs.Text.{hex_pairs}
 
@@ -26,9 +26,13 @@ block image k =
 abbrev pub block_bytes : List ℕ → ℕ → List ℕ
 block_bytes words k = 16 ∷ (16 * k / 256) ∷ (16 * k % 256) ∷ 0 ∷ word_bytes words
 
+-- every word is as it was erased
+abbrev pub is_erased : List ℕ → Bool
+is_erased words = list_all (λ w. nat_eq w 0x3fff) words
+
 -- nothing for an erased block, else one record
-abbrev pub block_text : List ℕ → ℕ → List ℕ
-block_text words k = if list_all (λ w. nat_eq w 0x3fff) words then [] else record_line (block_bytes words k)
+unfoldable pub block_text : List ℕ → ℕ → List ℕ
+block_text words k = if is_erased words then [] else record_line (block_bytes words k)
 
 -- the blocks below a number, in order
 unfoldable pub blocks_text : List ℕ → ℕ → List ℕ

@@ -9,6 +9,7 @@ ghost use Rattle.std.specs.Prelude.{◌≡◌, ◌<◌, ◌++◌, ◌∷◌, [],
 ghost use Rattle.hex_image.specs.HexFile.{IsHexFile};
 ghost use Rattle.hex_image.specs.HexText as spec;
 ghost use Rattle.pic_chip.specs.Text.{hex_pairs};
+ghost use Rattle.pic_chip.specs.Words.{AreWords};
 
 use pic_chip::Image;
 use pic_chip::image::BLANK;
@@ -20,6 +21,7 @@ const BLOCK: u16 = 8;
 /// How many blocks program memory has.
 const BLOCKS: u16 = 1024;
 
+#[tactic(auto, using(crate::proofs::Written::blocks_on, crate::proofs::Written::whole))]
 /// The HEX text of an image: one record of kind 04, then for each eight words from a multiple of
 /// 8 that aren't all erased one record of 16 bytes, then the end record. Digits are upper case,
 /// and lines end at LF (Intel, Hexadecimal Object File Format Specification).
@@ -44,7 +46,8 @@ pub fn one_content()
 
 fn block(image: &Image, k: u16) -> [u16; 8]
     requires { k < 1024 }
-    ensures { result ≡ spec.block image.now k }
+    ensures words { AreWords image.now }
+    ensures value { result ≡ spec.block image.now k }
 {
     let at = BLOCK * k;
     [
@@ -59,17 +62,25 @@ fn block(image: &Image, k: u16) -> [u16; 8]
     ]
 }
 
+#[tactic(auto, using(crate::proofs::Written::nothing_behind), unfolding(crate::specs::HexText::block_text))]
 fn push_block(alloc: Global, text: &mut Vec<u8>, words: &[u16], k: u16) -> Result<(), AllocError>
     requires { k < 1024 }
     ensures { OnOk result (text.new.items ≡ text.old.items ++ spec.block_text words.now k) }
 {
-    if words.iter().all(|w| *w == BLANK) {
+    if is_erased(words) {
         return Ok(());
     }
     let bytes = block_bytes(alloc, words, k)?;
     push_record(alloc, text, &bytes)
 }
 
+fn is_erased(words: &[u16]) -> bool
+    ensures { result ≡ spec.is_erased words.now }
+{
+    words.iter().all(|w| *w == BLANK)
+}
+
+#[tactic(auto, using(crate::proofs::Bytes::words_on), unfolding(crate::specs::HexText::word_bytes))]
 fn block_bytes(alloc: Global, words: &[u16], k: u16) -> Result<Vec<u8>, AllocError>
     requires { k < 1024 }
     ensures { IfOk result (λ bytes. bytes.items ≡ spec.block_bytes words.now k) }
@@ -83,6 +94,7 @@ fn block_bytes(alloc: Global, words: &[u16], k: u16) -> Result<Vec<u8>, AllocErr
     Ok(bytes)
 }
 
+#[tactic(auto, using(crate::proofs::Written::record_parts))]
 fn push_record(alloc: Global, text: &mut Vec<u8>, bytes: &[u8]) -> Result<(), AllocError>
     ensures { OnOk result (text.new.items ≡ text.old.items ++ spec.record_line bytes.now) }
 {
@@ -93,6 +105,7 @@ fn push_record(alloc: Global, text: &mut Vec<u8>, bytes: &[u8]) -> Result<(), Al
     Ok(())
 }
 
+#[tactic(auto, using(crate::proofs::Digits::pairs_upper))]
 fn push_pairs(alloc: Global, text: &mut Vec<u8>, bytes: &[u8]) -> Result<(), AllocError>
     ensures { OnOk result (text.new.items ≡ text.old.items ++ hex_pairs bytes.now) }
 {
