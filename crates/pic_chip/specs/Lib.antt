@@ -6,3 +6,4 @@ pub mod Address
 pub mod Instructions
 pub mod Interrupts
 pub mod Run
+pub mod Text

@@ -1,0 +1,5 @@
+pub mod Digits
+pub mod Lines
+pub mod Bytes
+pub mod Written
+pub mod File

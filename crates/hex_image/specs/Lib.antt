@@ -1,0 +1,2 @@
+pub mod HexFile
+pub mod HexText
