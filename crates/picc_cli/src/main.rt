@@ -3,6 +3,7 @@
 
 
 mod code;
+mod map;
 mod program;
 
 fn main(rt: HostRuntime) {
