@@ -1,5 +1,5 @@
 -- What the calls of a host change, and when they fail.
-use Rattle.std.specs.Prelude.{◌≡◌, ◌⊎◌, ◌<◌, ◌≤◌, ◌+◌, ◌++◌, ℕ, List, [], Bool, true, false, IsTrue, Option, Some, None, Result, IsErrOf, OnOk, IsSome, unwrap_or, option_map, length, take, drop, if◌then◌else◌}
+use Rattle.std.specs.Prelude.{◌≡◌, ◌⊎◌, ◌<◌, ◌≤◌, ◌+◌, ◌++◌, ℕ, List, [], Bool, true, false, IsTrue, Option, Some, None, Result, Ok, Err, IsErrOf, OnOk, IsSome, unwrap_or, option_map, length, take, drop, if◌then◌else◌}
 use Rattle.std.specs.Str.{bytes_eq}
 use Rattle.host_io.specs.declared.host.HostError.{HostError}
 use Rattle.host_io.specs.declared.host.HostError.TheVariants.{Failed, NoMemory}
@@ -114,3 +114,25 @@ IsRead name n bytes contents = option_map (take n) (contents name) ≡ Some byte
 -- The contents are as before, or the name has a prefix of these bytes and all others are as before.
 abbrev pub PutsPrefix : List ℕ → List ℕ → Option Contents → Option Contents → Type 0
 PutsPrefix name bytes old new = (new ≡ old) ⊎ ((n : ℕ) × (n ≤ length bytes) × (new ≡ option_map (put name (take n bytes)) old))
+
+-- a host that began with these contents writes to this name, which has these bytes by now
+pub record IsWritingTo (start : Option Contents) (name bytes : List ℕ) (file : OpenFile) (contents : Option Contents) : Type 0 where
+  pub file_is : file ≡ Writing (told start name)
+  pub contents_are : contents ≡ option_map (put name bytes) start
+
+-- the open file has grown by these bytes
+abbrev pub Grows : OpenFile → Option Contents → Option Contents → List ℕ → Type 0
+Grows file old new bytes =
+    (start : Option Contents) (name front : List ℕ) → IsWritingTo start name front file old → IsWritingTo start name (front ++ bytes) file new
+
+-- the open file has grown by a prefix of these bytes
+abbrev pub GrowsByPrefix : OpenFile → Option Contents → Option Contents → List ℕ → Type 0
+GrowsByPrefix file old new bytes = (n : ℕ) × (n ≤ length bytes) × Grows file old new (take n bytes)
+
+-- What two calls in a row answer: a failure comes before a want of memory, and either before a value.
+abbrev pub joined : {T : Type 0} → Result T HostError → Result Unit HostError → Result T HostError
+joined (Ok value) (Ok done) = Ok value
+joined (Ok value) (Err error) = Err error
+joined (Err Failed) second = Err Failed
+joined (Err NoMemory) (Ok done) = Err NoMemory
+joined (Err NoMemory) (Err error) = Err error

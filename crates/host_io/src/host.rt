@@ -1,6 +1,9 @@
 // The outside of the compiler: files by name, one open at a time, and the printed text.
 ghost use Rattle.std.specs.Prelude.{◌≡◌, ◌<◌, ◌≤◌, ℕ, List, Option, Some, None, IsTrue, IsSome, IfOk, IfSome, OnOk, OnErr, length, take, option_map, ◌++◌, [], ◌∷◌};
+ghost use Rattle.host_io.specs.declared.host.HostError.TheVariants.{NoMemory};
 ghost use Rattle.host_io.specs.Host.{Kind, Contents, OpenFile, Closed, Reading, Writing, told, is_reading, is_writing, is_open, put, Has, left_of, read_on, append, ReadsFront, PrintsPrefix, HasCause, NoFailure, FailsAtMissing};
+
+use std::alloc::AllocError;
 
 /// Why a call of a host has no answer.
 #[derive(Clone, Copy, PartialEq, Eq, Debug)]
@@ -9,6 +12,14 @@ pub enum HostError {
     Failed,
     /// There was no memory for the call.
     NoMemory,
+}
+
+impl From<AllocError> for HostError {
+    ghost from_gives = { λ _ e. e ≡ NoMemory };
+
+    fn from(_: AllocError) -> Self {
+        HostError::NoMemory
+    }
 }
 
 /// Files by name, of which one at most is open, and a place to print to.

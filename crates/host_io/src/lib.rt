@@ -5,5 +5,7 @@
 #![tactic(auto)]
 
 mod host;
+mod whole;
 
 pub use host::{Host, HostError};
+pub use whole::{read_whole, write_whole};
