@@ -3,7 +3,7 @@ ghost use Rattle.std.specs.Prelude.{◌≡◌, ◌<◌, ◌≤◌, ℕ, List, Op
 ghost use Rattle.host_io.specs.declared.host.HostError.TheVariants.{NoMemory};
 ghost use Rattle.host_io.specs.Host.{Kind, Contents, OpenFile, Closed, Reading, Writing, told, is_reading, is_writing, is_open, put, Has, left_of, read_on, append, ReadsFront, PrintsPrefix, HasCause, NoFailure, FailsAtMissing};
 
-use std::alloc::AllocError;
+use std::alloc::{AllocError, AllocFailed};
 
 /// Why a call of a host has no answer.
 #[derive(Clone, Copy, PartialEq, Eq, Debug)]
@@ -18,6 +18,14 @@ impl From<AllocError> for HostError {
     ghost from_gives = { λ _ e. e ≡ NoMemory };
 
     fn from(_: AllocError) -> Self {
+        HostError::NoMemory
+    }
+}
+
+impl<T: Drop> From<AllocFailed<T>> for HostError {
+    ghost from_gives = { λ _ e. e ≡ NoMemory };
+
+    fn from(_: AllocFailed<T>) -> Self {
         HostError::NoMemory
     }
 }

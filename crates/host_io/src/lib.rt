@@ -5,7 +5,9 @@
 #![tactic(auto)]
 
 mod host;
+mod memory;
 mod whole;
 
 pub use host::{Host, HostError};
+pub use memory::{Fail, MemoryHost};
 pub use whole::{read_whole, write_whole};
