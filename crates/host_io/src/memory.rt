@@ -294,7 +294,10 @@ impl Host for MemoryHost {
     {
         self.begin_call()?;
         let alloc = self.alloc();
-        let Some(Current::Writing { name }) = &self.current else {
+        let Some(current) = &self.current else {
+            unreachable!()
+        };
+        let Current::Writing { name } = current else {
             unreachable!()
         };
         extend(&mut self.files, alloc, name.as_str(), bytes)?;
