@@ -90,10 +90,14 @@ pub record ReadsFront (n : ℕ) (buffer left : List ℕ) : Type 0 where
 abbrev pub PrintsPrefix : Option (List ℕ) → Option (List ℕ) → List ℕ → Type 0
 PrintsPrefix old new bytes = (n : ℕ) × (n ≤ length bytes) × (new ≡ option_map (λ printed. printed ++ take n bytes) old)
 
+-- the count of faults was raised, or stood at its last value and still does
+abbrev pub IsCounted : Kind → ℕ → ℕ → Type 0
+IsCounted kind before now = (before < now) ⊎ ((kind.last ≡ Some before) × (now ≡ before))
+
 -- A call that fails has raised the count of faults, unless it stood at its last value. Every other call keeps the count.
 pub record HasCause {T : Type 0} (kind : Kind) (before now : ℕ) (result : Result T HostError) : Type 0 where
   pub never_falls : before ≤ now
-  pub failed : IsErrOf result Failed → (before < now) ⊎ (kind.last ≡ Some before)
+  pub failed : IsErrOf result Failed → IsCounted kind before now
   pub stays_last : kind.last ≡ Some before → now ≡ before
   pub ok : OnOk result (now ≡ before)
   pub no_memory : IsErrOf result NoMemory → now ≡ before

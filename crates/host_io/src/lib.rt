@@ -6,8 +6,10 @@
 
 mod host;
 mod memory;
+mod real;
 mod whole;
 
 pub use host::{Host, HostError};
 pub use memory::{Fail, MemoryHost};
+pub use real::RealHost;
 pub use whole::{read_whole, write_whole};
