@@ -1,12 +1,12 @@
 -- A file that is written grows by each piece.
-use Rattle.std.proofs.Common.{◌≡◌, ◌⊎◌, inl, inr, ℕ, ◌+◌, ◌≤◌, List, [], ◌++◌, length, take, drop, Bool, true, false, Option, Some, None, option_map, refl, sym, ◌∙◌, ap, arith, append_assoc}
+use Rattle.std.proofs.Common.{◌≡◌, ℕ, ◌+◌, List, [], ◌++◌, take, drop, Bool, true, false, Option, Some, None, option_map, refl, sym, ◌∙◌, ap, append_assoc}
 use mathlib.Core.Path.{fun_ext}
 use Rattle.std.specs.Str.{bytes_eq}
 use Rattle.std.specs.Prelude.{if◌then◌else◌, unwrap_or}
 use Rattle.std.proofs.lemmas.Slice.Eq.{bytes_eq-Decides}
 use Rattle.std.proofs.lemmas.List.{append-nil}
 use Rattle.std.proofs.Math.Seq.{take-add}
-use Rattle.host_io.specs.Host.{Contents, OpenFile, Writing, told, bytes_of, put, append, IsWritingTo, Grows, GrowsByPrefix, PutsPrefix}
+use Rattle.host_io.specs.Host.{Contents, OpenFile, Writing, told, bytes_of, put, append, Grows}
 
 bytes_eq-refl : (name : List ℕ) → bytes_eq name name ≡ true
 bytes_eq-refl name = (bytes_eq-Decides name name).1 refl
@@ -26,7 +26,7 @@ append-put : (start : Option Contents) (name front more : List ℕ)
 append-put None name front more = refl
 append-put (Some contents) name front more =
     ap Some (put-put name (bytes_of (put name front contents) name ++ more) front contents
-        ∙ ap (λ (bytes : List ℕ). put name (bytes ++ more) contents) (bytes_of-put name front contents))
+    ∙ ap (λ (bytes : List ℕ). put name (bytes ++ more) contents) (bytes_of-put name front contents))
 
 pub grows_none : (file : OpenFile) (old new : Option Contents) → new ≡ old → Grows file old new []
 grows_none file old new same = λ start name front writing.
@@ -40,8 +40,8 @@ grows_more file now old mid new bytes done n same grown more = λ start name fro
     record {
       file_is = writing.file_is;
       contents_are = more
-        ∙ ap (λ (f : OpenFile). option_map (append f piece) mid) (same ∙ writing.file_is)
-        ∙ ap (λ (c : Option Contents). option_map (append (Writing (told start name)) piece) c) so_far.contents_are
-        ∙ append-put start name (front ++ take done bytes) piece
-        ∙ ap (λ (b : List ℕ). option_map (put name b) start) (append_assoc front (take done bytes) piece ∙ ap (λ (b : List ℕ). front ++ b) (sym (take-add done n bytes)));
+          ∙ ap (λ (f : OpenFile). option_map (append f piece) mid) (same ∙ writing.file_is)
+          ∙ ap (λ (c : Option Contents). option_map (append (Writing (told start name)) piece) c) so_far.contents_are
+          ∙ append-put start name (front ++ take done bytes) piece
+          ∙ ap (λ (b : List ℕ). option_map (put name b) start) (append_assoc front (take done bytes) piece ∙ ap (λ (b : List ℕ). front ++ b) (sym (take-add done n bytes)));
     }

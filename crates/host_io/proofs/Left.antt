@@ -1,11 +1,11 @@
 -- What is left of a file that is read in pieces.
-use Rattle.std.proofs.Common.{◌≡◌, ℕ, ◌+◌, ◌<◌, ◌≤◌, List, [], ◌++◌, length, take, drop, Option, Some, None, option_map, refl, sym, ◌∙◌, ap, subst, arith, length-append}
+use Rattle.std.proofs.Common.{◌≡◌, ℕ, ◌+◌, ◌≤◌, List, [], ◌++◌, length, take, drop, Option, Some, None, option_map, refl, sym, ◌∙◌, ap, subst, arith, length-append}
 use mathlib.Core.Path.{ap₂}
 use Rattle.std.proofs.lemmas.Option.{IfSome_then}
 use Rattle.std.specs.Prelude.{IfSome}
 use Rattle.std.proofs.Math.Seq.{take-add}
 use Rattle.std.proofs.lemmas.List.{take_all, length-drop, drop-drop}
-use Rattle.host_io.specs.Host.{Contents, OpenFile, Closed, Reading, Writing, left_of, bytes_of, read_on, ReadsFront, is_reading}
+use Rattle.host_io.specs.Host.{Contents, OpenFile, Closed, Reading, Writing, left_of, bytes_of, read_on, ReadsFront}
 
 left_of-read_on : (contents : Option Contents) (file : OpenFile) (n : ℕ) → left_of contents (read_on n file) ≡ option_map (drop n) (left_of contents file)
 left_of-read_on None file n = refl
@@ -29,7 +29,7 @@ joins None bytes piece n size front next = tt
 joins (Some left) bytes piece n size front next =
     let whole : length (bytes ++ piece) ≡ length bytes + n = omega (arith, length-append bytes piece) in
     ap (λ (b : List ℕ). b ++ piece) front ∙ ap (λ (p : List ℕ). take (length bytes) left ++ p) next
-        ∙ sym (take-add (length bytes) n left) ∙ ap (λ (k : ℕ). take k left) (sym whole)
+    ∙ sym (take-add (length bytes) n left) ∙ ap (λ (k : ℕ). take k left) (sym whole)
 
 ends : (left : Option (List ℕ)) (bytes : List ℕ) (most : ℕ) → length bytes ≤ most
     → IfSome left (λ left. bytes ≡ take (length bytes) left)
@@ -47,8 +47,8 @@ pub read_more : (start now : Option Contents) (first file : OpenFile) (bytes buf
     → IfSome (left_of start first) (λ left. bytes ++ piece ≡ take (length (bytes ++ piece)) left)
 read_more start now first file bytes buffer piece n same going is size front reads =
     joins (left_of start first) bytes piece n size front
-        (subst (λ o. IfSome o (λ left. piece ≡ take n left)) (ap₂ left_of same going ∙ left_of-read_on start first (length bytes))
-            (IfSome_then (left_of now file) reads (λ left r. is ∙ r.bytes)))
+    (subst (λ o. IfSome o (λ left. piece ≡ take n left)) (ap₂ left_of same going ∙ left_of-read_on start first (length bytes))
+    (IfSome_then (left_of now file) reads (λ left r. is ∙ r.bytes)))
 
 pub read_end : (start now : Option Contents) (first file : OpenFile) (bytes buffer : List ℕ) (most : ℕ)
     → now ≡ start → file ≡ read_on (length bytes) first → length bytes ≤ most
@@ -57,5 +57,5 @@ pub read_end : (start now : Option Contents) (first file : OpenFile) (bytes buff
     → IfSome (left_of start first) (λ left. bytes ≡ take most left)
 read_end start now first file bytes buffer most same going within front reads =
     ends (left_of start first) bytes most within front
-        (subst (λ o. IfSome o (λ left. left ≡ [])) (ap₂ left_of same going ∙ left_of-read_on start first (length bytes))
-            (IfSome_then (left_of now file) reads (λ left r. r.at_end refl)))
+    (subst (λ o. IfSome o (λ left. left ≡ [])) (ap₂ left_of same going ∙ left_of-read_on start first (length bytes))
+    (IfSome_then (left_of now file) reads (λ left r. r.at_end refl)))

@@ -22,7 +22,7 @@ pub contents_of-stored : (name : List ℕ) (old new : BTreeMap (String Global) (
     → UpdatesBy string_cmp (λ key. slice_cmp nat_cmp name (string_bytes key)) old new (Some bytes) → contents_of new ≡ put name bytes.items (contents_of old)
 contents_of-stored name old new bytes updates = fun_ext (λ other.
     ap (λ (found : Option (Vec ℕ Global)). option_map (λ bytes. bytes.items) found) (btree_map_updates_text name old new (Some bytes) updates other)
-        ∙ chosen (bytes_eq name other) bytes (get_by_text old other))
+    ∙ chosen (bytes_eq name other) bytes (get_by_text old other))
 
 kept : (contents : Contents) (name bytes other : List ℕ) (b : Bool) → (b ≡ true → name ≡ other) → contents name ≡ Some bytes
     → (if b then Some bytes else contents other) ≡ contents other

@@ -1,5 +1,5 @@
 -- What a host in memory tells, and which of its calls fail.
-use Rattle.std.specs.Prelude.{◌≡◌, ◌==◌, ◌||◌, ◌^◌, ◌-◌, ℕ, List, Bool, true, false, Option, Some, None, option_map, is_none, length, Vec, String, string_bytes}
+use Rattle.std.specs.Prelude.{◌==◌, ◌||◌, ◌^◌, ◌-◌, ℕ, List, Bool, false, Option, Some, None, option_map, is_none, length, Vec, String, string_bytes}
 use Rattle.std.specs.List.{list_any}
 use Rattle.std.specs.Str.{bytes_eq}
 use Rattle.std.specs.BTreeMap.{BTreeMap, get_by_text}

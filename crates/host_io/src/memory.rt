@@ -96,7 +96,11 @@ fn copy_front(bytes: &[u8], buffer: &mut [u8]) -> usize
 }
 
 // Puts a content in the place of the one that the name has.
-fn store(files: &mut BTreeMap<String, Vec<u8>>, name: &str, bytes: Vec<u8>) -> Result<(), AllocError>
+fn store(
+    files: &mut BTreeMap<String, Vec<u8>>,
+    name: &str,
+    bytes: Vec<u8>,
+) -> Result<(), AllocError>
     ensures stored { OnOk result (contents_of files.new ≡ put name.now bytes.items (contents_of files.old)) }
     ensures refused { OnErr result (contents_of files.new ≡ contents_of files.old) }
 {
@@ -106,7 +110,12 @@ fn store(files: &mut BTreeMap<String, Vec<u8>>, name: &str, bytes: Vec<u8>) -> R
 }
 
 // Adds bytes to the end of what the name has.
-fn extend(files: &mut BTreeMap<String, Vec<u8>>, alloc: Global, name: &str, bytes: &[u8]) -> Result<(), AllocError>
+fn extend(
+    files: &mut BTreeMap<String, Vec<u8>>,
+    alloc: Global,
+    name: &str,
+    bytes: &[u8],
+) -> Result<(), AllocError>
     ensures extended { OnOk result (contents_of files.new ≡ put name.now (bytes_of (contents_of files.old) name.now ++ bytes.now) (contents_of files.old)) }
     ensures refused { OnErr result (contents_of files.new ≡ contents_of files.old) }
 {
@@ -145,8 +154,8 @@ impl MemoryHost {
         ensures answer { result ≡ (if fails then Err Failed else Ok tt) }
         ensures cause { HasCause (kind_of self.old.fails.items) self.old.faults self.new.faults result }
         ensures counts { self.new ≡ record self.old {
-            calls = min (self.old.calls + 1) u64.MAX;
-            faults = (if fails then min (self.old.faults + 1) u64.MAX else self.old.faults)
+          calls = min (self.old.calls + 1) u64.MAX;
+          faults = (if fails then min (self.old.faults + 1) u64.MAX else self.old.faults);
         } }
     {
         self.calls = self.calls.saturating_add(1);
@@ -162,8 +171,8 @@ impl MemoryHost {
         ensures answer { result ≡ (if fails_call self.old then Err Failed else Ok tt) }
         ensures cause { HasCause (kind_of self.old.fails.items) self.old.faults self.new.faults result }
         ensures counts { self.new ≡ record self.old {
-            calls = min (self.old.calls + 1) u64.MAX;
-            faults = (if fails_call self.old then min (self.old.faults + 1) u64.MAX else self.old.faults)
+          calls = min (self.old.calls + 1) u64.MAX;
+          faults = (if fails_call self.old then min (self.old.faults + 1) u64.MAX else self.old.faults);
         } }
     {
         let fails = self.is_listed();

@@ -92,7 +92,10 @@ fn write_all<H: Host>(host: &mut H, bytes: &[u8]) -> Result<(), HostError>
 
 // What two calls in a row answer: the first one's value, where both went well. A failure comes
 // before a want of memory.
-fn joined<T: Drop>(first: Result<T, HostError>, second: Result<(), HostError>) -> Result<T, HostError>
+fn joined<T: Drop>(
+    first: Result<T, HostError>,
+    second: Result<(), HostError>,
+) -> Result<T, HostError>
     ensures { result ≡ joined first second }
 {
     match (first, second) {

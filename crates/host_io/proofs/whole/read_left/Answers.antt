@@ -1,6 +1,6 @@
-use Rattle.std.proofs.Common.{◌≡◌, ◌+◌, ◌≤◌, ◌++◌, ℕ, List, length, take, drop, arith, rules, sym, ◌∙◌, ap, subst, IfSome, length-append}
+use Rattle.std.proofs.Common.{◌≡◌, ◌+◌, ◌++◌, ℕ, List, length, take, drop, arith, sym, ◌∙◌, ap, subst, IfSome, length-append}
 use Rattle.std.proofs.lemmas.Grind.{common_steps}
-use Rattle.std.proofs.lemmas.List.{take-append-le, length-take-le, take_all}
+use Rattle.std.proofs.lemmas.List.{take-append-le, length-take-le}
 use Rattle.std.proofs.lemmas.Option.{IfSome_then}
 use Rattle.host_io.specs.Host.{left_of, read_on, ReadsFront}
 use Rattle.host_io.proofs.Left.{read_more, read_end, read_on-read_on}
@@ -30,12 +30,12 @@ loop-buffer-preserved g c =
 
 pub returns-clause-bytes : goal.returns-clause-bytes
 returns-clause-bytes g c = elim c.loop-buffer-test.branch [
-    else-loop-buffer-test w ↦
+  | else-loop-buffer-test w ↦
       let full : length c.loop-buffer.bytes.items ≡ c.args.most = omega arith in
       IfSome_then (left_of (g.H.Host.contents c.args.host.now) (g.H.Host.open_file c.args.host.now)) c.loop-buffer.invariant.read
-          (λ left front. front ∙ ap (λ (k : ℕ). take k left) full)
+      (λ left front. front ∙ ap (λ (k : ℕ). take k left) full)
   | then-loop-buffer-test+in_ok-count+then-count-eq0 w ↦
       let so_far = c.loop-buffer.invariant in
       read_end _ _ _ _ c.loop-buffer.bytes.items w.read.new.buf c.args.most so_far.same_contents so_far.file so_far.within so_far.read
-          (subst (λ (k : ℕ). IfSome (left_of (g.H.Host.contents c.loop-buffer.host) (g.H.Host.open_file c.loop-buffer.host)) (ReadsFront k w.read.new.buf)) w.if-count-eq0.true w.in_ok-count.ensures.bytes)
-  ]
+      (subst (λ (k : ℕ). IfSome (left_of (g.H.Host.contents c.loop-buffer.host) (g.H.Host.open_file c.loop-buffer.host)) (ReadsFront k w.read.new.buf)) w.if-count-eq0.true w.in_ok-count.ensures.bytes)
+]

@@ -1,4 +1,4 @@
-use Rattle.std.proofs.Common.{◌+◌, ◌∙◌, ℕ, List, take, drop, ap, option_map, arith, rules}
+use Rattle.std.proofs.Common.{◌∙◌, ℕ, List, take, ap, option_map, arith}
 use Rattle.std.proofs.lemmas.Grind.{common_steps}
 use Rattle.std.proofs.lemmas.List.{take_rest}
 use Rattle.host_io.specs.Host.{append}
