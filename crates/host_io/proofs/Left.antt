@@ -4,7 +4,7 @@ use mathlib.Core.Path.{ap₂}
 use Rattle.std.proofs.lemmas.Option.{IfSome_then}
 use Rattle.std.specs.Prelude.{IfSome}
 use Rattle.std.proofs.Math.Seq.{take-add}
-use Rattle.std.proofs.lemmas.List.{take_all, length-drop, drop-drop}
+use Rattle.std.proofs.lemmas.List.{take_all, length-drop, length-take-le, drop-drop}
 use Rattle.host_io.specs.Host.{Contents, OpenFile, Closed, Reading, Writing, left_of, bytes_of, read_on, ReadsFront}
 
 left_of-read_on : (contents : Option Contents) (file : OpenFile) (n : ℕ) → left_of contents (read_on n file) ≡ option_map (drop n) (left_of contents file)
@@ -40,15 +40,23 @@ ends (Some left) bytes most within front none =
     let short : length left ≤ length bytes = omega (arith, length-drop (length bytes) left, ap length none) in
     front ∙ take_all (length bytes) left short ∙ sym (take_all most left (omega arith))
 
-pub read_more : (start now : Option Contents) (first file : OpenFile) (bytes buffer piece : List ℕ) (n : ℕ)
-    → now ≡ start → file ≡ read_on (length bytes) first → piece ≡ take n buffer → length piece ≡ n
+-- the front of a buffer, of which more is behind
+pub length-piece : (n : ℕ) (front behind : List ℕ) → n ≤ length front → length (take n (front ++ behind)) ≡ n
+length-piece n front behind within = length-take-le n (front ++ behind) (omega (arith, length-append front behind))
+
+pub length-more : (bytes piece all : List ℕ) (n : ℕ) → all ≡ bytes ++ piece → length piece ≡ n → length all ≡ length bytes + n
+length-more bytes piece all n is size = omega (arith, ap length is, length-append bytes piece)
+
+pub read_more : (start now : Option Contents) (first file : OpenFile) (bytes buffer piece all : List ℕ) (n : ℕ)
+    → now ≡ start → file ≡ read_on (length bytes) first → all ≡ bytes ++ piece → piece ≡ take n buffer → length piece ≡ n
     → IfSome (left_of start first) (λ left. bytes ≡ take (length bytes) left)
     → IfSome (left_of now file) (ReadsFront n buffer)
-    → IfSome (left_of start first) (λ left. bytes ++ piece ≡ take (length (bytes ++ piece)) left)
-read_more start now first file bytes buffer piece n same going is size front reads =
-    joins (left_of start first) bytes piece n size front
-    (subst (λ o. IfSome o (λ left. piece ≡ take n left)) (ap₂ left_of same going ∙ left_of-read_on start first (length bytes))
-    (IfSome_then (left_of now file) reads (λ left r. is ∙ r.bytes)))
+    → IfSome (left_of start first) (λ left. all ≡ take (length all) left)
+read_more start now first file bytes buffer piece all n same going whole is size front reads =
+    subst (λ (b : List ℕ). IfSome (left_of start first) (λ left. b ≡ take (length b) left)) (sym whole)
+        (joins (left_of start first) bytes piece n size front
+            (subst (λ o. IfSome o (λ left. piece ≡ take n left)) (ap₂ left_of same going ∙ left_of-read_on start first (length bytes))
+                (IfSome_then (left_of now file) reads (λ left r. is ∙ r.bytes))))
 
 pub read_end : (start now : Option Contents) (first file : OpenFile) (bytes buffer : List ℕ) (most : ℕ)
     → now ≡ start → file ≡ read_on (length bytes) first → length bytes ≤ most

@@ -1,9 +1,9 @@
 use Rattle.std.proofs.Common.{◌≡◌, ◌+◌, ◌++◌, ℕ, List, length, take, drop, arith, sym, ◌∙◌, ap, subst, IfSome, length-append}
 use Rattle.std.proofs.lemmas.Grind.{common_steps}
-use Rattle.std.proofs.lemmas.List.{take-append-le, length-take-le}
+use Rattle.std.proofs.lemmas.List.{take-append-le}
 use Rattle.std.proofs.lemmas.Option.{IfSome_then}
 use Rattle.host_io.specs.Host.{left_of, read_on, ReadsFront}
-use Rattle.host_io.proofs.Left.{read_more, read_end, read_on-read_on}
+use Rattle.host_io.proofs.Left.{length-piece, length-more, read_more, read_end, read_on-read_on}
 use Rattle.host_io.proofs.whole.read_left.Goals as goal
 use Rattle.host_io.proofs.whole.read_left.Goals.{else-loop-buffer-test, then-loop-buffer-test+in_ok-count+then-count-eq0}
 
@@ -14,12 +14,11 @@ loop-buffer-preserved g c =
     let n = c.in_ok-count.count in
     let piece = take n (c.read.new.buf ++ drop c.min-room.result c.loop-buffer.buffer) in
     let front : piece ≡ take n c.read.new.buf = take-append-le n c.read.new.buf (drop c.min-room.result c.loop-buffer.buffer) c.in_ok-count.ensures.count in
-    let size : length piece ≡ n = ap length front ∙ length-take-le n c.read.new.buf c.in_ok-count.ensures.count in
-    let grown : length c.extend_from_slice.new.self.items ≡ length c.loop-buffer.bytes.items + n = omega (arith, ap length items, length-append c.loop-buffer.bytes.items piece, size) in
+    let size : length piece ≡ n = length-piece n c.read.new.buf (drop c.min-room.result c.loop-buffer.buffer) c.in_ok-count.ensures.count in
+    let grown : length c.extend_from_slice.new.self.items ≡ length c.loop-buffer.bytes.items + n = length-more c.loop-buffer.bytes.items piece _ n items size in
     record {
       within = grind (arith, common_steps, grown);
-      read = subst (λ (b : List ℕ). IfSome (left_of (g.H.Host.contents c.args.host.now) (g.H.Host.open_file c.args.host.now)) (λ left. b ≡ take (length b) left)) (sym items)
-          (read_more _ _ _ _ c.loop-buffer.bytes.items c.read.new.buf piece n so_far.same_contents so_far.file front size so_far.read c.in_ok-count.ensures.bytes);
+      read = read_more _ _ _ _ c.loop-buffer.bytes.items c.read.new.buf piece _ n so_far.same_contents so_far.file items front size so_far.read c.in_ok-count.ensures.bytes;
       file = c.in_ok-count.ensures.further ∙ ap (read_on n) so_far.file ∙ read_on-read_on (g.H.Host.open_file c.args.host.now) (length c.loop-buffer.bytes.items) n
           ∙ ap (λ (k : ℕ). read_on k (g.H.Host.open_file c.args.host.now)) (sym grown);
       same_contents = c.read.ensures.same_contents ∙ so_far.same_contents;
