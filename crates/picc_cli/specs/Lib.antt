@@ -4,3 +4,4 @@ pub mod PortProgram
 pub mod PortCode
 pub mod MapFile
 pub mod MapText
+pub mod Built

@@ -2,6 +2,7 @@
 #![tactic(auto)]
 
 
+mod build;
 mod code;
 mod map;
 mod program;
