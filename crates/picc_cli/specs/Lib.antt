@@ -5,3 +5,5 @@ pub mod PortCode
 pub mod MapFile
 pub mod MapText
 pub mod Built
+pub mod Command
+pub mod CommandView

@@ -4,6 +4,7 @@
 
 mod build;
 mod code;
+mod command;
 mod map;
 mod program;
 
