@@ -5,3 +5,4 @@ pub mod Faithful
 pub mod Placing
 pub mod Spelling
 pub mod MapText
+pub mod Files

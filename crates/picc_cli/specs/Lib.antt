@@ -7,3 +7,4 @@ pub mod MapText
 pub mod Built
 pub mod Command
 pub mod CommandView
+pub mod Outcome

@@ -6,6 +6,7 @@ mod build;
 mod code;
 mod command;
 mod map;
+mod picc;
 mod program;
 
 fn main(rt: HostRuntime) {

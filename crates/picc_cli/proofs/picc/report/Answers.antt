@@ -1,0 +1,10 @@
+use Rattle.picc_cli.proofs.picc.report.Goals as goal
+
+pub returns-in-CannotRead-clause-said : goal.returns-in-CannotRead-clause-said
+returns-in-CannotRead-clause-said g c = rw c.in-CannotRead.is c.say-in-CannotRead.ensures.said
+
+pub returns-in-CannotWriteHex-clause-said : goal.returns-in-CannotWriteHex-clause-said
+returns-in-CannotWriteHex-clause-said g c = rw c.in-CannotWriteHex.is c.say-in-CannotWriteHex.ensures.said
+
+pub returns-in-CannotWriteMap-clause-said : goal.returns-in-CannotWriteMap-clause-said
+returns-in-CannotWriteMap-clause-said g c = rw c.in-CannotWriteMap.is c.say-in-CannotWriteMap.ensures.said

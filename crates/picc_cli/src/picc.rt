@@ -1,0 +1,111 @@
+// The top call: a command from its words to its exit status.
+ghost use Rattle.std.specs.Prelude.{◌≡◌, ◌≢◌, ◌<◌, ◌≤◌, ◌++◌, ◌⊎◌, ◌^◌, IsTrue, IfOk, IfSome, OnOk, OnErr, Some, None, List, ℕ, option_map, length};
+ghost use Rattle.host_io.specs.Host.{Closed, Lacks, HasCause, NoFailure, PrintsPrefix};
+ghost use Rattle.picc_cli.specs.Command.{form_of, words_of};
+ghost use Rattle.picc_cli.specs.CommandView.{names_of};
+ghost use Rattle.picc_cli.specs.Outcome.{WorkedOn, HasOutcomeCause, FailsWithoutInput, is_fault, usage, line_of, status_of, Says};
+
+use crate::build::build;
+use crate::command::{Files, files_of};
+use host_io::{Host, HostError, read_whole, write_whole};
+use std::alloc::Global;
+
+/// The longest C text, in bytes.
+const TEXT_LIMIT: usize = 262_144;
+
+const USAGE: &str = "usage: picc build IN OUT MAP | trace IN SCRIPT M | sim HEX MAP SCRIPT N | agree IN SCRIPT N | gen K\n";
+
+/// How a build went.
+#[derive(Clone, Copy, PartialEq, Eq, Debug)]
+pub enum Outcome {
+    Built,
+    Refused,
+    CannotRead,
+    CannotWriteHex,
+    CannotWriteMap,
+    NoMemory,
+}
+
+/// Prints a line of three parts, and answers the status: 3 where the printing fails, 9 without memory for it.
+fn say<H: Host>(host: &mut H, status: u8, first: &str, second: &str, third: &str) -> u8
+    ensures same_file { H.open_file host.new ≡ H.open_file host.old }
+    ensures same_contents { H.contents host.new ≡ H.contents host.old }
+    ensures same_kind { H.kind host.new ≡ H.kind host.old }
+    ensures said { Says (H.kind host.old) (H.faults host.old) (H.faults host.new) (H.printed host.old) (H.printed host.new)
+        (first.now ++ (second.now ++ third.now)) status result }
+{
+    match print_parts(host, first, second, third) {
+        Ok(()) => status,
+        Err(HostError::Failed) => 3,
+        Err(HostError::NoMemory) => 9,
+    }
+}
+
+fn print_parts<H: Host>(
+    host: &mut H,
+    first: &str,
+    second: &str,
+    third: &str,
+) -> Result<(), HostError>
+    ensures all { OnOk result (H.printed host.new ≡ option_map (λ before. before ++ (first.now ++ (second.now ++ third.now))) (H.printed host.old)) }
+    ensures prefix { OnErr result (PrintsPrefix (H.printed host.old) (H.printed host.new) (first.now ++ (second.now ++ third.now))) }
+    ensures same_file { H.open_file host.new ≡ H.open_file host.old }
+    ensures same_contents { H.contents host.new ≡ H.contents host.old }
+    ensures same_kind { H.kind host.new ≡ H.kind host.old }
+    ensures cause { HasCause (H.kind host.old) (H.faults host.old) (H.faults host.new) result }
+    ensures sound { NoFailure (H.kind host.old) result }
+{
+    host.print(first.as_bytes())?;
+    host.print(second.as_bytes())?;
+    host.print(third.as_bytes())
+}
+
+/// Prints what is to be said of an outcome, and answers its status.
+fn report<H: Host>(host: &mut H, files: Files<'_>, outcome: Outcome) -> u8
+    ensures same_file { H.open_file host.new ≡ H.open_file host.old }
+    ensures same_contents { H.contents host.new ≡ H.contents host.old }
+    ensures same_kind { H.kind host.new ≡ H.kind host.old }
+    ensures said { Says (H.kind host.old) (H.faults host.old) (H.faults host.new) (H.printed host.old) (H.printed host.new)
+        (line_of (names_of files.entry) outcome) (status_of outcome) result }
+{
+    match outcome {
+        Outcome::Built => say(host, 0, "", "", ""),
+        Outcome::NoMemory => 9,
+        Outcome::Refused => say(host, 1, files.input, ": error 0: not yet\n", ""),
+        Outcome::CannotRead => say(host, 3, "cannot read ", files.input, "\n"),
+        Outcome::CannotWriteHex => say(host, 3, "cannot write ", files.output, "\n"),
+        Outcome::CannotWriteMap => say(host, 3, "cannot write ", files.map, "\n"),
+    }
+}
+
+/// Reads the text, builds it, and writes the two files.
+fn run<H: Host>(alloc: Global, host: &mut H, files: Files<'_>) -> Outcome
+    requires { H.open_file host.old ≡ Closed }
+    ensures closed { H.open_file host.new ≡ Closed }
+    ensures same_kind { H.kind host.new ≡ H.kind host.old }
+    ensures same_printed { H.printed host.new ≡ H.printed host.old }
+    ensures files { IfSome (H.contents host.old) (λ old. WorkedOn result (names_of files.entry) old (H.contents host.new)) }
+    ensures cause { HasOutcomeCause (H.kind host.old) (H.faults host.old) (H.faults host.new) (is_fault result) }
+    ensures sound { FailsWithoutInput (H.kind host.old) (H.contents host.old) files.entry.input.now result }
+{
+    let text = match read_whole(alloc, host, files.input, TEXT_LIMIT) {
+        Ok(text) => text,
+        Err(HostError::Failed) => return Outcome::CannotRead,
+        Err(HostError::NoMemory) => return Outcome::NoMemory,
+    };
+    let built = match build(alloc, &text) {
+        Ok(Some(built)) => built,
+        Ok(None) => return Outcome::Refused,
+        Err(_) => return Outcome::NoMemory,
+    };
+    match write_whole(host, files.output, &built.hex) {
+        Ok(()) => {}
+        Err(HostError::Failed) => return Outcome::CannotWriteHex,
+        Err(HostError::NoMemory) => return Outcome::NoMemory,
+    }
+    match write_whole(host, files.map, &built.map) {
+        Ok(()) => Outcome::Built,
+        Err(HostError::Failed) => Outcome::CannotWriteMap,
+        Err(HostError::NoMemory) => Outcome::NoMemory,
+    }
+}
