@@ -54,9 +54,9 @@ pub read_more : (start now : Option Contents) (first file : OpenFile) (bytes buf
     → IfSome (left_of start first) (λ left. all ≡ take (length all) left)
 read_more start now first file bytes buffer piece all n same going whole is size front reads =
     subst (λ (b : List ℕ). IfSome (left_of start first) (λ left. b ≡ take (length b) left)) (sym whole)
-        (joins (left_of start first) bytes piece n size front
-            (subst (λ o. IfSome o (λ left. piece ≡ take n left)) (ap₂ left_of same going ∙ left_of-read_on start first (length bytes))
-                (IfSome_then (left_of now file) reads (λ left r. is ∙ r.bytes))))
+    (joins (left_of start first) bytes piece n size front
+    (subst (λ o. IfSome o (λ left. piece ≡ take n left)) (ap₂ left_of same going ∙ left_of-read_on start first (length bytes))
+    (IfSome_then (left_of now file) reads (λ left r. is ∙ r.bytes))))
 
 pub read_end : (start now : Option Contents) (first file : OpenFile) (bytes buffer : List ℕ) (most : ℕ)
     → now ≡ start → file ≡ read_on (length bytes) first → length bytes ≤ most
