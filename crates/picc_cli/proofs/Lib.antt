@@ -6,3 +6,4 @@ pub mod Placing
 pub mod Spelling
 pub mod MapText
 pub mod Files
+pub mod Finish

@@ -8,3 +8,4 @@ pub mod Built
 pub mod Command
 pub mod CommandView
 pub mod Outcome
+pub mod Finished

@@ -67,8 +67,8 @@ pub record FailsWithoutInput (kind : Kind) (old : Option Contents) (input : List
   pub always : IsTrue kind.is_sound → Lacks old input → outcome ≡ CannotRead
 
 -- ---- the printed line and the status
-abbrev pub usage : List ℕ
-usage = codes "usage: picc build IN OUT MAP | trace IN SCRIPT M | sim HEX MAP SCRIPT N | agree IN SCRIPT N | gen K" ++ 10 ∷ []
+abbrev pub usage_line : List ℕ
+usage_line = codes "usage: picc build IN OUT MAP | trace IN SCRIPT M | sim HEX MAP SCRIPT N | agree IN SCRIPT N | gen K" ++ 10 ∷ []
 
 abbrev pub line_of : Names → Outcome → List ℕ
 line_of names Built = []

@@ -3,7 +3,8 @@ ghost use Rattle.std.specs.Prelude.{◌≡◌, ◌≢◌, ◌<◌, ◌≤◌, �
 ghost use Rattle.host_io.specs.Host.{Closed, Lacks, HasCause, NoFailure, PrintsPrefix};
 ghost use Rattle.picc_cli.specs.Command.{form_of, words_of};
 ghost use Rattle.picc_cli.specs.CommandView.{names_of};
-ghost use Rattle.picc_cli.specs.Outcome.{WorkedOn, HasOutcomeCause, FailsWithoutInput, is_fault, usage, line_of, status_of, Says};
+ghost use Rattle.picc_cli.specs.Finished.{HasFiles, HasFaults, HasPrinted, IsComplete};
+ghost use Rattle.picc_cli.specs.Outcome.{WorkedOn, HasOutcomeCause, FailsWithoutInput, is_fault, usage_line, line_of, status_of, Says};
 
 use crate::build::build;
 use crate::command::{Files, files_of};
@@ -24,6 +25,30 @@ pub enum Outcome {
     CannotWriteHex,
     CannotWriteMap,
     NoMemory,
+}
+
+/// Runs the command of these words, which are those behind the program's name, over a host on which no file is open.
+/// The answer is the exit status: 0 where the command did what its form says, 1 where the C text is refused, 2 where
+/// the words are of no form, 3 for a fault of the host, 9 for want of memory.
+///
+/// The one form so far is `build IN OUT MAP`: it compiles the C text of IN, writes the HEX to OUT and then the map to
+/// MAP, and prints nothing. No file is created before all else has succeeded.
+pub fn picc<H: Host>(alloc: Global, words: &[String], host: &mut H) -> u8
+    requires { H.open_file host.old ≡ Closed }
+    ensures closed { H.open_file host.new ≡ Closed }
+    ensures same_kind { H.kind host.new ≡ H.kind host.old }
+
+    // With status 0 the HEX and the map are those of the text, and what the HEX does on the chip is what the text says.
+    ensures files { IfSome (H.contents host.old) (λ old. HasFiles (form_of (words_of words.now)) old (H.contents host.new) result) }
+    ensures faults { HasFaults (H.kind host.old) (H.faults host.old) (H.faults host.new) (form_of (words_of words.now)) (H.contents host.old) result }
+    ensures printed { HasPrinted (form_of (words_of words.now)) (H.printed host.old) (H.printed host.new) result }
+    ensures complete { IfSome (H.contents host.old) (λ old. IsComplete (H.kind host.old) (H.faults host.old) (H.faults host.new) (form_of (words_of words.now)) old result) }
+{
+    let Some(files) = files_of(words) else {
+        return say(host, 2, USAGE, "", "");
+    };
+    let outcome = run(alloc, host, files);
+    report(host, files, outcome)
 }
 
 /// Prints a line of three parts, and answers the status: 3 where the printing fails, 9 without memory for it.
@@ -69,7 +94,7 @@ fn report<H: Host>(host: &mut H, files: Files<'_>, outcome: Outcome) -> u8
         (line_of (names_of files.entry) outcome) (status_of outcome) result }
 {
     match outcome {
-        Outcome::Built => say(host, 0, "", "", ""),
+        Outcome::Built => 0,
         Outcome::NoMemory => 9,
         Outcome::Refused => say(host, 1, files.input, ": error 0: not yet\n", ""),
         Outcome::CannotRead => say(host, 3, "cannot read ", files.input, "\n"),
