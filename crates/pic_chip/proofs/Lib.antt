@@ -1,2 +1,4 @@
 pub mod Words
 pub mod NameTables
+pub mod Digits
+pub mod Lines

@@ -1,5 +1,5 @@
 -- Lines: a line that is written with its LF is the first line that is read.
-use Rattle.std.proofs.Common.{◌≡◌, ℕ, zero, suc, ◌+◌, ◌/◌, ◌%◌, Bool, true, false, ◌&&◌, not, List, [], ◌∷◌, ◌++◌, map, refl, sym, ap, ◌∙◌, slice_index, nat_eq, codes}
+use Rattle.std.proofs.Common.{◌≡◌, ℕ, zero, suc, ◌/◌, ◌%◌, Bool, true, false, ◌&&◌, not, List, [], ◌∷◌, ◌++◌, map, refl, sym, ap, ◌∙◌, slice_index, nat_eq, codes}
 use Rattle.std.proofs.lemmas.Bool.{and_parts}
 use Rattle.std.specs.List.{list_all}
 use Rattle.pic_chip.specs.Text.{hex_digit, hex_pairs, split_lines, without_cr, lines_of, onto_first}
@@ -28,6 +28,7 @@ keeps_line (c ∷ []) h =
     rw no_cr refl
 keeps_line (c ∷ d ∷ line) h = ap (λ l. c ∷ l) (keeps_line (d ∷ line) (and_parts (is_plain c) (list_all is_plain (d ∷ line)) h).1)
 
+-- a line that is written with its LF is the first line that is read
 pub first_line : (line rest : List ℕ) → list_all is_plain line ≡ true → lines_of (line ++ 10 ∷ rest) ≡ line ∷ lines_of rest
 first_line line rest h = ap (map without_cr) (split_line line rest h) ∙ ap (λ l. l ∷ lines_of rest) (keeps_line line h)
 
@@ -37,9 +38,10 @@ at_index test [] h z n = z
 at_index test (x ∷ xs) h z zero = (and_parts (test x) (list_all test xs) h).0
 at_index test (x ∷ xs) h z (suc n) = at_index test xs (and_parts (test x) (list_all test xs) h).1 z n
 
-plain_digit : (n : ℕ) → is_plain (hex_digit n) ≡ true
+pub plain_digit : (n : ℕ) → is_plain (hex_digit n) ≡ true
 plain_digit n = at_index is_plain (codes "0123456789ABCDEF") refl refl n
 
+-- pairs of digits stand within a line
 pub plain_pairs : (bytes : List ℕ) → list_all is_plain (hex_pairs bytes) ≡ true
 unfolding hex_pairs
 plain_pairs [] = refl
