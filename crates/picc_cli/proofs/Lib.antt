@@ -1,0 +1,6 @@
+pub mod Ticks
+
+pub mod Stages
+pub mod Faithful
+pub mod Placing
+pub mod Spelling

@@ -1,0 +1,9 @@
+// The command `picc`: compiles C for the PIC16F877A.
+#![tactic(auto)]
+
+
+mod code;
+mod program;
+
+fn main(rt: HostRuntime) {
+}
