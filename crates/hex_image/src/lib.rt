@@ -18,13 +18,16 @@ use std::alloc::{AllocError, Global};
 /// How many words a record holds.
 const BLOCK: u16 = 8;
 
+/// How many data bytes a record holds.
+const DATA_BYTES: u8 = 16;
+
 /// How many blocks program memory has.
 const BLOCKS: u16 = 1024;
 
-#[tactic(auto, using(crate::proofs::Written::blocks_on, crate::proofs::Written::whole))]
 /// The HEX text of an image: one record of kind 04, then for each eight words from a multiple of
 /// 8 that aren't all erased one record of 16 bytes, then the end record. Digits are upper case,
 /// and lines end at LF (Intel, Hexadecimal Object File Format Specification).
+#[tactic(auto, using(crate::proofs::Written::blocks_on, crate::proofs::Written::whole))]
 pub fn write_hex(alloc: Global, image: &Image) -> Result<Vec<u8>, AllocError>
     ensures text { IfOk result (λ text. text.items ≡ spec.hex_text image.now) }
     ensures file { IfOk result (λ text. IsHexFile text.items image.now) }
@@ -86,7 +89,7 @@ fn block_bytes(alloc: Global, words: &[u16], k: u16) -> Result<Vec<u8>, AllocErr
 {
     let address = 2 * BLOCK * k;
     let mut bytes = Vec::new(alloc);
-    bytes.extend_from_slice(&[16, (address / 256) as u8, (address % 256) as u8, 0])?;
+    bytes.extend_from_slice(&[DATA_BYTES, (address / 256) as u8, (address % 256) as u8, 0])?;
     for word in words {
         bytes.extend_from_slice(&[(*word % 256) as u8, (*word / 256) as u8])?;
     }
