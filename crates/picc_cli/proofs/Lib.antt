@@ -4,3 +4,4 @@ pub mod Stages
 pub mod Faithful
 pub mod Placing
 pub mod Spelling
+pub mod MapText

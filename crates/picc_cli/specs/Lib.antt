@@ -4,3 +4,6 @@ pub mod PortProgram
 pub mod PortCode
 pub mod MapFile
 pub mod MapText
+pub mod Built
+pub mod Command
+pub mod CommandView

@@ -2,7 +2,10 @@
 #![tactic(auto)]
 
 
+mod build;
 mod code;
+mod command;
+mod map;
 mod program;
 
 fn main(rt: HostRuntime) {
