@@ -1,16 +1,16 @@
 -- The written text is a HEX file of the image.
-use Rattle.std.proofs.Common.{◌≡◌, ℕ, zero, suc, ◌+◌, ◌-◌, ◌*◌, ◌/◌, ◌%◌, ◌<◌, ◌≤◌, Bool, true, false, Option, Some, None, List, [], ◌∷◌, ◌++◌, length, take, slice_index, refl, sym, ap, ◌∙◌, subst, arith, nat_eq, ⊎_elim, append_assoc, append-nil, length-append, codes, add-zero}
-use Rattle.std.specs.Prelude.{if◌then◌else◌, ◌&&◌}
-use Rattle.std.specs.List.{sum, list_all}
+use Rattle.std.proofs.Common.{◌≡◌, ℕ, zero, suc, ◌+◌, ◌-◌, ◌*◌, ◌/◌, ◌%◌, ◌<◌, ◌≤◌, Bool, true, false, Option, Some, None, List, [], ◌∷◌, ◌++◌, length, slice_index, refl, sym, ap, ◌∙◌, subst, arith, nat_eq, ⊎_elim, append_assoc, append-nil, length-append, add-zero}
+use Rattle.std.specs.Prelude.{if◌then◌else◌}
+use Rattle.std.specs.List.{sum}
 use Rattle.std.proofs.Math.Seq.{take-append_seam}
 use Rattle.std.proofs.lemmas.Bool.{cases_lt, eq-eqb, eqb-true, and_parts}
 use Rattle.std.proofs.lemmas.List.Sums.{sum_by-append}
 use Rattle.pic_chip.specs.Words.{AreWords}
 use Rattle.pic_chip.specs.Text.{lines_of, split_lines, without_cr, hex_pairs, bytes_of}
-use Rattle.hex_image.specs.HexFile.{HexRecord, fields, fields_in, record_of, Given, from_address, in_front, with_record, given_by, times, byte_at, IsHexFile}
+use Rattle.hex_image.specs.HexFile.{fields, fields_in, record_of, Given, from_address, in_front, with_record, given_by, times, byte_at, IsHexFile}
 use Rattle.hex_image.specs.HexText.{checksum, record_line, word_bytes, block, block_bytes, is_erased, block_text, blocks_text, hex_text}
-use Rattle.hex_image.proofs.Digits.{AreBytes, pairs_back}
-use Rattle.hex_image.proofs.Lines.{first_line, plain_pairs}
+use Rattle.pic_chip.proofs.Digits.{AreBytes, pairs_back}
+use Rattle.pic_chip.proofs.Lines.{first_line, plain_pairs}
 use Rattle.hex_image.proofs.Bytes.{times-append, byte-append, times_below, times_behind, times_once, byte_below, byte_behind, byte_there, length-word_bytes, low_byte, high_byte}
 use Rattle.hex_image.proofs.Written.{first_text, end_text, whole}
 
@@ -105,9 +105,9 @@ line_reads words rest k h long small =
     let bytes = word_bytes words in
     let digits = hex_pairs (block_bytes words k ++ checksum (block_bytes words k) ∷ []) in
     let cut : lines_of (record_line (block_bytes words k) ++ rest) ≡ (58 ∷ digits) ∷ lines_of rest
-      = ap lines_of (append_assoc (58 ∷ digits) (10 ∷ []) rest) ∙ first_line (58 ∷ digits) rest (plain_pairs (block_bytes words k ++ checksum (block_bytes words k) ∷ [])) in
+    = ap lines_of (append_assoc (58 ∷ digits) (10 ∷ []) rest) ∙ first_line (58 ∷ digits) rest (plain_pairs (block_bytes words k ++ checksum (block_bytes words k) ∷ [])) in
     let read : record_of 58 digits ≡ Some (record { kind = 0; address = 16 * k; bytes = bytes })
-      = subst (λ n. record_of 58 (hex_pairs ((n ∷ (16 * k / 256) ∷ (16 * k % 256) ∷ 0 ∷ bytes) ++ checksum (n ∷ (16 * k / 256) ∷ (16 * k % 256) ∷ 0 ∷ bytes) ∷ [])) ≡ Some (record { kind = 0; address = 16 * k; bytes = bytes })) long (data_line (16 * k) bytes (omega arith) (omega arith) small) in
+    = subst (λ n. record_of 58 (hex_pairs ((n ∷ (16 * k / 256) ∷ (16 * k % 256) ∷ 0 ∷ bytes) ++ checksum (n ∷ (16 * k / 256) ∷ (16 * k % 256) ∷ 0 ∷ bytes) ∷ [])) ≡ Some (record { kind = 0; address = 16 * k; bytes = bytes })) long (data_line (16 * k) bytes (omega arith) (omega arith) small) in
     let at : 65536 * 0 + 16 * k ≡ 16 * k = omega arith in
     ap (λ lines. given_by lines 0) cut
     ∙ ap (λ r. with_record r (given_by (lines_of rest)) 0) read
@@ -235,12 +235,12 @@ block_makes words k j l h small = by_test (is_erased words) refl
     by_test : (b : Bool) → is_erased words ≡ b → IsMade (slice_index words j) (if b then [] else from_address (16 * k) (word_bytes words)) (8 * k + j)
     by_test true e = erased_word words j e (omega arith)
     by_test false e =
-      let long = length-word_bytes words in
-      let low : byte_at (from_address (16 * k) (word_bytes words)) (2 * (8 * k + j)) 0xff ≡ slice_index words j % 256
+        let long = length-word_bytes words in
+        let low : byte_at (from_address (16 * k) (word_bytes words)) (2 * (8 * k + j)) 0xff ≡ slice_index words j % 256
         = ap (λ a. byte_at (from_address (16 * k) (word_bytes words)) a 0xff) (omega arith) ∙ byte_there (16 * k) (word_bytes words) (2 * j) 0xff (omega (arith, long)) ∙ low_byte words j in
-      let high : byte_at (from_address (16 * k) (word_bytes words)) (2 * (8 * k + j) + 1) 0xff ≡ slice_index words j / 256
+        let high : byte_at (from_address (16 * k) (word_bytes words)) (2 * (8 * k + j) + 1) 0xff ≡ slice_index words j / 256
         = ap (λ a. byte_at (from_address (16 * k) (word_bytes words)) a 0xff) (omega arith) ∙ byte_there (16 * k) (word_bytes words) (2 * j + 1) 0xff (omega (arith, long)) ∙ high_byte words j in
-      rw (low, high) (omega arith)
+        rw (low, high) (omega arith)
 
 blocks_make : (image : List ℕ) → AreWords image → (k w : ℕ) → w < 8 * k → IsMade (slice_index image w) (blocks_given image k) w
 unfolding blocks_given
@@ -252,18 +252,18 @@ blocks_make image are (suc k) w h =
     let high = byte-append before here (2 * w + 1) 0xff in
     ⊎_elim
     (λ l.
-        let a : byte_at here (2 * w) 0xff ≡ 0xff = block_byte_below (block image k) k (2 * w) 0xff (omega arith) in
-        let b : byte_at here (2 * w + 1) 0xff ≡ 0xff = block_byte_below (block image k) k (2 * w + 1) 0xff (omega arith) in
-        rw (low, high, a, b) (blocks_make image are k w l))
+    let a : byte_at here (2 * w) 0xff ≡ 0xff = block_byte_below (block image k) k (2 * w) 0xff (omega arith) in
+    let b : byte_at here (2 * w + 1) 0xff ≡ 0xff = block_byte_below (block image k) k (2 * w + 1) 0xff (omega arith) in
+    rw (low, high, a, b) (blocks_make image are k w l))
     (λ l.
-        let j : ℕ = w - 8 * k in
-        let e : 8 * k + j ≡ w = omega arith in
-        let small : slice_index (block image k) j < 0x4000 = block_small image k are j in
-        let made : IsMade (slice_index (block image k) j) here w = subst (IsMade (slice_index (block image k) j) here) e (block_makes (block image k) k j refl (omega arith) small) in
-        let is : slice_index (block image k) j ≡ slice_index image w = block_word image k j (omega arith) ∙ ap (slice_index image) e in
-        let a = byte_behind_all image k (2 * w) (byte_at here (2 * w) 0xff) (omega arith) in
-        let b = byte_behind_all image k (2 * w + 1) (byte_at here (2 * w + 1) 0xff) (omega arith) in
-        rw (low, high, a, b) (subst (λ v. IsMade v here w) is made))
+    let j : ℕ = w - 8 * k in
+    let e : 8 * k + j ≡ w = omega arith in
+    let small : slice_index (block image k) j < 0x4000 = block_small image k are j in
+    let made : IsMade (slice_index (block image k) j) here w = subst (IsMade (slice_index (block image k) j) here) e (block_makes (block image k) k j refl (omega arith) small) in
+    let is : slice_index (block image k) j ≡ slice_index image w = block_word image k j (omega arith) ∙ ap (slice_index image) e in
+    let a = byte_behind_all image k (2 * w) (byte_at here (2 * w) 0xff) (omega arith) in
+    let b = byte_behind_all image k (2 * w + 1) (byte_at here (2 * w + 1) 0xff) (omega arith) in
+    rw (low, high, a, b) (subst (λ v. IsMade v here w) is made))
     (cases_lt w (8 * k))
 
 -- the written text is a HEX file of the image
@@ -274,5 +274,5 @@ hex_text-is_file image are = record {
   below = λ a h. times_behind_all image 1024 a (omega arith);
   once = λ a. times_of_all image 1024 a;
   words = are;
-  each = λ w h. blocks_make image are 1024 w h
+  each = λ w h. blocks_make image are 1024 w h;
 }

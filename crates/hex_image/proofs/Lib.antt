@@ -1,5 +1,4 @@
 pub mod Digits
-pub mod Lines
 pub mod Bytes
 pub mod Written
 pub mod File

@@ -18,13 +18,16 @@ use std::alloc::{AllocError, Global};
 /// How many words a record holds.
 const BLOCK: u16 = 8;
 
+/// How many data bytes a record holds.
+const DATA_BYTES: u8 = 16;
+
 /// How many blocks program memory has.
 const BLOCKS: u16 = 1024;
 
-#[tactic(auto, using(crate::proofs::Written::blocks_on, crate::proofs::Written::whole))]
 /// The HEX text of an image: one record of kind 04, then for each eight words from a multiple of
 /// 8 that aren't all erased one record of 16 bytes, then the end record. Digits are upper case,
 /// and lines end at LF (Intel, Hexadecimal Object File Format Specification).
+#[tactic(auto, using(crate::proofs::Written::blocks_on, crate::proofs::Written::whole))]
 pub fn write_hex(alloc: Global, image: &Image) -> Result<Vec<u8>, AllocError>
     ensures text { IfOk result (λ text. text.items ≡ spec.hex_text image.now) }
     ensures file { IfOk result (λ text. IsHexFile text.items image.now) }
@@ -41,8 +44,7 @@ pub fn write_hex(alloc: Global, image: &Image) -> Result<Vec<u8>, AllocError>
 /// By the rules of the format each text has one content at most.
 pub fn one_content()
     ensures { (text : List ℕ) (a b : List ℕ) → IsHexFile text a → IsHexFile text b → a ≡ b }
-{
-}
+{}
 
 fn block(image: &Image, k: u16) -> [u16; 8]
     requires { k < 1024 }
@@ -87,7 +89,7 @@ fn block_bytes(alloc: Global, words: &[u16], k: u16) -> Result<Vec<u8>, AllocErr
 {
     let address = 2 * BLOCK * k;
     let mut bytes = Vec::new(alloc);
-    bytes.extend_from_slice(&[16, (address / 256) as u8, (address % 256) as u8, 0])?;
+    bytes.extend_from_slice(&[DATA_BYTES, (address / 256) as u8, (address % 256) as u8, 0])?;
     for word in words {
         bytes.extend_from_slice(&[(*word % 256) as u8, (*word / 256) as u8])?;
     }
@@ -121,4 +123,35 @@ fn checksum(bytes: &[u8]) -> u8
         sum = sum.wrapping_add(*byte);
     }
     0u8.wrapping_sub(sum)
+}
+
+#[cfg(test)]
+mod tests {
+    use super::*;
+    use std::test::Fail;
+
+    #[test]
+    fn erased_blocks_are_left_out(rt: HostRuntime) -> Result<(), Fail> {
+        let mut image = Image::blank(rt.alloc())?;
+        image.set(0, 0x2805);
+        image.set(7, 0x30a5);
+        image.set(8, 0x0063);
+        image.set(2048, 0x0008);
+        image.set(8191, 0x0000);
+        let text = write_hex(rt.alloc(), &image)?;
+        let wanted = b":020000040000FA\n\
+            :100000000528FF3FFF3FFF3FFF3FFF3FFF3FA5307A\n\
+            :100010006300FF3FFF3FFF3FFF3FFF3FFF3FFF3FCB\n\
+            :101000000800FF3FFF3FFF3FFF3FFF3FFF3FFF3F26\n\
+            :103FF000FF3FFF3FFF3FFF3FFF3FFF3FFF3F00000F\n\
+            :00000001FF\n";
+        assert_eq!(rt; text.as_slice(), wanted.as_slice());
+        let erased = write_hex(rt.alloc(), &Image::blank(rt.alloc())?)?;
+        assert_eq!(rt;
+            erased.as_slice(),
+            b":020000040000FA\n:00000001FF\n".as_slice()
+        );
+        one_content();
+        Ok(())
+    }
 }

@@ -1,4 +1,4 @@
-use Rattle.std.proofs.Common.{◌≡◌, ◌<◌, ◌≤◌, ◌++◌, ◌∙◌, ap, sym, subst, arith}
+use Rattle.std.proofs.Common.{◌≡◌, ◌++◌, ◌∙◌, ap, sym, subst, arith}
 use Rattle.hex_image.specs.HexFile.{IsHexFile}
 use Rattle.hex_image.specs.HexText.{blocks_text}
 use Rattle.hex_image.proofs.Written.{first_text, end_text, no_blocks, whole}
@@ -8,7 +8,7 @@ use Rattle.hex_image.proofs.write_hex.Goals as goal
 pub loop-k-init : goal.loop-k-init
 loop-k-init c = record {
   text = c.in_ok-extend_from_slice.ensures.items ∙ ap (λ t. t ++ first_text) c.new-text.ensures.items ∙ no_blocks c.args.image.now;
-  words = λ h. absurd (omega arith)
+  words = λ h. absurd (omega arith);
 }
 
 pub returns-clause-file : goal.returns-clause-file
