@@ -1,14 +1,13 @@
 -- The words of a program of constants to ports do what the program says.
-use Rattle.std.proofs.Common.{◌≡◌, ℕ, zero, suc, ◌+◌, ◌-◌, ◌*◌, ◌<◌, ◌≤◌, ◌≢◌, ◌⊎◌, inl, inr, ⊎_elim, Bool, true, false, not, min, List, [], ◌∷◌, ◌++◌, length, take, slice_index, refl, sym, ap, ◌∙◌, subst, arith, Some, Option}
-use Rattle.std.specs.Prelude.{nat_eq, ◌||◌, slice_get, Contains}
-use Rattle.std.proofs.Math.Seq.{take-length}
+use Rattle.std.proofs.Common.{◌≡◌, ℕ, zero, suc, ◌+◌, ◌-◌, ◌*◌, ◌<◌, ◌≤◌, ◌≢◌, ⊎_elim, Bool, true, false, min, List, [], ◌∷◌, length, take, refl, sym, ap, ◌∙◌, subst, arith, Some}
+use Rattle.std.specs.Prelude.{◌||◌, slice_get, Contains}
 use Rattle.std.proofs.lemmas.List.{length-take, length-take-le, take_min}
 use Rattle.std.proofs.lemmas.Bool.{cases_lt}
 use Rattle.pic_chip.specs.declared.Arrival.{Arrival}
 use Rattle.pic_chip.specs.declared.Start.{Start}
 use Rattle.pic_chip.specs.declared.Event.{Event}
 use Rattle.pic_chip.specs.Interrupts.{arriving}
-use Rattle.pic_chip.specs.Run.{IsStart, Setting, Moment, moment, is_handling, takes}
+use Rattle.pic_chip.specs.Run.{IsStart, Setting, moment, is_handling, takes}
 use Rattle.pic_chip.specs.declared.Root.TheVariants.{Main}
 use Rattle.picc_cli.specs.declared.program.Assignment.{Assignment}
 use Rattle.picc_cli.specs.MapContent.{FrameLine, ObjectLine}
@@ -16,7 +15,7 @@ use Rattle.picc_cli.specs.Headline.{IsFrontOf, ComesTo, Follows, IsFaithful, set
 use Rattle.picc_cli.specs.PortProgram.{AllFit, events_of, source_of}
 use Rattle.picc_cli.specs.PortCode.{HasCode, map_of}
 use Rattle.picc_cli.proofs.Ticks.{not_due}
-use Rattle.picc_cli.proofs.Stages.{Stage, AtReset, ToLoad, ToSelect, ToStore, AtOnce, Halted, made_by, has_met, IsWhen, At, Stands, Count, counts, stands}
+use Rattle.picc_cli.proofs.Stages.{Stage, AtReset, ToLoad, ToSelect, ToStore, AtOnce, Halted, made_by, has_met, IsWhen, Stands, Count, counts, stands}
 
 -- ---- fronts of lists
 front : (xs : List Event) (a b : ℕ) → a ≤ b → IsFrontOf (take a xs) (take b xs)
@@ -49,13 +48,13 @@ never b f t = cc
 
 -- an assignment takes three instructions, and the last one leads to the end
 fast : (j m long n t before now : ℕ) → min j (long + 1) ≡ before → before ≤ long + 1 → (before ≤ long → 3 * before ≤ t) → (before ≡ long + 1 → 1 + 3 * long ≤ t)
-  → now ≤ long + 1 → (now ≤ long → n ≤ 3 * now + 3) → t ≤ n → 8192 * (m + 1) ≤ n - t → min (j + m) (long + 1) ≤ now
+    → now ≤ long + 1 → (now ≤ long → n ≤ 3 * now + 3) → t ≤ n → 8192 * (m + 1) ≤ n - t → min (j + m) (long + 1) ≤ now
 fast j m long n t before now least most early over bound late order enough =
     ⊎_elim
     (λ going. ⊎_elim
-      (λ began. let e = early (omega arith) in let l = late (omega arith) in omega arith)
-      (λ done. let o = over (omega arith) in let l = late (omega arith) in absurd (omega arith))
-      (cases_lt before (long + 1)))
+    (λ began. let e = early (omega arith) in let l = late (omega arith) in omega arith)
+    (λ done. let o = over (omega arith) in let l = late (omega arith) in absurd (omega arith))
+    (cases_lt before (long + 1)))
     (λ done. omega arith)
     (cases_lt now (long + 1))
 
@@ -96,7 +95,7 @@ module _ (assignments : List Assignment) (image inputs : List ℕ) (few : length
       let here : length (take j all) ≡ made_at t = comes.here ∙ length_is t in
       let least : min j (length assignments + 1) ≡ made_at t = ap (min j) (sym total) ∙ sym (length-take j all) ∙ here in
       let enough : min (j + m) (length all) ≤ made_at n =
-        rw total (fast j m (length assignments) n t (made_at t) (made_at n) least before.most before.not_early before.after_all now.most now.not_late order long) in
+      rw total (fast j m (length assignments) n t (made_at t) (made_at n) least before.most before.not_early before.after_all now.most now.not_late order long) in
       subst (IsFrontOf (take (j + m) all)) (sym (trace_is n)) (front_by all (j + m) (made_at n) enough)
 
   -- no handler runs
@@ -119,17 +118,23 @@ module _ (assignments : List Assignment) (image inputs : List ℕ) (few : length
     no_underflow = λ n k clean order. let pops = (at k).at.calm.pops in omega arith;
     no_overflow = λ n k clean order. let pushes = (at k).at.calm.pushes in omega arith;
     frames = λ n k b line clean order met among within guarded.
-      absurd (never (is_guarded (is_handling (arriving arrivals k) (moment run k)) line.root)
+        absurd (never (is_guarded (is_handling (arriving arrivals k) (moment run k)) line.root)
         (ap (λ x. is_guarded x line.root) (calm_at k (arriving arrivals k)) ∙ ap (is_guarded false) (main_alone line among)) guarded);
     start_up = met_at 4096 (omega arith);
-    no_early_access = λ n. (at n).at.early }
+    no_early_access = λ n. (at n).at.early;
+  }
 
 pub faithful : (assignments : List Assignment) (image : List ℕ) → length assignments ≤ 146 → AllFit assignments → HasCode image assignments → IsFaithful (source_of assignments) (map_of assignments) image
 faithful assignments image few fit code = record {
-  words = code.modelled; objects = refl; copies = refl; main = omega arith; halt = omega arith;
+  words = code.modelled;
+  objects = refl;
+  copies = refl;
+  main = omega arith;
+  halt = omega arith;
   apart = λ i j x y other first second together. absurd (only_one i j x y other first second);
   clear_of_objects = λ x y among line. absurd (none_among y line);
-  runs = λ start inputs arrivals known bytes. follows assignments image inputs few fit code start arrivals known } where
+  runs = λ start inputs arrivals known bytes. follows assignments image inputs few fit code start arrivals known;
+} where
   none_among : (y : ObjectLine) → Contains [] y → ⊥
   none_among y (k, short, is) = omega arith
 

@@ -1,5 +1,4 @@
 pub mod Ticks
-
 pub mod Stages
 pub mod Faithful
 pub mod Placing

@@ -1,15 +1,14 @@
 -- The words of a program as they are put, assignment by assignment.
-use Rattle.std.proofs.Common.{◌≡◌, ℕ, zero, suc, ◌+◌, ◌-◌, ◌*◌, ◌<◌, ◌≤◌, ◌≢◌, ◌⊎◌, inl, inr, ⊎_elim, Bool, true, false, List, [], ◌∷◌, length, slice_index, slice_set, refl, sym, ap, ◌∙◌, subst, arith, Some, Option, replicate, get_or-set_same, get_or-set_other}
+use Rattle.std.proofs.Common.{◌≡◌, ℕ, zero, suc, ◌+◌, ◌*◌, ◌<◌, ◌≤◌, ◌≢◌, ⊎_elim, true, List, [], ◌∷◌, length, slice_index, slice_set, refl, sym, ap, ◌∙◌, subst, arith, Some, replicate, get_or-set_same, get_or-set_other}
 use Rattle.std.specs.Prelude.{slice_get, slice_index_or}
 use Rattle.std.proofs.Math.ListN.{length-set}
 use Rattle.std.proofs.lemmas.List.{get_or-replicate, length-replicate}
 use Rattle.std.proofs.lemmas.Bool.{cases_lt, cases_eq}
 use Rattle.pic_isa.specs.declared.Ins.{Ins}
-use Rattle.pic_isa.specs.declared.Ins.TheVariants.{Movlw, Movwf, Bcf, Bsf, Goto, Retfie}
+use Rattle.pic_isa.specs.declared.Ins.TheVariants.{Movlw, Movwf, Goto, Retfie}
 use Rattle.pic_isa.specs.Table.{word_of, IsWellFormed}
 use Rattle.pic_isa.specs.Lookup.{row_of}
 use Rattle.pic_isa.proofs.Rows.{of_word}
-use Rattle.pic_chip.specs.Words.{AreWords}
 use Rattle.pic_chip.specs.Instructions.{is_modelled}
 use Rattle.picc_cli.specs.declared.program.Assignment.{Assignment}
 use Rattle.picc_cli.specs.declared.program.Side.{Side}
@@ -49,7 +48,7 @@ put_goes image at word long all h k short =
 
 -- as the loop begins
 pub begins : (assignments : List Assignment) (image : List ℕ) → image ≡ replicate 8192 0x3fff
-  → IsPlaced assignments (slice_set (slice_set image 0 (word_of (Goto main_address))) 4 (word_of Retfie)) 5 0
+    → IsPlaced assignments (slice_set (slice_set image 0 (word_of (Goto main_address))) 4 (word_of Retfie)) 5 0
 begins assignments image blank =
     let jump = word_of (Goto main_address) in
     let long : length image ≡ 8192 = ap (length {A = ℕ}) blank ∙ length-replicate {A = ℕ} 8192 0x3fff in
@@ -62,7 +61,8 @@ begins assignments image blank =
       words = length-set one 4 (word_of Retfie) ∙ long1;
       from_reset = put_other one 4 (word_of Retfie) 0 (omega arith) ∙ put_same image 0 jump 0 long (omega arith) refl;
       each = λ i a none. absurd (omega arith);
-      modelled = put_goes one 4 (word_of Retfie) long1 goes1 (goes Retfie tt refl) }
+      modelled = put_goes one 4 (word_of Retfie) long1 goes1 (goes Retfie tt refl);
+    }
 
 fits_select : (side : Side) → IsWellFormed (select side) × (is_modelled (Some (select side)) ≡ true)
 fits_select Port = ((omega arith, omega arith), refl)
@@ -70,7 +70,7 @@ fits_select Tris = ((omega arith, omega arith), refl)
 
 -- the words of one more assignment
 pub continues : (assignments : List Assignment) (image : List ℕ) (at n : ℕ) (a : Assignment) → IsPlaced assignments image at n → n < 146 → slice_get assignments n ≡ Some a → IsFine a
-  → IsPlaced assignments (slice_set (slice_set (slice_set image at (word_of (Movlw a.value))) (at + 1) (word_of (select a.side))) (at + 2) (word_of (Movwf (a.port + 5)))) (at + 3) (n + 1)
+    → IsPlaced assignments (slice_set (slice_set (slice_set image at (word_of (Movlw a.value))) (at + 1) (word_of (select a.side))) (at + 2) (word_of (Movwf (a.port + 5)))) (at + 3) (n + 1)
 continues assignments image at n a placed few is fine =
     let here = placed.here in
     let long = placed.words in
@@ -84,34 +84,37 @@ continues assignments image at n a placed few is fine =
     let long2 : length two ≡ 8192 = length-set one (at + 1) bank ∙ long1 in
     let long3 : length three ≡ 8192 = length-set two (at + 2) store ∙ long2 in
     let before = λ (k : ℕ) (h : k < at). (let e : slice_index three k ≡ slice_index image k =
-        put_other two (at + 2) store k (omega arith) ∙ put_other one (at + 1) bank k (omega arith) ∙ put_other image at load k (omega arith) in e) in
+    put_other two (at + 2) store k (omega arith) ∙ put_other one (at + 1) bank k (omega arith) ∙ put_other image at load k (omega arith) in e) in
     let goes1 = put_goes image at load long placed.modelled (goes (Movlw a.value) fine.1 refl) in
     let select_fits = fits_select a.side in
     let goes2 = put_goes one (at + 1) bank long1 goes1 (goes (select a.side) select_fits.0 select_fits.1) in
     let new : HasAssignment three (5 + 3 * n) a = record {
       load = put_other two (at + 2) store (5 + 3 * n) (omega arith) ∙ put_other one (at + 1) bank (5 + 3 * n) (omega arith) ∙ put_same image at load (5 + 3 * n) long (omega arith) (omega arith);
       bank = put_other two (at + 2) store (5 + 3 * n + 1) (omega arith) ∙ put_same one (at + 1) bank (5 + 3 * n + 1) long1 (omega arith) (omega arith);
-      store = put_same two (at + 2) store (5 + 3 * n + 2) long2 (omega arith) (omega arith) } in
+      store = put_same two (at + 2) store (5 + 3 * n + 2) long2 (omega arith) (omega arith);
+    } in
     record {
       here = omega arith;
       words = long3;
       from_reset = before 0 (omega arith) ∙ placed.from_reset;
       each = λ i b short at_i. ⊎_elim
-        (λ early. let old = placed.each i b early at_i in
+          (λ early. let old = placed.each i b early at_i in
           let x : HasAssignment three (5 + 3 * i) b = record {
             load = before (5 + 3 * i) (omega arith) ∙ old.load;
             bank = before (5 + 3 * i + 1) (omega arith) ∙ old.bank;
-            store = before (5 + 3 * i + 2) (omega arith) ∙ old.store } in x)
-        (λ last. let same : i ≡ n = omega arith in
+            store = before (5 + 3 * i + 2) (omega arith) ∙ old.store;
+          } in x)
+          (λ last. let same : i ≡ n = omega arith in
           let found : slice_get assignments n ≡ Some b = subst (λ k. slice_get assignments k ≡ Some b) same at_i in
           let equal : a ≡ b = cc (is, found) in
           subst (λ k. HasAssignment three (5 + 3 * k) b) (sym same) (subst (HasAssignment three (5 + 3 * n)) equal new))
-        (cases_lt i n);
-      modelled = put_goes two (at + 2) store long2 goes2 (goes (Movwf (a.port + 5)) (omega arith) refl) }
+          (cases_lt i n);
+      modelled = put_goes two (at + 2) store long2 goes2 (goes (Movwf (a.port + 5)) (omega arith) refl);
+    }
 
 -- the jump at the end
 pub finishes : (assignments : List Assignment) (image : List ℕ) (at : ℕ) → IsPlaced assignments image at (length assignments) → length assignments ≤ 146
-  → HasCode (slice_set image at (word_of (Goto at))) assignments
+    → HasCode (slice_set image at (word_of (Goto at))) assignments
 finishes assignments image at placed few =
     let here : at ≡ halt_address assignments = placed.here in
     let jump = word_of (Goto at) in
@@ -120,18 +123,20 @@ finishes assignments image at placed few =
     record {
       from_reset = before 0 (omega arith) ∙ placed.from_reset;
       each = λ i a is. let short = within assignments i a is in
-        let old = placed.each i a short is in
-        let x : HasAssignment (slice_set image at jump) (5 + 3 * i) a = record {
-          load = before (5 + 3 * i) (omega arith) ∙ old.load;
-          bank = before (5 + 3 * i + 1) (omega arith) ∙ old.bank;
-          store = before (5 + 3 * i + 2) (omega arith) ∙ old.store } in x;
+          let old = placed.each i a short is in
+          let x : HasAssignment (slice_set image at jump) (5 + 3 * i) a = record {
+            load = before (5 + 3 * i) (omega arith) ∙ old.load;
+            bank = before (5 + 3 * i + 1) (omega arith) ∙ old.bank;
+            store = before (5 + 3 * i + 2) (omega arith) ∙ old.store;
+          } in x;
       halt = put_same image at jump (halt_address assignments) long (omega arith) (sym here) ∙ ap (λ n. word_of (Goto n)) here;
-      modelled = put_goes image at jump long placed.modelled (goes (Goto at) (omega arith) refl) }
+      modelled = put_goes image at jump long placed.modelled (goes (Goto at) (omega arith) refl);
+    }
   where
-  within : (xs : List Assignment) (i : ℕ) (a : Assignment) → slice_get xs i ≡ Some a → i < length xs
-  within [] i a is = absurd (cc)
-  within (x ∷ xs) zero a is = omega arith
-  within (x ∷ xs) (suc i) a is = let h = within xs i a is in omega arith
+    within : (xs : List Assignment) (i : ℕ) (a : Assignment) → slice_get xs i ≡ Some a → i < length xs
+    within [] i a is = absurd (cc)
+    within (x ∷ xs) zero a is = omega arith
+    within (x ∷ xs) (suc i) a is = let h = within xs i a is in omega arith
 
 -- an element that is there
 pub there : (xs : List Assignment) (i : ℕ) (d : Assignment) → i < length xs → slice_get xs i ≡ Some (slice_index_or xs i d)

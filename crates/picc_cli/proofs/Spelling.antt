@@ -1,7 +1,6 @@
 -- A program has one reading.
-use Rattle.std.proofs.Common.{◌≡◌, ℕ, zero, suc, ◌+◌, ◌-◌, ◌*◌, ◌/◌, ◌%◌, ◌<◌, ◌≤◌, ◌⊎◌, inl, inr, ⊎_elim, List, [], ◌∷◌, ◌++◌, length, refl, sym, ap, ◌∙◌, subst, arith, append_assoc, append-nil}
+use Rattle.std.proofs.Common.{◌≡◌, ℕ, ◌+◌, ◌/◌, ◌%◌, ◌<◌, ◌≤◌, ◌⊎◌, inl, inr, ⊎_elim, List, [], ◌∷◌, ◌++◌, refl, sym, ap, ◌∙◌, subst, arith, append_assoc, append-nil}
 use Rattle.std.proofs.lemmas.Bool.{cases_lt, lt-ltb, le-ltb}
-use Rattle.std.proofs.lemmas.Bool.Decides.{nat_tests}
 use Rattle.picc_cli.specs.declared.program.Assignment.{Assignment}
 use Rattle.picc_cli.specs.declared.program.Side.{Side}
 use Rattle.picc_cli.specs.declared.program.Side.TheVariants.{Port, Tris}
@@ -27,9 +26,9 @@ spells n =
     ⊎_elim
     (λ h. let e = lt-ltb n 10 h in inl (h, rw e refl))
     (λ l. ⊎_elim
-      (λ h. let e = lt-ltb n 100 h in let d = le-ltb n 10 l in inr (inl (l, h, rw (d, e) refl)))
-      (λ m. let d = le-ltb n 10 l in let e = le-ltb n 100 m in inr (inr (m, rw (d, e) refl)))
-      (cases_lt n 100))
+    (λ h. let e = lt-ltb n 100 h in let d = le-ltb n 10 l in inr (inl (l, h, rw (d, e) refl)))
+    (λ m. let d = le-ltb n 10 l in let e = le-ltb n 100 m in inr (inr (m, rw (d, e) refl)))
+    (cases_lt n 100))
     (cases_lt n 10)
 
 number_once : (m n : ℕ) (s t x y : List ℕ) → Spelled m s → Spelled n t → m < 256 → n < 256 → s ++ 59 ∷ x ≡ t ++ 59 ∷ y → (m ≡ n) × (x ≡ y)
@@ -65,7 +64,7 @@ number_once m n s t x y (inr (inr a)) (inr (inr b)) hm hn e =
     let h : 48 + m % 10 ≡ 48 + n % 10 = cc in (omega arith, cc)
 
 rest_once : (p q m n : ℕ) (x y : List ℕ) → m < 256 → n < 256
-  → (65 + p) ∷ 61 ∷ (number_text m ++ 59 ∷ x) ≡ (65 + q) ∷ 61 ∷ (number_text n ++ 59 ∷ y) → (p ≡ q) × (m ≡ n) × (x ≡ y)
+    → (65 + p) ∷ 61 ∷ (number_text m ++ 59 ∷ x) ≡ (65 + q) ∷ 61 ∷ (number_text n ++ 59 ∷ y) → (p ≡ q) × (m ≡ n) × (x ≡ y)
 rest_once p q m n x y hm hn e =
     let h : 65 + p ≡ 65 + q = cc in
     let t : number_text m ++ 59 ∷ x ≡ number_text n ++ 59 ∷ y = cc in
@@ -85,8 +84,8 @@ first (x ∷ xs) = x
 once : (a b : Assignment) (x y : List ℕ) → IsFine a → IsFine b → assignment_text a ++ x ≡ assignment_text b ++ y → (a ≡ b) × (x ≡ y)
 once a b x y f g e = by_side a.side b.side a.port b.port a.value b.value x y f.1 g.1 e where
   by_side : (s t : Side) (p q m n : ℕ) (x y : List ℕ) → m < 256 → n < 256
-    → (side_text s ++ (65 + p) ∷ 61 ∷ (number_text m ++ 59 ∷ [])) ++ x ≡ (side_text t ++ (65 + q) ∷ 61 ∷ (number_text n ++ 59 ∷ [])) ++ y
-    → (let a : Assignment = record { side = s; port = p; value = m } in let b : Assignment = record { side = t; port = q; value = n } in a ≡ b) × (x ≡ y)
+      → (side_text s ++ (65 + p) ∷ 61 ∷ (number_text m ++ 59 ∷ [])) ++ x ≡ (side_text t ++ (65 + q) ∷ 61 ∷ (number_text n ++ 59 ∷ [])) ++ y
+      → (let a : Assignment = record { side = s; port = p; value = m } in let b : Assignment = record { side = t; port = q; value = n } in a ≡ b) × (x ≡ y)
   by_side Port Port p q m n x y hm hn e =
       let f : (65 + p) ∷ 61 ∷ ((number_text m ++ 59 ∷ []) ++ x) ≡ (65 + q) ∷ 61 ∷ ((number_text n ++ 59 ∷ []) ++ y) = cc in
       let g = ap (λ t. (65 + p) ∷ 61 ∷ t) (sym (regroup m x)) ∙ f ∙ ap (λ t. (65 + q) ∷ 61 ∷ t) (regroup n y) in
@@ -104,13 +103,13 @@ once a b x y f g e = by_side a.side b.side a.port b.port a.value b.value x y f.1
 
 -- where no assignment follows, the assignments and the rest are determined
 pub one_form : (xs ys : List Assignment) (x y : List ℕ) → AllFit xs → AllFit ys → HasNoAssignment x → HasNoAssignment y
-  → assignments_text xs ++ x ≡ assignments_text ys ++ y → (xs ≡ ys) × (x ≡ y)
+    → assignments_text xs ++ x ≡ assignments_text ys ++ y → (xs ≡ ys) × (x ≡ y)
 one_form [] [] x y f g nx ny e = (refl, e)
 one_form [] (b ∷ ys) x y f g nx ny e = absurd (nx b (assignments_text ys ++ y) g.0 (e ∙ append_assoc (assignment_text b) (assignments_text ys) y))
 one_form (a ∷ xs) [] x y f g nx ny e = absurd (ny a (assignments_text xs ++ x) f.0 (sym e ∙ append_assoc (assignment_text a) (assignments_text xs) x))
 one_form (a ∷ xs) (b ∷ ys) x y f g nx ny e =
     let h = once a b (assignments_text xs ++ x) (assignments_text ys ++ y) f.0 g.0
-      (sym (append_assoc (assignment_text a) (assignments_text xs) x) ∙ e ∙ append_assoc (assignment_text b) (assignments_text ys) y) in
+    (sym (append_assoc (assignment_text a) (assignments_text xs) x) ∙ e ∙ append_assoc (assignment_text b) (assignments_text ys) y) in
     let t = one_form xs ys x y f.1 g.1 nx ny h.1 in
     (ap (λ c. c ∷ xs) h.0 ∙ ap (λ zs. b ∷ zs) t.0, t.1)
 
@@ -123,7 +122,7 @@ end_alone end is a rest fine e = by_side a.side e where
 
 -- the assignments of a program are those that were read
 pub read_once : (text body end : List ℕ) (xs ys : List Assignment) → text ≡ beginning ++ body → body ≡ assignments_text xs ++ end → AllFit xs → HasNoAssignment end
-  → IsProgram text ys → (xs ≡ ys) × IsEnd end
+    → IsProgram text ys → (xs ≡ ys) × IsEnd end
 read_once text body end xs ys begins reads fit none program =
     let last = program.spelled.0 in
     let is = program.spelled.1 in

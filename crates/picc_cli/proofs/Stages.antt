@@ -1,27 +1,25 @@
 -- Where the run of a program of constants to ports stands at each moment.
-use Rattle.std.proofs.Common.{◌≡◌, ℕ, zero, suc, ◌+◌, ◌-◌, ◌*◌, ◌/◌, ◌%◌, ◌^◌, ◌<◌, ◌≤◌, ◌≢◌, ◌⊎◌, inl, inr, ⊎_elim, Bool, true, false, not, List, [], ◌∷◌, ◌++◌, length, take, slice_index, refl, sym, ap, ◌∙◌, subst, arith, Some, Option, append-nil, add-one}
-use Rattle.std.specs.Prelude.{bit_or, nat_eq, ◌&&◌, ◌||◌, if◌then◌else◌, slice_get}
+use Rattle.std.proofs.Common.{◌≡◌, ℕ, zero, suc, ◌+◌, ◌*◌, ◌/◌, ◌%◌, ◌<◌, ◌≤◌, ◌≢◌, ⊎_elim, Bool, true, false, List, [], ◌∷◌, ◌++◌, length, take, refl, sym, ap, ◌∙◌, subst, arith, Some, append-nil, add-one}
+use Rattle.std.specs.Prelude.{nat_eq, ◌&&◌, if◌then◌else◌, slice_get}
 use Rattle.std.proofs.lemmas.Bool.{ne_eqb, eq-eqb, cases_lt}
-use Rattle.pic_isa.specs.declared.Ins.{Ins}
-use Rattle.pic_isa.specs.declared.Ins.TheVariants.{Movlw, Movwf, Bcf, Bsf, Goto}
-use Rattle.pic_isa.specs.Table.{word_of, IsWellFormed}
+use Rattle.pic_isa.specs.declared.Ins.TheVariants.{Movlw, Movwf, Goto}
+use Rattle.pic_isa.specs.Table.{IsWellFormed}
 use Rattle.pic_chip.specs.declared.Arrival.{Arrival}
 use Rattle.pic_chip.specs.declared.Start.{Start}
-use Rattle.pic_chip.specs.declared.Event.{Event}
 use Rattle.pic_chip.specs.declared.Event.TheVariants as events
-use Rattle.pic_chip.specs.State.{State, reset, AtPc, AtW}
-use Rattle.pic_chip.specs.Act.{Effect, effect, apply, Act, made}
-use Rattle.pic_chip.specs.Instructions.{row, bit, to, following, number, part}
+use Rattle.pic_chip.specs.State.{State, AtPc, AtW}
+use Rattle.pic_chip.specs.Act.{Effect, effect, made}
+use Rattle.pic_chip.specs.Instructions.{row, to, following, part}
 use Rattle.pic_chip.specs.Interrupts.{arriving}
 use Rattle.pic_chip.specs.Run.{IsStart, events_of as shown, Setting, Watch, Moment, moment, first_moment, observed, stepped}
 use Rattle.picc_cli.specs.declared.program.Assignment.{Assignment}
 use Rattle.picc_cli.specs.declared.program.Side.{Side}
 use Rattle.picc_cli.specs.declared.program.Side.TheVariants.{Port, Tris}
-use Rattle.picc_cli.specs.MapContent.{MapContent, watch_of}
+use Rattle.picc_cli.specs.MapContent.{watch_of}
 use Rattle.picc_cli.specs.Headline.{setting_of}
-use Rattle.picc_cli.specs.PortProgram.{IsFine, AllFit, address, event_of, events_of, frames_of}
-use Rattle.picc_cli.specs.PortCode.{HasCode, HasAssignment, select, main_address, halt_address, map_of}
-use Rattle.picc_cli.proofs.Ticks.{IsCalm, flagged, gie_stays, behind, steps, bank_of, stores, shows, Selects, selects, select_notes}
+use Rattle.picc_cli.specs.PortProgram.{IsFine, AllFit, address, event_of, events_of}
+use Rattle.picc_cli.specs.PortCode.{HasCode, select, main_address, halt_address, map_of}
+use Rattle.picc_cli.proofs.Ticks.{IsCalm, flagged, gie_stays, behind, steps, bank_of, stores, shows, selects, select_notes}
 
 -- The run is at reset, at one of the three words of an assignment, at main's address where that is the halt
 -- address too, or has ended.
@@ -176,12 +174,17 @@ module _ (assignments : List Assignment) (image inputs : List ℕ) (few : length
       subst (Stands assignments (suc k)) (sym (ap (observed (watch assignments)) one ∙ two)) (record {
         stage = ToSelect i;
         at = record {
-          when = (short, omega arith); pc = omega arith; met = at.met; ended = at.ended;
+          when = (short, omega arith);
+          pc = omega arith;
+          met = at.met;
+          ended = at.ended;
           trace = trace_on mask m e at.met ∙ append-nil m.trace ∙ at.trace;
           early = early_on mask m e at.met ∙ at.early;
           handling = refl;
           calm = calm_on mask m.state ((5 + 3 * i + 1) % 8192) a.value at.calm;
-          holds = λ b h. let same : a ≡ b = cc (found.1, h) in ap (λ (x : Assignment). x.value) same } })
+          holds = λ b h. let same : a ≡ b = cc (found.1, h) in ap (λ (x : Assignment). x.value) same;
+        };
+      })
 
   fits_select : (side : Side) → IsWellFormed (select side)
   fits_select Port = (omega arith, omega arith)
@@ -204,14 +207,19 @@ module _ (assignments : List Assignment) (image inputs : List ℕ) (few : length
       subst (Stands assignments (suc k)) (sym (ap (observed (watch assignments)) one ∙ two)) (record {
         stage = ToStore i;
         at = record {
-          when = (short, omega arith); pc = omega arith; met = at.met; ended = at.ended;
+          when = (short, omega arith);
+          pc = omega arith;
+          met = at.met;
+          ended = at.ended;
           trace = trace_on mask m e at.met ∙ ap (λ es. m.trace ++ es) (select_notes inputs a.side p t) ∙ append-nil m.trace ∙ at.trace;
           early = early_on mask m e at.met ∙ at.early;
           handling = refl;
           calm = chosen.calm;
           holds = λ b h.
-            let same : a ≡ b = cc (found.1, h) in
-            (chosen.w ∙ at.holds b h, chosen.bank ∙ ap (λ (x : Assignment). bank_of x.side) same) } })
+              let same : a ≡ b = cc (found.1, h) in
+              (chosen.w ∙ at.holds b h, chosen.bank ∙ ap (λ (x : Assignment). bank_of x.side) same);
+        };
+      })
 
   -- behind the last word of an assignment comes the next one, or the halt address
   stored : (k mask i : ℕ) (m : Moment) → At assignments (ToStore i) k m → Stands assignments (suc k) (next mask m)
@@ -229,25 +237,40 @@ module _ (assignments : List Assignment) (image inputs : List ℕ) (few : length
       let one = steps image inputs p mask (Movwf (a.port + 5)) m at.calm.gie at.handling at.pc (omega arith) words.store ∙ ap (behind mask m) shape in
       let b = behind mask m e in
       let trace : b.trace ≡ take (suc i) (events_of assignments) =
-        trace_on mask m e at.met ∙ ap (λ es. m.trace ++ es) (shows a.side a.port a.value t f.0 held.0) ∙ ap (λ es. es ++ event_of a ∷ []) at.trace ∙ next_event assignments i a found.1 in
+      trace_on mask m e at.met ∙ ap (λ es. m.trace ++ es) (shows a.side a.port a.value t f.0 held.0) ∙ ap (λ es. es ++ event_of a ∷ []) at.trace ∙ next_event assignments i a found.1 in
       let more = λ (h : suc i < length assignments).
-        (let away : b.state.pc ≢ halt_address assignments = omega arith in
-        let x : Stands assignments (suc k) (next mask m) = subst (Stands assignments (suc k)) (sym (ap (observed (watch assignments)) one ∙ passes assignments b at.met away)) (record {
-          stage = ToLoad (suc i);
-          at = record {
-            when = (h, omega arith); pc = omega arith; met = at.met; ended = at.ended; trace = trace;
-            early = early_on mask m e at.met ∙ at.early; handling = refl;
-            calm = calm_on mask m.state ((p + 1) % 8192) m.state.w at.calm; holds = tt } }) in x) in
+      (let away : b.state.pc ≢ halt_address assignments = omega arith in
+      let x : Stands assignments (suc k) (next mask m) = subst (Stands assignments (suc k)) (sym (ap (observed (watch assignments)) one ∙ passes assignments b at.met away)) (record {
+        stage = ToLoad (suc i);
+        at = record {
+          when = (h, omega arith);
+          pc = omega arith;
+          met = at.met;
+          ended = at.ended;
+          trace = trace;
+          early = early_on mask m e at.met ∙ at.early;
+          handling = refl;
+          calm = calm_on mask m.state ((p + 1) % 8192) m.state.w at.calm;
+          holds = tt;
+        };
+      }) in x) in
       let last = λ (h : length assignments ≤ suc i).
-        (let here : b.state.pc ≡ halt_address assignments = omega arith in
-        let all : suc i ≡ length assignments = omega arith in
-        let x : Stands assignments (suc k) (next mask m) = subst (Stands assignments (suc k)) (sym (ap (observed (watch assignments)) one ∙ ends assignments b at.met here at.ended)) (record {
-          stage = Halted;
-          at = record {
-            when = omega arith; pc = here; met = at.met; ended = refl;
-            trace = ap (λ es. es ++ events.End ∷ []) (trace ∙ ap (λ n. take n (events_of assignments)) all) ∙ last_event assignments ∙ ap (λ n. take n (events_of assignments)) (sym (add-one (length assignments)));
-            early = early_on mask m e at.met ∙ at.early; handling = refl;
-            calm = calm_on mask m.state ((p + 1) % 8192) m.state.w at.calm; holds = tt } }) in x) in
+      (let here : b.state.pc ≡ halt_address assignments = omega arith in
+      let all : suc i ≡ length assignments = omega arith in
+      let x : Stands assignments (suc k) (next mask m) = subst (Stands assignments (suc k)) (sym (ap (observed (watch assignments)) one ∙ ends assignments b at.met here at.ended)) (record {
+        stage = Halted;
+        at = record {
+          when = omega arith;
+          pc = here;
+          met = at.met;
+          ended = refl;
+          trace = ap (λ es. es ++ events.End ∷ []) (trace ∙ ap (λ n. take n (events_of assignments)) all) ∙ last_event assignments ∙ ap (λ n. take n (events_of assignments)) (sym (add-one (length assignments)));
+          early = early_on mask m e at.met ∙ at.early;
+          handling = refl;
+          calm = calm_on mask m.state ((p + 1) % 8192) m.state.w at.calm;
+          holds = tt;
+        };
+      }) in x) in
       ⊎_elim more last (cases_lt (suc i) (length assignments))
 
   halt_small : halt_address assignments < 2048
@@ -266,13 +289,15 @@ module _ (assignments : List Assignment) (image inputs : List ℕ) (few : length
       let trace : b.trace ≡ [] = ap (λ (q : Bool). if q then m.trace ++ [] else m.trace) at.met ∙ at.trace in
       let calm = calm_on mask m.state (m.state.pclath / 8 % 4 * 2048 + main_address) m.state.w at.calm in
       let some = λ (h : 0 < length assignments).
-        (let x : Stands assignments (suc k) (next mask m) = subst (Stands assignments (suc k)) (sym (ap (observed (watch assignments)) one ∙ two)) (record {
-          stage = ToLoad 0;
-          at = record { when = (h, omega arith); pc = here; met = refl; ended = at.ended; trace = trace; early = early; handling = refl; calm = calm; holds = tt } }) in x) in
+      (let x : Stands assignments (suc k) (next mask m) = subst (Stands assignments (suc k)) (sym (ap (observed (watch assignments)) one ∙ two)) (record {
+        stage = ToLoad 0;
+        at = record { when = (h, omega arith); pc = here; met = refl; ended = at.ended; trace = trace; early = early; handling = refl; calm = calm; holds = tt };
+      }) in x) in
       let none = λ (h : length assignments ≤ 0).
-        (let x : Stands assignments (suc k) (next mask m) = subst (Stands assignments (suc k)) (sym (ap (observed (watch assignments)) one ∙ two)) (record {
-          stage = AtOnce;
-          at = record { when = (omega arith, omega arith); pc = omega arith; met = refl; ended = at.ended; trace = trace; early = early; handling = refl; calm = calm; holds = tt } }) in x) in
+      (let x : Stands assignments (suc k) (next mask m) = subst (Stands assignments (suc k)) (sym (ap (observed (watch assignments)) one ∙ two)) (record {
+        stage = AtOnce;
+        at = record { when = (omega arith, omega arith); pc = omega arith; met = refl; ended = at.ended; trace = trace; early = early; handling = refl; calm = calm; holds = tt };
+      }) in x) in
       ⊎_elim some none (cases_lt 0 (length assignments))
 
   -- the jump at the halt address, taken for the first time by a program without assignments
@@ -288,10 +313,17 @@ module _ (assignments : List Assignment) (image inputs : List ℕ) (few : length
       subst (Stands assignments (suc k)) (sym (ap (observed (watch assignments)) one ∙ ends assignments b at.met here at.ended)) (record {
         stage = Halted;
         at = record {
-          when = omega arith; pc = here; met = at.met; ended = refl;
+          when = omega arith;
+          pc = here;
+          met = at.met;
+          ended = refl;
           trace = ap (λ es. es ++ events.End ∷ []) (trace_on mask m e at.met ∙ append-nil m.trace ∙ at.trace ∙ ap (λ n. take n (events_of assignments)) (sym empty)) ∙ last_event assignments ∙ ap (λ n. take n (events_of assignments)) (sym (add-one (length assignments)));
-          early = early_on mask m e at.met ∙ at.early; handling = refl;
-          calm = calm_on mask m.state (m.state.pclath / 8 % 4 * 2048 + halt) m.state.w at.calm; holds = tt } })
+          early = early_on mask m e at.met ∙ at.early;
+          handling = refl;
+          calm = calm_on mask m.state (m.state.pclath / 8 % 4 * 2048 + halt) m.state.w at.calm;
+          holds = tt;
+        };
+      })
 
   -- and ever after
   idles : (k mask : ℕ) (m : Moment) → At assignments Halted k m → Stands assignments (suc k) (next mask m)
@@ -306,10 +338,17 @@ module _ (assignments : List Assignment) (image inputs : List ℕ) (few : length
       subst (Stands assignments (suc k)) (sym (ap (observed (watch assignments)) one ∙ rests assignments b at.met at.ended)) (record {
         stage = Halted;
         at = record {
-          when = omega arith; pc = here; met = at.met; ended = at.ended;
+          when = omega arith;
+          pc = here;
+          met = at.met;
+          ended = at.ended;
           trace = trace_on mask m e at.met ∙ append-nil m.trace ∙ at.trace;
-          early = early_on mask m e at.met ∙ at.early; handling = refl;
-          calm = calm_on mask m.state (m.state.pclath / 8 % 4 * 2048 + halt) m.state.w at.calm; holds = tt } })
+          early = early_on mask m e at.met ∙ at.early;
+          handling = refl;
+          calm = calm_on mask m.state (m.state.pclath / 8 % 4 * 2048 + halt) m.state.w at.calm;
+          holds = tt;
+        };
+      })
 
   goes_on : (k mask : ℕ) (m : Moment) (stage : Stage) → At assignments stage k m → Stands assignments (suc k) (next mask m)
   goes_on k mask m AtReset at = starts k mask m at
@@ -329,9 +368,17 @@ module _ (assignments : List Assignment) (image inputs : List ℕ) (few : length
         record {
           stage = AtReset;
           at = record {
-            when = refl; pc = refl; met = refl; ended = refl; trace = refl; early = refl; handling = refl;
+            when = refl;
+            pc = refl;
+            met = refl;
+            ended = refl;
+            trace = refl;
+            early = refl;
+            handling = refl;
             calm = record { gie = refl; z = omega arith; dc = omega arith; c = omega arith; bank = omega arith; page = refl; pushes = refl; pops = refl };
-            holds = tt } }
+            holds = tt;
+          };
+        }
 
     pub stands : (k : ℕ) → Stands assignments k (moment run k)
     unfolding moment

@@ -1,21 +1,17 @@
 -- One instruction of a program that assigns constants to ports.
-use Rattle.std.proofs.Common.{◌≡◌, ℕ, zero, suc, ◌+◌, ◌-◌, ◌*◌, ◌/◌, ◌%◌, ◌^◌, ◌<◌, ◌≤◌, ◌≢◌, Bool, true, false, not, max, List, [], ◌∷◌, ◌++◌, length, take, slice_index, refl, sym, ap, ◌∙◌, subst, arith, Some, Option, append-nil}
-use Rattle.std.specs.Prelude.{bit_or, nat_eq, ◌&&◌, ◌||◌, if◌then◌else◌}
+use Rattle.std.proofs.Common.{◌≡◌, ℕ, zero, suc, ◌+◌, ◌%◌, ◌<◌, Bool, true, false, not, max, List, [], ◌∷◌, ◌++◌, slice_index, refl, ap, ◌∙◌, arith}
+use Rattle.std.specs.Prelude.{bit_or, ◌&&◌, ◌||◌, if◌then◌else◌}
 use Rattle.std.proofs.lemmas.Nat.Bits.{bit_at_or, bit_at_above}
 use Rattle.pic_isa.specs.declared.Ins.{Ins}
-use Rattle.pic_isa.specs.declared.Ins.TheVariants.{Movlw, Movwf, Bcf, Bsf, Goto}
+use Rattle.pic_isa.specs.declared.Ins.TheVariants.{Movwf}
 use Rattle.pic_isa.specs.Table.{word_of, IsWellFormed}
 use Rattle.pic_isa.specs.Lookup.{row_of}
 use Rattle.pic_isa.proofs.Rows.{of_word}
-use Rattle.pic_chip.specs.declared.Cell.TheVariants as cells
-use Rattle.pic_chip.specs.declared.Event.{Event}
-use Rattle.pic_chip.specs.declared.Event.TheVariants as events
-use Rattle.pic_chip.specs.State.{State, AtPc, AtW, AtBank, AtZ, AtDc, AtC}
-use Rattle.pic_chip.specs.Act.{Act, Effect, Made, effect, perform, apply, made, accesses}
-use Rattle.pic_chip.specs.Instructions.{to, number, part, row, act_of, execute, fetched, is_return_from_interrupt, bit, set_bit, clear_bit, following}
+use Rattle.pic_chip.specs.State.{State, AtPc, AtW}
+use Rattle.pic_chip.specs.Act.{Effect, effect, perform, apply, made, accesses}
+use Rattle.pic_chip.specs.Instructions.{to, part, row, act_of, execute, fetched, is_return_from_interrupt, bit, following}
 use Rattle.pic_chip.specs.Interrupts.{raised, begun, is_due}
 use Rattle.pic_chip.specs.Run.{Moment, stepped, takes, is_handling, events_of, registers_of}
-use Rattle.picc_cli.specs.declared.program.Assignment.{Assignment}
 use Rattle.picc_cli.specs.declared.program.Side.{Side}
 use Rattle.picc_cli.specs.declared.program.Side.TheVariants.{Port, Tris}
 use Rattle.picc_cli.specs.PortProgram.{address, event_of}
@@ -58,21 +54,23 @@ behind mask m e =
       state = apply e.writes t t;
       handling = false;
       early = if m.met then m.early else m.early ++ registers_of (made e.notes t);
-      trace = if m.met then m.trace ++ events_of [] (made e.notes t) else m.trace }
+      trace = if m.met then m.trace ++ events_of [] (made e.notes t) else m.trace;
+    }
 
 pub steps : (image inputs : List ℕ) (p mask : ℕ) (i : Ins) (m : Moment) → bit m.state.intcon 7 ≡ 0 → m.handling ≡ false → m.state.pc ≡ p → IsWellFormed i → slice_index image p ≡ word_of i
-  → stepped image inputs [] mask m ≡ behind mask m (effect (row inputs p i) (flagged mask m.state))
+    → stepped image inputs [] mask m ≡ behind mask m (effect (row inputs p i) (flagged mask m.state))
 steps image inputs p mask i m gie calm at fits h =
     let t = flagged mask m.state in
     let word : slice_index image t.pc ≡ word_of i = ap (slice_index image) at ∙ h in
     let e : effect (execute image inputs) t ≡ effect (row inputs p i) t = fetches image inputs t i fits word ∙ ap (λ q. effect (row inputs q i) t) at in
     let after = λ (s : State) (handling : Bool).
-      (let made = accesses (execute image inputs) s in
-      let x : Moment = record m {
-        state = perform (execute image inputs) s;
-        handling = handling && not (is_return_from_interrupt (fetched image s));
-        early = if m.met then m.early else m.early ++ registers_of made;
-        trace = if m.met then m.trace ++ events_of [] made else m.trace } in x) in
+    (let made = accesses (execute image inputs) s in
+    let x : Moment = record m {
+      state = perform (execute image inputs) s;
+      handling = handling && not (is_return_from_interrupt (fetched image s));
+      early = if m.met then m.early else m.early ++ registers_of made;
+      trace = if m.met then m.trace ++ events_of [] made else m.trace;
+    } in x) in
     let due : is_handling mask m ≡ false = ap (λ b. b || takes mask m) calm ∙ not_due mask m.state gie in
     ap (λ s. after s (is_handling mask m)) (calm_begins mask m.state gie) ∙ ap (after t) due ∙ ap (behind mask m) e
 
@@ -83,7 +81,7 @@ bank_of Tris = 1
 
 -- the write of a register
 pub stores : (inputs : List ℕ) (side : Side) (port value p : ℕ) (t : State) → port < 5 → t.bank ≡ bank_of side
-  → effect (row inputs p (Movwf (port + 5))) t ≡ record { writes = to AtPc (following p) ∷ []; notes = record { write = true; address = address (record { side = side; port = port; value = value }); value = part AtW } ∷ [] }
+    → effect (row inputs p (Movwf (port + 5))) t ≡ record { writes = to AtPc (following p) ∷ []; notes = record { write = true; address = address (record { side = side; port = port; value = value }); value = part AtW } ∷ [] }
 stores inputs Tris zero v p t h b = rw b refl
 stores inputs Port zero v p t h b = rw b refl
 stores inputs Tris (suc zero) v p t h b = rw b refl
@@ -119,12 +117,20 @@ pub record Selects (side : Side) (p : ℕ) (t s : State) : Type 0 where
 pub selects : (inputs : List ℕ) (side : Side) (p : ℕ) (t : State) → IsCalm t → Selects side p t (apply (effect (row inputs p (select side)) t).writes t t)
 selects inputs Port p t calm =
     let z = calm.z in let dc = calm.dc in let c = calm.c in let bank = calm.bank in
-    record { pc = refl; bank = omega arith; w = refl;
-      calm = record { gie = calm.gie; z = omega arith; dc = omega arith; c = omega arith; bank = omega arith; page = calm.page; pushes = calm.pushes; pops = calm.pops } }
+    record {
+      pc = refl;
+      bank = omega arith;
+      w = refl;
+      calm = record { gie = calm.gie; z = omega arith; dc = omega arith; c = omega arith; bank = omega arith; page = calm.page; pushes = calm.pushes; pops = calm.pops };
+    }
 selects inputs Tris p t calm =
     let z = calm.z in let dc = calm.dc in let c = calm.c in let bank = calm.bank in
-    record { pc = refl; bank = omega arith; w = refl;
-      calm = record { gie = calm.gie; z = omega arith; dc = omega arith; c = omega arith; bank = omega arith; page = calm.page; pushes = calm.pushes; pops = calm.pops } }
+    record {
+      pc = refl;
+      bank = omega arith;
+      w = refl;
+      calm = record { gie = calm.gie; z = omega arith; dc = omega arith; c = omega arith; bank = omega arith; page = calm.page; pushes = calm.pushes; pops = calm.pops };
+    }
 
 pub select_notes : (inputs : List ℕ) (side : Side) (p : ℕ) (t : State) → events_of [] (made (effect (row inputs p (select side)) t).notes t) ≡ []
 select_notes inputs Port p t = refl

@@ -1,7 +1,6 @@
 -- The words of the command line.
-use Rattle.std.specs.Prelude.{ℕ, Bool, true, false, not, ◌&&◌, nat_eq, Option, Some, None, List, [], ◌∷◌, codes, map, if◌then◌else◌, String, string_bytes}
+use Rattle.std.specs.Prelude.{ℕ, Bool, false, not, ◌&&◌, nat_eq, Option, Some, None, List, [], ◌∷◌, codes, map, if◌then◌else◌, String, string_bytes}
 use Rattle.std.specs.Str.{bytes_eq}
-
 use Rattle.std.specs.declared.alloc.Global.{Global}
 
 -- the three files of a build

@@ -1,9 +1,9 @@
 -- What the exit status of a command says.
-use Rattle.std.specs.Prelude.{ℕ, ◌+◌, ◌≡◌, ◌<◌, ◌≤◌, ◌⊎◌, IsTrue, Option, Some, None, IfSome, IsSomeAnd, MatchOption, List, ◌++◌, option_map}
+use Rattle.std.specs.Prelude.{ℕ, ◌≡◌, ◌<◌, ◌≤◌, ◌⊎◌, IsTrue, Option, Some, None, IfSome, IsSomeAnd, MatchOption, List, ◌++◌, option_map}
 use Rattle.host_io.specs.Host.{Kind, Contents, Lacks, PrintsPrefix, IsCounted}
 use Rattle.picc_cli.specs.declared.program.Assignment.{Assignment}
 use Rattle.picc_cli.specs.declared.picc.Outcome.{Outcome}
-use Rattle.picc_cli.specs.declared.picc.Outcome.TheVariants.{Refused}
+use Rattle.picc_cli.specs.declared.picc.Outcome.TheVariants.{Refused, CannotRead}
 use Rattle.picc_cli.specs.Built.{IsRefused}
 use Rattle.picc_cli.specs.PortProgram.{IsProgram}
 use Rattle.picc_cli.specs.Command.{Names}
@@ -29,17 +29,25 @@ pub record HasFaults (kind : Kind) (before now : ℕ) (form : Option Names) (old
   pub sound : IsTrue kind.is_sound → result ≡ 3 → IsSomeAnd form (λ names. Lacks old names.input)
   pub missing : IsTrue kind.is_sound → IfSome form (λ names. Lacks old names.input → GivesUp result)
 
+-- which statuses there are, and when 2 is answered, whatever the host tells
+pub record HasStatus (form : Option Names) (result : ℕ) : Type 0 where
+  pub known : (result ≡ 0) ⊎ ((result ≡ 1) ⊎ ((result ≡ 2) ⊎ GivesUp result))
+  pub usage : result ≡ 2 → form ≡ None
+  pub no_form : form ≡ None → (result ≡ 2) ⊎ GivesUp result
+
 -- the printed text
-pub record HasPrinted (form : Option Names) (old new : Option (List ℕ)) (result : ℕ) : Type 0 where
+pub record HasPrinted (kind : Kind) (form : Option Names) (old new : Option (List ℕ)) (result : ℕ) : Type 0 where
   pub nothing : result ≡ 0 → new ≡ old
   pub error : result ≡ 1 → IsSomeAnd form (λ names. new ≡ option_map (λ text. text ++ line_of names Refused) old)
   pub usage : result ≡ 2 → new ≡ option_map (λ text. text ++ usage_line) old
-  -- the whole line that is due, or a prefix of it
+  -- the whole line that is due, or a prefix of it where the printing failed
   pub prefix : GivesUp result → MatchOption form (PrintsPrefix old new usage_line) (λ names. (outcome : Outcome) × PrintsPrefix old new (line_of names outcome))
+  -- over a sound host, where only the input can be missing, the line says so
+  pub sound : IsTrue kind.is_sound → result ≡ 3 → IsSomeAnd form (λ names. new ≡ option_map (λ text. text ++ line_of names CannotRead) old)
 
 -- without a fault and with memory enough, each command ends as it is to end
 pub record IsComplete (kind : Kind) (before now : ℕ) (form : Option Names) (old : Contents) (result : ℕ) : Type 0 where
   pub usage : (IsCounted kind before now → ⊥) → form ≡ None → (result ≡ 2) ⊎ (result ≡ 9)
   pub refused : (IsCounted kind before now → ⊥) → (names : Names) (text : List ℕ) → form ≡ Some names → old names.input ≡ Some text → IsRefused text → (result ≡ 1) ⊎ (result ≡ 9)
   pub built : (IsCounted kind before now → ⊥) → (names : Names) (text : List ℕ) (assignments : List Assignment) → form ≡ Some names → old names.input ≡ Some text → IsProgram text assignments
-    → (result ≡ 0) ⊎ (result ≡ 9)
+      → (result ≡ 0) ⊎ (result ≡ 9)

@@ -1,10 +1,9 @@
 -- The headline: what a HEX image does on the chip is a run of the source program that calls the handler whole.
-use Rattle.std.specs.Prelude.{ℕ, ◌+◌, ◌-◌, ◌*◌, ◌≡◌, ◌≢◌, ◌<◌, ◌≤◌, Bool, true, false, ◌&&◌, ◌||◌, nat_eq, nat_le, if◌then◌else◌, List, [], ◌∷◌, length, take, slice_index, slice_index_or, slice_get, Some, Contains}
+use Rattle.std.specs.Prelude.{ℕ, ◌+◌, ◌-◌, ◌*◌, ◌≡◌, ◌≢◌, ◌<◌, ◌≤◌, Bool, true, false, ◌&&◌, nat_eq, nat_le, if◌then◌else◌, List, [], ◌∷◌, length, take, slice_index, slice_index_or, slice_get, Some, Contains}
 use Rattle.pic_chip.specs.declared.Arrival.{Arrival}
 use Rattle.pic_chip.specs.declared.Root.{Root}
 use Rattle.pic_chip.specs.declared.Root.TheVariants.{Main, Isr}
 use Rattle.pic_chip.specs.declared.Start.{Start}
-use Rattle.pic_chip.specs.declared.Cell.{Cell}
 use Rattle.pic_chip.specs.declared.Cell.TheVariants as cells
 use Rattle.pic_chip.specs.declared.Event.{Event}
 use Rattle.pic_chip.specs.declared.Event.TheVariants as events
@@ -12,7 +11,7 @@ use Rattle.pic_chip.specs.Address.{byte_at}
 use Rattle.pic_chip.specs.Instructions.{is_modelled}
 use Rattle.pic_isa.specs.Lookup.{row_of}
 use Rattle.pic_chip.specs.Interrupts.{arriving}
-use Rattle.pic_chip.specs.Run.{IsStart, Setting, Moment, moment, is_handling}
+use Rattle.pic_chip.specs.Run.{IsStart, Setting, moment, is_handling}
 use Rattle.picc_cli.specs.MapContent.{ObjectLine, FrameLine, MapContent, watch_of, overlap}
 
 -- ---- the source
@@ -99,19 +98,19 @@ module _ (source : Source) (content : MapContent) (g : Setting) where
     pub prefix : (n : ℕ) → IsClean n → (k : ℕ) × IsFrontOf (trace_at n) ((run_at n).trace k)
     -- 8,192 (m + 1) instructions without an arrival make the events of the source's next m steps
     pub pace : (n t m j : ℕ) → IsClean n → t ≤ n → IsQuiet g.arrivals t n → 8192 * (m + 1) ≤ n - t
-      → ComesTo (run_at n).trace (length (trace_at t)) j → IsFrontOf ((run_at n).trace (j + m)) (trace_at n)
+        → ComesTo (run_at n).trace (length (trace_at t)) j → IsFrontOf ((run_at n).trace (j + m)) (trace_at n)
     -- each byte of a static object that isn't const holds its initial value or the last one written
     pub end_state : (n i k : ℕ) (line : ObjectLine) → IsClean n → (moment g n).met ≡ true
-      → slice_get content.objects i ≡ Some line → line.constant ≡ false → k < line.size
-      → byte_at (moment g n).state (line.address + k) ≡ last_written i k (slice_index (slice_index_or source.initial i []) k) (trace_at n)
+        → slice_get content.objects i ≡ Some line → line.constant ≡ false → k < line.size
+        → byte_at (moment g n).state (line.address + k) ≡ last_written i k (slice_index (slice_index_or source.initial i []) k) (trace_at n)
     -- the return stack never runs over nor under
     pub no_underflow : (n k : ℕ) → IsClean n → k ≤ n → (moment g k).state.pops ≤ (moment g k).state.pushes
     pub no_overflow : (n k : ℕ) → IsClean n → k ≤ n → (moment g k).state.pushes ≤ (moment g k).state.pops + 8
     -- the handler changes no byte of a frame of main's, and main none of the handler's
     pub frames : (n k b : ℕ) (line : FrameLine) → IsClean n → k < n → (moment g k).met ≡ true
-      → Contains content.frames line → b < line.size
-      → is_guarded (is_handling (arriving g.arrivals k) (moment g k)) line.root ≡ true
-      → byte_at (moment g (k + 1)).state (line.address + b) ≡ byte_at (moment g k).state (line.address + b)
+        → Contains content.frames line → b < line.size
+        → is_guarded (is_handling (arriving g.arrivals k) (moment g k)) line.root ≡ true
+        → byte_at (moment g (k + 1)).state (line.address + b) ≡ byte_at (moment g k).state (line.address + b)
     -- main is met within 4,096 instructions, and no device register is accessed before
     pub start_up : (moment g 4096).met ≡ true
     pub no_early_access : (n : ℕ) → (moment g n).early ≡ []
@@ -132,8 +131,8 @@ pub record IsFaithful (source : Source) (content : MapContent) (image : List ℕ
   pub halt : content.halt < 0x2000
   -- frames that may be live together have no byte in common, nor has a frame with a static object
   pub apart : (i j : ℕ) (x y : FrameLine) → i ≢ j → slice_get content.frames i ≡ Some x → slice_get content.frames j ≡ Some y
-    → source.live_together i j ≡ true → overlap x.address x.size y.address y.size ≡ false
+      → source.live_together i j ≡ true → overlap x.address x.size y.address y.size ≡ false
   pub clear_of_objects : (x : FrameLine) (y : ObjectLine) → Contains content.frames x → Contains content.objects y
-    → overlap x.address x.size y.address y.size ≡ false
+      → overlap x.address x.size y.address y.size ≡ false
   pub runs : (start : Start) (inputs : List ℕ) (arrivals : List Arrival) → IsStart start → ((k : ℕ) → slice_index inputs k < 256)
-    → Follows source content (setting_of content image start inputs arrivals)
+      → Follows source content (setting_of content image start inputs arrivals)

@@ -1,5 +1,5 @@
 -- How a build ends: what it makes of the files, what it prints, and its exit status.
-use Rattle.std.specs.Prelude.{ℕ, ◌+◌, ◌≡◌, ◌<◌, ◌≤◌, ◌⊎◌, Bool, true, false, IsTrue, Option, Some, None, IfSome, List, [], ◌∷◌, ◌++◌, length, take, codes, option_map}
+use Rattle.std.specs.Prelude.{ℕ, ◌≡◌, ◌≤◌, ◌⊎◌, Bool, true, false, IsTrue, Option, Some, List, [], ◌∷◌, ◌++◌, length, take, codes, option_map}
 use Rattle.host_io.specs.Host.{Kind, Contents, put, Lacks, PrintsPrefix, IsCounted}
 use Rattle.picc_cli.specs.declared.picc.Outcome.{Outcome}
 use Rattle.picc_cli.specs.declared.picc.Outcome.TheVariants.{Built, Refused, CannotRead, CannotWriteHex, CannotWriteMap, NoMemory}
@@ -31,7 +31,7 @@ pub record BuildsPartly (names : Names) (old : Contents) (new : Option Contents)
   pub read : old names.input ≡ Some text
   pub built : IsBuilt text hex map
   pub files : ((n : ℕ) × (n ≤ length hex) × (new ≡ Some (put names.output (take n hex) old)))
-    ⊎ ((n : ℕ) × (n ≤ length map) × (new ≡ Some (put names.map (take n map) (put names.output hex old))))
+      ⊎ ((n : ℕ) × (n ≤ length map) × (new ≡ Some (put names.map (take n map) (put names.output hex old))))
 
 -- every file is as before, or the outputs have prefixes of their bytes
 abbrev pub BreaksOff : Names → Contents → Option Contents → Type 0

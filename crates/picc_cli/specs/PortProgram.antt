@@ -1,5 +1,5 @@
 -- Programs that assign constants to ports, and what they mean.
-use Rattle.std.specs.Prelude.{ℕ, ◌+◌, ◌*◌, ◌<◌, ◌≤◌, ◌≡◌, ◌⊎◌, Bool, true, false, List, [], ◌∷◌, ◌++◌, length, take, codes, if◌then◌else◌, nat_lt, ◌/◌, ◌%◌}
+use Rattle.std.specs.Prelude.{ℕ, ◌+◌, ◌*◌, ◌<◌, ◌≤◌, ◌≡◌, ◌⊎◌, true, List, [], ◌∷◌, ◌++◌, length, take, codes, if◌then◌else◌, nat_lt, ◌/◌, ◌%◌}
 use Rattle.pic_chip.specs.declared.Root.TheVariants.{Main}
 use Rattle.pic_chip.specs.declared.Cell.TheVariants as cells
 use Rattle.pic_chip.specs.declared.Event.{Event}
@@ -7,7 +7,7 @@ use Rattle.pic_chip.specs.declared.Event.TheVariants as events
 use Rattle.picc_cli.specs.declared.program.Assignment.{Assignment}
 use Rattle.picc_cli.specs.declared.program.Side.{Side}
 use Rattle.picc_cli.specs.declared.program.Side.TheVariants.{Port, Tris}
-use Rattle.picc_cli.specs.MapContent.{ObjectLine, FrameLine}
+use Rattle.picc_cli.specs.MapContent.{FrameLine}
 use Rattle.picc_cli.specs.Headline.{Source, SourceRun}
 
 -- ---- spelling
@@ -91,6 +91,10 @@ frames_of assignments = record { root = Main; name = codes "main"; address = 0x2
 -- its constant and the conversion.
 abbrev pub source_of : List Assignment → Source
 source_of assignments = record {
-  objects = []; frames = frames_of assignments; live_together = λ i j. true; initial = [];
+  objects = [];
+  frames = frames_of assignments;
+  live_together = λ i j. true;
+  initial = [];
   nodes = 2 + 5 * length assignments;
-  run = λ schedule inputs. run_of assignments }
+  run = λ schedule inputs. run_of assignments;
+}

@@ -38,9 +38,19 @@ fn place(image: &mut Image, at: u16, assignment: &Assignment)
     requires port { assignment.now.port < 5 }
     ensures { image.new ≡ slice_set (slice_set (slice_set image.old at (word_of (Movlw assignment.now.value))) (at + 1) (word_of (select assignment.now.side))) (at + 2) (word_of (Movwf (assignment.now.port + 5))) }
 {
-    image.set(at, encode(Ins::Movlw { k: assignment.value as u16 }));
+    image.set(
+        at,
+        encode(Ins::Movlw {
+            k: assignment.value as u16,
+        }),
+    );
     image.set(at + 1, encode(bank_select(assignment.side)));
-    image.set(at + 2, encode(Ins::Movwf { f: assignment.port + 5 }));
+    image.set(
+        at + 2,
+        encode(Ins::Movwf {
+            f: assignment.port + 5,
+        }),
+    );
 }
 
 /// The instruction that sets RP0, bit 5 of STATUS, for the register's bank.

@@ -24,7 +24,11 @@ pub fn files_of(words: &[String]) -> Option<Files<'_>>
         output: output.as_str(),
         map: map.as_str(),
     };
-    if is_build(command.as_str(), files) { Some(files) } else { None }
+    if is_build(command.as_str(), files) {
+        Some(files)
+    } else {
+        None
+    }
 }
 
 fn is_build(command: &str, files: Files<'_>) -> bool

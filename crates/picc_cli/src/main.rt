@@ -11,7 +11,8 @@ mod command;
 mod map;
 mod picc;
 mod program;
-
+#[cfg(test)]
+mod tests;
 
 use host_io::RealHost;
 use std::process::ExitCode;

@@ -3,7 +3,7 @@ ghost use Rattle.std.specs.Prelude.{◌≡◌, ◌≢◌, ◌<◌, ◌≤◌, �
 ghost use Rattle.host_io.specs.Host.{Closed, Lacks, HasCause, NoFailure, PrintsPrefix};
 ghost use Rattle.picc_cli.specs.Command.{form_of, words_of};
 ghost use Rattle.picc_cli.specs.CommandView.{names_of};
-ghost use Rattle.picc_cli.specs.Finished.{HasFiles, HasFaults, HasPrinted, IsComplete};
+ghost use Rattle.picc_cli.specs.Finished.{HasFiles, HasFaults, HasStatus, HasPrinted, IsComplete};
 ghost use Rattle.picc_cli.specs.Outcome.{WorkedOn, HasOutcomeCause, FailsWithoutInput, is_fault, usage_line, line_of, status_of, Says};
 
 use crate::build::build;
@@ -14,7 +14,8 @@ use std::alloc::Global;
 /// The longest C text, in bytes.
 const TEXT_LIMIT: usize = 262_144;
 
-const USAGE: &str = "usage: picc build IN OUT MAP | trace IN SCRIPT M | sim HEX MAP SCRIPT N | agree IN SCRIPT N | gen K\n";
+const USAGE: &str =
+    "usage: picc build IN OUT MAP | trace IN SCRIPT M | sim HEX MAP SCRIPT N | agree IN SCRIPT N | gen K\n";
 
 /// How a build went.
 #[derive(Clone, Copy, PartialEq, Eq, Debug)]
@@ -41,7 +42,8 @@ pub fn picc<H: Host>(alloc: Global, words: &[String], host: &mut H) -> u8
     // With status 0 the HEX and the map are those of the text, and what the HEX does on the chip is what the text says.
     ensures files { IfSome (H.contents host.old) (λ old. HasFiles (form_of (words_of words.now)) old (H.contents host.new) result) }
     ensures faults { HasFaults (H.kind host.old) (H.faults host.old) (H.faults host.new) (form_of (words_of words.now)) (H.contents host.old) result }
-    ensures printed { HasPrinted (form_of (words_of words.now)) (H.printed host.old) (H.printed host.new) result }
+    ensures status { HasStatus (form_of (words_of words.now)) result }
+    ensures printed { HasPrinted (H.kind host.old) (form_of (words_of words.now)) (H.printed host.old) (H.printed host.new) result }
     ensures complete { IfSome (H.contents host.old) (λ old. IsComplete (H.kind host.old) (H.faults host.old) (H.faults host.new) (form_of (words_of words.now)) old result) }
 {
     let Some(files) = files_of(words) else {

@@ -46,7 +46,25 @@ fn read_beginning(text: &[u8]) -> Option<&[u8]>
     ensures none { IfNone result ((rest : List ℕ) → text.now ≡ beginning ++ rest → ⊥) }
 {
     match text {
-        [b'v', b'o', b'i', b'd', b' ', b'm', b'a', b'i', b'n', b'(', b'v', b'o', b'i', b'd', b')', b'{', rest @ ..] => Some(rest),
+        [
+            b'v',
+            b'o',
+            b'i',
+            b'd',
+            b' ',
+            b'm',
+            b'a',
+            b'i',
+            b'n',
+            b'(',
+            b'v',
+            b'o',
+            b'i',
+            b'd',
+            b')',
+            b'{',
+            rest @ ..,
+        ] => Some(rest),
         _ => None,
     }
 }
@@ -86,7 +104,14 @@ fn read_assignment(text: &[u8]) -> Option<(Assignment, &[u8])>
         return None;
     }
     let (value, rest) = read_number(rest)?;
-    Some((Assignment { side, port: *letter - b'A', value }, rest))
+    Some((
+        Assignment {
+            side,
+            port: *letter - b'A',
+            value,
+        },
+        rest,
+    ))
 }
 
 fn read_side(text: &[u8]) -> Option<(Side, &[u8])>
@@ -127,7 +152,11 @@ fn one_digit(text: &[u8]) -> Option<(u8, &[u8])>
     let [first, b';', rest @ ..] = text else {
         return None;
     };
-    if is_digit(*first) { Some((*first - b'0', rest)) } else { None }
+    if is_digit(*first) {
+        Some((*first - b'0', rest))
+    } else {
+        None
+    }
 }
 
 fn two_digits(text: &[u8]) -> Option<(u8, &[u8])>
@@ -154,6 +183,12 @@ fn three_digits(text: &[u8]) -> Option<(u8, &[u8])>
     if !is_digit(*first) || *first == b'0' || !is_digit(*second) || !is_digit(*third) {
         return None;
     }
-    let value = 100 * (*first - b'0') as u16 + 10 * (*second - b'0') as u16 + (*third - b'0') as u16;
-    if value < 256 { Some((value as u8, rest)) } else { None }
+    let value = 100 * (*first - b'0') as u16
+        + 10 * (*second - b'0') as u16
+        + (*third - b'0') as u16;
+    if value < 256 {
+        Some((value as u8, rest))
+    } else {
+        None
+    }
 }

@@ -6,6 +6,12 @@ use Rattle.picc_cli.proofs.map.map_text.Goals as goal
 pub returns : goal.returns
 unfolding hex_pairs map_text
 returns c =
-    rw (c.in_ok-extend_from_slice-3.ensures.items, c.in_ok-push.ensures.items, c.in_ok-extend_from_slice-2.ensures.items,
-      c.in_ok-push_address.ensures, c.in_ok-extend_from_slice.ensures.items, c.new-text.ensures.items)
+    rw (
+      c.in_ok-extend_from_slice-3.ensures.items,
+      c.in_ok-push.ensures.items,
+      c.in_ok-extend_from_slice-2.ensures.items,
+      c.in_ok-push_address.ensures,
+      c.in_ok-extend_from_slice.ensures.items,
+      c.new-text.ensures.items,
+    )
     refl

@@ -1,4 +1,4 @@
-use Rattle.std.proofs.Common.{◌≡◌, ◌++◌, [], ◌∷◌, List, sym, ap, ◌∙◌, subst, append_assoc}
+use Rattle.std.proofs.Common.{◌++◌, List, sym, ap, ◌∙◌, subst, append_assoc}
 use Rattle.picc_cli.specs.PortProgram.{assignment_text, assignments_text, AllFit}
 use Rattle.picc_cli.specs.declared.program.Assignment.{Assignment}
 use Rattle.picc_cli.proofs.Spelling.{push_text, push_fit}
@@ -12,6 +12,6 @@ loop-assignment-preserved c =
     let e = c.in_ok-push.ensures.items in
     let found = c.in-Some.ensures.found in
     let text = c.loop-assignment.invariant.0 ∙ ap (λ t. assignments_text xs ++ t) found.1
-      ∙ sym (append_assoc (assignments_text xs) (assignment_text a) rest) ∙ ap (λ t. t ++ rest) (sym (push_text xs a))
-      ∙ ap (λ (ys : List Assignment). assignments_text ys ++ rest) (sym e) in
+    ∙ sym (append_assoc (assignments_text xs) (assignment_text a) rest) ∙ ap (λ t. t ++ rest) (sym (push_text xs a))
+    ∙ ap (λ (ys : List Assignment). assignments_text ys ++ rest) (sym e) in
     (text, subst AllFit (sym e) (push_fit xs a c.loop-assignment.invariant.1 found.0))
