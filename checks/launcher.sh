@@ -1,0 +1,60 @@
+#!/bin/sh
+# The launcher builds examples/led.c, in the caller's folder, to these very files, and hands on the exit status.
+# The expected text is worked out by hand: GOTO 5 is 2805h, RETFIE 0009h, MOVLW 5 3005h, BCF 3,5 1283h,
+# MOVWF 6 0086h, GOTO 8 2808h, and 3FFFh stands in each erased word.
+set -u
+top=$(CDPATH='' cd -- "$(dirname -- "$0")/.." && pwd -P) || exit 1
+folder=$(mktemp -d) || exit 1
+trap 'rm -rf "$folder"' EXIT
+cd -- "$folder" || exit 1
+failed=0
+
+fail() {
+    printf 'launcher: %s\n' "$1"
+    failed=1
+}
+
+cat >wanted.hex <<'HEX'
+:020000040000FA
+:100000000528FF3FFF3FFF3F0900053083128600B0
+:100010000828FF3FFF3FFF3FFF3FFF3FFF3FFF3FFE
+:00000001FF
+HEX
+cat >wanted.map <<'MAP'
+picc map 1
+main 0005
+halt 0008
+frame main main 0020 3
+end
+MAP
+: >wanted.none
+printf '%s\n' 'usage: picc build IN OUT MAP | trace IN SCRIPT M | sim HEX MAP SCRIPT N | agree IN SCRIPT N | gen K' >wanted.usage
+printf '%s\n' 'no program.c: error 0: not yet' >wanted.refusal
+
+# the status of the launcher with these words, whose output is left in `printed`
+run() {
+    "$top/picc" "$@" >printed
+    printf '%s' "$?"
+}
+
+# status, file of the wanted output, words
+expect() {
+    wanted_status=$1
+    wanted=$2
+    shift 2
+    status=$(run "$@")
+    [ "$status" = "$wanted_status" ] || fail "$*: status $status, wanted $wanted_status"
+    cmp -s printed "$wanted" || fail "$*: printed $(cat printed)"
+}
+
+cp "$top/examples/led.c" . || exit 1
+expect 0 wanted.none build led.c led.hex led.map
+cmp led.hex wanted.hex || fail 'the HEX is another one'
+cmp led.map wanted.map || fail 'the map is another one'
+
+# words are handed on as they are, blanks included
+printf 'int x;\n' >'no program.c'
+expect 1 wanted.refusal build 'no program.c' out.hex out.map
+[ ! -e out.hex ] || fail 'a refused program has a HEX'
+expect 2 wanted.usage
+exit $failed

@@ -1,0 +1,1 @@
+void main(void){TRISB=0;PORTB=5;}
