@@ -1,5 +1,5 @@
 -- What the code's comparison gives is what the operator gives.
-use Rattle.std.proofs.Common.{◌≡◌, Bool, true, false, ◌⊎◌, ⊎_elim, ℤ, refl, ap}
+use Rattle.std.proofs.Common.{◌≡◌, true, ◌⊎◌, ⊎_elim, ℤ, refl, ap}
 use Rattle.c_ints.specs.Operators.{cut_to, truth, compares, comparison, type_of, exact}
 use Rattle.c_ints.specs.declared.types.IntTy.{IntTy}
 use Rattle.c_ints.specs.declared.types.IntTy.TheVariants.{Int}

@@ -1,7 +1,9 @@
 -- What is cut to a type's width, and its bits.
-use Rattle.std.proofs.Common.{◌≡◌, ℕ, ◌-◌, ◌-ℤ◌, ℤ, pos, negsuc, ◌≤ℤ◌, arith}
+use Rattle.std.proofs.Common.{◌≡◌, ℕ, ◌+◌, ◌-◌, ◌%◌, ap, ◌∙◌, ⊎_elim, ◌-ℤ◌, ℤ, pos, negsuc, ◌≤ℤ◌, arith}
+use Rattle.std.proofs.lemmas.Bool.{cases_lt}
 use Rattle.std.proofs.lemmas.Int.{ints}
-use Rattle.c_ints.specs.Range.{least, greatest, IsInRange, cut, pattern}
+use Rattle.c_ints.specs.Range.{least, greatest, IsInRange, span, cut, pattern}
+use Rattle.c_ints.specs.Conversions.{promoted}
 use Rattle.c_ints.specs.declared.types.IntTy.{IntTy}
 use Rattle.c_ints.specs.declared.types.IntTy.TheVariants.{Char, SChar, UChar, Short, UShort, Int, UInt, Long, ULong}
 
@@ -52,3 +54,55 @@ held_same ULong (negsuc a) l g = omega (arith, ints)
 -- a number that the type holds is not changed
 pub same : (ty : IntTy) (z : ℤ) → IsInRange ty z → cut ty z ≡ z
 same ty z h = held_same ty z h.0 h.1
+
+-- what was cut is in the range
+pub cut_in_range : (ty : IntTy) (n : ℕ) → IsInRange ty (cut ty (pos n))
+cut_in_range Char n = (omega (arith, ints), omega (arith, ints))
+cut_in_range SChar n = (omega (arith, ints), omega (arith, ints))
+cut_in_range UChar n = (omega (arith, ints), omega (arith, ints))
+cut_in_range Short n = (omega (arith, ints), omega (arith, ints))
+cut_in_range UShort n = (omega (arith, ints), omega (arith, ints))
+cut_in_range Int n = (omega (arith, ints), omega (arith, ints))
+cut_in_range UInt n = (omega (arith, ints), omega (arith, ints))
+cut_in_range Long n = (omega (arith, ints), omega (arith, ints))
+cut_in_range ULong n = (omega (arith, ints), omega (arith, ints))
+
+-- the lowest bits are kept
+pub bits_kept : (ty : IntTy) (n : ℕ) → pattern ty (cut ty (pos n)) ≡ n % span ty
+bits_kept Char n = omega arith
+bits_kept SChar n =
+    ⊎_elim
+    (λ l. let e : cut SChar (pos n) ≡ negsuc (0x80 - 1 - (n + 0x80) % 0x100) = omega (arith, ints) in ap (pattern SChar) e ∙ omega arith)
+    (λ l. let e : cut SChar (pos n) ≡ pos ((n + 0x80) % 0x100 - 0x80) = omega (arith, ints) in ap (pattern SChar) e ∙ omega arith)
+    (cases_lt ((n + 0x80) % 0x100) 0x80)
+bits_kept UChar n = omega arith
+bits_kept Short n =
+    ⊎_elim
+    (λ l. let e : cut Short (pos n) ≡ negsuc (0x8000 - 1 - (n + 0x8000) % 0x1_0000) = omega (arith, ints) in ap (pattern Short) e ∙ omega arith)
+    (λ l. let e : cut Short (pos n) ≡ pos ((n + 0x8000) % 0x1_0000 - 0x8000) = omega (arith, ints) in ap (pattern Short) e ∙ omega arith)
+    (cases_lt ((n + 0x8000) % 0x1_0000) 0x8000)
+bits_kept UShort n = omega arith
+bits_kept Int n =
+    ⊎_elim
+    (λ l. let e : cut Int (pos n) ≡ negsuc (0x8000 - 1 - (n + 0x8000) % 0x1_0000) = omega (arith, ints) in ap (pattern Int) e ∙ omega arith)
+    (λ l. let e : cut Int (pos n) ≡ pos ((n + 0x8000) % 0x1_0000 - 0x8000) = omega (arith, ints) in ap (pattern Int) e ∙ omega arith)
+    (cases_lt ((n + 0x8000) % 0x1_0000) 0x8000)
+bits_kept UInt n = omega arith
+bits_kept Long n =
+    ⊎_elim
+    (λ l. let e : cut Long (pos n) ≡ negsuc (0x8000_0000 - 1 - (n + 0x8000_0000) % 0x1_0000_0000) = omega (arith, ints) in ap (pattern Long) e ∙ omega arith)
+    (λ l. let e : cut Long (pos n) ≡ pos ((n + 0x8000_0000) % 0x1_0000_0000 - 0x8000_0000) = omega (arith, ints) in ap (pattern Long) e ∙ omega arith)
+    (cases_lt ((n + 0x8000_0000) % 0x1_0000_0000) 0x8000_0000)
+bits_kept ULong n = omega arith
+
+-- a promoted type holds every number of the type
+pub promoted_holds : (ty : IntTy) (z : ℤ) → IsInRange ty z → IsInRange (promoted ty) z
+promoted_holds Char z h = let l = h.0 in let g = h.1 in (omega (arith, ints), omega (arith, ints))
+promoted_holds SChar z h = let l = h.0 in let g = h.1 in (omega (arith, ints), omega (arith, ints))
+promoted_holds UChar z h = let l = h.0 in let g = h.1 in (omega (arith, ints), omega (arith, ints))
+promoted_holds Short z h = let l = h.0 in let g = h.1 in (omega (arith, ints), omega (arith, ints))
+promoted_holds UShort z h = let l = h.0 in let g = h.1 in (omega (arith, ints), omega (arith, ints))
+promoted_holds Int z h = let l = h.0 in let g = h.1 in (omega (arith, ints), omega (arith, ints))
+promoted_holds UInt z h = let l = h.0 in let g = h.1 in (omega (arith, ints), omega (arith, ints))
+promoted_holds Long z h = let l = h.0 in let g = h.1 in (omega (arith, ints), omega (arith, ints))
+promoted_holds ULong z h = let l = h.0 in let g = h.1 in (omega (arith, ints), omega (arith, ints))

@@ -1,9 +1,9 @@
 -- The conversions between integer types (ISO/IEC 9899:1990, 6.2.1), and the types of integer
 -- constants (6.1.3.2).
-use Rattle.std.specs.Prelude.{ℕ, ℤ, pos, Bool, true, false, ◌&&◌, ◌||◌, int_le, if◌then◌else◌, List, [], ◌∷◌}
+use Rattle.std.specs.Prelude.{ℕ, pos, Bool, true, false, ◌&&◌, ◌||◌, int_le, if◌then◌else◌, List, [], ◌∷◌}
 use Rattle.c_ints.specs.Range.{least, greatest}
 use Rattle.c_ints.specs.declared.types.IntTy.{IntTy}
-use Rattle.c_ints.specs.declared.types.IntTy.TheVariants.{Char, SChar, UChar, Short, UShort, Int, UInt, Long, ULong}
+use Rattle.c_ints.specs.declared.types.IntTy.TheVariants.{Int, UInt, Long, ULong}
 
 -- the type holds every number of the other
 abbrev pub holds_all_of : IntTy → IntTy → Bool

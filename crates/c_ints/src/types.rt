@@ -1,10 +1,10 @@
 // The integer types, their sizes and ranges.
 ghost use Rattle.std.specs.Prelude.{◌≡◌, ◌<◌, ◌≤◌, nat_eq, ◌-◌, ◌*◌, ◌^◌, ℤ, pos, negsuc, ◌≤ℤ◌, ◌<ℤ◌};
-ghost use Rattle.c_ints.specs.Range.{bytes_of, span, least};
+ghost use Rattle.c_ints.specs.Range.{IsInRange, bytes_of, span, least};
 ghost use Rattle.c_ints.specs.Conversions.{promoted, common, candidates, first_holding};
 
-/// The integer types (ISO/IEC 9899:1990, 6.1.2.5). `Char` is plain char, which is unsigned here
-/// as in HI-TECH PICC, and no other type's twin: it is a type of its own.
+/// The integer types (ISO/IEC 9899:1990, 6.1.2.5). `Char` is plain char: a type of its own, which is
+/// unsigned as in HI-TECH PICC. A char has 8 bits, short and int have 16, long has 32.
 #[derive(Clone, Copy, PartialEq, Eq, Debug)]
 pub enum IntTy {
     Char,
@@ -62,7 +62,9 @@ pub(crate) fn least_of(ty: IntTy) -> i64
 /// the type, otherwise unsigned int where that does, otherwise the type itself (ISO/IEC 9899:1990,
 /// 6.2.1.1).
 pub fn promote(ty: IntTy) -> IntTy
-    ensures { result ≡ promoted ty }
+    ensures value { result ≡ promoted ty }
+    ensures again { promoted result ≡ result }
+    ensures holds { (z : ℤ) → IsInRange ty z → IsInRange result z }
 {
     match ty {
         IntTy::Char | IntTy::SChar | IntTy::UChar | IntTy::Short | IntTy::Int => IntTy::Int,
@@ -75,7 +77,8 @@ pub fn promote(ty: IntTy) -> IntTy
 /// The type to which the usual arithmetic conversions bring two operands: the first of unsigned
 /// long, long, unsigned int and int that one of them is promoted to (ISO/IEC 9899:1990, 6.2.1.5).
 pub fn usual(a: IntTy, b: IntTy) -> IntTy
-    ensures { result ≡ common a b }
+    ensures value { result ≡ common a b }
+    ensures promoted { promoted result ≡ result }
 {
     match (promote(a), promote(b)) {
         (IntTy::ULong, _) | (_, IntTy::ULong) => IntTy::ULong,

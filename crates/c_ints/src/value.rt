@@ -1,5 +1,5 @@
 // Integer values: a type, and a number that it holds.
-ghost use Rattle.std.specs.Prelude.{◌≡◌, ◌<◌, ◌≤◌, ◌^◌, ◌-◌, ℤ, pos, negsuc, ◌≤ℤ◌, ◌<ℤ◌, unsigned_abs};
+ghost use Rattle.std.specs.Prelude.{◌≡◌, ◌<◌, ◌≤◌, ◌^◌, ◌-◌, ◌%◌, ℤ, pos, negsuc, ◌≤ℤ◌, ◌<ℤ◌, unsigned_abs};
 
 use crate::types::{IntTy, least_of, span_of};
 use std::marker::Model;
@@ -30,7 +30,9 @@ impl Value {
 
     /// The value of the type with these bits, cut to the type's width.
     pub fn new(ty: IntTy, bits: u32) -> Value
-        ensures { result ≡ record { ty = ty; number = cut ty (pos bits) } }
+        ensures value { result ≡ record { ty = ty; number = cut ty (pos bits) } }
+        ensures range { IsInRange ty result.number }
+        ensures bits { pattern ty result.number ≡ bits % span ty }
     {
         Value::cut(ty, bits as i128)
     }

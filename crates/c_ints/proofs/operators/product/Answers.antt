@@ -1,6 +1,4 @@
-use Rattle.std.proofs.Common.{◌∙◌, ◌*ℤ◌, ◌^◌, pos, unsigned_abs, ap}
-use Rattle.std.specs.Int.{w64}
-use Rattle.std.proofs.lemmas.Int.{to_z-of_z}
+use Rattle.std.proofs.Common.{◌∙◌, ◌*ℤ◌}
 use Rattle.c_ints.proofs.Sizes.{cut_same, both, mul_is, product_fits, product_above, product_below}
 use Rattle.c_ints.proofs.operators.product.Goals as goal
 

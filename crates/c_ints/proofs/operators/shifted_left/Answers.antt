@@ -18,6 +18,6 @@ returns c =
     c.cut.ensures ∙
     cut_same _ _ _ _ c.ty.ensures
     (mul_is c.wide.result c.power_of_two.result c.wide.ensures.size c.power_of_two.ensures.size ∙
-    both (λ x y. x *ℤ y) _ _ _ _ c.wide.ensures.value 
+    both (λ x y. x *ℤ y) _ _ _ _ c.wide.ensures.value
     (c.power_of_two.ensures.value ∙
     ap (λ z. pos (2 ^ unsigned_abs z)) (to_z-of_z w64 c.number.result (record { sfits = c.number.type_inv }) ∙ c.number.ensures.value)))

@@ -1,7 +1,6 @@
-use Rattle.std.proofs.Common.{arith, rules, ◌≡◌, pos, unsigned_abs}
-use Rattle.std.proofs.lemmas.Int.{ints, to_z-of_z}
+use Rattle.std.proofs.Common.{arith}
+use Rattle.std.proofs.lemmas.Int.{to_z-of_z}
 use Rattle.c_ints.proofs.Cut.{again}
-use Rattle.c_ints.specs.Range.{cut, pattern}
 use Rattle.c_ints.proofs.value.Value.bits.Goals as goal
 
 pub returns-clause-again : goal.returns-clause-again
