@@ -1,0 +1,4 @@
+pub mod Range
+pub mod Quantity
+pub mod Conversions
+pub mod Operators
