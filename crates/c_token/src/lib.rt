@@ -6,6 +6,10 @@
 // error names the line of the first place that has no token.
 #![tactic(auto)]
 
+mod bytes;
+mod constant;
+pub mod piece;
+pub mod spelling;
 pub mod token;
 
 pub use token::{Keyword, LexError, Punct, Tok, TokKind};
