@@ -1,6 +1,6 @@
 -- The token at the front of a list of bytes, and the blanks and comments between tokens
 -- (ISO/IEC 9899:1990, 6.1 and 6.1.9; comments with `//` too).
-use Rattle.std.specs.Prelude.{ℕ, ◌+◌, Bool, true, false, ◌&&◌, ◌||◌, ◌==◌, nat_eq, nat_lt, not, if◌then◌else◌, List, [], ◌∷◌, length, take, drop, Option, Some, None, find}
+use Rattle.std.specs.Prelude.{ℕ, ◌+◌, Bool, true, false, ◌&&◌, ◌||◌, ◌==◌, nat_eq, nat_lt, not, if◌then◌else◌, List, [], ◌∷◌, length, take, drop, Option, Some, None, find, codes}
 use Rattle.std.specs.List.{prefix_len, starts_with}
 use Rattle.std.specs.Str.{bytes_eq}
 use Rattle.c_token.specs.declared.token.TokKind.{TokKind}
@@ -62,7 +62,7 @@ token_at (b ∷ rest) =
 unfoldable pub comment_end : List ℕ → Option ℕ
 comment_end [] = None
 comment_end (a ∷ rest) =
-    if (a == 42) && starts_with nat_eq rest (47 ∷ []) then Some 2
+    if starts_with nat_eq (a ∷ rest) (codes "*/") then Some 2
     else (do
       n ← comment_end rest
       Some (n + 1))
@@ -85,6 +85,6 @@ unfoldable pub piece_at : List ℕ → Piece
 piece_at [] = Bad
 piece_at (a ∷ rest) =
     if is_blank a then Blank 1
-    else if (a == 47) && starts_with nat_eq rest (47 ∷ []) then Blank (1 + prefix_len (λ b. not (b == 10)) rest)
-    else if (a == 47) && starts_with nat_eq rest (42 ∷ []) then block_comment (comment_end (drop 1 rest))
+    else if starts_with nat_eq (a ∷ rest) (codes "//") then Blank (prefix_len (λ b. not (b == 10)) (a ∷ rest))
+    else if starts_with nat_eq (a ∷ rest) (codes "/*") then block_comment (comment_end (drop 2 (a ∷ rest)))
     else token_piece (token_at (a ∷ rest))

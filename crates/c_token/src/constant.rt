@@ -225,7 +225,8 @@ pub fn character_at(text: &[u8]) -> Option<(TokKind, usize)>
 #[tactic(auto, using(crate::proofs::Strings::ends_here, crate::proofs::Strings::ends_nowhere, crate::proofs::Strings::breaks_here, crate::proofs::Strings::goes_on))]
 pub fn string_end(text: &[u8]) -> Option<usize>
     requires { length text.now < 2 ^ 32 }
-    ensures { result ≡ string_end 0 text.now }
+    ensures value { result ≡ string_end 0 text.now }
+    ensures bound { IfSome result (λ n. n ≤ length text.now) }
 {
     let mut passed = 0;
     while passed < text.len() {

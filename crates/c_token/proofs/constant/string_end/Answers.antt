@@ -8,5 +8,5 @@ loop-passed-preserved c =
     let w = tail_whole c.loop-passed.passed c.args.text.now in
     (omega (arith, rw w at a.bound.1, length-drop c.loop-passed.passed c.args.text.now), goes_on c.args.text.now c.loop-passed.passed c.in_ok-element.element c.loop-passed.invariant.1 c.loop-passed-test.true c.if-text-passed-eq34.false a.value a.bound.0)
 
-pub returns-in_err-element : goal.returns-in_err-element
-returns-in_err-element c = c.from_residual.ensures ∙ breaks_here c.args.text.now c.loop-passed.passed c.loop-passed.invariant.1 c.loop-passed-test.true c.if-text-passed-eq34.false c.in_err-element.ensures.value
+pub returns-in_err-element-clause-value : goal.returns-in_err-element-clause-value
+returns-in_err-element-clause-value c = c.from_residual.ensures ∙ breaks_here c.args.text.now c.loop-passed.passed c.loop-passed.invariant.1 c.loop-passed-test.true c.if-text-passed-eq34.false c.in_err-element.ensures.value
