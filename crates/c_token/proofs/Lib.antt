@@ -1,3 +1,5 @@
 pub mod Values
 pub mod Strings
 pub mod Comments
+pub mod Bounds
+pub mod Passing

@@ -1,21 +1,17 @@
 -- The list of tokens of a text.
-use Rattle.std.specs.Prelude.{ℕ, zero, suc, ◌+◌, ◌-◌, Bool, true, false, ◌&&◌, ◌==◌, nat_lt, not, if◌then◌else◌, List, [], ◌∷◌, Result, Ok, Err}
+use Rattle.std.specs.Prelude.{ℕ, zero, suc, ◌+◌, ◌-◌, Bool, true, false, ◌&&◌, ◌==◌, nat_lt, not, if◌then◌else◌, List, [], ◌∷◌, Result, Ok, Err, Option, Some, None, ◌≡◌}
+use Rattle.std.specs.declared.vec.Vec.{Vec}
+use Rattle.std.specs.declared.alloc.Global.{Global}
 use Rattle.c_token.specs.declared.token.Tok.{Tok}
 use Rattle.c_token.specs.declared.token.TokKind.{TokKind}
 use Rattle.c_token.specs.declared.token.TokKind.TheVariants as kind
 use Rattle.c_token.specs.declared.token.Punct.TheVariants as punct
 use Rattle.c_token.specs.declared.token.LexError.{LexError}
 use Rattle.c_token.specs.declared.token.LexError.TheVariants as error
+use Rattle.c_token.specs.declared.scan.Place.{Place}
 use Rattle.c_token.specs.declared.piece.Piece.{Piece}
 use Rattle.c_token.specs.declared.piece.Piece.TheVariants.{Blank, Token, Bad, TooLong}
 use Rattle.c_token.specs.Token.{piece_at}
-
--- Where a byte stands: its place in the text, its line, and the line of the last token before it,
--- or 0 where none stands before it.
-pub record Place : Type 0 where
-  pub at : ℕ
-  pub line : ℕ
-  pub last : ℕ
 
 -- the place behind a byte; a line ends with its line feed
 abbrev pub behind : ℕ → Place → Place
@@ -53,3 +49,18 @@ tokens_from (b ∷ rest) zero place = after_piece (tokens_from rest) b place (pi
 -- the tokens of a whole text, or the first place where there is none
 abbrev pub tokens_of : List ℕ → Result (List Tok) LexError
 tokens_of text = tokens_from text 0 (record { at = 0; line = 1; last = 0 })
+
+-- what a function on a text gives, unless memory runs out
+abbrev pub Fails : LexError → Result (List Tok) LexError → Type 0
+Fails error.NoMemory tokens = Unit {0}
+Fails (error.Bad line) tokens = tokens ≡ Err (error.Bad line)
+Fails (error.Identifier line) tokens = tokens ≡ Err (error.Identifier line)
+
+abbrev pub Gives : Result (Vec Tok Global) LexError → Result (List Tok) LexError → Type 0
+Gives (Ok v) tokens = tokens ≡ Ok v.items
+Gives (Err e) tokens = Fails e tokens
+
+-- a token may stand before others
+abbrev pub with_any : Option Tok → Result (List Tok) LexError → Result (List Tok) LexError
+with_any None rest = rest
+with_any (Some t) rest = with_token t rest

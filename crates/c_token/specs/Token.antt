@@ -1,6 +1,6 @@
 -- The token at the front of a list of bytes, and the blanks and comments between tokens
 -- (ISO/IEC 9899:1990, 6.1 and 6.1.9; comments with `//` too).
-use Rattle.std.specs.Prelude.{ℕ, ◌+◌, Bool, true, false, ◌&&◌, ◌||◌, ◌==◌, nat_eq, nat_lt, not, if◌then◌else◌, List, [], ◌∷◌, length, take, drop, Option, Some, None, find, codes}
+use Rattle.std.specs.Prelude.{ℕ, ◌+◌, ◌<◌, ◌≤◌, Bool, true, false, ◌&&◌, ◌||◌, ◌==◌, nat_eq, nat_lt, not, if◌then◌else◌, List, [], ◌∷◌, length, take, drop, Option, Some, None, find, codes}
 use Rattle.std.specs.List.{prefix_len, starts_with}
 use Rattle.std.specs.Str.{bytes_eq}
 use Rattle.c_token.specs.declared.token.TokKind.{TokKind}
@@ -88,3 +88,10 @@ piece_at (a ∷ rest) =
     else if starts_with nat_eq (a ∷ rest) (codes "//") then Blank (prefix_len (λ b. not (b == 10)) (a ∷ rest))
     else if starts_with nat_eq (a ∷ rest) (codes "/*") then block_comment (comment_end (drop 2 (a ∷ rest)))
     else token_piece (token_at (a ∷ rest))
+
+-- the piece has a byte at least, and no more than there are
+abbrev pub FitsIn : ℕ → Piece → Type 0
+FitsIn count (Blank n) = (0 < n) × (n ≤ count)
+FitsIn count (Token k n) = (0 < n) × (n ≤ count)
+FitsIn count Bad = Unit {0}
+FitsIn count TooLong = Unit {0}

@@ -1,6 +1,6 @@
 //! The classes of bytes of a source text, in the ASCII code.
 
-ghost use Rattle.std.specs.Prelude.{◌≡◌, ℕ, ◌<◌, ◌≤◌, length};
+ghost use Rattle.std.specs.Prelude.{◌≡◌, ℕ, ◌<◌, ◌≤◌, true, length, slice_index};
 ghost use Rattle.std.specs.List.{prefix_len};
 ghost use Rattle.c_token.specs.Bytes.{is_blank, is_decimal, begins_name, is_name_byte, is_number_byte, digit_value, is_digit, is_plain};
 
@@ -64,7 +64,9 @@ pub fn is_plain(quote: u8, byte: u8) -> bool
 }
 
 /// How many bytes of a name stand at the front.
+#[tactic(auto, using(crate::proofs::Bounds::front_counts))]
 pub fn name_length(text: &[u8]) -> usize
+    ensures some { 0 < length text.now → is_name_byte (slice_index text.now 0) ≡ true → 0 < result }
     ensures bound { result ≤ length text.now }
     ensures count { result ≡ prefix_len is_name_byte text.now }
 {
@@ -77,7 +79,9 @@ pub fn name_length(text: &[u8]) -> usize
 }
 
 /// How many letters, digits, underscores and full stops stand at the front.
+#[tactic(auto, using(crate::proofs::Bounds::front_counts))]
 pub fn number_length(text: &[u8]) -> usize
+    ensures some { 0 < length text.now → is_number_byte (slice_index text.now 0) ≡ true → 0 < result }
     ensures bound { result ≤ length text.now }
     ensures count { result ≡ prefix_len is_number_byte text.now }
 {

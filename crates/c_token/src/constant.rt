@@ -210,7 +210,8 @@ fn element_at(quote: u8, text: &[u8]) -> Option<(u8, usize)>
 #[tactic(auto, unfolding(crate::specs::Constant::character_at))]
 pub fn character_at(text: &[u8]) -> Option<(TokKind, usize)>
     requires { length text.now < 2 ^ 32 }
-    ensures { result ≡ character_at text.now }
+    ensures value { result ≡ character_at text.now }
+    ensures bound { IfSome result (λ x. (0 < x.1) × (x.1 ≤ length text.now + 1)) }
 {
     let (value, length) = element_at(b'\'', text)?;
     if text[length..].starts_with(b"'") {

@@ -9,6 +9,7 @@
 mod bytes;
 mod constant;
 pub mod piece;
+pub mod scan;
 pub mod spelling;
 pub mod token;
 

@@ -1,8 +1,10 @@
 //! What stands at the front of a text: a blank, a comment or a token.
 
-ghost use Rattle.std.specs.Prelude.{◌≡◌, ◌<◌, ◌≤◌, ◌^◌, length, not, ◌==◌, IfSome};
+ghost use Rattle.std.specs.Prelude.{◌≡◌, ℕ, true, ◌+◌, ◌<◌, ◌≤◌, ◌^◌, slice_index, length, not, ◌==◌, IfSome};
 ghost use Rattle.std.specs.List.{prefix_len};
-ghost use Rattle.c_token.specs.Token.{keyword_of, kind_of_word, word_at, integer_at, punct_of, punctuator_at, string_at, token_at, comment_end, block_comment, is_too_long, token_piece, piece_at};
+ghost use Rattle.c_token.specs.Token.{keyword_of, kind_of_word, word_at, integer_at, punct_of, punctuator_at, string_at, token_at, comment_end, block_comment, is_too_long, token_piece, piece_at, FitsIn};
+ghost use Rattle.c_token.specs.Bytes.{begins_name, is_decimal};
+ghost use Rattle.c_token.specs.Spelling.{punct_spelling};
 
 use crate::bytes::{begins_name, is_blank, is_decimal, name_length, number_length};
 use crate::constant::{character_at, integer_of, string_end};
@@ -30,9 +32,10 @@ fn keyword_of(word: &[u8]) -> Option<Keyword>
 }
 
 // The longest punctuator at the front.
-#[tactic(auto, unfolding(crate::specs::Token::punct_of))]
+#[tactic(auto, using(crate::proofs::Bounds::punct_fits), unfolding(crate::specs::Token::punct_of))]
 fn punct_of(text: &[u8]) -> Option<Punct>
-    ensures { result ≡ punct_of text.now }
+    ensures value { result ≡ punct_of text.now }
+    ensures bound { IfSome result (λ p. length (punct_spelling p) ≤ length text.now) }
 {
     PUNCTUATORS.iter().copied().find(|punct| text.starts_with(punct.spelling()))
 }
@@ -50,6 +53,7 @@ fn kind_of_word(keyword: Option<Keyword>) -> TokKind
 #[tactic(auto, unfolding(crate::specs::Token::word_at))]
 fn word_at(text: &[u8]) -> (TokKind, usize)
     ensures value { result ≡ word_at text.now }
+    ensures some { 0 < length text.now → begins_name (slice_index text.now 0) ≡ true → 0 < result.1 }
     ensures bound { result.1 ≤ length text.now }
 {
     let count = name_length(text);
@@ -59,7 +63,9 @@ fn word_at(text: &[u8]) -> (TokKind, usize)
 // All letters, digits, underscores and full stops at the front, as one integer constant.
 #[tactic(auto, unfolding(crate::specs::Token::integer_at))]
 fn integer_at(text: &[u8]) -> Option<(TokKind, usize)>
-    ensures { result ≡ integer_at text.now }
+    ensures value { result ≡ integer_at text.now }
+    ensures some { 0 < length text.now → is_decimal (slice_index text.now 0) ≡ true → IfSome result (λ x. 0 < x.1) }
+    ensures bound { IfSome result (λ x. x.1 ≤ length text.now) }
 {
     let count = number_length(text);
     let integer = integer_of(&text[..count])?;
@@ -68,7 +74,8 @@ fn integer_at(text: &[u8]) -> Option<(TokKind, usize)>
 
 #[tactic(auto, unfolding(crate::specs::Token::punctuator_at))]
 fn punctuator_at(text: &[u8]) -> Option<(TokKind, usize)>
-    ensures { result ≡ punctuator_at text.now }
+    ensures value { result ≡ punctuator_at text.now }
+    ensures bound { IfSome result (λ x. (0 < x.1) × (x.1 ≤ length text.now)) }
 {
     let punct = punct_of(text)?;
     Some((TokKind::Punct(punct), punct.spelling().len()))
@@ -78,7 +85,8 @@ fn punctuator_at(text: &[u8]) -> Option<(TokKind, usize)>
 #[tactic(auto, unfolding(crate::specs::Token::string_at))]
 fn string_at(text: &[u8]) -> Option<(TokKind, usize)>
     requires { length text.now < 2 ^ 32 }
-    ensures { result ≡ string_at text.now }
+    ensures value { result ≡ string_at text.now }
+    ensures bound { IfSome result (λ x. (0 < x.1) × (x.1 ≤ length text.now + 1)) }
 {
     let count = string_end(text)?;
     Some((TokKind::Text, count + 1))
@@ -88,7 +96,8 @@ fn string_at(text: &[u8]) -> Option<(TokKind, usize)>
 #[tactic(auto, unfolding(crate::specs::Token::token_at))]
 fn token_at(text: &[u8]) -> Option<(TokKind, usize)>
     requires { length text.now < 2 ^ 32 }
-    ensures { result ≡ token_at text.now }
+    ensures value { result ≡ token_at text.now }
+    ensures bound { IfSome result (λ x. (0 < x.1) × (x.1 ≤ length text.now)) }
 {
     match text {
         [] => None,
@@ -145,7 +154,8 @@ fn is_too_long(kind: TokKind, length: usize) -> bool
 }
 
 fn token_piece(token: Option<(TokKind, usize)>) -> Piece
-    ensures { result ≡ token_piece token }
+    ensures value { result ≡ token_piece token }
+    ensures bound { (n : ℕ) → IfSome token (λ x. (0 < x.1) × (x.1 ≤ n)) → FitsIn n result }
 {
     match token {
         Some(found) => {
@@ -162,7 +172,8 @@ fn token_piece(token: Option<(TokKind, usize)>) -> Piece
 // The comment whose `/*` stands before.
 fn block_comment(end: Option<usize>) -> Piece
     requires { IfSome end (λ n. n < 2 ^ 32) }
-    ensures { result ≡ block_comment end }
+    ensures value { result ≡ block_comment end }
+    ensures bound { (n : ℕ) → IfSome end (λ k. k + 2 ≤ n) → FitsIn n result }
 {
     match end {
         Some(count) => Piece::Blank(count + 2),
@@ -175,7 +186,8 @@ fn block_comment(end: Option<usize>) -> Piece
 #[tactic(auto, unfolding(crate::specs::Token::piece_at))]
 pub fn piece_at(text: &[u8]) -> Piece
     requires { length text.now < 2 ^ 32 }
-    ensures { result ≡ piece_at text.now }
+    ensures value { result ≡ piece_at text.now }
+    ensures bound { FitsIn (length text.now) result }
 {
     match text {
         [] => Piece::Bad,

@@ -1,6 +1,6 @@
 //! How keywords and punctuators are spelled.
 
-ghost use Rattle.std.specs.Prelude.{◌≡◌};
+ghost use Rattle.std.specs.Prelude.{◌≡◌, ◌<◌, length};
 ghost use Rattle.c_token.specs.Spelling.{keyword_spelling, punct_spelling};
 
 use crate::token::{Keyword, Punct};
@@ -124,7 +124,8 @@ impl Keyword {
 impl Punct {
     /// The punctuator's bytes in a text.
     pub fn spelling(self) -> &'static [u8]
-        ensures { result.now ≡ punct_spelling self }
+        ensures value { result.now ≡ punct_spelling self }
+        ensures some { 0 < length result.now }
     {
         match self {
             Punct::LeftBracket => b"[",
