@@ -8,9 +8,10 @@
 
 mod bytes;
 mod constant;
-pub mod piece;
-pub mod scan;
+mod piece;
+mod scan;
 pub mod spelling;
 pub mod token;
 
+pub use scan::raw;
 pub use token::{Keyword, LexError, Punct, Tok, TokKind};
