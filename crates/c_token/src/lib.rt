@@ -15,3 +15,6 @@ pub mod token;
 
 pub use scan::raw;
 pub use token::{Keyword, LexError, Punct, Tok, TokKind};
+
+#[cfg(test)]
+mod tests;
