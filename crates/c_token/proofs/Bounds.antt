@@ -1,5 +1,5 @@
 -- How long the pieces of a text are.
-use Rattle.std.proofs.Common.{ℕ, ◌+◌, ◌<◌, ◌≤◌, ◌≡◌, Bool, true, false, Some, List, [], ◌∷◌, length, get_or, arith, ap, sym, ◌∙◌, subst, refl, cond, take, length-take}
+use Rattle.std.proofs.Common.{ℕ, ◌+◌, ◌<◌, ◌≤◌, ◌≡◌, Bool, true, false, Some, List, [], ◌∷◌, length, get_or, arith, ap, subst, refl, cond, take, length-take}
 use Rattle.std.specs.Prelude.{nat_eq, find, ◌&&◌}
 use Rattle.std.specs.Cmp.Lexicographic.{pointwise}
 use Rattle.std.specs.List.{prefix_len, starts_with}

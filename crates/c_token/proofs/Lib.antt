@@ -3,3 +3,4 @@ pub mod Strings
 pub mod Comments
 pub mod Bounds
 pub mod Passing
+pub mod Order

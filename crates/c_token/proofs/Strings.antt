@@ -2,7 +2,6 @@
 use Rattle.std.proofs.Common.{ℕ, zero, suc, ◌+◌, ◌-◌, ◌<◌, ◌≤◌, ◌≡◌, Option, Some, None, List, [], ◌∷◌, length, drop, arith, ap, sym, ◌∙◌, refl, add-one, eq-eqb, cond}
 use Rattle.std.proofs.Common.{ne_eqb, get_or, take, length-drop, add-zero}
 use Rattle.std.proofs.lemmas.List.{get_or-drop, drop_all, drop-drop, take_all}
-use Rattle.std.specs.Prelude.{nat_eq, option_map, ◌==◌, true, false}
 use Rattle.c_token.specs.Constant.{string_end, element_at, ◌>>=◌}
 
 -- what is left gives the rest of the length

@@ -1,5 +1,5 @@
 -- The number that digits spell, read from the left.
-use Rattle.std.proofs.Common.{ℕ, ◌+◌, ◌*◌, ◌<◌, ◌≤◌, ◌≡◌, ◌^◌, List, [], ◌∷◌, length, drop, get_or, arith, ap, drop-cons, sym, ◌∙◌, refl, add-one}
+use Rattle.std.proofs.Common.{ℕ, ◌+◌, ◌*◌, ◌<◌, ◌≤◌, ◌≡◌, ◌^◌, List, [], ◌∷◌, length, drop, get_or, arith, ap, drop-cons, sym, ◌∙◌, add-one}
 use Rattle.std.specs.List.{fold}
 use Rattle.std.proofs.Math.Nat.{mul-le-mul_left}
 use Rattle.c_token.specs.Bytes.{digit_value}

@@ -1,6 +1,6 @@
 -- Integer constants, character constants and strings (ISO/IEC 9899:1990, 6.1.3.2, 6.1.3.4 and
 -- 6.1.4), read from the front of a list of bytes.
-use Rattle.std.specs.Prelude.{ℕ, zero, suc, ◌+◌, ◌-◌, ◌*◌, Bool, true, false, ◌&&◌, ◌||◌, ◌==◌, nat_eq, nat_le, nat_lt, if◌then◌else◌, List, [], ◌∷◌, length, take, drop, fold, Option, Some, None}
+use Rattle.std.specs.Prelude.{ℕ, zero, suc, ◌+◌, ◌-◌, ◌*◌, Bool, true, false, ◌&&◌, ◌||◌, ◌==◌, nat_eq, nat_lt, if◌then◌else◌, List, [], ◌∷◌, length, take, drop, fold, Option, Some, None}
 use Rattle.std.specs.List.{prefix_len, starts_with}
 use Rattle.c_token.specs.declared.token.TokKind.{TokKind}
 use Rattle.c_token.specs.declared.token.TokKind.TheVariants as kind
@@ -54,9 +54,9 @@ integer_of [] = None
 integer_of (a ∷ []) = if a == 48 then number_in 8 (a ∷ []) else number_in 10 (a ∷ [])
 integer_of (a ∷ b ∷ rest) =
     if a == 48 then
-      (if is_either 120 88 b then number_in 16 rest
-      else if is_either 98 66 b then number_in 2 rest
-      else number_in 8 (a ∷ b ∷ rest))
+    (if is_either 120 88 b then number_in 16 rest
+    else if is_either 98 66 b then number_in 2 rest
+    else number_in 8 (a ∷ b ∷ rest))
     else number_in 10 (a ∷ b ∷ rest)
 
 -- what a letter or a mark behind a backslash stands for

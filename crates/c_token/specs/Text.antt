@@ -1,5 +1,5 @@
 -- The list of tokens of a text.
-use Rattle.std.specs.Prelude.{ℕ, zero, suc, ◌+◌, ◌-◌, Bool, true, false, ◌&&◌, ◌==◌, nat_lt, not, if◌then◌else◌, List, [], ◌∷◌, Result, Ok, Err, Option, Some, None, ◌≡◌}
+use Rattle.std.specs.Prelude.{ℕ, zero, suc, ◌+◌, ◌-◌, Bool, true, false, ◌&&◌, ◌==◌, nat_lt, not, if◌then◌else◌, List, [], ◌∷◌, Result, Ok, Err, Option, Some, None, ◌≡◌, ◌<◌, ◌≤◌}
 use Rattle.std.specs.declared.vec.Vec.{Vec}
 use Rattle.std.specs.declared.alloc.Global.{Global}
 use Rattle.c_token.specs.declared.token.Tok.{Tok}
@@ -64,3 +64,17 @@ Gives (Err e) tokens = Fails e tokens
 abbrev pub with_any : Option Tok → Result (List Tok) LexError → Result (List Tok) LexError
 with_any None rest = rest
 with_any (Some t) rest = with_token t rest
+
+-- each token has a byte at least, and they stand one behind the other between two places
+abbrev pub InOrder : ℕ → ℕ → List Tok → Type 0
+InOrder low high [] = low ≤ high
+InOrder low high (t ∷ ts) = (low ≤ t.start) × (t.start < t.end) × InOrder t.end high ts
+
+-- the token's span is in a text of this length
+abbrev pub LiesIn : ℕ → Tok → Type 0
+LiesIn size t = (t.start < t.end) × (t.end ≤ size)
+
+-- a token, if there is one, has a byte and stands between two places
+abbrev pub Spans : ℕ → ℕ → Option Tok → Type 0
+Spans low high None = low ≤ high
+Spans low high (Some t) = (low ≤ t.start) × (t.start < t.end) × (t.end ≤ high)

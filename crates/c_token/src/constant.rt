@@ -83,7 +83,12 @@ fn number_in(base: u8, bytes: &[u8]) -> Option<TokKind>
     let (digits, rest) = bytes.split_at(count);
     let value = value_in(base, digits)?;
     let (unsigned_suffix, long_suffix) = suffixes_of(rest)?;
-    Some(TokKind::Int { value, base, unsigned_suffix, long_suffix })
+    Some(TokKind::Int {
+        value,
+        base,
+        unsigned_suffix,
+        long_suffix,
+    })
 }
 
 /// The integer constant that these bytes are (ISO/IEC 9899:1990, 6.1.3.2, and `0b` for base 2), if

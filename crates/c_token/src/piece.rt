@@ -28,7 +28,10 @@ pub enum Piece {
 fn keyword_of(word: &[u8]) -> Option<Keyword>
     ensures { result ≡ keyword_of word.now }
 {
-    KEYWORDS.iter().copied().find(|keyword| keyword.spelling() == word)
+    KEYWORDS
+        .iter()
+        .copied()
+        .find(|keyword| keyword.spelling() == word)
 }
 
 // The longest punctuator at the front.
@@ -37,7 +40,10 @@ fn punct_of(text: &[u8]) -> Option<Punct>
     ensures value { result ≡ punct_of text.now }
     ensures bound { IfSome result (λ p. length (punct_spelling p) ≤ length text.now) }
 {
-    PUNCTUATORS.iter().copied().find(|punct| text.starts_with(punct.spelling()))
+    PUNCTUATORS
+        .iter()
+        .copied()
+        .find(|punct| text.starts_with(punct.spelling()))
 }
 
 fn kind_of_word(keyword: Option<Keyword>) -> TokKind

@@ -1,7 +1,7 @@
 //! The tokens of a whole text.
 
-ghost use Rattle.std.specs.Prelude.{◌≡◌, ℕ, ◌<◌, ◌≤◌, ◌+◌, ◌^◌, ◌++◌, length, drop, List, Err, MatchResult, IfOk, OnOk, IfErr, option_to_list};
-ghost use Rattle.c_token.specs.Text.{behind, is_hash, token_of, tokens_from, tokens_of, with_any, Gives};
+ghost use Rattle.std.specs.Prelude.{◌≡◌, ℕ, ◌<◌, ◌≤◌, ◌+◌, ◌^◌, ◌++◌, length, drop, List, Err, MatchResult, IfOk, OnOk, IfErr, All, option_to_list};
+ghost use Rattle.c_token.specs.Text.{behind, is_hash, token_of, tokens_from, tokens_of, with_any, Gives, InOrder, LiesIn, Spans};
 ghost use Rattle.c_token.specs.declared.token.LexError.TheVariants.{NoMemory};
 
 use crate::piece::{Piece, piece_at};
@@ -24,7 +24,11 @@ fn behind(byte: u8, place: Place) -> Place
     ensures { result ≡ behind byte place }
 {
     let lines = if byte == b'\n' { 1 } else { 0 };
-    Place { at: place.at + 1, line: place.line + lines, last: place.last }
+    Place {
+        at: place.at + 1,
+        line: place.line + lines,
+        last: place.last,
+    }
 }
 
 // The place behind some bytes.
@@ -77,6 +81,7 @@ fn next(text: &[u8], place: Place) -> Result<(Option<Tok>, Place), LexError>
         (λ x. tokens_from (drop place.at text.now) 0 place ≡ with_any x.0 (tokens_from (drop x.1.at text.now) 0 x.1))
         (λ e. tokens_from (drop place.at text.now) 0 place ≡ Err e) }
     ensures onward { IfOk result (λ x. (place.at < x.1.at) × (x.1.at ≤ length text.now) × (x.1.line ≤ x.1.at + 1)) }
+    ensures span { IfOk result (λ x. Spans place.at x.1.at x.0) }
 {
     let line = place.line as u32;
     match piece_at(&text[place.at..]) {
@@ -86,7 +91,11 @@ fn next(text: &[u8], place: Place) -> Result<(Option<Tok>, Place), LexError>
                 return Err(LexError::Bad { line });
             }
             let token = token_of(kind, count, place);
-            let behind_it = Place { at: place.at, line: place.line, last: place.line };
+            let behind_it = Place {
+                at: place.at,
+                line: place.line,
+                last: place.line,
+            };
             Ok((Some(token), advance(text, behind_it, count)))
         }
         Piece::Bad => Err(LexError::Bad { line }),
@@ -109,12 +118,19 @@ fn put(tokens: &mut Vec<Tok>, token: Option<Tok>) -> Result<(), LexError>
 
 /// The tokens of a text (ISO/IEC 9899:1990, 6.1), in order. Each has its span in bytes, its line,
 /// counted from 1, and whether it is the first on its line.
+#[tactic(auto, using(crate::proofs::Order::order_more, crate::proofs::Order::order_ends, crate::proofs::Passing::with_none, crate::proofs::Passing::with_more))]
 pub fn raw(alloc: Global, text: &[u8]) -> Result<Vec<Tok>, LexError>
     requires { length text.now < 2 ^ 32 }
-    ensures { Gives result (tokens_of text.now) }
+    ensures tokens { Gives result (tokens_of text.now) }
+    ensures order { IfOk result (λ v. InOrder 0 (length text.now) v.items) }
+    ensures within { IfOk result (λ v. All (LiesIn (length text.now)) v.items) }
 {
     let mut tokens = Vec::new(alloc);
-    let mut place = Place { at: 0, line: 1, last: 0 };
+    let mut place = Place {
+        at: 0,
+        line: 1,
+        last: 0,
+    };
     while place.at < text.len() {
         let (token, behind_it) = next(text, place)?;
         put(&mut tokens, token)?;

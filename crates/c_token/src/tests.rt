@@ -2,11 +2,22 @@ use super::*;
 use std::test::Fail;
 
 fn token(kind: TokKind, start: u32, end: u32, line: u32, first: bool) -> Tok {
-    Tok { kind, start, end, line, first }
+    Tok {
+        kind,
+        start,
+        end,
+        line,
+        first,
+    }
 }
 
 fn int(value: u32, base: u8, unsigned_suffix: bool, long_suffix: bool) -> TokKind {
-    TokKind::Int { value, base, unsigned_suffix, long_suffix }
+    TokKind::Int {
+        value,
+        base,
+        unsigned_suffix,
+        long_suffix,
+    }
 }
 
 #[test]
@@ -61,7 +72,10 @@ fn one_token_has_its_kind(rt: HostRuntime) -> Result<(), Fail> {
     for (text, kind) in cases {
         let tokens = raw(rt.alloc(), text)?;
         let end = text.len() as u32;
-        assert_eq!(rt; tokens.as_slice(), [token(kind, 0, end, 1, true)].as_slice());
+        assert_eq!(rt;
+            tokens.as_slice(),
+            [token(kind, 0, end, 1, true)].as_slice()
+        );
     }
     Ok(())
 }

@@ -1,6 +1,6 @@
 use Rattle.std.proofs.Common.{◌≡◌, ◌+◌, drop}
 use Rattle.std.specs.List.{prefix_len}
-use Rattle.c_token.specs.Bytes.{is_digit, is_name_byte, is_number_byte}
+use Rattle.c_token.specs.Bytes.{is_number_byte}
 use Rattle.c_token.proofs.bytes.number_length.Given as goal
 
 abbrev pub invariant-loop-i : goal.invariant-loop-i
