@@ -1,0 +1,58 @@
+-- Names and what they stand for (ISO/IEC 9899:1990, 6.8.3, for names without parameters).
+use Rattle.std.specs.Prelude.{ℕ, zero, suc, ◌+◌, ◌-◌, Bool, true, false, ◌&&◌, not, if◌then◌else◌, List, [], ◌∷◌, ◌++◌, length, take, drop, map, replicate, Option, Some, None, Result, Ok, Err, slice_index_or, slice_set}
+use Rattle.std.specs.List.{flat_map, prefix_len}
+use Rattle.c_token.specs.declared.token.Tok.{Tok}
+use Rattle.c_pre.specs.declared.PreError.{PreError}
+use Rattle.c_pre.specs.declared.PreError.TheVariants as error
+use Rattle.c_pre.specs.Words.{word_of, is_excluded, is_name, is_hash, same_words}
+use Rattle.c_pre.specs.Directive.{Table, Said, Nothing, Defines, Wrong, position_of, line_of}
+
+-- A step of the replacement: a token is left, or a name on a line is replaced.
+pub data Event : Type 0 where
+  Left : Tok → Event
+  Replaced : ℕ → Event
+
+-- a token that came from a name has the name's line
+abbrev pub at_line : ℕ → Tok → Tok
+at_line line t = record t { line = line }
+
+-- which definition a token's name has, if its replacement isn't under way
+unfoldable pub open_definition : List ℕ → Table → List Bool → Tok → Option ℕ
+open_definition text table busy t = if is_name t.kind then if_open (position_of table (word_of text t)) else None
+  where
+    if_open : Option ℕ → Option ℕ
+    if_open None = None
+    if_open (Some k) = if slice_index_or busy k false then None else Some k
+
+abbrev pub list_at : Table → ℕ → List Tok
+list_at table k = (slice_index_or table k ([], [])).1
+
+-- Replacing one token: it is left, or its list is replaced in the same way, where `again` does so with
+-- the definition marked as under way.
+abbrev pub replace_one : (List Bool → List Tok → List Event) → Table → List Bool → ℕ → Tok → Option ℕ → List Event
+replace_one again table busy line t None = Left (at_line line t) ∷ []
+replace_one again table busy line t (Some k) = Replaced line ∷ again (slice_set busy k true) (list_at table k)
+
+-- What becomes of a list of tokens that came from a name on a line, from left to right. `busy` says of
+-- each definition whether its replacement is under way. There can't be more replacements within one
+-- another than definitions, of which `depth` aren't under way.
+unfoldable pub replace : ℕ → List ℕ → Table → ℕ → List Bool → List Tok → List Event
+replace zero text table line busy ts = map (λ t. Left (at_line line t)) ts
+replace (suc depth) text table line busy ts =
+    flat_map (λ t. replace_one (replace depth text table line) table busy line t (open_definition text table busy t)) ts
+
+-- what becomes of a token of the text
+abbrev pub events_of : List ℕ → Table × Tok → List Event
+events_of text x = replace (length x.0) text x.0 x.1.line (replicate (length x.0) false) (x.1 ∷ [])
+
+abbrev pub with_token : Tok → Result (List Tok) PreError → Result (List Tok) PreError
+with_token t (Ok ts) = Ok (t ∷ ts)
+with_token t (Err e) = Err e
+
+-- The tokens that are left, where `room` steps are allowed.
+unfoldable pub limited : ℕ → List Event → Result (List Tok) PreError
+limited room [] = Ok []
+limited zero (Left t ∷ es) = Err (error.Tokens t.line)
+limited zero (Replaced line ∷ es) = Err (error.Tokens line)
+limited (suc room) (Left t ∷ es) = with_token t (limited room es)
+limited (suc room) (Replaced line ∷ es) = limited room es
