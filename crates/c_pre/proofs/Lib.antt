@@ -1,2 +1,4 @@
 pub mod Same
 pub mod Headers
+pub mod Steps
+pub mod Tables

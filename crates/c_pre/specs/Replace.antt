@@ -1,9 +1,11 @@
 -- Names and what they stand for (ISO/IEC 9899:1990, 6.8.3, for names without parameters).
-use Rattle.std.specs.Prelude.{ℕ, zero, suc, ◌+◌, ◌-◌, Bool, true, false, ◌&&◌, not, if◌then◌else◌, List, [], ◌∷◌, ◌++◌, length, take, drop, map, replicate, Option, Some, None, Result, Ok, Err, slice_index_or, slice_set}
+use Rattle.std.specs.Prelude.{ℕ, zero, suc, ◌+◌, ◌-◌, Bool, true, false, ◌&&◌, not, if◌then◌else◌, List, [], ◌∷◌, ◌++◌, length, take, drop, map, replicate, Option, Some, None, Result, Ok, Err, slice_index_or, slice_set, ◌≡◌}
 use Rattle.std.specs.List.{flat_map, prefix_len}
 use Rattle.c_token.specs.declared.token.Tok.{Tok}
 use Rattle.c_pre.specs.declared.PreError.{PreError}
 use Rattle.c_pre.specs.declared.PreError.TheVariants as error
+use Rattle.c_pre.specs.declared.replace.Output.{Output}
+use Rattle.c_pre.specs.declared.replace.Frame.{Frame}
 use Rattle.c_pre.specs.Words.{word_of, is_excluded, is_name, is_hash, same_words}
 use Rattle.c_pre.specs.Directive.{Table, Said, Nothing, Defines, Wrong, position_of, line_of}
 
@@ -56,3 +58,39 @@ limited zero (Left t ∷ es) = Err (error.Tokens t.line)
 limited zero (Replaced line ∷ es) = Err (error.Tokens line)
 limited (suc room) (Left t ∷ es) = with_token t (limited room es)
 limited (suc room) (Replaced line ∷ es) = limited room es
+
+-- How the code keeps what is left so far and the steps that are still allowed.
+
+abbrev pub with_tokens : List Tok → Result (List Tok) PreError → Result (List Tok) PreError
+with_tokens ts (Ok us) = Ok (ts ++ us)
+with_tokens ts (Err e) = Err e
+
+abbrev pub total : Output → List Event → Result (List Tok) PreError
+total output es = with_tokens output.tokens.items (limited output.room es)
+
+-- a fact on an error other than want of memory
+abbrev pub Unless : PreError → Type 0 → Type 0
+Unless error.NoMemory fact = Unit {0}
+Unless (error.Word line) fact = fact
+Unless (error.Directive line) fact = fact
+Unless (error.Tokens line) fact = fact
+
+-- what becomes of the result when some events come first
+abbrev pub Passes : Output → Output → Result (Unit {0}) PreError → List Event → Type 0
+Passes old new (Ok _) made = (es : List Event) → total old (made ++ es) ≡ total new es
+Passes old new (Err e) made = Unless e ((es : List Event) → total old (made ++ es) ≡ Err e)
+
+abbrev pub unmarked : List Bool → Option ℕ → List Bool
+unmarked busy None = busy
+unmarked busy (Some k) = slice_set busy k false
+
+-- what lists that wait, the innermost first, still become
+unfoldable pub pending : ℕ → List ℕ → Table → ℕ → List Bool → List Frame → List Event
+pending depth text table line busy [] = []
+pending depth text table line busy (f ∷ below) =
+    replace depth text table line busy f.rest.now ++ pending (suc depth) text table line (unmarked busy f.definition) below
+
+-- how many definitions aren't under way
+abbrev pub free_count : List Bool → ℕ
+free_count [] = 0
+free_count (b ∷ bs) = (if b then 0 else 1) + free_count bs

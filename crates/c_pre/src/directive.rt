@@ -1,10 +1,9 @@
 //! The directives that the language has.
 
 ghost use Rattle.std.specs.Prelude.{◌≡◌};
-ghost use Rattle.std.specs.Str.{bytes_eq};
 ghost use Rattle.c_pre.specs.Directive.{position_of, names_header, is_header, may_be_defined, has_parameters, definition_in, line_of, table_of, said, ShowsEntry};
 
-use crate::words::{is_excluded, is_name, is_opening, word_of};
+use crate::words::{is_excluded, is_name, is_opening, spells, word_of};
 use c_token::Tok;
 
 /// A definition: the name's bytes, and the tokens that it stands for.
@@ -22,12 +21,6 @@ pub enum Line<'a> {
     Defines(Definition<'a>),
     /// It is no directive of the language.
     Wrong,
-}
-
-fn spells(spelling: &[u8], word: &[u8]) -> bool
-    ensures { result ≡ bytes_eq spelling.now word.now }
-{
-    spelling == word
 }
 
 fn names_header(bytes: &[u8]) -> bool

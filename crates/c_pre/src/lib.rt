@@ -7,6 +7,7 @@
 #![tactic(auto)]
 
 mod directive;
+mod replace;
 mod words;
 
 /// Why a text's tokens are no program's.

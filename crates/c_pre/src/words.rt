@@ -1,6 +1,7 @@
 //! The bytes of tokens, and the words that the language excludes.
 
 ghost use Rattle.std.specs.Prelude.{◌≡◌};
+ghost use Rattle.std.specs.Str.{bytes_eq};
 ghost use Rattle.c_pre.specs.Words.{word_of, excluded_spelling, excluded_word, is_excluded, is_name, is_hash, is_opening, same_words};
 
 use c_token::{Punct, Tok, TokKind};
@@ -16,6 +17,13 @@ pub fn word_of(text: &[u8], token: Tok) -> &[u8]
     } else {
         &[]
     }
+}
+
+/// Whether a word has this spelling.
+pub fn spells(spelling: &[u8], word: &[u8]) -> bool
+    ensures { result ≡ bytes_eq spelling.now word.now }
+{
+    spelling == word
 }
 
 /// A word of C90, or of the HI-TECH PICC compiler, that the subset has no meaning for.

@@ -1,0 +1,87 @@
+//! The replacement of names by what they stand for.
+
+ghost use Rattle.std.specs.Prelude.{◌≡◌, ◌<◌, ◌≤◌, [], ◌∷◌, false, length, replicate, IfSome, OnOk, ◌+◌};
+ghost use Rattle.c_pre.specs.Directive.{position_of, table_of};
+ghost use Rattle.c_pre.specs.Replace.{Left, Replaced, Passes, open_definition, replace};
+
+use crate::PreError;
+use crate::directive::Definition;
+use crate::words::{is_name, spells, word_of};
+use c_token::Tok;
+use std::alloc::Global;
+
+/// The tokens that are left so far, and how many steps are still allowed.
+#[derive(Drop)]
+pub struct Output {
+    pub tokens: Vec<Tok>,
+    pub room: usize,
+}
+
+/// The tokens of a list that are still to be read, and the definition whose list it is.
+#[derive(Clone, Copy)]
+pub struct Frame<'a> {
+    pub rest: &'a [Tok],
+    pub definition: Option<usize>,
+}
+
+// A token is left.
+#[tactic(auto, using(crate::proofs::Steps::left_passes, crate::proofs::Steps::left_stops))]
+fn leave(output: &mut Output, token: Tok) -> Result<(), PreError>
+    ensures passes { Passes output.old output.new result (Left token ∷ []) }
+    ensures room { OnOk result (output.new.room + 1 ≡ output.old.room) }
+{
+    if output.room == 0 {
+        return Err(PreError::Tokens { line: token.line });
+    }
+    output.room -= 1;
+    if output.tokens.push(token).is_err() {
+        return Err(PreError::NoMemory);
+    }
+    Ok(())
+}
+
+// A name on a line is replaced.
+#[tactic(auto, using(crate::proofs::Steps::replaced_passes, crate::proofs::Steps::replaced_stops))]
+fn count_name(output: &mut Output, line: u32) -> Result<(), PreError>
+    ensures passes { Passes output.old output.new result (Replaced line ∷ []) }
+    ensures room { OnOk result (output.new.room + 1 ≡ output.old.room) }
+{
+    if output.room == 0 {
+        return Err(PreError::Tokens { line });
+    }
+    output.room -= 1;
+    Ok(())
+}
+
+// Which definition a word has.
+#[tactic(auto, using(crate::proofs::Tables::looks_first, crate::proofs::Tables::looks_found, crate::proofs::Tables::looks_on, crate::proofs::Tables::looks_nowhere))]
+pub fn position_of(definitions: &[Definition<'_>], word: &[u8]) -> Option<usize>
+    ensures value { result ≡ position_of (table_of definitions.now) word.now }
+    ensures bound { IfSome result (λ k. k < length definitions.now) }
+{
+    for (i, definition) in definitions.iter().enumerate() {
+        if spells(definition.name, word) {
+            return Some(i);
+        }
+    }
+    None
+}
+
+// Which definition a token's name has, if its replacement isn't under way.
+#[tactic(auto, unfolding(crate::specs::Replace::open_definition))]
+fn open_definition(
+    text: &[u8],
+    definitions: &[Definition<'_>],
+    busy: &[bool],
+    token: Tok,
+) -> Option<usize>
+    requires { length busy.now ≡ length definitions.now }
+    ensures value { result ≡ open_definition text.now (table_of definitions.now) busy.now token }
+    ensures bound { IfSome result (λ k. k < length definitions.now) }
+{
+    if !is_name(token.kind) {
+        return None;
+    }
+    let k = position_of(definitions, word_of(text, token))?;
+    if busy[k] { None } else { Some(k) }
+}
