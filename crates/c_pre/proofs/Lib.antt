@@ -2,3 +2,4 @@ pub mod Same
 pub mod Headers
 pub mod Steps
 pub mod Tables
+pub mod Waiting

@@ -1,5 +1,5 @@
 -- Names and what they stand for (ISO/IEC 9899:1990, 6.8.3, for names without parameters).
-use Rattle.std.specs.Prelude.{ℕ, zero, suc, ◌+◌, ◌-◌, Bool, true, false, ◌&&◌, not, if◌then◌else◌, List, [], ◌∷◌, ◌++◌, length, take, drop, map, replicate, Option, Some, None, Result, Ok, Err, slice_index_or, slice_set, ◌≡◌}
+use Rattle.std.specs.Prelude.{ℕ, zero, suc, ◌+◌, ◌-◌, Bool, true, false, ◌&&◌, not, if◌then◌else◌, List, [], ◌∷◌, ◌++◌, length, take, drop, map, replicate, Option, Some, None, Result, Ok, Err, slice_index_or, slice_set, reverse, IfSome, ◌≡◌, ◌<◌, ◌≤◌}
 use Rattle.std.specs.List.{flat_map, prefix_len}
 use Rattle.c_token.specs.declared.token.Tok.{Tok}
 use Rattle.c_pre.specs.declared.PreError.{PreError}
@@ -94,3 +94,19 @@ pending depth text table line busy (f ∷ below) =
 abbrev pub free_count : List Bool → ℕ
 free_count [] = 0
 free_count (b ∷ bs) = (if b then 0 else 1) + free_count bs
+
+-- What waits, the outermost list first: the lists, and the marks of what is under way.
+abbrev pub waiting : List ℕ → Table → ℕ → List Bool → List Frame → List Event
+waiting text table line busy stack = pending (length table + 1 - length stack) text table line busy (reverse stack)
+
+-- as many definitions are free as may still be entered, and each list that waits has its definition
+abbrev pub IsInStep : ℕ → List Bool → List Frame → Type 0
+IsInStep size busy stack = (length busy ≡ size) × (free_count busy + length stack ≤ size + 1)
+
+abbrev pub IsMark : ℕ → Frame → Type 0
+IsMark size f = IfSome f.definition (λ k. k < size)
+
+-- what becomes of the result when a step is taken from one state to another
+abbrev pub Moves : Output → Output → Result (Unit {0}) PreError → List Event → List Event → Type 0
+Moves old new (Ok _) before after = (es : List Event) → total old (before ++ es) ≡ total new (after ++ es)
+Moves old new (Err e) before after = Unless e ((es : List Event) → total old (before ++ es) ≡ Err e)

@@ -1,8 +1,9 @@
 //! The replacement of names by what they stand for.
 
-ghost use Rattle.std.specs.Prelude.{◌≡◌, ◌<◌, ◌≤◌, [], ◌∷◌, false, length, replicate, IfSome, OnOk, ◌+◌};
+ghost use Rattle.std.specs.Prelude.{◌≡◌, ◌<◌, ◌≤◌, [], ◌∷◌, false, length, replicate, IfSome, OnOk, IfErr, ◌+◌, ◌++◌, ◌*◌, vec_len, All};
 ghost use Rattle.c_pre.specs.Directive.{position_of, table_of};
-ghost use Rattle.c_pre.specs.Replace.{Left, Replaced, Passes, open_definition, replace};
+ghost use Rattle.c_pre.specs.declared.PreError.TheVariants.{NoMemory};
+ghost use Rattle.c_pre.specs.Replace.{Left, Replaced, Passes, open_definition, replace, unmarked, waiting, IsInStep, IsMark, Moves};
 
 use crate::PreError;
 use crate::directive::Definition;
@@ -84,4 +85,69 @@ fn open_definition(
     }
     let k = position_of(definitions, word_of(text, token))?;
     if busy[k] { None } else { Some(k) }
+}
+
+// Puts a list to wait inside the others.
+fn push<'a>(stack: &mut Vec<Frame<'a>>, frame: Frame<'a>) -> Result<(), PreError>
+    ensures ok { OnOk result (stack.new.items ≡ stack.old.items ++ frame.entry ∷ []) }
+    ensures err { IfErr result (λ e. e ≡ NoMemory) }
+{
+    if stack.push(frame).is_err() {
+        return Err(PreError::NoMemory);
+    }
+    Ok(())
+}
+
+// The definition isn't under way any more.
+fn unmark(busy: &mut Vec<bool>, definition: Option<usize>)
+    requires { IfSome definition (λ k. k < vec_len busy.old) }
+    ensures { busy.new.items ≡ unmarked busy.old.items definition }
+{
+    if let Some(k) = definition {
+        busy[k] = false;
+    }
+}
+
+// Takes a step at the innermost list, which was taken from the stack.
+fn step<'a>(
+    text: &[u8],
+    definitions: &[Definition<'a>],
+    line: u32,
+    frame: Frame<'a>,
+    busy: &mut Vec<bool>,
+    stack: &mut Vec<Frame<'a>>,
+    output: &mut Output,
+) -> Result<(), PreError>
+    requires in_step { IsInStep (length definitions.now) busy.old.items (frame ∷ stack.old.items) }
+    requires mark { IsMark (length definitions.now) frame }
+    requires marks { All (IsMark (length definitions.now)) stack.old.items }
+    ensures moves { Moves output.old output.new result
+        (waiting text.now (table_of definitions.now) line busy.old.items (stack.old.items ++ frame.entry ∷ []))
+        (waiting text.now (table_of definitions.now) line busy.new.items stack.new.items) }
+    ensures in_step { OnOk result (IsInStep (length definitions.now) busy.new.items stack.new.items) }
+    ensures marks { OnOk result (All (IsMark (length definitions.now)) stack.new.items) }
+    ensures falls { OnOk result
+        (2 * output.new.room + length stack.new.items < 2 * output.old.room + length stack.old.items + 1) }
+{
+    match frame.rest {
+        [] => {
+            unmark(busy, frame.definition);
+            Ok(())
+        }
+        [token, rest @ ..] => {
+            let behind_it = Frame { rest, definition: frame.definition };
+            match open_definition(text, definitions, busy, *token) {
+                None => {
+                    leave(output, Tok { line, ..*token })?;
+                    push(stack, behind_it)
+                }
+                Some(k) => {
+                    count_name(output, line)?;
+                    busy[k] = true;
+                    push(stack, behind_it)?;
+                    push(stack, Frame { rest: definitions[k].list, definition: Some(k) })
+                }
+            }
+        }
+    }
 }
