@@ -3,3 +3,4 @@ pub mod Headers
 pub mod Steps
 pub mod Tables
 pub mod Waiting
+pub mod Moving

@@ -7,8 +7,11 @@
 #![tactic(auto)]
 
 mod directive;
+mod program;
 mod replace;
 mod words;
+
+pub use program::tokens;
 
 /// Why a text's tokens are no program's.
 #[derive(Clone, Copy, PartialEq, Eq, Debug)]
@@ -22,3 +25,6 @@ pub enum PreError {
     /// On this line the tokens left and the names replaced come to be over 262,144.
     Tokens { line: u32 },
 }
+
+#[cfg(test)]
+mod tests;

@@ -1,6 +1,6 @@
 //! The replacement of names by what they stand for.
 
-ghost use Rattle.std.specs.Prelude.{◌≡◌, ◌<◌, ◌≤◌, [], ◌∷◌, false, length, replicate, IfSome, OnOk, IfErr, ◌+◌, ◌++◌, ◌*◌, vec_len, All};
+ghost use Rattle.std.specs.Prelude.{◌≡◌, ◌<◌, ◌≤◌, [], ◌∷◌, false, length, replicate, IfSome, OnOk, IfErr, ◌+◌, ◌++◌, ◌*◌, vec_len, All, MatchOption};
 ghost use Rattle.c_pre.specs.Directive.{position_of, table_of};
 ghost use Rattle.c_pre.specs.declared.PreError.TheVariants.{NoMemory};
 ghost use Rattle.c_pre.specs.Replace.{Left, Replaced, Passes, open_definition, replace, unmarked, waiting, IsInStep, IsMark, Moves};
@@ -108,6 +108,16 @@ fn unmark(busy: &mut Vec<bool>, definition: Option<usize>)
     }
 }
 
+// The first token of a list, and the others.
+fn front(list: &[Tok]) -> Option<(Tok, &[Tok])>
+    ensures { MatchOption result (list.now ≡ []) (λ x. list.now ≡ x.0 ∷ x.1.now) }
+{
+    match list {
+        [] => None,
+        [token, rest @ ..] => Some((*token, rest)),
+    }
+}
+
 // Takes a step at the innermost list, which was taken from the stack.
 fn step<'a>(
     text: &[u8],
@@ -129,25 +139,51 @@ fn step<'a>(
     ensures falls { OnOk result
         (2 * output.new.room + length stack.new.items < 2 * output.old.room + length stack.old.items + 1) }
 {
-    match frame.rest {
-        [] => {
+    match front(frame.rest) {
+        None => {
             unmark(busy, frame.definition);
             Ok(())
         }
-        [token, rest @ ..] => {
+        Some((token, rest)) => {
             let behind_it = Frame { rest, definition: frame.definition };
-            match open_definition(text, definitions, busy, *token) {
+            match open_definition(text, definitions, busy, token) {
                 None => {
-                    leave(output, Tok { line, ..*token })?;
-                    push(stack, behind_it)
+                    leave(output, Tok { line, ..token })?;
+                    push(stack, behind_it)?;
+                    Ok(())
                 }
                 Some(k) => {
                     count_name(output, line)?;
                     busy[k] = true;
                     push(stack, behind_it)?;
-                    push(stack, Frame { rest: definitions[k].list, definition: Some(k) })
+                    push(stack, Frame { rest: definitions[k].list, definition: Some(k) })?;
+                    Ok(())
                 }
             }
         }
     }
+}
+
+/// Replaces the names of a list that stands on a line, from left to right, by the definitions before
+/// it, and puts what is left behind the output.
+pub fn replace<'a>(
+    alloc: Global,
+    text: &[u8],
+    definitions: &[Definition<'a>],
+    line: u32,
+    tokens: &'a [Tok],
+    output: &mut Output,
+) -> Result<(), PreError>
+    ensures { Passes output.old output.new result
+        (replace (length definitions.now) text.now (table_of definitions.now) line (replicate (length definitions.now) false) tokens.now) }
+{
+    let Ok(mut busy) = vec![in alloc; false; definitions.len()] else {
+        return Err(PreError::NoMemory);
+    };
+    let mut stack = Vec::new(alloc);
+    push(&mut stack, Frame { rest: tokens, definition: None })?;
+    while let Some(frame) = stack.pop() {
+        step(text, definitions, line, frame, &mut busy, &mut stack, output)?;
+    }
+    Ok(())
 }

@@ -1,0 +1,130 @@
+//! A text's tokens, line by line, and the program that they are.
+
+use crate::PreError;
+use crate::directive::{Definition, Line, line_of};
+use crate::replace::{Output, position_of, replace};
+use crate::words::{is_excluded, is_hash, same_words};
+use c_token::Tok;
+use std::alloc::Global;
+
+// How many tokens left and names replaced a program may have together.
+const LIMIT: usize = 262144;
+
+/// A token outside directives, alone in its list, and how many definitions stand before it.
+#[derive(Clone, Copy)]
+pub struct Free<'a> {
+    pub token: &'a [Tok],
+    pub known: usize,
+}
+
+// How many tokens stand before the next line.
+fn line_length(tokens: &[Tok]) -> usize
+    ensures bound { result ≤ length tokens.now }
+    ensures count { result ≡ line_length tokens.now }
+{
+    for (i, token) in tokens.iter().enumerate() {
+        if token.first {
+            return i;
+        }
+    }
+    tokens.len()
+}
+
+// The line of the first excluded word of a list.
+fn first_excluded(text: &[u8], tokens: &[Tok]) -> Option<u32>
+    ensures { result ≡ first_excluded text.now tokens.now }
+{
+    for token in tokens {
+        if is_excluded(text, *token) {
+            return Some(token.line);
+        }
+    }
+    None
+}
+
+// Takes a definition, and says whether it is a good one: a name that was defined before has to have
+// the same tokens.
+fn define<'a>(
+    text: &[u8],
+    definitions: &mut Vec<Definition<'a>>,
+    definition: Definition<'a>,
+) -> Result<bool, PreError> {
+    match position_of(definitions, definition.name) {
+        Some(k) => {
+            if !same_words(text, definitions[k].list, definition.list) {
+                return Ok(false);
+            }
+        }
+        None => {
+            if definitions.push(definition).is_err() {
+                return Err(PreError::NoMemory);
+            }
+        }
+    }
+    match first_excluded(text, definition.list) {
+        Some(line) => Err(PreError::Word { line }),
+        None => Ok(true),
+    }
+}
+
+// Takes a directive line, and says whether it is a good one.
+fn take_line<'a>(
+    text: &'a [u8],
+    definitions: &mut Vec<Definition<'a>>,
+    tokens: &'a [Tok],
+) -> Result<bool, PreError> {
+    match line_of(text, tokens) {
+        Line::Nothing => Ok(true),
+        Line::Wrong => Ok(false),
+        Line::Defines(definition) => define(text, definitions, definition),
+    }
+}
+
+// Takes a token outside directives.
+fn take_token<'a>(
+    text: &[u8],
+    free: &mut Vec<Free<'a>>,
+    token: &'a [Tok],
+    known: usize,
+) -> Result<(), PreError> {
+    if let Some(line) = first_excluded(text, token) {
+        return Err(PreError::Word { line });
+    }
+    if free.push(Free { token, known }).is_err() {
+        return Err(PreError::NoMemory);
+    }
+    Ok(())
+}
+
+/// The tokens of a program (ISO/IEC 9899:1990, 6.8): those of the text outside directive lines, where
+/// each defined name is replaced. `raw` has the text's tokens, as `c_token::raw` gives them. A token
+/// that came from a name has its own span and that name's line.
+pub fn tokens(alloc: Global, text: &[u8], raw: &[Tok]) -> Result<Vec<Tok>, PreError> {
+    let mut definitions: Vec<Definition<'_>> = Vec::new(alloc);
+    let mut free: Vec<Free<'_>> = Vec::new(alloc);
+    let mut wrong = None;
+    let mut at = 0;
+    while at < raw.len() {
+        let token = raw[at];
+        if is_hash(token.kind) {
+            let count = line_length(&raw[at + 1..]);
+            let is_good = take_line(text, &mut definitions, &raw[at + 1..at + 1 + count])?;
+            if !is_good && wrong.is_none() {
+                wrong = Some(token.line);
+            }
+            at += 1 + count;
+        } else {
+            take_token(text, &mut free, &raw[at..at + 1], definitions.len())?;
+            at += 1;
+        }
+    }
+    if let Some(line) = wrong {
+        return Err(PreError::Directive { line });
+    }
+    let mut output = Output { tokens: Vec::new(alloc), room: LIMIT };
+    for item in &free {
+        let line = item.token[0].line;
+        replace(alloc, text, &definitions[..item.known], line, item.token, &mut output)?;
+    }
+    Ok(output.tokens)
+}
