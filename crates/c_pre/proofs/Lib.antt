@@ -4,3 +4,4 @@ pub mod Steps
 pub mod Tables
 pub mod Waiting
 pub mod Moving
+pub mod Looping

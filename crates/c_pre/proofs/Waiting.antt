@@ -1,11 +1,14 @@
 -- Lists that wait for their replacement: what the three steps of the loop do to them.
 use Rattle.std.proofs.Common.{ℕ, zero, suc, ◌+◌, ◌-◌, ◌<◌, ◌≤◌, ◌≡◌, Bool, true, false, cond, Option, Some, None, List, [], ◌∷◌, ◌++◌, length, drop, get_or, set, map, replicate, arith, ap, ap₂, sym, ◌∙◌, subst, refl, append_assoc, append-nil, length-append, reverse}
-use Rattle.std.proofs.lemmas.List.{reverse-append}
+use Rattle.std.proofs.lemmas.List.{reverse-append, get_or-map, length-set, length-map}
 use Rattle.std.specs.List.{flat_map}
 use Rattle.c_token.specs.declared.token.Tok.{Tok}
 use Rattle.c_pre.specs.declared.replace.Frame.{Frame}
-use Rattle.c_pre.specs.Directive.{Table}
-use Rattle.c_pre.specs.Replace.{Event, Left, Replaced, at_line, open_definition, list_at, replace_one, replace, pending, waiting, unmarked, free_count}
+use Rattle.c_pre.specs.declared.directive.Definition.{Definition}
+use Rattle.c_pre.specs.Directive.{Table, table_of, entry_of}
+use Rattle.std.specs.Prelude.{All}
+use Rattle.std.proofs.lemmas.List.Elements.{All-push}
+use Rattle.c_pre.specs.Replace.{Event, Left, Replaced, at_line, open_definition, list_at, replace_one, replace, pending, waiting, unmarked, free_count, IsInStep, IsMark}
 
 -- marks
 
@@ -100,3 +103,26 @@ module _ (text : List ℕ) (table : Table) (line : ℕ) where
       turned stack f busy (omega arith) ∙ ap (λ m. pending m text table line busy (f ∷ reverse stack)) s
       ∙ pending_replaced depth busy f g n (reverse stack) t ts k e r d o free list mark
       ∙ ap (λ es. Replaced line ∷ es) (sym (deeper stack g n (set busy k true) depth s))
+
+unmarked_length : (busy : List Bool) (d : Option ℕ) → length (unmarked busy d) ≡ length busy
+unmarked_length busy None = refl
+unmarked_length busy (Some k) = length-set busy k false
+
+unmarked_free : (busy : List Bool) (d : Option ℕ) → free_count (unmarked busy d) ≤ free_count busy + 1
+unmarked_free busy None = omega arith
+unmarked_free busy (Some k) = one_more busy k
+
+pub in_step_done : (size : ℕ) (busy new : List Bool) (f : Frame) (stack : List Frame) → new ≡ unmarked busy f.definition → IsInStep size busy (f ∷ stack) → IsInStep size new stack
+in_step_done size busy new f stack e s = subst (λ b. IsInStep size b stack) (sym e) (unmarked_length busy f.definition ∙ s.0, omega (arith, unmarked_free busy f.definition, s.1))
+
+pub in_step_replaced : (size : ℕ) (busy : List Bool) (f g n : Frame) (stack : List Frame) (k : ℕ) → k < length busy → get_or busy k false ≡ false → IsInStep size busy (f ∷ stack) → IsInStep size (set busy k true) ((stack ++ g ∷ []) ++ n ∷ [])
+in_step_replaced size busy f g n stack k h e s = (length-set busy k true ∙ s.0, omega (arith, one_less busy k h e, s.1, length-append (stack ++ g ∷ []) (n ∷ []), length-append stack (g ∷ [])))
+
+pub marks_two : (size : ℕ) (stack : List Frame) (g n : Frame) → All (IsMark size) stack → IsMark size g → IsMark size n → All (IsMark size) ((stack ++ g ∷ []) ++ n ∷ [])
+marks_two size stack g n a x y = All-push (IsMark size) (stack ++ g ∷ []) n (All-push (IsMark size) stack g a x) y
+
+pub list_of_definition : (ds : List Definition) (k : ℕ) (d : Definition) → k < length ds → (get_or ds k d).list.now ≡ list_at (table_of ds) k
+list_of_definition ds k d h = sym (ap (λ e. e.1) (get_or-map entry_of ds k d ([], []) h))
+
+pub table_length : (ds : List Definition) → length (table_of ds) ≡ length ds
+table_length ds = length-map ds entry_of

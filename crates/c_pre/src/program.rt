@@ -1,5 +1,8 @@
 //! A text's tokens, line by line, and the program that they are.
 
+ghost use Rattle.std.specs.Prelude.{◌≡◌, ◌≤◌, length};
+ghost use Rattle.c_pre.specs.Items.{line_length, first_excluded};
+
 use crate::PreError;
 use crate::directive::{Definition, Line, line_of};
 use crate::replace::{Output, position_of, replace};

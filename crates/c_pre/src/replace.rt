@@ -1,6 +1,6 @@
 //! The replacement of names by what they stand for.
 
-ghost use Rattle.std.specs.Prelude.{◌≡◌, ◌<◌, ◌≤◌, [], ◌∷◌, false, length, replicate, IfSome, OnOk, IfErr, ◌+◌, ◌++◌, ◌*◌, vec_len, All, MatchOption};
+ghost use Rattle.std.specs.Prelude.{◌≡◌, ◌<◌, ◌≤◌, [], ◌∷◌, false, length, replicate, IfSome, OnOk, IfErr, ◌+◌, ◌++◌, ◌*◌, vec_len, All, MatchOption, slice_index_or};
 ghost use Rattle.c_pre.specs.Directive.{position_of, table_of};
 ghost use Rattle.c_pre.specs.declared.PreError.TheVariants.{NoMemory};
 ghost use Rattle.c_pre.specs.Replace.{Left, Replaced, Passes, open_definition, replace, unmarked, waiting, IsInStep, IsMark, Moves};
@@ -78,6 +78,7 @@ fn open_definition(
 ) -> Option<usize>
     requires { length busy.now ≡ length definitions.now }
     ensures value { result ≡ open_definition text.now (table_of definitions.now) busy.now token }
+    ensures is_free { IfSome result (λ k. slice_index_or busy.now k false ≡ false) }
     ensures bound { IfSome result (λ k. k < length definitions.now) }
 {
     if !is_name(token.kind) {
