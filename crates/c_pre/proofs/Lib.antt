@@ -5,3 +5,4 @@ pub mod Tables
 pub mod Waiting
 pub mod Moving
 pub mod Looping
+pub mod Frees

@@ -40,16 +40,18 @@ one_marked : (size : ℕ) (f : Frame) → f.definition ≡ None → All (IsMark 
 one_marked size f d = All-push (IsMark size) [] f (λ k e h. absurd (omega arith)) (nothing_marked size f d)
 
 keeps_one : (text : List ℕ) (ds : List Definition) (line : ℕ) (tokens : List Tok) (start : Output) (f : Frame) → f.rest.now ≡ tokens → f.definition ≡ None → Keeps text ds line tokens start start (replicate (length ds) false) (f ∷ [])
-keeps_one text ds line tokens start f r d =
-    ( (length-replicate (length ds) false, omega (arith, all_free (length ds))), one_marked (length ds) f d
-    , λ es. ap (λ xs. total start (xs ++ es))
-        (ap₂ (λ n ts. replace n text (table_of ds) line (replicate (length ds) false) ts) (sym (table_length ds)) (sym r)
-        ∙ begins text (table_of ds) line (replicate (length ds) false) f) )
+keeps_one text ds line tokens start f r d = (
+  (length-replicate (length ds) false, omega (arith, all_free (length ds))),
+  one_marked (length ds) f d,
+  λ es. ap (λ xs. total start (xs ++ es))
+      (ap₂ (λ n ts. replace n text (table_of ds) line (replicate (length ds) false) ts) (sym (table_length ds)) (sym r)
+      ∙ begins text (table_of ds) line (replicate (length ds) false) f),
+)
 
 pub keeps_first : (text : List ℕ) (ds : List Definition) (line : ℕ) (tokens : List Tok) (start : Output) (busy : List Bool) (f : Frame) (stack : List Frame) → busy ≡ replicate (length ds) false → f.rest.now ≡ tokens → f.definition ≡ None → stack ≡ f ∷ [] → Keeps text ds line tokens start start busy stack
 keeps_first text ds line tokens start busy f stack b r d s =
     subst (λ xs. Keeps text ds line tokens start start busy xs) (sym s)
-      (subst (λ bs. Keeps text ds line tokens start start bs (f ∷ [])) (sym b) (keeps_one text ds line tokens start f r d))
+    (subst (λ bs. Keeps text ds line tokens start start bs (f ∷ [])) (sym b) (keeps_one text ds line tokens start f r d))
 
 pub nothing_waits : (stack : List Frame) → length stack ≡ 0 → stack ≡ []
 nothing_waits [] h = refl

@@ -34,7 +34,6 @@ all_free zero = refl
 all_free (suc n) = let r = all_free n in omega arith
 
 module _ (text : List ℕ) (table : Table) (line : ℕ) where
-
   pub nothing_left : (depth : ℕ) (busy : List Bool) → replace depth text table line busy [] ≡ []
   unfolding replace
   nothing_left zero busy = refl
@@ -92,8 +91,8 @@ module _ (text : List ℕ) (table : Table) (line : ℕ) where
   deeper : (stack : List Frame) (g n : Frame) (busy : List Bool) (depth : ℕ) → length table - length stack ≡ suc depth → waiting text table line busy ((stack ++ g ∷ []) ++ n ∷ []) ≡ pending depth text table line busy (n ∷ g ∷ reverse stack)
   deeper stack g n busy depth e =
       ap₂ (λ d xs. pending d text table line busy xs)
-        (let s : length table + 1 - length ((stack ++ g ∷ []) ++ n ∷ []) ≡ depth = omega (arith, length-append (stack ++ g ∷ []) (n ∷ []), length-append stack (g ∷ [])) in s)
-        (reverse-append (stack ++ g ∷ []) (n ∷ []) ∙ ap (λ xs. n ∷ xs) (reverse-append stack (g ∷ [])))
+      (let s : length table + 1 - length ((stack ++ g ∷ []) ++ n ∷ []) ≡ depth = omega (arith, length-append (stack ++ g ∷ []) (n ∷ []), length-append stack (g ∷ [])) in s)
+      (reverse-append (stack ++ g ∷ []) (n ∷ []) ∙ ap (λ xs. n ∷ xs) (reverse-append stack (g ∷ [])))
 
   pub waiting_replaced : (stack : List Frame) (f g n : Frame) (busy : List Bool) (t : Tok) (ts : List Tok) (k : ℕ) → free_count busy + length stack ≤ length table → k < length busy → f.rest.now ≡ t ∷ ts → g.rest.now ≡ ts → g.definition ≡ f.definition → open_definition text table busy t ≡ Some k → get_or busy k false ≡ false → n.rest.now ≡ list_at table k → n.definition ≡ Some k → waiting text table line busy (stack ++ f ∷ []) ≡ Replaced line ∷ waiting text table line (set busy k true) ((stack ++ g ∷ []) ++ n ∷ [])
   waiting_replaced stack f g n busy t ts k h i e r d o free list mark =

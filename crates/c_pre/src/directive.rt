@@ -42,7 +42,13 @@ fn is_header(text: &[u8], tokens: &[Tok]) -> bool
 {
     match tokens {
         [less, _, _, _, greater] => {
-            names_header(word_of(text, Tok { end: greater.end, ..*less }))
+            names_header(word_of(
+                text,
+                Tok {
+                    end: greater.end,
+                    ..*less
+                },
+            ))
         }
         _ => false,
     }
@@ -74,7 +80,10 @@ fn definition_in<'a>(text: &'a [u8], tokens: &'a [Tok]) -> Option<Definition<'a>
         [] => None,
         [name, list @ ..] => {
             if may_be_defined(text, *name) && !has_parameters(*name, list) {
-                Some(Definition { name: word_of(text, *name), list })
+                Some(Definition {
+                    name: word_of(text, *name),
+                    list,
+                })
             } else {
                 None
             }
@@ -92,7 +101,11 @@ pub fn line_of<'a>(text: &'a [u8], tokens: &'a [Tok]) -> Line<'a>
         [token, rest @ ..] => {
             let word = word_of(text, *token);
             if spells(b"include", word) {
-                if is_header(text, rest) { Line::Nothing } else { Line::Wrong }
+                if is_header(text, rest) {
+                    Line::Nothing
+                } else {
+                    Line::Wrong
+                }
             } else if spells(b"define", word) {
                 match definition_in(text, rest) {
                     Some(definition) => Line::Defines(definition),

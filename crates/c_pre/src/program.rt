@@ -1,6 +1,6 @@
 //! A text's tokens, line by line, and the program that they are.
 
-ghost use Rattle.std.specs.Prelude.{◌≡◌, ◌≤◌, length};
+ghost use Rattle.std.specs.Prelude.{◌≡◌, ◌≤◌, ◌++◌, ◌∷◌, [], None, length, OnOk};
 ghost use Rattle.c_pre.specs.Items.{line_length, first_excluded};
 
 use crate::PreError;
@@ -51,7 +51,9 @@ fn define<'a>(
     text: &[u8],
     definitions: &mut Vec<Definition<'a>>,
     definition: Definition<'a>,
-) -> Result<bool, PreError> {
+) -> Result<bool, PreError>
+    ensures { length definitions.old.items ≤ length definitions.new.items }
+{
     match position_of(definitions, definition.name) {
         Some(k) => {
             if !same_words(text, definitions[k].list, definition.list) {
@@ -75,7 +77,9 @@ fn take_line<'a>(
     text: &'a [u8],
     definitions: &mut Vec<Definition<'a>>,
     tokens: &'a [Tok],
-) -> Result<bool, PreError> {
+) -> Result<bool, PreError>
+    ensures { length definitions.old.items ≤ length definitions.new.items }
+{
     match line_of(text, tokens) {
         Line::Nothing => Ok(true),
         Line::Wrong => Ok(false),
@@ -89,7 +93,10 @@ fn take_token<'a>(
     free: &mut Vec<Free<'a>>,
     token: &'a [Tok],
     known: usize,
-) -> Result<(), PreError> {
+) -> Result<(), PreError>
+    ensures kept { OnOk result (free.new.items ≡ free.old.items ++ record { token = token.entry; known = known } ∷ []) }
+    ensures no_word { OnOk result (first_excluded text.now token.entry.now ≡ None) }
+{
     if let Some(line) = first_excluded(text, token) {
         return Err(PreError::Word { line });
     }
@@ -124,10 +131,20 @@ pub fn tokens(alloc: Global, text: &[u8], raw: &[Tok]) -> Result<Vec<Tok>, PreEr
     if let Some(line) = wrong {
         return Err(PreError::Directive { line });
     }
-    let mut output = Output { tokens: Vec::new(alloc), room: LIMIT };
+    let mut output = Output {
+        tokens: Vec::new(alloc),
+        room: LIMIT,
+    };
     for item in &free {
         let line = item.token[0].line;
-        replace(alloc, text, &definitions[..item.known], line, item.token, &mut output)?;
+        replace(
+            alloc,
+            text,
+            &definitions[..item.known],
+            line,
+            item.token,
+            &mut output,
+        )?;
     }
     Ok(output.tokens)
 }

@@ -146,7 +146,10 @@ fn step<'a>(
             Ok(())
         }
         Some((token, rest)) => {
-            let behind_it = Frame { rest, definition: frame.definition };
+            let behind_it = Frame {
+                rest,
+                definition: frame.definition,
+            };
             match open_definition(text, definitions, busy, token) {
                 None => {
                     leave(output, Tok { line, ..token })?;
@@ -157,7 +160,13 @@ fn step<'a>(
                     count_name(output, line)?;
                     busy[k] = true;
                     push(stack, behind_it)?;
-                    push(stack, Frame { rest: definitions[k].list, definition: Some(k) })?;
+                    push(
+                        stack,
+                        Frame {
+                            rest: definitions[k].list,
+                            definition: Some(k),
+                        },
+                    )?;
                     Ok(())
                 }
             }
@@ -182,9 +191,23 @@ pub fn replace<'a>(
         return Err(PreError::NoMemory);
     };
     let mut stack = Vec::new(alloc);
-    push(&mut stack, Frame { rest: tokens, definition: None })?;
+    push(
+        &mut stack,
+        Frame {
+            rest: tokens,
+            definition: None,
+        },
+    )?;
     while let Some(frame) = stack.pop() {
-        step(text, definitions, line, frame, &mut busy, &mut stack, output)?;
+        step(
+            text,
+            definitions,
+            line,
+            frame,
+            &mut busy,
+            &mut stack,
+            output,
+        )?;
     }
     Ok(())
 }

@@ -96,7 +96,10 @@ impl Excluded {
 fn excluded_word(word: &[u8]) -> Option<Excluded>
     ensures { result ≡ excluded_word word.now }
 {
-    EXCLUDED.iter().copied().find(|excluded| excluded.spelling() == word)
+    EXCLUDED
+        .iter()
+        .copied()
+        .find(|excluded| excluded.spelling() == word)
 }
 
 /// Whether it is an excluded word.
