@@ -6,3 +6,5 @@ pub mod Waiting
 pub mod Moving
 pub mod Looping
 pub mod Frees
+pub mod Defining
+pub mod Walking

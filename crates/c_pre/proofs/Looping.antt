@@ -1,5 +1,5 @@
 -- The loop over lists that wait.
-use Rattle.std.proofs.Common.{ℕ, zero, suc, ◌+◌, ◌-◌, ◌*◌, ◌<◌, ◌≤◌, ◌≡◌, Bool, true, false, Option, Some, None, Result, Ok, Err, List, [], ◌∷◌, ◌++◌, length, get_or, replicate, arith, ap, ap₂, sym, ◌∙◌, subst, refl, append-nil, length-append, reverse}
+use Rattle.std.proofs.Common.{ℕ, ◌+◌, ◌-◌, ◌<◌, ◌≡◌, Bool, false, None, Err, List, [], ◌∷◌, ◌++◌, length, replicate, arith, ap, ap₂, sym, ◌∙◌, subst, refl, append-nil, length-append}
 use Rattle.std.specs.Prelude.{All, IfSome}
 use Rattle.std.proofs.lemmas.List.Elements.{All-push}
 use Rattle.std.proofs.lemmas.List.{length-replicate}
@@ -10,7 +10,7 @@ use Rattle.c_pre.specs.declared.replace.Output.{Output}
 use Rattle.c_pre.specs.declared.replace.Frame.{Frame}
 use Rattle.c_pre.specs.declared.directive.Definition.{Definition}
 use Rattle.c_pre.specs.Directive.{Table, table_of}
-use Rattle.c_pre.specs.Replace.{Event, Unless, total, replace, pending, waiting, unmarked, free_count, IsInStep, IsMark, Moves, Passes}
+use Rattle.c_pre.specs.Replace.{Event, total, replace, pending, waiting, IsInStep, IsMark, Moves, Passes}
 use Rattle.c_pre.proofs.Waiting.{all_free, table_length}
 
 -- what becomes of `made`, and of `left` after it was begun, is the same

@@ -1,10 +1,9 @@
 -- What one step does to the result.
-use Rattle.std.proofs.Common.{ℕ, ◌+◌, ◌≡◌, Bool, Result, Ok, Err, List, [], ◌∷◌, ◌++◌, ap, sym, ◌∙◌, refl}
-use Rattle.c_token.specs.declared.token.Tok.{Tok}
+use Rattle.std.proofs.Common.{◌≡◌, Err, List, [], ◌∷◌, ◌++◌, ap, ◌∙◌}
 use Rattle.c_pre.specs.declared.PreError.{PreError}
 use Rattle.c_pre.specs.declared.PreError.TheVariants as error
 use Rattle.c_pre.specs.declared.replace.Output.{Output}
-use Rattle.c_pre.specs.Replace.{Event, Passes, Moves, Unless, total}
+use Rattle.c_pre.specs.Replace.{Event, Passes, Moves, total}
 
 -- nothing was taken
 pub moves_still : (old : Output) (before after : List Event) → before ≡ after → (es : List Event) → total old (before ++ es) ≡ total old (after ++ es)

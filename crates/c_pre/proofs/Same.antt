@@ -1,8 +1,7 @@
 -- The loop that compares two lists of tokens.
-use Rattle.std.proofs.Common.{ℕ, suc, zero, ◌+◌, ◌<◌, ◌≤◌, ◌≡◌, Bool, true, false, List, [], ◌∷◌, length, drop, get_or, arith, ap, ap₂, sym, ◌∙◌, refl, drop-cons, add-one}
+use Rattle.std.proofs.Common.{ℕ, suc, ◌+◌, ◌<◌, ◌≤◌, ◌≡◌, Bool, true, false, List, [], ◌∷◌, length, drop, get_or, arith, ap, ap₂, sym, ◌∙◌, refl, drop-cons, add-one}
 use Rattle.std.specs.Prelude.{◌&&◌}
 use Rattle.std.specs.Str.{bytes_eq}
-use Rattle.std.specs.Cmp.Lexicographic.{pointwise}
 use Rattle.std.proofs.lemmas.List.{drop_all}
 use Rattle.c_token.specs.declared.token.Tok.{Tok}
 use Rattle.c_pre.specs.Words.{word_of, same_words}

@@ -1,5 +1,5 @@
 -- One step of the replacement: its effect on what is left.
-use Rattle.std.proofs.Common.{ℕ, zero, suc, ◌+◌, ◌-◌, ◌<◌, ◌≤◌, ◌≡◌, Bool, true, false, Result, Ok, Err, List, [], ◌∷◌, ◌++◌, length, arith, ap, ap₂, sym, ◌∙◌, subst, refl, append_assoc}
+use Rattle.std.proofs.Common.{ℕ, suc, ◌+◌, ◌≡◌, Result, Ok, Err, List, [], ◌∷◌, ◌++◌, arith, ap, sym, ◌∙◌, refl, append_assoc}
 use Rattle.c_token.specs.declared.token.Tok.{Tok}
 use Rattle.c_pre.specs.declared.PreError.{PreError}
 use Rattle.c_pre.specs.declared.PreError.TheVariants as error

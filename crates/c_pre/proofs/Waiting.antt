@@ -1,14 +1,13 @@
 -- Lists that wait for their replacement: what the three steps of the loop do to them.
-use Rattle.std.proofs.Common.{ℕ, zero, suc, ◌+◌, ◌-◌, ◌<◌, ◌≤◌, ◌≡◌, Bool, true, false, cond, Option, Some, None, List, [], ◌∷◌, ◌++◌, length, drop, get_or, set, map, replicate, arith, ap, ap₂, sym, ◌∙◌, subst, refl, append_assoc, append-nil, length-append, reverse}
+use Rattle.std.proofs.Common.{ℕ, zero, suc, ◌+◌, ◌-◌, ◌<◌, ◌≤◌, ◌≡◌, Bool, true, false, Option, Some, None, List, [], ◌∷◌, ◌++◌, length, get_or, set, replicate, arith, ap, ap₂, sym, ◌∙◌, subst, refl, append_assoc, length-append, reverse}
 use Rattle.std.proofs.lemmas.List.{reverse-append, get_or-map, length-set, length-map}
-use Rattle.std.specs.List.{flat_map}
 use Rattle.c_token.specs.declared.token.Tok.{Tok}
 use Rattle.c_pre.specs.declared.replace.Frame.{Frame}
 use Rattle.c_pre.specs.declared.directive.Definition.{Definition}
 use Rattle.c_pre.specs.Directive.{Table, table_of, entry_of}
 use Rattle.std.specs.Prelude.{All}
 use Rattle.std.proofs.lemmas.List.Elements.{All-push}
-use Rattle.c_pre.specs.Replace.{Event, Left, Replaced, at_line, open_definition, list_at, replace_one, replace, pending, waiting, unmarked, free_count, IsInStep, IsMark}
+use Rattle.c_pre.specs.Replace.{Left, Replaced, at_line, open_definition, list_at, replace_one, replace, pending, waiting, unmarked, free_count, IsInStep, IsMark}
 
 -- marks
 

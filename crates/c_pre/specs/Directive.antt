@@ -1,13 +1,13 @@
 -- The directives that the language has (ISO/IEC 9899:1990, 6.8, in a small part): a lone `#`,
 -- `#include` of one of three headers, and `#define` of a name without parameters.
-use Rattle.std.specs.Prelude.{ℕ, Bool, true, false, ◌&&◌, ◌||◌, not, ◌==◌, if◌then◌else◌, List, [], ◌∷◌, ◌++◌, length, take, drop, codes, slice_range, Option, Some, None, map, ◌≡◌}
-use Rattle.std.specs.List.{position_from, prefix_len}
+use Rattle.std.specs.Prelude.{ℕ, Bool, true, false, ◌&&◌, not, ◌==◌, if◌then◌else◌, List, [], ◌∷◌, codes, Option, Some, None, map, ◌≡◌}
+use Rattle.std.specs.List.{position_from}
 use Rattle.std.specs.Str.{bytes_eq}
 use Rattle.c_token.specs.declared.token.Tok.{Tok}
 use Rattle.c_pre.specs.declared.directive.Definition.{Definition}
 use Rattle.c_pre.specs.declared.directive.Line.{Line}
 use Rattle.c_pre.specs.declared.directive.Line.TheVariants as line
-use Rattle.c_pre.specs.Words.{word_of, is_excluded, is_name, is_opening, same_words}
+use Rattle.c_pre.specs.Words.{word_of, is_excluded, is_name, is_opening}
 
 -- the definitions so far, in order: each name's bytes with its list of tokens
 abbrev pub Table : Type 0

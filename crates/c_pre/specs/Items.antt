@@ -1,17 +1,20 @@
 -- A text's tokens, line by line: directives, and tokens outside them.
-use Rattle.std.specs.Prelude.{ℕ, zero, suc, Bool, true, false, not, if◌then◌else◌, List, [], ◌∷◌, ◌++◌, length, take, Option, Some, None, Result, Ok, Err, slice_index_or}
+use Rattle.std.specs.Prelude.{ℕ, zero, suc, Bool, true, false, not, if◌then◌else◌, List, [], ◌∷◌, ◌++◌, take, Option, Some, None, Result, Ok, Err, map, ◌≡◌}
+use Rattle.std.specs.declared.vec.Vec.{Vec}
+use Rattle.std.specs.declared.alloc.Global.{Global}
+use Rattle.c_pre.specs.declared.program.Free.{Free}
 use Rattle.std.specs.List.{flat_map, prefix_len}
 use Rattle.c_token.specs.declared.token.Tok.{Tok}
 use Rattle.c_pre.specs.declared.PreError.{PreError}
 use Rattle.c_pre.specs.declared.PreError.TheVariants as error
-use Rattle.c_pre.specs.Words.{word_of, is_excluded, is_hash, same_words}
+use Rattle.c_pre.specs.Words.{is_excluded, is_hash, same_words}
 use Rattle.c_pre.specs.Directive.{Table, Said, Nothing, Defines, Wrong, position_of, line_of}
 use Rattle.c_pre.specs.Replace.{events_of, limited, list_at}
 
 -- A token outside directives with the definitions before it, the list of a good definition, or a line
 -- with a bad directive.
 pub data Item : Type 0 where
-  Free : Table → Tok → Item
+  Outside : Table → Tok → Item
   List_of : List Tok → Item
   Bad : ℕ → Item
 
@@ -41,7 +44,7 @@ items text [] passed table = []
 items text (t ∷ ts) (suc passed) table = items text ts passed table
 items text (t ∷ ts) zero table =
     if is_hash t.kind then after_line text (items text ts (line_length ts)) table t.line (line_of text (take (line_length ts) ts))
-    else Free table t ∷ items text ts zero table
+    else Outside table t ∷ items text ts zero table
 
 -- the line of the first excluded word, outside directives or in the list of a good definition
 abbrev pub first_excluded : List ℕ → List Tok → Option ℕ
@@ -54,19 +57,19 @@ or_else None later = later
 
 unfoldable pub first_word : List ℕ → List Item → Option ℕ
 first_word text [] = None
-first_word text (Free table t ∷ is) = or_else (first_excluded text (t ∷ [])) (first_word text is)
+first_word text (Outside table t ∷ is) = or_else (first_excluded text (t ∷ [])) (first_word text is)
 first_word text (List_of list ∷ is) = or_else (first_excluded text list) (first_word text is)
 first_word text (Bad line ∷ is) = first_word text is
 
 unfoldable pub first_bad : List Item → Option ℕ
 first_bad [] = None
-first_bad (Free table t ∷ is) = first_bad is
+first_bad (Outside table t ∷ is) = first_bad is
 first_bad (List_of list ∷ is) = first_bad is
 first_bad (Bad line ∷ is) = Some line
 
-unfoldable pub free_tokens : List Item → List (Table × Tok)
+unfoldable pub free_tokens : List Item → List (Table × ℕ × List Tok)
 free_tokens [] = []
-free_tokens (Free table t ∷ is) = (table, t) ∷ free_tokens is
+free_tokens (Outside table t ∷ is) = (table, t.line, t ∷ []) ∷ free_tokens is
 free_tokens (List_of list ∷ is) = free_tokens is
 free_tokens (Bad line ∷ is) = free_tokens is
 
@@ -79,5 +82,54 @@ judged None None tokens = tokens
 -- The tokens of a program. The tokens left and the names replaced may be 262,144 together.
 abbrev pub program_of : List ℕ → List Tok → Result (List Tok) PreError
 program_of text raw =
-    let is = items text raw zero [] in
+    let is = items text raw 0 [] in
     judged (first_word text is) (first_bad is) (limited 262144 (flat_map (events_of text) (free_tokens is)))
+
+-- What the code keeps while it goes over the tokens.
+
+-- the tokens outside directives so far, each with how many definitions stand before it
+abbrev pub free_view : Table → List Free → List (Table × ℕ × List Tok)
+free_view table fs = map (λ f. (take f.known table, f.line, f.token.now)) fs
+
+-- What adding a definition does to the table.
+abbrev pub Adds : List ℕ → List ℕ → List Tok → Table → Table → Result Bool PreError → Type 0
+Adds text name list old new (Ok true) = defined text old name list (position_of old name) ≡ Some new
+Adds text name list old new (Ok false) = (defined text old name list (position_of old name) ≡ None) × (new ≡ old)
+Adds text name list old new (Err e) = e ≡ error.NoMemory
+
+-- What a directive line that was taken does, whatever line it is and whatever follows it: a good one
+-- leaves what follows it; a bad one changes no table.
+abbrev pub Takes : List ℕ → Said → Table → Table → Result Bool PreError → Type 0
+Takes text said old new (Ok true) = (again : Table → List Item) (line : ℕ) →
+    (first_word text (after_line text again old line said) ≡ first_word text (again new))
+    × (first_bad (after_line text again old line said) ≡ first_bad (again new))
+    × (free_tokens (after_line text again old line said) ≡ free_tokens (again new))
+Takes text said old new (Ok false) = (again : Table → List Item) (line : ℕ) →
+    (after_line text again old line said ≡ Bad line ∷ again new)
+Takes text said old new (Err error.NoMemory) = Unit {0}
+Takes text said old new (Err (error.Word l)) = (again : Table → List Item) (line : ℕ) →
+    (first_word text (after_line text again old line said) ≡ Some l)
+Takes text said old new (Err (error.Directive l)) = ⊥
+Takes text said old new (Err (error.Tokens l)) = ⊥
+
+-- the whole list seen from a place inside it
+abbrev pub Walks : List ℕ → List Item → Table → List Free → Option ℕ → List Item → Type 0
+Walks text all table free wrong rest =
+    (first_word text all ≡ first_word text rest)
+    × (first_bad all ≡ or_else wrong (first_bad rest))
+    × (free_tokens all ≡ free_view table free ++ free_tokens rest)
+
+-- what a function gives, unless memory runs out
+abbrev pub Gives : Result (Vec Tok Global) PreError → Result (List Tok) PreError → Type 0
+Gives (Ok v) tokens = tokens ≡ Ok v.items
+Gives (Err error.NoMemory) tokens = Unit {0}
+Gives (Err (error.Word l)) tokens = tokens ≡ Err (error.Word l)
+Gives (Err (error.Directive l)) tokens = tokens ≡ Err (error.Directive l)
+Gives (Err (error.Tokens l)) tokens = tokens ≡ Err (error.Tokens l)
+
+-- the error of an excluded word on a line, if it isn't want of memory
+abbrev pub IsWordOf : PreError → Option ℕ → Type 0
+IsWordOf error.NoMemory line = Unit {0}
+IsWordOf (error.Word l) line = line ≡ Some l
+IsWordOf (error.Directive l) line = ⊥
+IsWordOf (error.Tokens l) line = ⊥

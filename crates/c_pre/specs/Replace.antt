@@ -1,13 +1,13 @@
 -- Names and what they stand for (ISO/IEC 9899:1990, 6.8.3, for names without parameters).
-use Rattle.std.specs.Prelude.{ℕ, zero, suc, ◌+◌, ◌-◌, Bool, true, false, ◌&&◌, not, if◌then◌else◌, List, [], ◌∷◌, ◌++◌, length, take, drop, map, replicate, Option, Some, None, Result, Ok, Err, slice_index_or, slice_set, reverse, IfSome, ◌≡◌, ◌<◌, ◌≤◌}
-use Rattle.std.specs.List.{flat_map, prefix_len}
+use Rattle.std.specs.Prelude.{ℕ, zero, suc, ◌+◌, ◌-◌, Bool, true, false, if◌then◌else◌, List, [], ◌∷◌, ◌++◌, length, map, replicate, Option, Some, None, Result, Ok, Err, slice_index_or, slice_set, reverse, IfSome, ◌≡◌, ◌<◌, ◌≤◌}
+use Rattle.std.specs.List.{flat_map}
 use Rattle.c_token.specs.declared.token.Tok.{Tok}
 use Rattle.c_pre.specs.declared.PreError.{PreError}
 use Rattle.c_pre.specs.declared.PreError.TheVariants as error
 use Rattle.c_pre.specs.declared.replace.Output.{Output}
 use Rattle.c_pre.specs.declared.replace.Frame.{Frame}
-use Rattle.c_pre.specs.Words.{word_of, is_excluded, is_name, is_hash, same_words}
-use Rattle.c_pre.specs.Directive.{Table, Said, Nothing, Defines, Wrong, position_of, line_of}
+use Rattle.c_pre.specs.Words.{word_of, is_name}
+use Rattle.c_pre.specs.Directive.{Table, position_of}
 
 -- A step of the replacement: a token is left, or a name on a line is replaced.
 pub data Event : Type 0 where
@@ -43,9 +43,9 @@ replace zero text table line busy ts = map (λ t. Left (at_line line t)) ts
 replace (suc depth) text table line busy ts =
     flat_map (λ t. replace_one (replace depth text table line) table busy line t (open_definition text table busy t)) ts
 
--- what becomes of a token of the text
-abbrev pub events_of : List ℕ → Table × Tok → List Event
-events_of text x = replace (length x.0) text x.0 x.1.line (replicate (length x.0) false) (x.1 ∷ [])
+-- what becomes of a list that stands on a line of the text, with the definitions before it
+abbrev pub events_of : List ℕ → Table × ℕ × List Tok → List Event
+events_of text x = replace (length x.0) text x.0 x.1 (replicate (length x.0) false) x.2
 
 abbrev pub with_token : Tok → Result (List Tok) PreError → Result (List Tok) PreError
 with_token t (Ok ts) = Ok (t ∷ ts)

@@ -1,7 +1,8 @@
 //! A text's tokens, line by line, and the program that they are.
 
-ghost use Rattle.std.specs.Prelude.{◌≡◌, ◌≤◌, ◌++◌, ◌∷◌, [], None, length, OnOk};
-ghost use Rattle.c_pre.specs.Items.{line_length, first_excluded};
+ghost use Rattle.std.specs.Prelude.{◌≡◌, ◌≤◌, ◌++◌, ◌∷◌, [], None, length, take, OnOk, IfErr};
+ghost use Rattle.c_pre.specs.Items.{line_length, first_excluded, Adds, Takes, IsWordOf};
+ghost use Rattle.c_pre.specs.Directive.{Defines, table_of, line_of};
 
 use crate::PreError;
 use crate::directive::{Definition, Line, line_of};
@@ -13,10 +14,11 @@ use std::alloc::Global;
 // How many tokens left and names replaced a program may have together.
 const LIMIT: usize = 262144;
 
-/// A token outside directives, alone in its list, and how many definitions stand before it.
+/// A token outside directives, alone in its list, its line, and how many definitions stand before it.
 #[derive(Clone, Copy)]
 pub struct Free<'a> {
     pub token: &'a [Tok],
+    pub line: u32,
     pub known: usize,
 }
 
@@ -45,26 +47,45 @@ fn first_excluded(text: &[u8], tokens: &[Tok]) -> Option<u32>
     None
 }
 
-// Takes a definition, and says whether it is a good one: a name that was defined before has to have
-// the same tokens.
+// Adds a definition, and says whether it is a good one: a name that was defined before has to have the
+// same tokens.
+#[tactic(auto, using(crate::proofs::Defining::adds_new, crate::proofs::Defining::same_name, crate::proofs::Defining::other_name, crate::proofs::Waiting::list_of_definition))]
+fn add<'a>(
+    text: &[u8],
+    definitions: &mut Vec<Definition<'a>>,
+    definition: Definition<'a>,
+) -> Result<bool, PreError>
+    ensures grows { length definitions.old.items ≤ length definitions.new.items }
+    ensures keeps { take (length definitions.old.items) definitions.new.items ≡ definitions.old.items }
+    ensures adds { Adds text.now definition.entry.name.now definition.entry.list.now
+        (table_of definitions.old.items) (table_of definitions.new.items) result }
+{
+    match position_of(definitions, definition.name) {
+        Some(k) => Ok(same_words(text, definitions[k].list, definition.list)),
+        None => {
+            if definitions.push(definition).is_err() {
+                return Err(PreError::NoMemory);
+            }
+            Ok(true)
+        }
+    }
+}
+
+// Takes a definition, and says whether it is a good one.
+#[tactic(auto, using(crate::proofs::Defining::takes_good, crate::proofs::Defining::takes_word, crate::proofs::Defining::takes_bad))]
 fn define<'a>(
     text: &[u8],
     definitions: &mut Vec<Definition<'a>>,
     definition: Definition<'a>,
 ) -> Result<bool, PreError>
-    ensures { length definitions.old.items ≤ length definitions.new.items }
+    ensures grows { length definitions.old.items ≤ length definitions.new.items }
+    ensures keeps { take (length definitions.old.items) definitions.new.items ≡ definitions.old.items }
+    ensures takes { Takes text.now (Defines definition.entry.name.now definition.entry.list.now)
+        (table_of definitions.old.items) (table_of definitions.new.items) result }
 {
-    match position_of(definitions, definition.name) {
-        Some(k) => {
-            if !same_words(text, definitions[k].list, definition.list) {
-                return Ok(false);
-            }
-        }
-        None => {
-            if definitions.push(definition).is_err() {
-                return Err(PreError::NoMemory);
-            }
-        }
+    let is_good = add(text, definitions, definition)?;
+    if !is_good {
+        return Ok(false);
     }
     match first_excluded(text, definition.list) {
         Some(line) => Err(PreError::Word { line }),
@@ -73,12 +94,16 @@ fn define<'a>(
 }
 
 // Takes a directive line, and says whether it is a good one.
+#[tactic(auto, using(crate::proofs::Defining::takes_nothing, crate::proofs::Defining::takes_wrong))]
 fn take_line<'a>(
     text: &'a [u8],
     definitions: &mut Vec<Definition<'a>>,
     tokens: &'a [Tok],
 ) -> Result<bool, PreError>
-    ensures { length definitions.old.items ≤ length definitions.new.items }
+    ensures grows { length definitions.old.items ≤ length definitions.new.items }
+    ensures keeps { take (length definitions.old.items) definitions.new.items ≡ definitions.old.items }
+    ensures takes { Takes text.now (line_of text.now tokens.now)
+        (table_of definitions.old.items) (table_of definitions.new.items) result }
 {
     match line_of(text, tokens) {
         Line::Nothing => Ok(true),
@@ -92,15 +117,17 @@ fn take_token<'a>(
     text: &[u8],
     free: &mut Vec<Free<'a>>,
     token: &'a [Tok],
+    line: u32,
     known: usize,
 ) -> Result<(), PreError>
-    ensures kept { OnOk result (free.new.items ≡ free.old.items ++ record { token = token.entry; known = known } ∷ []) }
+    ensures kept { OnOk result (free.new.items ≡ free.old.items ++ record { token = token.entry; line = line; known = known } ∷ []) }
     ensures no_word { OnOk result (first_excluded text.now token.entry.now ≡ None) }
+    ensures word { IfErr result (λ e. IsWordOf e (first_excluded text.now token.entry.now)) }
 {
     if let Some(line) = first_excluded(text, token) {
         return Err(PreError::Word { line });
     }
-    if free.push(Free { token, known }).is_err() {
+    if free.push(Free { token, line, known }).is_err() {
         return Err(PreError::NoMemory);
     }
     Ok(())
@@ -124,7 +151,13 @@ pub fn tokens(alloc: Global, text: &[u8], raw: &[Tok]) -> Result<Vec<Tok>, PreEr
             }
             at += 1 + count;
         } else {
-            take_token(text, &mut free, &raw[at..at + 1], definitions.len())?;
+            take_token(
+                text,
+                &mut free,
+                &raw[at..at + 1],
+                token.line,
+                definitions.len(),
+            )?;
             at += 1;
         }
     }
@@ -136,12 +169,11 @@ pub fn tokens(alloc: Global, text: &[u8], raw: &[Tok]) -> Result<Vec<Tok>, PreEr
         room: LIMIT,
     };
     for item in &free {
-        let line = item.token[0].line;
         replace(
             alloc,
             text,
             &definitions[..item.known],
-            line,
+            item.line,
             item.token,
             &mut output,
         )?;

@@ -101,6 +101,7 @@ fn a_program_has_262144_steps(rt: HostRuntime) -> Result<(), Fail> {
     let text =
         b"#define a0 ;\n#define a1 a0 a0\n#define a2 a1 a1\n#define a3 a2 a2\n#define a4 a3 a3\n#define a5 a4 a4\n#define a6 a5 a5\n#define a7 a6 a6\n#define a8 a7 a7\n#define a9 a8 a8\n#define a10 a9 a9\n#define a11 a10 a10\n#define a12 a11 a11\n#define a13 a12 a12\n#define a14 a13 a13\n#define a15 a14 a14\n#define a16 a15 a15\n#define a17 a16 a16\nvoid main(void){a16}\na17";
     let list = raw(rt.alloc(), text)?;
+    assert!(rt; list.len() > 0);
     let shorter = list.len() - 1;
     let kept = tokens(rt.alloc(), text, &list[..shorter])?;
     assert_eq!(rt; kept.len(), 65543);

@@ -5,7 +5,7 @@ use Rattle.c_pre.proofs.program.tokens.Goals as goal
 pub loop-at-preserved-then-is_hash : goal.loop-at-preserved-then-is_hash
 loop-at-preserved-then-is_hash c = (
   line_fits c.args.raw.now c.loop-at.at c.line_length-count.result c.loop-at-test.true c.line_length-count.ensures.bound,
-  more_known c.loop-at.free.items (length c.loop-at.definitions.items) _ c.loop-at.invariant.1 c.take_line.ensures,
+  more_known c.loop-at.free.items (length c.loop-at.definitions.items) _ c.loop-at.invariant.1 c.take_line.ensures.grows,
 )
 
 pub loop-at-preserved : goal.loop-at-preserved

@@ -1,4 +1,4 @@
-use Rattle.std.proofs.Common.{◌∙◌, ap, sym, refl, ◌∷◌, ◌++◌, [], arith, length, List, None}
+use Rattle.std.proofs.Common.{◌∙◌, ap, refl, ◌∷◌, ◌++◌, [], arith, length, List, None}
 use Rattle.std.proofs.lemmas.List.Elements.{All-pop}
 use Rattle.c_pre.specs.declared.replace.Frame.{Frame}
 use Rattle.c_pre.specs.Replace.{IsMark}
