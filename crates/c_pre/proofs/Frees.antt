@@ -4,10 +4,7 @@ use Rattle.std.specs.Prelude.{All}
 use Rattle.std.proofs.lemmas.List.Elements.{All-push}
 use Rattle.c_token.specs.declared.token.Tok.{Tok}
 use Rattle.c_pre.specs.declared.program.Free.{Free}
-
--- it is one token, and its definitions are there
-abbrev pub IsFree : ℕ → Free → Type 0
-IsFree count f = (length f.token.now ≡ 1) × (f.known ≤ count)
+use Rattle.c_pre.specs.Items.{IsFree}
 
 pub more_known : (fs : List Free) (count more : ℕ) → All (IsFree count) fs → count ≤ more → All (IsFree more) fs
 more_known fs count more a h = λ k d i. ((a k d i).0, omega (arith, (a k d i).1, h))

@@ -3,12 +3,13 @@ use Rattle.std.proofs.Common.{ℕ, zero, suc, ◌+◌, ◌-◌, ◌<◌, ◌≤�
 use Rattle.std.specs.Prelude.{All}
 use Rattle.std.proofs.lemmas.List.{drop_all, drop-drop, take_all, map-append, length-map}
 use Rattle.c_token.specs.declared.token.Tok.{Tok}
+use Rattle.c_pre.specs.declared.PreError.{PreError}
 use Rattle.c_pre.specs.declared.PreError.TheVariants as error
 use Rattle.c_pre.specs.declared.program.Free.{Free}
 use Rattle.c_pre.specs.declared.directive.Definition.{Definition}
 use Rattle.c_pre.specs.Words.{is_hash}
 use Rattle.c_pre.specs.Directive.{Table, Said, table_of, entry_of, line_of}
-use Rattle.c_pre.specs.Items.{Item, Outside, List_of, Bad, after_line, line_length, items, first_excluded, or_else, first_word, first_bad, free_tokens, free_view, Takes, Walks}
+use Rattle.c_pre.specs.Items.{Item, Outside, List_of, Bad, after_line, line_length, items, first_excluded, or_else, first_word, first_bad, free_tokens, free_view, Takes, Walks, IsWordOf, IsFree}
 
 -- a front of a longer front
 take_shorter : {A : Type 0} (k n : ℕ) (xs : List A) → k ≤ n → take k (take n xs) ≡ take k xs
@@ -150,3 +151,39 @@ unfolding items
 walks_end text raw all table fs wrong at w h =
     let e = drop_all at raw h in
     subst (λ (xs : List Tok). Walks text all table fs wrong (items text xs 0 table)) e w
+
+tail_whole : (raw : List Tok) (n : ℕ) → take (length raw - n) (drop n raw) ≡ drop n raw
+tail_whole raw n = take_all (length raw - n) (drop n raw) (omega (arith, length-drop n raw))
+
+-- what the code says of a line, for the lemmas above
+counted : (raw : List Tok) (at n : ℕ) → n ≡ line_length (take (length raw - (at + 1)) (drop (at + 1) raw)) → n ≡ line_length (drop (at + 1) raw)
+counted raw at n e = e ∙ ap line_length (tail_whole raw (at + 1))
+
+line_taken : (text : List ℕ) (raw : List Tok) (at n : ℕ) (old new : Table) (r : Result Bool PreError) → Takes text (line_of text (take (at + 1 + n - (at + 1)) (drop (at + 1) raw))) old new r → Takes text (line_of text (take n (drop (at + 1) raw))) old new r
+line_taken text raw at n old new r t = subst (λ (k : ℕ). Takes text (line_of text (take k (drop (at + 1) raw))) old new r) (omega arith) t
+
+pub walks_line : (text : List ℕ) (raw : List Tok) (all : List Item) (old new : Table) (fs : List Free) (wrong later : Option ℕ) (at n : ℕ) (d : Tok) (b : Bool) → Walks text all old fs wrong (items text (drop at raw) 0 old) → at < length raw → is_hash (get_or raw at d).kind ≡ true → n ≡ line_length (take (length raw - (at + 1)) (drop (at + 1) raw)) → Takes text (line_of text (take (at + 1 + n - (at + 1)) (drop (at + 1) raw))) old new (Ok b) → free_view old fs ≡ free_view new fs → later ≡ cond b wrong (or_else wrong (Some (get_or raw at d).line)) → Walks text all new fs later (items text (drop (at + (1 + n)) raw) 0 new)
+walks_line text raw all old new fs wrong later at n d true w h k e t view l =
+    subst (λ (o : Option ℕ). Walks text all new fs o (items text (drop (at + (1 + n)) raw) 0 new)) (sym l) (walks_good text raw all old new fs wrong at n d w h k (counted raw at n e) (line_taken text raw at n old new (Ok true) t) view)
+walks_line text raw all old new fs wrong later at n d false w h k e t view l =
+    subst (λ (o : Option ℕ). Walks text all new fs o (items text (drop (at + (1 + n)) raw) 0 new)) (sym l) (walks_bad text raw all old new fs wrong at n d w h k (counted raw at n e) (line_taken text raw at n old new (Ok false) t) view)
+
+pub walks_line_error : (text : List ℕ) (raw : List Tok) (all : List Item) (old new : Table) (fs : List Free) (wrong : Option ℕ) (at n : ℕ) (d : Tok) (x : PreError) → Walks text all old fs wrong (items text (drop at raw) 0 old) → at < length raw → is_hash (get_or raw at d).kind ≡ true → n ≡ line_length (take (length raw - (at + 1)) (drop (at + 1) raw)) → Takes text (line_of text (take (at + 1 + n - (at + 1)) (drop (at + 1) raw))) old new (Err x) → IsWordOf x (first_word text all)
+walks_line_error text raw all old new fs wrong at n d error.NoMemory w h k e t = tt
+walks_line_error text raw all old new fs wrong at n d (error.Word l) w h k e t = walks_word text raw all old new fs wrong at n d l w h k (counted raw at n e) (line_taken text raw at n old new (Err (error.Word l)) t)
+walks_line_error text raw all old new fs wrong at n d (error.Directive l) w h k e t = t
+walks_line_error text raw all old new fs wrong at n d (error.Tokens l) w h k e t = t
+
+pub walks_token_error : (text : List ℕ) (raw : List Tok) (all : List Item) (table : Table) (fs : List Free) (wrong : Option ℕ) (at : ℕ) (d : Tok) (x : PreError) → Walks text all table fs wrong (items text (drop at raw) 0 table) → at < length raw → is_hash (get_or raw at d).kind ≡ false → IsWordOf x (first_excluded text (take (at + 1 - at) (drop at raw))) → IsWordOf x (first_word text all)
+walks_token_error text raw all table fs wrong at d error.NoMemory w h k e = tt
+walks_token_error text raw all table fs wrong at d (error.Word l) w h k e = walks_outside_word text raw all table fs wrong at d l w h k e
+walks_token_error text raw all table fs wrong at d (error.Directive l) w h k e = e
+walks_token_error text raw all table fs wrong at d (error.Tokens l) w h k e = e
+
+map_front : (n : ℕ) (ds : List Definition) → take n (table_of ds) ≡ table_of (take n ds)
+map_front zero ds = refl
+map_front (suc n) [] = refl
+map_front (suc n) (x ∷ ds) = ap (λ xs. entry_of x ∷ xs) (map_front n ds)
+
+pub view_kept : (fs : List Free) (ds new : List Definition) → take (length ds) new ≡ ds → All (IsFree (length ds)) fs → free_view (table_of ds) fs ≡ free_view (table_of new) fs
+view_kept fs ds new e a = view_grows fs (table_of ds) (table_of new) (length ds) (map_front (length ds) new ∙ ap table_of e) (λ k x h. (a k x h).1)

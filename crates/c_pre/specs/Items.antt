@@ -1,5 +1,5 @@
 -- A text's tokens, line by line: directives, and tokens outside them.
-use Rattle.std.specs.Prelude.{ℕ, zero, suc, Bool, true, false, not, if◌then◌else◌, List, [], ◌∷◌, ◌++◌, take, Option, Some, None, Result, Ok, Err, map, ◌≡◌}
+use Rattle.std.specs.Prelude.{ℕ, zero, suc, Bool, true, false, not, if◌then◌else◌, List, [], ◌∷◌, ◌++◌, length, take, Option, Some, None, Result, Ok, Err, map, ◌≡◌, ◌≤◌}
 use Rattle.std.specs.declared.vec.Vec.{Vec}
 use Rattle.std.specs.declared.alloc.Global.{Global}
 use Rattle.c_pre.specs.declared.program.Free.{Free}
@@ -133,3 +133,7 @@ IsWordOf error.NoMemory line = Unit {0}
 IsWordOf (error.Word l) line = line ≡ Some l
 IsWordOf (error.Directive l) line = ⊥
 IsWordOf (error.Tokens l) line = ⊥
+
+-- it is one token, and its definitions are there
+abbrev pub IsFree : ℕ → Free → Type 0
+IsFree count f = (length f.token.now ≡ 1) × (f.known ≤ count)

@@ -1,7 +1,7 @@
 //! A text's tokens, line by line, and the program that they are.
 
-ghost use Rattle.std.specs.Prelude.{◌≡◌, ◌≤◌, ◌++◌, ◌∷◌, [], None, length, take, OnOk, IfErr};
-ghost use Rattle.c_pre.specs.Items.{line_length, first_excluded, Adds, Takes, IsWordOf};
+ghost use Rattle.std.specs.Prelude.{◌≡◌, ◌≤◌, ◌++◌, ◌∷◌, [], None, Some, length, take, OnOk, IfOk, IfErr, All, if◌then◌else◌};
+ghost use Rattle.c_pre.specs.Items.{line_length, first_excluded, first_word, items, or_else, Adds, Takes, Walks, IsWordOf, IsFree};
 ghost use Rattle.c_pre.specs.Directive.{Defines, table_of, line_of};
 
 use crate::PreError;
@@ -133,10 +133,36 @@ fn take_token<'a>(
     Ok(())
 }
 
-/// The tokens of a program (ISO/IEC 9899:1990, 6.8): those of the text outside directive lines, where
-/// each defined name is replaced. `raw` has the text's tokens, as `c_token::raw` gives them. A token
-/// that came from a name has its own span and that name's line.
-pub fn tokens(alloc: Global, text: &[u8], raw: &[Tok]) -> Result<Vec<Tok>, PreError> {
+/// A text's definitions, its tokens outside directives, and the first line that has a bad directive.
+#[derive(Drop)]
+pub struct Walked<'a> {
+    pub definitions: Vec<Definition<'a>>,
+    pub free: Vec<Free<'a>>,
+    pub wrong: Option<u32>,
+}
+
+// The first bad line, once this line was bad or good.
+fn first_wrong(wrong: Option<u32>, is_good: bool, line: u32) -> Option<u32>
+    ensures { result ≡ (if is_good then wrong else or_else wrong (Some line)) }
+{
+    match wrong {
+        Some(first) => Some(first),
+        None => {
+            if is_good {
+                None
+            } else {
+                Some(line)
+            }
+        }
+    }
+}
+
+// Goes over a text's tokens, line by line.
+fn walk<'a>(alloc: Global, text: &'a [u8], raw: &'a [Tok]) -> Result<Walked<'a>, PreError>
+    ensures walks { IfOk result (λ w. Walks text.now (items text.now raw.now 0 []) (table_of w.definitions.items) w.free.items w.wrong []) }
+    ensures free { IfOk result (λ w. All (IsFree (length w.definitions.items)) w.free.items) }
+    ensures word { IfErr result (λ e. IsWordOf e (first_word text.now (items text.now raw.now 0 []))) }
+{
     let mut definitions: Vec<Definition<'_>> = Vec::new(alloc);
     let mut free: Vec<Free<'_>> = Vec::new(alloc);
     let mut wrong = None;
@@ -146,28 +172,25 @@ pub fn tokens(alloc: Global, text: &[u8], raw: &[Tok]) -> Result<Vec<Tok>, PreEr
         if is_hash(token.kind) {
             let count = line_length(&raw[at + 1..]);
             let is_good = take_line(text, &mut definitions, &raw[at + 1..at + 1 + count])?;
-            if !is_good && wrong.is_none() {
-                wrong = Some(token.line);
-            }
+            wrong = first_wrong(wrong, is_good, token.line);
             at += 1 + count;
         } else {
-            take_token(
-                text,
-                &mut free,
-                &raw[at..at + 1],
-                token.line,
-                definitions.len(),
-            )?;
+            take_token(text, &mut free, &raw[at..at + 1], token.line, definitions.len())?;
             at += 1;
         }
     }
+    Ok(Walked { definitions, free, wrong })
+}
+
+/// The tokens of a program (ISO/IEC 9899:1990, 6.8): those of the text outside directive lines, where
+/// each defined name is replaced. `raw` has the text's tokens, as `c_token::raw` gives them. A token
+/// that came from a name has its own span and that name's line.
+pub fn tokens(alloc: Global, text: &[u8], raw: &[Tok]) -> Result<Vec<Tok>, PreError> {
+    let Walked { definitions, free, wrong } = walk(alloc, text, raw)?;
     if let Some(line) = wrong {
         return Err(PreError::Directive { line });
     }
-    let mut output = Output {
-        tokens: Vec::new(alloc),
-        room: LIMIT,
-    };
+    let mut output = Output { tokens: Vec::new(alloc), room: LIMIT };
     for item in &free {
         replace(
             alloc,
