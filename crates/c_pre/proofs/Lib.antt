@@ -8,3 +8,4 @@ pub mod Looping
 pub mod Frees
 pub mod Defining
 pub mod Walking
+pub mod Finishing

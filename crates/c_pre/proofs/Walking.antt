@@ -180,7 +180,7 @@ walks_token_error text raw all table fs wrong at d (error.Word l) w h k e = walk
 walks_token_error text raw all table fs wrong at d (error.Directive l) w h k e = e
 walks_token_error text raw all table fs wrong at d (error.Tokens l) w h k e = e
 
-map_front : (n : ℕ) (ds : List Definition) → take n (table_of ds) ≡ table_of (take n ds)
+pub map_front : (n : ℕ) (ds : List Definition) → take n (table_of ds) ≡ table_of (take n ds)
 map_front zero ds = refl
 map_front (suc n) [] = refl
 map_front (suc n) (x ∷ ds) = ap (λ xs. entry_of x ∷ xs) (map_front n ds)

@@ -119,13 +119,17 @@ Walks text all table free wrong rest =
     × (first_bad all ≡ or_else wrong (first_bad rest))
     × (free_tokens all ≡ free_view table free ++ free_tokens rest)
 
+-- the error is the answer, if it isn't want of memory
+abbrev pub IsError : PreError → Result (List Tok) PreError → Type 0
+IsError error.NoMemory tokens = Unit {0}
+IsError (error.Word l) tokens = tokens ≡ Err (error.Word l)
+IsError (error.Directive l) tokens = tokens ≡ Err (error.Directive l)
+IsError (error.Tokens l) tokens = tokens ≡ Err (error.Tokens l)
+
 -- what a function gives, unless memory runs out
 abbrev pub Gives : Result (Vec Tok Global) PreError → Result (List Tok) PreError → Type 0
 Gives (Ok v) tokens = tokens ≡ Ok v.items
-Gives (Err error.NoMemory) tokens = Unit {0}
-Gives (Err (error.Word l)) tokens = tokens ≡ Err (error.Word l)
-Gives (Err (error.Directive l)) tokens = tokens ≡ Err (error.Directive l)
-Gives (Err (error.Tokens l)) tokens = tokens ≡ Err (error.Tokens l)
+Gives (Err e) tokens = IsError e tokens
 
 -- the error of an excluded word on a line, if it isn't want of memory
 abbrev pub IsWordOf : PreError → Option ℕ → Type 0

@@ -1,7 +1,7 @@
 //! A text's tokens, line by line, and the program that they are.
 
 ghost use Rattle.std.specs.Prelude.{◌≡◌, ◌≤◌, ◌++◌, ◌∷◌, [], None, Some, length, take, OnOk, IfOk, IfErr, All, if◌then◌else◌};
-ghost use Rattle.c_pre.specs.Items.{line_length, first_excluded, first_word, items, or_else, Adds, Takes, Walks, IsWordOf, IsFree};
+ghost use Rattle.c_pre.specs.Items.{line_length, first_excluded, first_word, items, or_else, Adds, Takes, Walks, IsWordOf, IsFree, Gives, program_of};
 ghost use Rattle.c_pre.specs.Directive.{Defines, table_of, line_of};
 
 use crate::PreError;
@@ -147,13 +147,7 @@ fn first_wrong(wrong: Option<u32>, is_good: bool, line: u32) -> Option<u32>
 {
     match wrong {
         Some(first) => Some(first),
-        None => {
-            if is_good {
-                None
-            } else {
-                Some(line)
-            }
-        }
+        None => { if is_good { None } else { Some(line) } }
     }
 }
 
@@ -175,22 +169,41 @@ fn walk<'a>(alloc: Global, text: &'a [u8], raw: &'a [Tok]) -> Result<Walked<'a>,
             wrong = first_wrong(wrong, is_good, token.line);
             at += 1 + count;
         } else {
-            take_token(text, &mut free, &raw[at..at + 1], token.line, definitions.len())?;
+            take_token(
+                text,
+                &mut free,
+                &raw[at..at + 1],
+                token.line,
+                definitions.len(),
+            )?;
             at += 1;
         }
     }
-    Ok(Walked { definitions, free, wrong })
+    Ok(Walked {
+        definitions,
+        free,
+        wrong,
+    })
 }
 
 /// The tokens of a program (ISO/IEC 9899:1990, 6.8): those of the text outside directive lines, where
 /// each defined name is replaced. `raw` has the text's tokens, as `c_token::raw` gives them. A token
 /// that came from a name has its own span and that name's line.
-pub fn tokens(alloc: Global, text: &[u8], raw: &[Tok]) -> Result<Vec<Tok>, PreError> {
-    let Walked { definitions, free, wrong } = walk(alloc, text, raw)?;
+pub fn tokens(alloc: Global, text: &[u8], raw: &[Tok]) -> Result<Vec<Tok>, PreError>
+    ensures { Gives result (program_of text.now raw.now) }
+{
+    let Walked {
+        definitions,
+        free,
+        wrong,
+    } = walk(alloc, text, raw)?;
     if let Some(line) = wrong {
         return Err(PreError::Directive { line });
     }
-    let mut output = Output { tokens: Vec::new(alloc), room: LIMIT };
+    let mut output = Output {
+        tokens: Vec::new(alloc),
+        room: LIMIT,
+    };
     for item in &free {
         replace(
             alloc,

@@ -1,7 +1,5 @@
-use Rattle.std.proofs.Common.{length}
-use Rattle.std.specs.Prelude.{All}
-use Rattle.c_pre.specs.Items.{IsFree}
+use Rattle.c_pre.proofs.Finishing.{Finishes}
 use Rattle.c_pre.proofs.program.tokens.Given as goal
 
 abbrev pub invariant-loop-item : goal.invariant-loop-item
-invariant-loop-item l = All (IsFree (length l.definitions.items)) l.item-items
+invariant-loop-item l = Finishes l.text l.definitions.items l.item-items l.output l.item-index
