@@ -1,0 +1,4 @@
+pub mod Words
+pub mod Directive
+pub mod Replace
+pub mod Items

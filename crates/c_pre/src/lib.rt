@@ -1,0 +1,30 @@
+// The tokens of a C program: what directives and the replacement of names leave.
+//
+// In: a text and its tokens. Out: the tokens outside directive lines, each defined name replaced by
+// its list, or the first refusal.
+// The promise: the result is the replacement that the definitions before each place say, and an
+// error stands where the first excluded word, the first bad directive or the 262,145th step is.
+#![tactic(auto)]
+
+mod directive;
+mod program;
+mod replace;
+mod words;
+
+pub use program::tokens;
+
+/// Why a text's tokens are no program's.
+#[derive(Clone, Copy, PartialEq, Eq, Debug)]
+pub enum PreError {
+    /// Memory ran out.
+    NoMemory,
+    /// An excluded word stands on this line.
+    Word { line: u32 },
+    /// A line that begins with `#` is no directive of the language.
+    Directive { line: u32 },
+    /// On this line the tokens left and the names replaced come to be over 262,144.
+    Tokens { line: u32 },
+}
+
+#[cfg(test)]
+mod tests;
