@@ -9,3 +9,4 @@ pub mod Command
 pub mod CommandView
 pub mod Outcome
 pub mod Finished
+pub mod MapExample

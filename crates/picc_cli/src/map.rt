@@ -1,6 +1,8 @@
 // The map's text: where main begins and halts, and where its frame stands.
 ghost use Rattle.std.specs.Prelude.{◌≡◌, ◌<◌, ◌++◌, ◌∷◌, ◌/◌, ◌%◌, [], IfOk, OnOk};
 ghost use Rattle.picc_cli.specs.MapText.{address_text, line, map_text as text_of};
+ghost use Rattle.picc_cli.specs.MapFile.{IsMapFile};
+ghost use Rattle.picc_cli.specs.MapExample.{example_text, example_map};
 
 use std::alloc::{AllocError, Global};
 
@@ -27,3 +29,8 @@ fn push_address(alloc: Global, text: &mut Vec<u8>, address: u16) -> Result<(), A
     let digits = hex::encode_upper(alloc, &[(address / 256) as u8, (address % 256) as u8])?;
     text.extend_from_slice(digits.as_bytes())
 }
+
+/// The definition of map files at an example that was worked out by hand.
+pub fn worked_example()
+    ensures { IsMapFile example_text example_map }
+{}
