@@ -130,3 +130,8 @@ read_once text body end xs ys begins reads fit none program =
     let same : body ≡ assignments_text ys ++ last = cc in
     let h = one_form xs ys end last fit program.fit none (end_alone last is) (sym reads ∙ same) in
     (h.0, subst IsEnd (sym h.1) is)
+
+-- a text is one program at most
+pub one_program : (text : List ℕ) (xs ys : List Assignment) → IsProgram text xs → IsProgram text ys → xs ≡ ys
+one_program text xs ys p q =
+    (read_once text (assignments_text xs ++ p.spelled.0) p.spelled.0 xs ys p.spelled.2 refl p.fit (end_alone p.spelled.0 p.spelled.1) q).0

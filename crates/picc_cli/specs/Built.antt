@@ -13,6 +13,8 @@ use Rattle.picc_cli.specs.PortProgram.{IsProgram, source_of}
 pub record IsBuilt (text hex map : List ℕ) : Type 0 where
   pub assignments : List Assignment
   pub program : IsProgram text assignments
+  -- and it is no other one
+  pub only : (others : List Assignment) → IsProgram text others → others ≡ assignments
   pub image : List ℕ
   pub content : MapContent
   pub hex_file : IsHexFile hex image

@@ -5,6 +5,7 @@ use Rattle.picc_cli.specs.MapFile.{IsMapFile}
 use Rattle.picc_cli.specs.MapText.{map_text}
 use Rattle.picc_cli.proofs.MapText.{map_text-is_file}
 use Rattle.picc_cli.proofs.Faithful.{faithful}
+use Rattle.picc_cli.proofs.Spelling.{one_program}
 use Rattle.picc_cli.proofs.build.build.Goals as goal
 
 pub returns-clause-built : goal.returns-clause-built
@@ -19,6 +20,7 @@ returns-clause-built c =
     record {
       assignments = xs;
       program = program;
+      only = λ others other. one_program c.args.text.now others xs other program;
       image = c.in_ok-image.image;
       content = map_of xs;
       hex_file = c.in_ok-hex.ensures.file;
