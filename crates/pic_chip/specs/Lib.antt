@@ -7,3 +7,6 @@ pub mod Instructions
 pub mod Interrupts
 pub mod Run
 pub mod Text
+pub mod Named
+pub mod Truth
+pub mod Changes

@@ -5,7 +5,10 @@
 // the words that were set. The definitions of the chip's run stand in specs/.
 #![tactic(auto)]
 
+mod bits;
 pub mod image;
+mod place;
+mod processor;
 pub mod registers;
 
 pub use image::Image;
