@@ -18,3 +18,7 @@ or_bit = at_each (λ b x. bit_or x (1 * 2 ^ b % 256)) set_bit refl
 
 pub and_not_bit : (b x : ℕ) → b < 8 → x < 256 → bit_and x (255 - 1 * 2 ^ b % 256) ≡ clear_bit b x
 and_not_bit = at_each (λ b x. bit_and x (255 - 1 * 2 ^ b % 256)) clear_bit refl
+
+-- a mask of the three lowest bits leaves bit 7
+pub or_below_8 : (mask x : ℕ) → mask < 8 → x < 256 → bit (bit_or x mask) 7 ≡ bit x 7
+or_below_8 = at_each (λ mask x. bit (bit_or x mask) 7) (λ mask x. bit x 7) refl

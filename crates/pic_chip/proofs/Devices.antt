@@ -48,3 +48,22 @@ chosen false true x y e h = absurd (cc)
 pub device_place : (bank low : ℕ) → bank < 4 → low < 128 → nat_eq low 11 ≡ false → (if is_register (0x80 * bank + low) then Device (lowest (0x80 * bank + low)) else Nothing) ≡ (if is_device bank low then Device (0x80 * (bank % 2) + low) else Nothing)
 device_place bank low hb hl ho =
     chosen (is_register (0x80 * bank + low)) (is_device bank low) (lowest (0x80 * bank + low)) (0x80 * (bank % 2) + low) (device_test bank low hb hl ho) (device_lowest bank low hb hl)
+
+-- what holds of each bank and each low part of an address is computed at all 512 pairs
+at_pair : (g : ℕ → ℕ → Bool) → agree_below (λ n. g (n / 128) (n % 128)) (λ n. true) 512 ≡ true → (bank low : ℕ) → bank < 4 → low < 128 → g bank low ≡ true
+at_pair g all bank low hb hl =
+    let d : (bank * 128 + low) / 128 ≡ bank = omega arith in
+    let m : (bank * 128 + low) % 128 ≡ low = omega arith in
+    let here : g ((bank * 128 + low) / 128) ((bank * 128 + low) % 128) ≡ true = agree_below_at (λ n. g (n / 128) (n % 128)) (λ n. true) 512 (bank * 128 + low) all (omega arith) in
+    ap (λ q. g q low) (sym d) ∙ ap (λ r. g ((bank * 128 + low) / 128) r) (sym m) ∙ here
+
+implied : (a b c : Bool) → (not a || (b && not c)) ≡ true → a ≡ true → (b ≡ true) × (c ≡ false)
+implied true true false h e = (refl, refl)
+implied true true true h e = absurd (cc)
+implied true false c h e = absurd (cc)
+implied false b c h e = absurd (cc)
+
+pub device_fits : (bank low : ℕ) → bank < 4 → low < 128 → is_device bank low ≡ true → (is_register (0x80 * (bank % 2) + low) ≡ true) × (nat_eq (0x80 * (bank % 2) + low) 0x0b ≡ false)
+device_fits bank low hb hl hd =
+    implied (is_device bank low) (is_register (0x80 * (bank % 2) + low)) (nat_eq (0x80 * (bank % 2) + low) 0x0b)
+      (at_pair (λ b l. not (is_device b l) || (is_register (0x80 * (b % 2) + l) && not (nat_eq (0x80 * (b % 2) + l) 0x0b))) refl bank low hb hl) hd

@@ -4,3 +4,7 @@ pub mod Digits
 pub mod Lines
 pub mod BitCases
 pub mod Devices
+pub mod Done
+pub mod Growth
+pub mod Wanted
+pub mod Masks

@@ -10,3 +10,7 @@ pub mod Text
 pub mod Named
 pub mod Truth
 pub mod Changes
+pub mod Seen
+pub mod Operations
+pub mod Machine
+pub mod TraceRoom

@@ -2,7 +2,7 @@
 ghost use Rattle.std.specs.Prelude.{◌≡◌, ◌<◌, ◌*◌, ◌+◌, ℕ, [], slice_index_or, nat_eq, false, if◌then◌else◌};
 ghost use Rattle.pic_chip.specs.Registers.{is_among, is_register, lowest};
 ghost use Rattle.pic_chip.specs.Address.{Device, Nothing, place as place_of, indirect as indirect_of, address_of};
-ghost use Rattle.pic_chip.specs.Named.{named, IsPlace, devices};
+ghost use Rattle.pic_chip.specs.Named.{named, IsPlace, device_in, devices};
 
 /// A place that an instruction reads or writes.
 #[derive(Clone, Copy)]
@@ -82,6 +82,17 @@ pub fn indirect(address: u16) -> Place
         Place::Nowhere
     } else {
         place_at((address / 128) as u8, (address % 128) as u8)
+    }
+}
+
+/// The device register of a place, by its lowest address.
+pub fn device_of(place: Place) -> Option<u8>
+    ensures { result ≡ device_in (named place) }
+{
+    match place {
+        Place::DeviceReg(address) => Some(address),
+        Place::PclReg | Place::StatusReg | Place::FsrReg | Place::PclathReg | Place::IntconReg | Place::Nowhere => None,
+        Place::GeneralByte(_) => None,
     }
 }
 

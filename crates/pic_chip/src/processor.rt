@@ -1,11 +1,11 @@
 // The chip's state, and the small changes of which instructions are made.
-ghost use Rattle.std.specs.Prelude.{◌≡◌, ◌<◌, ◌≤◌, ◌+◌, ◌*◌, ◌/◌, ◌%◌, ◌^◌, ℕ, Bool, List, length, slice_index, true, false, if◌then◌else◌};
-ghost use Rattle.pic_chip.specs.State.{State, reset as reset_of};
+ghost use Rattle.std.specs.Prelude.{◌≡◌, ◌<◌, ◌≤◌, ◌+◌, ◌*◌, ◌/◌, ◌%◌, ◌^◌, ℕ, Bool, List, ◌∷◌, length, slice_index, true, false, if◌then◌else◌};
+ghost use Rattle.pic_chip.specs.State.{State, AtW, AtPc, AtIntcon, reset as reset_of};
 ghost use Rattle.pic_chip.specs.Act.{Act, effect, value_in, perform};
 ghost use Rattle.pic_chip.specs.Run.{IsStart};
 ghost use Rattle.pic_chip.specs.Address.{Place as AnyPlace, operand as operand_of};
-ghost use Rattle.pic_chip.specs.Instructions.{contents as contents_of, set_bit as with_bit, clear_bit as without_bit};
-ghost use Rattle.pic_chip.specs.Interrupts.{raise as raise_of, is_due as due};
+ghost use Rattle.pic_chip.specs.Instructions.{contents as contents_of, bit as bit_at, set_bit as with_bit, clear_bit as without_bit, to, of, part, number, page, following, plain_row, push as push_of, pop as pop_of};
+ghost use Rattle.pic_chip.specs.Interrupts.{raise as raise_of, is_due as due, enter as enter_of};
 ghost use Rattle.pic_chip.specs.Named.{named, IsPlace};
 ghost use Rattle.pic_chip.specs.Changes.{Grows, stored, after_reading, flagged, finished, row_done, pushed, popped};
 
@@ -224,5 +224,178 @@ impl Processor {
         if let Place::DeviceReg(_) = place {
             self.taken += 1;
         }
+    }
+
+    /// Ends an instruction that reads a place: its result goes there or to W.
+    pub fn finish(&mut self, next: u16, place: Place, d: bool, value: u8, flags: Flags)
+        requires next { next < 8192 }
+        requires place { IsPlace (named place) }
+        requires taken { self.old.taken < 2 ^ 40 }
+        ensures state { self.new ≡ row_done next (named place) d value flags self.old }
+        ensures grows { Grows self.old self.new }
+    {
+        self.set_pc(next);
+        self.after_read(place);
+        if d {
+            self.store(matches!(flags, Flags::Keep), place, value);
+        } else {
+            self.set_w(value);
+        }
+        self.set_flags(flags, value);
+    }
+
+    /// Ends an instruction that reads a place and has no result.
+    pub fn finish_read(&mut self, next: u16, place: Place)
+        requires next { next < 8192 }
+        requires taken { self.old.taken < 2 ^ 40 }
+        ensures state { self.new ≡ after_reading (named place) (record self.old { pc = next }) }
+        ensures grows { Grows self.old self.new }
+    {
+        self.set_pc(next);
+        self.after_read(place);
+    }
+
+    /// Ends an instruction that writes a place and doesn't read it.
+    pub fn finish_write(&mut self, next: u16, place: Place, value: u8, flags: Flags)
+        requires next { next < 8192 }
+        requires place { IsPlace (named place) }
+        ensures state { self.new ≡ finished (named place) true value flags (record self.old { pc = next }) }
+        ensures grows { Grows self.old self.new }
+    {
+        self.set_pc(next);
+        self.store(matches!(flags, Flags::Keep), place, value);
+        self.set_flags(flags, value);
+    }
+
+    /// Ends an instruction whose result goes to W.
+    pub fn finish_plain(&mut self, next: u16, value: u8, flags: Flags)
+        requires next { next < 8192 }
+        ensures state { self.new ≡ flagged flags value (record self.old { pc = next; w = value }) }
+        ensures grows { Grows self.old self.new }
+    {
+        self.set_pc(next);
+        self.set_w(value);
+        self.set_flags(flags, value);
+    }
+
+    /// Goes to another instruction.
+    pub fn go_to(&mut self, next: u16)
+        requires next { next < 8192 }
+        ensures state { self.new ≡ record self.old { pc = next } }
+        ensures grows { Grows self.old self.new }
+    {
+        self.set_pc(next);
+    }
+
+    fn push(&mut self, address: u16)
+        requires pushes { self.old.pushes < 2 ^ 40 }
+        requires address { address < 8192 }
+        ensures { self.new ≡ pushed address self.old }
+    {
+        let s = self.stack;
+        self.stack = [address, s[0], s[1], s[2], s[3], s[4], s[5], s[6]];
+        self.pushes += 1;
+    }
+
+    fn pop(&mut self)
+        requires { self.old.pops < 2 ^ 40 }
+        ensures { self.new ≡ popped self.old }
+    {
+        let s = self.stack;
+        self.pc = s[0];
+        self.stack = [s[1], s[2], s[3], s[4], s[5], s[6], s[7], s[0]];
+        self.pops += 1;
+    }
+
+    /// GOTO: two bits of the address come from PCLATH.
+    pub fn jump(&mut self, k: u16)
+        requires { k < 2048 }
+        ensures state { self.new ≡ record self.old { pc = self.old.pclath / 8 % 4 * 2048 + k } }
+        ensures grows { Grows self.old self.new }
+    {
+        self.pc = self.pclath as u16 / 8 % 4 * 2048 + k;
+    }
+
+    /// CALL.
+    pub fn call(&mut self, k: u16)
+        requires pushes { self.old.pushes < 2 ^ 40 }
+        requires k { k < 2048 }
+        ensures state { self.new ≡ perform (plain_row (to AtPc (page k) ∷ push_of (following self.old.pc))) self.old }
+        ensures grows { Grows self.old self.new }
+    {
+        let next = (self.pc() + 1) % 8192;
+        self.jump(k);
+        self.push(next);
+    }
+
+    /// RETURN.
+    pub fn go_back(&mut self)
+        requires { self.old.pops < 2 ^ 40 }
+        ensures state { self.new ≡ perform (plain_row pop_of) self.old }
+        ensures grows { Grows self.old self.new }
+    {
+        let _ = self.pc();
+        self.pop();
+    }
+
+    /// RETLW.
+    pub fn go_back_with(&mut self, k: u8)
+        requires { self.old.pops < 2 ^ 40 }
+        ensures state { self.new ≡ perform (plain_row (to AtW (number k) ∷ pop_of)) self.old }
+        ensures grows { Grows self.old self.new }
+    {
+        let _ = self.pc();
+        self.set_w(k);
+        self.pop();
+    }
+
+    /// RETFIE.
+    pub fn leave(&mut self)
+        requires { self.old.pops < 2 ^ 40 }
+        ensures state { self.new ≡ perform (plain_row (to AtIntcon (of (with_bit 7) (part AtIntcon)) ∷ pop_of)) self.old }
+        ensures grows { Grows self.old self.new }
+    {
+        let _ = self.pc();
+        self.allow();
+        self.pop();
+    }
+
+    fn allow(&mut self)
+        ensures { self.new ≡ record self.old { intcon = with_bit 7 self.old.intcon } }
+    {
+        self.intcon = set_bit(7, self.intcon);
+    }
+
+    fn forbid(&mut self)
+        ensures { self.new ≡ record self.old { intcon = without_bit 7 self.old.intcon } }
+    {
+        self.intcon = clear_bit(7, self.intcon);
+    }
+
+    /// Sets the flags of the mask.
+    pub fn raise(&mut self, flags: u16)
+        ensures state { self.new ≡ perform (raise_of flags) self.old }
+        ensures gie { bit_at self.new.intcon 7 ≡ bit_at self.old.intcon 7 }
+    {
+        self.intcon |= (flags % 8) as u8;
+    }
+
+    /// Whether an interrupt is due.
+    pub fn is_due(&self) -> bool
+        ensures { result ≡ due self.now.intcon }
+    {
+        let x = self.intcon;
+        bit(7, x) == 1 && (bit(5, x) * bit(2, x) == 1 || bit(4, x) * bit(1, x) == 1 || bit(3, x) * bit(0, x) == 1)
+    }
+
+    /// Takes an interrupt.
+    pub fn enter(&mut self)
+        requires { self.old.pushes < 2 ^ 40 }
+        ensures { self.new ≡ perform enter_of self.old }
+    {
+        let pc = self.pc();
+        self.forbid();
+        self.set_pc(4);
+        self.push(pc);
     }
 }
