@@ -10,7 +10,7 @@ at_each g h all b x hb hx =
     let d : (b * 256 + x) / 256 ≡ b = omega arith in
     let m : (b * 256 + x) % 256 ≡ x = omega arith in
     let here : eqb (g ((b * 256 + x) / 256) ((b * 256 + x) % 256)) (h ((b * 256 + x) / 256) ((b * 256 + x) % 256)) ≡ true =
-      agree_below_at (λ n. eqb (g (n / 256) (n % 256)) (h (n / 256) (n % 256))) (λ n. true) 2048 (b * 256 + x) all (omega arith) in
+    agree_below_at (λ n. eqb (g (n / 256) (n % 256)) (h (n / 256) (n % 256))) (λ n. true) 2048 (b * 256 + x) all (omega arith) in
     eqb-true _ _ (ap (λ q. eqb (g q x) (h q x)) (sym d) ∙ ap (λ r. eqb (g ((b * 256 + x) / 256) r) (h ((b * 256 + x) / 256) r)) (sym m) ∙ here)
 
 pub or_bit : (b x : ℕ) → b < 8 → x < 256 → bit_or x (1 * 2 ^ b % 256) ≡ set_bit b x

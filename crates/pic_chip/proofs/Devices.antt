@@ -33,10 +33,10 @@ device_lowest bank low hb hl hd =
     let m : (bank * 128 + low) % 128 ≡ low = omega arith in
     let here : f (bank * 128 + low) ≡ true = agree_below_at f (λ n. true) 512 (bank * 128 + low) all (omega arith) in
     eqb-true _ _ (
-      ap (λ b. not b || eqb (lowest (0x80 * bank + low)) (0x80 * (bank % 2) + low)) (sym hd)
-      ∙ ap (λ q. not (is_device q low) || eqb (lowest (0x80 * q + low)) (0x80 * (q % 2) + low)) (sym d)
-      ∙ ap (λ r. not (is_device ((bank * 128 + low) / 128) r) || eqb (lowest (0x80 * ((bank * 128 + low) / 128) + r)) (0x80 * ((bank * 128 + low) / 128 % 2) + r)) (sym m)
-      ∙ here)
+    ap (λ b. not b || eqb (lowest (0x80 * bank + low)) (0x80 * (bank % 2) + low)) (sym hd)
+    ∙ ap (λ q. not (is_device q low) || eqb (lowest (0x80 * q + low)) (0x80 * (q % 2) + low)) (sym d)
+    ∙ ap (λ r. not (is_device ((bank * 128 + low) / 128) r) || eqb (lowest (0x80 * ((bank * 128 + low) / 128) + r)) (0x80 * ((bank * 128 + low) / 128 % 2) + r)) (sym m)
+    ∙ here)
 
 chosen : (b c : Bool) (x y : ℕ) → b ≡ c → (c ≡ true → x ≡ y) → (if b then Device x else Nothing) ≡ (if c then Device y else Nothing)
 chosen true true x y e h = ap Device (h refl)
@@ -66,4 +66,4 @@ implied false b c h e = absurd (cc)
 pub device_fits : (bank low : ℕ) → bank < 4 → low < 128 → is_device bank low ≡ true → (is_register (0x80 * (bank % 2) + low) ≡ true) × (nat_eq (0x80 * (bank % 2) + low) 0x0b ≡ false)
 device_fits bank low hb hl hd =
     implied (is_device bank low) (is_register (0x80 * (bank % 2) + low)) (nat_eq (0x80 * (bank % 2) + low) 0x0b)
-      (at_pair (λ b l. not (is_device b l) || (is_register (0x80 * (b % 2) + l) && not (nat_eq (0x80 * (b % 2) + l) 0x0b))) refl bank low hb hl) hd
+    (at_pair (λ b l. not (is_device b l) || (is_register (0x80 * (b % 2) + l) && not (nat_eq (0x80 * (b % 2) + l) 0x0b))) refl bank low hb hl) hd

@@ -54,9 +54,9 @@ module _ (inputs : List ℕ) (s : State) (f : ℕ) (p : Place) (leads : (next : 
   row_runs d result flags next r n fl er en ef ek =
       let X = contents inputs s.pc p in
       let at = ap (λ l. apply l.writes s s) (leads (λ q. let y = contents inputs s.pc q in Do (record {
-          writes = to AtPc (next y) ∷ (after_read q ++ result_to d q (result y) (flags y));
-          notes = note false q y ++ write_note d q (result y)
-        }))) in
+        writes = to AtPc (next y) ∷ (after_read q ++ result_to d q (result y) (flags y));
+        notes = note false q y ++ write_note d q (result y);
+      }))) in
       let t : State = record s { pc = value_in s (next X) } in
       let split = apply-append (after_read p) (result_to d p (result X) (flags X)) s t in
       let read = ap (λ u. apply (result_to d p (result X) (flags X)) s u) (reads p s (value_in s (next X))) in
@@ -65,20 +65,20 @@ module _ (inputs : List ℕ) (s : State) (f : ℕ) (p : Place) (leads : (next : 
   pub row_notes : (d : Bool) (result : Derived → Derived) (flags : Derived → List Write) (next : Derived → Derived) → made (note false p (contents inputs s.pc p) ++ write_note d p (result (contents inputs s.pc p))) s ≡ accesses (byte_row inputs s.pc f d result flags next) s
   row_notes d result flags next =
       sym (ap (λ l. made l.notes s) (leads (λ q. let y = contents inputs s.pc q in Do (record {
-          writes = to AtPc (next y) ∷ (after_read q ++ result_to d q (result y) (flags y));
-          notes = note false q y ++ write_note d q (result y)
-        }))))
+        writes = to AtPc (next y) ∷ (after_read q ++ result_to d q (result y) (flags y));
+        notes = note false q y ++ write_note d q (result y);
+      }))))
 
 -- ---- the return stack
 push_list : (xs : List ℕ) (v : ℕ) → length xs ≡ 8 →
-  slice_set (slice_set (slice_set (slice_set (slice_set (slice_set (slice_set (slice_set xs 0 v) 1 (slice_index xs 0)) 2 (slice_index xs 1)) 3 (slice_index xs 2)) 4 (slice_index xs 3)) 5 (slice_index xs 4)) 6 (slice_index xs 5)) 7 (slice_index xs 6)
-  ≡ v ∷ slice_index xs 0 ∷ slice_index xs 1 ∷ slice_index xs 2 ∷ slice_index xs 3 ∷ slice_index xs 4 ∷ slice_index xs 5 ∷ slice_index xs 6 ∷ []
+    slice_set (slice_set (slice_set (slice_set (slice_set (slice_set (slice_set (slice_set xs 0 v) 1 (slice_index xs 0)) 2 (slice_index xs 1)) 3 (slice_index xs 2)) 4 (slice_index xs 3)) 5 (slice_index xs 4)) 6 (slice_index xs 5)) 7 (slice_index xs 6)
+    ≡ v ∷ slice_index xs 0 ∷ slice_index xs 1 ∷ slice_index xs 2 ∷ slice_index xs 3 ∷ slice_index xs 4 ∷ slice_index xs 5 ∷ slice_index xs 6 ∷ []
 push_list (a ∷ b ∷ c ∷ d ∷ e ∷ f ∷ g ∷ h ∷ []) v l = refl
 push_list _ v l = absurd (omega arith)
 
 pop_list : (xs : List ℕ) → length xs ≡ 8 →
-  slice_set (slice_set (slice_set (slice_set (slice_set (slice_set (slice_set (slice_set xs 0 (slice_index xs 1)) 1 (slice_index xs 2)) 2 (slice_index xs 3)) 3 (slice_index xs 4)) 4 (slice_index xs 5)) 5 (slice_index xs 6)) 6 (slice_index xs 7)) 7 (slice_index xs 0)
-  ≡ slice_index xs 1 ∷ slice_index xs 2 ∷ slice_index xs 3 ∷ slice_index xs 4 ∷ slice_index xs 5 ∷ slice_index xs 6 ∷ slice_index xs 7 ∷ slice_index xs 0 ∷ []
+    slice_set (slice_set (slice_set (slice_set (slice_set (slice_set (slice_set (slice_set xs 0 (slice_index xs 1)) 1 (slice_index xs 2)) 2 (slice_index xs 3)) 3 (slice_index xs 4)) 4 (slice_index xs 5)) 5 (slice_index xs 6)) 6 (slice_index xs 7)) 7 (slice_index xs 0)
+    ≡ slice_index xs 1 ∷ slice_index xs 2 ∷ slice_index xs 3 ∷ slice_index xs 4 ∷ slice_index xs 5 ∷ slice_index xs 6 ∷ slice_index xs 7 ∷ slice_index xs 0 ∷ []
 pop_list (a ∷ b ∷ c ∷ d ∷ e ∷ f ∷ g ∷ h ∷ []) l = refl
 pop_list _ l = absurd (omega arith)
 
@@ -98,17 +98,17 @@ module _ (inputs : List ℕ) (s : State) (f : ℕ) (p : Place) (leads : (next : 
   test_runs b v n en =
       let next = λ (q : Place). value_in s (skipping s.pc (λ y. nat_eq (bit y b) v) (contents inputs s.pc q)) in
       sym (ap (λ l. apply l.writes s s) (leads (λ q. let x = contents inputs s.pc q in Do (record {
-          writes = to AtPc (skipping s.pc (λ y. nat_eq (bit y b) v) x) ∷ after_read q;
-          notes = note false q x
-        })))
+        writes = to AtPc (skipping s.pc (λ y. nat_eq (bit y b) v) x) ∷ after_read q;
+        notes = note false q x;
+      })))
       ∙ reads p s (next p) ∙ ap (λ m. after_reading p (record s { pc = m })) en)
 
   pub test_notes : (b v : ℕ) → made (note false p (contents inputs s.pc p)) s ≡ accesses (test_row inputs s.pc f b v) s
   test_notes b v =
       sym (ap (λ l. made l.notes s) (leads (λ q. let x = contents inputs s.pc q in Do (record {
-          writes = to AtPc (skipping s.pc (λ y. nat_eq (bit y b) v) x) ∷ after_read q;
-          notes = note false q x
-        }))))
+        writes = to AtPc (skipping s.pc (λ y. nat_eq (bit y b) v) x) ∷ after_read q;
+        notes = note false q x;
+      }))))
 
   pub write_runs : (v : Derived) (ws : List Write) (r : ℕ) (fl : Flags) → value_in s v ≡ r → ((t : State) → apply ws s t ≡ flagged fl r t) → is_empty ws ≡ keeps_flags fl → finished p true r fl (record s { pc = (s.pc + 1) % 8192 }) ≡ perform (write_row s.pc f v ws) s
   write_runs v ws r fl er ef ek =

@@ -1,7 +1,8 @@
 -- Masks of the three flags.
-use Rattle.std.proofs.Common.{◌≡◌, ℕ, ◌+◌, ◌*◌, ◌/◌, ◌%◌, ◌<◌, Bool, true, false, eqb, List, [], ◌∷◌, refl, sym, ap, ◌∙◌, arith}
-use Rattle.std.specs.Prelude.{bit_or, nat_eq, if◌then◌else◌}
-use Rattle.std.proofs.lemmas.Bool.{agree_below, agree_below_at, eqb-true}
+use Rattle.std.proofs.Common.{◌≡◌, ℕ, ◌+◌, ◌-◌, ◌*◌, ◌/◌, ◌%◌, ◌<◌, ◌≤◌, Bool, true, false, eqb, List, [], ◌∷◌, length, take, take_all, drop, refl, sym, ap, ◌∙◌, arith}
+use Rattle.std.specs.Prelude.{bit_or, nat_eq, if◌then◌else◌, slice_index_or}
+use Rattle.std.specs.Int.Bits.{or_zero_r}
+use Rattle.std.proofs.lemmas.Bool.{agree_below, agree_below_at, eqb-true, eq-eqb}
 use Rattle.pic_chip.specs.declared.Flag.{Flag}
 use Rattle.pic_chip.specs.declared.Flag.TheVariants.{Rbif, Intf, Tmr0if}
 use Rattle.pic_chip.specs.declared.Arrival.{Arrival}
@@ -41,7 +42,7 @@ pub arriving_small : (arrivals : List Arrival) (t : ℕ) → arriving arrivals t
 arriving_small [] t = omega arith
 arriving_small (a ∷ arrivals) t =
     chosen_small (nat_eq a.t t) (bit_or (flag_bit a.flag) (arriving arrivals t)) (arriving arrivals t)
-      (or_small (flag_bit a.flag) (arriving arrivals t) (flag_small a.flag) (arriving_small arrivals t)) (arriving_small arrivals t)
+    (or_small (flag_bit a.flag) (arriving arrivals t) (flag_small a.flag) (arriving_small arrivals t)) (arriving_small arrivals t)
 
 -- a flag goes from the arrivals that are left to the mask
 pub mask_goes_on : (mask : ℕ) (f : Flag) (arrivals : List Arrival) (t : ℕ) → mask < 8 → bit_or (bit_or mask (flag_bit f)) (arriving arrivals t) ≡ bit_or mask (bit_or (flag_bit f) (arriving arrivals t))
@@ -49,3 +50,17 @@ mask_goes_on mask f arrivals t h = or_three mask (flag_bit f) (arriving arrivals
 
 pub mask_small : (mask : ℕ) (f : Flag) → mask < 8 → bit_or mask (flag_bit f) < 8
 mask_small mask f h = or_small mask (flag_bit f) h (flag_small f)
+
+pub or_nothing : (a : ℕ) → bit_or a 0 ≡ a
+or_nothing a = or_zero_r a
+
+pub mask_step : (mask : ℕ) (rest : List Arrival) (t : ℕ) (d : Arrival) → mask < 8 → 1 ≤ length rest → (slice_index_or rest 0 d).t ≡ t → bit_or (bit_or mask (flag_bit (slice_index_or rest 0 d).flag)) (arriving (take (length rest - 1) (drop 1 rest)) t) ≡ bit_or mask (arriving rest t)
+mask_step mask [] t d h l e = absurd (omega arith)
+mask_step mask (a ∷ others) t d h l e =
+    ap (λ xs. bit_or (bit_or mask (flag_bit a.flag)) (arriving xs t)) (take_all (length (a ∷ others) - 1) others (omega arith))
+    ∙ mask_goes_on mask a.flag others t h
+    ∙ ap (λ b. bit_or mask (if b then bit_or (flag_bit a.flag) (arriving others t) else arriving others t)) (sym (eq-eqb a.t t e))
+
+pub mask_end : (mask : ℕ) (rest : List Arrival) (t : ℕ) → length rest < 1 → bit_or mask (arriving rest t) ≡ mask
+mask_end mask [] t l = or_nothing mask
+mask_end mask (a ∷ rest) t l = absurd (omega arith)

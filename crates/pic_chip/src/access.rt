@@ -41,8 +41,14 @@ fn access_to(place: Place, value: u8) -> Option<Access>
         Place::FsrReg => Some(Access { address: 4, value }),
         Place::PclathReg => Some(Access { address: 10, value }),
         Place::IntconReg => Some(Access { address: 11, value }),
-        Place::GeneralByte(k) => Some(Access { address: general_address(k), value }),
-        Place::DeviceReg(address) => Some(Access { address: address as u16, value }),
+        Place::GeneralByte(k) => Some(Access {
+            address: general_address(k),
+            value,
+        }),
+        Place::DeviceReg(address) => Some(Access {
+            address: address as u16,
+            value,
+        }),
         Place::Nowhere => None,
     }
 }

@@ -72,3 +72,6 @@ pub enum Event {
     Write { cell: Cell, value: u8 },
     End,
 }
+
+#[cfg(test)]
+mod tests;

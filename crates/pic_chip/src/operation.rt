@@ -60,7 +60,10 @@ pub fn computed(operation: Operation, byte: u8, w: u8, carry: u8) -> Outcome
         Operation::IncrementSkip => skipping_zero(incremented(byte)),
         Operation::Or => zero_flag(w | byte),
         Operation::Move => zero_flag(byte),
-        Operation::RotateLeft => carried(((2 * byte as u16 + carry as u16) % 256) as u8, byte / 128 == 1),
+        Operation::RotateLeft => carried(
+            ((2 * byte as u16 + carry as u16) % 256) as u8,
+            byte / 128 == 1,
+        ),
         Operation::RotateRight => carried(128 * carry + byte / 2, byte % 2 == 1),
         Operation::Subtract => subtract(byte, w),
         Operation::Swap => unflagged(byte % 16 * 16 + byte / 16),
@@ -128,7 +131,10 @@ fn add(byte: u8, w: u8) -> Outcome
     let s = byte as u16 + w as u16;
     Outcome {
         value: (s % 256) as u8,
-        flags: Flags::Sums { c: s >= 256, dc: byte % 16 + w % 16 >= 16 },
+        flags: Flags::Sums {
+            c: s >= 256,
+            dc: byte % 16 + w % 16 >= 16,
+        },
         skips: false,
     }
 }
@@ -138,7 +144,10 @@ fn subtract(byte: u8, w: u8) -> Outcome
 {
     Outcome {
         value: ((byte as u16 + 256 - w as u16) % 256) as u8,
-        flags: Flags::Sums { c: w <= byte, dc: w % 16 <= byte % 16 },
+        flags: Flags::Sums {
+            c: w <= byte,
+            dc: w % 16 <= byte % 16,
+        },
         skips: false,
     }
 }

@@ -66,8 +66,42 @@ fn is_device(bank: u8, low: u8) -> bool
     ensures { result ≡ is_among (slice_index_or devices bank []) low }
 {
     match bank {
-        0 => low == 0x01 || low == 0x05 || low == 0x06 || low == 0x07 || low == 0x08 || low == 0x09 || low == 0x0c || low == 0x0d || low == 0x0e || low == 0x0f || low == 0x10 || low == 0x11 || low == 0x12 || low == 0x13 || low == 0x14 || low == 0x15 || low == 0x16 || low == 0x17 || low == 0x18 || low == 0x19 || low == 0x1a || low == 0x1e || low == 0x1f,
-        1 => low == 0x01 || low == 0x05 || low == 0x06 || low == 0x07 || low == 0x08 || low == 0x09 || low == 0x0c || low == 0x0d || low == 0x12 || low == 0x18 || low == 0x19 || low == 0x1e || low == 0x1f,
+        0 => low == 0x01
+            || low == 0x05
+            || low == 0x06
+            || low == 0x07
+            || low == 0x08
+            || low == 0x09
+            || low == 0x0c
+            || low == 0x0d
+            || low == 0x0e
+            || low == 0x0f
+            || low == 0x10
+            || low == 0x11
+            || low == 0x12
+            || low == 0x13
+            || low == 0x14
+            || low == 0x15
+            || low == 0x16
+            || low == 0x17
+            || low == 0x18
+            || low == 0x19
+            || low == 0x1a
+            || low == 0x1e
+            || low == 0x1f,
+        1 => low == 0x01
+            || low == 0x05
+            || low == 0x06
+            || low == 0x07
+            || low == 0x08
+            || low == 0x09
+            || low == 0x0c
+            || low == 0x0d
+            || low == 0x12
+            || low == 0x18
+            || low == 0x19
+            || low == 0x1e
+            || low == 0x1f,
         _ => low == 0x01 || low == 0x06,
     }
 }
@@ -91,7 +125,12 @@ pub fn device_of(place: Place) -> Option<u8>
 {
     match place {
         Place::DeviceReg(address) => Some(address),
-        Place::PclReg | Place::StatusReg | Place::FsrReg | Place::PclathReg | Place::IntconReg | Place::Nowhere => None,
+        Place::PclReg
+        | Place::StatusReg
+        | Place::FsrReg
+        | Place::PclathReg
+        | Place::IntconReg
+        | Place::Nowhere => None,
         Place::GeneralByte(_) => None,
     }
 }

@@ -9,9 +9,9 @@ ghost use Rattle.pic_chip.specs.Interrupts.{raise as raise_of, is_due as due, en
 ghost use Rattle.pic_chip.specs.Named.{named, IsPlace};
 ghost use Rattle.pic_chip.specs.Changes.{Grows, stored, after_reading, flagged, finished, row_done, pushed, popped};
 
+use crate::Start;
 use crate::bits::{bit, clear_bit, number_of, set_bit};
 use crate::place::{Place, indirect, place_at};
-use crate::Start;
 use std::marker::Model;
 
 /// The flags that an instruction sets.
@@ -108,7 +108,11 @@ impl Processor {
     {
         match place {
             Place::PclReg => ((self.pc + 1) % 256) as u8,
-            Place::StatusReg => 32 * self.bank + 0x18 + 4 * number_of(self.z) + 2 * number_of(self.dc) + number_of(self.c),
+            Place::StatusReg => 32 * self.bank
+                + 0x18
+                + 4 * number_of(self.z)
+                + 2 * number_of(self.dc)
+                + number_of(self.c),
             Place::FsrReg => self.fsr,
             Place::PclathReg => self.pclath,
             Place::IntconReg => self.intcon,
@@ -385,7 +389,10 @@ impl Processor {
         ensures { result ≡ due self.now.intcon }
     {
         let x = self.intcon;
-        bit(7, x) == 1 && (bit(5, x) * bit(2, x) == 1 || bit(4, x) * bit(1, x) == 1 || bit(3, x) * bit(0, x) == 1)
+        bit(7, x) == 1
+            && (bit(5, x) * bit(2, x) == 1
+                || bit(4, x) * bit(1, x) == 1
+                || bit(3, x) * bit(0, x) == 1)
     }
 
     /// Takes an interrupt.

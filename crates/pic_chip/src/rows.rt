@@ -185,13 +185,29 @@ pub fn device_read(processor: &Processor, i: Ins) -> Option<u8>
     ensures { (inputs : List ℕ) → result ≡ wanted (accesses (row inputs processor.now.pc i) processor.now) }
 {
     match i {
-        Ins::Addwf { f, d } | Ins::Andwf { f, d } | Ins::Comf { f, d } | Ins::Decf { f, d } | Ins::Decfsz { f, d } => operand_read(processor, f),
-        Ins::Incf { f, d } | Ins::Incfsz { f, d } | Ins::Iorwf { f, d } | Ins::Movf { f, d } => operand_read(processor, f),
-        Ins::Rlf { f, d } | Ins::Rrf { f, d } | Ins::Subwf { f, d } | Ins::Swapf { f, d } | Ins::Xorwf { f, d } => operand_read(processor, f),
-        Ins::Bcf { f, b } | Ins::Bsf { f, b } | Ins::Btfsc { f, b } | Ins::Btfss { f, b } => operand_read(processor, f),
+        Ins::Addwf { f, d }
+        | Ins::Andwf { f, d }
+        | Ins::Comf { f, d }
+        | Ins::Decf { f, d }
+        | Ins::Decfsz { f, d } => operand_read(processor, f),
+        Ins::Incf { f, d } | Ins::Incfsz { f, d } | Ins::Iorwf { f, d } | Ins::Movf { f, d } =>
+            operand_read(processor, f),
+        Ins::Rlf { f, d }
+        | Ins::Rrf { f, d }
+        | Ins::Subwf { f, d }
+        | Ins::Swapf { f, d }
+        | Ins::Xorwf { f, d } => operand_read(processor, f),
+        Ins::Bcf { f, b } | Ins::Bsf { f, b } | Ins::Btfsc { f, b } | Ins::Btfss { f, b } =>
+            operand_read(processor, f),
         Ins::Clrf { f } | Ins::Movwf { f } => None,
         Ins::Clrw | Ins::Clrwdt | Ins::Nop | Ins::Retfie | Ins::Return | Ins::Sleep => None,
-        Ins::Addlw { k } | Ins::Andlw { k } | Ins::Iorlw { k } | Ins::Movlw { k } | Ins::Retlw { k } | Ins::Sublw { k } | Ins::Xorlw { k } => None,
+        Ins::Addlw { k }
+        | Ins::Andlw { k }
+        | Ins::Iorlw { k }
+        | Ins::Movlw { k }
+        | Ins::Retlw { k }
+        | Ins::Sublw { k }
+        | Ins::Xorlw { k } => None,
         Ins::Call { k } | Ins::Goto { k } => None,
     }
 }

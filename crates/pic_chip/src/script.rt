@@ -13,7 +13,7 @@ pub struct Script {
 }
 
 /// The flags that arrive at an index, as a mask.
-#[tactic(auto, using(crate::proofs::Masks::mask_goes_on, crate::proofs::Masks::mask_small, std::specs::Int::Bits::or_zero_l, std::specs::Int::Bits::or_zero_r))]
+#[tactic(auto, using(crate::proofs::Masks::mask_goes_on, crate::proofs::Masks::mask_small, crate::proofs::Masks::or_nothing))]
 pub fn mask_at(arrivals: &[Arrival], index: u64) -> u16
     ensures value { result ≡ arriving arrivals.now index }
     ensures small { result < 8 }

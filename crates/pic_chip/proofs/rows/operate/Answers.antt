@@ -16,8 +16,8 @@ returns-clause-state c = λ inputs e.
     let en = c.computed-outcome.ensures.next s x ex ∙ ap (λ q. (q + (if o.skips then 2 else 1)) % 8192) (sym c.pc.ensures.value) ∙ sym c.behind-next.ensures.value in
     c.finish.ensures.state
     ∙ row_runs inputs s c.args.f p c.operand-place.ensures.leads c.args.d (result_of c.args.operation) (flags_of c.args.operation) (next_of s.pc c.args.operation)
-        o.value c.behind-next.result o.flags (c.computed-outcome.ensures.value s x ex (sym c.w.ensures) (sym c.carry.ensures.value)) en
-        (λ t. c.computed-outcome.ensures.flags s x t ex (sym c.w.ensures)) (c.computed-outcome.ensures.keeps x)
+    o.value c.behind-next.result o.flags (c.computed-outcome.ensures.value s x ex (sym c.w.ensures) (sym c.carry.ensures.value)) en
+    (λ t. c.computed-outcome.ensures.flags s x t ex (sym c.w.ensures)) (c.computed-outcome.ensures.keeps x)
 
 pub returns-clause-accesses : goal.returns-clause-accesses
 returns-clause-accesses c = λ inputs e.
