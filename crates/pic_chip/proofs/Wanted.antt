@@ -8,7 +8,7 @@ use Rattle.pic_chip.specs.Act.{Derived, Write, Note, made, accesses, Act, Ask, D
 use Rattle.pic_chip.specs.Address.{Place, Pcl, Status, Fsr, Pclath, Intcon, General, Device, Nothing, place, indirect, operand, in_every_bank, address_of}
 use Rattle.pic_chip.specs.Instructions.{to, following, store, is_empty, contents, byte_row, test_row, write_row, note, write_note}
 use Rattle.pic_chip.specs.Named.{IsPlace, device_in}
-use Rattle.pic_chip.specs.Machine.{wanted}
+use Rattle.pic_chip.specs.Machine.{Feeds, wanted}
 use Rattle.pic_chip.proofs.Done.{row_notes, test_notes}
 
 general_is_none : (k : ℕ) → k < 368 → is_register (address_of k) ≡ false
@@ -62,3 +62,9 @@ operand_wants false false f s next h = h (place (s.bank % 4) f)
 
 pub write_row_wants : (pc f : ℕ) (v : Derived) (ws : List Write) (s : State) → wanted (accesses (write_row pc f v ws) s) ≡ None
 write_row_wants pc f v ws s = operand_wants (in_every_bank f) (nat_eq f 0) f s (λ q. Do (record { writes = to AtPc (following pc) ∷ (store (is_empty ws) q v ++ ws); notes = note true q v })) (λ p. write_alone p v s)
+
+-- a byte that is given for a register is given for the same one by another name
+pub fed : (inputs : List ℕ) (taken input : ℕ) (v w : Option ℕ) → v ≡ w → Feeds inputs taken input w → Feeds inputs taken input v
+fed inputs taken input None w e h = tt
+fed inputs taken input (Some a) (Some b) e h = h
+fed inputs taken input (Some a) None e h = absurd (cc)

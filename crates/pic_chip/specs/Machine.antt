@@ -1,5 +1,5 @@
 -- The chip as its callers see it, and what one step of it is.
-use Rattle.std.specs.Prelude.{ℕ, ◌≤◌, ◌+◌, ◌^◌, Bool, not, ◌&&◌, nat_eq, if◌then◌else◌, List, [], ◌∷◌, Option, Some, None, ℤ, pos, ◌-ℤ◌}
+use Rattle.std.specs.Prelude.{ℕ, ◌≡◌, slice_index, ◌≤◌, ◌+◌, ◌^◌, Bool, not, ◌&&◌, nat_eq, if◌then◌else◌, List, [], ◌∷◌, Option, Some, None, ℤ, pos, ◌-ℤ◌}
 use Rattle.pic_chip.specs.State.{State}
 use Rattle.pic_chip.specs.Act.{Made}
 use Rattle.pic_chip.specs.Registers.{is_register}
@@ -34,6 +34,15 @@ takes_input a = not a.write && is_register a.address && not (nat_eq a.address 0x
 abbrev pub wanted : List Made → Option ℕ
 wanted [] = None
 wanted (a ∷ rest) = if takes_input a then Some a.address else wanted rest
+
+-- where a register is wanted, the input list has this byte at the place of the next one
+abbrev pub Feeds : List ℕ → ℕ → ℕ → Option ℕ → Type 0
+Feeds inputs taken input None = Unit {0}
+Feeds inputs taken input (Some register) = slice_index inputs taken ≡ input
+
+pub feeds_each : (inputs : List ℕ) (taken : ℕ) (input : ℕ) → slice_index inputs taken ≡ input → (wants : Option ℕ) → Feeds inputs taken input wants
+feeds_each inputs taken input e None = tt
+feeds_each inputs taken input e (Some register) = e
 
 -- how many words of the return stack are in use, where no more than eight are
 abbrev pub depth_of : State → ℤ

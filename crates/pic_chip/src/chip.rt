@@ -5,7 +5,7 @@ ghost use Rattle.pic_chip.specs.Act.{perform, accesses};
 ghost use Rattle.pic_chip.specs.Address.{byte_at};
 ghost use Rattle.pic_chip.specs.Instructions.{execute};
 ghost use Rattle.pic_chip.specs.Interrupts.{arriving, begun};
-ghost use Rattle.pic_chip.specs.Machine.{Machine, stop_at, index_after, wanted, depth_of};
+ghost use Rattle.pic_chip.specs.Machine.{Machine, stop_at, index_after, Feeds, wanted, depth_of};
 ghost use Rattle.pic_chip.specs.Seen.{accesses_in, stopped_at};
 
 use crate::access::StepEnd;
@@ -77,8 +77,8 @@ impl Chip {
     /// is then unchanged. The index is below 2^40.
     pub fn exec(&mut self, image: &Image, input: u8) -> StepEnd
         requires { self.old.index < 2 ^ 40 }
-        ensures state { (inputs : List ℕ) → slice_index inputs self.old.state.taken ≡ input → self.new.state ≡ perform (execute image.now inputs) self.old.state }
-        ensures accesses { (inputs : List ℕ) → slice_index inputs self.old.state.taken ≡ input → accesses_in result ≡ accesses (execute image.now inputs) self.old.state }
+        ensures state { (inputs : List ℕ) → Feeds inputs self.old.state.taken input (wanted (accesses (execute image.now inputs) self.old.state)) → self.new.state ≡ perform (execute image.now inputs) self.old.state }
+        ensures accesses { (inputs : List ℕ) → Feeds inputs self.old.state.taken input (wanted (accesses (execute image.now inputs) self.old.state)) → accesses_in result ≡ accesses (execute image.now inputs) self.old.state }
         ensures stopped { stopped_at result ≡ stop_at image.now self.old.state }
         ensures index { self.new.index ≡ index_after image.now self.old.state self.old.index }
         ensures unchanged { IsSome (stopped_at result) → self.new ≡ self.old }

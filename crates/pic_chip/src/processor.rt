@@ -6,7 +6,8 @@ ghost use Rattle.pic_chip.specs.Run.{IsStart};
 ghost use Rattle.pic_chip.specs.Address.{Place as AnyPlace, operand as operand_of};
 ghost use Rattle.pic_chip.specs.Instructions.{contents as contents_of, bit as bit_at, set_bit as with_bit, clear_bit as without_bit, to, of, part, number, page, following, plain_row, push as push_of, pop as pop_of};
 ghost use Rattle.pic_chip.specs.Interrupts.{raise as raise_of, is_due as due, enter as enter_of};
-ghost use Rattle.pic_chip.specs.Named.{named, IsPlace};
+ghost use Rattle.pic_chip.specs.Named.{named, IsPlace, device_in};
+ghost use Rattle.pic_chip.specs.Machine.{Feeds};
 ghost use Rattle.pic_chip.specs.Changes.{Grows, stored, after_reading, flagged, finished, row_done, pushed, popped};
 
 use crate::Start;
@@ -104,7 +105,7 @@ impl Processor {
     /// What a place holds, where this is the next input byte.
     pub fn contents(&self, place: Place, input: u8) -> u8
         requires { IsPlace (named place) }
-        ensures { (inputs : List ℕ) → slice_index inputs self.now.taken ≡ input → result ≡ value_in self.now (contents_of inputs self.now.pc (named place)) }
+        ensures { (inputs : List ℕ) → Feeds inputs self.now.taken input (device_in (named place)) → result ≡ value_in self.now (contents_of inputs self.now.pc (named place)) }
     {
         match place {
             Place::PclReg => ((self.pc + 1) % 256) as u8,

@@ -7,7 +7,7 @@ ghost use Rattle.pic_chip.specs.Instructions.{row, number, part, is_empty, write
 ghost use Rattle.pic_chip.specs.Changes.{Grows, flagged, keeps_flags};
 ghost use Rattle.pic_chip.specs.Operations.{IsOperation, operation_row, result_of, flags_of};
 ghost use Rattle.pic_chip.specs.Seen.{seen};
-ghost use Rattle.pic_chip.specs.Machine.{wanted};
+ghost use Rattle.pic_chip.specs.Machine.{Feeds, wanted};
 
 use crate::access::{Accesses, no_access, only_read, only_write, through};
 use crate::bits::bit;
@@ -22,8 +22,8 @@ pub fn run(processor: &mut Processor, i: Ins, input: u8) -> Accesses
     requires pushes { processor.old.pushes < 2 ^ 40 }
     requires pops { processor.old.pops < 2 ^ 40 }
     requires taken { processor.old.taken < 2 ^ 40 }
-    ensures state { (inputs : List ℕ) → slice_index inputs processor.old.taken ≡ input → processor.new ≡ perform (row inputs processor.old.pc i) processor.old }
-    ensures accesses { (inputs : List ℕ) → slice_index inputs processor.old.taken ≡ input → seen result ≡ accesses (row inputs processor.old.pc i) processor.old }
+    ensures state { (inputs : List ℕ) → Feeds inputs processor.old.taken input (wanted (accesses (row inputs processor.old.pc i) processor.old)) → processor.new ≡ perform (row inputs processor.old.pc i) processor.old }
+    ensures accesses { (inputs : List ℕ) → Feeds inputs processor.old.taken input (wanted (accesses (row inputs processor.old.pc i) processor.old)) → seen result ≡ accesses (row inputs processor.old.pc i) processor.old }
     ensures grows { Grows processor.old processor.new }
 {
     match i {
@@ -94,8 +94,8 @@ fn operate(processor: &mut Processor, operation: Operation, f: u8, d: bool, inpu
     requires operation { IsOperation operation }
     requires f { f < 128 }
     requires taken { processor.old.taken < 2 ^ 40 }
-    ensures state { (inputs : List ℕ) → slice_index inputs processor.old.taken ≡ input → processor.new ≡ perform (operation_row inputs processor.old.pc operation f d) processor.old }
-    ensures accesses { (inputs : List ℕ) → slice_index inputs processor.old.taken ≡ input → seen result ≡ accesses (operation_row inputs processor.old.pc operation f d) processor.old }
+    ensures state { (inputs : List ℕ) → Feeds inputs processor.old.taken input (wanted (accesses (operation_row inputs processor.old.pc operation f d) processor.old)) → processor.new ≡ perform (operation_row inputs processor.old.pc operation f d) processor.old }
+    ensures accesses { (inputs : List ℕ) → Feeds inputs processor.old.taken input (wanted (accesses (operation_row inputs processor.old.pc operation f d) processor.old)) → seen result ≡ accesses (operation_row inputs processor.old.pc operation f d) processor.old }
     ensures grows { Grows processor.old processor.new }
 {
     let place = processor.operand(f);
@@ -111,8 +111,8 @@ fn test(processor: &mut Processor, f: u8, b: u8, value: u8, input: u8) -> Access
     requires f { f < 128 }
     requires b { b < 8 }
     requires taken { processor.old.taken < 2 ^ 40 }
-    ensures state { (inputs : List ℕ) → slice_index inputs processor.old.taken ≡ input → processor.new ≡ perform (test_row_of inputs processor.old.pc f b value) processor.old }
-    ensures accesses { (inputs : List ℕ) → slice_index inputs processor.old.taken ≡ input → seen result ≡ accesses (test_row_of inputs processor.old.pc f b value) processor.old }
+    ensures state { (inputs : List ℕ) → Feeds inputs processor.old.taken input (wanted (accesses (test_row_of inputs processor.old.pc f b value) processor.old)) → processor.new ≡ perform (test_row_of inputs processor.old.pc f b value) processor.old }
+    ensures accesses { (inputs : List ℕ) → Feeds inputs processor.old.taken input (wanted (accesses (test_row_of inputs processor.old.pc f b value) processor.old)) → seen result ≡ accesses (test_row_of inputs processor.old.pc f b value) processor.old }
     ensures grows { Grows processor.old processor.new }
 {
     let place = processor.operand(f);
