@@ -2,3 +2,9 @@ pub mod Words
 pub mod NameTables
 pub mod Digits
 pub mod Lines
+pub mod BitCases
+pub mod Devices
+pub mod Done
+pub mod Growth
+pub mod Wanted
+pub mod Masks

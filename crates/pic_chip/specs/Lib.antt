@@ -7,3 +7,10 @@ pub mod Instructions
 pub mod Interrupts
 pub mod Run
 pub mod Text
+pub mod Named
+pub mod Truth
+pub mod Changes
+pub mod Seen
+pub mod Operations
+pub mod Machine
+pub mod TraceRoom

@@ -5,11 +5,24 @@
 // the words that were set. The definitions of the chip's run stand in specs/.
 #![tactic(auto)]
 
+mod access;
+mod bits;
+pub mod chip;
 pub mod image;
+mod operation;
+mod place;
+mod processor;
 pub mod registers;
+mod rows;
+pub mod script;
+pub mod trace;
 
+pub use access::{Access, Accesses, StepEnd};
+pub use chip::Chip;
 pub use image::Image;
 pub use registers::{bit, register, register_name};
+pub use script::Script;
+pub use trace::Trace;
 
 /// Whose code a function copy belongs to: `main`, or the interrupt handler.
 #[derive(Clone, Copy, PartialEq, Eq, Debug)]
@@ -59,3 +72,6 @@ pub enum Event {
     Write { cell: Cell, value: u8 },
     End,
 }
+
+#[cfg(test)]
+mod tests;

@@ -1,0 +1,111 @@
+// Worked steps, and each call that takes memory.
+use super::*;
+use std::test::Fail;
+
+// Power-on with W 90h, FSR A0h, no flag, and every general byte 0.
+fn fresh() -> Chip {
+    Chip::reset(&Start {
+        w: 0x90,
+        fsr: 0xa0,
+        flags: 0,
+        ram: [0; 368],
+    })
+}
+
+fn access(address: u16, value: u8) -> Option<Access> {
+    Some(Access { address, value })
+}
+
+fn done(read: Option<Access>, write: Option<Access>) -> StepEnd {
+    StepEnd::Done(Accesses { read, write })
+}
+
+#[test]
+fn steps_are_those_worked_out(rt: HostRuntime) -> Result<(), Fail> {
+    let mut image = Image::blank(rt.alloc())?;
+    image.set(0, 0x0080); // MOVWF INDF: A0h, the byte that FSR names
+    image.set(1, 0x3e98); // ADDLW 98h: 90h + 98h = 128h
+    image.set(2, 0x00a0); // MOVWF 20h
+    image.set(3, 0x0806); // MOVF PORTB,W
+    image.set(4, 0x1683); // BSF STATUS,5
+    image.set(5, 0x0086); // MOVWF TRISB
+    image.set(6, 0x2009); // CALL 9
+    image.set(7, 0x0063); // SLEEP
+    image.set(9, 0x0008); // RETURN
+    let mut input = Vec::new(rt.alloc());
+    input.push(0x5a)?;
+    let script = Script {
+        input,
+        arrivals: Vec::new(rt.alloc()),
+    };
+    let mut chip = fresh();
+    assert_eq!(rt; chip.wants(&image), None);
+    assert_eq!(rt; chip.step(&image, &script), done(None, access(0xa0, 0x90)));
+    assert_eq!(rt; chip.general(0xa0), 0x90);
+    assert_eq!(rt; chip.step(&image, &script), done(None, None));
+    assert_eq!(rt; chip.step(&image, &script), done(None, access(0x20, 0x28)));
+    assert_eq!(rt; chip.wants(&image), Some(0x06));
+    assert_eq!(rt; chip.step(&image, &script), done(access(0x06, 0x5a), None));
+    assert_eq!(rt;
+        chip.step(&image, &script),
+        done(access(0x03, 0x19), access(0x03, 0x39))
+    );
+    assert_eq!(rt; chip.step(&image, &script), done(None, access(0x86, 0x5a)));
+    assert_eq!(rt; chip.step(&image, &script), done(None, None));
+    assert_eq!(rt; (chip.pc(), chip.depth()), (9, 1));
+    assert_eq!(rt; chip.step(&image, &script), done(None, None));
+    assert_eq!(rt; (chip.pc(), chip.depth()), (7, 0));
+    assert_eq!(rt; chip.exec(&image, 0), StepEnd::Unmodelled(7));
+    assert_eq!(rt; (chip.pc(), chip.index()), (7, 8));
+    Ok(())
+}
+
+#[test]
+fn an_interrupt_is_taken_between_two_instructions(rt: HostRuntime) -> Result<(), Fail> {
+    let mut image = Image::blank(rt.alloc())?;
+    image.set(0, 0x008b); // MOVWF INTCON: 90h, GIE and INTE
+    image.set(1, 0x0000); // NOP
+    image.set(2, 0x0001); // no instruction
+    image.set(4, 0x0009); // RETFIE
+    let mut arrivals = Vec::new(rt.alloc());
+    arrivals.push(Arrival {
+        t: 1,
+        flag: Flag::Rbif,
+    })?;
+    arrivals.push(Arrival {
+        t: 2,
+        flag: Flag::Intf,
+    })?;
+    let script = Script {
+        input: Vec::new(rt.alloc()),
+        arrivals,
+    };
+    let mut chip = fresh();
+    assert_eq!(rt; chip.step(&image, &script), done(None, access(0x0b, 0x90)));
+    assert_eq!(rt; chip.step(&image, &script), done(None, None));
+    assert_eq!(rt; chip.pc(), 2);
+    let mut taken = chip;
+    taken.begin(2);
+    assert_eq!(rt; (taken.pc(), taken.depth(), taken.index()), (4, 1, 2));
+    assert_eq!(rt; chip.step(&image, &script), done(None, None));
+    assert_eq!(rt; (chip.pc(), chip.depth(), chip.index()), (2, 0, 3));
+    Ok(())
+}
+
+#[test]
+fn a_trace_keeps_its_events(rt: HostRuntime) -> Result<(), Fail> {
+    let write = Event::Write {
+        cell: Cell::Device { address: 0x06 },
+        value: 0x05,
+    };
+    let mut trace = Trace::new(rt.alloc());
+    assert_eq!(rt; trace.len(), 0);
+    trace.reserve(2)?;
+    trace.push(write);
+    trace.push(Event::End);
+    assert_eq!(rt;
+        (trace.len(), trace.get(0), trace.get(1)),
+        (2, write, Event::End)
+    );
+    Ok(())
+}
