@@ -3,3 +3,5 @@ pub mod Written
 pub mod Cutting
 pub mod Going
 pub mod Fields
+pub mod FileLaws
+pub mod Given

@@ -5,13 +5,10 @@
 // where it is a map file, and what is read is its content.
 #![tactic(auto)]
 
-ghost use Rattle.std.specs.Prelude.{◌≡◌, ◌<◌, ◌≤◌, ◌++◌, ◌∷◌, [], ℕ, List, map, IfOk, OnOk, length};
-ghost use Rattle.pic_map.specs.MapView.{content_of, object_of, frame_of};
-ghost use Rattle.pic_map.specs.MapText as spec;
-ghost use Rattle.pic_map.specs.Decimal.{number_text};
+ghost use Rattle.std.specs.Prelude.{◌≡◌, ℕ, List};
+ghost use Rattle.pic_map.specs.MapContent.{MapContent};
 ghost use Rattle.pic_map.specs.MapFile.{IsMapFile};
 ghost use Rattle.pic_map.specs.MapExample.{example_text, example_map};
-ghost use Rattle.pic_chip.specs.Text.{hex_digit as digit_of};
 
 mod read;
 mod write;
@@ -50,7 +47,15 @@ pub struct Map {
     pub frames: Vec<FrameLine>,
 }
 
+/// Each text has one content at most.
+pub fn one_content()
+    ensures { (text : List ℕ) (a b : MapContent) → IsMapFile text a → IsMapFile text b → a ≡ b }
+{}
+
 /// The definition of map files at an example that was worked out by hand.
 pub fn worked_example()
     ensures { IsMapFile example_text example_map }
 {}
+
+#[cfg(test)]
+mod tests;

@@ -1,11 +1,11 @@
 // The map of a text.
-ghost use Rattle.std.specs.Prelude.{◌≡◌, ◌<◌, ◌≤◌, ◌++◌, ◌+◌, ◌^◌, ◌∷◌, [], ℕ, length, map, Some, None, IfOk, IfSome, IfNone, IsSome, MatchOption};
+ghost use Rattle.std.specs.Prelude.{◌≡◌, ◌<◌, ◌≤◌, ◌++◌, ◌+◌, ◌^◌, ◌∷◌, [], ℕ, length, map, Some, None, Ok, IfOk, IfSome, IfNone, IsSome, MatchOption};
 ghost use Rattle.std.specs.Option.{option_map};
 ghost use Rattle.pic_map.specs.MapView.{content_of, object_of, frame_of};
 ghost use Rattle.pic_map.specs.Reading as reading;
-ghost use Rattle.pic_map.specs.MapFile.{is_name_byte};
-ghost use Rattle.pic_map.specs.Answers.{GivesMap};
-ghost use Rattle.pic_map.specs.declared.read.Stage.TheVariants.{Heading};
+ghost use Rattle.pic_map.specs.MapFile.{IsMapFile, is_name_byte};
+ghost use Rattle.pic_map.specs.Answers.{GivesMap, reading_of};
+ghost use Rattle.pic_map.specs.MapContent.{MapContent};
 ghost use Rattle.pic_chip.specs.Text.{lines_of, digit_value as value_of, bytes_of, without_cr};
 
 use crate::{FrameLine, Map, ObjLine};
@@ -45,12 +45,25 @@ pub enum MapError {
     BadLine { line: u32 },
 }
 
-#[tactic(auto, using(crate::proofs::Going::step_some, crate::proofs::Going::step_none, crate::proofs::Going::counted, crate::proofs::Going::not_ended, crate::proofs::Going::at_the_end))]
 /// The map of a map file. Digits may be of either case, a CR before a line's end is no part of the line,
 /// and the last line may end at the end of the text.
+#[tactic(auto, using(crate::proofs::Given::found, crate::proofs::Given::only))]
 pub fn read_map(alloc: Global, bytes: &[u8]) -> Result<Map, MapError>
     requires { length bytes.now < 2 ^ 32 }
-    ensures exact { GivesMap result (reading.read_on 1 Heading reading.nothing (lines_of bytes.now)) }
+    // What is read is a map file of what is told.
+    ensures found { IfOk result (λ map. IsMapFile bytes.now (content_of map)) }
+    // What is a map file is read, unless memory runs out.
+    ensures only { (content : MapContent) → IsMapFile bytes.now content → GivesMap result (Ok content) }
+    // Which line is the first that doesn't fit.
+    ensures exact { GivesMap result (reading_of bytes.now) }
+{
+    read_lines(alloc, bytes)
+}
+
+#[tactic(auto, using(crate::proofs::Going::step_some, crate::proofs::Going::step_none, crate::proofs::Going::counted))]
+fn read_lines(alloc: Global, bytes: &[u8]) -> Result<Map, MapError>
+    requires { length bytes.now < 2 ^ 32 }
+    ensures exact { GivesMap result (reading_of bytes.now) }
 {
     let mut map = Map { main: 0, halt: 0, objects: Vec::new(alloc), frames: Vec::new(alloc) };
     let mut stage = Stage::Heading;

@@ -5,7 +5,7 @@ use Rattle.pic_map.specs.MapView.{content_of}
 use Rattle.pic_map.specs.declared.read.Stage.TheVariants.{Ended}
 use Rattle.pic_map.specs.Reading.{read_on}
 use Rattle.pic_map.proofs.Going.{step_some, step_none, not_ended, at_the_end, counted, slack}
-use Rattle.pic_map.proofs.read.read_map.Goals as goal
+use Rattle.pic_map.proofs.read.read_lines.Goals as goal
 
 pub returns-in_default-next : goal.returns-in_default-next
 returns-in_default-next c =
