@@ -17,6 +17,7 @@ split_first c (d ∷ text) = by_test (split_first d text) (nat_eq c 10)
   where
     n : ℕ
     n = line_length (d ∷ text)
+
     by_test : split_lines (d ∷ text) ≡ take n (d ∷ text) ∷ split_lines (drop 1 (drop n (d ∷ text))) → (b : Bool)
         → (if b then [] ∷ split_lines (d ∷ text) else onto_first c (split_lines (d ∷ text)))
         ≡ take (if b then 0 else n + 1) (c ∷ d ∷ text) ∷ split_lines (drop 1 (drop (if b then 0 else n + 1) (c ∷ d ∷ text)))

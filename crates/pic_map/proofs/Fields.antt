@@ -215,6 +215,7 @@ place_is (s ∷ a ∷ b ∷ c ∷ d ∷ t ∷ digits) p h =
     chosen_place : (b : Bool) (o : Option (ℕ × ℕ)) (p : ℕ × ℕ) → (if b then o else None) ≡ Some p → (b ≡ true) × (o ≡ Some p)
     chosen_place true o p e = (refl, e)
     chosen_place false o p e = absurd (cc e)
+
     both_is : (x y : Option ℕ) (p : ℕ × ℕ) → both x y ≡ Some p → (x ≡ Some p.0) × (y ≡ Some p.1)
     both_is None y p e = absurd (cc e)
     both_is (Some x) None p e = absurd (cc e)

@@ -14,7 +14,6 @@ mod read;
 mod write;
 
 use pic_chip::Root;
-
 pub use read::{MapError, read_map};
 pub use write::write_map;
 

@@ -65,7 +65,12 @@ fn read_lines(alloc: Global, bytes: &[u8]) -> Result<Map, MapError>
     requires { length bytes.now < 2 ^ 32 }
     ensures exact { GivesMap result (reading_of bytes.now) }
 {
-    let mut map = Map { main: 0, halt: 0, objects: Vec::new(alloc), frames: Vec::new(alloc) };
+    let mut map = Map {
+        main: 0,
+        halt: 0,
+        objects: Vec::new(alloc),
+        frames: Vec::new(alloc),
+    };
     let mut stage = Stage::Heading;
     let mut number = 1u32;
     let mut rest = bytes;
@@ -134,11 +139,20 @@ fn without_cr(line: &[u8]) -> &[u8]
 
 /// Reads a line into the map, and answers which stage comes behind it.
 #[tactic(auto, unfolding(crate::specs::Reading::after_line))]
-pub fn take_line(alloc: Global, map: &mut Map, stage: Stage, line: &[u8]) -> Result<Option<Stage>, AllocError>
+pub fn take_line(
+    alloc: Global,
+    map: &mut Map,
+    stage: Stage,
+    line: &[u8],
+) -> Result<Option<Stage>, AllocError>
     ensures { IfOk result (λ next. reading.after_line stage (content_of map.old) line.now ≡ option_map (λ s. (s, content_of map.new)) next) }
 {
     match stage {
-        Stage::Heading => Ok(if line == b"picc map 1".as_slice() { Some(Stage::MainPoint) } else { None }),
+        Stage::Heading => Ok(if line == b"picc map 1".as_slice() {
+            Some(Stage::MainPoint)
+        } else {
+            None
+        }),
         Stage::MainPoint => {
             let Some(main) = point(b"main ", line) else {
                 return Ok(None);
@@ -173,7 +187,11 @@ fn take_frame(alloc: Global, map: &mut Map, line: &[u8]) -> Result<Option<Stage>
     ensures { IfOk result (λ next. reading.frame_next (reading.frame_of line.now) (content_of map.old) line.now ≡ option_map (λ s. (s, content_of map.new)) next) }
 {
     let Some(frame) = frame_line(alloc, line)? else {
-        return Ok(if line == b"end".as_slice() { Some(Stage::Ended) } else { None });
+        return Ok(if line == b"end".as_slice() {
+            Some(Stage::Ended)
+        } else {
+            None
+        });
     };
     map.frames.push(frame)?;
     Ok(Some(Stage::Frames))
@@ -195,10 +213,22 @@ fn object_line(alloc: Global, line: &[u8]) -> Result<Option<ObjLine>, AllocError
 fn object(alloc: Global, fixed: bool, text: &[u8]) -> Result<Option<ObjLine>, AllocError>
     ensures { IfOk result (λ object. reading.object_with fixed (reading.placed_of text.now) ≡ option_map object_of object) }
 {
-    let Some(Placed { name, address, size }) = name_and_place(text) else {
+    let Some(
+        Placed {
+            name,
+            address,
+            size,
+        },
+    ) = name_and_place(text)
+    else {
         return Ok(None);
     };
-    Ok(Some(ObjLine { fixed, name: Vec::from_slice(alloc, name)?, address, size }))
+    Ok(Some(ObjLine {
+        fixed,
+        name: Vec::from_slice(alloc, name)?,
+        address,
+        size,
+    }))
 }
 
 #[tactic(auto, unfolding(crate::specs::Reading::frame_of, crate::specs::Reading::after))]
@@ -217,10 +247,22 @@ fn frame_line(alloc: Global, line: &[u8]) -> Result<Option<FrameLine>, AllocErro
 fn frame(alloc: Global, root: Root, text: &[u8]) -> Result<Option<FrameLine>, AllocError>
     ensures { IfOk result (λ frame. reading.frame_with root (reading.placed_of text.now) ≡ option_map frame_of frame) }
 {
-    let Some(Placed { name, address, size }) = name_and_place(text) else {
+    let Some(
+        Placed {
+            name,
+            address,
+            size,
+        },
+    ) = name_and_place(text)
+    else {
         return Ok(None);
     };
-    Ok(Some(FrameLine { root, name: Vec::from_slice(alloc, name)?, address, size }))
+    Ok(Some(FrameLine {
+        root,
+        name: Vec::from_slice(alloc, name)?,
+        address,
+        size,
+    }))
 }
 
 /// The address behind a word, below 2000h.
@@ -244,7 +286,11 @@ fn name_and_place(text: &[u8]) -> Option<Placed>
     }
     let (name, tail) = text.split_at(length);
     let (address, size) = place(tail)?;
-    Some(Placed { name, address, size })
+    Some(Placed {
+        name,
+        address,
+        size,
+    })
 }
 
 /// How many bytes at the front are letters, digits, `_`, `.` or `$`.
@@ -319,10 +365,11 @@ fn size(digits: &[u8]) -> Option<u16>
         [a, b] if *a > b'0' && a.is_ascii_digit() && b.is_ascii_digit() => {
             Some(10 * (*a - b'0') as u16 + (*b - b'0') as u16)
         }
-        [a, b, c] if *a > b'0' && a.is_ascii_digit() && b.is_ascii_digit() && c.is_ascii_digit() => {
-            let size = 100 * (*a - b'0') as u16 + 10 * (*b - b'0') as u16 + (*c - b'0') as u16;
-            if size <= 352 { Some(size) } else { None }
-        }
+        [a, b, c] if *a > b'0' && a.is_ascii_digit() && b.is_ascii_digit() && c.is_ascii_digit() =>
+            {
+                let size = 100 * (*a - b'0') as u16 + 10 * (*b - b'0') as u16 + (*c - b'0') as u16;
+                if size <= 352 { Some(size) } else { None }
+            }
         _ => None,
     }
 }

@@ -19,7 +19,10 @@ fn a_map_is_read_as_it_was_written(rt: HostRuntime) -> Result<(), Fail> {
         let Ok(map) = read_map(alloc, text.as_bytes()) else {
             return Err(Fail::new("no map"));
         };
-        assert_eq!(rt; (map.main, map.halt, map.objects.len(), map.frames.len()), (5, 0x1fff, 2, 3));
+        assert_eq!(rt;
+            (map.main, map.halt, map.objects.len(), map.frames.len()),
+            (5, 0x1fff, 2, 3)
+        );
         let object = &map.objects[1];
         assert!(rt; object.fixed && object.name.as_slice() == b"k".as_slice());
         assert_eq!(rt; (object.address, object.size), (0x1f0, 12));
