@@ -10,7 +10,7 @@ use Rattle.pic_chip.specs.Interrupts.{arriving}
 use Rattle.pic_chip.specs.Run.{IsStart, Setting, moment, is_handling, takes}
 use Rattle.pic_chip.specs.declared.Root.TheVariants.{Main}
 use Rattle.picc_cli.specs.declared.program.Assignment.{Assignment}
-use Rattle.picc_cli.specs.MapContent.{FrameLine, ObjectLine}
+use Rattle.pic_map.specs.MapContent.{FrameLine, ObjectLine}
 use Rattle.picc_cli.specs.Headline.{IsFrontOf, ComesTo, Follows, IsFaithful, setting_of, is_guarded}
 use Rattle.picc_cli.specs.PortProgram.{AllFit, events_of, source_of}
 use Rattle.picc_cli.specs.PortCode.{HasCode, map_of}

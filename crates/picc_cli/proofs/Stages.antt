@@ -15,7 +15,7 @@ use Rattle.pic_chip.specs.Run.{IsStart, events_of as shown, Setting, Watch, Mome
 use Rattle.picc_cli.specs.declared.program.Assignment.{Assignment}
 use Rattle.picc_cli.specs.declared.program.Side.{Side}
 use Rattle.picc_cli.specs.declared.program.Side.TheVariants.{Port, Tris}
-use Rattle.picc_cli.specs.MapContent.{watch_of}
+use Rattle.pic_map.specs.MapContent.{watch_of}
 use Rattle.picc_cli.specs.Headline.{setting_of}
 use Rattle.picc_cli.specs.PortProgram.{IsFine, AllFit, address, event_of, events_of}
 use Rattle.picc_cli.specs.PortCode.{HasCode, select, main_address, halt_address, map_of}

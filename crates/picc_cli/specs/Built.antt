@@ -3,8 +3,8 @@ use Rattle.std.specs.Prelude.{ℕ, ◌≡◌, List}
 use Rattle.hex_image.specs.HexFile.{IsHexFile}
 use Rattle.hex_image.specs.HexText.{hex_text}
 use Rattle.picc_cli.specs.declared.program.Assignment.{Assignment}
-use Rattle.picc_cli.specs.MapContent.{MapContent}
-use Rattle.picc_cli.specs.MapFile.{IsMapFile}
+use Rattle.pic_map.specs.MapContent.{MapContent}
+use Rattle.pic_map.specs.MapFile.{IsMapFile}
 use Rattle.picc_cli.specs.Headline.{IsFaithful}
 use Rattle.picc_cli.specs.PortProgram.{IsProgram, source_of}
 

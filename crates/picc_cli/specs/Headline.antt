@@ -12,7 +12,7 @@ use Rattle.pic_chip.specs.Instructions.{is_modelled}
 use Rattle.pic_isa.specs.Lookup.{row_of}
 use Rattle.pic_chip.specs.Interrupts.{arriving}
 use Rattle.pic_chip.specs.Run.{IsStart, Setting, moment, is_handling}
-use Rattle.picc_cli.specs.MapContent.{ObjectLine, FrameLine, MapContent, watch_of, overlap}
+use Rattle.pic_map.specs.MapContent.{ObjectLine, FrameLine, MapContent, watch_of, overlap}
 
 -- ---- the source
 -- A run of the source under one schedule, over one input list.

@@ -1,12 +1,8 @@
-pub mod MapContent
 pub mod Headline
 pub mod PortProgram
 pub mod PortCode
-pub mod MapFile
-pub mod MapText
 pub mod Built
 pub mod Command
 pub mod CommandView
 pub mod Outcome
 pub mod Finished
-pub mod MapExample

@@ -6,7 +6,7 @@ use Rattle.pic_isa.specs.Table.{word_of}
 use Rattle.pic_isa.specs.Lookup.{row_of}
 use Rattle.pic_chip.specs.Instructions.{is_modelled}
 use Rattle.picc_cli.specs.declared.program.Assignment.{Assignment}
-use Rattle.picc_cli.specs.MapContent.{MapContent}
+use Rattle.pic_map.specs.MapContent.{MapContent}
 use Rattle.picc_cli.specs.PortProgram.{frames_of}
 use Rattle.picc_cli.specs.declared.program.Side.{Side}
 use Rattle.picc_cli.specs.declared.program.Side.TheVariants.{Port, Tris}

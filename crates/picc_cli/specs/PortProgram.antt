@@ -7,7 +7,7 @@ use Rattle.pic_chip.specs.declared.Event.TheVariants as events
 use Rattle.picc_cli.specs.declared.program.Assignment.{Assignment}
 use Rattle.picc_cli.specs.declared.program.Side.{Side}
 use Rattle.picc_cli.specs.declared.program.Side.TheVariants.{Port, Tris}
-use Rattle.picc_cli.specs.MapContent.{FrameLine}
+use Rattle.pic_map.specs.MapContent.{FrameLine}
 use Rattle.picc_cli.specs.Headline.{Source, SourceRun}
 
 -- ---- spelling

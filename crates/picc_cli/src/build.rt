@@ -1,13 +1,15 @@
 // From the text of a program to the texts of its HEX and map files.
 ghost use Rattle.std.specs.Prelude.{◌≡◌, ◌<◌, ◌≤◌, length, IfOk, IfSome, IfNone};
-ghost use Rattle.picc_cli.specs.PortCode.{halt_address as halt_of};
+ghost use Rattle.pic_map.specs.MapView.{content_of};
+ghost use Rattle.picc_cli.specs.PortCode.{halt_address as halt_of, map_of as content_for};
 ghost use Rattle.picc_cli.specs.PortProgram.{frame_size as frame_size_of};
 ghost use Rattle.picc_cli.specs.Built.{IsBuilt, IsRefused};
 
 use crate::code::assembled;
-use crate::map::map_text;
 use crate::program::{Assignment, read_program};
 use hex_image::write_hex;
+use pic_chip::Root;
+use pic_map::{FrameLine, Map, write_map};
 use std::alloc::{AllocError, Global};
 
 /// The texts of the two files.
@@ -27,8 +29,20 @@ pub fn build(alloc: Global, text: &[u8]) -> Result<Option<Built>, AllocError>
     };
     let image = assembled(alloc, &assignments)?;
     let hex = write_hex(alloc, &image)?;
-    let map = map_text(alloc, halt_address(&assignments), frame_size(&assignments))?;
+    let map = write_map(alloc, &map_of(alloc, &assignments)?)?;
     Ok(Some(Built { hex, map }))
+}
+
+/// The map of a program: main's code and its frame.
+fn map_of(alloc: Global, assignments: &[Assignment]) -> Result<Map, AllocError>
+    requires { length assignments.now ≤ 146 }
+    ensures { IfOk result (λ map. content_of map ≡ content_for assignments.now) }
+{
+    let name = Vec::from_slice(alloc, b"main")?;
+    let size = frame_size(assignments);
+    let mut frames = Vec::new(alloc);
+    frames.push(FrameLine { root: Root::Main, name, address: 0x20, size })?;
+    Ok(Map { main: 5, halt: halt_address(assignments), objects: Vec::new(alloc), frames })
 }
 
 /// The address of the jump behind the last assignment.
@@ -40,7 +54,7 @@ fn halt_address(assignments: &[Assignment]) -> u16
 }
 
 /// The bytes of main's frame: the temporary bytes of an assignment, where there is one.
-fn frame_size(assignments: &[Assignment]) -> u8
+fn frame_size(assignments: &[Assignment]) -> u16
     ensures value { result ≡ frame_size_of assignments.now }
     ensures small { result < 10 }
 {

@@ -8,7 +8,6 @@
 mod build;
 mod code;
 mod command;
-mod map;
 mod picc;
 mod program;
 #[cfg(test)]

@@ -1,7 +1,7 @@
 -- A map file written out by hand, with a CR, lower case digits and no last LF.
 use Rattle.std.specs.Prelude.{ℕ, true, false, List, [], ◌∷◌, ◌++◌, codes}
 use Rattle.pic_chip.specs.declared.Root.TheVariants.{Main}
-use Rattle.picc_cli.specs.MapContent.{MapContent}
+use Rattle.pic_map.specs.MapContent.{MapContent}
 
 abbrev pub example_text : List ℕ
 example_text =

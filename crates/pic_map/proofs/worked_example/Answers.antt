@@ -2,8 +2,8 @@ use Rattle.std.proofs.Common.{refl, [], ◌∷◌, arith}
 use Rattle.std.specs.Prelude.{codes}
 use Rattle.std.proofs.lemmas.List.Sums.{AllPass-from_list_all}
 use Rattle.pic_chip.specs.Text.{split_lines, without_cr, bytes_of}
-use Rattle.picc_cli.specs.MapFile.{is_name_byte}
-use Rattle.picc_cli.proofs.map.worked_example.Goals as goal
+use Rattle.pic_map.specs.MapFile.{is_name_byte}
+use Rattle.pic_map.proofs.worked_example.Goals as goal
 
 pub returns : goal.returns
 unfolding split_lines without_cr bytes_of

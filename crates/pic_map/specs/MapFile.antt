@@ -4,8 +4,8 @@ use Rattle.std.specs.List.{AllPass}
 use Rattle.pic_chip.specs.Text.{lines_of, bytes_of}
 use Rattle.pic_chip.specs.declared.Root.{Root}
 use Rattle.pic_chip.specs.declared.Root.TheVariants.{Main, Isr}
-use Rattle.picc_cli.specs.MapContent.{ObjectLine, FrameLine, MapContent}
-use Rattle.picc_cli.specs.PortProgram.{number_text}
+use Rattle.pic_map.specs.MapContent.{ObjectLine, FrameLine, MapContent}
+use Rattle.pic_map.specs.Decimal.{number_text}
 
 -- four hexadecimal digits of either case
 abbrev pub IsAddress : List ℕ → ℕ → Type 0

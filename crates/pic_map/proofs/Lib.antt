@@ -1,0 +1,7 @@
+pub mod Decimals
+pub mod Written
+pub mod Cutting
+pub mod Going
+pub mod Fields
+pub mod FileLaws
+pub mod Given
