@@ -29,10 +29,10 @@ pub enum Spec {
 pub struct StructBody {
     pub keyword: u32,
     pub tag: Option<Name>,
-    pub open: u32,
+    pub opening: u32,
     pub first: Member,
     pub others: Vec<Member>,
-    pub close: u32,
+    pub closing: u32,
 }
 
 /// Members of one type.
@@ -68,20 +68,20 @@ pub struct Declarator {
 pub enum Suffix {
     /// `[LENGTH]`, where the length may be left out
     Array {
-        open: u32,
+        opening: u32,
         length: Option<Box<Cond>>,
-        close: u32,
+        closing: u32,
     },
     /// `()`
-    Empty { open: u32, close: u32 },
+    Empty { opening: u32, closing: u32 },
     /// `(void)`
-    Void { open: u32, void: u32, close: u32 },
+    Void { opening: u32, void: u32, closing: u32 },
     /// A list of parameters.
     Params {
-        open: u32,
+        opening: u32,
         first: Box<Param>,
         others: Vec<NextParam>,
-        close: u32,
+        closing: u32,
     },
 }
 
@@ -206,9 +206,9 @@ pub enum Prefix {
     Sizeof { keyword: u32 },
     /// `(TYPE)`
     Cast {
-        open: u32,
+        opening: u32,
         type_name: Box<TypeName>,
-        close: u32,
+        closing: u32,
     },
 }
 
@@ -220,9 +220,9 @@ pub enum Operand {
     /// `sizeof(TYPE)`
     SizeofType {
         keyword: u32,
-        open: u32,
+        opening: u32,
         type_name: Box<TypeName>,
-        close: u32,
+        closing: u32,
     },
 }
 
@@ -240,15 +240,15 @@ pub struct Postfix {
 pub enum PostfixSuffix {
     /// `[INDEX]`
     Index {
-        open: u32,
+        opening: u32,
         index: Box<Expr>,
-        close: u32,
+        closing: u32,
     },
     /// `(ARGUMENTS)`
     Call {
-        open: u32,
+        opening: u32,
         arguments: Option<Box<Expr>>,
-        close: u32,
+        closing: u32,
     },
     /// `.NAME` or `->NAME`
     Member { operator: Sign, name: Name },
@@ -264,8 +264,8 @@ pub enum Primary {
     Constant(Constant),
     /// `(EXPR)`
     Group {
-        open: u32,
+        opening: u32,
         inner: Box<Expr>,
-        close: u32,
+        closing: u32,
     },
 }

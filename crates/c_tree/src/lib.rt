@@ -5,5 +5,7 @@
 #![tactic(auto)]
 
 pub mod expression;
+mod marks;
+mod spelling;
 pub mod statement;
 pub mod word;

@@ -70,11 +70,11 @@ pub enum Init {
     Text(Text),
     /// `{ ITEMS }`, with a comma behind the last item or without one
     List {
-        open: u32,
+        opening: u32,
         first: Box<Init>,
         others: Vec<NextInit>,
         last_comma: Option<u32>,
-        close: u32,
+        closing: u32,
     },
 }
 
@@ -90,10 +90,10 @@ pub struct NextInit {
 #[cycle(statement)]
 #[derive(Drop)]
 pub struct Block {
-    pub open: u32,
+    pub opening: u32,
     pub declarations: Vec<Declaration>,
     pub statements: Vec<Statement>,
-    pub close: u32,
+    pub closing: u32,
 }
 
 /// A statement (ISO/IEC 9899:1990, 6.6).
@@ -131,9 +131,9 @@ pub enum Statement {
     Switch {
         keyword: u32,
         value: Condition,
-        open: u32,
+        opening: u32,
         items: Vec<SwitchItem>,
-        close: u32,
+        closing: u32,
     },
     /// `break;` or `continue;`
     Break {
@@ -155,21 +155,21 @@ pub enum Statement {
 /// `(EXPR)`, the condition of a statement or what a `switch` looks at.
 #[derive(Drop)]
 pub struct Condition {
-    pub open: u32,
+    pub opening: u32,
     pub expr: Expr,
-    pub close: u32,
+    pub closing: u32,
 }
 
 /// `(BEGIN; CONDITION; STEP)`
 #[derive(Drop)]
 pub struct ForHead {
-    pub open: u32,
+    pub opening: u32,
     pub begin: Option<Expr>,
     pub first_semicolon: u32,
     pub condition: Option<Expr>,
     pub second_semicolon: u32,
     pub step: Option<Expr>,
-    pub close: u32,
+    pub closing: u32,
 }
 
 /// `if`, any number of `else if`, and at most one `else`.
