@@ -1,0 +1,130 @@
+//! The parser of initializers.
+
+use crate::expression::assign;
+use crate::lexeme::{Lexeme, ParseError};
+use crate::take::{Read, behind_punct, deeper, punct, stopped};
+use c_token::{Punct, TokKind};
+use c_tree::expression::Declarator;
+use c_tree::statement::{EqualsInit, Init, InitDeclarator, NextInit};
+use c_tree::word::Text;
+use std::alloc::Global;
+
+/// `[ "=" init ]`, behind the declarator
+pub fn init_declarator<'s, 't>(
+    alloc: Global,
+    last: u32,
+    fuel: usize,
+    declarator: Declarator,
+    toks: &'s [Lexeme<'t>],
+) -> Read<'s, 't, InitDeclarator> {
+    match behind_punct(Punct::Assign, toks) {
+        Some((equals, rest)) => {
+            let (init, rest) = init(alloc, last, fuel, rest)?;
+            let init = Some(EqualsInit { equals, init });
+            Ok((InitDeclarator { declarator, init }, rest))
+        }
+        None => {
+            let init = None;
+            Ok((InitDeclarator { declarator, init }, toks))
+        }
+    }
+}
+
+/// `assign | string | "{" init { "," init } [ "," ] "}"`
+#[cycle(init)]
+fn init<'s, 't>(
+    alloc: Global,
+    last: u32,
+    fuel: usize,
+    toks: &'s [Lexeme<'t>],
+) -> Read<'s, 't, Init> {
+    if let Some((opening, rest)) = behind_punct(Punct::LeftBrace, toks) {
+        return list(alloc, last, fuel, opening, rest);
+    }
+    if let Some((bytes, line, rest)) = behind_text(toks) {
+        let bytes = bytes.to_vec(alloc)?;
+        return Ok((Init::Text(Text { bytes, line }), rest));
+    }
+    let (assign, rest) = assign(alloc, last, fuel, toks)?;
+    Ok((Init::Assign(assign), rest))
+}
+
+/// The string in front, and what is behind it.
+fn behind_text<'s, 't>(toks: &'s [Lexeme<'t>]) -> Option<(&'t [u8], u32, &'s [Lexeme<'t>])> {
+    match toks {
+        [
+            Lexeme {
+                kind: TokKind::Text,
+                bytes,
+                line,
+            },
+            rest @ ..,
+        ] => Some((*bytes, *line, rest)),
+        _ => None,
+    }
+}
+
+/// `init { "," init } [ "," ] "}"`, behind the bracket
+#[cycle(init)]
+fn list<'s, 't>(
+    alloc: Global,
+    last: u32,
+    fuel: usize,
+    opening: u32,
+    toks: &'s [Lexeme<'t>],
+) -> Read<'s, 't, Init> {
+    let fuel = deeper(last, fuel, toks)?;
+    let (first, rest) = init(alloc, last, fuel, toks)?;
+    let first = Box::new(alloc, first)?;
+    let (others, rest) = items(alloc, last, fuel, rest)?;
+    let (last_comma, rest) = comma_in_front(rest);
+    let (closing, rest) = punct(last, Punct::RightBrace, rest)?;
+    let list = Init::List {
+        opening,
+        first,
+        others,
+        last_comma,
+        closing,
+    };
+    Ok((list, rest))
+}
+
+/// The comma in front, where one comes.
+fn comma_in_front<'s, 't>(toks: &'s [Lexeme<'t>]) -> (Option<u32>, &'s [Lexeme<'t>]) {
+    match behind_punct(Punct::Comma, toks) {
+        Some((comma, rest)) => (Some(comma), rest),
+        None => (None, toks),
+    }
+}
+
+/// The comma in front that an item follows, and not the end of the list.
+fn comma_before_item<'s, 't>(toks: &'s [Lexeme<'t>]) -> Option<(u32, &'s [Lexeme<'t>])> {
+    let (comma, rest) = behind_punct(Punct::Comma, toks)?;
+    match behind_punct(Punct::RightBrace, rest) {
+        Some(_) => None,
+        None => Some((comma, rest)),
+    }
+}
+
+/// `{ "," init }`
+#[cycle(init)]
+fn items<'s, 't>(
+    alloc: Global,
+    last: u32,
+    fuel: usize,
+    toks: &'s [Lexeme<'t>],
+) -> Read<'s, 't, Vec<NextInit>> {
+    let mut others = Vec::new(alloc);
+    let mut rest = toks;
+    for _ in 0..toks.len() {
+        match comma_before_item(rest) {
+            Some((comma, after)) => {
+                let (init, after) = init(alloc, last, fuel, after)?;
+                others.push(NextInit { comma, init })?;
+                rest = after;
+            }
+            None => return Ok((others, rest)),
+        }
+    }
+    Ok((others, rest))
+}
