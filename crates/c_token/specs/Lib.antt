@@ -1,0 +1,5 @@
+pub mod Bytes
+pub mod Spelling
+pub mod Constant
+pub mod Token
+pub mod Text

@@ -6,6 +6,15 @@
 // error names the line of the first place that has no token.
 #![tactic(auto)]
 
+mod bytes;
+mod constant;
+mod piece;
+mod scan;
+pub mod spelling;
 pub mod token;
 
+pub use scan::raw;
 pub use token::{Keyword, LexError, Punct, Tok, TokKind};
+
+#[cfg(test)]
+mod tests;
