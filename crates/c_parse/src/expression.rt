@@ -1,19 +1,22 @@
 //! The parser of expressions, and of the declarators and type names that hold them.
 //!
 //! Each function reads one part of the grammar in front of a list. `last` is the line of the last
-//! token of all, and `fuel` bounds how many brackets and `?` may still be entered.
+//! token of all, and `fuel` bounds how many brackets may still be entered.
+
+ghost use Rattle.std.specs.Prelude.{◌≤◌, ◌<◌};
 
 use crate::declarator::{is_bare_void, name_comes, pointers, void_and_close, word_spec};
 use crate::lexeme::{Lexeme, ParseError};
-use crate::operator::{behind_level, behind_prefix, behind_step, behind_target};
+use crate::level::{Level, Turn, behind_operand, chosen};
+use crate::operator::{behind_level, behind_prefix, behind_step};
 use crate::take::{
     Read, behind_keyword, behind_punct, deeper, name, named, punct, specs_come, stopped,
 };
 use c_token::{Keyword, Punct, TokKind};
 use c_tree::expression::{
-    Assign, Binary, Cast, Choice, Cond, Declarator, Expr, Member, NextAssign, NextDeclarator,
-    NextOperand, NextParam, Operand, Param, Postfix, PostfixSuffix, Prefix, Primary, Spec, Specs,
-    StructBody, Suffix, Target, TypeName,
+    Binary, Cast, Choice, Cond, Declarator, Expr, Member, NextDeclarator, NextOperand, NextParam,
+    Operand, Param, Postfix, PostfixSuffix, Prefix, Primary, Spec, Specs, StructBody, Suffix,
+    TypeName,
 };
 use c_tree::word::{Constant, Name, Pointer};
 use std::alloc::Global;
@@ -22,6 +25,9 @@ use std::alloc::Global;
 const LEVELS: usize = 10;
 
 /// `assign { "," assign }`
+///
+/// The choices that stand between `?` and `:` of others wait in a list, so that no number of them
+/// takes more of the call stack.
 #[cycle(parse)]
 pub fn expr<'s, 't>(
     alloc: Global,
@@ -29,39 +35,29 @@ pub fn expr<'s, 't>(
     fuel: usize,
     toks: &'s [Lexeme<'t>],
 ) -> Read<'s, 't, Expr> {
-    let (first, mut rest) = assign(alloc, last, fuel, toks)?;
-    let mut others = Vec::new(alloc);
-    for _ in 0..toks.len() {
-        match behind_punct(Punct::Comma, rest) {
-            Some((comma, after)) => {
-                let (assign, after) = assign(alloc, last, fuel, after)?;
-                others.push(NextAssign { comma, assign })?;
-                rest = after;
-            }
-            None => return Ok((Expr { first, others }, rest)),
-        }
-    }
-    Ok((Expr { first, others }, rest))
-}
-
-/// `cond | unary assignop assign`
-#[cycle(parse)]
-pub fn assign<'s, 't>(
-    alloc: Global,
-    last: u32,
-    fuel: usize,
-    toks: &'s [Lexeme<'t>],
-) -> Read<'s, 't, Assign> {
-    let mut targets = Vec::new(alloc);
+    let mut waiting = Vec::new(alloc);
+    let mut level = Level::new(alloc);
     let mut rest = toks;
     for _ in 0..toks.len() {
-        let (value, after) = cond(alloc, last, fuel, rest)?;
-        match behind_target(value, after) {
-            Ok((target, behind)) => {
-                targets.push(target)?;
+        let (operand, after) = binary(alloc, last, fuel, LEVELS, rest)?;
+        match behind_operand(alloc, level, operand, after)? {
+            Turn::Deeper(frame, behind) => {
+                waiting.push(frame)?;
+                level = Level::new(alloc);
                 rest = behind;
             }
-            Err(value) => return Ok((Assign { targets, value }, after)),
+            Turn::On(next, behind) => {
+                level = next;
+                rest = behind;
+            }
+            Turn::Done(expr, behind) => match waiting.pop() {
+                Some(frame) => {
+                    let (colon, behind) = punct(last, Punct::Colon, behind)?;
+                    level = chosen(alloc, frame, expr, colon)?;
+                    rest = behind;
+                }
+                None => return Ok((expr, behind)),
+            },
         }
     }
     Err(stopped(last, rest))
@@ -81,7 +77,9 @@ pub fn cond<'s, 't>(
         let (condition, after) = binary(alloc, last, fuel, LEVELS, rest)?;
         match behind_punct(Punct::Question, after) {
             Some((question, behind)) => {
-                let (then, colon, behind) = then(alloc, last, fuel, behind)?;
+                let (then, behind) = expr(alloc, last, fuel, behind)?;
+                let (colon, behind) = punct(last, Punct::Colon, behind)?;
+                let then = Box::new(alloc, then)?;
                 choices.push(Choice {
                     condition,
                     question,
@@ -99,20 +97,6 @@ pub fn cond<'s, 't>(
     Err(stopped(last, rest))
 }
 
-/// `expr ":"`, behind the question mark of a choice
-#[cycle(parse)]
-fn then<'s, 't>(
-    alloc: Global,
-    last: u32,
-    fuel: usize,
-    toks: &'s [Lexeme<'t>],
-) -> Result<(Box<Expr>, u32, &'s [Lexeme<'t>]), ParseError> {
-    let fuel = deeper(last, fuel, toks)?;
-    let (then, rest) = expr(alloc, last, fuel, toks)?;
-    let (colon, rest) = punct(last, Punct::Colon, rest)?;
-    Ok((Box::new(alloc, then)?, colon, rest))
-}
-
 /// Operands between operators of levels up to `level`; level 0 is an operand alone.
 #[cycle(parse)]
 fn binary<'s, 't>(
@@ -121,7 +105,9 @@ fn binary<'s, 't>(
     fuel: usize,
     level: usize,
     toks: &'s [Lexeme<'t>],
-) -> Read<'s, 't, Binary> {
+) -> Read<'s, 't, Binary>
+    requires { level ≤ 10 }
+{
     if level == 0 {
         let (cast, rest) = cast(alloc, last, fuel, toks)?;
         return Ok((Binary::Operand(cast), rest));
@@ -144,7 +130,9 @@ fn operands<'s, 't>(
     fuel: usize,
     below: usize,
     toks: &'s [Lexeme<'t>],
-) -> Read<'s, 't, Vec<NextOperand>> {
+) -> Read<'s, 't, Vec<NextOperand>>
+    requires { below < 10 }
+{
     let mut others = Vec::new(alloc);
     let mut rest = toks;
     for _ in 0..toks.len() {

@@ -1,10 +1,11 @@
 //! The parser of initializers.
 
-use crate::expression::assign;
+use crate::expression::cond;
 use crate::lexeme::{Lexeme, ParseError};
+use crate::operator::behind_target;
 use crate::take::{Read, behind_punct, deeper, punct, stopped};
 use c_token::{Punct, TokKind};
-use c_tree::expression::Declarator;
+use c_tree::expression::{Assign, Cond, Declarator, Target};
 use c_tree::statement::{EqualsInit, Init, InitDeclarator, NextInit};
 use c_tree::word::Text;
 use std::alloc::Global;
@@ -47,6 +48,46 @@ fn init<'s, 't>(
     }
     let (assign, rest) = assign(alloc, last, fuel, toks)?;
     Ok((Init::Assign(assign), rest))
+}
+
+/// `cond | unary assignop assign`
+fn assign<'s, 't>(
+    alloc: Global,
+    last: u32,
+    fuel: usize,
+    toks: &'s [Lexeme<'t>],
+) -> Read<'s, 't, Assign> {
+    let mut targets = Vec::new(alloc);
+    let mut rest = toks;
+    for _ in 0..toks.len() {
+        let (value, after) = cond(alloc, last, fuel, rest)?;
+        match assigned(value, after) {
+            Ok((target, behind)) => {
+                targets.push(target)?;
+                rest = behind;
+            }
+            Err(value) => return Ok((Assign { targets, value }, after)),
+        }
+    }
+    Err(stopped(last, rest))
+}
+
+/// What is assigned to where an assignment operator follows, and what is behind it; otherwise the
+/// value is given back.
+fn assigned<'s, 't>(
+    value: Cond,
+    toks: &'s [Lexeme<'t>],
+) -> Result<(Target, &'s [Lexeme<'t>]), Cond> {
+    if !value.choices.is_empty() {
+        return Err(value);
+    }
+    match behind_target(value.last, toks) {
+        Ok(found) => Ok(found),
+        Err(last) => Err(Cond {
+            choices: value.choices,
+            last,
+        }),
+    }
 }
 
 /// The string in front, and what is behind it.

@@ -8,6 +8,7 @@
 mod declarator;
 mod expression;
 mod initial;
+mod level;
 mod lexeme;
 mod limits;
 mod operator;

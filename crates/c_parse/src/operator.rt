@@ -3,7 +3,7 @@
 use crate::lexeme::Lexeme;
 use crate::take::behind_sign;
 use c_token::Punct;
-use c_tree::expression::{Binary, Cast, Cond, Prefix, Target};
+use c_tree::expression::{Binary, Cast, Prefix, Target};
 use c_tree::word::Sign;
 
 /// The level of a binary operator, from 1 for `*` to 10 for `||`; 0 for another punctuator
@@ -108,22 +108,16 @@ fn is_unary(cast: &Cast) -> bool {
 }
 
 /// What is assigned to where an assignment operator follows, and what is behind it; otherwise the
-/// value is given back.
+/// operand is given back.
 pub fn behind_target<'s, 't>(
-    value: Cond,
+    operand: Binary,
     toks: &'s [Lexeme<'t>],
-) -> Result<(Target, &'s [Lexeme<'t>]), Cond> {
+) -> Result<(Target, &'s [Lexeme<'t>]), Binary> {
     let Some((operator, rest)) = behind_assignment(toks) else {
-        return Err(value);
+        return Err(operand);
     };
-    if !value.choices.is_empty() {
-        return Err(value);
-    }
-    match value.last {
+    match operand {
         Binary::Operand(place) if is_unary(&place) => Ok((Target { place, operator }, rest)),
-        last => Err(Cond {
-            choices: value.choices,
-            last,
-        }),
+        other => Err(other),
     }
 }

@@ -1,5 +1,7 @@
 //! The token in front of a list.
 
+ghost use Rattle.std.specs.Prelude.{◌≡◌, ◌+◌, IfOk};
+
 use crate::lexeme::{Lexeme, ParseError};
 use c_token::{Keyword, Punct, TokKind};
 use c_tree::word::{Name, Sign, Word};
@@ -17,7 +19,9 @@ pub fn stopped(last: u32, toks: &[Lexeme<'_>]) -> ParseError {
 }
 
 /// One less than the fuel, which the number of tokens bounds.
-pub fn deeper(last: u32, fuel: usize, toks: &[Lexeme<'_>]) -> Result<usize, ParseError> {
+pub fn deeper(last: u32, fuel: usize, toks: &[Lexeme<'_>]) -> Result<usize, ParseError>
+    ensures { IfOk result (λ less. less + 1 ≡ fuel) }
+{
     if fuel == 0 {
         Err(stopped(last, toks))
     } else {

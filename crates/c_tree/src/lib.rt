@@ -6,6 +6,9 @@
 
 pub mod expression;
 mod marks;
+mod printing;
 mod spelling;
 pub mod statement;
 pub mod word;
+
+pub use printing::spell;
