@@ -1,5 +1,12 @@
 //! The parts of declarators in which no other parser is called.
 
+ghost use Rattle.std.specs.Prelude.{◌≡◌, ◌++◌, ◌∷◌, IfOk, map};
+ghost use Rattle.std.specs.Option.{IfSome};
+ghost use Rattle.c_token.specs.declared.token.Keyword.TheVariants.{Void};
+ghost use Rattle.c_token.specs.declared.token.Punct.TheVariants.{RightParenthesis};
+ghost use Rattle.c_tree.specs.Words.{keyed, spell_pointers};
+ghost use Rattle.c_parse.specs.Symbols.{symbols, mark, keymark};
+
 use crate::lexeme::{Lexeme, ParseError};
 use crate::take::{Read, behind_punct, behind_word, is_specifier_word, punct};
 use c_token::{Keyword, Punct, TokKind};
@@ -8,7 +15,9 @@ use c_tree::word::{Name, Pointer, Word};
 use std::alloc::Global;
 
 /// The words `const` and `volatile` in front.
-fn qualifiers<'s, 't>(alloc: Global, toks: &'s [Lexeme<'t>]) -> Read<'s, 't, Vec<Word>> {
+fn qualifiers<'s, 't>(alloc: Global, toks: &'s [Lexeme<'t>]) -> Read<'s, 't, Vec<Word>>
+    ensures { IfOk result (λ x. symbols toks.now ≡ map keyed x.0.items ++ symbols x.1.now) }
+{
     let mut found = Vec::new(alloc);
     let mut rest = toks;
     for _ in 0..toks.len() {
@@ -28,7 +37,9 @@ fn is_qualifier(keyword: Keyword) -> bool {
 }
 
 /// The pointers in front, each with its qualifiers.
-pub fn pointers<'s, 't>(alloc: Global, toks: &'s [Lexeme<'t>]) -> Read<'s, 't, Vec<Pointer>> {
+pub fn pointers<'s, 't>(alloc: Global, toks: &'s [Lexeme<'t>]) -> Read<'s, 't, Vec<Pointer>>
+    ensures { IfOk result (λ x. symbols toks.now ≡ spell_pointers x.0.items ++ symbols x.1.now) }
+{
     let mut found = Vec::new(alloc);
     let mut rest = toks;
     for _ in 0..toks.len() {
@@ -45,7 +56,9 @@ pub fn pointers<'s, 't>(alloc: Global, toks: &'s [Lexeme<'t>]) -> Read<'s, 't, V
 }
 
 /// The specifier in front that is a word alone.
-pub fn word_spec<'s, 't>(toks: &'s [Lexeme<'t>]) -> Option<(Word, &'s [Lexeme<'t>])> {
+pub fn word_spec<'s, 't>(toks: &'s [Lexeme<'t>]) -> Option<(Word, &'s [Lexeme<'t>])>
+    ensures { IfSome result (λ x. symbols toks.now ≡ keyed x.0 ∷ symbols x.1.now) }
+{
     match behind_word(toks) {
         Some((word, rest)) if is_specifier_word(word.keyword) => Some((word, rest)),
         _ => None,
@@ -61,7 +74,9 @@ pub fn name_comes(toks: &[Lexeme<'_>]) -> bool {
 }
 
 /// What stands behind `void` and `)`, with the line of each.
-pub fn void_and_close<'s, 't>(toks: &'s [Lexeme<'t>]) -> Option<(u32, u32, &'s [Lexeme<'t>])> {
+pub fn void_and_close<'s, 't>(toks: &'s [Lexeme<'t>]) -> Option<(u32, u32, &'s [Lexeme<'t>])>
+    ensures { IfSome result (λ x. symbols toks.now ≡ keymark Void x.0 ∷ mark RightParenthesis x.1 ∷ symbols x.2.now) }
+{
     match behind_word(toks) {
         Some((word, rest)) if word.keyword == Keyword::Void => {
             let (closing, rest) = behind_punct(Punct::RightParenthesis, rest)?;

@@ -1,5 +1,11 @@
 //! Expressions that are read in part.
 
+ghost use Rattle.std.specs.Prelude.{◌≡◌, ◌++◌, ◌∷◌, [], IfOk};
+ghost use Rattle.c_token.specs.declared.token.Punct.TheVariants.{Colon};
+ghost use Rattle.c_tree.specs.Spelling.{spell_binary, spell_expr, spell_assign, spell_target};
+ghost use Rattle.c_parse.specs.Symbols.{symbols, mark};
+ghost use Rattle.c_parse.specs.Levels.{spell_earlier, spell_level, spell_frame, spell_turn};
+
 use crate::lexeme::{Lexeme, ParseError};
 use crate::operator::behind_target;
 use crate::take::behind_punct;
@@ -25,7 +31,9 @@ pub struct Level {
 
 impl Level {
     /// Nothing is read.
-    pub fn new(alloc: Global) -> Level {
+    pub fn new(alloc: Global) -> Level
+        ensures { spell_level result ≡ [] }
+    {
         Level {
             earlier: None,
             targets: Vec::new(alloc),
@@ -54,12 +62,15 @@ pub enum Turn<'s, 't> {
 }
 
 /// What comes behind an operand.
+#[tactic(auto, using(std::proofs::lemmas::List::append_assoc))]
 pub fn behind_operand<'s, 't>(
     alloc: Global,
     level: Level,
     operand: Binary,
     toks: &'s [Lexeme<'t>],
-) -> Result<Turn<'s, 't>, AllocError> {
+) -> Result<Turn<'s, 't>, AllocError>
+    ensures { IfOk result (λ t. spell_level level ++ (spell_binary operand ++ symbols toks.now) ≡ spell_turn t) }
+{
     if let Some((question, rest)) = behind_punct(Punct::Question, toks) {
         let frame = Frame {
             level,
@@ -78,7 +89,11 @@ pub fn behind_operand<'s, 't>(
 }
 
 /// The level with one left side more.
-fn assigned(level: Level, target: Target) -> Result<Level, AllocError> {
+#[tactic(auto, using(std::proofs::lemmas::List::append_assoc, crate::proofs::Lists::flat_push))]
+fn assigned(level: Level, target: Target) -> Result<Level, AllocError>
+    requires { level.choices.items ≡ [] }
+    ensures { IfOk result (λ x. spell_level x ≡ spell_level level ++ spell_target target) }
+{
     let mut targets = level.targets;
     targets.push(target)?;
     Ok(Level {
@@ -89,12 +104,15 @@ fn assigned(level: Level, target: Target) -> Result<Level, AllocError> {
 }
 
 /// An assignment has its last operand.
+#[tactic(auto, using(std::proofs::lemmas::List::append_assoc, c_tree::proofs::Views::see_cond, c_tree::proofs::Views::see_assign))]
 fn ended<'s, 't>(
     alloc: Global,
     level: Level,
     operand: Binary,
     toks: &'s [Lexeme<'t>],
-) -> Result<Turn<'s, 't>, AllocError> {
+) -> Result<Turn<'s, 't>, AllocError>
+    ensures { IfOk result (λ t. spell_level level ++ (spell_binary operand ++ symbols toks.now) ≡ spell_turn t) }
+{
     let value = Cond {
         choices: level.choices,
         last: operand,
@@ -118,7 +136,10 @@ fn ended<'s, 't>(
 }
 
 /// The assignments before a comma, and one more.
-fn joined(alloc: Global, earlier: Option<Earlier>, assign: Assign) -> Result<Expr, AllocError> {
+#[tactic(auto, using(std::proofs::lemmas::List::append_assoc, c_tree::proofs::Views::see_expr, c_tree::proofs::Views::see_next_assign, crate::proofs::Lists::flat_push))]
+fn joined(alloc: Global, earlier: Option<Earlier>, assign: Assign) -> Result<Expr, AllocError>
+    ensures { IfOk result (λ e. spell_expr e ≡ spell_earlier earlier ++ spell_assign assign) }
+{
     match earlier {
         None => Ok(Expr {
             first: assign,
@@ -137,7 +158,10 @@ fn joined(alloc: Global, earlier: Option<Earlier>, assign: Assign) -> Result<Exp
 }
 
 /// What was read with the expression between `?` and `:`.
-pub fn chosen(alloc: Global, frame: Frame, then: Expr, colon: u32) -> Result<Level, AllocError> {
+#[tactic(auto, using(std::proofs::lemmas::List::append_assoc, c_tree::proofs::Views::see_choice, crate::proofs::Lists::flat_push))]
+pub fn chosen(alloc: Global, frame: Frame, then: Expr, colon: u32) -> Result<Level, AllocError>
+    ensures { IfOk result (λ l. spell_level l ≡ spell_frame frame ++ (spell_expr then ++ mark Colon colon ∷ [])) }
+{
     let choice = Choice {
         condition: frame.condition,
         question: frame.question,

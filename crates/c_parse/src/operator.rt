@@ -1,5 +1,11 @@
 //! The operators of expressions.
 
+ghost use Rattle.std.specs.Prelude.{◌≡◌, ◌++◌, ◌∷◌, IfOk, IfErr};
+ghost use Rattle.std.specs.Option.{IfSome};
+ghost use Rattle.c_tree.specs.Words.{signed};
+ghost use Rattle.c_tree.specs.Spelling.{spell_binary, spell_target};
+ghost use Rattle.c_parse.specs.Symbols.{symbols};
+
 use crate::lexeme::Lexeme;
 use crate::take::behind_sign;
 use c_token::Punct;
@@ -66,7 +72,9 @@ fn is_assignment(punct: Punct) -> bool {
 pub fn behind_level<'s, 't>(
     below: usize,
     toks: &'s [Lexeme<'t>],
-) -> Option<(Sign, &'s [Lexeme<'t>])> {
+) -> Option<(Sign, &'s [Lexeme<'t>])>
+    ensures { IfSome result (λ x. symbols toks.now ≡ signed x.0 ∷ symbols x.1.now) }
+{
     match behind_sign(toks) {
         Some((sign, rest)) if level_of(sign.punct) > below && level_of(sign.punct) - 1 == below => {
             Some((sign, rest))
@@ -76,7 +84,9 @@ pub fn behind_level<'s, 't>(
 }
 
 /// The prefix operator in front, and what is behind it.
-pub fn behind_prefix<'s, 't>(toks: &'s [Lexeme<'t>]) -> Option<(Sign, &'s [Lexeme<'t>])> {
+pub fn behind_prefix<'s, 't>(toks: &'s [Lexeme<'t>]) -> Option<(Sign, &'s [Lexeme<'t>])>
+    ensures { IfSome result (λ x. symbols toks.now ≡ signed x.0 ∷ symbols x.1.now) }
+{
     match behind_sign(toks) {
         Some((sign, rest)) if is_prefix(sign.punct) => Some((sign, rest)),
         _ => None,
@@ -84,7 +94,9 @@ pub fn behind_prefix<'s, 't>(toks: &'s [Lexeme<'t>]) -> Option<(Sign, &'s [Lexem
 }
 
 /// One of `. -> ++ --` in front, and what is behind it.
-pub fn behind_step<'s, 't>(toks: &'s [Lexeme<'t>]) -> Option<(Sign, &'s [Lexeme<'t>])> {
+pub fn behind_step<'s, 't>(toks: &'s [Lexeme<'t>]) -> Option<(Sign, &'s [Lexeme<'t>])>
+    ensures { IfSome result (λ x. symbols toks.now ≡ signed x.0 ∷ symbols x.1.now) }
+{
     match behind_sign(toks) {
         Some((sign, rest)) if is_step(sign.punct) => Some((sign, rest)),
         _ => None,
@@ -92,7 +104,9 @@ pub fn behind_step<'s, 't>(toks: &'s [Lexeme<'t>]) -> Option<(Sign, &'s [Lexeme<
 }
 
 /// The assignment operator in front, and what is behind it.
-fn behind_assignment<'s, 't>(toks: &'s [Lexeme<'t>]) -> Option<(Sign, &'s [Lexeme<'t>])> {
+fn behind_assignment<'s, 't>(toks: &'s [Lexeme<'t>]) -> Option<(Sign, &'s [Lexeme<'t>])>
+    ensures { IfSome result (λ x. symbols toks.now ≡ signed x.0 ∷ symbols x.1.now) }
+{
     match behind_sign(toks) {
         Some((sign, rest)) if is_assignment(sign.punct) => Some((sign, rest)),
         _ => None,
@@ -109,10 +123,14 @@ fn is_unary(cast: &Cast) -> bool {
 
 /// What is assigned to where an assignment operator follows, and what is behind it; otherwise the
 /// operand is given back.
+#[tactic(auto, using(std::proofs::lemmas::List::append_assoc, c_tree::proofs::Views::see_binary_operand, c_tree::proofs::Views::see_target))]
 pub fn behind_target<'s, 't>(
     operand: Binary,
     toks: &'s [Lexeme<'t>],
-) -> Result<(Target, &'s [Lexeme<'t>]), Binary> {
+) -> Result<(Target, &'s [Lexeme<'t>]), Binary>
+    ensures target { IfOk result (λ x. spell_binary operand ++ symbols toks.now ≡ spell_target x.0 ++ symbols x.1.now) }
+    ensures same { IfErr result (λ e. e ≡ operand) }
+{
     let Some((operator, rest)) = behind_assignment(toks) else {
         return Err(operand);
     };

@@ -1,6 +1,9 @@
 //! The token in front of a list.
 
-ghost use Rattle.std.specs.Prelude.{◌≡◌, ◌+◌, IfOk};
+ghost use Rattle.std.specs.Prelude.{◌≡◌, ◌+◌, ◌∷◌, IfOk};
+ghost use Rattle.std.specs.Option.{IfSome};
+ghost use Rattle.c_tree.specs.Words.{named, signed, keyed};
+ghost use Rattle.c_parse.specs.Symbols.{symbols, mark, keymark};
 
 use crate::lexeme::{Lexeme, ParseError};
 use c_token::{Keyword, Punct, TokKind};
@@ -30,7 +33,9 @@ pub fn deeper(last: u32, fuel: usize, toks: &[Lexeme<'_>]) -> Result<usize, Pars
 }
 
 /// The line of a punctuator that has to come.
-pub fn punct<'s, 't>(last: u32, wanted: Punct, toks: &'s [Lexeme<'t>]) -> Read<'s, 't, u32> {
+pub fn punct<'s, 't>(last: u32, wanted: Punct, toks: &'s [Lexeme<'t>]) -> Read<'s, 't, u32>
+    ensures { IfOk result (λ x. symbols toks.now ≡ mark wanted x.0 ∷ symbols x.1.now) }
+{
     match toks {
         [
             Lexeme {
@@ -45,7 +50,9 @@ pub fn punct<'s, 't>(last: u32, wanted: Punct, toks: &'s [Lexeme<'t>]) -> Read<'
 }
 
 /// The line of a keyword that has to come.
-pub fn keyword<'s, 't>(last: u32, wanted: Keyword, toks: &'s [Lexeme<'t>]) -> Read<'s, 't, u32> {
+pub fn keyword<'s, 't>(last: u32, wanted: Keyword, toks: &'s [Lexeme<'t>]) -> Read<'s, 't, u32>
+    ensures { IfOk result (λ x. symbols toks.now ≡ keymark wanted x.0 ∷ symbols x.1.now) }
+{
     match toks {
         [
             Lexeme {
@@ -60,7 +67,9 @@ pub fn keyword<'s, 't>(last: u32, wanted: Keyword, toks: &'s [Lexeme<'t>]) -> Re
 }
 
 /// A name that has to come.
-pub fn name<'s, 't>(alloc: Global, last: u32, toks: &'s [Lexeme<'t>]) -> Read<'s, 't, Name> {
+pub fn name<'s, 't>(alloc: Global, last: u32, toks: &'s [Lexeme<'t>]) -> Read<'s, 't, Name>
+    ensures { IfOk result (λ x. symbols toks.now ≡ named x.0 ∷ symbols x.1.now) }
+{
     match toks {
         [
             Lexeme {
@@ -75,7 +84,9 @@ pub fn name<'s, 't>(alloc: Global, last: u32, toks: &'s [Lexeme<'t>]) -> Read<'s
 }
 
 /// A name with a copy of its bytes.
-pub fn named(alloc: Global, bytes: &[u8], line: u32) -> Result<Name, ParseError> {
+pub fn named(alloc: Global, bytes: &[u8], line: u32) -> Result<Name, ParseError>
+    ensures { IfOk result (λ x. (x.bytes.items ≡ bytes.now) × (x.line ≡ line)) }
+{
     let bytes = bytes.to_vec(alloc)?;
     Ok(Name { bytes, line })
 }
@@ -112,7 +123,9 @@ pub fn keyword_in_front(toks: &[Lexeme<'_>]) -> Option<Keyword> {
 pub fn behind_punct<'s, 't>(
     wanted: Punct,
     toks: &'s [Lexeme<'t>],
-) -> Option<(u32, &'s [Lexeme<'t>])> {
+) -> Option<(u32, &'s [Lexeme<'t>])>
+    ensures { IfSome result (λ x. symbols toks.now ≡ mark wanted x.0 ∷ symbols x.1.now) }
+{
     match toks {
         [
             Lexeme {
@@ -130,7 +143,9 @@ pub fn behind_punct<'s, 't>(
 pub fn behind_keyword<'s, 't>(
     wanted: Keyword,
     toks: &'s [Lexeme<'t>],
-) -> Option<(u32, &'s [Lexeme<'t>])> {
+) -> Option<(u32, &'s [Lexeme<'t>])>
+    ensures { IfSome result (λ x. symbols toks.now ≡ keymark wanted x.0 ∷ symbols x.1.now) }
+{
     match toks {
         [
             Lexeme {
@@ -145,7 +160,9 @@ pub fn behind_keyword<'s, 't>(
 }
 
 /// The punctuator in front and what is behind it, if `fits` holds of it.
-pub fn behind_sign<'s, 't>(toks: &'s [Lexeme<'t>]) -> Option<(Sign, &'s [Lexeme<'t>])> {
+pub fn behind_sign<'s, 't>(toks: &'s [Lexeme<'t>]) -> Option<(Sign, &'s [Lexeme<'t>])>
+    ensures { IfSome result (λ x. symbols toks.now ≡ signed x.0 ∷ symbols x.1.now) }
+{
     match toks {
         [
             Lexeme {
@@ -166,7 +183,9 @@ pub fn behind_sign<'s, 't>(toks: &'s [Lexeme<'t>]) -> Option<(Sign, &'s [Lexeme<
 }
 
 /// The keyword in front with its line, and what is behind it.
-pub fn behind_word<'s, 't>(toks: &'s [Lexeme<'t>]) -> Option<(Word, &'s [Lexeme<'t>])> {
+pub fn behind_word<'s, 't>(toks: &'s [Lexeme<'t>]) -> Option<(Word, &'s [Lexeme<'t>])>
+    ensures { IfSome result (λ x. symbols toks.now ≡ keyed x.0 ∷ symbols x.1.now) }
+{
     match toks {
         [
             Lexeme {

@@ -1,5 +1,5 @@
 -- The spelling of each statement from the spellings of its parts.
-use Rattle.std.proofs.Common.{◌≡◌, ℕ, List, [], ◌∷◌, ◌++◌, Option, Some, None, map, sym, ap, ◌∙◌}
+use Rattle.std.proofs.Common.{◌≡◌, ℕ, List, [], ◌∷◌, ◌++◌, Option, Some, None, map, refl, sym, ap, ◌∙◌}
 use Rattle.c_token.specs.declared.token.Keyword.TheVariants as words
 use Rattle.c_token.specs.declared.token.Punct.TheVariants.{LeftParenthesis, RightParenthesis, LeftBrace, RightBrace, Colon, Semicolon, Assign, Comma}
 use Rattle.c_tree.specs.Words.{Symbols, key, punct, quoted, flat}
@@ -12,6 +12,8 @@ use Rattle.c_tree.specs.declared.statement.Init.TheFolds.{fold-Init, fold-roll-I
 use Rattle.c_tree.specs.declared.statement.NextInit.{NextInit}
 use Rattle.c_tree.specs.declared.statement.Statement.TheVariants as Statement
 use Rattle.c_tree.specs.declared.statement.SwitchItem.TheVariants as SwitchItem
+use Rattle.c_tree.specs.declared.statement.Statement as StatementOf
+use Rattle.c_tree.specs.declared.statement.SwitchItem as SwitchItemOf
 use Rattle.c_tree.specs.declared.statement.Arm.{Arm}
 use Rattle.c_tree.specs.declared.statement.Block.{Block}
 use Rattle.c_tree.specs.declared.statement.ElseArm.{ElseArm}
@@ -19,7 +21,7 @@ use Rattle.c_tree.specs.declared.statement.IfChain.{IfChain}
 use Rattle.c_tree.specs.declared.statement.Otherwise.{Otherwise}
 use Rattle.c_tree.specs.declared.statement.Statement.TheOpen as Open
 use Rattle.c_tree.specs.declared.statement.Statement.TheViews.{out-Arm, out-Block, out-ElseArm, out-IfChain, out-Otherwise}
-use Rattle.c_tree.specs.declared.statement.Statement.TheFolds.{fold-Statement, fold-SwitchItem, fold-roll-Statement, fold-roll-SwitchItem, fold_out-Arm, fold_out-Block, fold_out-ElseArm, fold_out-IfChain, fold_out-Otherwise}
+use Rattle.c_tree.specs.declared.statement.Statement.TheFolds.{map-IfChain, fold-Statement, fold-SwitchItem, fold-roll-Statement, fold-roll-SwitchItem, fold_out-Arm, fold_out-Block, fold_out-ElseArm, fold_out-IfChain, fold_out-Otherwise}
 
 pub see_init_assign : (assign : _) → spell_init (Init.Assign assign) ≡ spell_assign assign
 unfolding spell_init spell_next_init
@@ -101,6 +103,9 @@ pub see_otherwise : (x : Otherwise) → spell_otherwise x ≡ key words.Else (ou
 unfolding spell_statement spell_switch_item spell_arm spell_block spell_else_arm spell_if_chain spell_otherwise
 see_otherwise x = fold_out-Otherwise Symbols Symbols Symbols Symbols Symbols Symbols Symbols statement_step switch_item_step arm_step block_step else_arm_step if_chain_step otherwise_step x
 
+chain_layer : (y : Open.IfChain-F StatementOf.Statement SwitchItemOf.SwitchItem Arm Block ElseArm IfChain Otherwise) → if_chain_step (map-IfChain StatementOf.Statement SwitchItemOf.SwitchItem Arm Block ElseArm IfChain Otherwise Symbols Symbols Symbols Symbols Symbols Symbols Symbols spell_statement spell_switch_item spell_arm spell_block spell_else_arm spell_if_chain spell_otherwise y) ≡ spell_arm y.first.value ++ (flat (map spell_else_arm y.others.items) ++ spell_last y.last)
+chain_layer y = elim y.last as (λ q. if_chain_step (map-IfChain StatementOf.Statement SwitchItemOf.SwitchItem Arm Block ElseArm IfChain Otherwise Symbols Symbols Symbols Symbols Symbols Symbols Symbols spell_statement spell_switch_item spell_arm spell_block spell_else_arm spell_if_chain spell_otherwise record { first = y.first; others = y.others; last = q }) ≡ spell_arm y.first.value ++ (flat (map spell_else_arm y.others.items) ++ spell_last q)) [ None ↦ refl | Some last ↦ refl ]
+
 pub see_if_chain : (x : IfChain) → spell_if_chain x ≡ spell_arm (out-IfChain x).first.value ++ (flat (map spell_else_arm (out-IfChain x).others.items) ++ spell_last (out-IfChain x).last)
 unfolding spell_statement spell_switch_item spell_arm spell_block spell_else_arm spell_if_chain spell_otherwise
-see_if_chain x = fold_out-IfChain Symbols Symbols Symbols Symbols Symbols Symbols Symbols statement_step switch_item_step arm_step block_step else_arm_step if_chain_step otherwise_step x
+see_if_chain x = fold_out-IfChain Symbols Symbols Symbols Symbols Symbols Symbols Symbols statement_step switch_item_step arm_step block_step else_arm_step if_chain_step otherwise_step x ∙ chain_layer (out-IfChain x)

@@ -3,7 +3,7 @@
 //! Each function puts the kinds of the tokens of one part behind those that are there.
 
 ghost use Rattle.std.specs.Prelude.{◌≡◌, ◌++◌, ◌∷◌, [], IfOk, map};
-ghost use Rattle.c_token.specs.declared.token.Punct.TheVariants.{Semicolon};
+ghost use Rattle.c_token.specs.declared.token.Punct.TheVariants.{Semicolon, RightBrace};
 ghost use Rattle.c_token.specs.declared.token.TokKind.TheVariants as kinds;
 ghost use Rattle.c_tree.specs.Words.{kinds_of, flat};
 ghost use Rattle.c_tree.specs.Statements.{spell_any, spell_condition, spell_for_head, spell_label, spell_comma, spell_init, spell_next_init, spell_equals_init, spell_init_declarator, spell_next_init_declarator, spell_declared, spell_declaration, spell_statement, spell_switch_item, spell_arm, spell_block, spell_else_arm, spell_if_chain, spell_otherwise, spell_function, spell_item, spell_unit};
@@ -78,6 +78,14 @@ fn put_comma(out: &mut Vec<TokKind>, comma: &Option<u32>) -> Result<(), AllocErr
     }
 }
 
+#[tactic(auto, using(std::proofs::lemmas::List::append_assoc, crate::proofs::Append::kinds_append))]
+fn put_list_end(out: &mut Vec<TokKind>, comma: &Option<u32>) -> Result<(), AllocError>
+    ensures { IfOk result (λ _. out.new.items ≡ out.old.items ++ (kinds_of (spell_comma comma.now) ++ kinds.Punct RightBrace ∷ [])) }
+{
+    put_comma(out, comma)?;
+    punct(out, Punct::RightBrace)
+}
+
 #[cycle(initial)]
 #[tactic(auto, using(std::proofs::lemmas::List::append_assoc, crate::proofs::Append::kinds_append, crate::proofs::Statements::see_init_assign, crate::proofs::Statements::see_init_text, crate::proofs::Statements::see_init_list))]
 fn put_init(out: &mut Vec<TokKind>, init: &Init) -> Result<(), AllocError>
@@ -94,13 +102,22 @@ fn put_init(out: &mut Vec<TokKind>, init: &Init) -> Result<(), AllocError>
         } => {
             punct(out, Punct::LeftBrace)?;
             put_init(out, first)?;
-            for next in others {
-                put_next_init(out, next)?;
-            }
-            put_comma(out, last_comma)?;
-            punct(out, Punct::RightBrace)
+            put_next_inits(out, others)?;
+            put_list_end(out, last_comma)?;
+            Ok(())
         }
     }
+}
+
+#[cycle(initial)]
+#[tactic(auto, using(std::proofs::lemmas::List::append_assoc, crate::proofs::Append::kinds_append))]
+fn put_next_inits(out: &mut Vec<TokKind>, others: &[NextInit]) -> Result<(), AllocError>
+    ensures { IfOk result (λ _. out.new.items ≡ out.old.items ++ kinds_of (flat (map spell_next_init others.now))) }
+{
+    for next in others {
+        put_next_init(out, next)?;
+    }
+    Ok(())
 }
 
 #[cycle(initial)]
