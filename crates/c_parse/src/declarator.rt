@@ -1,22 +1,14 @@
 //! The parts of declarators in which no other parser is called.
 
-ghost use Rattle.std.specs.Prelude.{◌≡◌, ◌++◌, ◌∷◌, IfOk, map};
-ghost use Rattle.std.specs.Option.{IfSome};
-ghost use Rattle.c_token.specs.declared.token.Keyword.TheVariants.{Void};
-ghost use Rattle.c_token.specs.declared.token.Punct.TheVariants.{RightParenthesis};
-ghost use Rattle.c_tree.specs.Words.{keyed, spell_pointers};
-ghost use Rattle.c_parse.specs.Symbols.{symbols, mark, keymark};
-
-use crate::lexeme::{Lexeme, ParseError};
+use crate::error::ParseError;
 use crate::take::{Read, behind_punct, behind_word, is_specifier_word, punct};
-use c_token::{Keyword, Punct, TokKind};
+use c_token::{Keyword, Punct, Tok, TokKind};
 use c_tree::expression::{Param, Spec, Specs, Suffix};
 use c_tree::word::{Name, Pointer, Word};
 use std::alloc::Global;
 
 /// The words `const` and `volatile` in front.
-fn qualifiers<'s, 't>(alloc: Global, toks: &'s [Lexeme<'t>]) -> Read<'s, 't, Vec<Word>>
-    ensures { IfOk result (λ x. symbols toks.now ≡ map keyed x.0.items ++ symbols x.1.now) }
+fn qualifiers<'s>(alloc: Global, toks: &'s [Tok]) -> Read<'s, Vec<Word>>
 {
     let mut found = Vec::new(alloc);
     let mut rest = toks;
@@ -37,8 +29,7 @@ fn is_qualifier(keyword: Keyword) -> bool {
 }
 
 /// The pointers in front, each with its qualifiers.
-pub fn pointers<'s, 't>(alloc: Global, toks: &'s [Lexeme<'t>]) -> Read<'s, 't, Vec<Pointer>>
-    ensures { IfOk result (λ x. symbols toks.now ≡ spell_pointers x.0.items ++ symbols x.1.now) }
+pub fn pointers<'s>(alloc: Global, toks: &'s [Tok]) -> Read<'s, Vec<Pointer>>
 {
     let mut found = Vec::new(alloc);
     let mut rest = toks;
@@ -56,8 +47,7 @@ pub fn pointers<'s, 't>(alloc: Global, toks: &'s [Lexeme<'t>]) -> Read<'s, 't, V
 }
 
 /// The specifier in front that is a word alone.
-pub fn word_spec<'s, 't>(toks: &'s [Lexeme<'t>]) -> Option<(Word, &'s [Lexeme<'t>])>
-    ensures { IfSome result (λ x. symbols toks.now ≡ keyed x.0 ∷ symbols x.1.now) }
+pub fn word_spec<'s>(toks: &'s [Tok]) -> Option<(Word, &'s [Tok])>
 {
     match behind_word(toks) {
         Some((word, rest)) if is_specifier_word(word.keyword) => Some((word, rest)),
@@ -66,7 +56,7 @@ pub fn word_spec<'s, 't>(toks: &'s [Lexeme<'t>]) -> Option<(Word, &'s [Lexeme<'t
 }
 
 /// Whether a name comes.
-pub fn name_comes(toks: &[Lexeme<'_>]) -> bool {
+pub fn name_comes(toks: &[Tok]) -> bool {
     match toks {
         [first, ..] => first.kind == TokKind::Name,
         [] => false,
@@ -74,8 +64,7 @@ pub fn name_comes(toks: &[Lexeme<'_>]) -> bool {
 }
 
 /// What stands behind `void` and `)`, with the line of each.
-pub fn void_and_close<'s, 't>(toks: &'s [Lexeme<'t>]) -> Option<(u32, u32, &'s [Lexeme<'t>])>
-    ensures { IfSome result (λ x. symbols toks.now ≡ keymark Void x.0 ∷ mark RightParenthesis x.1 ∷ symbols x.2.now) }
+pub fn void_and_close<'s>(toks: &'s [Tok]) -> Option<(u32, u32, &'s [Tok])>
 {
     match behind_word(toks) {
         Some((word, rest)) if word.keyword == Keyword::Void => {

@@ -6,13 +6,13 @@
 ghost use Rattle.std.specs.Prelude.{◌≤◌, ◌<◌};
 
 use crate::declarator::{is_bare_void, name_comes, pointers, void_and_close, word_spec};
-use crate::lexeme::{Lexeme, ParseError};
+use crate::error::ParseError;
 use crate::level::{Level, Turn, behind_operand, chosen};
 use crate::operator::{behind_level, behind_prefix, behind_step};
 use crate::take::{
     Read, behind_keyword, behind_punct, deeper, name, named, punct, specs_come, stopped,
 };
-use c_token::{Keyword, Punct, TokKind};
+use c_token::{Keyword, Punct, Tok, TokKind};
 use c_tree::expression::{
     Binary, Cast, Choice, Cond, Declarator, Expr, Member, NextDeclarator, NextOperand, NextParam,
     Operand, Param, Postfix, PostfixSuffix, Prefix, Primary, Spec, Specs, StructBody, Suffix,
@@ -29,17 +29,18 @@ const LEVELS: usize = 10;
 /// The choices that stand between `?` and `:` of others wait in a list, so that no number of them
 /// takes more of the call stack.
 #[cycle(parse)]
-pub fn expr<'s, 't>(
+pub fn expr<'s>(
     alloc: Global,
+    text: &[u8],
     last: u32,
     fuel: usize,
-    toks: &'s [Lexeme<'t>],
-) -> Read<'s, 't, Expr> {
+    toks: &'s [Tok],
+) -> Read<'s, Expr> {
     let mut waiting = Vec::new(alloc);
     let mut level = Level::new(alloc);
     let mut rest = toks;
     for _ in 0..toks.len() {
-        let (operand, after) = binary(alloc, last, fuel, LEVELS, rest)?;
+        let (operand, after) = binary(alloc, text, last, fuel, LEVELS, rest)?;
         match behind_operand(alloc, level, operand, after)? {
             Turn::Deeper(frame, behind) => {
                 waiting.push(frame)?;
@@ -65,19 +66,20 @@ pub fn expr<'s, 't>(
 
 /// `oror [ "?" expr ":" cond ]`
 #[cycle(parse)]
-pub fn cond<'s, 't>(
+pub fn cond<'s>(
     alloc: Global,
+    text: &[u8],
     last: u32,
     fuel: usize,
-    toks: &'s [Lexeme<'t>],
-) -> Read<'s, 't, Cond> {
+    toks: &'s [Tok],
+) -> Read<'s, Cond> {
     let mut choices = Vec::new(alloc);
     let mut rest = toks;
     for _ in 0..toks.len() {
-        let (condition, after) = binary(alloc, last, fuel, LEVELS, rest)?;
+        let (condition, after) = binary(alloc, text, last, fuel, LEVELS, rest)?;
         match behind_punct(Punct::Question, after) {
             Some((question, behind)) => {
-                let (then, behind) = expr(alloc, last, fuel, behind)?;
+                let (then, behind) = expr(alloc, text, last, fuel, behind)?;
                 let (colon, behind) = punct(last, Punct::Colon, behind)?;
                 let then = Box::new(alloc, then)?;
                 choices.push(Choice {
@@ -99,22 +101,23 @@ pub fn cond<'s, 't>(
 
 /// Operands between operators of levels up to `level`; level 0 is an operand alone.
 #[cycle(parse)]
-fn binary<'s, 't>(
+fn binary<'s>(
     alloc: Global,
+    text: &[u8],
     last: u32,
     fuel: usize,
     level: usize,
-    toks: &'s [Lexeme<'t>],
-) -> Read<'s, 't, Binary>
+    toks: &'s [Tok],
+) -> Read<'s, Binary>
     requires { level ≤ 10 }
 {
     if level == 0 {
-        let (cast, rest) = cast(alloc, last, fuel, toks)?;
+        let (cast, rest) = cast(alloc, text, last, fuel, toks)?;
         return Ok((Binary::Operand(cast), rest));
     }
     let below = level - 1;
-    let (first, rest) = binary(alloc, last, fuel, below, toks)?;
-    let (others, rest) = operands(alloc, last, fuel, below, rest)?;
+    let (first, rest) = binary(alloc, text, last, fuel, below, toks)?;
+    let (others, rest) = operands(alloc, text, last, fuel, below, rest)?;
     if others.is_empty() {
         return Ok((first, rest));
     }
@@ -124,13 +127,14 @@ fn binary<'s, 't>(
 
 /// Operators of the level over `below`, each with its right operand.
 #[cycle(parse)]
-fn operands<'s, 't>(
+fn operands<'s>(
     alloc: Global,
+    text: &[u8],
     last: u32,
     fuel: usize,
     below: usize,
-    toks: &'s [Lexeme<'t>],
-) -> Read<'s, 't, Vec<NextOperand>>
+    toks: &'s [Tok],
+) -> Read<'s, Vec<NextOperand>>
     requires { below < 10 }
 {
     let mut others = Vec::new(alloc);
@@ -138,7 +142,7 @@ fn operands<'s, 't>(
     for _ in 0..toks.len() {
         match behind_level(below, rest) {
             Some((operator, after)) => {
-                let (operand, after) = binary(alloc, last, fuel, below, after)?;
+                let (operand, after) = binary(alloc, text, last, fuel, below, after)?;
                 others.push(NextOperand { operator, operand })?;
                 rest = after;
             }
@@ -150,24 +154,25 @@ fn operands<'s, 't>(
 
 /// Prefixes and an operand.
 #[cycle(parse)]
-fn cast<'s, 't>(
+fn cast<'s>(
     alloc: Global,
+    text: &[u8],
     last: u32,
     fuel: usize,
-    toks: &'s [Lexeme<'t>],
-) -> Read<'s, 't, Cast> {
+    toks: &'s [Tok],
+) -> Read<'s, Cast> {
     let mut prefixes = Vec::new(alloc);
     let mut rest = toks;
     let mut casts = true;
     for _ in 0..toks.len() {
-        match prefix(alloc, last, fuel, casts, rest)? {
+        match prefix(alloc, text, last, fuel, casts, rest)? {
             Some((prefix, after)) => {
                 casts = may_cast(&prefix);
                 prefixes.push(prefix)?;
                 rest = after;
             }
             None => {
-                let (operand, rest) = operand(alloc, last, fuel, rest)?;
+                let (operand, rest) = operand(alloc, text, last, fuel, rest)?;
                 return Ok((Cast { prefixes, operand }, rest));
             }
         }
@@ -188,13 +193,14 @@ fn may_cast(prefix: &Prefix) -> bool {
 
 /// The prefix in front, where one comes.
 #[cycle(parse)]
-fn prefix<'s, 't>(
+fn prefix<'s>(
     alloc: Global,
+    text: &[u8],
     last: u32,
     fuel: usize,
     casts: bool,
-    toks: &'s [Lexeme<'t>],
-) -> Result<Option<(Prefix, &'s [Lexeme<'t>])>, ParseError> {
+    toks: &'s [Tok],
+) -> Result<Option<(Prefix, &'s [Tok])>, ParseError> {
     if let Some((sign, rest)) = behind_prefix(toks) {
         return Ok(Some((Prefix::Operator(sign), rest)));
     }
@@ -205,7 +211,7 @@ fn prefix<'s, 't>(
         return Ok(Some((Prefix::Sizeof { keyword }, rest)));
     }
     if casts && type_opens(toks) {
-        let (opening, type_name, closing, rest) = bracketed_type(alloc, last, fuel, toks)?;
+        let (opening, type_name, closing, rest) = bracketed_type(alloc, text, last, fuel, toks)?;
         return Ok(Some((
             Prefix::Cast {
                 opening,
@@ -219,7 +225,7 @@ fn prefix<'s, 't>(
 }
 
 /// Whether `(` comes and specifiers behind it.
-fn type_opens(toks: &[Lexeme<'_>]) -> bool {
+fn type_opens(toks: &[Tok]) -> bool {
     match behind_punct(Punct::LeftParenthesis, toks) {
         Some((_, rest)) => specs_come(rest),
         None => false,
@@ -228,15 +234,16 @@ fn type_opens(toks: &[Lexeme<'_>]) -> bool {
 
 /// `"(" typename ")"`
 #[cycle(parse)]
-fn bracketed_type<'s, 't>(
+fn bracketed_type<'s>(
     alloc: Global,
+    text: &[u8],
     last: u32,
     fuel: usize,
-    toks: &'s [Lexeme<'t>],
-) -> Result<(u32, Box<TypeName>, u32, &'s [Lexeme<'t>]), ParseError> {
+    toks: &'s [Tok],
+) -> Result<(u32, Box<TypeName>, u32, &'s [Tok]), ParseError> {
     let (opening, rest) = punct(last, Punct::LeftParenthesis, toks)?;
     let fuel = deeper(last, fuel, rest)?;
-    let (specs, rest) = specs(alloc, last, fuel, rest)?;
+    let (specs, rest) = specs(alloc, text, last, fuel, rest)?;
     let (pointers, rest) = pointers(alloc, rest)?;
     let (closing, rest) = punct(last, Punct::RightParenthesis, rest)?;
     let type_name = Box::new(alloc, TypeName { specs, pointers })?;
@@ -245,14 +252,15 @@ fn bracketed_type<'s, 't>(
 
 /// `postfix | "sizeof" "(" typename ")"`
 #[cycle(parse)]
-fn operand<'s, 't>(
+fn operand<'s>(
     alloc: Global,
+    text: &[u8],
     last: u32,
     fuel: usize,
-    toks: &'s [Lexeme<'t>],
-) -> Read<'s, 't, Operand> {
+    toks: &'s [Tok],
+) -> Read<'s, Operand> {
     if let Some((keyword, rest)) = behind_keyword(Keyword::Sizeof, toks) {
-        let (opening, type_name, closing, rest) = bracketed_type(alloc, last, fuel, rest)?;
+        let (opening, type_name, closing, rest) = bracketed_type(alloc, text, last, fuel, rest)?;
         return Ok((
             Operand::SizeofType {
                 keyword,
@@ -263,22 +271,23 @@ fn operand<'s, 't>(
             rest,
         ));
     }
-    let (postfix, rest) = postfix(alloc, last, fuel, toks)?;
+    let (postfix, rest) = postfix(alloc, text, last, fuel, toks)?;
     Ok((Operand::Postfix(postfix), rest))
 }
 
 /// A primary expression and its postfixes.
 #[cycle(parse)]
-fn postfix<'s, 't>(
+fn postfix<'s>(
     alloc: Global,
+    text: &[u8],
     last: u32,
     fuel: usize,
-    toks: &'s [Lexeme<'t>],
-) -> Read<'s, 't, Postfix> {
-    let (primary, mut rest) = primary(alloc, last, fuel, toks)?;
+    toks: &'s [Tok],
+) -> Read<'s, Postfix> {
+    let (primary, mut rest) = primary(alloc, text, last, fuel, toks)?;
     let mut suffixes = Vec::new(alloc);
     for _ in 0..toks.len() {
-        match postfix_suffix(alloc, last, fuel, rest)? {
+        match postfix_suffix(alloc, text, last, fuel, rest)? {
             Some((suffix, after)) => {
                 suffixes.push(suffix)?;
                 rest = after;
@@ -291,16 +300,17 @@ fn postfix<'s, 't>(
 
 /// `name | constant | "(" expr ")"`
 #[cycle(parse)]
-fn primary<'s, 't>(
+fn primary<'s>(
     alloc: Global,
+    text: &[u8],
     last: u32,
     fuel: usize,
-    toks: &'s [Lexeme<'t>],
-) -> Read<'s, 't, Primary> {
+    toks: &'s [Tok],
+) -> Read<'s, Primary> {
     match toks {
         [first, rest @ ..] => match first.kind {
             TokKind::Name => {
-                let name = named(alloc, first.bytes, first.line)?;
+                let name = named(alloc, text, first)?;
                 Ok((Primary::Name(name), rest))
             }
             TokKind::Int {
@@ -325,7 +335,7 @@ fn primary<'s, 't>(
                 }),
                 rest,
             )),
-            _ => group(alloc, last, fuel, toks),
+            _ => group(alloc, text, last, fuel, toks),
         },
         [] => Err(stopped(last, toks)),
     }
@@ -333,15 +343,16 @@ fn primary<'s, 't>(
 
 /// `"(" expr ")"`
 #[cycle(parse)]
-fn group<'s, 't>(
+fn group<'s>(
     alloc: Global,
+    text: &[u8],
     last: u32,
     fuel: usize,
-    toks: &'s [Lexeme<'t>],
-) -> Read<'s, 't, Primary> {
+    toks: &'s [Tok],
+) -> Read<'s, Primary> {
     let (opening, rest) = punct(last, Punct::LeftParenthesis, toks)?;
     let fuel = deeper(last, fuel, rest)?;
-    let (inner, rest) = expr(alloc, last, fuel, rest)?;
+    let (inner, rest) = expr(alloc, text, last, fuel, rest)?;
     let (closing, rest) = punct(last, Punct::RightParenthesis, rest)?;
     let inner = Box::new(alloc, inner)?;
     Ok((
@@ -356,15 +367,16 @@ fn group<'s, 't>(
 
 /// The postfix in front, where one comes.
 #[cycle(parse)]
-fn postfix_suffix<'s, 't>(
+fn postfix_suffix<'s>(
     alloc: Global,
+    text: &[u8],
     last: u32,
     fuel: usize,
-    toks: &'s [Lexeme<'t>],
-) -> Result<Option<(PostfixSuffix, &'s [Lexeme<'t>])>, ParseError> {
+    toks: &'s [Tok],
+) -> Result<Option<(PostfixSuffix, &'s [Tok])>, ParseError> {
     if let Some((opening, rest)) = behind_punct(Punct::LeftBracket, toks) {
         let fuel = deeper(last, fuel, rest)?;
-        let (index, rest) = expr(alloc, last, fuel, rest)?;
+        let (index, rest) = expr(alloc, text, last, fuel, rest)?;
         let (closing, rest) = punct(last, Punct::RightBracket, rest)?;
         let index = Box::new(alloc, index)?;
         return Ok(Some((
@@ -377,14 +389,14 @@ fn postfix_suffix<'s, 't>(
         )));
     }
     if let Some((opening, rest)) = behind_punct(Punct::LeftParenthesis, toks) {
-        let (suffix, rest) = arguments(alloc, last, fuel, opening, rest)?;
+        let (suffix, rest) = arguments(alloc, text, last, fuel, opening, rest)?;
         return Ok(Some((suffix, rest)));
     }
     match behind_step(toks) {
         Some((operator, rest)) => match operator.punct {
             Punct::Increment | Punct::Decrement => Ok(Some((PostfixSuffix::Step(operator), rest))),
             _ => {
-                let (name, rest) = name(alloc, last, rest)?;
+                let (name, rest) = name(alloc, text, last, rest)?;
                 Ok(Some((PostfixSuffix::Member { operator, name }, rest)))
             }
         },
@@ -394,13 +406,14 @@ fn postfix_suffix<'s, 't>(
 
 /// `[ assign { "," assign } ] ")"`, behind the bracket of a call
 #[cycle(parse)]
-fn arguments<'s, 't>(
+fn arguments<'s>(
     alloc: Global,
+    text: &[u8],
     last: u32,
     fuel: usize,
     opening: u32,
-    toks: &'s [Lexeme<'t>],
-) -> Read<'s, 't, PostfixSuffix> {
+    toks: &'s [Tok],
+) -> Read<'s, PostfixSuffix> {
     if let Some((closing, rest)) = behind_punct(Punct::RightParenthesis, toks) {
         return Ok((
             PostfixSuffix::Call {
@@ -412,7 +425,7 @@ fn arguments<'s, 't>(
         ));
     }
     let fuel = deeper(last, fuel, toks)?;
-    let (arguments, rest) = expr(alloc, last, fuel, toks)?;
+    let (arguments, rest) = expr(alloc, text, last, fuel, toks)?;
     let (closing, rest) = punct(last, Punct::RightParenthesis, rest)?;
     let arguments = Some(Box::new(alloc, arguments)?);
     Ok((
@@ -427,19 +440,20 @@ fn arguments<'s, 't>(
 
 /// `spec { spec }`
 #[cycle(parse)]
-pub fn specs<'s, 't>(
+pub fn specs<'s>(
     alloc: Global,
+    text: &[u8],
     last: u32,
     fuel: usize,
-    toks: &'s [Lexeme<'t>],
-) -> Read<'s, 't, Specs> {
-    let (first, mut rest) = spec(alloc, last, fuel, toks)?;
+    toks: &'s [Tok],
+) -> Read<'s, Specs> {
+    let (first, mut rest) = spec(alloc, text, last, fuel, toks)?;
     let mut others = Vec::new(alloc);
     for _ in 0..toks.len() {
         if !specs_come(rest) {
             return Ok((Specs { first, others }, rest));
         }
-        let (other, after) = spec(alloc, last, fuel, rest)?;
+        let (other, after) = spec(alloc, text, last, fuel, rest)?;
         others.push(other)?;
         rest = after;
     }
@@ -448,54 +462,57 @@ pub fn specs<'s, 't>(
 
 /// A word, or a structure.
 #[cycle(parse)]
-fn spec<'s, 't>(
+fn spec<'s>(
     alloc: Global,
+    text: &[u8],
     last: u32,
     fuel: usize,
-    toks: &'s [Lexeme<'t>],
-) -> Read<'s, 't, Spec> {
+    toks: &'s [Tok],
+) -> Read<'s, Spec> {
     if let Some((word, rest)) = word_spec(toks) {
         return Ok((Spec::Word(word), rest));
     }
     match behind_keyword(Keyword::Struct, toks) {
-        Some((keyword, rest)) => structure(alloc, last, fuel, keyword, rest),
+        Some((keyword, rest)) => structure(alloc, text, last, fuel, keyword, rest),
         None => Err(stopped(last, toks)),
     }
 }
 
 /// `name | [ name ] "{" member { member } "}"`, behind `struct`
 #[cycle(parse)]
-fn structure<'s, 't>(
+fn structure<'s>(
     alloc: Global,
+    text: &[u8],
     last: u32,
     fuel: usize,
     keyword: u32,
-    toks: &'s [Lexeme<'t>],
-) -> Read<'s, 't, Spec> {
+    toks: &'s [Tok],
+) -> Read<'s, Spec> {
     if !name_comes(toks) {
-        return body(alloc, last, fuel, keyword, None, toks);
+        return body(alloc, text, last, fuel, keyword, None, toks);
     }
-    let (tag, rest) = name(alloc, last, toks)?;
+    let (tag, rest) = name(alloc, text, last, toks)?;
     match behind_punct(Punct::LeftBrace, rest) {
-        Some(_) => body(alloc, last, fuel, keyword, Some(tag), rest),
+        Some(_) => body(alloc, text, last, fuel, keyword, Some(tag), rest),
         None => Ok((Spec::Reference { keyword, tag }, rest)),
     }
 }
 
 /// `"{" member { member } "}"`
 #[cycle(parse)]
-fn body<'s, 't>(
+fn body<'s>(
     alloc: Global,
+    text: &[u8],
     last: u32,
     fuel: usize,
     keyword: u32,
     tag: Option<Name>,
-    toks: &'s [Lexeme<'t>],
-) -> Read<'s, 't, Spec> {
+    toks: &'s [Tok],
+) -> Read<'s, Spec> {
     let (opening, rest) = punct(last, Punct::LeftBrace, toks)?;
     let fuel = deeper(last, fuel, rest)?;
-    let (first, rest) = member(alloc, last, fuel, rest)?;
-    let (others, closing, rest) = members(alloc, last, fuel, rest)?;
+    let (first, rest) = member(alloc, text, last, fuel, rest)?;
+    let (others, closing, rest) = members(alloc, text, last, fuel, rest)?;
     let body = StructBody {
         keyword,
         tag,
@@ -509,19 +526,20 @@ fn body<'s, 't>(
 
 /// `{ member } "}"`
 #[cycle(parse)]
-fn members<'s, 't>(
+fn members<'s>(
     alloc: Global,
+    text: &[u8],
     last: u32,
     fuel: usize,
-    toks: &'s [Lexeme<'t>],
-) -> Result<(Vec<Member>, u32, &'s [Lexeme<'t>]), ParseError> {
+    toks: &'s [Tok],
+) -> Result<(Vec<Member>, u32, &'s [Tok]), ParseError> {
     let mut others = Vec::new(alloc);
     let mut rest = toks;
     for _ in 0..toks.len() {
         if let Some((closing, after)) = behind_punct(Punct::RightBrace, rest) {
             return Ok((others, closing, after));
         }
-        let (other, after) = member(alloc, last, fuel, rest)?;
+        let (other, after) = member(alloc, text, last, fuel, rest)?;
         others.push(other)?;
         rest = after;
     }
@@ -530,19 +548,20 @@ fn members<'s, 't>(
 
 /// `specs declarator { "," declarator } ";"`
 #[cycle(parse)]
-fn member<'s, 't>(
+fn member<'s>(
     alloc: Global,
+    text: &[u8],
     last: u32,
     fuel: usize,
-    toks: &'s [Lexeme<'t>],
-) -> Read<'s, 't, Member> {
-    let (specs, rest) = specs(alloc, last, fuel, toks)?;
-    let (first, mut rest) = declarator(alloc, last, fuel, rest)?;
+    toks: &'s [Tok],
+) -> Read<'s, Member> {
+    let (specs, rest) = specs(alloc, text, last, fuel, toks)?;
+    let (first, mut rest) = declarator(alloc, text, last, fuel, rest)?;
     let mut others = Vec::new(alloc);
     for _ in 0..toks.len() {
         match behind_punct(Punct::Comma, rest) {
             Some((comma, after)) => {
-                let (declarator, after) = declarator(alloc, last, fuel, after)?;
+                let (declarator, after) = declarator(alloc, text, last, fuel, after)?;
                 others.push(NextDeclarator { comma, declarator })?;
                 rest = after;
             }
@@ -563,15 +582,16 @@ fn member<'s, 't>(
 
 /// `{ pointer } name { suffix }`
 #[cycle(parse)]
-pub fn declarator<'s, 't>(
+pub fn declarator<'s>(
     alloc: Global,
+    text: &[u8],
     last: u32,
     fuel: usize,
-    toks: &'s [Lexeme<'t>],
-) -> Read<'s, 't, Declarator> {
+    toks: &'s [Tok],
+) -> Read<'s, Declarator> {
     let (pointers, rest) = pointers(alloc, toks)?;
-    let (name, rest) = name(alloc, last, rest)?;
-    let (suffixes, rest) = suffixes(alloc, last, fuel, rest)?;
+    let (name, rest) = name(alloc, text, last, rest)?;
+    let (suffixes, rest) = suffixes(alloc, text, last, fuel, rest)?;
     Ok((
         Declarator {
             pointers,
@@ -584,16 +604,17 @@ pub fn declarator<'s, 't>(
 
 /// The suffixes in front.
 #[cycle(parse)]
-fn suffixes<'s, 't>(
+fn suffixes<'s>(
     alloc: Global,
+    text: &[u8],
     last: u32,
     fuel: usize,
-    toks: &'s [Lexeme<'t>],
-) -> Read<'s, 't, Vec<Suffix>> {
+    toks: &'s [Tok],
+) -> Read<'s, Vec<Suffix>> {
     let mut found = Vec::new(alloc);
     let mut rest = toks;
     for _ in 0..toks.len() {
-        match suffix(alloc, last, fuel, rest)? {
+        match suffix(alloc, text, last, fuel, rest)? {
             Some((suffix, after)) => {
                 found.push(suffix)?;
                 rest = after;
@@ -606,19 +627,20 @@ fn suffixes<'s, 't>(
 
 /// The suffix of a declarator in front, where one comes.
 #[cycle(parse)]
-fn suffix<'s, 't>(
+fn suffix<'s>(
     alloc: Global,
+    text: &[u8],
     last: u32,
     fuel: usize,
-    toks: &'s [Lexeme<'t>],
-) -> Result<Option<(Suffix, &'s [Lexeme<'t>])>, ParseError> {
+    toks: &'s [Tok],
+) -> Result<Option<(Suffix, &'s [Tok])>, ParseError> {
     if let Some((opening, rest)) = behind_punct(Punct::LeftBracket, toks) {
-        let (suffix, rest) = array(alloc, last, fuel, opening, rest)?;
+        let (suffix, rest) = array(alloc, text, last, fuel, opening, rest)?;
         return Ok(Some((suffix, rest)));
     }
     match behind_punct(Punct::LeftParenthesis, toks) {
         Some((opening, rest)) => {
-            let (suffix, rest) = params(alloc, last, fuel, opening, rest)?;
+            let (suffix, rest) = params(alloc, text, last, fuel, opening, rest)?;
             Ok(Some((suffix, rest)))
         }
         None => Ok(None),
@@ -627,13 +649,14 @@ fn suffix<'s, 't>(
 
 /// `[ cond ] "]"`, behind the bracket of an array
 #[cycle(parse)]
-fn array<'s, 't>(
+fn array<'s>(
     alloc: Global,
+    text: &[u8],
     last: u32,
     fuel: usize,
     opening: u32,
-    toks: &'s [Lexeme<'t>],
-) -> Read<'s, 't, Suffix> {
+    toks: &'s [Tok],
+) -> Read<'s, Suffix> {
     if let Some((closing, rest)) = behind_punct(Punct::RightBracket, toks) {
         return Ok((
             Suffix::Array {
@@ -645,7 +668,7 @@ fn array<'s, 't>(
         ));
     }
     let fuel = deeper(last, fuel, toks)?;
-    let (length, rest) = cond(alloc, last, fuel, toks)?;
+    let (length, rest) = cond(alloc, text, last, fuel, toks)?;
     let (closing, rest) = punct(last, Punct::RightBracket, rest)?;
     let length = Some(Box::new(alloc, length)?);
     Ok((
@@ -660,13 +683,14 @@ fn array<'s, 't>(
 
 /// `")" | "void" ")" | param { "," param } ")"`, behind the bracket of a function
 #[cycle(parse)]
-fn params<'s, 't>(
+fn params<'s>(
     alloc: Global,
+    text: &[u8],
     last: u32,
     fuel: usize,
     opening: u32,
-    toks: &'s [Lexeme<'t>],
-) -> Read<'s, 't, Suffix> {
+    toks: &'s [Tok],
+) -> Read<'s, Suffix> {
     if let Some((closing, rest)) = behind_punct(Punct::RightParenthesis, toks) {
         return Ok((Suffix::Empty { opening, closing }, rest));
     }
@@ -681,8 +705,8 @@ fn params<'s, 't>(
         ));
     }
     let fuel = deeper(last, fuel, toks)?;
-    let (first, rest) = param(alloc, last, fuel, toks)?;
-    let (others, closing, rest) = next_params(alloc, last, fuel, rest)?;
+    let (first, rest) = param(alloc, text, last, fuel, toks)?;
+    let (others, closing, rest) = next_params(alloc, text, last, fuel, rest)?;
     let first = Box::new(alloc, first)?;
     Ok((
         Suffix::Params {
@@ -697,18 +721,19 @@ fn params<'s, 't>(
 
 /// `{ "," param } ")"`
 #[cycle(parse)]
-fn next_params<'s, 't>(
+fn next_params<'s>(
     alloc: Global,
+    text: &[u8],
     last: u32,
     fuel: usize,
-    toks: &'s [Lexeme<'t>],
-) -> Result<(Vec<NextParam>, u32, &'s [Lexeme<'t>]), ParseError> {
+    toks: &'s [Tok],
+) -> Result<(Vec<NextParam>, u32, &'s [Tok]), ParseError> {
     let mut others = Vec::new(alloc);
     let mut rest = toks;
     for _ in 0..toks.len() {
         match behind_punct(Punct::Comma, rest) {
             Some((comma, after)) => {
-                let (param, after) = param(alloc, last, fuel, after)?;
+                let (param, after) = param(alloc, text, last, fuel, after)?;
                 others.push(NextParam { comma, param })?;
                 rest = after;
             }
@@ -723,17 +748,18 @@ fn next_params<'s, 't>(
 
 /// `specs declarator | specs { pointer } { suffix }`
 #[cycle(parse)]
-fn param<'s, 't>(
+fn param<'s>(
     alloc: Global,
+    text: &[u8],
     last: u32,
     fuel: usize,
-    toks: &'s [Lexeme<'t>],
-) -> Read<'s, 't, Param> {
-    let (specs, rest) = specs(alloc, last, fuel, toks)?;
+    toks: &'s [Tok],
+) -> Read<'s, Param> {
+    let (specs, rest) = specs(alloc, text, last, fuel, toks)?;
     let (pointers, rest) = pointers(alloc, rest)?;
     if name_comes(rest) {
-        let (name, rest) = name(alloc, last, rest)?;
-        let (suffixes, rest) = suffixes(alloc, last, fuel, rest)?;
+        let (name, rest) = name(alloc, text, last, rest)?;
+        let (suffixes, rest) = suffixes(alloc, text, last, fuel, rest)?;
         let declarator = Declarator {
             pointers,
             name,
@@ -741,7 +767,7 @@ fn param<'s, 't>(
         };
         return Ok((Param::Named { specs, declarator }, rest));
     }
-    let (suffixes, rest) = suffixes(alloc, last, fuel, rest)?;
+    let (suffixes, rest) = suffixes(alloc, text, last, fuel, rest)?;
     if is_bare_void(&specs, &pointers, &suffixes) {
         return Err(stopped(last, rest));
     }

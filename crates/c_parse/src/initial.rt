@@ -1,26 +1,27 @@
 //! The parser of initializers.
 
 use crate::expression::cond;
-use crate::lexeme::{Lexeme, ParseError};
+use crate::error::ParseError;
 use crate::operator::behind_target;
-use crate::take::{Read, behind_punct, deeper, punct, stopped};
-use c_token::{Punct, TokKind};
+use crate::take::{Read, bytes_of, behind_punct, deeper, punct, stopped};
+use c_token::{Punct, Tok, TokKind};
 use c_tree::expression::{Assign, Cond, Declarator, Target};
 use c_tree::statement::{EqualsInit, Init, InitDeclarator, NextInit};
 use c_tree::word::Text;
 use std::alloc::Global;
 
 /// `[ "=" init ]`, behind the declarator
-pub fn init_declarator<'s, 't>(
+pub fn init_declarator<'s>(
     alloc: Global,
+    text: &[u8],
     last: u32,
     fuel: usize,
     declarator: Declarator,
-    toks: &'s [Lexeme<'t>],
-) -> Read<'s, 't, InitDeclarator> {
+    toks: &'s [Tok],
+) -> Read<'s, InitDeclarator> {
     match behind_punct(Punct::Assign, toks) {
         Some((equals, rest)) => {
-            let (init, rest) = init(alloc, last, fuel, rest)?;
+            let (init, rest) = init(alloc, text, last, fuel, rest)?;
             let init = Some(EqualsInit { equals, init });
             Ok((InitDeclarator { declarator, init }, rest))
         }
@@ -33,34 +34,37 @@ pub fn init_declarator<'s, 't>(
 
 /// `assign | string | "{" init { "," init } [ "," ] "}"`
 #[cycle(init)]
-fn init<'s, 't>(
+fn init<'s>(
     alloc: Global,
+    text: &[u8],
     last: u32,
     fuel: usize,
-    toks: &'s [Lexeme<'t>],
-) -> Read<'s, 't, Init> {
+    toks: &'s [Tok],
+) -> Read<'s, Init> {
     if let Some((opening, rest)) = behind_punct(Punct::LeftBrace, toks) {
-        return list(alloc, last, fuel, opening, rest);
+        return list(alloc, text, last, fuel, opening, rest);
     }
-    if let Some((bytes, line, rest)) = behind_text(toks) {
-        let bytes = bytes.to_vec(alloc)?;
+    if let Some((tok, rest)) = behind_text(toks) {
+        let bytes = bytes_of(text, tok).to_vec(alloc)?;
+        let line = tok.line;
         return Ok((Init::Text(Text { bytes, line }), rest));
     }
-    let (assign, rest) = assign(alloc, last, fuel, toks)?;
+    let (assign, rest) = assign(alloc, text, last, fuel, toks)?;
     Ok((Init::Assign(assign), rest))
 }
 
 /// `cond | unary assignop assign`
-fn assign<'s, 't>(
+fn assign<'s>(
     alloc: Global,
+    text: &[u8],
     last: u32,
     fuel: usize,
-    toks: &'s [Lexeme<'t>],
-) -> Read<'s, 't, Assign> {
+    toks: &'s [Tok],
+) -> Read<'s, Assign> {
     let mut targets = Vec::new(alloc);
     let mut rest = toks;
     for _ in 0..toks.len() {
-        let (value, after) = cond(alloc, last, fuel, rest)?;
+        let (value, after) = cond(alloc, text, last, fuel, rest)?;
         match assigned(value, after) {
             Ok((target, behind)) => {
                 targets.push(target)?;
@@ -74,10 +78,10 @@ fn assign<'s, 't>(
 
 /// What is assigned to where an assignment operator follows, and what is behind it; otherwise the
 /// value is given back.
-fn assigned<'s, 't>(
+fn assigned<'s>(
     value: Cond,
-    toks: &'s [Lexeme<'t>],
-) -> Result<(Target, &'s [Lexeme<'t>]), Cond> {
+    toks: &'s [Tok],
+) -> Result<(Target, &'s [Tok]), Cond> {
     if !value.choices.is_empty() {
         return Err(value);
     }
@@ -91,33 +95,33 @@ fn assigned<'s, 't>(
 }
 
 /// The string in front, and what is behind it.
-fn behind_text<'s, 't>(toks: &'s [Lexeme<'t>]) -> Option<(&'t [u8], u32, &'s [Lexeme<'t>])> {
+fn behind_text<'s>(toks: &'s [Tok]) -> Option<(&'s Tok, &'s [Tok])> {
     match toks {
-        [
-            Lexeme {
-                kind: TokKind::Text,
-                bytes,
-                line,
-            },
-            rest @ ..,
-        ] => Some((*bytes, *line, rest)),
-        _ => None,
+        [first, rest @ ..] => {
+            if first.kind == TokKind::Text {
+                Some((first, rest))
+            } else {
+                None
+            }
+        }
+        [] => None,
     }
 }
 
 /// `init { "," init } [ "," ] "}"`, behind the bracket
 #[cycle(init)]
-fn list<'s, 't>(
+fn list<'s>(
     alloc: Global,
+    text: &[u8],
     last: u32,
     fuel: usize,
     opening: u32,
-    toks: &'s [Lexeme<'t>],
-) -> Read<'s, 't, Init> {
+    toks: &'s [Tok],
+) -> Read<'s, Init> {
     let fuel = deeper(last, fuel, toks)?;
-    let (first, rest) = init(alloc, last, fuel, toks)?;
+    let (first, rest) = init(alloc, text, last, fuel, toks)?;
     let first = Box::new(alloc, first)?;
-    let (others, rest) = items(alloc, last, fuel, rest)?;
+    let (others, rest) = items(alloc, text, last, fuel, rest)?;
     let (last_comma, rest) = comma_in_front(rest);
     let (closing, rest) = punct(last, Punct::RightBrace, rest)?;
     let list = Init::List {
@@ -131,7 +135,7 @@ fn list<'s, 't>(
 }
 
 /// The comma in front, where one comes.
-fn comma_in_front<'s, 't>(toks: &'s [Lexeme<'t>]) -> (Option<u32>, &'s [Lexeme<'t>]) {
+fn comma_in_front<'s>(toks: &'s [Tok]) -> (Option<u32>, &'s [Tok]) {
     match behind_punct(Punct::Comma, toks) {
         Some((comma, rest)) => (Some(comma), rest),
         None => (None, toks),
@@ -139,7 +143,7 @@ fn comma_in_front<'s, 't>(toks: &'s [Lexeme<'t>]) -> (Option<u32>, &'s [Lexeme<'
 }
 
 /// The comma in front that an item follows, and not the end of the list.
-fn comma_before_item<'s, 't>(toks: &'s [Lexeme<'t>]) -> Option<(u32, &'s [Lexeme<'t>])> {
+fn comma_before_item<'s>(toks: &'s [Tok]) -> Option<(u32, &'s [Tok])> {
     let (comma, rest) = behind_punct(Punct::Comma, toks)?;
     match behind_punct(Punct::RightBrace, rest) {
         Some(_) => None,
@@ -149,18 +153,19 @@ fn comma_before_item<'s, 't>(toks: &'s [Lexeme<'t>]) -> Option<(u32, &'s [Lexeme
 
 /// `{ "," init }`
 #[cycle(init)]
-fn items<'s, 't>(
+fn items<'s>(
     alloc: Global,
+    text: &[u8],
     last: u32,
     fuel: usize,
-    toks: &'s [Lexeme<'t>],
-) -> Read<'s, 't, Vec<NextInit>> {
+    toks: &'s [Tok],
+) -> Read<'s, Vec<NextInit>> {
     let mut others = Vec::new(alloc);
     let mut rest = toks;
     for _ in 0..toks.len() {
         match comma_before_item(rest) {
             Some((comma, after)) => {
-                let (init, after) = init(alloc, last, fuel, after)?;
+                let (init, after) = init(alloc, text, last, fuel, after)?;
                 others.push(NextInit { comma, init })?;
                 rest = after;
             }

@@ -1,15 +1,9 @@
 //! Expressions that are read in part.
 
-ghost use Rattle.std.specs.Prelude.{◌≡◌, ◌++◌, ◌∷◌, [], IfOk};
-ghost use Rattle.c_token.specs.declared.token.Punct.TheVariants.{Colon};
-ghost use Rattle.c_tree.specs.Spelling.{spell_binary, spell_expr, spell_assign, spell_target};
-ghost use Rattle.c_parse.specs.Symbols.{symbols, mark};
-ghost use Rattle.c_parse.specs.Levels.{spell_earlier, spell_level, spell_frame, spell_turn};
-
-use crate::lexeme::{Lexeme, ParseError};
+use crate::error::ParseError;
 use crate::operator::behind_target;
 use crate::take::behind_punct;
-use c_token::Punct;
+use c_token::{Punct, Tok};
 use c_tree::expression::{Assign, Binary, Choice, Cond, Expr, NextAssign, Target};
 use std::alloc::{AllocError, Global};
 
@@ -32,7 +26,6 @@ pub struct Level {
 impl Level {
     /// Nothing is read.
     pub fn new(alloc: Global) -> Level
-        ensures { spell_level result ≡ [] }
     {
         Level {
             earlier: None,
@@ -52,24 +45,22 @@ pub struct Frame {
 
 /// What comes behind an operand, and the tokens behind that.
 #[derive(Drop)]
-pub enum Turn<'s, 't> {
+pub enum Turn<'s> {
     /// A `?` came.
-    Deeper(Frame, &'s [Lexeme<'t>]),
+    Deeper(Frame, &'s [Tok]),
     /// An assignment operator or a comma came.
-    On(Level, &'s [Lexeme<'t>]),
+    On(Level, &'s [Tok]),
     /// The expression ended.
-    Done(Expr, &'s [Lexeme<'t>]),
+    Done(Expr, &'s [Tok]),
 }
 
 /// What comes behind an operand.
-#[tactic(auto, using(std::proofs::lemmas::List::append_assoc))]
-pub fn behind_operand<'s, 't>(
+pub fn behind_operand<'s>(
     alloc: Global,
     level: Level,
     operand: Binary,
-    toks: &'s [Lexeme<'t>],
-) -> Result<Turn<'s, 't>, AllocError>
-    ensures { IfOk result (λ t. spell_level level ++ (spell_binary operand ++ symbols toks.now) ≡ spell_turn t) }
+    toks: &'s [Tok],
+) -> Result<Turn<'s>, AllocError>
 {
     if let Some((question, rest)) = behind_punct(Punct::Question, toks) {
         let frame = Frame {
@@ -89,10 +80,7 @@ pub fn behind_operand<'s, 't>(
 }
 
 /// The level with one left side more.
-#[tactic(auto, using(std::proofs::lemmas::List::append_assoc, crate::proofs::Lists::flat_push))]
 fn assigned(level: Level, target: Target) -> Result<Level, AllocError>
-    requires { level.choices.items ≡ [] }
-    ensures { IfOk result (λ x. spell_level x ≡ spell_level level ++ spell_target target) }
 {
     let mut targets = level.targets;
     targets.push(target)?;
@@ -104,14 +92,12 @@ fn assigned(level: Level, target: Target) -> Result<Level, AllocError>
 }
 
 /// An assignment has its last operand.
-#[tactic(auto, using(std::proofs::lemmas::List::append_assoc, c_tree::proofs::Views::see_cond, c_tree::proofs::Views::see_assign))]
-fn ended<'s, 't>(
+fn ended<'s>(
     alloc: Global,
     level: Level,
     operand: Binary,
-    toks: &'s [Lexeme<'t>],
-) -> Result<Turn<'s, 't>, AllocError>
-    ensures { IfOk result (λ t. spell_level level ++ (spell_binary operand ++ symbols toks.now) ≡ spell_turn t) }
+    toks: &'s [Tok],
+) -> Result<Turn<'s>, AllocError>
 {
     let value = Cond {
         choices: level.choices,
@@ -136,43 +122,44 @@ fn ended<'s, 't>(
 }
 
 /// The assignments before a comma, and one more.
-#[tactic(auto, using(std::proofs::lemmas::List::append_assoc, c_tree::proofs::Views::see_expr, c_tree::proofs::Views::see_next_assign, crate::proofs::Lists::flat_push))]
 fn joined(alloc: Global, earlier: Option<Earlier>, assign: Assign) -> Result<Expr, AllocError>
-    ensures { IfOk result (λ e. spell_expr e ≡ spell_earlier earlier ++ spell_assign assign) }
 {
     match earlier {
         None => Ok(Expr {
             first: assign,
             others: Vec::new(alloc),
         }),
-        Some(earlier) => {
-            let comma = earlier.comma;
-            let mut others = earlier.expr.others;
+        Some(Earlier { expr, comma }) => {
+            let Expr { first, mut others } = expr;
             others.push(NextAssign { comma, assign })?;
-            Ok(Expr {
-                first: earlier.expr.first,
-                others,
-            })
+            Ok(Expr { first, others })
         }
     }
 }
 
 /// What was read with the expression between `?` and `:`.
-#[tactic(auto, using(std::proofs::lemmas::List::append_assoc, c_tree::proofs::Views::see_choice, crate::proofs::Lists::flat_push))]
 pub fn chosen(alloc: Global, frame: Frame, then: Expr, colon: u32) -> Result<Level, AllocError>
-    ensures { IfOk result (λ l. spell_level l ≡ spell_frame frame ++ (spell_expr then ++ mark Colon colon ∷ [])) }
 {
-    let choice = Choice {
-        condition: frame.condition,
-        question: frame.question,
-        then: Box::new(alloc, then)?,
+    let Frame {
+        level,
+        condition,
+        question,
+    } = frame;
+    let Level {
+        earlier,
+        targets,
+        mut choices,
+    } = level;
+    let then = Box::new(alloc, then)?;
+    choices.push(Choice {
+        condition,
+        question,
+        then,
         colon,
-    };
-    let mut choices = frame.level.choices;
-    choices.push(choice)?;
+    })?;
     Ok(Level {
-        earlier: frame.level.earlier,
-        targets: frame.level.targets,
+        earlier,
+        targets,
         choices,
     })
 }

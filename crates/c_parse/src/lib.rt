@@ -6,18 +6,18 @@
 #![tactic(auto)]
 
 mod declarator;
+mod entry;
+mod error;
 mod expression;
 mod initial;
 mod level;
-mod lexeme;
 mod limits;
 mod operator;
-mod parse;
 mod statement;
 mod take;
 #[cfg(test)]
 mod tests;
 mod unit;
 
-pub use lexeme::ParseError;
-pub use parse::parse;
+pub use entry::parse;
+pub use error::ParseError;

@@ -1,6 +1,6 @@
 //! The limits on open brackets and on runs of tokens (the project's own).
 
-use crate::lexeme::ParseError;
+use crate::error::ParseError;
 use c_token::{Punct, Tok, TokKind};
 
 /// How many brackets may be open at a token.

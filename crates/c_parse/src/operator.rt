@@ -1,14 +1,9 @@
 //! The operators of expressions.
 
-ghost use Rattle.std.specs.Prelude.{◌≡◌, ◌++◌, ◌∷◌, IfOk, IfErr};
-ghost use Rattle.std.specs.Option.{IfSome};
-ghost use Rattle.c_tree.specs.Words.{signed};
-ghost use Rattle.c_tree.specs.Spelling.{spell_binary, spell_target};
-ghost use Rattle.c_parse.specs.Symbols.{symbols};
+ghost use Rattle.std.specs.Prelude.{◌<◌};
 
-use crate::lexeme::Lexeme;
 use crate::take::behind_sign;
-use c_token::Punct;
+use c_token::{Punct, Tok};
 use c_tree::expression::{Binary, Cast, Prefix, Target};
 use c_tree::word::Sign;
 
@@ -69,23 +64,17 @@ fn is_assignment(punct: Punct) -> bool {
 }
 
 /// The binary operator of the level over `below` in front, and what is behind it.
-pub fn behind_level<'s, 't>(
-    below: usize,
-    toks: &'s [Lexeme<'t>],
-) -> Option<(Sign, &'s [Lexeme<'t>])>
-    ensures { IfSome result (λ x. symbols toks.now ≡ signed x.0 ∷ symbols x.1.now) }
+pub fn behind_level<'s>(below: usize, toks: &'s [Tok]) -> Option<(Sign, &'s [Tok])>
+    requires { below < 10 }
 {
     match behind_sign(toks) {
-        Some((sign, rest)) if level_of(sign.punct) > below && level_of(sign.punct) - 1 == below => {
-            Some((sign, rest))
-        }
+        Some((sign, rest)) if level_of(sign.punct) == below + 1 => Some((sign, rest)),
         _ => None,
     }
 }
 
 /// The prefix operator in front, and what is behind it.
-pub fn behind_prefix<'s, 't>(toks: &'s [Lexeme<'t>]) -> Option<(Sign, &'s [Lexeme<'t>])>
-    ensures { IfSome result (λ x. symbols toks.now ≡ signed x.0 ∷ symbols x.1.now) }
+pub fn behind_prefix<'s>(toks: &'s [Tok]) -> Option<(Sign, &'s [Tok])>
 {
     match behind_sign(toks) {
         Some((sign, rest)) if is_prefix(sign.punct) => Some((sign, rest)),
@@ -94,8 +83,7 @@ pub fn behind_prefix<'s, 't>(toks: &'s [Lexeme<'t>]) -> Option<(Sign, &'s [Lexem
 }
 
 /// One of `. -> ++ --` in front, and what is behind it.
-pub fn behind_step<'s, 't>(toks: &'s [Lexeme<'t>]) -> Option<(Sign, &'s [Lexeme<'t>])>
-    ensures { IfSome result (λ x. symbols toks.now ≡ signed x.0 ∷ symbols x.1.now) }
+pub fn behind_step<'s>(toks: &'s [Tok]) -> Option<(Sign, &'s [Tok])>
 {
     match behind_sign(toks) {
         Some((sign, rest)) if is_step(sign.punct) => Some((sign, rest)),
@@ -104,8 +92,7 @@ pub fn behind_step<'s, 't>(toks: &'s [Lexeme<'t>]) -> Option<(Sign, &'s [Lexeme<
 }
 
 /// The assignment operator in front, and what is behind it.
-fn behind_assignment<'s, 't>(toks: &'s [Lexeme<'t>]) -> Option<(Sign, &'s [Lexeme<'t>])>
-    ensures { IfSome result (λ x. symbols toks.now ≡ signed x.0 ∷ symbols x.1.now) }
+fn behind_assignment<'s>(toks: &'s [Tok]) -> Option<(Sign, &'s [Tok])>
 {
     match behind_sign(toks) {
         Some((sign, rest)) if is_assignment(sign.punct) => Some((sign, rest)),
@@ -123,19 +110,31 @@ fn is_unary(cast: &Cast) -> bool {
 
 /// What is assigned to where an assignment operator follows, and what is behind it; otherwise the
 /// operand is given back.
-#[tactic(auto, using(std::proofs::lemmas::List::append_assoc, c_tree::proofs::Views::see_binary_operand, c_tree::proofs::Views::see_target))]
-pub fn behind_target<'s, 't>(
+pub fn behind_target<'s>(
     operand: Binary,
-    toks: &'s [Lexeme<'t>],
-) -> Result<(Target, &'s [Lexeme<'t>]), Binary>
-    ensures target { IfOk result (λ x. spell_binary operand ++ symbols toks.now ≡ spell_target x.0 ++ symbols x.1.now) }
-    ensures same { IfErr result (λ e. e ≡ operand) }
+    toks: &'s [Tok],
+) -> Result<(Target, &'s [Tok]), Binary>
 {
-    let Some((operator, rest)) = behind_assignment(toks) else {
-        return Err(operand);
-    };
+    match behind_assignment(toks) {
+        Some((operator, rest)) => match place_of(operand) {
+            Ok(place) => Ok((Target { place, operator }, rest)),
+            Err(operand) => Err(operand),
+        },
+        None => Err(operand),
+    }
+}
+
+/// The operand that may stand left of an assignment; another is given back.
+fn place_of(operand: Binary) -> Result<Cast, Binary>
+{
     match operand {
-        Binary::Operand(place) if is_unary(&place) => Ok((Target { place, operator }, rest)),
-        other => Err(other),
+        Binary::Operand(place) => {
+            if is_unary(&place) {
+                Ok(place)
+            } else {
+                Err(Binary::Operand(place))
+            }
+        }
+        Binary::Chain { first, others } => Err(Binary::Chain { first, others }),
     }
 }

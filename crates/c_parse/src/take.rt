@@ -1,20 +1,17 @@
 //! The token in front of a list.
 
-ghost use Rattle.std.specs.Prelude.{◌≡◌, ◌+◌, ◌∷◌, IfOk};
-ghost use Rattle.std.specs.Option.{IfSome};
-ghost use Rattle.c_tree.specs.Words.{named, signed, keyed};
-ghost use Rattle.c_parse.specs.Symbols.{symbols, mark, keymark};
+ghost use Rattle.std.specs.Prelude.{◌≡◌, ◌+◌, IfOk};
 
-use crate::lexeme::{Lexeme, ParseError};
-use c_token::{Keyword, Punct, TokKind};
+use crate::error::ParseError;
+use c_token::{Keyword, Punct, Tok, TokKind};
 use c_tree::word::{Name, Sign, Word};
 use std::alloc::Global;
 
 /// What a reader gives: a part of the tree, and the tokens behind it.
-pub type Read<'s, 't, T> = Result<(T, &'s [Lexeme<'t>]), ParseError>;
+pub type Read<'s, T> = Result<(T, &'s [Tok]), ParseError>;
 
 /// The error of a parser that stopped before these tokens; `last` is the line of the last token.
-pub fn stopped(last: u32, toks: &[Lexeme<'_>]) -> ParseError {
+pub fn stopped(last: u32, toks: &[Tok]) -> ParseError {
     match toks {
         [first, ..] => ParseError::Syntax { line: first.line },
         [] => ParseError::Syntax { line: last },
@@ -22,7 +19,7 @@ pub fn stopped(last: u32, toks: &[Lexeme<'_>]) -> ParseError {
 }
 
 /// One less than the fuel, which the number of tokens bounds.
-pub fn deeper(last: u32, fuel: usize, toks: &[Lexeme<'_>]) -> Result<usize, ParseError>
+pub fn deeper(last: u32, fuel: usize, toks: &[Tok]) -> Result<usize, ParseError>
     ensures { IfOk result (λ less. less + 1 ≡ fuel) }
 {
     if fuel == 0 {
@@ -33,12 +30,11 @@ pub fn deeper(last: u32, fuel: usize, toks: &[Lexeme<'_>]) -> Result<usize, Pars
 }
 
 /// The line of a punctuator that has to come.
-pub fn punct<'s, 't>(last: u32, wanted: Punct, toks: &'s [Lexeme<'t>]) -> Read<'s, 't, u32>
-    ensures { IfOk result (λ x. symbols toks.now ≡ mark wanted x.0 ∷ symbols x.1.now) }
+pub fn punct<'s>(last: u32, wanted: Punct, toks: &'s [Tok]) -> Read<'s, u32>
 {
     match toks {
         [
-            Lexeme {
+            Tok {
                 kind: TokKind::Punct(found),
                 line,
                 ..
@@ -50,12 +46,11 @@ pub fn punct<'s, 't>(last: u32, wanted: Punct, toks: &'s [Lexeme<'t>]) -> Read<'
 }
 
 /// The line of a keyword that has to come.
-pub fn keyword<'s, 't>(last: u32, wanted: Keyword, toks: &'s [Lexeme<'t>]) -> Read<'s, 't, u32>
-    ensures { IfOk result (λ x. symbols toks.now ≡ keymark wanted x.0 ∷ symbols x.1.now) }
+pub fn keyword<'s>(last: u32, wanted: Keyword, toks: &'s [Tok]) -> Read<'s, u32>
 {
     match toks {
         [
-            Lexeme {
+            Tok {
                 kind: TokKind::Keyword(found),
                 line,
                 ..
@@ -67,35 +62,42 @@ pub fn keyword<'s, 't>(last: u32, wanted: Keyword, toks: &'s [Lexeme<'t>]) -> Re
 }
 
 /// A name that has to come.
-pub fn name<'s, 't>(alloc: Global, last: u32, toks: &'s [Lexeme<'t>]) -> Read<'s, 't, Name>
-    ensures { IfOk result (λ x. symbols toks.now ≡ named x.0 ∷ symbols x.1.now) }
+pub fn name<'s>(alloc: Global, text: &[u8], last: u32, toks: &'s [Tok]) -> Read<'s, Name>
 {
     match toks {
-        [
-            Lexeme {
-                kind: TokKind::Name,
-                bytes,
-                line,
-            },
-            rest @ ..,
-        ] => Ok((named(alloc, bytes, *line)?, rest)),
-        _ => Err(stopped(last, toks)),
+        [first, rest @ ..] => {
+            if first.kind == TokKind::Name {
+                Ok((named(alloc, text, first)?, rest))
+            } else {
+                Err(stopped(last, toks))
+            }
+        }
+        [] => Err(stopped(last, toks)),
+    }
+}
+
+/// The bytes of a token.
+pub fn bytes_of<'t>(text: &'t [u8], tok: &Tok) -> &'t [u8] {
+    match text.get(tok.start as usize..tok.end as usize) {
+        Some(bytes) => bytes,
+        None => &[],
     }
 }
 
 /// A name with a copy of its bytes.
-pub fn named(alloc: Global, bytes: &[u8], line: u32) -> Result<Name, ParseError>
-    ensures { IfOk result (λ x. (x.bytes.items ≡ bytes.now) × (x.line ≡ line)) }
-{
-    let bytes = bytes.to_vec(alloc)?;
-    Ok(Name { bytes, line })
+pub fn named(alloc: Global, text: &[u8], tok: &Tok) -> Result<Name, ParseError> {
+    let bytes = bytes_of(text, tok).to_vec(alloc)?;
+    Ok(Name {
+        bytes,
+        line: tok.line,
+    })
 }
 
 /// The punctuator in front.
-pub fn punct_in_front(toks: &[Lexeme<'_>]) -> Option<Punct> {
+pub fn punct_in_front(toks: &[Tok]) -> Option<Punct> {
     match toks {
         [
-            Lexeme {
+            Tok {
                 kind: TokKind::Punct(found),
                 ..
             },
@@ -106,10 +108,10 @@ pub fn punct_in_front(toks: &[Lexeme<'_>]) -> Option<Punct> {
 }
 
 /// The keyword in front.
-pub fn keyword_in_front(toks: &[Lexeme<'_>]) -> Option<Keyword> {
+pub fn keyword_in_front(toks: &[Tok]) -> Option<Keyword> {
     match toks {
         [
-            Lexeme {
+            Tok {
                 kind: TokKind::Keyword(found),
                 ..
             },
@@ -120,15 +122,14 @@ pub fn keyword_in_front(toks: &[Lexeme<'_>]) -> Option<Keyword> {
 }
 
 /// The punctuator in front and what is behind it, if it is this one.
-pub fn behind_punct<'s, 't>(
+pub fn behind_punct<'s>(
     wanted: Punct,
-    toks: &'s [Lexeme<'t>],
-) -> Option<(u32, &'s [Lexeme<'t>])>
-    ensures { IfSome result (λ x. symbols toks.now ≡ mark wanted x.0 ∷ symbols x.1.now) }
+    toks: &'s [Tok],
+) -> Option<(u32, &'s [Tok])>
 {
     match toks {
         [
-            Lexeme {
+            Tok {
                 kind: TokKind::Punct(found),
                 line,
                 ..
@@ -140,15 +141,14 @@ pub fn behind_punct<'s, 't>(
 }
 
 /// The keyword in front and what is behind it, if it is this one.
-pub fn behind_keyword<'s, 't>(
+pub fn behind_keyword<'s>(
     wanted: Keyword,
-    toks: &'s [Lexeme<'t>],
-) -> Option<(u32, &'s [Lexeme<'t>])>
-    ensures { IfSome result (λ x. symbols toks.now ≡ keymark wanted x.0 ∷ symbols x.1.now) }
+    toks: &'s [Tok],
+) -> Option<(u32, &'s [Tok])>
 {
     match toks {
         [
-            Lexeme {
+            Tok {
                 kind: TokKind::Keyword(found),
                 line,
                 ..
@@ -160,12 +160,11 @@ pub fn behind_keyword<'s, 't>(
 }
 
 /// The punctuator in front and what is behind it, if `fits` holds of it.
-pub fn behind_sign<'s, 't>(toks: &'s [Lexeme<'t>]) -> Option<(Sign, &'s [Lexeme<'t>])>
-    ensures { IfSome result (λ x. symbols toks.now ≡ signed x.0 ∷ symbols x.1.now) }
+pub fn behind_sign<'s>(toks: &'s [Tok]) -> Option<(Sign, &'s [Tok])>
 {
     match toks {
         [
-            Lexeme {
+            Tok {
                 kind: TokKind::Punct(punct),
                 line,
                 ..
@@ -183,12 +182,11 @@ pub fn behind_sign<'s, 't>(toks: &'s [Lexeme<'t>]) -> Option<(Sign, &'s [Lexeme<
 }
 
 /// The keyword in front with its line, and what is behind it.
-pub fn behind_word<'s, 't>(toks: &'s [Lexeme<'t>]) -> Option<(Word, &'s [Lexeme<'t>])>
-    ensures { IfSome result (λ x. symbols toks.now ≡ keyed x.0 ∷ symbols x.1.now) }
+pub fn behind_word<'s>(toks: &'s [Tok]) -> Option<(Word, &'s [Tok])>
 {
     match toks {
         [
-            Lexeme {
+            Tok {
                 kind: TokKind::Keyword(keyword),
                 line,
                 ..
@@ -207,7 +205,10 @@ pub fn behind_word<'s, 't>(toks: &'s [Lexeme<'t>]) -> Option<(Word, &'s [Lexeme<
 
 /// Whether a specifier begins with this keyword (ISO/IEC 9899:1990, 6.5).
 pub fn is_specifier(keyword: Keyword) -> bool {
-    keyword == Keyword::Struct || is_specifier_word(keyword)
+    match keyword {
+        Keyword::Struct => true,
+        word => is_specifier_word(word),
+    }
 }
 
 /// Whether this keyword is a specifier alone.
@@ -231,7 +232,7 @@ pub fn is_specifier_word(keyword: Keyword) -> bool {
 }
 
 /// Whether specifiers come.
-pub fn specs_come(toks: &[Lexeme<'_>]) -> bool {
+pub fn specs_come(toks: &[Tok]) -> bool {
     match keyword_in_front(toks) {
         Some(keyword) => is_specifier(keyword),
         None => false,

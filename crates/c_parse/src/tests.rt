@@ -1,7 +1,7 @@
 //! Cases of the parser.
 
-use crate::lexeme::ParseError;
-use crate::parse::parse;
+use crate::error::ParseError;
+use crate::entry::parse;
 use c_token::{Tok, TokKind, raw};
 use c_tree::spell;
 use std::alloc::Global;

@@ -2,10 +2,9 @@
 
 use crate::expression::{declarator, specs};
 use crate::initial::init_declarator;
-use crate::lexeme::Lexeme;
 use crate::statement::{block, declared_behind};
 use crate::take::{Read, behind_punct};
-use c_token::Punct;
+use c_token::{Punct, Tok};
 use c_tree::expression::{Declarator, Specs, Suffix};
 use c_tree::statement::{Declaration, Function, Item, Unit};
 use std::alloc::Global;
@@ -14,18 +13,19 @@ use std::alloc::Global;
 const STATEMENTS: u16 = 256;
 
 /// `{ function | declaration }`, to the end of the tokens
-pub fn unit<'s, 't>(
+pub fn unit<'s>(
     alloc: Global,
+    text: &[u8],
     last: u32,
-    toks: &'s [Lexeme<'t>],
-) -> Read<'s, 't, Unit> {
+    toks: &'s [Tok],
+) -> Read<'s, Unit> {
     let mut items = Vec::new(alloc);
     let mut rest = toks;
     for _ in 0..toks.len() {
         if rest.is_empty() {
             return Ok((Unit { items }, rest));
         }
-        let (item, after) = item(alloc, last, toks.len(), rest)?;
+        let (item, after) = item(alloc, text, last, toks.len(), rest)?;
         items.push(item)?;
         rest = after;
     }
@@ -33,13 +33,14 @@ pub fn unit<'s, 't>(
 }
 
 /// `function | declaration`
-fn item<'s, 't>(
+fn item<'s>(
     alloc: Global,
+    text: &[u8],
     last: u32,
     fuel: usize,
-    toks: &'s [Lexeme<'t>],
-) -> Read<'s, 't, Item> {
-    let (specs, rest) = specs(alloc, last, fuel, toks)?;
+    toks: &'s [Tok],
+) -> Read<'s, Item> {
+    let (specs, rest) = specs(alloc, text, last, fuel, toks)?;
     if let Some((semicolon, rest)) = behind_punct(Punct::Semicolon, rest) {
         let declaration = Declaration {
             specs,
@@ -48,22 +49,23 @@ fn item<'s, 't>(
         };
         return Ok((Item::Declaration(declaration), rest));
     }
-    let (declarator, rest) = declarator(alloc, last, fuel, rest)?;
-    declared_item(alloc, last, fuel, specs, declarator, rest)
+    let (declarator, rest) = declarator(alloc, text, last, fuel, rest)?;
+    declared_item(alloc, text, last, fuel, specs, declarator, rest)
 }
 
 /// What follows the specifiers and the first declarator.
-fn declared_item<'s, 't>(
+fn declared_item<'s>(
     alloc: Global,
+    text: &[u8],
     last: u32,
     fuel: usize,
     specs: Specs,
     declarator: Declarator,
-    toks: &'s [Lexeme<'t>],
-) -> Read<'s, 't, Item> {
+    toks: &'s [Tok],
+) -> Read<'s, Item> {
     if is_function(&declarator) {
         if let Some(_) = behind_punct(Punct::LeftBrace, toks) {
-            let (body, rest) = block(alloc, last, fuel, STATEMENTS, toks)?;
+            let (body, rest) = block(alloc, text, last, fuel, STATEMENTS, toks)?;
             let function = Function {
                 specs,
                 declarator,
@@ -72,8 +74,8 @@ fn declared_item<'s, 't>(
             return Ok((Item::Function(function), rest));
         }
     }
-    let (first, rest) = init_declarator(alloc, last, fuel, declarator, toks)?;
-    let (declaration, rest) = declared_behind(alloc, last, fuel, specs, first, rest)?;
+    let (first, rest) = init_declarator(alloc, text, last, fuel, declarator, toks)?;
+    let (declaration, rest) = declared_behind(alloc, text, last, fuel, specs, first, rest)?;
     Ok((Item::Declaration(declaration), rest))
 }
 

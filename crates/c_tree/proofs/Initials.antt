@@ -11,9 +11,9 @@ pub list_put : (o o1 o2 o3 o4 : List TokKind) (first others comma : Symbols) (cl
 list_put o o1 o2 o3 o4 first others comma closing h1 h2 h3 h4 =
     let last : List TokKind = kinds_of comma ++ kinds.Punct RightBrace ∷ [] in
     let inner : kinds_of (first ++ (others ++ (comma ++ punct RightBrace closing ∷ []))) ≡ kinds_of first ++ (kinds_of others ++ last) =
-        kinds_append first (others ++ (comma ++ punct RightBrace closing ∷ [])) ∙ ap (λ (l : List TokKind). kinds_of first ++ l) (kinds_append others (comma ++ punct RightBrace closing ∷ []) ∙ ap (λ (l : List TokKind). kinds_of others ++ l) (kinds_append comma (punct RightBrace closing ∷ []))) in
+    kinds_append first (others ++ (comma ++ punct RightBrace closing ∷ [])) ∙ ap (λ (l : List TokKind). kinds_of first ++ l) (kinds_append others (comma ++ punct RightBrace closing ∷ []) ∙ ap (λ (l : List TokKind). kinds_of others ++ l) (kinds_append comma (punct RightBrace closing ∷ []))) in
     h4 ∙ ap (λ (l : List TokKind). l ++ last) (h3 ∙ ap (λ (l : List TokKind). l ++ kinds_of others) (h2 ∙ ap (λ (l : List TokKind). l ++ kinds_of first) h1))
-      ∙ append_assoc ((o ++ kinds.Punct LeftBrace ∷ []) ++ kinds_of first) (kinds_of others) last
-      ∙ append_assoc (o ++ kinds.Punct LeftBrace ∷ []) (kinds_of first) (kinds_of others ++ last)
-      ∙ append_assoc o (kinds.Punct LeftBrace ∷ []) (kinds_of first ++ (kinds_of others ++ last))
-      ∙ ap (λ (l : List TokKind). o ++ kinds.Punct LeftBrace ∷ l) (sym inner)
+    ∙ append_assoc ((o ++ kinds.Punct LeftBrace ∷ []) ++ kinds_of first) (kinds_of others) last
+    ∙ append_assoc (o ++ kinds.Punct LeftBrace ∷ []) (kinds_of first) (kinds_of others ++ last)
+    ∙ append_assoc o (kinds.Punct LeftBrace ∷ []) (kinds_of first ++ (kinds_of others ++ last))
+    ∙ ap (λ (l : List TokKind). o ++ kinds.Punct LeftBrace ∷ l) (sym inner)

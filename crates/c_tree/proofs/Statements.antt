@@ -59,7 +59,7 @@ pub see_statement_do : (keyword : _) (body : _) (while_keyword : _) (condition :
 unfolding spell_statement spell_switch_item spell_arm spell_block spell_else_arm spell_if_chain spell_otherwise
 see_statement_do keyword body while_keyword condition semicolon = ap (fold-Statement Symbols Symbols Symbols Symbols Symbols Symbols Symbols statement_step switch_item_step arm_step block_step else_arm_step if_chain_step otherwise_step) (sym (Statement.rolls-Do keyword body while_keyword condition semicolon)) ∙ fold-roll-Statement Symbols Symbols Symbols Symbols Symbols Symbols Symbols statement_step switch_item_step arm_step block_step else_arm_step if_chain_step otherwise_step (Open.Do keyword body while_keyword condition semicolon)
 
-pub see_statement_for : (keyword : _) (head : _) (body : _) → spell_statement (Statement.For keyword head body) ≡ key words.For keyword ∷ (spell_for_head head ++ spell_statement body.value)
+pub see_statement_for : (keyword : _) (head : _) (body : _) → spell_statement (Statement.For keyword head body) ≡ key words.For keyword ∷ (spell_for_head head.value ++ spell_statement body.value)
 unfolding spell_statement spell_switch_item spell_arm spell_block spell_else_arm spell_if_chain spell_otherwise
 see_statement_for keyword head body = ap (fold-Statement Symbols Symbols Symbols Symbols Symbols Symbols Symbols statement_step switch_item_step arm_step block_step else_arm_step if_chain_step otherwise_step) (sym (Statement.rolls-For keyword head body)) ∙ fold-roll-Statement Symbols Symbols Symbols Symbols Symbols Symbols Symbols statement_step switch_item_step arm_step block_step else_arm_step if_chain_step otherwise_step (Open.For keyword head body)
 

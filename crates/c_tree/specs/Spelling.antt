@@ -3,7 +3,6 @@ use Rattle.std.specs.Prelude.{ℕ, List, [], ◌∷◌, ◌++◌, Option, Some, 
 use Rattle.c_token.specs.declared.token.Keyword.TheVariants as words
 use Rattle.c_token.specs.declared.token.Punct.TheVariants.{LeftBracket, RightBracket, LeftParenthesis, RightParenthesis, LeftBrace, RightBrace, Question, Colon, Semicolon, Comma}
 use Rattle.c_tree.specs.Words.{Symbols, key, punct, keyed, signed, named, flat, spell_constant, spell_pointers, spell_tag}
-
 use Rattle.c_tree.specs.declared.expression.Binary.{Binary}
 use Rattle.c_tree.specs.declared.expression.Operand.{Operand}
 use Rattle.c_tree.specs.declared.expression.Param.{Param}

@@ -73,9 +73,16 @@ pub enum Suffix {
         closing: u32,
     },
     /// `()`
-    Empty { opening: u32, closing: u32 },
+    Empty {
+        opening: u32,
+        closing: u32,
+    },
     /// `(void)`
-    Void { opening: u32, void: u32, closing: u32 },
+    Void {
+        opening: u32,
+        void: u32,
+        closing: u32,
+    },
     /// A list of parameters.
     Params {
         opening: u32,
@@ -203,7 +210,9 @@ pub enum Prefix {
     /// One of `++ -- & * + - ~ !`
     Operator(Sign),
     /// `sizeof` of an expression
-    Sizeof { keyword: u32 },
+    Sizeof {
+        keyword: u32,
+    },
     /// `(TYPE)`
     Cast {
         opening: u32,
@@ -251,7 +260,10 @@ pub enum PostfixSuffix {
         closing: u32,
     },
     /// `.NAME` or `->NAME`
-    Member { operator: Sign, name: Name },
+    Member {
+        operator: Sign,
+        name: Name,
+    },
     /// `++` or `--`
     Step(Sign),
 }

@@ -13,8 +13,8 @@ use crate::marks::{punct, text, word};
 use crate::spelling::{put_assign, put_cond, put_declarator, put_expr, put_specs};
 use crate::statement::{
     Arm, Block, Condition, Declaration, Declared, ElseArm, EqualsInit, ForHead, Function, IfChain,
-    Init, InitDeclarator, Item, Label, NextInit, NextInitDeclarator, Otherwise, Statement, SwitchItem,
-    Unit,
+    Init, InitDeclarator, Item, Label, NextInit, NextInitDeclarator, Otherwise, Statement,
+    SwitchItem, Unit,
 };
 use c_token::{Keyword, Punct, TokKind};
 use std::alloc::{AllocError, Global};
@@ -143,7 +143,10 @@ fn put_equals_init(out: &mut Vec<TokKind>, init: &Option<EqualsInit>) -> Result<
 }
 
 #[tactic(auto, using(std::proofs::lemmas::List::append_assoc, crate::proofs::Append::kinds_append))]
-fn put_init_declarator(out: &mut Vec<TokKind>, declarator: &InitDeclarator) -> Result<(), AllocError>
+fn put_init_declarator(
+    out: &mut Vec<TokKind>,
+    declarator: &InitDeclarator,
+) -> Result<(), AllocError>
     ensures { IfOk result (λ _. out.new.items ≡ out.old.items ++ kinds_of (spell_init_declarator declarator.now)) }
 {
     put_declarator(out, &declarator.declarator)?;
@@ -151,7 +154,10 @@ fn put_init_declarator(out: &mut Vec<TokKind>, declarator: &InitDeclarator) -> R
 }
 
 #[tactic(auto, using(std::proofs::lemmas::List::append_assoc, crate::proofs::Append::kinds_append))]
-fn put_next_init_declarator(out: &mut Vec<TokKind>, next: &NextInitDeclarator) -> Result<(), AllocError>
+fn put_next_init_declarator(
+    out: &mut Vec<TokKind>,
+    next: &NextInitDeclarator,
+) -> Result<(), AllocError>
     ensures { IfOk result (λ _. out.new.items ≡ out.old.items ++ kinds_of (spell_next_init_declarator next.now)) }
 {
     punct(out, Punct::Comma)?;
@@ -204,14 +210,18 @@ fn put_statement(out: &mut Vec<TokKind>, statement: &Statement) -> Result<(), Al
         }
         Statement::If(chain) => put_if_chain(out, chain),
         Statement::While {
-            condition, body, ..
+            condition,
+            body,
+            ..
         } => {
             word(out, Keyword::While)?;
             put_condition(out, condition)?;
             put_statement(out, body)
         }
         Statement::Do {
-            body, condition, ..
+            body,
+            condition,
+            ..
         } => {
             word(out, Keyword::Do)?;
             put_statement(out, body)?;

@@ -6,7 +6,11 @@ ghost use Rattle.std.specs.Prelude.{◌≡◌, ◌++◌, IfOk, map};
 ghost use Rattle.c_tree.specs.Words.{kinds_of, flat, spell_pointers};
 ghost use Rattle.c_tree.specs.Spelling.{spell_assign, spell_binary, spell_cast, spell_choice, spell_cond, spell_declarator, spell_expr, spell_member, spell_next_assign, spell_next_declarator, spell_next_operand, spell_next_param, spell_operand, spell_param, spell_postfix, spell_postfix_suffix, spell_prefix, spell_primary, spell_spec, spell_specs, spell_struct_body, spell_suffix, spell_target, spell_type_name};
 
-use crate::expression::{Assign, Binary, Cast, Choice, Cond, Declarator, Expr, Member, NextAssign, NextDeclarator, NextOperand, NextParam, Operand, Param, Postfix, PostfixSuffix, Prefix, Primary, Spec, Specs, StructBody, Suffix, Target, TypeName};
+use crate::expression::{
+    Assign, Binary, Cast, Choice, Cond, Declarator, Expr, Member, NextAssign, NextDeclarator,
+    NextOperand, NextParam, Operand, Param, Postfix, PostfixSuffix, Prefix, Primary, Spec, Specs,
+    StructBody, Suffix, Target, TypeName,
+};
 use crate::marks::{constant, name, pointers, punct, tag, word};
 use c_token::{Keyword, Punct, TokKind};
 use std::alloc::AllocError;
@@ -68,7 +72,10 @@ fn put_member(out: &mut Vec<TokKind>, member: &Member) -> Result<(), AllocError>
 
 #[cycle(spelling)]
 #[tactic(auto, using(std::proofs::lemmas::List::append_assoc, crate::proofs::Append::kinds_append, crate::proofs::Views::see_next_declarator))]
-fn put_next_declarator(out: &mut Vec<TokKind>, next_declarator: &NextDeclarator) -> Result<(), AllocError>
+fn put_next_declarator(
+    out: &mut Vec<TokKind>,
+    next_declarator: &NextDeclarator,
+) -> Result<(), AllocError>
     ensures { IfOk result (λ _. out.new.items ≡ out.old.items ++ kinds_of (spell_next_declarator next_declarator.now)) }
 {
     punct(out, Punct::Comma)?;
@@ -310,7 +317,10 @@ fn put_postfix(out: &mut Vec<TokKind>, postfix: &Postfix) -> Result<(), AllocErr
 
 #[cycle(spelling)]
 #[tactic(auto, using(std::proofs::lemmas::List::append_assoc, crate::proofs::Append::kinds_append, crate::proofs::Views::see_postfix_suffix_index, crate::proofs::Views::see_postfix_suffix_call_none, crate::proofs::Views::see_postfix_suffix_call_some, crate::proofs::Views::see_postfix_suffix_member, crate::proofs::Views::see_postfix_suffix_step))]
-fn put_postfix_suffix(out: &mut Vec<TokKind>, postfix_suffix: &PostfixSuffix) -> Result<(), AllocError>
+fn put_postfix_suffix(
+    out: &mut Vec<TokKind>,
+    postfix_suffix: &PostfixSuffix,
+) -> Result<(), AllocError>
     ensures { IfOk result (λ _. out.new.items ≡ out.old.items ++ kinds_of (spell_postfix_suffix postfix_suffix.now)) }
 {
     match postfix_suffix {

@@ -124,7 +124,7 @@ pub enum Statement {
     /// `for (BEGIN; CONDITION; STEP) BODY`
     For {
         keyword: u32,
-        head: ForHead,
+        head: Box<ForHead>,
         body: Box<Statement>,
     },
     /// `switch (VALUE) { ITEMS }`
@@ -224,5 +224,8 @@ pub enum Label {
         colon: u32,
     },
     /// `default:`
-    Default { keyword: u32, colon: u32 },
+    Default {
+        keyword: u32,
+        colon: u32,
+    },
 }

@@ -43,7 +43,10 @@ pub enum Constant {
         line: u32,
     },
     /// The code of the character, 0 to 255.
-    Char { value: u8, line: u32 },
+    Char {
+        value: u8,
+        line: u32,
+    },
 }
 
 /// A `*` of a declarator or of a type name, and the words `const` and `volatile` behind it

@@ -19,6 +19,6 @@ put_init-returns-in_ok-put_list_end-in-List t c =
     let end = spell_comma c.in-List.last_comma ++ punct RightBrace c.in-List.closing ∷ [] in
     let put = list_put o _ _ _ _ (spell_init c.deref.result.now) (flat (map spell_next_init c.deref-in-List.result.now)) (spell_comma c.in-List.last_comma) c.in-List.closing c.in_ok-punct-in-List.ensures c.in_ok-put_init-in-List.ensures c.in_ok-put_next_inits-in-List.ensures c.in_ok-put_list_end-in-List.ensures in
     put
-      ∙ ap (λ (i : Init). o ++ kinds.Punct LeftBrace ∷ kinds_of (spell_init i ++ (flat (map spell_next_init c.deref-in-List.result.now) ++ end))) c.deref.ensures
-      ∙ ap (λ (l : List NextInit). o ++ kinds.Punct LeftBrace ∷ kinds_of (spell_init c.in-List.first.value ++ (flat (map spell_next_init l) ++ end))) c.deref-in-List.ensures.value
-      ∙ ap (λ (s : Symbols). o ++ kinds_of s) (sym (ap spell_init c.in-List.is ∙ see_init_list c.in-List.opening c.in-List.first c.in-List.others c.in-List.last_comma c.in-List.closing))
+    ∙ ap (λ (i : Init). o ++ kinds.Punct LeftBrace ∷ kinds_of (spell_init i ++ (flat (map spell_next_init c.deref-in-List.result.now) ++ end))) c.deref.ensures
+    ∙ ap (λ (l : List NextInit). o ++ kinds.Punct LeftBrace ∷ kinds_of (spell_init c.in-List.first.value ++ (flat (map spell_next_init l) ++ end))) c.deref-in-List.ensures.value
+    ∙ ap (λ (s : Symbols). o ++ kinds_of s) (sym (ap spell_init c.in-List.is ∙ see_init_list c.in-List.opening c.in-List.first c.in-List.others c.in-List.last_comma c.in-List.closing))

@@ -1,18 +1,9 @@
-//! Tokens with their bytes, and the ways in which parsing ends without a tree.
+//! The ways in which parsing ends without a tree.
 
 ghost use Rattle.std.specs.Prelude.{◌≡◌};
-ghost use Rattle.c_parse.specs.declared.lexeme.ParseError.TheVariants.{NoMemory};
+ghost use Rattle.c_parse.specs.declared.error.ParseError.TheVariants.{NoMemory};
 
-use c_token::TokKind;
 use std::alloc::{AllocError, AllocFailed};
-
-/// A token: its kind, the bytes of a name or of a string (none of another token), and its line.
-#[derive(Clone, Copy)]
-pub struct Lexeme<'t> {
-    pub kind: TokKind,
-    pub bytes: &'t [u8],
-    pub line: u32,
-}
 
 /// Why there is no tree. Each line is counted from 1.
 #[derive(Clone, Copy, PartialEq, Eq, Debug)]
