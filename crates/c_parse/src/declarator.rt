@@ -8,8 +8,7 @@ use c_tree::word::{Name, Pointer, Word};
 use std::alloc::Global;
 
 /// The words `const` and `volatile` in front.
-fn qualifiers<'s>(alloc: Global, toks: &'s [Tok]) -> Read<'s, Vec<Word>>
-{
+fn qualifiers<'s>(alloc: Global, toks: &'s [Tok]) -> Read<'s, Vec<Word>> {
     let mut found = Vec::new(alloc);
     let mut rest = toks;
     for _ in 0..toks.len() {
@@ -29,8 +28,7 @@ fn is_qualifier(keyword: Keyword) -> bool {
 }
 
 /// The pointers in front, each with its qualifiers.
-pub fn pointers<'s>(alloc: Global, toks: &'s [Tok]) -> Read<'s, Vec<Pointer>>
-{
+pub fn pointers<'s>(alloc: Global, toks: &'s [Tok]) -> Read<'s, Vec<Pointer>> {
     let mut found = Vec::new(alloc);
     let mut rest = toks;
     for _ in 0..toks.len() {
@@ -47,8 +45,7 @@ pub fn pointers<'s>(alloc: Global, toks: &'s [Tok]) -> Read<'s, Vec<Pointer>>
 }
 
 /// The specifier in front that is a word alone.
-pub fn word_spec<'s>(toks: &'s [Tok]) -> Option<(Word, &'s [Tok])>
-{
+pub fn word_spec<'s>(toks: &'s [Tok]) -> Option<(Word, &'s [Tok])> {
     match behind_word(toks) {
         Some((word, rest)) if is_specifier_word(word.keyword) => Some((word, rest)),
         _ => None,
@@ -64,8 +61,7 @@ pub fn name_comes(toks: &[Tok]) -> bool {
 }
 
 /// What stands behind `void` and `)`, with the line of each.
-pub fn void_and_close<'s>(toks: &'s [Tok]) -> Option<(u32, u32, &'s [Tok])>
-{
+pub fn void_and_close<'s>(toks: &'s [Tok]) -> Option<(u32, u32, &'s [Tok])> {
     match behind_word(toks) {
         Some((word, rest)) if word.keyword == Keyword::Void => {
             let (closing, rest) = behind_punct(Punct::RightParenthesis, rest)?;

@@ -154,13 +154,7 @@ fn operands<'s>(
 
 /// Prefixes and an operand.
 #[cycle(parse)]
-fn cast<'s>(
-    alloc: Global,
-    text: &[u8],
-    last: u32,
-    fuel: usize,
-    toks: &'s [Tok],
-) -> Read<'s, Cast> {
+fn cast<'s>(alloc: Global, text: &[u8], last: u32, fuel: usize, toks: &'s [Tok]) -> Read<'s, Cast> {
     let mut prefixes = Vec::new(alloc);
     let mut rest = toks;
     let mut casts = true;
@@ -184,9 +178,7 @@ fn cast<'s>(
 fn may_cast(prefix: &Prefix) -> bool {
     match prefix {
         Prefix::Cast { .. } => true,
-        Prefix::Operator(sign) => {
-            !matches!(sign.punct, Punct::Increment | Punct::Decrement)
-        }
+        Prefix::Operator(sign) => { !matches!(sign.punct, Punct::Increment | Punct::Decrement) }
         Prefix::Sizeof { .. } => false,
     }
 }
@@ -462,13 +454,7 @@ pub fn specs<'s>(
 
 /// A word, or a structure.
 #[cycle(parse)]
-fn spec<'s>(
-    alloc: Global,
-    text: &[u8],
-    last: u32,
-    fuel: usize,
-    toks: &'s [Tok],
-) -> Read<'s, Spec> {
+fn spec<'s>(alloc: Global, text: &[u8], last: u32, fuel: usize, toks: &'s [Tok]) -> Read<'s, Spec> {
     if let Some((word, rest)) = word_spec(toks) {
         return Ok((Spec::Word(word), rest));
     }

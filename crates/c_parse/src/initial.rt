@@ -1,9 +1,9 @@
 //! The parser of initializers.
 
-use crate::expression::cond;
 use crate::error::ParseError;
+use crate::expression::cond;
 use crate::operator::behind_target;
-use crate::take::{Read, bytes_of, behind_punct, deeper, punct, stopped};
+use crate::take::{Read, behind_punct, bytes_of, deeper, punct, stopped};
 use c_token::{Punct, Tok, TokKind};
 use c_tree::expression::{Assign, Cond, Declarator, Target};
 use c_tree::statement::{EqualsInit, Init, InitDeclarator, NextInit};
@@ -34,13 +34,7 @@ pub fn init_declarator<'s>(
 
 /// `assign | string | "{" init { "," init } [ "," ] "}"`
 #[cycle(init)]
-fn init<'s>(
-    alloc: Global,
-    text: &[u8],
-    last: u32,
-    fuel: usize,
-    toks: &'s [Tok],
-) -> Read<'s, Init> {
+fn init<'s>(alloc: Global, text: &[u8], last: u32, fuel: usize, toks: &'s [Tok]) -> Read<'s, Init> {
     if let Some((opening, rest)) = behind_punct(Punct::LeftBrace, toks) {
         return list(alloc, text, last, fuel, opening, rest);
     }
@@ -78,10 +72,7 @@ fn assign<'s>(
 
 /// What is assigned to where an assignment operator follows, and what is behind it; otherwise the
 /// value is given back.
-fn assigned<'s>(
-    value: Cond,
-    toks: &'s [Tok],
-) -> Result<(Target, &'s [Tok]), Cond> {
+fn assigned<'s>(value: Cond, toks: &'s [Tok]) -> Result<(Target, &'s [Tok]), Cond> {
     if !value.choices.is_empty() {
         return Err(value);
     }

@@ -25,8 +25,7 @@ pub struct Level {
 
 impl Level {
     /// Nothing is read.
-    pub fn new(alloc: Global) -> Level
-    {
+    pub fn new(alloc: Global) -> Level {
         Level {
             earlier: None,
             targets: Vec::new(alloc),
@@ -60,8 +59,7 @@ pub fn behind_operand<'s>(
     level: Level,
     operand: Binary,
     toks: &'s [Tok],
-) -> Result<Turn<'s>, AllocError>
-{
+) -> Result<Turn<'s>, AllocError> {
     if let Some((question, rest)) = behind_punct(Punct::Question, toks) {
         let frame = Frame {
             level,
@@ -80,8 +78,7 @@ pub fn behind_operand<'s>(
 }
 
 /// The level with one left side more.
-fn assigned(level: Level, target: Target) -> Result<Level, AllocError>
-{
+fn assigned(level: Level, target: Target) -> Result<Level, AllocError> {
     let mut targets = level.targets;
     targets.push(target)?;
     Ok(Level {
@@ -97,8 +94,7 @@ fn ended<'s>(
     level: Level,
     operand: Binary,
     toks: &'s [Tok],
-) -> Result<Turn<'s>, AllocError>
-{
+) -> Result<Turn<'s>, AllocError> {
     let value = Cond {
         choices: level.choices,
         last: operand,
@@ -122,8 +118,7 @@ fn ended<'s>(
 }
 
 /// The assignments before a comma, and one more.
-fn joined(alloc: Global, earlier: Option<Earlier>, assign: Assign) -> Result<Expr, AllocError>
-{
+fn joined(alloc: Global, earlier: Option<Earlier>, assign: Assign) -> Result<Expr, AllocError> {
     match earlier {
         None => Ok(Expr {
             first: assign,
@@ -138,8 +133,7 @@ fn joined(alloc: Global, earlier: Option<Earlier>, assign: Assign) -> Result<Exp
 }
 
 /// What was read with the expression between `?` and `:`.
-pub fn chosen(alloc: Global, frame: Frame, then: Expr, colon: u32) -> Result<Level, AllocError>
-{
+pub fn chosen(alloc: Global, frame: Frame, then: Expr, colon: u32) -> Result<Level, AllocError> {
     let Frame {
         level,
         condition,

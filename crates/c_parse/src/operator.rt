@@ -74,8 +74,7 @@ pub fn behind_level<'s>(below: usize, toks: &'s [Tok]) -> Option<(Sign, &'s [Tok
 }
 
 /// The prefix operator in front, and what is behind it.
-pub fn behind_prefix<'s>(toks: &'s [Tok]) -> Option<(Sign, &'s [Tok])>
-{
+pub fn behind_prefix<'s>(toks: &'s [Tok]) -> Option<(Sign, &'s [Tok])> {
     match behind_sign(toks) {
         Some((sign, rest)) if is_prefix(sign.punct) => Some((sign, rest)),
         _ => None,
@@ -83,8 +82,7 @@ pub fn behind_prefix<'s>(toks: &'s [Tok]) -> Option<(Sign, &'s [Tok])>
 }
 
 /// One of `. -> ++ --` in front, and what is behind it.
-pub fn behind_step<'s>(toks: &'s [Tok]) -> Option<(Sign, &'s [Tok])>
-{
+pub fn behind_step<'s>(toks: &'s [Tok]) -> Option<(Sign, &'s [Tok])> {
     match behind_sign(toks) {
         Some((sign, rest)) if is_step(sign.punct) => Some((sign, rest)),
         _ => None,
@@ -92,8 +90,7 @@ pub fn behind_step<'s>(toks: &'s [Tok]) -> Option<(Sign, &'s [Tok])>
 }
 
 /// The assignment operator in front, and what is behind it.
-fn behind_assignment<'s>(toks: &'s [Tok]) -> Option<(Sign, &'s [Tok])>
-{
+fn behind_assignment<'s>(toks: &'s [Tok]) -> Option<(Sign, &'s [Tok])> {
     match behind_sign(toks) {
         Some((sign, rest)) if is_assignment(sign.punct) => Some((sign, rest)),
         _ => None,
@@ -110,11 +107,7 @@ fn is_unary(cast: &Cast) -> bool {
 
 /// What is assigned to where an assignment operator follows, and what is behind it; otherwise the
 /// operand is given back.
-pub fn behind_target<'s>(
-    operand: Binary,
-    toks: &'s [Tok],
-) -> Result<(Target, &'s [Tok]), Binary>
-{
+pub fn behind_target<'s>(operand: Binary, toks: &'s [Tok]) -> Result<(Target, &'s [Tok]), Binary> {
     match behind_assignment(toks) {
         Some((operator, rest)) => match place_of(operand) {
             Ok(place) => Ok((Target { place, operator }, rest)),
@@ -125,8 +118,7 @@ pub fn behind_target<'s>(
 }
 
 /// The operand that may stand left of an assignment; another is given back.
-fn place_of(operand: Binary) -> Result<Cast, Binary>
-{
+fn place_of(operand: Binary) -> Result<Cast, Binary> {
     match operand {
         Binary::Operand(place) => {
             if is_unary(&place) {

@@ -4,10 +4,12 @@
 //! token of all, `fuel` bounds how many brackets and `?` of expressions may still be entered, and
 //! `room` how many statements may still be entered.
 
+use crate::error::ParseError;
 use crate::expression::{cond, declarator, expr, specs};
 use crate::initial::init_declarator;
-use crate::error::ParseError;
-use crate::take::{Read, behind_keyword, behind_punct, behind_word, keyword, punct, specs_come, stopped};
+use crate::take::{
+    Read, behind_keyword, behind_punct, behind_word, keyword, punct, specs_come, stopped,
+};
 use c_token::{Keyword, Punct, Tok};
 use c_tree::expression::{Expr, Specs};
 use c_tree::statement::{
@@ -73,7 +75,9 @@ fn next_declarators<'s>(
         match behind_punct(Punct::Comma, rest) {
             Some((comma, after)) => {
                 let (declarator, after) = declarator(alloc, text, last, fuel, after)?;
-                let (declarator, after) = init_declarator(alloc, text, last, fuel, declarator, after)?;
+                let (declarator, after) = init_declarator(
+                    alloc, text, last, fuel, declarator, after,
+                )?;
                 others.push(NextInitDeclarator { comma, declarator })?;
                 rest = after;
             }
@@ -422,10 +426,30 @@ fn for_head<'s>(
     toks: &'s [Tok],
 ) -> Read<'s, ForHead> {
     let (opening, rest) = punct(last, Punct::LeftParenthesis, toks)?;
-    let (begin, first_semicolon, rest) = expr_before(alloc, text, last, fuel, Punct::Semicolon, rest)?;
-    let (condition, second_semicolon, rest) =
-        expr_before(alloc, text, last, fuel, Punct::Semicolon, rest)?;
-    let (step, closing, rest) = expr_before(alloc, text, last, fuel, Punct::RightParenthesis, rest)?;
+    let (begin, first_semicolon, rest) = expr_before(
+        alloc,
+        text,
+        last,
+        fuel,
+        Punct::Semicolon,
+        rest,
+    )?;
+    let (condition, second_semicolon, rest) = expr_before(
+        alloc,
+        text,
+        last,
+        fuel,
+        Punct::Semicolon,
+        rest,
+    )?;
+    let (step, closing, rest) = expr_before(
+        alloc,
+        text,
+        last,
+        fuel,
+        Punct::RightParenthesis,
+        rest,
+    )?;
     let head = ForHead {
         opening,
         begin,

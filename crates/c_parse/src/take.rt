@@ -30,8 +30,7 @@ pub fn deeper(last: u32, fuel: usize, toks: &[Tok]) -> Result<usize, ParseError>
 }
 
 /// The line of a punctuator that has to come.
-pub fn punct<'s>(last: u32, wanted: Punct, toks: &'s [Tok]) -> Read<'s, u32>
-{
+pub fn punct<'s>(last: u32, wanted: Punct, toks: &'s [Tok]) -> Read<'s, u32> {
     match toks {
         [
             Tok {
@@ -46,8 +45,7 @@ pub fn punct<'s>(last: u32, wanted: Punct, toks: &'s [Tok]) -> Read<'s, u32>
 }
 
 /// The line of a keyword that has to come.
-pub fn keyword<'s>(last: u32, wanted: Keyword, toks: &'s [Tok]) -> Read<'s, u32>
-{
+pub fn keyword<'s>(last: u32, wanted: Keyword, toks: &'s [Tok]) -> Read<'s, u32> {
     match toks {
         [
             Tok {
@@ -62,8 +60,7 @@ pub fn keyword<'s>(last: u32, wanted: Keyword, toks: &'s [Tok]) -> Read<'s, u32>
 }
 
 /// A name that has to come.
-pub fn name<'s>(alloc: Global, text: &[u8], last: u32, toks: &'s [Tok]) -> Read<'s, Name>
-{
+pub fn name<'s>(alloc: Global, text: &[u8], last: u32, toks: &'s [Tok]) -> Read<'s, Name> {
     match toks {
         [first, rest @ ..] => {
             if first.kind == TokKind::Name {
@@ -101,7 +98,7 @@ pub fn punct_in_front(toks: &[Tok]) -> Option<Punct> {
                 kind: TokKind::Punct(found),
                 ..
             },
-            ..,
+            ..
         ] => Some(*found),
         _ => None,
     }
@@ -115,18 +112,14 @@ pub fn keyword_in_front(toks: &[Tok]) -> Option<Keyword> {
                 kind: TokKind::Keyword(found),
                 ..
             },
-            ..,
+            ..
         ] => Some(*found),
         _ => None,
     }
 }
 
 /// The punctuator in front and what is behind it, if it is this one.
-pub fn behind_punct<'s>(
-    wanted: Punct,
-    toks: &'s [Tok],
-) -> Option<(u32, &'s [Tok])>
-{
+pub fn behind_punct<'s>(wanted: Punct, toks: &'s [Tok]) -> Option<(u32, &'s [Tok])> {
     match toks {
         [
             Tok {
@@ -141,11 +134,7 @@ pub fn behind_punct<'s>(
 }
 
 /// The keyword in front and what is behind it, if it is this one.
-pub fn behind_keyword<'s>(
-    wanted: Keyword,
-    toks: &'s [Tok],
-) -> Option<(u32, &'s [Tok])>
-{
+pub fn behind_keyword<'s>(wanted: Keyword, toks: &'s [Tok]) -> Option<(u32, &'s [Tok])> {
     match toks {
         [
             Tok {
@@ -160,8 +149,7 @@ pub fn behind_keyword<'s>(
 }
 
 /// The punctuator in front and what is behind it, if `fits` holds of it.
-pub fn behind_sign<'s>(toks: &'s [Tok]) -> Option<(Sign, &'s [Tok])>
-{
+pub fn behind_sign<'s>(toks: &'s [Tok]) -> Option<(Sign, &'s [Tok])> {
     match toks {
         [
             Tok {
@@ -182,8 +170,7 @@ pub fn behind_sign<'s>(toks: &'s [Tok]) -> Option<(Sign, &'s [Tok])>
 }
 
 /// The keyword in front with its line, and what is behind it.
-pub fn behind_word<'s>(toks: &'s [Tok]) -> Option<(Word, &'s [Tok])>
-{
+pub fn behind_word<'s>(toks: &'s [Tok]) -> Option<(Word, &'s [Tok])> {
     match toks {
         [
             Tok {

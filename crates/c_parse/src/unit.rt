@@ -13,12 +13,7 @@ use std::alloc::Global;
 const STATEMENTS: u16 = 256;
 
 /// `{ function | declaration }`, to the end of the tokens
-pub fn unit<'s>(
-    alloc: Global,
-    text: &[u8],
-    last: u32,
-    toks: &'s [Tok],
-) -> Read<'s, Unit> {
+pub fn unit<'s>(alloc: Global, text: &[u8], last: u32, toks: &'s [Tok]) -> Read<'s, Unit> {
     let mut items = Vec::new(alloc);
     let mut rest = toks;
     for _ in 0..toks.len() {
@@ -33,13 +28,7 @@ pub fn unit<'s>(
 }
 
 /// `function | declaration`
-fn item<'s>(
-    alloc: Global,
-    text: &[u8],
-    last: u32,
-    fuel: usize,
-    toks: &'s [Tok],
-) -> Read<'s, Item> {
+fn item<'s>(alloc: Global, text: &[u8], last: u32, fuel: usize, toks: &'s [Tok]) -> Read<'s, Item> {
     let (specs, rest) = specs(alloc, text, last, fuel, toks)?;
     if let Some((semicolon, rest)) = behind_punct(Punct::Semicolon, rest) {
         let declaration = Declaration {

@@ -1,9 +1,9 @@
 -- What is put for an initializer in braces.
-use Rattle.std.proofs.Common.{◌≡◌, ℕ, List, [], ◌∷◌, ◌++◌, Option, map, refl, sym, ap, ◌∙◌, append_assoc}
+use Rattle.std.proofs.Common.{◌≡◌, ℕ, List, [], ◌∷◌, ◌++◌, sym, ap, ◌∙◌, append_assoc}
 use Rattle.c_token.specs.declared.token.TokKind.{TokKind}
 use Rattle.c_token.specs.declared.token.TokKind.TheVariants as kinds
 use Rattle.c_token.specs.declared.token.Punct.TheVariants.{LeftBrace, RightBrace}
-use Rattle.c_tree.specs.Words.{Symbols, flat, kinds_of, punct}
+use Rattle.c_tree.specs.Words.{Symbols, kinds_of, punct}
 use Rattle.c_tree.proofs.Append.{kinds_append}
 
 -- the parts that stand behind the first bracket

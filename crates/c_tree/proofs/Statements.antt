@@ -1,7 +1,7 @@
 -- The spelling of each statement from the spellings of its parts.
-use Rattle.std.proofs.Common.{◌≡◌, ℕ, List, [], ◌∷◌, ◌++◌, Option, Some, None, map, refl, sym, ap, ◌∙◌}
+use Rattle.std.proofs.Common.{◌≡◌, [], ◌∷◌, ◌++◌, Some, None, map, refl, sym, ap, ◌∙◌}
 use Rattle.c_token.specs.declared.token.Keyword.TheVariants as words
-use Rattle.c_token.specs.declared.token.Punct.TheVariants.{LeftParenthesis, RightParenthesis, LeftBrace, RightBrace, Colon, Semicolon, Assign, Comma}
+use Rattle.c_token.specs.declared.token.Punct.TheVariants.{LeftBrace, RightBrace, Semicolon, Comma}
 use Rattle.c_tree.specs.Words.{Symbols, key, punct, quoted, flat}
 use Rattle.c_tree.specs.Spelling.{spell_assign}
 use Rattle.c_tree.specs.Statements.{spell_any, spell_condition, spell_for_head, spell_label, spell_comma, spell_declaration, init_step, next_init_step, spell_init, spell_last, spell_next_init, statement_step, switch_item_step, arm_step, block_step, else_arm_step, if_chain_step, otherwise_step, spell_statement, spell_switch_item, spell_arm, spell_block, spell_else_arm, spell_if_chain, spell_otherwise}

@@ -1,5 +1,5 @@
 -- The spelling of expressions and of declarators: the tokens of a tree, in order.
-use Rattle.std.specs.Prelude.{ℕ, List, [], ◌∷◌, ◌++◌, Option, Some, None}
+use Rattle.std.specs.Prelude.{[], ◌∷◌, ◌++◌, Some, None}
 use Rattle.c_token.specs.declared.token.Keyword.TheVariants as words
 use Rattle.c_token.specs.declared.token.Punct.TheVariants.{LeftBracket, RightBracket, LeftParenthesis, RightParenthesis, LeftBrace, RightBrace, Question, Colon, Semicolon, Comma}
 use Rattle.c_tree.specs.Words.{Symbols, key, punct, keyed, signed, named, flat, spell_constant, spell_pointers, spell_tag}

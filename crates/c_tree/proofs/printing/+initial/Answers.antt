@@ -1,4 +1,4 @@
-use Rattle.std.proofs.Common.{◌≡◌, List, [], ◌∷◌, ◌++◌, map, sym, ap, ◌∙◌}
+use Rattle.std.proofs.Common.{List, [], ◌∷◌, ◌++◌, map, sym, ap, ◌∙◌}
 use Rattle.c_token.specs.declared.token.TokKind.TheVariants as kinds
 use Rattle.c_token.specs.declared.token.Punct.TheVariants.{LeftBrace, RightBrace}
 use Rattle.c_tree.specs.Words.{Symbols, flat, kinds_of, punct}
