@@ -1,0 +1,4 @@
+pub mod Append
+pub mod Initials
+pub mod Statements
+pub mod Views

@@ -1,0 +1,7 @@
+use Rattle.std.proofs.Common.{◌≡◌, ◌++◌, drop, map}
+use Rattle.c_tree.specs.Words.{kinds_of, flat}
+use Rattle.c_tree.specs.Statements.{spell_item, spell_unit}
+use Rattle.c_tree.proofs.printing.spell.Given as goal
+
+abbrev pub invariant-loop-item : goal.invariant-loop-item
+invariant-loop-item l = l.out.items ++ kinds_of (flat (map spell_item (drop l.item-index l.item-items))) ≡ kinds_of (spell_unit l.unit)

@@ -1,0 +1,283 @@
+//! Expressions, and the declarators and type names that stand in them and hold them.
+//!
+//! A field of type `u32` that is named after a token is the line of that token.
+
+use crate::word::{Constant, Name, Pointer, Sign, Word};
+
+/// The specifiers of a declaration (ISO/IEC 9899:1990, 6.5), at least one.
+#[cycle(expression)]
+#[derive(Drop)]
+pub struct Specs {
+    pub first: Spec,
+    pub others: Vec<Spec>,
+}
+
+/// A specifier: a word, or a structure.
+#[cycle(expression)]
+#[derive(Drop)]
+pub enum Spec {
+    Word(Word),
+    /// `struct NAME`
+    Reference { keyword: u32, tag: Name },
+    /// `struct NAME { MEMBERS }`, where the name may be left out
+    Body(Box<StructBody>),
+}
+
+/// A structure with its members, at least one (ISO/IEC 9899:1990, 6.5.2.1).
+#[cycle(expression)]
+#[derive(Drop)]
+pub struct StructBody {
+    pub keyword: u32,
+    pub tag: Option<Name>,
+    pub opening: u32,
+    pub first: Member,
+    pub others: Vec<Member>,
+    pub closing: u32,
+}
+
+/// Members of one type.
+#[cycle(expression)]
+#[derive(Drop)]
+pub struct Member {
+    pub specs: Specs,
+    pub first: Declarator,
+    pub others: Vec<NextDeclarator>,
+    pub semicolon: u32,
+}
+
+/// A comma and a declarator.
+#[cycle(expression)]
+#[derive(Drop)]
+pub struct NextDeclarator {
+    pub comma: u32,
+    pub declarator: Declarator,
+}
+
+/// A declarator: pointers, the name that it declares, and suffixes (ISO/IEC 9899:1990, 6.5.4).
+#[cycle(expression)]
+#[derive(Drop)]
+pub struct Declarator {
+    pub pointers: Vec<Pointer>,
+    pub name: Name,
+    pub suffixes: Vec<Suffix>,
+}
+
+/// What makes an array or a function of what is declared.
+#[cycle(expression)]
+#[derive(Drop)]
+pub enum Suffix {
+    /// `[LENGTH]`, where the length may be left out
+    Array {
+        opening: u32,
+        length: Option<Box<Cond>>,
+        closing: u32,
+    },
+    /// `()`
+    Empty {
+        opening: u32,
+        closing: u32,
+    },
+    /// `(void)`
+    Void {
+        opening: u32,
+        void: u32,
+        closing: u32,
+    },
+    /// A list of parameters.
+    Params {
+        opening: u32,
+        first: Box<Param>,
+        others: Vec<NextParam>,
+        closing: u32,
+    },
+}
+
+/// A comma and a parameter.
+#[cycle(expression)]
+#[derive(Drop)]
+pub struct NextParam {
+    pub comma: u32,
+    pub param: Param,
+}
+
+/// A parameter, with a name or without one.
+#[cycle(expression)]
+#[derive(Drop)]
+pub enum Param {
+    Named {
+        specs: Specs,
+        declarator: Declarator,
+    },
+    Unnamed {
+        specs: Specs,
+        pointers: Vec<Pointer>,
+        suffixes: Vec<Suffix>,
+    },
+}
+
+/// The name of a type in a cast or in `sizeof` (ISO/IEC 9899:1990, 6.5.5).
+#[cycle(expression)]
+#[derive(Drop)]
+pub struct TypeName {
+    pub specs: Specs,
+    pub pointers: Vec<Pointer>,
+}
+
+/// An expression: assignments between commas (ISO/IEC 9899:1990, 6.3.17). The arguments of a call
+/// have the same form.
+#[cycle(expression)]
+#[derive(Drop)]
+pub struct Expr {
+    pub first: Assign,
+    pub others: Vec<NextAssign>,
+}
+
+/// A comma and an assignment.
+#[cycle(expression)]
+#[derive(Drop)]
+pub struct NextAssign {
+    pub comma: u32,
+    pub assign: Assign,
+}
+
+/// A value, and what it is assigned to, the outermost first (ISO/IEC 9899:1990, 6.3.16).
+#[cycle(expression)]
+#[derive(Drop)]
+pub struct Assign {
+    pub targets: Vec<Target>,
+    pub value: Cond,
+}
+
+/// The left side of an assignment, and its operator.
+#[cycle(expression)]
+#[derive(Drop)]
+pub struct Target {
+    pub place: Cast,
+    pub operator: Sign,
+}
+
+/// Choices by `?` and `:`, the outermost first, and what is left where no condition holds
+/// (ISO/IEC 9899:1990, 6.3.15).
+#[cycle(expression)]
+#[derive(Drop)]
+pub struct Cond {
+    pub choices: Vec<Choice>,
+    pub last: Binary,
+}
+
+/// `CONDITION ? THEN :`
+#[cycle(expression)]
+#[derive(Drop)]
+pub struct Choice {
+    pub condition: Binary,
+    pub question: u32,
+    pub then: Box<Expr>,
+    pub colon: u32,
+}
+
+/// Operands between binary operators of one level, which group to the left, or one operand alone
+/// (ISO/IEC 9899:1990, 6.3.5 to 6.3.14).
+#[cycle(expression)]
+#[derive(Drop)]
+pub enum Binary {
+    Operand(Cast),
+    Chain {
+        first: Box<Binary>,
+        others: Vec<NextOperand>,
+    },
+}
+
+/// A binary operator, and its right operand.
+#[cycle(expression)]
+#[derive(Drop)]
+pub struct NextOperand {
+    pub operator: Sign,
+    pub operand: Binary,
+}
+
+/// An operand with its prefixes, the outermost first (ISO/IEC 9899:1990, 6.3.3 and 6.3.4).
+#[cycle(expression)]
+#[derive(Drop)]
+pub struct Cast {
+    pub prefixes: Vec<Prefix>,
+    pub operand: Operand,
+}
+
+/// A prefix of an operand.
+#[cycle(expression)]
+#[derive(Drop)]
+pub enum Prefix {
+    /// One of `++ -- & * + - ~ !`
+    Operator(Sign),
+    /// `sizeof` of an expression
+    Sizeof {
+        keyword: u32,
+    },
+    /// `(TYPE)`
+    Cast {
+        opening: u32,
+        type_name: Box<TypeName>,
+        closing: u32,
+    },
+}
+
+/// What prefixes stand before.
+#[cycle(expression)]
+#[derive(Drop)]
+pub enum Operand {
+    Postfix(Postfix),
+    /// `sizeof(TYPE)`
+    SizeofType {
+        keyword: u32,
+        opening: u32,
+        type_name: Box<TypeName>,
+        closing: u32,
+    },
+}
+
+/// A primary expression with its postfixes (ISO/IEC 9899:1990, 6.3.2).
+#[cycle(expression)]
+#[derive(Drop)]
+pub struct Postfix {
+    pub primary: Primary,
+    pub suffixes: Vec<PostfixSuffix>,
+}
+
+/// A postfix of an expression.
+#[cycle(expression)]
+#[derive(Drop)]
+pub enum PostfixSuffix {
+    /// `[INDEX]`
+    Index {
+        opening: u32,
+        index: Box<Expr>,
+        closing: u32,
+    },
+    /// `(ARGUMENTS)`
+    Call {
+        opening: u32,
+        arguments: Option<Box<Expr>>,
+        closing: u32,
+    },
+    /// `.NAME` or `->NAME`
+    Member {
+        operator: Sign,
+        name: Name,
+    },
+    /// `++` or `--`
+    Step(Sign),
+}
+
+/// A primary expression (ISO/IEC 9899:1990, 6.3.1).
+#[cycle(expression)]
+#[derive(Drop)]
+pub enum Primary {
+    Name(Name),
+    Constant(Constant),
+    /// `(EXPR)`
+    Group {
+        opening: u32,
+        inner: Box<Expr>,
+        closing: u32,
+    },
+}

@@ -1,0 +1,87 @@
+//! The smallest parts of a spelling.
+//!
+//! Each function puts the kinds of the tokens of one part behind those that are there.
+
+ghost use Rattle.std.specs.Prelude.{◌≡◌, ◌++◌, ◌∷◌, [], IfOk};
+ghost use Rattle.c_token.specs.declared.token.TokKind.TheVariants as kinds;
+ghost use Rattle.c_tree.specs.Words.{kinds_of, spell_constant, spell_pointer, spell_pointers, spell_tag};
+
+use crate::word::{Constant, Name, Pointer};
+use c_token::{Keyword, Punct, TokKind};
+use std::alloc::AllocError;
+
+pub fn punct(out: &mut Vec<TokKind>, punct: Punct) -> Result<(), AllocError>
+    ensures { IfOk result (λ _. out.new.items ≡ out.old.items ++ kinds.Punct punct ∷ []) }
+{
+    Ok(out.push(TokKind::Punct(punct))?)
+}
+
+pub fn word(out: &mut Vec<TokKind>, keyword: Keyword) -> Result<(), AllocError>
+    ensures { IfOk result (λ _. out.new.items ≡ out.old.items ++ kinds.Keyword keyword ∷ []) }
+{
+    Ok(out.push(TokKind::Keyword(keyword))?)
+}
+
+pub fn name(out: &mut Vec<TokKind>) -> Result<(), AllocError>
+    ensures { IfOk result (λ _. out.new.items ≡ out.old.items ++ kinds.Name ∷ []) }
+{
+    Ok(out.push(TokKind::Name)?)
+}
+
+pub fn text(out: &mut Vec<TokKind>) -> Result<(), AllocError>
+    ensures { IfOk result (λ _. out.new.items ≡ out.old.items ++ kinds.Text ∷ []) }
+{
+    Ok(out.push(TokKind::Text)?)
+}
+
+pub fn constant(out: &mut Vec<TokKind>, constant: Constant) -> Result<(), AllocError>
+    ensures { IfOk result (λ _. out.new.items ≡ out.old.items ++ (spell_constant constant).kind ∷ []) }
+{
+    let kind = match constant {
+        Constant::Int {
+            value,
+            base,
+            unsigned_suffix,
+            long_suffix,
+            ..
+        } => TokKind::Int {
+            value,
+            base,
+            unsigned_suffix,
+            long_suffix,
+        },
+        Constant::Char { value, .. } => TokKind::Char { value },
+    };
+    Ok(out.push(kind)?)
+}
+
+/// The name of a structure, where it has one.
+pub fn tag(out: &mut Vec<TokKind>, tag: &Option<Name>) -> Result<(), AllocError>
+    ensures { IfOk result (λ _. out.new.items ≡ out.old.items ++ kinds_of (spell_tag tag.now)) }
+{
+    match tag {
+        Some(_) => name(out),
+        None => Ok(()),
+    }
+}
+
+#[tactic(auto, using(std::proofs::lemmas::List::append_assoc, crate::proofs::Append::kinds_append))]
+fn pointer(out: &mut Vec<TokKind>, pointer: &Pointer) -> Result<(), AllocError>
+    ensures { IfOk result (λ _. out.new.items ≡ out.old.items ++ kinds_of (spell_pointer pointer.now)) }
+{
+    punct(out, Punct::Star)?;
+    for qualifier in &pointer.qualifiers {
+        word(out, qualifier.keyword)?;
+    }
+    Ok(())
+}
+
+#[tactic(auto, using(std::proofs::lemmas::List::append_assoc, crate::proofs::Append::kinds_append))]
+pub fn pointers(out: &mut Vec<TokKind>, pointers: &[Pointer]) -> Result<(), AllocError>
+    ensures { IfOk result (λ _. out.new.items ≡ out.old.items ++ kinds_of (spell_pointers pointers.now)) }
+{
+    for each in pointers {
+        pointer(out, each)?;
+    }
+    Ok(())
+}
