@@ -41,8 +41,18 @@ fn map_of(alloc: Global, assignments: &[Assignment]) -> Result<Map, AllocError>
     let name = Vec::from_slice(alloc, b"main")?;
     let size = frame_size(assignments);
     let mut frames = Vec::new(alloc);
-    frames.push(FrameLine { root: Root::Main, name, address: 0x20, size })?;
-    Ok(Map { main: 5, halt: halt_address(assignments), objects: Vec::new(alloc), frames })
+    frames.push(FrameLine {
+        root: Root::Main,
+        name,
+        address: 0x20,
+        size,
+    })?;
+    Ok(Map {
+        main: 5,
+        halt: halt_address(assignments),
+        objects: Vec::new(alloc),
+        frames,
+    })
 }
 
 /// The address of the jump behind the last assignment.
