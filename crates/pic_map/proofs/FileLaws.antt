@@ -9,6 +9,7 @@ use Rattle.pic_chip.specs.declared.Root.{Root}
 use Rattle.pic_chip.specs.declared.Root.TheVariants.{Main, Isr}
 use Rattle.pic_map.specs.MapContent.{ObjectLine, FrameLine, MapContent}
 use Rattle.pic_map.specs.MapFile.{IsMapFile, IsObjectLine, IsFrameLine, AreObjectLines, AreFrameLines, IsPointLine, object_word, root_word}
+use Rattle.pic_map.specs.MapText.{AreObjects, AreFrames, AreInRange}
 use Rattle.pic_map.specs.declared.read.Stage.{Stage}
 use Rattle.pic_map.specs.declared.read.Stage.TheVariants.{Heading, MainPoint, HaltPoint, Objects, Frames, Ended}
 use Rattle.pic_map.specs.Reading.{after, Placed, placed_of, point_of, object_with, object_behind, object_of, frame_with, frame_behind, frame_of, end_next, frame_next, object_next, after_line, go_on, at_end, read_on, nothing}
@@ -309,3 +310,28 @@ same_ok r a b e f = cc (e, f)
 -- each text has one content at most
 pub one_only : (text : List ℕ) (a b : MapContent) → IsMapFile text a → IsMapFile text b → a ≡ b
 one_only text a b h k = same_ok (read_on 1 Heading nothing (lines_of text)) a b (file_again text a h) (file_again text b k)
+
+-- ---- what a map file tells can be written
+objects_in_range : (lines : List (List ℕ)) (objects : List ObjectLine) → AreObjectLines lines objects → AreObjects objects
+objects_in_range [] [] h = tt
+objects_in_range [] (o ∷ objects) h = absurd h
+objects_in_range (line ∷ lines) [] h = absurd h
+objects_in_range (line ∷ lines) (o ∷ objects) h =
+    let is = h.0 in
+    (record { named = is.name; within = is.place.within; most = is.place.most }, objects_in_range lines objects h.1)
+
+frames_in_range : (lines : List (List ℕ)) (frames : List FrameLine) → AreFrameLines lines frames → AreFrames frames
+frames_in_range [] [] h = tt
+frames_in_range [] (f ∷ frames) h = absurd h
+frames_in_range (line ∷ lines) [] h = absurd h
+frames_in_range (line ∷ lines) (f ∷ frames) h =
+    let is = h.0 in
+    (record { named = is.name; within = is.place.within; most = is.place.most }, frames_in_range lines frames h.1)
+
+pub in_range : (text : List ℕ) (c : MapContent) → IsMapFile text c → AreInRange c
+in_range text c h = record {
+  main = h.main.within;
+  halt = h.halt.within;
+  objects = objects_in_range h.object_lines c.objects h.objects;
+  frames = frames_in_range h.frame_lines c.frames h.frames;
+}

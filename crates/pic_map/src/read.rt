@@ -6,6 +6,7 @@ ghost use Rattle.pic_map.specs.Reading as reading;
 ghost use Rattle.pic_map.specs.MapFile.{IsMapFile, is_name_byte};
 ghost use Rattle.pic_map.specs.Answers.{GivesMap, reading_of};
 ghost use Rattle.pic_map.specs.MapContent.{MapContent};
+ghost use Rattle.pic_map.specs.MapText.{AreInRange};
 ghost use Rattle.pic_chip.specs.Text.{lines_of, digit_value as value_of, bytes_of, without_cr};
 
 use crate::{FrameLine, Map, ObjLine};
@@ -47,13 +48,15 @@ pub enum MapError {
 
 /// The map of a map file. Digits may be of either case, a CR before a line's end is no part of the line,
 /// and the last line may end at the end of the text.
-#[tactic(auto, using(crate::proofs::Given::found, crate::proofs::Given::only))]
+#[tactic(auto, using(crate::proofs::Given::found, crate::proofs::Given::only, crate::proofs::Given::ranges))]
 pub fn read_map(alloc: Global, bytes: &[u8]) -> Result<Map, MapError>
     requires { length bytes.now < 2 ^ 32 }
     // What is read is a map file of what is told.
     ensures found { IfOk result (λ map. IsMapFile bytes.now (content_of map)) }
     // What is a map file is read, unless memory runs out.
     ensures only { (content : MapContent) → IsMapFile bytes.now content → GivesMap result (Ok content) }
+    // What is read can be written.
+    ensures ranges { IfOk result (λ map. AreInRange (content_of map)) }
     // Which line is the first that doesn't fit.
     ensures exact { GivesMap result (reading_of bytes.now) }
 {

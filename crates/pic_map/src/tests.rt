@@ -12,23 +12,53 @@ const WRITTEN: &str = "picc map 1\nmain 0005\nhalt 1FFF\nstatic t.0.lo 0020 2\nc
 const OTHER: &str = "picc map 1\r\nmain 0005\r\nhalt 1fff\nstatic t.0.lo 0020 2\nconst k 01f0 12\n\
     frame main main 002a 0\nframe isr h 0070 10\nframe main $mul2 00a0 352\nend";
 
+/// Texts that are no map files, and the first line that doesn't fit.
+const BAD: [(&str, u32); 15] = [
+    ("", 1),
+    ("picc map 2\n", 1),
+    ("picc map 1\n", 2),
+    ("picc map 1\nmain 2000\nhalt 0006\nend\n", 2),
+    ("picc map 1\nmain 0005\nhalt 006\nend\n", 3),
+    ("picc map 1\nmain 0005\nhalt 0006\n", 4),
+    ("picc map 1\nmain 0005\nhalt 0006\nstatic x 0200 1\nend\n", 4),
+    ("picc map 1\nmain 0005\nhalt 0006\nstatic x 0020 353\nend\n", 4),
+    ("picc map 1\nmain 0005\nhalt 0006\nconst x 0020 01\nend\n", 4),
+    ("picc map 1\nmain 0005\nhalt 0006\nconst  0020 1\nend\n", 4),
+    ("picc map 1\nmain 0005\nhalt 0006\nframe irq x 0020 1\nend\n", 4),
+    ("picc map 1\nmain 0005\nhalt 0006\nend \n", 4),
+    ("picc map 1\nmain 0005\nhalt 0006\nframe main f 0020 3\nstatic x 0030 1\nend\n", 5),
+    ("picc map 1\nmain 0005\nhalt 0006\nend\n\n", 5),
+    ("picc map 1\nmain 0005\nhalt 0006\nend\nend\n", 5),
+];
+
 #[test]
 fn a_map_is_read_as_it_was_written(rt: HostRuntime) -> Result<(), Fail> {
     let alloc = rt.alloc();
     for text in [WRITTEN, OTHER] {
-        let Ok(map) = read_map(alloc, text.as_bytes()) else {
-            return Err(Fail::new("no map"));
-        };
-        assert_eq!(rt;
-            (map.main, map.halt, map.objects.len(), map.frames.len()),
-            (5, 0x1fff, 2, 3)
-        );
+        let map = read_map(alloc, text.as_bytes())?;
+        assert!(rt; map.main == 5 && map.halt == 0x1fff);
+        assert!(rt; map.objects.len() == 2 && map.frames.len() == 3);
         let object = &map.objects[1];
         assert!(rt; object.fixed && object.name.as_slice() == b"k".as_slice());
-        assert_eq!(rt; (object.address, object.size), (0x1f0, 12));
+        assert!(rt; object.address == 0x1f0 && object.size == 12);
         let frame = &map.frames[1];
         assert!(rt; frame.root == Root::Isr && frame.name.as_slice() == b"h".as_slice());
-        assert_eq!(rt; (frame.address, frame.size), (0x70, 10));
+        assert!(rt; frame.address == 0x70 && frame.size == 10);
+        let written = write_map(alloc, &map)?;
+        assert!(rt; written.as_slice() == WRITTEN.as_bytes());
+    }
+    worked_example();
+    one_content();
+    Ok(())
+}
+
+#[test]
+fn the_first_bad_line_is_told(rt: HostRuntime) -> Result<(), Fail> {
+    for (text, wanted) in BAD {
+        match read_map(rt.alloc(), text.as_bytes()) {
+            Err(MapError::BadLine { line }) => assert_eq!(rt; line, wanted),
+            _ => return Err(Fail::new("no bad line")),
+        }
     }
     Ok(())
 }
