@@ -1,5 +1,5 @@
 -- What is read of a text's lines is the content of a map file, and that of each map file is read.
-use Rattle.std.proofs.Common.{◌≡◌, ℕ, ◌+◌, ◌<◌, ◌≤◌, Bool, true, false, Option, Some, None, Result, Ok, Err, List, [], ◌∷◌, ◌++◌, length, refl, sym, ap, ◌∙◌, subst, arith, append_assoc, append-nil, nat_eq}
+use Rattle.std.proofs.Common.{◌≡◌, ℕ, ◌+◌, Bool, true, false, Option, Some, None, Result, Ok, Err, List, [], ◌∷◌, ◌++◌, refl, sym, ap, ◌∙◌, subst, append_assoc, append-nil, nat_eq}
 use Rattle.std.specs.Prelude.{codes, if◌then◌else◌}
 use Rattle.std.specs.Option.{option_map}
 use Rattle.std.specs.Cmp.Lexicographic.{pointwise}
@@ -8,13 +8,12 @@ use Rattle.pic_chip.specs.Text.{lines_of}
 use Rattle.pic_chip.specs.declared.Root.{Root}
 use Rattle.pic_chip.specs.declared.Root.TheVariants.{Main, Isr}
 use Rattle.pic_map.specs.MapContent.{ObjectLine, FrameLine, MapContent}
-use Rattle.pic_map.specs.MapFile.{IsMapFile, IsObjectLine, IsFrameLine, AreObjectLines, AreFrameLines, IsPointLine, object_word, root_word}
+use Rattle.pic_map.specs.MapFile.{IsMapFile, AreMapLines, IsObjectLine, IsFrameLine, AreObjectLines, AreFrameLines, IsPointLine, object_word, root_word}
 use Rattle.pic_map.specs.MapText.{AreObjects, AreFrames, AreInRange}
 use Rattle.pic_map.specs.declared.read.Stage.{Stage}
 use Rattle.pic_map.specs.declared.read.Stage.TheVariants.{Heading, MainPoint, HaltPoint, Objects, Frames, Ended}
-use Rattle.pic_map.specs.Reading.{after, Placed, placed_of, point_of, object_with, object_behind, object_of, frame_with, frame_behind, frame_of, end_next, frame_next, object_next, after_line, go_on, at_end, read_on, nothing}
-use Rattle.pic_map.proofs.Fields.{after_is, after_again, mapped, IsPlacedText, placed_is, placed_again, point_is, point_again}
-use Rattle.pic_map.proofs.Going.{step_some, at_the_end}
+use Rattle.pic_map.specs.Reading.{after, placed_of, point_of, object_with, object_behind, object_of, frame_with, frame_behind, frame_of, end_next, frame_next, object_next, after_line, go_on, read_on, nothing}
+use Rattle.pic_map.proofs.Fields.{after_is, after_again, mapped, placed_is, placed_again, point_is, point_again}
 
 -- ---- object lines and frame lines
 object_fields : (line text : List ℕ) (constant : Bool) (o : ObjectLine) → line ≡ object_word constant ++ text → object_with constant (placed_of text) ≡ Some o → IsObjectLine line o
@@ -229,12 +228,12 @@ heading_is k m c (line ∷ lines) h = by_test (pointwise nat_eq line (codes "pic
     by_test false e g = absurd (no_result k c g)
 
 -- what is read is a map file
-pub file_is : (text : List ℕ) (c : MapContent) → read_on 1 Heading nothing (lines_of text) ≡ Ok c → IsMapFile text c
-file_is text c h =
-    let (first, e1, h1) = heading_is 1 nothing c (lines_of text) h in
+pub lines_are : (lines : List (List ℕ)) (c : MapContent) → read_on 1 Heading nothing lines ≡ Ok c → AreMapLines lines c
+lines_are lines c h =
+    let (first, e1, h1) = heading_is 1 nothing c lines h in
     let (main_line, second, main, e2, main_point, h2) = main_is 2 nothing c first h1 in
     let (halt_line, third, halt, e3, halt_point, behind) = halt_is 3 (with_main nothing main) c second h2 in
-    subst (IsMapFile text) (sym behind.whole) (record {
+    subst (AreMapLines lines) (sym behind.whole) (record {
       main_line = main_line;
       halt_line = halt_line;
       object_lines = behind.object_lines;
@@ -245,6 +244,9 @@ file_is text c h =
       objects = behind.are_objects;
       frames = behind.are_frames;
     })
+
+pub file_is : (text : List ℕ) (c : MapContent) → read_on 1 Heading nothing (lines_of text) ≡ Ok c → IsMapFile text c
+file_is text c h = lines_are (lines_of text) c h
 
 -- ---- what is a map file is read
 end_again : (k : ℕ) (m : MapContent) → read_on k Frames m (codes "end" ∷ []) ≡ Ok m
@@ -298,11 +300,14 @@ three_again main_line halt_line rest main halt p q =
     ap (λ o. go_on (option_map (λ a. (HaltPoint, with_main nothing a)) o) 2 (λ s n. read_on 3 s n (halt_line ∷ rest))) (point_again (codes "main") main_line main p)
     ∙ ap (λ o. go_on (option_map (λ a. (Objects, with_halt (with_main nothing main) a)) o) 3 (λ s n. read_on 4 s n rest)) (point_again (codes "halt") halt_line halt q)
 
-pub file_again : (text : List ℕ) (c : MapContent) → IsMapFile text c → read_on 1 Heading nothing (lines_of text) ≡ Ok c
-file_again text c h =
+pub lines_again : (lines : List (List ℕ)) (c : MapContent) → AreMapLines lines c → read_on 1 Heading nothing lines ≡ Ok c
+lines_again lines c h =
     ap (read_on 1 Heading nothing) h.lines
     ∙ three_again h.main_line h.halt_line (h.object_lines ++ (h.frame_lines ++ codes "end" ∷ [])) c.main c.halt h.main h.halt
     ∙ objects_again 4 (with_halt (with_main nothing c.main) c.halt) h.object_lines c.objects h.frame_lines c.frames h.objects h.frames
+
+pub file_again : (text : List ℕ) (c : MapContent) → IsMapFile text c → read_on 1 Heading nothing (lines_of text) ≡ Ok c
+file_again text c h = lines_again (lines_of text) c h
 
 same_ok : (r : Result MapContent ℕ) (a b : MapContent) → r ≡ Ok a → r ≡ Ok b → a ≡ b
 same_ok r a b e f = cc (e, f)

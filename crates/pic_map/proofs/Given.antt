@@ -1,17 +1,14 @@
 -- What the reader's answer says of the text.
-use Rattle.std.proofs.Common.{◌≡◌, ℕ, Result, Ok, Err, List, sym, ◌∙◌}
+use Rattle.std.proofs.Common.{ℕ, Result, Ok, Err, List, sym, ◌∙◌}
 use Rattle.std.specs.Result.{IfOk}
-use Rattle.pic_chip.specs.Text.{lines_of}
 use Rattle.pic_map.specs.declared.Map.{Map}
 use Rattle.pic_map.specs.declared.read.MapError.{MapError}
 use Rattle.pic_map.specs.declared.read.MapError.TheVariants.{NoMemory, BadLine}
-use Rattle.pic_map.specs.declared.read.Stage.TheVariants.{Heading}
 use Rattle.pic_map.specs.Answers.{GivesMap, reading_of}
 use Rattle.pic_map.specs.MapContent.{MapContent}
 use Rattle.pic_map.specs.MapFile.{IsMapFile}
 use Rattle.pic_map.specs.MapText.{AreInRange}
 use Rattle.pic_map.specs.MapView.{content_of}
-use Rattle.pic_map.specs.Reading.{read_on, nothing}
 use Rattle.pic_map.proofs.FileLaws.{file_is, file_again, in_range}
 
 pub found : (result : Result Map MapError) (text : List ℕ) → GivesMap result (reading_of text) → IfOk result (λ m. IsMapFile text (content_of m))

@@ -1,8 +1,8 @@
 -- The written text by its parts, and that it is a map file.
-use Rattle.std.proofs.Common.{◌≡◌, ℕ, ◌+◌, ◌/◌, ◌%◌, ◌<◌, ◌≤◌, Bool, true, false, ◌&&◌, not, List, [], ◌∷◌, ◌++◌, length, map, refl, sym, ap, ◌∙◌, subst, arith, append_assoc, ⊎_elim, nat_eq, nat_lt, slice_index_or}
+use Rattle.std.proofs.Common.{◌≡◌, ℕ, ◌+◌, ◌/◌, ◌%◌, ◌<◌, Bool, true, false, ◌&&◌, List, [], ◌∷◌, ◌++◌, map, refl, sym, ap, ◌∙◌, arith, append_assoc, ⊎_elim, nat_eq}
 use Rattle.std.specs.Prelude.{codes}
 use Rattle.std.specs.List.{list_all, AllPass}
-use Rattle.std.proofs.lemmas.Bool.{ne_eqb, eqb-true, lt-ltb, le-ltb, cases_lt, and_parts}
+use Rattle.std.proofs.lemmas.Bool.{ne_eqb, lt-ltb, le-ltb, cases_lt, and_parts}
 use Rattle.std.proofs.lemmas.List.Sums.{list_all-from_AllPass}
 use Rattle.pic_chip.specs.declared.Root.{Root}
 use Rattle.pic_chip.specs.declared.Root.TheVariants.{Main, Isr}
@@ -12,7 +12,7 @@ use Rattle.pic_chip.proofs.Digits.{pairs_back}
 use Rattle.std.specs.Fmt.{decimal}
 use Rattle.pic_map.specs.Decimal.{number_text}
 use Rattle.pic_map.specs.MapContent.{ObjectLine, FrameLine, MapContent}
-use Rattle.pic_map.specs.MapFile.{IsMapFile, IsAddress, IsName, IsObjectLine, IsFrameLine, AreObjectLines, AreFrameLines, HasPlace, is_name_byte, object_word, root_word}
+use Rattle.pic_map.specs.MapFile.{IsMapFile, IsAddress, AreObjectLines, AreFrameLines, HasPlace, is_name_byte, object_word, root_word}
 use Rattle.pic_map.specs.MapText.{address_text, place_text, object_text, frame_text, line, objects_text, frames_text, map_text, IsPlaced, AreObjects, AreFrames, AreInRange}
 use Rattle.pic_map.proofs.Decimals.{number_is_decimal}
 

@@ -7,6 +7,7 @@ use Rattle.pic_map.specs.declared.Map.{Map}
 use Rattle.pic_map.specs.declared.read.MapError.{MapError}
 use Rattle.pic_map.specs.declared.read.MapError.TheVariants.{NoMemory, BadLine}
 use Rattle.pic_map.specs.MapContent.{MapContent}
+use Rattle.pic_map.specs.MapFile.{IsFirstBadLine}
 use Rattle.pic_map.specs.MapView.{content_of}
 
 -- the answer tells this reading: its content, or the number of a line, where memory sufficed
@@ -18,3 +19,9 @@ GivesMap (Err NoMemory) read = Unit {0}
 -- what is read of a whole text
 abbrev pub reading_of : List ℕ → Result MapContent ℕ
 reading_of text = read_on 1 Heading nothing (lines_of text)
+
+-- a line that the answer tells is the first that is wrong
+abbrev pub TellsBadLine : Result Map MapError → List ℕ → Type 0
+TellsBadLine (Err (BadLine line)) text = IsFirstBadLine text line
+TellsBadLine (Err NoMemory) text = Unit {0}
+TellsBadLine (Ok m) text = Unit {0}

@@ -1,5 +1,5 @@
 -- Which texts are map files, and of which content. This format is the project's own.
-use Rattle.std.specs.Prelude.{◌≡◌, ℕ, ◌/◌, ◌%◌, ◌<◌, ◌≤◌, ◌&&◌, ◌||◌, Bool, true, false, nat_eq, nat_le, Some, List, [], ◌∷◌, ◌++◌, length, codes}
+use Rattle.std.specs.Prelude.{◌≡◌, ◌≢◌, ℕ, ◌+◌, ◌/◌, ◌%◌, ◌<◌, ◌≤◌, ◌&&◌, ◌||◌, Bool, true, false, nat_eq, nat_le, Option, Some, None, List, [], ◌∷◌, ◌++◌, length, codes}
 use Rattle.std.specs.List.{AllPass}
 use Rattle.pic_chip.specs.Text.{lines_of, bytes_of}
 use Rattle.pic_chip.specs.declared.Root.{Root}
@@ -67,13 +67,32 @@ AreFrameLines (line ∷ lines) (frame ∷ frames) = IsFrameLine line frame × Ar
 AreFrameLines _ _ = ⊥
 
 -- The first line names the format; then main, halt, the objects, the frames, and `end`. Nothing follows it.
-pub record IsMapFile (text : List ℕ) (content : MapContent) : Type 0 where
+pub record AreMapLines (all : List (List ℕ)) (content : MapContent) : Type 0 where
   pub main_line : List ℕ
   pub halt_line : List ℕ
   pub object_lines : List (List ℕ)
   pub frame_lines : List (List ℕ)
-  pub lines : lines_of text ≡ codes "picc map 1" ∷ main_line ∷ halt_line ∷ (object_lines ++ (frame_lines ++ codes "end" ∷ []))
+  pub lines : all ≡ codes "picc map 1" ∷ main_line ∷ halt_line ∷ (object_lines ++ (frame_lines ++ codes "end" ∷ []))
   pub main : IsPointLine (codes "main") main_line content.main
   pub halt : IsPointLine (codes "halt") halt_line content.halt
   pub objects : AreObjectLines object_lines content.objects
   pub frames : AreFrameLines frame_lines content.frames
+
+abbrev pub IsMapFile : List ℕ → MapContent → Type 0
+IsMapFile text content = AreMapLines (lines_of text) content
+
+-- ---- where a text first goes wrong
+-- the next line, if there is one
+abbrev pub next_of : List (List ℕ) → Option (List ℕ)
+next_of [] = None
+next_of (line ∷ lines) = Some line
+
+-- Line `number`, counted from 1, is the first that is wrong: some map file begins with the lines before it,
+-- and none that does has there what the text has, a line or the end of the text.
+pub record IsFirstBadLine (text : List ℕ) (number : ℕ) : Type 0 where
+  pub before : List (List ℕ)
+  pub rest : List (List ℕ)
+  pub split : lines_of text ≡ before ++ rest
+  pub place : number ≡ length before + 1
+  pub good : (behind : List (List ℕ)) × (content : MapContent) × AreMapLines (before ++ behind) content
+  pub bad : (behind : List (List ℕ)) (content : MapContent) → AreMapLines (before ++ behind) content → next_of behind ≢ next_of rest

@@ -1,5 +1,5 @@
 -- What a map tells, apart from where it lies in memory.
-use Rattle.std.specs.Prelude.{List, map}
+use Rattle.std.specs.Prelude.{map}
 use Rattle.pic_map.specs.declared.Map.{Map}
 use Rattle.pic_map.specs.declared.ObjLine.{ObjLine}
 use Rattle.pic_map.specs.declared.FrameLine.{FrameLine}

@@ -4,7 +4,7 @@ ghost use Rattle.std.specs.Option.{option_map};
 ghost use Rattle.pic_map.specs.MapView.{content_of, object_of, frame_of};
 ghost use Rattle.pic_map.specs.Reading as reading;
 ghost use Rattle.pic_map.specs.MapFile.{IsMapFile, is_name_byte};
-ghost use Rattle.pic_map.specs.Answers.{GivesMap, reading_of};
+ghost use Rattle.pic_map.specs.Answers.{GivesMap, TellsBadLine, reading_of};
 ghost use Rattle.pic_map.specs.MapContent.{MapContent};
 ghost use Rattle.pic_map.specs.MapText.{AreInRange};
 ghost use Rattle.pic_chip.specs.Text.{lines_of, digit_value as value_of, bytes_of, without_cr};
@@ -48,7 +48,7 @@ pub enum MapError {
 
 /// The map of a map file. Digits may be of either case, a CR before a line's end is no part of the line,
 /// and the last line may end at the end of the text.
-#[tactic(auto, using(crate::proofs::Given::found, crate::proofs::Given::only, crate::proofs::Given::ranges))]
+#[tactic(auto, using(crate::proofs::Given::found, crate::proofs::Given::only, crate::proofs::Given::ranges, crate::proofs::BadLine::bad_line))]
 pub fn read_map(alloc: Global, bytes: &[u8]) -> Result<Map, MapError>
     requires { length bytes.now < 2 ^ 32 }
     // What is read is a map file of what is told.
@@ -57,8 +57,8 @@ pub fn read_map(alloc: Global, bytes: &[u8]) -> Result<Map, MapError>
     ensures only { (content : MapContent) → IsMapFile bytes.now content → GivesMap result (Ok content) }
     // What is read can be written.
     ensures ranges { IfOk result (λ map. AreInRange (content_of map)) }
-    // Which line is the first that doesn't fit.
-    ensures exact { GivesMap result (reading_of bytes.now) }
+    // A line that is told is the first that is wrong.
+    ensures bad_line { TellsBadLine result bytes.now }
 {
     read_lines(alloc, bytes)
 }

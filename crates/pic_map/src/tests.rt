@@ -20,13 +20,28 @@ const BAD: [(&str, u32); 15] = [
     ("picc map 1\nmain 2000\nhalt 0006\nend\n", 2),
     ("picc map 1\nmain 0005\nhalt 006\nend\n", 3),
     ("picc map 1\nmain 0005\nhalt 0006\n", 4),
-    ("picc map 1\nmain 0005\nhalt 0006\nstatic x 0200 1\nend\n", 4),
-    ("picc map 1\nmain 0005\nhalt 0006\nstatic x 0020 353\nend\n", 4),
-    ("picc map 1\nmain 0005\nhalt 0006\nconst x 0020 01\nend\n", 4),
+    (
+        "picc map 1\nmain 0005\nhalt 0006\nstatic x 0200 1\nend\n",
+        4,
+    ),
+    (
+        "picc map 1\nmain 0005\nhalt 0006\nstatic x 0020 353\nend\n",
+        4,
+    ),
+    (
+        "picc map 1\nmain 0005\nhalt 0006\nconst x 0020 01\nend\n",
+        4,
+    ),
     ("picc map 1\nmain 0005\nhalt 0006\nconst  0020 1\nend\n", 4),
-    ("picc map 1\nmain 0005\nhalt 0006\nframe irq x 0020 1\nend\n", 4),
+    (
+        "picc map 1\nmain 0005\nhalt 0006\nframe irq x 0020 1\nend\n",
+        4,
+    ),
     ("picc map 1\nmain 0005\nhalt 0006\nend \n", 4),
-    ("picc map 1\nmain 0005\nhalt 0006\nframe main f 0020 3\nstatic x 0030 1\nend\n", 5),
+    (
+        "picc map 1\nmain 0005\nhalt 0006\nframe main f 0020 3\nstatic x 0030 1\nend\n",
+        5,
+    ),
     ("picc map 1\nmain 0005\nhalt 0006\nend\n\n", 5),
     ("picc map 1\nmain 0005\nhalt 0006\nend\nend\n", 5),
 ];

@@ -1,10 +1,10 @@
-use Rattle.std.proofs.Common.{◌≡◌, ◌+◌, ◌≤◌, ◌∙◌, sym, ap, arith, Some, None, length, [], ◌∷◌}
+use Rattle.std.proofs.Common.{◌≡◌, ◌∙◌, sym, ap, arith, []}
 use Rattle.std.specs.Option.{option_map}
 use Rattle.pic_chip.specs.Text.{lines_of, split_lines}
 use Rattle.pic_map.specs.MapView.{content_of}
 use Rattle.pic_map.specs.declared.read.Stage.TheVariants.{Ended}
 use Rattle.pic_map.specs.Reading.{read_on}
-use Rattle.pic_map.proofs.Going.{step_some, step_none, not_ended, at_the_end, counted, slack}
+use Rattle.pic_map.proofs.Going.{step_none, not_ended, at_the_end, counted}
 use Rattle.pic_map.proofs.read.read_lines.Goals as goal
 
 pub returns-in_default-next : goal.returns-in_default-next

@@ -1,9 +1,8 @@
-use Rattle.std.proofs.Common.{◌≡◌, ◌++◌, refl, sym, ap, ◌∙◌, subst}
+use Rattle.std.proofs.Common.{sym, subst}
 use Rattle.pic_chip.specs.Text.{hex_pairs}
 use Rattle.pic_map.specs.MapFile.{IsMapFile}
-use Rattle.pic_map.specs.MapText.{objects_text, frames_text}
-use Rattle.pic_map.specs.MapView.{content_of, object_of, frame_of}
-use Rattle.pic_map.proofs.Written.{first_lines, whole, is_file}
+use Rattle.pic_map.specs.MapView.{content_of}
+use Rattle.pic_map.proofs.Written.{whole, is_file}
 use Rattle.pic_map.proofs.write.write_map.Goals as goal
 
 pub returns-clause-text : goal.returns-clause-text
