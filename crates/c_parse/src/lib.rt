@@ -2,7 +2,8 @@
 //
 // In: the bytes of a text, and its tokens after directives and replacement. Out: the concrete tree
 // of the grammar that these tokens spell, or why there is none, with its line.
-// The promise: a tree that is given back is spelled by the tokens, with their bytes and lines.
+// The promise so far: it ends on every text, and a limit on brackets or on tokens in a row that is passed is told with
+// the line of the first token that passes it. That the tree is the one that the tokens spell is tested, and owed.
 #![tactic(auto)]
 
 mod declarator;
