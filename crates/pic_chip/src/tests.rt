@@ -20,6 +20,14 @@ fn done(read: Option<Access>, write: Option<Access>) -> StepEnd {
     StepEnd::Done(Accesses { read, write })
 }
 
+fn step(chip: &mut Chip, image: &Image, script: &Script) -> StepEnd {
+    if chip.index() < 1000 {
+        chip.step(image, script)
+    } else {
+        StepEnd::Unmodelled(0)
+    }
+}
+
 #[test]
 fn steps_are_those_worked_out(rt: HostRuntime) -> Result<(), Fail> {
     let mut image = Image::blank(rt.alloc())?;
@@ -40,22 +48,34 @@ fn steps_are_those_worked_out(rt: HostRuntime) -> Result<(), Fail> {
     };
     let mut chip = fresh();
     assert_eq!(rt; chip.wants(&image), None);
-    assert_eq!(rt; chip.step(&image, &script), done(None, access(0xa0, 0x90)));
-    assert_eq!(rt; chip.general(0xa0), 0x90);
-    assert_eq!(rt; chip.step(&image, &script), done(None, None));
-    assert_eq!(rt; chip.step(&image, &script), done(None, access(0x20, 0x28)));
-    assert_eq!(rt; chip.wants(&image), Some(0x06));
-    assert_eq!(rt; chip.step(&image, &script), done(access(0x06, 0x5a), None));
     assert_eq!(rt;
-        chip.step(&image, &script),
+        step(&mut chip, &image, &script),
+        done(None, access(0xa0, 0x90))
+    );
+    assert_eq!(rt; chip.general(0xa0), 0x90);
+    assert_eq!(rt; step(&mut chip, &image, &script), done(None, None));
+    assert_eq!(rt;
+        step(&mut chip, &image, &script),
+        done(None, access(0x20, 0x28))
+    );
+    assert_eq!(rt; chip.wants(&image), Some(0x06));
+    assert_eq!(rt;
+        step(&mut chip, &image, &script),
+        done(access(0x06, 0x5a), None)
+    );
+    assert_eq!(rt;
+        step(&mut chip, &image, &script),
         done(access(0x03, 0x19), access(0x03, 0x39))
     );
-    assert_eq!(rt; chip.step(&image, &script), done(None, access(0x86, 0x5a)));
-    assert_eq!(rt; chip.step(&image, &script), done(None, None));
+    assert_eq!(rt;
+        step(&mut chip, &image, &script),
+        done(None, access(0x86, 0x5a))
+    );
+    assert_eq!(rt; step(&mut chip, &image, &script), done(None, None));
     assert_eq!(rt; (chip.pc(), chip.depth()), (9, 1));
-    assert_eq!(rt; chip.step(&image, &script), done(None, None));
+    assert_eq!(rt; step(&mut chip, &image, &script), done(None, None));
     assert_eq!(rt; (chip.pc(), chip.depth()), (7, 0));
-    assert_eq!(rt; chip.exec(&image, 0), StepEnd::Unmodelled(7));
+    assert_eq!(rt; step(&mut chip, &image, &script), StepEnd::Unmodelled(7));
     assert_eq!(rt; (chip.pc(), chip.index()), (7, 8));
     Ok(())
 }
@@ -81,13 +101,16 @@ fn an_interrupt_is_taken_between_two_instructions(rt: HostRuntime) -> Result<(),
         arrivals,
     };
     let mut chip = fresh();
-    assert_eq!(rt; chip.step(&image, &script), done(None, access(0x0b, 0x90)));
-    assert_eq!(rt; chip.step(&image, &script), done(None, None));
+    assert_eq!(rt;
+        step(&mut chip, &image, &script),
+        done(None, access(0x0b, 0x90))
+    );
+    assert_eq!(rt; step(&mut chip, &image, &script), done(None, None));
     assert_eq!(rt; chip.pc(), 2);
     let mut taken = chip;
     taken.begin(2);
     assert_eq!(rt; (taken.pc(), taken.depth(), taken.index()), (4, 1, 2));
-    assert_eq!(rt; chip.step(&image, &script), done(None, None));
+    assert_eq!(rt; step(&mut chip, &image, &script), done(None, None));
     assert_eq!(rt; (chip.pc(), chip.depth(), chip.index()), (2, 0, 3));
     Ok(())
 }
