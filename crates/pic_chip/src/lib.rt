@@ -1,8 +1,9 @@
 // The chip: its registers by name, images of its program memory, and what a run of it is.
 //
-// In: words of program memory. Out: images, and the addresses and names of registers and bits.
+// In: words of program memory, input bytes and arrivals of flags. Out: images, the addresses and
+// names of registers and bits, and the chip after each step with the accesses that it made.
 // The promise: a name has the address that the data sheet gives it, and an image holds exactly
-// the words that were set. The definitions of the chip's run stand in specs/.
+// the words that were set; each step of the chip is that of the definitions in specs/.
 #![tactic(auto)]
 
 mod access;
