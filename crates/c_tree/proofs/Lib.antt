@@ -2,3 +2,4 @@ pub mod Append
 pub mod Initials
 pub mod Statements
 pub mod Views
+pub mod Shapes

@@ -1,3 +1,7 @@
 pub mod Words
+pub mod Kinds
+pub mod Trees
+pub mod Lists
+pub mod Views
 pub mod Spelling
 pub mod Statements

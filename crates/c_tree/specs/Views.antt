@@ -1,0 +1,267 @@
+-- The trees that the code has, as pure data.
+use Rattle.std.specs.Prelude.{ℕ, List, [], ◌∷◌, Option, Some, None}
+use Rattle.c_tree.specs.Words.{Symbol, Symbols, keyed, signed, named, spell_constant, spell_pointers, spell_tag}
+use Rattle.c_tree.specs.Trees as tree
+use Rattle.c_tree.specs.Trees.{Tree, Post, Pre, TypeTree, SpecTrees, SpecTree, MemberTree, DeclaratorTree, SuffixTree, ParamTree}
+use Rattle.c_tree.specs.Lists.{posted, prefixed, joined, listed, ChoiceParts, chosen, assigned, more_specs, more_members, more_declarators, suffixes_of, more_params}
+use Rattle.c_tree.specs.declared.expression.Binary.{Binary}
+use Rattle.c_tree.specs.declared.expression.Operand.{Operand}
+use Rattle.c_tree.specs.declared.expression.Param.{Param}
+use Rattle.c_tree.specs.declared.expression.PostfixSuffix.{PostfixSuffix}
+use Rattle.c_tree.specs.declared.expression.Prefix.{Prefix}
+use Rattle.c_tree.specs.declared.expression.Primary.{Primary}
+use Rattle.c_tree.specs.declared.expression.Spec.{Spec}
+use Rattle.c_tree.specs.declared.expression.Suffix.{Suffix}
+use Rattle.c_tree.specs.declared.expression.Assign.{Assign}
+use Rattle.c_tree.specs.declared.expression.Cast.{Cast}
+use Rattle.c_tree.specs.declared.expression.Choice.{Choice}
+use Rattle.c_tree.specs.declared.expression.Cond.{Cond}
+use Rattle.c_tree.specs.declared.expression.Declarator.{Declarator}
+use Rattle.c_tree.specs.declared.expression.Expr.{Expr}
+use Rattle.c_tree.specs.declared.expression.Member.{Member}
+use Rattle.c_tree.specs.declared.expression.NextAssign.{NextAssign}
+use Rattle.c_tree.specs.declared.expression.NextDeclarator.{NextDeclarator}
+use Rattle.c_tree.specs.declared.expression.NextOperand.{NextOperand}
+use Rattle.c_tree.specs.declared.expression.NextParam.{NextParam}
+use Rattle.c_tree.specs.declared.expression.Postfix.{Postfix}
+use Rattle.c_tree.specs.declared.expression.Specs.{Specs}
+use Rattle.c_tree.specs.declared.expression.StructBody.{StructBody}
+use Rattle.c_tree.specs.declared.expression.Target.{Target}
+use Rattle.c_tree.specs.declared.expression.TypeName.{TypeName}
+use Rattle.c_tree.specs.declared.expression.Binary.TheOpen as Open
+use Rattle.c_tree.specs.declared.expression.Binary.TheFolds.{fold-Binary, fold-Operand, fold-Param, fold-PostfixSuffix, fold-Prefix, fold-Primary, fold-Spec, fold-Suffix, fold-Assign, fold-Cast, fold-Choice, fold-Cond, fold-Declarator, fold-Expr, fold-Member, fold-NextAssign, fold-NextDeclarator, fold-NextOperand, fold-NextParam, fold-Postfix, fold-Specs, fold-StructBody, fold-Target, fold-TypeName}
+
+-- One layer of a tree, with the pure data of each part in the place of that part.
+abbrev pub LayerBinary : Type 0
+LayerBinary = Open.Binary-F Tree Tree ParamTree Post Pre Tree SpecTree SuffixTree Tree Tree ChoiceParts Tree DeclaratorTree Tree MemberTree (ℕ × Tree) (ℕ × DeclaratorTree) (Symbol × Tree) (ℕ × ParamTree) Tree SpecTrees SpecTree (Tree × Symbol) TypeTree
+
+abbrev pub LayerOperand : Type 0
+LayerOperand = Open.Operand-F Tree Tree ParamTree Post Pre Tree SpecTree SuffixTree Tree Tree ChoiceParts Tree DeclaratorTree Tree MemberTree (ℕ × Tree) (ℕ × DeclaratorTree) (Symbol × Tree) (ℕ × ParamTree) Tree SpecTrees SpecTree (Tree × Symbol) TypeTree
+
+abbrev pub LayerParam : Type 0
+LayerParam = Open.Param-F Tree Tree ParamTree Post Pre Tree SpecTree SuffixTree Tree Tree ChoiceParts Tree DeclaratorTree Tree MemberTree (ℕ × Tree) (ℕ × DeclaratorTree) (Symbol × Tree) (ℕ × ParamTree) Tree SpecTrees SpecTree (Tree × Symbol) TypeTree
+
+abbrev pub LayerPostfixSuffix : Type 0
+LayerPostfixSuffix = Open.PostfixSuffix-F Tree Tree ParamTree Post Pre Tree SpecTree SuffixTree Tree Tree ChoiceParts Tree DeclaratorTree Tree MemberTree (ℕ × Tree) (ℕ × DeclaratorTree) (Symbol × Tree) (ℕ × ParamTree) Tree SpecTrees SpecTree (Tree × Symbol) TypeTree
+
+abbrev pub LayerPrefix : Type 0
+LayerPrefix = Open.Prefix-F Tree Tree ParamTree Post Pre Tree SpecTree SuffixTree Tree Tree ChoiceParts Tree DeclaratorTree Tree MemberTree (ℕ × Tree) (ℕ × DeclaratorTree) (Symbol × Tree) (ℕ × ParamTree) Tree SpecTrees SpecTree (Tree × Symbol) TypeTree
+
+abbrev pub LayerPrimary : Type 0
+LayerPrimary = Open.Primary-F Tree Tree ParamTree Post Pre Tree SpecTree SuffixTree Tree Tree ChoiceParts Tree DeclaratorTree Tree MemberTree (ℕ × Tree) (ℕ × DeclaratorTree) (Symbol × Tree) (ℕ × ParamTree) Tree SpecTrees SpecTree (Tree × Symbol) TypeTree
+
+abbrev pub LayerSpec : Type 0
+LayerSpec = Open.Spec-F Tree Tree ParamTree Post Pre Tree SpecTree SuffixTree Tree Tree ChoiceParts Tree DeclaratorTree Tree MemberTree (ℕ × Tree) (ℕ × DeclaratorTree) (Symbol × Tree) (ℕ × ParamTree) Tree SpecTrees SpecTree (Tree × Symbol) TypeTree
+
+abbrev pub LayerSuffix : Type 0
+LayerSuffix = Open.Suffix-F Tree Tree ParamTree Post Pre Tree SpecTree SuffixTree Tree Tree ChoiceParts Tree DeclaratorTree Tree MemberTree (ℕ × Tree) (ℕ × DeclaratorTree) (Symbol × Tree) (ℕ × ParamTree) Tree SpecTrees SpecTree (Tree × Symbol) TypeTree
+
+abbrev pub LayerAssign : Type 0
+LayerAssign = Open.Assign-F Tree Tree ParamTree Post Pre Tree SpecTree SuffixTree Tree Tree ChoiceParts Tree DeclaratorTree Tree MemberTree (ℕ × Tree) (ℕ × DeclaratorTree) (Symbol × Tree) (ℕ × ParamTree) Tree SpecTrees SpecTree (Tree × Symbol) TypeTree
+
+abbrev pub LayerCast : Type 0
+LayerCast = Open.Cast-F Tree Tree ParamTree Post Pre Tree SpecTree SuffixTree Tree Tree ChoiceParts Tree DeclaratorTree Tree MemberTree (ℕ × Tree) (ℕ × DeclaratorTree) (Symbol × Tree) (ℕ × ParamTree) Tree SpecTrees SpecTree (Tree × Symbol) TypeTree
+
+abbrev pub LayerChoice : Type 0
+LayerChoice = Open.Choice-F Tree Tree ParamTree Post Pre Tree SpecTree SuffixTree Tree Tree ChoiceParts Tree DeclaratorTree Tree MemberTree (ℕ × Tree) (ℕ × DeclaratorTree) (Symbol × Tree) (ℕ × ParamTree) Tree SpecTrees SpecTree (Tree × Symbol) TypeTree
+
+abbrev pub LayerCond : Type 0
+LayerCond = Open.Cond-F Tree Tree ParamTree Post Pre Tree SpecTree SuffixTree Tree Tree ChoiceParts Tree DeclaratorTree Tree MemberTree (ℕ × Tree) (ℕ × DeclaratorTree) (Symbol × Tree) (ℕ × ParamTree) Tree SpecTrees SpecTree (Tree × Symbol) TypeTree
+
+abbrev pub LayerDeclarator : Type 0
+LayerDeclarator = Open.Declarator-F Tree Tree ParamTree Post Pre Tree SpecTree SuffixTree Tree Tree ChoiceParts Tree DeclaratorTree Tree MemberTree (ℕ × Tree) (ℕ × DeclaratorTree) (Symbol × Tree) (ℕ × ParamTree) Tree SpecTrees SpecTree (Tree × Symbol) TypeTree
+
+abbrev pub LayerExpr : Type 0
+LayerExpr = Open.Expr-F Tree Tree ParamTree Post Pre Tree SpecTree SuffixTree Tree Tree ChoiceParts Tree DeclaratorTree Tree MemberTree (ℕ × Tree) (ℕ × DeclaratorTree) (Symbol × Tree) (ℕ × ParamTree) Tree SpecTrees SpecTree (Tree × Symbol) TypeTree
+
+abbrev pub LayerMember : Type 0
+LayerMember = Open.Member-F Tree Tree ParamTree Post Pre Tree SpecTree SuffixTree Tree Tree ChoiceParts Tree DeclaratorTree Tree MemberTree (ℕ × Tree) (ℕ × DeclaratorTree) (Symbol × Tree) (ℕ × ParamTree) Tree SpecTrees SpecTree (Tree × Symbol) TypeTree
+
+abbrev pub LayerNextAssign : Type 0
+LayerNextAssign = Open.NextAssign-F Tree Tree ParamTree Post Pre Tree SpecTree SuffixTree Tree Tree ChoiceParts Tree DeclaratorTree Tree MemberTree (ℕ × Tree) (ℕ × DeclaratorTree) (Symbol × Tree) (ℕ × ParamTree) Tree SpecTrees SpecTree (Tree × Symbol) TypeTree
+
+abbrev pub LayerNextDeclarator : Type 0
+LayerNextDeclarator = Open.NextDeclarator-F Tree Tree ParamTree Post Pre Tree SpecTree SuffixTree Tree Tree ChoiceParts Tree DeclaratorTree Tree MemberTree (ℕ × Tree) (ℕ × DeclaratorTree) (Symbol × Tree) (ℕ × ParamTree) Tree SpecTrees SpecTree (Tree × Symbol) TypeTree
+
+abbrev pub LayerNextOperand : Type 0
+LayerNextOperand = Open.NextOperand-F Tree Tree ParamTree Post Pre Tree SpecTree SuffixTree Tree Tree ChoiceParts Tree DeclaratorTree Tree MemberTree (ℕ × Tree) (ℕ × DeclaratorTree) (Symbol × Tree) (ℕ × ParamTree) Tree SpecTrees SpecTree (Tree × Symbol) TypeTree
+
+abbrev pub LayerNextParam : Type 0
+LayerNextParam = Open.NextParam-F Tree Tree ParamTree Post Pre Tree SpecTree SuffixTree Tree Tree ChoiceParts Tree DeclaratorTree Tree MemberTree (ℕ × Tree) (ℕ × DeclaratorTree) (Symbol × Tree) (ℕ × ParamTree) Tree SpecTrees SpecTree (Tree × Symbol) TypeTree
+
+abbrev pub LayerPostfix : Type 0
+LayerPostfix = Open.Postfix-F Tree Tree ParamTree Post Pre Tree SpecTree SuffixTree Tree Tree ChoiceParts Tree DeclaratorTree Tree MemberTree (ℕ × Tree) (ℕ × DeclaratorTree) (Symbol × Tree) (ℕ × ParamTree) Tree SpecTrees SpecTree (Tree × Symbol) TypeTree
+
+abbrev pub LayerSpecs : Type 0
+LayerSpecs = Open.Specs-F Tree Tree ParamTree Post Pre Tree SpecTree SuffixTree Tree Tree ChoiceParts Tree DeclaratorTree Tree MemberTree (ℕ × Tree) (ℕ × DeclaratorTree) (Symbol × Tree) (ℕ × ParamTree) Tree SpecTrees SpecTree (Tree × Symbol) TypeTree
+
+abbrev pub LayerStructBody : Type 0
+LayerStructBody = Open.StructBody-F Tree Tree ParamTree Post Pre Tree SpecTree SuffixTree Tree Tree ChoiceParts Tree DeclaratorTree Tree MemberTree (ℕ × Tree) (ℕ × DeclaratorTree) (Symbol × Tree) (ℕ × ParamTree) Tree SpecTrees SpecTree (Tree × Symbol) TypeTree
+
+abbrev pub LayerTarget : Type 0
+LayerTarget = Open.Target-F Tree Tree ParamTree Post Pre Tree SpecTree SuffixTree Tree Tree ChoiceParts Tree DeclaratorTree Tree MemberTree (ℕ × Tree) (ℕ × DeclaratorTree) (Symbol × Tree) (ℕ × ParamTree) Tree SpecTrees SpecTree (Tree × Symbol) TypeTree
+
+abbrev pub LayerTypeName : Type 0
+LayerTypeName = Open.TypeName-F Tree Tree ParamTree Post Pre Tree SpecTree SuffixTree Tree Tree ChoiceParts Tree DeclaratorTree Tree MemberTree (ℕ × Tree) (ℕ × DeclaratorTree) (Symbol × Tree) (ℕ × ParamTree) Tree SpecTrees SpecTree (Tree × Symbol) TypeTree
+
+abbrev pub binary_step : LayerBinary → Tree
+binary_step (Open.Operand operand) = operand
+binary_step (Open.Chain first others) = joined first.value others.items
+
+abbrev pub operand_step : LayerOperand → Tree
+operand_step (Open.Postfix postfix) = postfix
+operand_step (Open.SizeofType keyword opening type_name closing) = tree.Measure keyword opening type_name.value closing
+
+abbrev pub param_step : LayerParam → ParamTree
+param_step (Open.Named specs declarator) = tree.Named specs declarator
+param_step (Open.Unnamed specs pointers suffixes) = tree.Unnamed specs (spell_pointers pointers.items) (suffixes_of suffixes.items)
+
+abbrev pub postfix_suffix_step : LayerPostfixSuffix → Post
+postfix_suffix_step (Open.Index opening index closing) = tree.Index opening index.value closing
+postfix_suffix_step (Open.Call opening None closing) = tree.CallBare opening closing
+postfix_suffix_step (Open.Call opening (Some arguments) closing) = tree.Call opening arguments.value closing
+postfix_suffix_step (Open.Member operator name) = tree.Field (signed operator) (named name)
+postfix_suffix_step (Open.Step operator) = tree.Step (signed operator)
+
+abbrev pub prefix_step : LayerPrefix → Pre
+prefix_step (Open.Operator operator) = tree.Sign (signed operator)
+prefix_step (Open.Sizeof keyword) = tree.Sizeof keyword
+prefix_step (Open.Cast opening type_name closing) = tree.Cast opening type_name.value closing
+
+abbrev pub primary_step : LayerPrimary → Tree
+primary_step (Open.Name name) = tree.Leaf (named name)
+primary_step (Open.Constant constant) = tree.Leaf (spell_constant constant)
+primary_step (Open.Group opening inner closing) = tree.Group opening inner.value closing
+
+abbrev pub spec_step : LayerSpec → SpecTree
+spec_step (Open.Word word) = tree.OneWord (keyed word)
+spec_step (Open.Reference keyword tag) = tree.Tagged keyword (named tag)
+spec_step (Open.Body body) = body.value
+
+abbrev pub suffix_step : LayerSuffix → SuffixTree
+suffix_step (Open.Array opening None closing) = tree.Unsized opening closing
+suffix_step (Open.Array opening (Some length) closing) = tree.Sized opening length.value closing
+suffix_step (Open.Empty opening closing) = tree.Empty opening closing
+suffix_step (Open.Void opening void closing) = tree.VoidOnly opening void closing
+suffix_step (Open.Params opening first others closing) = tree.Params opening first.value (more_params others.items) closing
+
+abbrev pub assign_step : LayerAssign → Tree
+assign_step a = assigned a.targets.items a.value
+
+abbrev pub cast_step : LayerCast → Tree
+cast_step c = prefixed c.prefixes.items c.operand
+
+abbrev pub choice_step : LayerChoice → ChoiceParts
+choice_step c = (c.condition, c.question, c.then.value, c.colon)
+
+abbrev pub cond_step : LayerCond → Tree
+cond_step c = chosen c.choices.items c.last
+
+abbrev pub declarator_step : LayerDeclarator → DeclaratorTree
+declarator_step d = tree.Declares (spell_pointers d.pointers.items) (named d.name) (suffixes_of d.suffixes.items)
+
+abbrev pub expr_step : LayerExpr → Tree
+expr_step e = listed e.first e.others.items
+
+abbrev pub member_step : LayerMember → MemberTree
+member_step m = tree.Members m.specs m.first (more_declarators m.others.items) m.semicolon
+
+abbrev pub next_assign_step : LayerNextAssign → ℕ × Tree
+next_assign_step n = (n.comma, n.assign)
+
+abbrev pub next_declarator_step : LayerNextDeclarator → ℕ × DeclaratorTree
+next_declarator_step n = (n.comma, n.declarator)
+
+abbrev pub next_operand_step : LayerNextOperand → Symbol × Tree
+next_operand_step n = (signed n.operator, n.operand)
+
+abbrev pub next_param_step : LayerNextParam → ℕ × ParamTree
+next_param_step n = (n.comma, n.param)
+
+abbrev pub postfix_step : LayerPostfix → Tree
+postfix_step p = posted p.primary p.suffixes.items
+
+abbrev pub specs_step : LayerSpecs → SpecTrees
+specs_step s = tree.Specified s.first (more_specs s.others.items)
+
+abbrev pub struct_body_step : LayerStructBody → SpecTree
+struct_body_step s = tree.Body s.keyword (spell_tag s.tag) s.opening s.first (more_members s.others.items) s.closing
+
+abbrev pub target_step : LayerTarget → Tree × Symbol
+target_step t = (t.place, signed t.operator)
+
+abbrev pub type_name_step : LayerTypeName → TypeTree
+type_name_step t = tree.TypeOf t.specs (spell_pointers t.pointers.items)
+
+-- A whole tree.
+unfoldable pub binary_of : Binary → Tree
+binary_of = fold-Binary Tree Tree ParamTree Post Pre Tree SpecTree SuffixTree Tree Tree ChoiceParts Tree DeclaratorTree Tree MemberTree (ℕ × Tree) (ℕ × DeclaratorTree) (Symbol × Tree) (ℕ × ParamTree) Tree SpecTrees SpecTree (Tree × Symbol) TypeTree binary_step operand_step param_step postfix_suffix_step prefix_step primary_step spec_step suffix_step assign_step cast_step choice_step cond_step declarator_step expr_step member_step next_assign_step next_declarator_step next_operand_step next_param_step postfix_step specs_step struct_body_step target_step type_name_step
+
+unfoldable pub operand_of : Operand → Tree
+operand_of = fold-Operand Tree Tree ParamTree Post Pre Tree SpecTree SuffixTree Tree Tree ChoiceParts Tree DeclaratorTree Tree MemberTree (ℕ × Tree) (ℕ × DeclaratorTree) (Symbol × Tree) (ℕ × ParamTree) Tree SpecTrees SpecTree (Tree × Symbol) TypeTree binary_step operand_step param_step postfix_suffix_step prefix_step primary_step spec_step suffix_step assign_step cast_step choice_step cond_step declarator_step expr_step member_step next_assign_step next_declarator_step next_operand_step next_param_step postfix_step specs_step struct_body_step target_step type_name_step
+
+unfoldable pub param_of : Param → ParamTree
+param_of = fold-Param Tree Tree ParamTree Post Pre Tree SpecTree SuffixTree Tree Tree ChoiceParts Tree DeclaratorTree Tree MemberTree (ℕ × Tree) (ℕ × DeclaratorTree) (Symbol × Tree) (ℕ × ParamTree) Tree SpecTrees SpecTree (Tree × Symbol) TypeTree binary_step operand_step param_step postfix_suffix_step prefix_step primary_step spec_step suffix_step assign_step cast_step choice_step cond_step declarator_step expr_step member_step next_assign_step next_declarator_step next_operand_step next_param_step postfix_step specs_step struct_body_step target_step type_name_step
+
+unfoldable pub postfix_suffix_of : PostfixSuffix → Post
+postfix_suffix_of = fold-PostfixSuffix Tree Tree ParamTree Post Pre Tree SpecTree SuffixTree Tree Tree ChoiceParts Tree DeclaratorTree Tree MemberTree (ℕ × Tree) (ℕ × DeclaratorTree) (Symbol × Tree) (ℕ × ParamTree) Tree SpecTrees SpecTree (Tree × Symbol) TypeTree binary_step operand_step param_step postfix_suffix_step prefix_step primary_step spec_step suffix_step assign_step cast_step choice_step cond_step declarator_step expr_step member_step next_assign_step next_declarator_step next_operand_step next_param_step postfix_step specs_step struct_body_step target_step type_name_step
+
+unfoldable pub prefix_of : Prefix → Pre
+prefix_of = fold-Prefix Tree Tree ParamTree Post Pre Tree SpecTree SuffixTree Tree Tree ChoiceParts Tree DeclaratorTree Tree MemberTree (ℕ × Tree) (ℕ × DeclaratorTree) (Symbol × Tree) (ℕ × ParamTree) Tree SpecTrees SpecTree (Tree × Symbol) TypeTree binary_step operand_step param_step postfix_suffix_step prefix_step primary_step spec_step suffix_step assign_step cast_step choice_step cond_step declarator_step expr_step member_step next_assign_step next_declarator_step next_operand_step next_param_step postfix_step specs_step struct_body_step target_step type_name_step
+
+unfoldable pub primary_of : Primary → Tree
+primary_of = fold-Primary Tree Tree ParamTree Post Pre Tree SpecTree SuffixTree Tree Tree ChoiceParts Tree DeclaratorTree Tree MemberTree (ℕ × Tree) (ℕ × DeclaratorTree) (Symbol × Tree) (ℕ × ParamTree) Tree SpecTrees SpecTree (Tree × Symbol) TypeTree binary_step operand_step param_step postfix_suffix_step prefix_step primary_step spec_step suffix_step assign_step cast_step choice_step cond_step declarator_step expr_step member_step next_assign_step next_declarator_step next_operand_step next_param_step postfix_step specs_step struct_body_step target_step type_name_step
+
+unfoldable pub spec_of : Spec → SpecTree
+spec_of = fold-Spec Tree Tree ParamTree Post Pre Tree SpecTree SuffixTree Tree Tree ChoiceParts Tree DeclaratorTree Tree MemberTree (ℕ × Tree) (ℕ × DeclaratorTree) (Symbol × Tree) (ℕ × ParamTree) Tree SpecTrees SpecTree (Tree × Symbol) TypeTree binary_step operand_step param_step postfix_suffix_step prefix_step primary_step spec_step suffix_step assign_step cast_step choice_step cond_step declarator_step expr_step member_step next_assign_step next_declarator_step next_operand_step next_param_step postfix_step specs_step struct_body_step target_step type_name_step
+
+unfoldable pub suffix_of : Suffix → SuffixTree
+suffix_of = fold-Suffix Tree Tree ParamTree Post Pre Tree SpecTree SuffixTree Tree Tree ChoiceParts Tree DeclaratorTree Tree MemberTree (ℕ × Tree) (ℕ × DeclaratorTree) (Symbol × Tree) (ℕ × ParamTree) Tree SpecTrees SpecTree (Tree × Symbol) TypeTree binary_step operand_step param_step postfix_suffix_step prefix_step primary_step spec_step suffix_step assign_step cast_step choice_step cond_step declarator_step expr_step member_step next_assign_step next_declarator_step next_operand_step next_param_step postfix_step specs_step struct_body_step target_step type_name_step
+
+unfoldable pub assign_of : Assign → Tree
+assign_of = fold-Assign Tree Tree ParamTree Post Pre Tree SpecTree SuffixTree Tree Tree ChoiceParts Tree DeclaratorTree Tree MemberTree (ℕ × Tree) (ℕ × DeclaratorTree) (Symbol × Tree) (ℕ × ParamTree) Tree SpecTrees SpecTree (Tree × Symbol) TypeTree binary_step operand_step param_step postfix_suffix_step prefix_step primary_step spec_step suffix_step assign_step cast_step choice_step cond_step declarator_step expr_step member_step next_assign_step next_declarator_step next_operand_step next_param_step postfix_step specs_step struct_body_step target_step type_name_step
+
+unfoldable pub cast_of : Cast → Tree
+cast_of = fold-Cast Tree Tree ParamTree Post Pre Tree SpecTree SuffixTree Tree Tree ChoiceParts Tree DeclaratorTree Tree MemberTree (ℕ × Tree) (ℕ × DeclaratorTree) (Symbol × Tree) (ℕ × ParamTree) Tree SpecTrees SpecTree (Tree × Symbol) TypeTree binary_step operand_step param_step postfix_suffix_step prefix_step primary_step spec_step suffix_step assign_step cast_step choice_step cond_step declarator_step expr_step member_step next_assign_step next_declarator_step next_operand_step next_param_step postfix_step specs_step struct_body_step target_step type_name_step
+
+unfoldable pub choice_of : Choice → ChoiceParts
+choice_of = fold-Choice Tree Tree ParamTree Post Pre Tree SpecTree SuffixTree Tree Tree ChoiceParts Tree DeclaratorTree Tree MemberTree (ℕ × Tree) (ℕ × DeclaratorTree) (Symbol × Tree) (ℕ × ParamTree) Tree SpecTrees SpecTree (Tree × Symbol) TypeTree binary_step operand_step param_step postfix_suffix_step prefix_step primary_step spec_step suffix_step assign_step cast_step choice_step cond_step declarator_step expr_step member_step next_assign_step next_declarator_step next_operand_step next_param_step postfix_step specs_step struct_body_step target_step type_name_step
+
+unfoldable pub cond_of : Cond → Tree
+cond_of = fold-Cond Tree Tree ParamTree Post Pre Tree SpecTree SuffixTree Tree Tree ChoiceParts Tree DeclaratorTree Tree MemberTree (ℕ × Tree) (ℕ × DeclaratorTree) (Symbol × Tree) (ℕ × ParamTree) Tree SpecTrees SpecTree (Tree × Symbol) TypeTree binary_step operand_step param_step postfix_suffix_step prefix_step primary_step spec_step suffix_step assign_step cast_step choice_step cond_step declarator_step expr_step member_step next_assign_step next_declarator_step next_operand_step next_param_step postfix_step specs_step struct_body_step target_step type_name_step
+
+unfoldable pub declarator_of : Declarator → DeclaratorTree
+declarator_of = fold-Declarator Tree Tree ParamTree Post Pre Tree SpecTree SuffixTree Tree Tree ChoiceParts Tree DeclaratorTree Tree MemberTree (ℕ × Tree) (ℕ × DeclaratorTree) (Symbol × Tree) (ℕ × ParamTree) Tree SpecTrees SpecTree (Tree × Symbol) TypeTree binary_step operand_step param_step postfix_suffix_step prefix_step primary_step spec_step suffix_step assign_step cast_step choice_step cond_step declarator_step expr_step member_step next_assign_step next_declarator_step next_operand_step next_param_step postfix_step specs_step struct_body_step target_step type_name_step
+
+unfoldable pub expr_of : Expr → Tree
+expr_of = fold-Expr Tree Tree ParamTree Post Pre Tree SpecTree SuffixTree Tree Tree ChoiceParts Tree DeclaratorTree Tree MemberTree (ℕ × Tree) (ℕ × DeclaratorTree) (Symbol × Tree) (ℕ × ParamTree) Tree SpecTrees SpecTree (Tree × Symbol) TypeTree binary_step operand_step param_step postfix_suffix_step prefix_step primary_step spec_step suffix_step assign_step cast_step choice_step cond_step declarator_step expr_step member_step next_assign_step next_declarator_step next_operand_step next_param_step postfix_step specs_step struct_body_step target_step type_name_step
+
+unfoldable pub member_of : Member → MemberTree
+member_of = fold-Member Tree Tree ParamTree Post Pre Tree SpecTree SuffixTree Tree Tree ChoiceParts Tree DeclaratorTree Tree MemberTree (ℕ × Tree) (ℕ × DeclaratorTree) (Symbol × Tree) (ℕ × ParamTree) Tree SpecTrees SpecTree (Tree × Symbol) TypeTree binary_step operand_step param_step postfix_suffix_step prefix_step primary_step spec_step suffix_step assign_step cast_step choice_step cond_step declarator_step expr_step member_step next_assign_step next_declarator_step next_operand_step next_param_step postfix_step specs_step struct_body_step target_step type_name_step
+
+unfoldable pub next_assign_of : NextAssign → ℕ × Tree
+next_assign_of = fold-NextAssign Tree Tree ParamTree Post Pre Tree SpecTree SuffixTree Tree Tree ChoiceParts Tree DeclaratorTree Tree MemberTree (ℕ × Tree) (ℕ × DeclaratorTree) (Symbol × Tree) (ℕ × ParamTree) Tree SpecTrees SpecTree (Tree × Symbol) TypeTree binary_step operand_step param_step postfix_suffix_step prefix_step primary_step spec_step suffix_step assign_step cast_step choice_step cond_step declarator_step expr_step member_step next_assign_step next_declarator_step next_operand_step next_param_step postfix_step specs_step struct_body_step target_step type_name_step
+
+unfoldable pub next_declarator_of : NextDeclarator → ℕ × DeclaratorTree
+next_declarator_of = fold-NextDeclarator Tree Tree ParamTree Post Pre Tree SpecTree SuffixTree Tree Tree ChoiceParts Tree DeclaratorTree Tree MemberTree (ℕ × Tree) (ℕ × DeclaratorTree) (Symbol × Tree) (ℕ × ParamTree) Tree SpecTrees SpecTree (Tree × Symbol) TypeTree binary_step operand_step param_step postfix_suffix_step prefix_step primary_step spec_step suffix_step assign_step cast_step choice_step cond_step declarator_step expr_step member_step next_assign_step next_declarator_step next_operand_step next_param_step postfix_step specs_step struct_body_step target_step type_name_step
+
+unfoldable pub next_operand_of : NextOperand → Symbol × Tree
+next_operand_of = fold-NextOperand Tree Tree ParamTree Post Pre Tree SpecTree SuffixTree Tree Tree ChoiceParts Tree DeclaratorTree Tree MemberTree (ℕ × Tree) (ℕ × DeclaratorTree) (Symbol × Tree) (ℕ × ParamTree) Tree SpecTrees SpecTree (Tree × Symbol) TypeTree binary_step operand_step param_step postfix_suffix_step prefix_step primary_step spec_step suffix_step assign_step cast_step choice_step cond_step declarator_step expr_step member_step next_assign_step next_declarator_step next_operand_step next_param_step postfix_step specs_step struct_body_step target_step type_name_step
+
+unfoldable pub next_param_of : NextParam → ℕ × ParamTree
+next_param_of = fold-NextParam Tree Tree ParamTree Post Pre Tree SpecTree SuffixTree Tree Tree ChoiceParts Tree DeclaratorTree Tree MemberTree (ℕ × Tree) (ℕ × DeclaratorTree) (Symbol × Tree) (ℕ × ParamTree) Tree SpecTrees SpecTree (Tree × Symbol) TypeTree binary_step operand_step param_step postfix_suffix_step prefix_step primary_step spec_step suffix_step assign_step cast_step choice_step cond_step declarator_step expr_step member_step next_assign_step next_declarator_step next_operand_step next_param_step postfix_step specs_step struct_body_step target_step type_name_step
+
+unfoldable pub postfix_of : Postfix → Tree
+postfix_of = fold-Postfix Tree Tree ParamTree Post Pre Tree SpecTree SuffixTree Tree Tree ChoiceParts Tree DeclaratorTree Tree MemberTree (ℕ × Tree) (ℕ × DeclaratorTree) (Symbol × Tree) (ℕ × ParamTree) Tree SpecTrees SpecTree (Tree × Symbol) TypeTree binary_step operand_step param_step postfix_suffix_step prefix_step primary_step spec_step suffix_step assign_step cast_step choice_step cond_step declarator_step expr_step member_step next_assign_step next_declarator_step next_operand_step next_param_step postfix_step specs_step struct_body_step target_step type_name_step
+
+unfoldable pub specs_of : Specs → SpecTrees
+specs_of = fold-Specs Tree Tree ParamTree Post Pre Tree SpecTree SuffixTree Tree Tree ChoiceParts Tree DeclaratorTree Tree MemberTree (ℕ × Tree) (ℕ × DeclaratorTree) (Symbol × Tree) (ℕ × ParamTree) Tree SpecTrees SpecTree (Tree × Symbol) TypeTree binary_step operand_step param_step postfix_suffix_step prefix_step primary_step spec_step suffix_step assign_step cast_step choice_step cond_step declarator_step expr_step member_step next_assign_step next_declarator_step next_operand_step next_param_step postfix_step specs_step struct_body_step target_step type_name_step
+
+unfoldable pub struct_body_of : StructBody → SpecTree
+struct_body_of = fold-StructBody Tree Tree ParamTree Post Pre Tree SpecTree SuffixTree Tree Tree ChoiceParts Tree DeclaratorTree Tree MemberTree (ℕ × Tree) (ℕ × DeclaratorTree) (Symbol × Tree) (ℕ × ParamTree) Tree SpecTrees SpecTree (Tree × Symbol) TypeTree binary_step operand_step param_step postfix_suffix_step prefix_step primary_step spec_step suffix_step assign_step cast_step choice_step cond_step declarator_step expr_step member_step next_assign_step next_declarator_step next_operand_step next_param_step postfix_step specs_step struct_body_step target_step type_name_step
+
+unfoldable pub target_of : Target → Tree × Symbol
+target_of = fold-Target Tree Tree ParamTree Post Pre Tree SpecTree SuffixTree Tree Tree ChoiceParts Tree DeclaratorTree Tree MemberTree (ℕ × Tree) (ℕ × DeclaratorTree) (Symbol × Tree) (ℕ × ParamTree) Tree SpecTrees SpecTree (Tree × Symbol) TypeTree binary_step operand_step param_step postfix_suffix_step prefix_step primary_step spec_step suffix_step assign_step cast_step choice_step cond_step declarator_step expr_step member_step next_assign_step next_declarator_step next_operand_step next_param_step postfix_step specs_step struct_body_step target_step type_name_step
+
+unfoldable pub type_name_of : TypeName → TypeTree
+type_name_of = fold-TypeName Tree Tree ParamTree Post Pre Tree SpecTree SuffixTree Tree Tree ChoiceParts Tree DeclaratorTree Tree MemberTree (ℕ × Tree) (ℕ × DeclaratorTree) (Symbol × Tree) (ℕ × ParamTree) Tree SpecTrees SpecTree (Tree × Symbol) TypeTree binary_step operand_step param_step postfix_suffix_step prefix_step primary_step spec_step suffix_step assign_step cast_step choice_step cond_step declarator_step expr_step member_step next_assign_step next_declarator_step next_operand_step next_param_step postfix_step specs_step struct_body_step target_step type_name_step
