@@ -1,1 +1,1 @@
-mod Probe
+pub mod Knots
