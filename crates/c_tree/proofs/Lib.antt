@@ -3,3 +3,4 @@ pub mod Initials
 pub mod Statements
 pub mod Views
 pub mod Shapes
+pub mod ProgramShapes
