@@ -1,1 +1,3 @@
 pub mod Knots
+pub mod Plain
+pub mod Takes
