@@ -1,3 +1,4 @@
 pub mod Knots
 pub mod Plain
 pub mod Takes
+pub mod TakesOperands

@@ -21,15 +21,30 @@ pub record Splits (toks spelling rest : Symbols) : Type 0 where
 pub join : {toks a b middle rest : Symbols} → Splits toks a middle → Splits middle b rest → Splits toks (a ++ b) rest
 join {toks} {a} {b} {middle} {rest} s t = record { is = s.is ∙ ap (λ (l : Symbols). a ++ l) t.is ∙ sym (append_assoc a b rest) }
 
+-- the same, spelled otherwise
+pub splits_as : {toks a b rest : Symbols} → Splits toks a rest → b ≡ a → Splits toks b rest
+splits_as {toks} {a} {b} {rest} s e = subst (λ (l : Symbols). Splits toks l rest) (sym e) s
+
 pub part : {A : Type 0} {spell : A → Symbols} {Is : A → Type 0} {toks : Symbols} {x : A × Symbols} → Takes spell Is toks x → Splits toks (spell x.0) x.1
 part t = record { is = t.parts }
 
-some_is : {A : Type 0} (x y : A) → Some x ≡ Some y → x ≡ y
+pub some_is : {A : Type 0} (x y : A) → Some x ≡ Some y → x ≡ y
 some_is x y e = cc
 
 -- what a reader ends with
 pub take : {A : Type 0} {spell : A → Symbols} {Is : A → Type 0} {toks rest : Symbols} {x : A × Symbols} (a : A) → Splits toks (spell a) rest → Is a → ArePlain rest → Some (a, rest) ≡ Some x → Takes spell Is toks x
 take {A} {spell} {Is} {toks} {rest} {x} a split is plain e = subst (Takes spell Is toks) (some_is (a, rest) x e) (record { parts = split.is; tree = is; plain = plain })
+
+-- one token
+pub one : (s : Symbol) (rest : Symbols) → Splits (s ∷ rest) (s ∷ []) rest
+one s rest = record { is = refl }
+
+pub taken_as : {A : Type 0} {spell : A → Symbols} {Is : A → Type 0} {x : A × Symbols} (s t : Symbol) (toks : Symbols) → s ≡ t → Takes spell Is (t ∷ toks) x → Takes spell Is (s ∷ toks) x
+taken_as {A} {spell} {Is} {x} s t toks e takes = subst (λ (u : Symbol). Takes spell Is (u ∷ toks) x) (sym e) takes
+
+-- what is more than asked of what was taken
+pub weaken : {A : Type 0} {spell : A → Symbols} {Is As : A → Type 0} {toks : Symbols} {x : A × Symbols} → (Is x.0 → As x.0) → Takes spell Is toks x → Takes spell As toks x
+weaken more t = record { parts = t.parts; tree = more t.tree; plain = t.plain }
 
 -- ---- taking readers apart
 
