@@ -3,3 +3,4 @@ pub mod Plain
 pub mod Takes
 pub mod TakesOperands
 pub mod TakesOperators
+pub mod TakesDeclarators
