@@ -10,7 +10,7 @@ use Rattle.c_expression.specs.Reader.{◌>>=◌, Reader, Step, front_is, symbol_
 use Rattle.c_expression.specs.Reading.{Inner, body_by, struct_on, struct_by, spec_by, next_spec_by, specs_by, type_name_by, length_by, array_on, array_by, void_at, list_by, void_on, function_on, function_by, suffix_by, named_by, declarator_by, next_declarator_by, member_by, next_member_by, members_by, unnamed_on, unnamed_by, named_param_by, param_behind, param_by, next_param_by, params_by}
 use Rattle.c_expression.proofs.Knots.{ArePlain, Takes, Sound, SoundStep, SoundInner, IsCond, spelled_members, AreMembers, spelled_params, AreParams}
 use Rattle.c_expression.proofs.Plain.{punct_is, key_is}
-use Rattle.c_expression.proofs.Takes.{Splits, join, splits_as, part, one, taken_as, weaken, some_is, take, bind_ok, Then, sound_then, cases_if, cases_option, got_ok, symbol_takes, punct_takes, key_takes, Nothing, Each, spelled_all, all_take, pointers_take}
+use Rattle.c_expression.proofs.TakesLists.{Splits, join, splits_as, part, one, taken_as, weaken, some_is, take, bind_ok, Then, sound_then, cases_if, cases_option, got_ok, symbol_takes, punct_takes, key_takes, Nothing, Each, spelled_all, all_take, pointers_take}
 
 -- ---- specifiers
 
@@ -59,17 +59,17 @@ more_specs_are : (ss : List SpecTree) → Each IsSpec ss → AreMoreSpecs (more_
 more_specs_are [] each = tt
 more_specs_are (s ∷ ss) each = (each.0, more_specs_are ss each.1)
 
-pub specs_take : (inner : Inner) → SoundInner inner → Sound spelled_specs AreSpecs (specs_by inner)
+pub specs_by_take : (inner : Inner) → SoundInner inner → Sound spelled_specs AreSpecs (specs_by inner)
 unfolding specs_by
-specs_take inner sound toks plain x e =
+specs_by_take inner sound toks plain x e =
     let s = sound_then (spec_takes inner sound) toks plain _ x e in
     let ss = sound_then (all_take spelled_spec IsSpec (next_spec_by inner) (next_spec_takes inner sound)) s.read.1 s.takes.plain _ x s.on in
     take (Specified s.read.0 (more_specs ss.read.0)) (join (part s.takes) (splits_as (part ss.takes) (more_specs_spelled ss.read.0))) (s.takes.tree, more_specs_are ss.read.0 ss.takes.tree) ss.takes.plain ss.on
 
-pub type_name_takes : (inner : Inner) → SoundInner inner → Sound spelled_type IsType (type_name_by inner)
+pub type_name_by_takes : (inner : Inner) → SoundInner inner → Sound spelled_type IsType (type_name_by inner)
 unfolding type_name_by
-type_name_takes inner sound toks plain x e =
-    let s = sound_then (specs_take inner sound) toks plain _ x e in
+type_name_by_takes inner sound toks plain x e =
+    let s = sound_then (specs_by_take inner sound) toks plain _ x e in
     let ps = pointers_take s.read.1 s.takes.plain in
     take (TypeOf s.read.0 (pointers_at s.read.1).0) (join (part s.takes) (part ps)) (s.takes.tree, ps.tree) ps.plain s.on
 
@@ -152,9 +152,9 @@ named_takes inner sound ps toks are plain x e =
     let ss = sound_then (suffixes_take inner sound) n.read.1 n.takes.plain _ x n.on in
     take (Declares ps n.read.0 (suffixes_of ss.read.0)) (join (record { is = refl }) (join (part n.takes) (part ss.takes))) (are, n.takes.tree, ss.takes.tree) ss.takes.plain ss.on
 
-pub declarator_takes : (inner : Inner) → SoundInner inner → Sound spelled_declarator IsDeclarator (declarator_by inner)
+pub declarator_by_takes : (inner : Inner) → SoundInner inner → Sound spelled_declarator IsDeclarator (declarator_by inner)
 unfolding declarator_by
-declarator_takes inner sound toks plain x e =
+declarator_by_takes inner sound toks plain x e =
     let ps = pointers_take toks plain in
     subst (λ (l : Symbols). Takes spelled_declarator IsDeclarator l x) (sym ps.parts) (named_takes inner sound (pointers_at toks).0 (pointers_at toks).1 ps.tree ps.plain x e)
 
@@ -166,7 +166,7 @@ unfolding next_declarator_by
 next_declarator_takes inner sound [] plain x e = absurd cc
 next_declarator_takes inner sound (s ∷ rest) plain x e = cases_if (is_punct marks.Comma s.kind) _ _ (Some (Some x))
     (λ is e2.
-      let d = sound_then (declarator_takes inner sound) rest plain.1 _ x (got_ok (declarator_by inner rest >>= λ d. Some ((s.line, d.0), d.1)) x e2) in
+      let d = sound_then (declarator_by_takes inner sound) rest plain.1 _ x (got_ok (declarator_by inner rest >>= λ d. Some ((s.line, d.0), d.1)) x e2) in
       taken_as s (punct marks.Comma s.line) rest (punct_is marks.Comma s plain.0 is)
         (take (s.line, d.read.0) (join (one (punct marks.Comma s.line) rest) (part d.takes)) d.takes.tree d.takes.plain d.on))
     (λ is e2. absurd cc) e
@@ -184,8 +184,8 @@ more_declarators_are (d ∷ ds) each = (each.0, more_declarators_are ds each.1)
 member_takes : (inner : Inner) → SoundInner inner → Sound spelled_member IsMember (member_by inner)
 unfolding member_by
 member_takes inner sound toks plain x e =
-    let s = sound_then (specs_take inner sound) toks plain _ x e in
-    let d = sound_then (declarator_takes inner sound) s.read.1 s.takes.plain _ x s.on in
+    let s = sound_then (specs_by_take inner sound) toks plain _ x e in
+    let d = sound_then (declarator_by_takes inner sound) s.read.1 s.takes.plain _ x s.on in
     let ds = sound_then (all_take spelled_next_declarator (λ d. IsDeclarator d.1) (next_declarator_by inner) (next_declarator_takes inner sound)) d.read.1 d.takes.plain _ x d.on in
     let c = sound_then (punct_takes marks.Semicolon) ds.read.1 ds.takes.plain _ x ds.on in
     take (Members s.read.0 d.read.0 (more_declarators ds.read.0) c.read.0) (join (part s.takes) (join (part d.takes) (join (splits_as (part ds.takes) (more_declarators_spelled ds.read.0)) (part c.takes)))) (s.takes.tree, d.takes.tree, more_declarators_are ds.read.0 ds.takes.tree) c.takes.plain c.on
@@ -204,9 +204,9 @@ more_members_are : (ms : List MemberTree) → Each IsMember ms → AreMoreMember
 more_members_are [] each = tt
 more_members_are (m ∷ ms) each = (each.0, more_members_are ms each.1)
 
-pub members_take : (inner : Inner) → SoundInner inner → Sound spelled_members AreMembers (members_by inner)
+pub members_by_take : (inner : Inner) → SoundInner inner → Sound spelled_members AreMembers (members_by inner)
 unfolding members_by
-members_take inner sound toks plain x e =
+members_by_take inner sound toks plain x e =
     let m = sound_then (member_takes inner sound) toks plain _ x e in
     let ms = sound_then (all_take spelled_member IsMember (next_member_by inner) (next_member_takes inner sound)) m.read.1 m.takes.plain _ x m.on in
     take (m.read.0, ms.read.0) (join (part m.takes) (splits_as (part ms.takes) (more_members_spelled ms.read.0))) (m.takes.tree, more_members_are ms.read.0 ms.takes.tree) ms.takes.plain ms.on
@@ -241,7 +241,7 @@ param_behind_takes inner sound s ps specs are toks plain x e = cases_if (front_i
 param_takes : (inner : Inner) → SoundInner inner → Sound spelled_param IsParam (param_by inner)
 unfolding param_by
 param_takes inner sound toks plain x e =
-    let s = sound_then (specs_take inner sound) toks plain _ x e in
+    let s = sound_then (specs_by_take inner sound) toks plain _ x e in
     let ps = pointers_take s.read.1 s.takes.plain in
     let parts : toks ≡ spelled_specs s.read.0 ++ ((pointers_at s.read.1).0 ++ (pointers_at s.read.1).1) = s.takes.parts ∙ ap (λ (l : Symbols). spelled_specs s.read.0 ++ l) ps.parts in
     subst (λ (l : Symbols). Takes spelled_param IsParam l x) (sym parts) (param_behind_takes inner sound s.read.0 (pointers_at s.read.1).0 s.takes.tree ps.tree (pointers_at s.read.1).1 ps.plain x s.on)
@@ -267,9 +267,9 @@ more_params_are : (ps : List (ℕ × ParamTree)) → Each (λ p. IsParam p.1) ps
 more_params_are [] each = tt
 more_params_are (p ∷ ps) each = (each.0, more_params_are ps each.1)
 
-pub params_take : (inner : Inner) → SoundInner inner → Sound spelled_params AreParams (params_by inner)
+pub params_by_take : (inner : Inner) → SoundInner inner → Sound spelled_params AreParams (params_by inner)
 unfolding params_by
-params_take inner sound toks plain x e =
+params_by_take inner sound toks plain x e =
     let p = sound_then (param_takes inner sound) toks plain _ x e in
     let ps = sound_then (all_take spelled_next_param (λ p. IsParam p.1) (next_param_by inner) (next_param_takes inner sound)) p.read.1 p.takes.plain _ x p.on in
     take (p.read.0, ps.read.0) (join (part p.takes) (splits_as (part ps.takes) (more_params_spelled ps.read.0))) (p.takes.tree, more_params_are ps.read.0 ps.takes.tree) ps.takes.plain ps.on

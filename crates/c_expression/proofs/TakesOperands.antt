@@ -11,7 +11,7 @@ use Rattle.c_expression.specs.Reader.{◌>>=◌, Reader, punct_at, key_at, type_
 use Rattle.c_expression.specs.Reading.{Inner, group_by, primary_by, index_by, call_on, call_by, field_by, post_by, postfix_by, bracketed_by, cast_by, prefix_by, operand_on, operand_by, unary_by}
 use Rattle.c_expression.proofs.Knots.{IsPlain, ArePlain, Takes, Sound, SoundStep, SoundInner}
 use Rattle.c_expression.proofs.Plain.{punct_is, key_is}
-use Rattle.c_expression.proofs.Takes.{Splits, join, splits_as, part, one, taken_as, weaken, some_is, take, bind_ok, Then, sound_then, cases_if, cases_option, got_ok, symbol_takes, punct_takes, key_takes, Nothing, Each, spelled_all, all_take}
+use Rattle.c_expression.proofs.TakesLists.{Splits, join, splits_as, part, one, taken_as, weaken, some_is, take, bind_ok, Then, sound_then, cases_if, cases_option, got_ok, symbol_takes, punct_takes, key_takes, Nothing, Each, spelled_all, all_take}
 
 -- ---- a primary expression and its postfixes
 
@@ -239,9 +239,9 @@ prefixed_spelled : (ps : List Pre) (e : Tree) → spelled (prefixed ps e) ≡ sp
 prefixed_spelled [] e = refl
 prefixed_spelled (p ∷ ps) e = ap (λ (l : Symbols). spelled_pre p ++ l) (prefixed_spelled ps e) ∙ sym (append_assoc (spelled_pre p) (spelled_all spelled_pre ps) (spelled e))
 
-pub unary_takes : (inner : Inner) → SoundInner inner → Sound spelled IsOperand (unary_by inner)
+pub unary_by_takes : (inner : Inner) → SoundInner inner → Sound spelled IsOperand (unary_by inner)
 unfolding unary_by
-unary_takes inner sound toks plain x e =
+unary_by_takes inner sound toks plain x e =
     let ps = sound_then (prefixes_take inner sound) toks plain _ x e in
     let a = sound_then (bare_takes inner sound) ps.read.1 ps.takes.plain _ x ps.on in
     let p = ps.takes.tree a.read.0 a.takes.tree in

@@ -10,8 +10,8 @@ use Rattle.c_expression.specs.Reader.{◌>>=◌, Reader, symbol_at, punct_at, go
 use Rattle.c_expression.specs.Reading.{Inner, unary_by, right_by, tier_by, choose_on, choices, cond_by, target_at, assign_on, assigns, assign_by, comma_by, expr_by}
 use Rattle.c_expression.proofs.Knots.{ArePlain, Takes, Sound, SoundStep, SoundInner, IsCond, IsAssign}
 use Rattle.c_expression.proofs.Plain.{punct_is}
-use Rattle.c_expression.proofs.Takes.{Splits, join, splits_as, part, one, taken_as, weaken, some_is, take, bind_ok, Then, sound_then, cases_if, cases_option, got_ok, symbol_takes, punct_takes, Each, spelled_all, all_take}
-use Rattle.c_expression.proofs.TakesOperands.{IsOperand, unary_takes}
+use Rattle.c_expression.proofs.TakesLists.{Splits, join, splits_as, part, one, taken_as, weaken, some_is, take, bind_ok, Then, sound_then, cases_if, cases_option, got_ok, symbol_takes, punct_takes, Nothing, Each, spelled_all, all_take}
+use Rattle.c_expression.proofs.TakesOperands.{IsOperand, unary_by_takes}
 
 -- ---- the tiers of binary operators
 
@@ -46,35 +46,38 @@ joined_is k some a (b ∷ bs) is each =
     let level = right.0 in
     joined_is k some (Join b.0 a b.1) bs ((is.0, right.1, omega (arith, level, some), omega (arith, level, is.1), omega (arith, level, right.2)), omega (arith, level)) each.1
 
-pub tier_takes : (inner : Inner) → SoundInner inner → (k : ℕ) → Sound spelled (AtMost k) (tier_by inner k)
+pub tier_by_takes : (inner : Inner) → SoundInner inner → (k : ℕ) → Sound spelled (AtMost k) (tier_by inner k)
 unfolding tier_by
-tier_takes inner sound zero toks plain x e = weaken (λ is. (is.0, omega (arith, is.1))) (unary_takes inner sound toks plain x e)
-tier_takes inner sound (suc k) toks plain x e =
-    let a = sound_then (tier_takes inner sound k) toks plain _ x e in
-    let bs = sound_then (all_take spelled_right (IsRight (suc k)) (right_by (suc k) (tier_by inner k)) (right_takes k (tier_by inner k) (tier_takes inner sound k))) a.read.1 a.takes.plain _ x a.on in
+tier_by_takes inner sound zero toks plain x e = weaken (λ is. (is.0, omega (arith, is.1))) (unary_by_takes inner sound toks plain x e)
+tier_by_takes inner sound (suc k) toks plain x e =
+    let a = sound_then (tier_by_takes inner sound k) toks plain _ x e in
+    let bs = sound_then (all_take spelled_right (IsRight (suc k)) (right_by (suc k) (tier_by inner k)) (right_takes k (tier_by inner k) (tier_by_takes inner sound k))) a.read.1 a.takes.plain _ x a.on in
     let tree = a.takes.tree in
     take (joined a.read.0 bs.read.0) (splits_as (join (part a.takes) (part bs.takes)) (joined_spelled a.read.0 bs.read.0)) (joined_is (suc k) (omega arith) a.read.0 bs.read.0 (tree.0, omega (arith, tree.1)) bs.takes.tree) bs.takes.plain bs.on
 
 -- ---- choices
 
+-- behind `?`
+choose_takes : (inner : Inner) → SoundInner inner → (again : Reader Tree) → Sound spelled IsCond again → (toks : Symbols) (c : Tree × Symbols) → Takes spelled (AtMost 10) toks c → (q : ℕ × Symbols) → Takes (λ n. punct marks.Question n ∷ []) Nothing c.1 q → (x : Tree × Symbols) → choose_on inner again c.0 c.1 (Some q) ≡ Some x → Takes spelled IsCond toks x
+choose_takes inner sound again more toks c first q mark x e =
+    let t = sound_then sound.expr q.1 mark.plain _ x e in
+    let k = sound_then (punct_takes marks.Colon) t.read.1 t.takes.plain _ x t.on in
+    let l = sound_then more k.read.1 k.takes.plain _ x k.on in
+    take (Choose c.0 q.0 t.read.0 k.read.0 l.read.0) (join (part first) (join (part mark) (join (part t.takes) (join (part k.takes) (part l.takes))))) ((first.tree.0, t.takes.tree, l.takes.tree.0, first.tree.1, l.takes.tree.1), omega arith) l.takes.plain l.on
+
 choices_take : (inner : Inner) → SoundInner inner → (n : ℕ) → Sound spelled IsCond (choices inner n)
 unfolding choices
 choices_take inner sound zero toks plain x e = absurd cc
 choices_take inner sound (suc n) toks plain x e =
-    let c = sound_then (tier_takes inner sound 10) toks plain _ x e in
+    let c = sound_then (tier_by_takes inner sound 10) toks plain _ x e in
     let first = c.takes.tree in
     cases_option (punct_at marks.Question c.read.1) (choose_on inner (choices inner n) c.read.0 c.read.1) (Some x)
-      (λ z is e2.
-        let q = punct_takes marks.Question c.read.1 c.takes.plain z is in
-        let t = sound_then sound.expr z.1 q.plain _ x e2 in
-        let k = sound_then (punct_takes marks.Colon) t.read.1 t.takes.plain _ x t.on in
-        let l = sound_then (choices_take inner sound n) k.read.1 k.takes.plain _ x k.on in
-        take (Choose c.read.0 z.0 t.read.0 k.read.0 l.read.0) (join (part c.takes) (join (part q) (join (part t.takes) (join (part k.takes) (part l.takes))))) ((first.0, t.takes.tree, l.takes.tree.0, first.1, l.takes.tree.1), omega arith) l.takes.plain l.on)
+      (λ q is e2. choose_takes inner sound (choices inner n) (choices_take inner sound n) toks c.read c.takes q (punct_takes marks.Question c.read.1 c.takes.plain q is) x e2)
       (λ is e2. take c.read.0 (part c.takes) (first.0, omega (arith, first.1)) c.takes.plain e2) c.on
 
-pub cond_takes : (inner : Inner) → SoundInner inner → Sound spelled IsCond (cond_by inner)
+pub cond_by_takes : (inner : Inner) → SoundInner inner → Sound spelled IsCond (cond_by inner)
 unfolding cond_by
-cond_takes inner sound toks plain x e = choices_take inner sound (length toks) toks plain x e
+cond_by_takes inner sound toks plain x e = choices_take inner sound (length toks) toks plain x e
 
 -- ---- assignments
 
@@ -88,7 +91,7 @@ assigns_take : (inner : Inner) → SoundInner inner → (n : ℕ) → Sound spel
 unfolding assigns
 assigns_take inner sound zero toks plain x e = absurd cc
 assigns_take inner sound (suc n) toks plain x e =
-    let a = sound_then (cond_takes inner sound) toks plain _ x e in
+    let a = sound_then (cond_by_takes inner sound) toks plain _ x e in
     let left = a.takes.tree in
     cases_option (target_at a.read.0 a.read.1) (assign_on (assigns inner n) a.read.0 a.read.1) (Some x)
       (λ z is e2.
@@ -97,9 +100,9 @@ assigns_take inner sound (suc n) toks plain x e =
         take (Assign a.read.0 z.0 b.read.0) (join (part a.takes) (join (part s) (part b.takes))) ((left.0, b.takes.tree.0, s.tree.0, s.tree.1, b.takes.tree.1), omega arith) b.takes.plain b.on)
       (λ is e2. take a.read.0 (part a.takes) (left.0, omega (arith, left.1)) a.takes.plain e2) a.on
 
-pub assign_takes : (inner : Inner) → SoundInner inner → Sound spelled IsAssign (assign_by inner)
+pub assign_by_takes : (inner : Inner) → SoundInner inner → Sound spelled IsAssign (assign_by inner)
 unfolding assign_by
-assign_takes inner sound toks plain x e = assigns_take inner sound (length toks) toks plain x e
+assign_by_takes inner sound toks plain x e = assigns_take inner sound (length toks) toks plain x e
 
 -- ---- commas
 
@@ -111,7 +114,7 @@ unfolding comma_by
 comma_takes inner sound [] plain x e = absurd cc
 comma_takes inner sound (s ∷ rest) plain x e = cases_if (is_punct marks.Comma s.kind) _ _ (Some (Some x))
     (λ is e2.
-      let b = sound_then (assign_takes inner sound) rest plain.1 _ x (got_ok (assign_by inner rest >>= λ b. Some ((s.line, b.0), b.1)) x e2) in
+      let b = sound_then (assign_by_takes inner sound) rest plain.1 _ x (got_ok (assign_by inner rest >>= λ b. Some ((s.line, b.0), b.1)) x e2) in
       taken_as s (punct marks.Comma s.line) rest (punct_is marks.Comma s plain.0 is)
         (take (s.line, b.read.0) (join (one (punct marks.Comma s.line) rest) (part b.takes)) b.takes.tree b.takes.plain b.on))
     (λ is e2. absurd cc) e
@@ -126,10 +129,10 @@ listed_is a (b ∷ bs) is each =
     let right = each.0 in
     listed_is (Join (punct marks.Comma b.0) a b.1) bs ((is.0, right.0, omega arith, is.1, omega (arith, right.1)), omega arith) each.1
 
-pub expr_takes : (inner : Inner) → SoundInner inner → Sound spelled IsTree (expr_by inner)
+pub expr_by_takes : (inner : Inner) → SoundInner inner → Sound spelled IsTree (expr_by inner)
 unfolding expr_by
-expr_takes inner sound toks plain x e =
-    let a = sound_then (assign_takes inner sound) toks plain _ x e in
+expr_by_takes inner sound toks plain x e =
+    let a = sound_then (assign_by_takes inner sound) toks plain _ x e in
     let bs = sound_then (all_take spelled_comma (λ b. IsAssign b.1) (comma_by inner) (comma_takes inner sound)) a.read.1 a.takes.plain _ x a.on in
     let tree = a.takes.tree in
     let whole = listed_is a.read.0 bs.read.0 (tree.0, omega (arith, tree.1)) bs.takes.tree in
