@@ -9,7 +9,7 @@ use Rattle.c_token.specs.declared.token.Keyword.TheVariants as words
 use Rattle.c_token.specs.declared.token.Punct.{Punct}
 use Rattle.c_token.specs.declared.token.Punct.TheVariants as marks
 use Rattle.c_pre.specs.Words.{word_of}
-use Rattle.c_tree.specs.Words.{Symbol, Symbols, plain, key, punct}
+use Rattle.c_tree.specs.Words.{Symbol, plain, key, punct}
 use Rattle.c_tree.specs.Kinds.{number_of, number_of_word, is_punct, is_key}
 use Rattle.c_expression.specs.Reader.{spells, symbol_in, symbols_in}
 use Rattle.c_expression.proofs.Knots.{IsPlain, ArePlain}

@@ -1,5 +1,5 @@
 -- What is read is a tree that spells the tokens taken, however many brackets may be entered.
-use Rattle.std.proofs.Common.{◌≡◌, ℕ, zero, suc, ◌≤◌, Option, Some, None}
+use Rattle.std.proofs.Common.{ℕ, zero, suc}
 use Rattle.c_tree.specs.Trees.{spelled, spelled_specs, spelled_declarator, IsTree, AreSpecs, IsDeclarator}
 use Rattle.c_expression.specs.Reading.{cond_by, assign_by, expr_by, specs_by, declarator_by, at}
 use Rattle.c_expression.proofs.Knots.{Sound, SoundInner, IsCond, IsAssign}

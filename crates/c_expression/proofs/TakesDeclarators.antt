@@ -1,16 +1,16 @@
 -- What is read as specifiers, as a declarator, as members or as parameters is a tree of its kind.
-use Rattle.std.proofs.Common.{◌≡◌, ℕ, zero, suc, ◌≤◌, Bool, true, false, if◌then◌else◌, List, [], ◌∷◌, ◌++◌, length, map, Option, Some, None, refl, sym, ap, subst, ◌∙◌, append_assoc}
+use Rattle.std.proofs.Common.{◌≡◌, ℕ, true, List, [], ◌∷◌, ◌++◌, Some, refl, sym, ap, subst, ◌∙◌, append_assoc}
 use Rattle.c_token.specs.declared.token.Keyword.TheVariants as words
 use Rattle.c_token.specs.declared.token.Punct.TheVariants as marks
-use Rattle.c_tree.specs.Words.{Symbol, Symbols, key, punct}
+use Rattle.c_tree.specs.Words.{Symbols, key, punct}
 use Rattle.c_tree.specs.Kinds.{is_punct, is_key, is_name, is_spec_word}
-use Rattle.c_tree.specs.Trees.{Tree, TypeTree, TypeOf, SpecTrees, Specified, MoreSpecs, SpecTree, OneWord, Tagged, Body, MemberTree, MoreMembers, Members, DeclaratorTree, MoreDeclarators, Declares, SuffixTree, SuffixTrees, Unsized, Sized, Empty, VoidOnly, Params, ParamTree, MoreParams, Named, Unnamed, is_bare_void, are_pointers, is_tag, rank, spelled, spelled_type, spelled_specs, spelled_more_specs, spelled_spec, spelled_more_members, spelled_member, spelled_more_declarators, spelled_declarator, spelled_suffixes, spelled_suffix, spelled_more_params, spelled_param, IsTree, IsType, AreSpecs, AreMoreSpecs, IsSpec, AreMoreMembers, IsMember, AreMoreDeclarators, IsDeclarator, AreSuffixes, IsSuffix, AreMoreParams, IsParam}
+use Rattle.c_tree.specs.Trees.{TypeOf, SpecTrees, Specified, SpecTree, OneWord, Tagged, Body, MemberTree, Members, DeclaratorTree, Declares, SuffixTree, Unsized, Sized, Empty, VoidOnly, Params, ParamTree, Named, Unnamed, is_bare_void, are_pointers, is_tag, spelled_type, spelled_specs, spelled_more_specs, spelled_spec, spelled_more_members, spelled_member, spelled_more_declarators, spelled_declarator, spelled_suffixes, spelled_suffix, spelled_more_params, spelled_param, IsType, AreSpecs, AreMoreSpecs, IsSpec, AreMoreMembers, IsMember, AreMoreDeclarators, IsDeclarator, AreSuffixes, IsSuffix, AreMoreParams, IsParam}
 use Rattle.c_tree.specs.Lists.{more_specs, more_members, more_declarators, suffixes_of, more_params}
-use Rattle.c_expression.specs.Reader.{◌>>=◌, Reader, Step, front_is, symbol_at, punct_at, key_at, specs_come, got, all_that, pointers_at}
-use Rattle.c_expression.specs.Reading.{Inner, body_by, struct_on, struct_by, spec_by, next_spec_by, specs_by, type_name_by, length_by, array_on, array_by, void_at, list_by, void_on, function_on, function_by, suffix_by, named_by, declarator_by, next_declarator_by, member_by, next_member_by, members_by, unnamed_on, unnamed_by, named_param_by, param_behind, param_by, next_param_by, params_by}
-use Rattle.c_expression.proofs.Knots.{ArePlain, Takes, Sound, SoundStep, SoundInner, IsCond, spelled_members, AreMembers, spelled_params, AreParams}
+use Rattle.c_expression.specs.Reader.{◌>>=◌, Reader, front_is, symbol_at, punct_at, specs_come, all_that, pointers_at}
+use Rattle.c_expression.specs.Reading.{Inner, body_by, struct_on, struct_by, spec_by, next_spec_by, specs_by, type_name_by, length_by, array_on, array_by, void_at, list_by, void_on, function_on, function_by, suffix_by, named_by, declarator_by, next_declarator_by, member_by, next_member_by, members_by, unnamed_by, named_param_by, param_behind, param_by, next_param_by, params_by}
+use Rattle.c_expression.proofs.Knots.{ArePlain, Takes, Sound, SoundStep, SoundInner, spelled_members, AreMembers, spelled_params, AreParams}
 use Rattle.c_expression.proofs.Plain.{punct_is, key_is}
-use Rattle.c_expression.proofs.TakesLists.{Splits, join, splits_as, part, one, taken_as, weaken, some_is, take, bind_ok, Then, sound_then, cases_if, cases_option, got_ok, symbol_takes, punct_takes, key_takes, Nothing, Each, spelled_all, all_take, pointers_take}
+use Rattle.c_expression.proofs.TakesLists.{Splits, join, splits_as, part, one, taken_as, take, bind_ok, sound_then, cases_if, cases_option, got_ok, symbol_takes, punct_takes, key_takes, Nothing, Each, spelled_all, all_take, pointers_take}
 
 -- ---- specifiers
 
@@ -23,17 +23,17 @@ body_takes inner sound k tag toks is plain x e =
     let c = sound_then (punct_takes marks.RightBrace) m.read.1 m.takes.plain _ x m.on in
     let more = spelled_more_members (more_members m.read.0.1) in
     let behind : Splits toks (punct marks.LeftBrace o.read.0 ∷ (spelled_member m.read.0.0 ++ (more ++ punct marks.RightBrace c.read.0 ∷ []))) c.read.1
-        = splits_as (join (part o.takes) (join (part m.takes) (part c.takes))) (ap (λ (l : Symbols). punct marks.LeftBrace o.read.0 ∷ l) (sym (append_assoc (spelled_member m.read.0.0) more (punct marks.RightBrace c.read.0 ∷ [])))) in
+    = splits_as (join (part o.takes) (join (part m.takes) (part c.takes))) (ap (λ (l : Symbols). punct marks.LeftBrace o.read.0 ∷ l) (sym (append_assoc (spelled_member m.read.0.0) more (punct marks.RightBrace c.read.0 ∷ [])))) in
     take (Body k tag o.read.0 m.read.0.0 (more_members m.read.0.1) c.read.0) (join (one (key words.Struct k) (tag ++ toks)) (join (record { is = refl }) behind)) (is, m.takes.tree.0, m.takes.tree.1) c.takes.plain c.on
 
 struct_takes : (inner : Inner) → SoundInner inner → (k : ℕ) (toks : Symbols) → ArePlain toks → (x : SpecTree × Symbols) → struct_by inner k toks ≡ Some x → Takes spelled_spec IsSpec (key words.Struct k ∷ toks) x
 unfolding struct_by
 struct_takes inner sound k toks plain x e = cases_option (symbol_at is_name toks) (struct_on inner k toks) (Some x)
     (λ z is e2.
-      let n = symbol_takes is_name toks plain z is in
-      cases_if (front_is (is_punct marks.LeftBrace) z.1) _ _ (Some x)
-        (λ brace e3. subst (λ (l : Symbols). Takes spelled_spec IsSpec (key words.Struct k ∷ l) x) (sym n.parts) (body_takes inner sound k (z.0 ∷ []) z.1 n.tree n.plain x e3))
-        (λ brace e3. take (Tagged k z.0) (join (one (key words.Struct k) toks) (part n)) n.tree n.plain e3) e2)
+    let n = symbol_takes is_name toks plain z is in
+    cases_if (front_is (is_punct marks.LeftBrace) z.1) _ _ (Some x)
+    (λ brace e3. subst (λ (l : Symbols). Takes spelled_spec IsSpec (key words.Struct k ∷ l) x) (sym n.parts) (body_takes inner sound k (z.0 ∷ []) z.1 n.tree n.plain x e3))
+    (λ brace e3. take (Tagged k z.0) (join (one (key words.Struct k) toks) (part n)) n.tree n.plain e3) e2)
     (λ is e2. body_takes inner sound k [] toks refl plain x e2) e
 
 spec_takes : (inner : Inner) → SoundInner inner → Sound spelled_spec IsSpec (spec_by inner)
@@ -42,8 +42,8 @@ spec_takes inner sound [] plain x e = absurd cc
 spec_takes inner sound (s ∷ rest) plain x e = cases_if (is_spec_word s.kind) _ _ (Some x)
     (λ is e2. take (OneWord s) (one s rest) is plain.1 e2)
     (λ is e2. cases_if (is_key words.Struct s.kind) _ _ (Some x)
-      (λ is e3. taken_as s (key words.Struct s.line) rest (key_is words.Struct s plain.0 is) (struct_takes inner sound s.line rest plain.1 x e3))
-      (λ is e3. absurd cc) e2) e
+    (λ is e3. taken_as s (key words.Struct s.line) rest (key_is words.Struct s plain.0 is) (struct_takes inner sound s.line rest plain.1 x e3))
+    (λ is e3. absurd cc) e2) e
 
 next_spec_takes : (inner : Inner) → SoundInner inner → SoundStep spelled_spec IsSpec (next_spec_by inner)
 unfolding next_spec_by
@@ -86,8 +86,8 @@ array_takes : (inner : Inner) → SoundInner inner → (o : ℕ) (toks : Symbols
 unfolding array_by
 array_takes inner sound o toks plain x e = cases_option (punct_at marks.RightBracket toks) (array_on inner o toks) (Some x)
     (λ z is e2.
-      let c = punct_takes marks.RightBracket toks plain z is in
-      take (Unsized o z.0) (join (one (punct marks.LeftBracket o) toks) (part c)) tt c.plain e2)
+    let c = punct_takes marks.RightBracket toks plain z is in
+    take (Unsized o z.0) (join (one (punct marks.LeftBracket o) toks) (part c)) tt c.plain e2)
     (λ is e2. length_takes inner sound o toks plain x e2) e
 
 void_takes : Sound (λ v. key words.Void v.0 ∷ punct marks.RightParenthesis v.1 ∷ []) Nothing void_at
@@ -104,20 +104,20 @@ list_takes inner sound o toks plain x e =
     let c = sound_then (punct_takes marks.RightParenthesis) m.read.1 m.takes.plain _ x m.on in
     let more = spelled_more_params (more_params m.read.0.1) in
     let behind : Splits toks (spelled_param m.read.0.0 ++ (more ++ punct marks.RightParenthesis c.read.0 ∷ [])) c.read.1
-        = splits_as (join (part m.takes) (part c.takes)) (sym (append_assoc (spelled_param m.read.0.0) more (punct marks.RightParenthesis c.read.0 ∷ []))) in
+    = splits_as (join (part m.takes) (part c.takes)) (sym (append_assoc (spelled_param m.read.0.0) more (punct marks.RightParenthesis c.read.0 ∷ []))) in
     take (Params o m.read.0.0 (more_params m.read.0.1) c.read.0) (join (one (punct marks.LeftParenthesis o) toks) behind) (m.takes.tree.0, m.takes.tree.1) c.takes.plain c.on
 
 function_takes : (inner : Inner) → SoundInner inner → (o : ℕ) (toks : Symbols) → ArePlain toks → (x : SuffixTree × Symbols) → function_by inner o toks ≡ Some x → Takes spelled_suffix IsSuffix (punct marks.LeftParenthesis o ∷ toks) x
 unfolding function_by
 function_takes inner sound o toks plain x e = cases_option (punct_at marks.RightParenthesis toks) (function_on inner o toks) (Some x)
     (λ z is e2.
-      let c = punct_takes marks.RightParenthesis toks plain z is in
-      take (Empty o z.0) (join (one (punct marks.LeftParenthesis o) toks) (part c)) tt c.plain e2)
+    let c = punct_takes marks.RightParenthesis toks plain z is in
+    take (Empty o z.0) (join (one (punct marks.LeftParenthesis o) toks) (part c)) tt c.plain e2)
     (λ is e2. cases_option (void_at toks) (void_on inner o toks) (Some x)
-      (λ v is e3.
-        let t = void_takes toks plain v is in
-        take (VoidOnly o v.0.0 v.0.1) (join (one (punct marks.LeftParenthesis o) toks) (part t)) tt t.plain e3)
-      (λ is e3. list_takes inner sound o toks plain x e3) e2) e
+    (λ v is e3.
+    let t = void_takes toks plain v is in
+    take (VoidOnly o v.0.0 v.0.1) (join (one (punct marks.LeftParenthesis o) toks) (part t)) tt t.plain e3)
+    (λ is e3. list_takes inner sound o toks plain x e3) e2) e
 
 suffix_takes : (inner : Inner) → SoundInner inner → SoundStep spelled_suffix IsSuffix (suffix_by inner)
 unfolding suffix_by
@@ -125,8 +125,8 @@ suffix_takes inner sound [] plain x e = absurd cc
 suffix_takes inner sound (s ∷ rest) plain x e = cases_if (is_punct marks.LeftBracket s.kind) _ _ (Some (Some x))
     (λ is e2. taken_as s (punct marks.LeftBracket s.line) rest (punct_is marks.LeftBracket s plain.0 is) (array_takes inner sound s.line rest plain.1 x (got_ok (array_by inner s.line rest) x e2)))
     (λ is e2. cases_if (is_punct marks.LeftParenthesis s.kind) _ _ (Some (Some x))
-      (λ is e3. taken_as s (punct marks.LeftParenthesis s.line) rest (punct_is marks.LeftParenthesis s plain.0 is) (function_takes inner sound s.line rest plain.1 x (got_ok (function_by inner s.line rest) x e3)))
-      (λ is e3. absurd cc) e2) e
+    (λ is e3. taken_as s (punct marks.LeftParenthesis s.line) rest (punct_is marks.LeftParenthesis s plain.0 is) (function_takes inner sound s.line rest plain.1 x (got_ok (function_by inner s.line rest) x e3)))
+    (λ is e3. absurd cc) e2) e
 
 suffixes_spelled : (ss : List SuffixTree) → spelled_suffixes (suffixes_of ss) ≡ spelled_all spelled_suffix ss
 suffixes_spelled [] = refl
@@ -137,7 +137,7 @@ suffixes_are [] each = tt
 suffixes_are (s ∷ ss) each = (each.0, suffixes_are ss each.1)
 
 -- all suffixes, as the tree has them
-suffixes_take : (inner : Inner) → SoundInner inner → Sound (λ ss. spelled_suffixes (suffixes_of ss)) (λ ss. AreSuffixes (suffixes_of ss)) (all_that (suffix_by inner))
+pub suffixes_take : (inner : Inner) → SoundInner inner → Sound (λ ss. spelled_suffixes (suffixes_of ss)) (λ ss. AreSuffixes (suffixes_of ss)) (all_that (suffix_by inner))
 suffixes_take inner sound toks plain x e =
     let t = all_take spelled_suffix IsSuffix (suffix_by inner) (suffix_takes inner sound) toks plain x e in
     record { parts = t.parts ∙ ap (λ (l : Symbols). l ++ x.1) (sym (suffixes_spelled x.0)); tree = suffixes_are x.0 t.tree; plain = t.plain }
@@ -145,7 +145,7 @@ suffixes_take inner sound toks plain x e =
 -- ---- declarators
 
 -- a name and suffixes, behind pointers
-named_takes : (inner : Inner) → SoundInner inner → (ps toks : Symbols) → are_pointers ps ≡ true → ArePlain toks → (x : DeclaratorTree × Symbols) → named_by inner ps toks ≡ Some x → Takes spelled_declarator IsDeclarator (ps ++ toks) x
+pub named_takes : (inner : Inner) → SoundInner inner → (ps toks : Symbols) → are_pointers ps ≡ true → ArePlain toks → (x : DeclaratorTree × Symbols) → named_by inner ps toks ≡ Some x → Takes spelled_declarator IsDeclarator (ps ++ toks) x
 unfolding named_by
 named_takes inner sound ps toks are plain x e =
     let n = sound_then (symbol_takes is_name) toks plain _ x e in
@@ -158,24 +158,24 @@ declarator_by_takes inner sound toks plain x e =
     let ps = pointers_take toks plain in
     subst (λ (l : Symbols). Takes spelled_declarator IsDeclarator l x) (sym ps.parts) (named_takes inner sound (pointers_at toks).0 (pointers_at toks).1 ps.tree ps.plain x e)
 
-abbrev spelled_next_declarator : ℕ × DeclaratorTree → Symbols
+abbrev pub spelled_next_declarator : ℕ × DeclaratorTree → Symbols
 spelled_next_declarator d = punct marks.Comma d.0 ∷ spelled_declarator d.1
 
-next_declarator_takes : (inner : Inner) → SoundInner inner → SoundStep spelled_next_declarator (λ d. IsDeclarator d.1) (next_declarator_by inner)
+pub next_declarator_takes : (inner : Inner) → SoundInner inner → SoundStep spelled_next_declarator (λ d. IsDeclarator d.1) (next_declarator_by inner)
 unfolding next_declarator_by
 next_declarator_takes inner sound [] plain x e = absurd cc
 next_declarator_takes inner sound (s ∷ rest) plain x e = cases_if (is_punct marks.Comma s.kind) _ _ (Some (Some x))
     (λ is e2.
-      let d = sound_then (declarator_by_takes inner sound) rest plain.1 _ x (got_ok (declarator_by inner rest >>= λ d. Some ((s.line, d.0), d.1)) x e2) in
-      taken_as s (punct marks.Comma s.line) rest (punct_is marks.Comma s plain.0 is)
-        (take (s.line, d.read.0) (join (one (punct marks.Comma s.line) rest) (part d.takes)) d.takes.tree d.takes.plain d.on))
+    let d = sound_then (declarator_by_takes inner sound) rest plain.1 _ x (got_ok (declarator_by inner rest >>= λ d. Some ((s.line, d.0), d.1)) x e2) in
+    taken_as s (punct marks.Comma s.line) rest (punct_is marks.Comma s plain.0 is)
+    (take (s.line, d.read.0) (join (one (punct marks.Comma s.line) rest) (part d.takes)) d.takes.tree d.takes.plain d.on))
     (λ is e2. absurd cc) e
 
-more_declarators_spelled : (ds : List (ℕ × DeclaratorTree)) → spelled_more_declarators (more_declarators ds) ≡ spelled_all spelled_next_declarator ds
+pub more_declarators_spelled : (ds : List (ℕ × DeclaratorTree)) → spelled_more_declarators (more_declarators ds) ≡ spelled_all spelled_next_declarator ds
 more_declarators_spelled [] = refl
 more_declarators_spelled (d ∷ ds) = ap (λ (l : Symbols). spelled_next_declarator d ++ l) (more_declarators_spelled ds)
 
-more_declarators_are : (ds : List (ℕ × DeclaratorTree)) → Each (λ d. IsDeclarator d.1) ds → AreMoreDeclarators (more_declarators ds)
+pub more_declarators_are : (ds : List (ℕ × DeclaratorTree)) → Each (λ d. IsDeclarator d.1) ds → AreMoreDeclarators (more_declarators ds)
 more_declarators_are [] each = tt
 more_declarators_are (d ∷ ds) each = (each.0, more_declarators_are ds each.1)
 
@@ -222,8 +222,8 @@ unfolding unnamed_by
 unnamed_takes inner sound s ps specs are toks plain x e =
     let ss = sound_then (suffixes_take inner sound) toks plain _ x e in
     cases_if (is_bare_void s ps (suffixes_of ss.read.0)) _ _ (Some x)
-      (λ is e2. absurd cc)
-      (λ is e2. take (Unnamed s ps (suffixes_of ss.read.0)) (join (record { is = refl }) (join (record { is = refl }) (part ss.takes))) (specs, are, ss.takes.tree, is) ss.takes.plain e2) ss.on
+    (λ is e2. absurd cc)
+    (λ is e2. take (Unnamed s ps (suffixes_of ss.read.0)) (join (record { is = refl }) (join (record { is = refl }) (part ss.takes))) (specs, are, ss.takes.tree, is) ss.takes.plain e2) ss.on
 
 named_param_takes : (inner : Inner) → SoundInner inner → (s : SpecTrees) (ps : Symbols) → AreSpecs s → are_pointers ps ≡ true → SoundParam s ps (named_param_by inner s ps)
 unfolding named_param_by
@@ -254,9 +254,9 @@ unfolding next_param_by
 next_param_takes inner sound [] plain x e = absurd cc
 next_param_takes inner sound (s ∷ rest) plain x e = cases_if (is_punct marks.Comma s.kind) _ _ (Some (Some x))
     (λ is e2.
-      let p = sound_then (param_takes inner sound) rest plain.1 _ x (got_ok (param_by inner rest >>= λ p. Some ((s.line, p.0), p.1)) x e2) in
-      taken_as s (punct marks.Comma s.line) rest (punct_is marks.Comma s plain.0 is)
-        (take (s.line, p.read.0) (join (one (punct marks.Comma s.line) rest) (part p.takes)) p.takes.tree p.takes.plain p.on))
+    let p = sound_then (param_takes inner sound) rest plain.1 _ x (got_ok (param_by inner rest >>= λ p. Some ((s.line, p.0), p.1)) x e2) in
+    taken_as s (punct marks.Comma s.line) rest (punct_is marks.Comma s plain.0 is)
+    (take (s.line, p.read.0) (join (one (punct marks.Comma s.line) rest) (part p.takes)) p.takes.tree p.takes.plain p.on))
     (λ is e2. absurd cc) e
 
 more_params_spelled : (ps : List (ℕ × ParamTree)) → spelled_more_params (more_params ps) ≡ spelled_all spelled_next_param ps

@@ -1,5 +1,5 @@
 -- What readers take: laws that hold of every reader, and those of the smallest parts.
-use Rattle.std.proofs.Common.{◌≡◌, ℕ, zero, suc, Bool, true, false, cond, if◌then◌else◌, List, [], ◌∷◌, ◌++◌, length, map, Option, Some, None, refl, sym, ap, subst, ◌∙◌, append_assoc}
+use Rattle.std.proofs.Common.{◌≡◌, ℕ, zero, suc, Bool, true, false, if◌then◌else◌, List, [], ◌∷◌, ◌++◌, length, map, Option, Some, None, refl, sym, ap, subst, ◌∙◌, append_assoc}
 use Rattle.std.proofs.lemmas.Bool.{and_from}
 use Rattle.c_token.specs.declared.token.TokKind.{TokKind}
 use Rattle.c_token.specs.declared.token.Keyword.{Keyword}
@@ -9,7 +9,7 @@ use Rattle.c_tree.specs.Words.{Symbol, Symbols, key, punct, flat}
 use Rattle.c_tree.specs.Kinds.{is_punct, is_key, is_qualifier}
 use Rattle.c_tree.specs.Trees.{are_stars, are_pointers}
 use Rattle.c_expression.specs.Reader.{◌>>=◌, Reader, Step, symbol_at, punct_at, key_at, got, collect_on, collect, all_that, with_symbol, stars_at, pointers_at}
-use Rattle.c_expression.proofs.Knots.{IsPlain, ArePlain, Takes, Sound, SoundStep}
+use Rattle.c_expression.proofs.Knots.{ArePlain, Takes, Sound, SoundStep}
 use Rattle.c_expression.proofs.Plain.{punct_is, key_is}
 
 -- ---- tokens taken one part behind the other
@@ -118,11 +118,11 @@ collect_takes spell Is step sound zero toks plain x e = take [] (record { is = r
 collect_takes spell Is step sound (suc n) toks plain x e =
     let a = bind_ok (step toks) (collect_on (collect step n) toks) x e in
     cases_option a.0 (collect_on (collect step n) toks) (Some x)
-      (λ z is e2.
-        let t = sound toks plain z (a.1 ∙ ap (λ o. Some o) is) in
-        let l = sound_then (collect_takes spell Is step sound n) z.1 t.plain _ x e2 in
-        take (z.0 ∷ l.read.0) (join (part t) (part l.takes)) (t.tree, l.takes.tree) l.takes.plain l.on)
-      (λ is e2. take [] (record { is = refl }) tt plain e2) a.2
+    (λ z is e2.
+    let t = sound toks plain z (a.1 ∙ ap (λ o. Some o) is) in
+    let l = sound_then (collect_takes spell Is step sound n) z.1 t.plain _ x e2 in
+    take (z.0 ∷ l.read.0) (join (part t) (part l.takes)) (t.tree, l.takes.tree) l.takes.plain l.on)
+    (λ is e2. take [] (record { is = refl }) tt plain e2) a.2
 
 pub all_take : {A : Type 0} (spell : A → Symbols) (Is : A → Type 0) (step : Step A) → SoundStep spell Is step → Sound (spelled_all spell) (Each Is) (all_that step)
 all_take spell Is step sound toks plain x e = collect_takes spell Is step sound (length toks) toks plain x e

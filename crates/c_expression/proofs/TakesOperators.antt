@@ -1,17 +1,17 @@
 -- What is read as an expression is a tree.
-use Rattle.std.proofs.Common.{◌≡◌, ℕ, zero, suc, ◌<◌, ◌≤◌, Bool, true, false, ◌==◌, if◌then◌else◌, List, [], ◌∷◌, ◌++◌, length, map, Option, Some, None, refl, sym, ap, subst, ◌∙◌, append_assoc, append-nil, arith}
+use Rattle.std.proofs.Common.{◌≡◌, ℕ, zero, suc, ◌<◌, ◌≤◌, true, ◌==◌, List, [], ◌∷◌, ◌++◌, length, Some, sym, ◌∙◌, append_assoc, append-nil, arith}
 use Rattle.std.proofs.lemmas.Bool.{eqb-true}
 use Rattle.c_token.specs.declared.token.Punct.TheVariants as marks
 use Rattle.c_tree.specs.Words.{Symbol, Symbols, punct}
 use Rattle.c_tree.specs.Kinds.{is_punct, level_of, is_assignment}
 use Rattle.c_tree.specs.Trees.{Tree, Join, Choose, Assign, spelled, rank, is_unary, IsTree}
 use Rattle.c_tree.specs.Lists.{joined, listed}
-use Rattle.c_expression.specs.Reader.{◌>>=◌, Reader, symbol_at, punct_at, got, all_that}
-use Rattle.c_expression.specs.Reading.{Inner, unary_by, right_by, tier_by, choose_on, choices, cond_by, target_at, assign_on, assigns, assign_by, comma_by, expr_by}
-use Rattle.c_expression.proofs.Knots.{ArePlain, Takes, Sound, SoundStep, SoundInner, IsCond, IsAssign}
+use Rattle.c_expression.specs.Reader.{◌>>=◌, Reader, punct_at}
+use Rattle.c_expression.specs.Reading.{Inner, right_by, tier_by, choose_on, choices, cond_by, target_at, assign_on, assigns, assign_by, comma_by, expr_by}
+use Rattle.c_expression.proofs.Knots.{Takes, Sound, SoundStep, SoundInner, IsCond, IsAssign}
 use Rattle.c_expression.proofs.Plain.{punct_is}
-use Rattle.c_expression.proofs.TakesLists.{Splits, join, splits_as, part, one, taken_as, weaken, some_is, take, bind_ok, Then, sound_then, cases_if, cases_option, got_ok, symbol_takes, punct_takes, Nothing, Each, spelled_all, all_take}
-use Rattle.c_expression.proofs.TakesOperands.{IsOperand, unary_by_takes}
+use Rattle.c_expression.proofs.TakesLists.{join, splits_as, part, one, taken_as, weaken, take, sound_then, cases_if, cases_option, got_ok, symbol_takes, punct_takes, Nothing, Each, spelled_all, all_take}
+use Rattle.c_expression.proofs.TakesOperands.{unary_by_takes}
 
 -- ---- the tiers of binary operators
 
@@ -30,9 +30,9 @@ unfolding right_by
 right_takes j next sound [] plain x e = absurd cc
 right_takes j next sound (s ∷ rest) plain x e = cases_if (level_of s.kind == suc j) _ _ (Some (Some x))
     (λ is e2.
-      let b = sound_then sound rest plain.1 _ x (got_ok (next rest >>= λ b. Some ((s, b.0), b.1)) x e2) in
-      let tree = b.takes.tree in
-      take (s, b.read.0) (join (one s rest) (part b.takes)) (eqb-true (level_of s.kind) (suc j) is, tree.0, omega (arith, tree.1)) b.takes.plain b.on)
+    let b = sound_then sound rest plain.1 _ x (got_ok (next rest >>= λ b. Some ((s, b.0), b.1)) x e2) in
+    let tree = b.takes.tree in
+    take (s, b.read.0) (join (one s rest) (part b.takes)) (eqb-true (level_of s.kind) (suc j) is, tree.0, omega (arith, tree.1)) b.takes.plain b.on)
     (λ is e2. absurd cc) e
 
 joined_spelled : (a : Tree) (bs : List (Symbol × Tree)) → spelled (joined a bs) ≡ spelled a ++ spelled_all spelled_right bs
@@ -72,8 +72,8 @@ choices_take inner sound (suc n) toks plain x e =
     let c = sound_then (tier_by_takes inner sound 10) toks plain _ x e in
     let first = c.takes.tree in
     cases_option (punct_at marks.Question c.read.1) (choose_on inner (choices inner n) c.read.0 c.read.1) (Some x)
-      (λ q is e2. choose_takes inner sound (choices inner n) (choices_take inner sound n) toks c.read c.takes q (punct_takes marks.Question c.read.1 c.takes.plain q is) x e2)
-      (λ is e2. take c.read.0 (part c.takes) (first.0, omega (arith, first.1)) c.takes.plain e2) c.on
+    (λ q is e2. choose_takes inner sound (choices inner n) (choices_take inner sound n) toks c.read c.takes q (punct_takes marks.Question c.read.1 c.takes.plain q is) x e2)
+    (λ is e2. take c.read.0 (part c.takes) (first.0, omega (arith, first.1)) c.takes.plain e2) c.on
 
 pub cond_by_takes : (inner : Inner) → SoundInner inner → Sound spelled IsCond (cond_by inner)
 unfolding cond_by
@@ -94,11 +94,11 @@ assigns_take inner sound (suc n) toks plain x e =
     let a = sound_then (cond_by_takes inner sound) toks plain _ x e in
     let left = a.takes.tree in
     cases_option (target_at a.read.0 a.read.1) (assign_on (assigns inner n) a.read.0 a.read.1) (Some x)
-      (λ z is e2.
-        let s = target_takes a.read.0 a.read.1 a.takes.plain z is in
-        let b = sound_then (assigns_take inner sound n) z.1 s.plain _ x e2 in
-        take (Assign a.read.0 z.0 b.read.0) (join (part a.takes) (join (part s) (part b.takes))) ((left.0, b.takes.tree.0, s.tree.0, s.tree.1, b.takes.tree.1), omega arith) b.takes.plain b.on)
-      (λ is e2. take a.read.0 (part a.takes) (left.0, omega (arith, left.1)) a.takes.plain e2) a.on
+    (λ z is e2.
+    let s = target_takes a.read.0 a.read.1 a.takes.plain z is in
+    let b = sound_then (assigns_take inner sound n) z.1 s.plain _ x e2 in
+    take (Assign a.read.0 z.0 b.read.0) (join (part a.takes) (join (part s) (part b.takes))) ((left.0, b.takes.tree.0, s.tree.0, s.tree.1, b.takes.tree.1), omega arith) b.takes.plain b.on)
+    (λ is e2. take a.read.0 (part a.takes) (left.0, omega (arith, left.1)) a.takes.plain e2) a.on
 
 pub assign_by_takes : (inner : Inner) → SoundInner inner → Sound spelled IsAssign (assign_by inner)
 unfolding assign_by
@@ -114,9 +114,9 @@ unfolding comma_by
 comma_takes inner sound [] plain x e = absurd cc
 comma_takes inner sound (s ∷ rest) plain x e = cases_if (is_punct marks.Comma s.kind) _ _ (Some (Some x))
     (λ is e2.
-      let b = sound_then (assign_by_takes inner sound) rest plain.1 _ x (got_ok (assign_by inner rest >>= λ b. Some ((s.line, b.0), b.1)) x e2) in
-      taken_as s (punct marks.Comma s.line) rest (punct_is marks.Comma s plain.0 is)
-        (take (s.line, b.read.0) (join (one (punct marks.Comma s.line) rest) (part b.takes)) b.takes.tree b.takes.plain b.on))
+    let b = sound_then (assign_by_takes inner sound) rest plain.1 _ x (got_ok (assign_by inner rest >>= λ b. Some ((s.line, b.0), b.1)) x e2) in
+    taken_as s (punct marks.Comma s.line) rest (punct_is marks.Comma s plain.0 is)
+    (take (s.line, b.read.0) (join (one (punct marks.Comma s.line) rest) (part b.takes)) b.takes.tree b.takes.plain b.on))
     (λ is e2. absurd cc) e
 
 listed_spelled : (a : Tree) (bs : List (ℕ × Tree)) → spelled (listed a bs) ≡ spelled a ++ spelled_all spelled_comma bs
