@@ -1,12 +1,14 @@
 -- What is read as an expression is a tree.
-use Rattle.std.proofs.Common.{◌≡◌, ℕ, zero, suc, ◌<◌, ◌≤◌, true, ◌==◌, List, [], ◌∷◌, ◌++◌, length, Some, sym, ◌∙◌, append_assoc, append-nil, arith}
+use Rattle.std.proofs.Common.{◌≡◌, ℕ, zero, suc, ◌<◌, ◌≤◌, true, ◌==◌, List, [], ◌∷◌, ◌++◌, length, Some, sym, ◌∙◌, append_assoc, append-nil, arith, false, refl}
 use Rattle.std.proofs.lemmas.Bool.{eqb-true}
+use Rattle.c_token.specs.declared.token.TokKind.{TokKind}
+use Rattle.c_token.specs.declared.token.TokKind.TheVariants as kinds
 use Rattle.c_token.specs.declared.token.Punct.TheVariants as marks
 use Rattle.c_tree.specs.Words.{Symbol, Symbols, punct}
 use Rattle.c_tree.specs.Kinds.{is_punct, level_of, is_assignment}
 use Rattle.c_tree.specs.Trees.{Tree, Join, Choose, Assign, spelled, rank, is_unary, IsTree}
 use Rattle.c_tree.specs.Lists.{joined, listed}
-use Rattle.c_expression.specs.Reader.{◌>>=◌, Reader, punct_at}
+use Rattle.c_expression.specs.Reader.{◌>>=◌, Reader, spells, punct_at}
 use Rattle.c_expression.specs.Reading.{Inner, right_by, tier_by, choose_on, choices, cond_by, target_at, assign_on, assigns, assign_by, comma_by, expr_by}
 use Rattle.c_expression.proofs.Knots.{Takes, Sound, SoundStep, SoundInner, IsCond, IsAssign}
 use Rattle.c_expression.proofs.Plain.{punct_is}
@@ -23,7 +25,12 @@ abbrev spelled_right : Symbol × Tree → Symbols
 spelled_right b = b.0 ∷ spelled b.1
 
 abbrev IsRight : ℕ → Symbol × Tree → Type 0
-IsRight k b = (level_of b.0.kind ≡ k) × IsTree b.1 × (rank b.1 < k)
+IsRight k b = (level_of b.0.kind ≡ k) × IsTree b.1 × (rank b.1 < k) × (b.0.bytes ≡ [])
+
+-- an operator is no name and no text
+level_spells : (k : TokKind) → 0 < level_of k → spells k ≡ false
+level_spells (kinds.Punct p) h = refl
+level_spells _ h = absurd (omega arith)
 
 right_takes : (j : ℕ) (next : Reader Tree) → Sound spelled (AtMost j) next → SoundStep spelled_right (IsRight (suc j)) (right_by (suc j) next)
 unfolding right_by
@@ -32,7 +39,8 @@ right_takes j next sound (s ∷ rest) plain x e = cases_if (level_of s.kind == s
     (λ is e2.
     let b = sound_then sound rest plain.1 _ x (got_ok (next rest >>= λ b. Some ((s, b.0), b.1)) x e2) in
     let tree = b.takes.tree in
-    take (s, b.read.0) (join (one s rest) (part b.takes)) (eqb-true (level_of s.kind) (suc j) is, tree.0, omega (arith, tree.1)) b.takes.plain b.on)
+    let level = eqb-true (level_of s.kind) (suc j) is in
+    take (s, b.read.0) (join (one s rest) (part b.takes)) (level, tree.0, omega (arith, tree.1), plain.0 (level_spells s.kind (omega (arith, level)))) b.takes.plain b.on)
     (λ is e2. absurd cc) e
 
 joined_spelled : (a : Tree) (bs : List (Symbol × Tree)) → spelled (joined a bs) ≡ spelled a ++ spelled_all spelled_right bs
@@ -44,7 +52,7 @@ joined_is k some a [] is each = is
 joined_is k some a (b ∷ bs) is each =
     let right = each.0 in
     let level = right.0 in
-    joined_is k some (Join b.0 a b.1) bs ((is.0, right.1, omega (arith, level, some), omega (arith, level, is.1), omega (arith, level, right.2)), omega (arith, level)) each.1
+    joined_is k some (Join b.0 a b.1) bs ((is.0, right.1, omega (arith, level, some), omega (arith, level, is.1), omega (arith, level, right.2), right.3), omega (arith, level)) each.1
 
 pub tier_by_takes : (inner : Inner) → SoundInner inner → (k : ℕ) → Sound spelled (AtMost k) (tier_by inner k)
 unfolding tier_by
@@ -127,7 +135,7 @@ listed_is : (a : Tree) (bs : List (ℕ × Tree)) → AtMost 13 a → Each (λ b.
 listed_is a [] is each = is
 listed_is a (b ∷ bs) is each =
     let right = each.0 in
-    listed_is (Join (punct marks.Comma b.0) a b.1) bs ((is.0, right.0, omega arith, is.1, omega (arith, right.1)), omega arith) each.1
+    listed_is (Join (punct marks.Comma b.0) a b.1) bs ((is.0, right.0, omega arith, is.1, omega (arith, right.1), refl), omega arith) each.1
 
 pub expr_by_takes : (inner : Inner) → SoundInner inner → Sound spelled IsTree (expr_by inner)
 unfolding expr_by
