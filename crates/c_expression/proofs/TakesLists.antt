@@ -1,6 +1,7 @@
 -- What readers take: laws that hold of every reader, and those of the smallest parts.
 use Rattle.std.proofs.Common.{◌≡◌, ℕ, zero, suc, Bool, true, false, if◌then◌else◌, List, [], ◌∷◌, ◌++◌, length, map, Option, Some, None, refl, sym, ap, subst, ◌∙◌, append_assoc}
 use Rattle.std.proofs.lemmas.Bool.{and_from}
+use Rattle.std.proofs.lemmas.Option.{same_Some}
 use Rattle.c_token.specs.declared.token.TokKind.{TokKind}
 use Rattle.c_token.specs.declared.token.Keyword.{Keyword}
 use Rattle.c_token.specs.declared.token.Punct.{Punct}
@@ -28,12 +29,9 @@ splits_as {toks} {a} {b} {rest} s e = subst (λ (l : Symbols). Splits toks l res
 pub part : {A : Type 0} {spell : A → Symbols} {Is : A → Type 0} {toks : Symbols} {x : A × Symbols} → Takes spell Is toks x → Splits toks (spell x.0) x.1
 part t = record { is = t.parts }
 
-pub some_is : {A : Type 0} (x y : A) → Some x ≡ Some y → x ≡ y
-some_is x y e = cc
-
 -- what a reader ends with
 pub take : {A : Type 0} {spell : A → Symbols} {Is : A → Type 0} {toks rest : Symbols} {x : A × Symbols} (a : A) → Splits toks (spell a) rest → Is a → ArePlain rest → Some (a, rest) ≡ Some x → Takes spell Is toks x
-take {A} {spell} {Is} {toks} {rest} {x} a split is plain e = subst (Takes spell Is toks) (some_is (a, rest) x e) (record { parts = split.is; tree = is; plain = plain })
+take {A} {spell} {Is} {toks} {rest} {x} a split is plain e = subst (Takes spell Is toks) (same_Some (a, rest) x e) (record { parts = split.is; tree = is; plain = plain })
 
 -- one token
 pub one : (s : Symbol) (rest : Symbols) → Splits (s ∷ rest) (s ∷ []) rest
@@ -74,7 +72,7 @@ cases_option (Some x) f y some none e = some x refl e
 cases_option None f y some none e = none refl e
 
 pub got_ok : {A : Type 0} (r : Option (A × Symbols)) (x : A × Symbols) → got r ≡ Some (Some x) → r ≡ Some x
-got_ok (Some z) x e = some_is (Some z) (Some x) e
+got_ok (Some z) x e = same_Some (Some z) (Some x) e
 got_ok None x e = absurd cc
 
 -- ---- one token

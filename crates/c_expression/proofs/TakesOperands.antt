@@ -1,5 +1,6 @@
 -- What is read as an operand, with prefixes and postfixes, is a tree.
 use Rattle.std.proofs.Common.{◌≡◌, ℕ, zero, suc, Bool, true, false, ◌&&◌, if◌then◌else◌, List, [], ◌∷◌, ◌++◌, length, Some, None, refl, sym, ap, subst, ◌∙◌, append_assoc, append-nil}
+use Rattle.std.proofs.lemmas.Option.{same_Some}
 use Rattle.c_token.specs.declared.token.Keyword.TheVariants as words
 use Rattle.c_token.specs.declared.token.Punct.TheVariants as marks
 use Rattle.c_tree.specs.Words.{Symbol, Symbols, punct}
@@ -10,7 +11,7 @@ use Rattle.c_expression.specs.Reader.{punct_at, key_at, type_opens, collect_on, 
 use Rattle.c_expression.specs.Reading.{Inner, group_by, primary_by, index_by, call_on, call_by, field_by, post_by, postfix_by, bracketed_by, cast_by, prefix_by, operand_on, operand_by, unary_by}
 use Rattle.c_expression.proofs.Knots.{ArePlain, Takes, Sound, SoundStep, SoundInner}
 use Rattle.c_expression.proofs.Plain.{punct_is, key_is}
-use Rattle.c_expression.proofs.TakesLists.{join, splits_as, part, one, taken_as, weaken, some_is, take, bind_ok, sound_then, cases_if, cases_option, got_ok, symbol_takes, punct_takes, key_takes, Each, spelled_all, all_take}
+use Rattle.c_expression.proofs.TakesLists.{join, splits_as, part, one, taken_as, weaken, take, bind_ok, sound_then, cases_if, cases_option, got_ok, symbol_takes, punct_takes, key_takes, Each, spelled_all, all_take}
 
 -- ---- a primary expression and its postfixes
 
@@ -66,7 +67,7 @@ post_takes inner sound (s ∷ rest) plain x e = cases_if (is_punct marks.LeftBra
     (λ is e3. cases_if (is_field s.kind) _ _ (Some (Some x))
     (λ is e4. field_takes s is rest plain.1 x (got_ok (field_by s rest) x e4))
     (λ is e4. cases_if (is_step s.kind) _ _ (Some (Some x))
-    (λ is e5. take (Step s) (one s rest) is plain.1 (some_is _ _ e5))
+    (λ is e5. take (Step s) (one s rest) is plain.1 (same_Some _ _ e5))
     (λ is e5. absurd cc) e4) e3) e2) e
 
 posted_spelled : (e : Tree) (ps : List Post) → spelled (posted e ps) ≡ spelled e ++ spelled_all spelled_post ps
@@ -127,21 +128,21 @@ unfolding cast_by
 cast_takes inner sound toks plain x opens e =
     let b = sound_then (bracketed_takes inner sound) toks plain _ x e in
     let made : Pre × Symbols = (Cast b.read.0.0 b.read.0.1 b.read.0.2, b.read.1) in
-    subst (TakesPrefix toks) (some_is made x b.on) (record { takes = record { parts = b.takes.parts; tree = b.takes.tree; plain = b.takes.plain }; opens = λ is. opens; before = λ needs. absurd cc })
+    subst (TakesPrefix toks) (same_Some made x b.on) (record { takes = record { parts = b.takes.parts; tree = b.takes.tree; plain = b.takes.plain }; opens = λ is. opens; before = λ needs. absurd cc })
 
 sign_takes : (s : Symbol) (rest : Symbols) → ArePlain (s ∷ rest) → (x : Pre × Symbols) → is_prefix s.kind ≡ true → (if is_step s.kind && type_opens rest then None else Some (Some (Sign s, rest))) ≡ Some (Some x) → TakesPrefix (s ∷ rest) x
 sign_takes s rest plain x prefix e = cases_if (is_step s.kind && type_opens rest) _ _ (Some (Some x))
     (λ is e2. absurd cc)
     (λ is e2.
     let made : Pre × Symbols = (Sign s, rest) in
-    subst (TakesPrefix (s ∷ rest)) (some_is made x (some_is (Some made) (Some x) e2)) (record { takes = record { parts = refl; tree = prefix; plain = plain.1 }; opens = λ cast. absurd cc; before = λ needs. second_false (is_step s.kind) (type_opens rest) is needs })) e
+    subst (TakesPrefix (s ∷ rest)) (same_Some made x (same_Some (Some made) (Some x) e2)) (record { takes = record { parts = refl; tree = prefix; plain = plain.1 }; opens = λ cast. absurd cc; before = λ needs. second_false (is_step s.kind) (type_opens rest) is needs })) e
 
 sizeof_takes : (s : Symbol) (rest : Symbols) → ArePlain (s ∷ rest) → (x : Pre × Symbols) → is_key words.Sizeof s.kind ≡ true → (if type_opens rest then Some None else Some (Some (Sizeof s.line, rest))) ≡ Some (Some x) → TakesPrefix (s ∷ rest) x
 sizeof_takes s rest plain x is e = cases_if (type_opens rest) _ _ (Some (Some x))
     (λ opens e2. absurd cc)
     (λ opens e2.
     let made : Pre × Symbols = (Sizeof s.line, rest) in
-    subst (TakesPrefix (s ∷ rest)) (some_is made x (some_is (Some made) (Some x) e2)) (record { takes = record { parts = ap (λ (t : Symbol). t ∷ rest) (key_is words.Sizeof s plain.0 is); tree = tt; plain = plain.1 }; opens = λ cast. absurd cc; before = λ needs. opens })) e
+    subst (TakesPrefix (s ∷ rest)) (same_Some made x (same_Some (Some made) (Some x) e2)) (record { takes = record { parts = ap (λ (t : Symbol). t ∷ rest) (key_is words.Sizeof s plain.0 is); tree = tt; plain = plain.1 }; opens = λ cast. absurd cc; before = λ needs. opens })) e
 
 prefix_takes : (inner : Inner) → SoundInner inner → (toks : Symbols) → ArePlain toks → (x : _) → prefix_by inner toks ≡ Some (Some x) → TakesPrefix toks x
 unfolding prefix_by
@@ -191,7 +192,7 @@ unary_unless_cast (Cast o t c) e h = absurd cc
 no_prefixes : (toks : Symbols) → ArePlain toks → (x : List Pre × Symbols) → Some ([], toks) ≡ Some x → TakesPrefixes toks x
 no_prefixes toks plain x e =
     let made : List Pre × Symbols = ([], toks) in
-    subst (TakesPrefixes toks) (some_is made x e) (record { takes = record { parts = refl; tree = λ e is. record { tree = is.0; rank = is.1; unary = λ h. is.2 }; plain = plain }; opens = λ h. absurd cc })
+    subst (TakesPrefixes toks) (same_Some made x e) (record { takes = record { parts = refl; tree = λ e is. record { tree = is.0; rank = is.1; unary = λ h. is.2 }; plain = plain }; opens = λ h. absurd cc })
 
 one_prefix_more : (toks : Symbols) (z : Pre × Symbols) (l x : List Pre × Symbols) → TakesPrefix toks z → TakesPrefixes z.1 l → Some (z.0 ∷ l.0, l.1) ≡ Some x → TakesPrefixes toks x
 one_prefix_more toks z l x t more e =
@@ -200,7 +201,7 @@ one_prefix_more toks z l x t more e =
     let b = more.takes.tree e is in
     let may = may_follow_it z.0 (prefixed l.0 e) (λ needs. b.unary (not_true (starts_cast l.0) (type_opens z.1) more.opens (t.before needs))) in
     record { tree = (t.takes.tree, b.tree, b.rank, may); rank = refl; unary = unary_unless_cast z.0 (prefixed l.0 e) } in
-    subst (TakesPrefixes toks) (some_is made x e) (record { takes = record { parts = (join (part t.takes) (part more.takes)).is; tree = are; plain = more.takes.plain }; opens = t.opens })
+    subst (TakesPrefixes toks) (same_Some made x e) (record { takes = record { parts = (join (part t.takes) (part more.takes)).is; tree = are; plain = more.takes.plain }; opens = t.opens })
 
 collect_prefixes : (inner : Inner) → SoundInner inner → (n : ℕ) (toks : Symbols) → ArePlain toks → (x : _) → collect (prefix_by inner) n toks ≡ Some x → TakesPrefixes toks x
 unfolding collect

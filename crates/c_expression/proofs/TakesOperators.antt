@@ -1,5 +1,5 @@
 -- What is read as an expression is a tree.
-use Rattle.std.proofs.Common.{◌≡◌, ℕ, zero, suc, ◌<◌, ◌≤◌, true, ◌==◌, List, [], ◌∷◌, ◌++◌, length, Some, sym, ◌∙◌, append_assoc, append-nil, arith, false, refl}
+use Rattle.std.proofs.Common.{◌≡◌, ℕ, zero, suc, ◌<◌, ◌≤◌, true, ◌==◌, List, [], ◌∷◌, ◌++◌, length, Some, sym, ◌∙◌, append_assoc, append-nil, refl, false, arith}
 use Rattle.std.proofs.lemmas.Bool.{eqb-true}
 use Rattle.c_token.specs.declared.token.TokKind.{TokKind}
 use Rattle.c_token.specs.declared.token.TokKind.TheVariants as kinds
