@@ -199,6 +199,17 @@ prefix_opens (kinds.Punct marks.LeftParenthesis) h = absurd cc
 prefix_opens (kinds.Punct _) h = refl
 prefix_opens _ h = absurd cc
 
+pub prefix_begins : (t : TokKind) → is_prefix t ≡ true → begins_expr t ≡ true
+prefix_begins (kinds.Punct marks.Increment) h = refl
+prefix_begins (kinds.Punct marks.Decrement) h = refl
+prefix_begins (kinds.Punct marks.Ampersand) h = refl
+prefix_begins (kinds.Punct marks.Star) h = refl
+prefix_begins (kinds.Punct marks.Plus) h = refl
+prefix_begins (kinds.Punct marks.Minus) h = refl
+prefix_begins (kinds.Punct marks.Tilde) h = refl
+prefix_begins (kinds.Punct marks.Not) h = refl
+prefix_begins _ h = absurd cc
+
 -- what a postfix begins with
 pub record Dotted (t : TokKind) : Type 0 where
   pub bracket : is_punct marks.LeftBracket t ≡ false

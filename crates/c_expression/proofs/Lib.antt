@@ -1,2 +1,4 @@
 pub mod Knots
 pub mod AgainKinds
+pub mod AgainLoops
+pub mod AgainOperands
