@@ -120,6 +120,13 @@ comma_alone : (t : TokKind) → nat_le 11 (level_of t) ≡ true → t ≡ kinds.
 comma_alone (kinds.Punct marks.Comma) h = refl
 comma_alone _ h = absurd cc
 
+-- an operator that is no comma is one of the tiers
+pub tier_most : (t : TokKind) → level_of t ≤ 12 → level_of t ≤ 10
+tier_most t le = elim (cases_lt (level_of t) 11) [
+    | inl lt ↦ omega arith
+    | inr ge ↦ absurd (let is = ap level_of (comma_alone t (le-leb 11 (level_of t) ge)) in omega arith)
+  ]
+
 pub is_comma : (s : Symbol) → 11 ≤ level_of s.kind → s.bytes ≡ [] → s ≡ punct marks.Comma s.line
 is_comma s le e = ap (λ (t : TokKind). record { kind = t; bytes = s.bytes; line = s.line }) (comma_alone s.kind (le-leb 11 (level_of s.kind) le)) ∙ ap (λ (b : List ℕ). record { kind = kinds.Punct marks.Comma; bytes = b; line = s.line }) e
 
