@@ -1,14 +1,14 @@
 -- Expressions are read again from their spelling: operators in tiers, choices, assignments, commas.
-use Rattle.std.proofs.Common.{◌≡◌, ℕ, zero, suc, ◌+◌, ◌-◌, ◌<◌, ◌≤◌, Bool, true, false, eqb, if◌then◌else◌, List, [], ◌∷◌, ◌++◌, length, Option, Some, None, refl, sym, ap, subst, ◌∙◌, append_assoc, length-append, arith, inl, inr}
+use Rattle.std.proofs.Common.{◌≡◌, ℕ, zero, suc, ◌+◌, ◌-◌, ◌<◌, ◌≤◌, Bool, true, false, if◌then◌else◌, [], ◌∷◌, ◌++◌, length, Option, Some, None, refl, sym, ap, subst, ◌∙◌, append_assoc, length-append, arith, inl, inr}
 use Rattle.std.proofs.lemmas.Bool.{cases_lt, eq-eqb, ne_eqb}
 use Rattle.c_token.specs.declared.token.Punct.TheVariants as marks
 use Rattle.c_tree.specs.Words.{Symbol, Symbols, punct}
 use Rattle.c_tree.specs.Kinds.{is_punct, level_of, is_assignment}
-use Rattle.c_tree.specs.Trees.{Tree, Leaf, Group, Behind, Before, Measure, Join, Choose, Assign, Sign, Sizeof, Cast, spelled, rank, is_unary, IsTree}
+use Rattle.c_tree.specs.Trees.{Tree, Join, Choose, Assign, spelled, rank, is_unary, IsTree}
 use Rattle.c_tree.specs.Lists.{joined, listed}
-use Rattle.c_expression.specs.Reader.{◌>>=◌, Reader, symbol_at, punct_at}
-use Rattle.c_expression.specs.Reading.{Inner, right_by, tier_by, choose_on, choices, cond_by, target_at, assign_on, assigns, assign_by, comma_by, expr_by}
-use Rattle.c_expression.proofs.Knots.{goes_on, Stops, IsCond, IsAssign, Again, CompleteInner}
+use Rattle.c_expression.specs.Reader.{Reader, symbol_at, punct_at}
+use Rattle.c_expression.specs.Reading.{Inner, right_by, tier_by, choices, cond_by, target_at, assigns, assign_by, comma_by, expr_by}
+use Rattle.c_expression.proofs.Knots.{Stops, IsCond, IsAssign, Again, CompleteInner}
 use Rattle.c_expression.proofs.AgainKinds.{quiet, stops_below, stops_operator, stops_assignment, comma_level, is_comma, tier_most}
 use Rattle.c_expression.proofs.AgainLoops.{Chained, chain_by, first, further, ends}
 use Rattle.c_expression.proofs.AgainOperands.{has_token, unary_reads}

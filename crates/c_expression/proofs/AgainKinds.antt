@@ -1,15 +1,14 @@
 -- Which tokens stop a tree, and which begin one: the tests on kinds that readers make.
-use Rattle.std.proofs.Common.{◌≡◌, ℕ, zero, suc, ◌+◌, ◌<◌, ◌≤◌, nat_le, nat_lt, Bool, true, false, eqb, leb, ltb, ◌&&◌, if◌then◌else◌, List, [], ◌∷◌, ◌++◌, length, Option, Some, None, refl, sym, ap, subst, ◌∙◌, append_assoc, arith, inl, inr}
-use Rattle.std.proofs.lemmas.Bool.{le-leb, lt-leb, lt-ltb, leb-true, ne_eqb, cases_lt}
+use Rattle.std.proofs.Common.{◌≡◌, ℕ, zero, suc, ◌<◌, ◌≤◌, nat_le, nat_lt, Bool, true, false, leb, ltb, ◌&&◌, if◌then◌else◌, List, [], ◌∷◌, refl, ap, ◌∙◌, arith, inl, inr}
+use Rattle.std.proofs.lemmas.Bool.{le-leb, lt-leb, lt-ltb, cases_lt}
 use Rattle.c_token.specs.declared.token.TokKind.{TokKind}
 use Rattle.c_token.specs.declared.token.TokKind.TheVariants as kinds
 use Rattle.c_token.specs.declared.token.Keyword.{Keyword}
 use Rattle.c_token.specs.declared.token.Keyword.TheVariants as words
-use Rattle.c_token.specs.declared.token.Punct.{Punct}
 use Rattle.c_token.specs.declared.token.Punct.TheVariants as marks
-use Rattle.c_tree.specs.Words.{Symbol, Symbols, plain, key, punct}
-use Rattle.c_tree.specs.Kinds.{is_punct, is_key, is_name, is_leaf, tier_of, level_of, is_assign_mark, is_assignment, is_prefix_mark, is_prefix, is_step_mark, is_step, is_field_mark, is_field, is_spec, is_spec_word, is_specifying, begins_spec}
-use Rattle.c_expression.specs.Reader.{front_is}
+use Rattle.c_tree.specs.Words.{Symbol, Symbols, punct}
+use Rattle.c_tree.specs.Kinds.{is_punct, is_key, is_leaf, level_of, is_assignment, is_prefix, is_step, is_field, is_spec, is_spec_word, is_specifying, begins_spec}
+use Rattle.c_expression.specs.Reader.{front_is, spells}
 use Rattle.c_expression.proofs.Knots.{goes_on, begins_expr, Stops}
 
 -- ---- the tests of what goes on, one by one
@@ -105,6 +104,12 @@ is_operator (kinds.Punct marks.Or) h = (refl, refl, refl, refl, refl, refl)
 is_operator (kinds.Punct marks.Comma) h = (refl, refl, refl, refl, refl, refl)
 is_operator _ h = absurd cc
 
+-- an operator is neither a name nor a text, and so has no bytes in a text
+pub operator_spells : (t : TokKind) → 0 < level_of t → spells t ≡ false
+operator_spells kinds.Name h = absurd (omega arith)
+operator_spells kinds.Text h = absurd (omega arith)
+operator_spells _ h = refl
+
 -- the sign of an operator stops what binds tighter
 pub stops_operator : (j : ℕ) (s : Symbol) (rest : Symbols) → j < level_of s.kind → Stops j (s ∷ rest)
 stops_operator j s rest lt =
@@ -152,21 +157,22 @@ stops_assignment s rest h = assignment_stops s.kind h
 pub record Begins (t : TokKind) : Type 0 where
   pub spec : is_spec t ≡ false
   pub closing : is_punct marks.RightParenthesis t ≡ false
+  pub bracket : is_punct marks.RightBracket t ≡ false
 
 begins : (t : TokKind) → begins_expr t ≡ true → Begins t
-begins kinds.Name h = record { spec = refl; closing = refl }
-begins (kinds.Int v b u l) h = record { spec = refl; closing = refl }
-begins (kinds.Char v) h = record { spec = refl; closing = refl }
-begins (kinds.Keyword words.Sizeof) h = record { spec = refl; closing = refl }
-begins (kinds.Punct marks.LeftParenthesis) h = record { spec = refl; closing = refl }
-begins (kinds.Punct marks.Increment) h = record { spec = refl; closing = refl }
-begins (kinds.Punct marks.Decrement) h = record { spec = refl; closing = refl }
-begins (kinds.Punct marks.Ampersand) h = record { spec = refl; closing = refl }
-begins (kinds.Punct marks.Star) h = record { spec = refl; closing = refl }
-begins (kinds.Punct marks.Plus) h = record { spec = refl; closing = refl }
-begins (kinds.Punct marks.Minus) h = record { spec = refl; closing = refl }
-begins (kinds.Punct marks.Tilde) h = record { spec = refl; closing = refl }
-begins (kinds.Punct marks.Not) h = record { spec = refl; closing = refl }
+begins kinds.Name h = record { spec = refl; closing = refl; bracket = refl }
+begins (kinds.Int v b u l) h = record { spec = refl; closing = refl; bracket = refl }
+begins (kinds.Char v) h = record { spec = refl; closing = refl; bracket = refl }
+begins (kinds.Keyword words.Sizeof) h = record { spec = refl; closing = refl; bracket = refl }
+begins (kinds.Punct marks.LeftParenthesis) h = record { spec = refl; closing = refl; bracket = refl }
+begins (kinds.Punct marks.Increment) h = record { spec = refl; closing = refl; bracket = refl }
+begins (kinds.Punct marks.Decrement) h = record { spec = refl; closing = refl; bracket = refl }
+begins (kinds.Punct marks.Ampersand) h = record { spec = refl; closing = refl; bracket = refl }
+begins (kinds.Punct marks.Star) h = record { spec = refl; closing = refl; bracket = refl }
+begins (kinds.Punct marks.Plus) h = record { spec = refl; closing = refl; bracket = refl }
+begins (kinds.Punct marks.Minus) h = record { spec = refl; closing = refl; bracket = refl }
+begins (kinds.Punct marks.Tilde) h = record { spec = refl; closing = refl; bracket = refl }
+begins (kinds.Punct marks.Not) h = record { spec = refl; closing = refl; bracket = refl }
 begins _ h = absurd cc
 
 -- a test that no expression begins with
@@ -179,6 +185,9 @@ no_spec t h = let b = begins t h in b.spec
 
 pub no_closing : (t : TokKind) → begins_expr t ≡ true → is_punct marks.RightParenthesis t ≡ false
 no_closing t h = let b = begins t h in b.closing
+
+pub no_bracket : (t : TokKind) → begins_expr t ≡ true → is_punct marks.RightBracket t ≡ false
+no_bracket t h = let b = begins t h in b.bracket
 
 -- what begins an operand without a prefix
 pub record Primary (t : TokKind) : Type 0 where

@@ -1,8 +1,8 @@
 -- Loops that group to the left: a part, and then all that a step finds behind it.
-use Rattle.std.proofs.Common.{◌≡◌, ℕ, zero, suc, ◌+◌, ◌-◌, ◌<◌, ◌≤◌, Bool, true, false, List, [], ◌∷◌, ◌++◌, length, Option, Some, None, refl, sym, ap, ◌∙◌, arith}
-use Rattle.c_tree.specs.Words.{Symbol, Symbols}
+use Rattle.std.proofs.Common.{◌≡◌, ℕ, zero, suc, ◌-◌, ◌<◌, ◌≤◌, List, [], ◌∷◌, length, Some, None, refl, ap, ◌∙◌, arith}
+use Rattle.c_tree.specs.Words.{Symbols}
 use Rattle.c_tree.specs.Trees.{Tree}
-use Rattle.c_expression.specs.Reader.{◌>>=◌, Reader, Step, collect_on, collect, all_that}
+use Rattle.c_expression.specs.Reader.{◌>>=◌, Reader, Step, collect, all_that}
 
 abbrev pub chain_by : {A : Type 0} → (Tree → List A → Tree) → Reader Tree → Step A → Reader Tree
 chain_by build next step toks = do
