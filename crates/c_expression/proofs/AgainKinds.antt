@@ -50,7 +50,7 @@ quiet k t h =
       step = p.3;
       question = λ le. second_false (leb 11 k) (is_punct marks.Question t) (le-leb 11 k le) p.4;
       assignment = λ le. second_false (leb 12 k) (is_assignment t) (le-leb 12 k le) p.5;
-      operator = λ pos. above k (level_of t) p.6 pos
+      operator = λ pos. above k (level_of t) p.6 pos;
     }
 
 none_true : (a b c d q m l : Bool) → a ≡ false → b ≡ false → c ≡ false → d ≡ false → q ≡ false → m ≡ false → l ≡ false → (if a then true else if b then true else if c then true else if d then true else if q then true else if m then true else l) ≡ false
@@ -116,7 +116,7 @@ stops_operator j s rest lt =
     let o = is_operator s.kind (lt-ltb 0 (level_of s.kind) (omega arith)) in
     quiet_again j s.kind record { bracket = o.0; parenthesis = o.1; field = o.2; step = o.3; question = λ e. o.4; assignment = λ e. o.5; operator = λ pos. lt }
 
--- a tier is none of choices and assignments
+-- the comma is the one operator that no tier has
 pub comma_level : (t : TokKind) → is_punct marks.Comma t ≡ true → level_of t ≡ 13
 comma_level (kinds.Punct marks.Comma) h = refl
 comma_level _ h = absurd cc
@@ -128,13 +128,15 @@ comma_alone _ h = absurd cc
 -- an operator that is no comma is one of the tiers
 pub tier_most : (t : TokKind) → level_of t ≤ 12 → level_of t ≤ 10
 tier_most t le = elim (cases_lt (level_of t) 11) [
-    | inl lt ↦ omega arith
-    | inr ge ↦ absurd (let is = ap level_of (comma_alone t (le-leb 11 (level_of t) ge)) in omega arith)
-  ]
+  | inl lt ↦ omega arith
+  | inr ge ↦ absurd (let is = ap level_of (comma_alone t (le-leb 11 (level_of t) ge)) in omega arith)
+]
 
+-- so an operator above the tiers is a comma, of which its line is all
 pub is_comma : (s : Symbol) → 11 ≤ level_of s.kind → s.bytes ≡ [] → s ≡ punct marks.Comma s.line
 is_comma s le e = ap (λ (t : TokKind). record { kind = t; bytes = s.bytes; line = s.line }) (comma_alone s.kind (le-leb 11 (level_of s.kind) le)) ∙ ap (λ (b : List ℕ). record { kind = kinds.Punct marks.Comma; bytes = b; line = s.line }) e
 
+-- the operator of an assignment stops what stands on its left
 assignment_stops : (t : TokKind) → is_assignment t ≡ true → goes_on 11 t ≡ false
 assignment_stops (kinds.Punct marks.Assign) h = refl
 assignment_stops (kinds.Punct marks.StarAssign) h = refl
@@ -154,6 +156,7 @@ stops_assignment s rest h = assignment_stops s.kind h
 
 -- ---- first tokens
 
+-- what the first token of an expression is not
 pub record Begins (t : TokKind) : Type 0 where
   pub spec : is_spec t ≡ false
   pub closing : is_punct marks.RightParenthesis t ≡ false

@@ -36,7 +36,7 @@ further build next step toks a t x more rest builds c h lt =
     record {
       turns = c.turns - 1;
       enough = omega arith;
-      goes = λ l end e. c.goes (x ∷ l) end (ap (λ (m : ℕ). collect step m more) turns ∙ collect_more step (c.turns - 1) more x rest l end h e) ∙ ap (λ (u : Tree). Some (u, end)) (builds l)
+      goes = λ l end e. c.goes (x ∷ l) end (ap (λ (m : ℕ). collect step m more) turns ∙ collect_more step (c.turns - 1) more x rest l end h e) ∙ ap (λ (u : Tree). Some (u, end)) (builds l);
     }
 
 pub ends : {A : Type 0} (build : Tree → List A → Tree) (next : Reader Tree) (step : Step A) (toks : Symbols) (t : Tree) (rest : Symbols) → build t [] ≡ t → Chained build next step toks t rest → step rest ≡ Some None → chain_by build next step toks ≡ Some (t, rest)

@@ -143,7 +143,7 @@ post_spine n inner c (Behind e p) h is le rest =
     let up = post_spine n inner c e is.2 is.0 (omega arith) (spelled_post p ++ rest) in
     let one = post_reads n inner c p is.1 (omega arith) rest in
     subst (λ (l : Symbols). Chained posted (primary_by inner) (post_by inner) l (Behind e p) rest) (sym (append_assoc (spelled e) (spelled_post p) rest))
-        (further posted (primary_by inner) (post_by inner) (spelled e ++ (spelled_post p ++ rest)) e (Behind e p) p (spelled_post p ++ rest) rest (λ l. refl) up one (omega (arith, length-append (spelled_post p) rest, post_has_token p)))
+    (further posted (primary_by inner) (post_by inner) (spelled e ++ (spelled_post p ++ rest)) e (Behind e p) p (spelled_post p ++ rest) rest (λ l. refl) up one (omega (arith, length-append (spelled_post p) rest, post_has_token p)))
 post_spine n inner c _ h is le rest = absurd cc
 
 pub postfix_reads : (n : ℕ) (inner : Inner) → CompleteInner n inner → (t : Tree) → is_postfix t ≡ true → IsTree t → length (spelled t) ≤ suc n → (rest : Symbols) → Stops 0 rest → postfix_by inner (spelled t ++ rest) ≡ Some (t, rest)
