@@ -5,3 +5,7 @@ pub mod TakesLists
 pub mod TakesOperands
 pub mod TakesOperators
 pub mod TakesDeclarators
+pub mod AgainKinds
+pub mod AgainLoops
+pub mod AgainOperands
+pub mod AgainExpressions
