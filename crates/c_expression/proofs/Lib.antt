@@ -1,1 +1,3 @@
 pub mod Knots
+pub mod Collects
+pub mod Starts
