@@ -1,3 +1,4 @@
 pub mod Knots
 pub mod Collects
 pub mod Starts
+pub mod AgainSpecifiers
