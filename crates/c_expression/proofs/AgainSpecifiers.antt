@@ -12,7 +12,7 @@ use Rattle.c_tree.specs.Lists.{more_specs, more_members}
 use Rattle.c_expression.specs.Reader.{◌>>=◌, Reader, Step, front_is, symbol_at, punct_at, specs_come, got, all_that, collect, pointers_at}
 use Rattle.c_expression.specs.Reading.{Inner, body_by, struct_on, struct_by, spec_by, next_spec_by, specs_by, type_name_by}
 use Rattle.c_expression.proofs.Knots.{goes_on_specs, goes_on_pointers, StopsType, StopsMembers, spelled_members, AreMembers, Again, CompleteInner}
-use Rattle.c_expression.proofs.Collects.{front_not, front_narrow, collect_ends, collect_more, pointers_again, and_both}
+use Rattle.c_expression.proofs.Collects.{front_not, front_narrow, collect_ends, collect_more, pointers_again, and_both, neither}
 use Rattle.c_expression.proofs.Starts.{spec_token, star_token, spec_starts, spec_has_token}
 
 -- what is read by a step again
@@ -46,12 +46,6 @@ StopsSpec rest = front_is (is_punct marks.LeftBrace) rest ≡ false
 abbrev pub StopsSpecs : Symbols → Type 0
 StopsSpecs rest = front_is goes_on_specs rest ≡ false
 
-no_brace : (k : TokKind) → goes_on_specs k ≡ false → is_punct marks.LeftBrace k ≡ false
-no_brace k h = elim (is_punct marks.LeftBrace k) as (λ b. cond b true (is_spec k) ≡ false → b ≡ false) [ true ↦ λ e. absurd cc | false ↦ λ e. refl ] h
-
-no_spec : (k : TokKind) → goes_on_specs k ≡ false → is_spec k ≡ false
-no_spec k h = elim (is_punct marks.LeftBrace k) as (λ b. cond b true (is_spec k) ≡ false → is_spec k ≡ false) [ true ↦ λ e. absurd cc | false ↦ λ e. e ] h
-
 -- the members of a structure, and its `}`
 body_again : (n : ℕ) (inner : Inner) → CompleteInner n inner → (k : ℕ) (tag : Symbols) (o : ℕ) (m : MemberTree) (ms : MoreMembers) (c : ℕ) → length (spelled_member m ++ spelled_more_members ms) ≤ n → IsMember m → AreMoreMembers ms → (rest : Symbols) → body_by inner k tag (punct marks.LeftBrace o ∷ ((spelled_member m ++ (spelled_more_members ms ++ punct marks.RightBrace c ∷ [])) ++ rest)) ≡ Some (Body k tag o m ms c, rest)
 unfolding body_by punct_at
@@ -78,7 +72,7 @@ spec_again_by n inner complete (Body k (t ∷ u ∷ more) o m ms c) le is rest s
 
 next_spec_none : (inner : Inner) (rest : Symbols) → StopsSpecs rest → next_spec_by inner rest ≡ Some None
 unfolding next_spec_by
-next_spec_none inner rest stop = rw (front_narrow goes_on_specs is_spec no_spec rest stop) refl
+next_spec_none inner rest stop = rw (front_narrow goes_on_specs is_spec (λ k h. (neither (is_punct marks.LeftBrace k) (is_spec k) h).1) rest stop) refl
 
 pub next_spec_again : (n : ℕ) (inner : Inner) → CompleteInner n inner → AgainStep (suc n) spelled_spec IsSpec StopsSpec (next_spec_by inner)
 unfolding next_spec_by
@@ -86,7 +80,7 @@ next_spec_again n inner complete s le is rest stop = rw (spec_starts s is rest, 
 
 -- no `{` behind a specifier, since another one or what follows them all comes
 specs_go_on : (ss : MoreSpecs) → AreMoreSpecs ss → (rest : Symbols) → StopsSpecs rest → StopsSpec (spelled_more_specs ss ++ rest)
-specs_go_on NoSpec are rest stop = front_narrow goes_on_specs (is_punct marks.LeftBrace) no_brace rest stop
+specs_go_on NoSpec are rest stop = front_narrow goes_on_specs (is_punct marks.LeftBrace) (λ k h. (neither (is_punct marks.LeftBrace k) (is_spec k) h).0) rest stop
 specs_go_on (AndSpec s ss) are rest stop =
     let begin = spec_starts s are.0 (spelled_more_specs ss ++ rest) in
     ap (front_is (is_punct marks.LeftBrace)) (append_assoc (spelled_spec s) (spelled_more_specs ss) rest) ∙ front_not is_spec (is_punct marks.LeftBrace) (λ k. spec_token k (is_punct marks.LeftBrace) (λ w. refl)) (spelled_spec s ++ (spelled_more_specs ss ++ rest)) begin
@@ -113,8 +107,8 @@ specs_again_by n inner complete (Specified s ss) le are rest stop =
 
 -- ---- type names
 
--- what doesn't go on with pointers behind specifiers doesn't go on with the specifiers
-pointers_begin : (ps rest : Symbols) → are_pointers ps ≡ true → StopsSpecs rest → StopsSpecs (ps ++ rest)
+-- pointers don't go on with specifiers
+pub pointers_begin : (ps rest : Symbols) → are_pointers ps ≡ true → StopsSpecs rest → StopsSpecs (ps ++ rest)
 pointers_begin [] rest are stop = stop
 pointers_begin (p ∷ ps) rest are stop = ap goes_on_specs (star_token p.kind (and_both (is_punct marks.Star p.kind) (are_stars ps) are).0)
 

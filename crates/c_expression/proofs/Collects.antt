@@ -1,5 +1,5 @@
 -- Loops that collect a list read it again, and tokens that a reader asks for in front.
-use Rattle.std.proofs.Common.{◌≡◌, ℕ, zero, suc, Bool, true, false, ◌&&◌, cond, List, [], ◌∷◌, ◌++◌, Option, Some, None, refl, sym, ap, ◌∙◌}
+use Rattle.std.proofs.Common.{◌≡◌, ℕ, zero, suc, Bool, true, false, ◌&&◌, cond, List, [], ◌∷◌, ◌++◌, Option, Some, None, ◌⊎◌, inl, inr, refl}
 use Rattle.c_token.specs.declared.token.TokKind.{TokKind}
 use Rattle.c_token.specs.declared.token.Punct.{Punct}
 use Rattle.c_token.specs.declared.token.Punct.TheVariants as marks
@@ -12,6 +12,15 @@ use Rattle.c_expression.proofs.Knots.{goes_on_pointers}
 pub and_both : (a b : Bool) → (a && b) ≡ true → (a ≡ true) × (b ≡ true)
 and_both true b h = (refl, h)
 and_both false b h = absurd cc
+
+-- neither of two tests that are one
+pub neither : (a b : Bool) → cond a true b ≡ false → (a ≡ false) × (b ≡ false)
+neither true b h = absurd cc
+neither false b h = (refl, h)
+
+pub true_or_false : (b : Bool) → (b ≡ true) ⊎ (b ≡ false)
+true_or_false true = inl refl
+true_or_false false = inr refl
 
 -- what passes one test doesn't pass another
 pub front_not : (this other : TokKind → Bool) → ((k : TokKind) → this k ≡ true → other k ≡ false) → (toks : Symbols) → front_is this toks ≡ true → front_is other toks ≡ false
@@ -52,11 +61,8 @@ stars_again [] [] h s = refl
 stars_again [] (t ∷ rest) h s = rw s refl
 stars_again (p ∷ ps) rest h s = let a = and_both (goes_on_pointers p.kind) (are_stars ps) h in rw (a.0, stars_again ps rest a.1 s) refl
 
-no_star : (k : TokKind) → goes_on_pointers k ≡ false → is_punct marks.Star k ≡ false
-no_star k h = elim (is_punct marks.Star k) as (λ b. cond b true (is_qualifier k) ≡ false → b ≡ false) [ true ↦ λ e. absurd cc | false ↦ λ e. refl ] h
-
 pub pointers_again : (ps rest : Symbols) → are_pointers ps ≡ true → front_is goes_on_pointers rest ≡ false → pointers_at (ps ++ rest) ≡ (ps, rest)
 unfolding pointers_at
 pointers_again [] [] h s = refl
-pointers_again [] (t ∷ rest) h s = rw (no_star t.kind s) refl
+pointers_again [] (t ∷ rest) h s = rw ((neither (is_punct marks.Star t.kind) (is_qualifier t.kind) s).0) refl
 pointers_again (p ∷ ps) rest h s = let a = and_both (is_punct marks.Star p.kind) (are_stars ps) h in rw (a.0, stars_again ps rest a.1 s) refl

@@ -2,3 +2,4 @@ pub mod Knots
 pub mod Collects
 pub mod Starts
 pub mod AgainSpecifiers
+pub mod AgainDeclarators
