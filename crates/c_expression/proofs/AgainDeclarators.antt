@@ -188,7 +188,7 @@ declarators_collect n inner complete (AndDeclarator c d ds) le are close rest (s
     ap (λ (l : Symbols). collect (next_declarator_by inner) (suc m) (punct marks.Comma c ∷ l)) regrouped ∙ collect_more (next_declarator_by inner) m (punct marks.Comma c ∷ (spelled_declarator d ++ more)) more end (c, d) (declarator_items ds) first others
 
 -- specifiers end at a declarator
-specs_end : (d : DeclaratorTree) → IsDeclarator d → (rest : Symbols) → StopsSpecs (spelled_declarator d ++ rest)
+pub specs_end : (d : DeclaratorTree) → IsDeclarator d → (rest : Symbols) → StopsSpecs (spelled_declarator d ++ rest)
 specs_end d is rest = front_not begins_declarator goes_on_specs (λ k. declarator_token k goes_on_specs refl refl) (spelled_declarator d ++ rest) (declarator_starts d is rest)
 
 pub member_again_by : (n : ℕ) (inner : Inner) → CompleteInner n inner → Again (suc n) spelled_member IsMember Anything (member_by inner)

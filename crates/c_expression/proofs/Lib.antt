@@ -3,3 +3,4 @@ pub mod Collects
 pub mod Starts
 pub mod AgainSpecifiers
 pub mod AgainDeclarators
+pub mod AgainAll
