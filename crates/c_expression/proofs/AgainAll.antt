@@ -1,10 +1,10 @@
 -- At any depth of brackets each tree is read again from its spelling, if it has no more tokens than brackets may be entered.
-use Rattle.std.proofs.Common.{◌≡◌, ℕ, zero, suc, ◌+◌, ◌<◌, ◌≤◌, List, ◌∷◌, ◌++◌, length, Some, refl, length-append, arith}
+use Rattle.std.proofs.Common.{ℕ, zero, suc, length-append, arith}
 use Rattle.c_tree.specs.Words.{Symbols}
-use Rattle.c_tree.specs.Trees.{Tree, TypeTree, SpecTrees, MemberTree, DeclaratorTree, ParamTree, spelled, spelled_type, spelled_specs, spelled_member, spelled_more_members, spelled_declarator, spelled_param, spelled_more_params, IsTree, IsType, AreSpecs, IsDeclarator}
+use Rattle.c_tree.specs.Trees.{spelled, spelled_type, spelled_specs, spelled_member, spelled_more_members, spelled_declarator, spelled_param, spelled_more_params, IsTree, IsType, AreSpecs, IsDeclarator}
 use Rattle.c_tree.specs.Lists.{more_members, more_params}
-use Rattle.c_expression.specs.Reader.{Reader, front_is}
-use Rattle.c_expression.specs.Reading.{Inner, at, expr_by, assign_by, cond_by, specs_by, type_name_by, declarator_by, members_by, params_by}
+use Rattle.c_expression.specs.Reader.{Reader}
+use Rattle.c_expression.specs.Reading.{Inner, at, expr_by, assign_by, cond_by, specs_by, type_name_by, declarator_by}
 use Rattle.c_expression.proofs.Knots.{Stops, StopsType, IsCond, IsAssign, Again, CompleteInner}
 use Rattle.c_expression.proofs.Starts.{tree_has_token, type_has_token, member_has_token, param_has_token}
 use Rattle.c_expression.proofs.AgainSpecifiers.{StopsSpecs, specs_again_by, type_name_again_by}
@@ -23,12 +23,12 @@ CondAgain = (n : ℕ) (inner : Inner) → CompleteInner n inner → Again (suc n
 -- no tree is spelled with no token
 nothing_spelled : CompleteInner zero (at zero)
 nothing_spelled = record {
-    expr = λ a le is rest stop. absurd (omega (arith, tree_has_token a));
-    size = λ a le is rest stop. absurd (omega (arith, tree_has_token a));
-    type_name = λ a le is rest stop. absurd (omega (arith, type_has_token a));
-    members = λ a le is rest stop. absurd (omega (arith, member_has_token a.0, length-append (spelled_member a.0) (spelled_more_members (more_members a.1))));
-    params = λ a le is rest stop. absurd (omega (arith, param_has_token a.0, length-append (spelled_param a.0) (spelled_more_params (more_params a.1))))
-  }
+  expr = λ a le is rest stop. absurd (omega (arith, tree_has_token a));
+  size = λ a le is rest stop. absurd (omega (arith, tree_has_token a));
+  type_name = λ a le is rest stop. absurd (omega (arith, type_has_token a));
+  members = λ a le is rest stop. absurd (omega (arith, member_has_token a.0, length-append (spelled_member a.0) (spelled_more_members (more_members a.1))));
+  params = λ a le is rest stop. absurd (omega (arith, param_has_token a.0, length-append (spelled_param a.0) (spelled_more_params (more_params a.1))));
+}
 
 pub at_complete : ExprAgain → CondAgain → (n : ℕ) → CompleteInner n (at n)
 unfolding at
@@ -40,7 +40,7 @@ at_complete expr cond (suc n) =
       size = cond n (at n) inner;
       type_name = type_name_again_by n (at n) inner;
       members = members_again_by n (at n) inner;
-      params = params_again_by n (at n) inner
+      params = params_again_by n (at n) inner;
     }
 
 -- a token less

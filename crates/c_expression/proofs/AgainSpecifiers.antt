@@ -1,17 +1,13 @@
 -- Specifiers, type names and suffixes are read again from their spelling, where what stands in brackets is.
-use Rattle.std.proofs.Common.{◌≡◌, ℕ, zero, suc, ◌+◌, ◌<◌, ◌≤◌, Bool, true, false, cond, if◌then◌else◌, List, [], ◌∷◌, ◌++◌, length, Option, Some, None, refl, sym, ap, ◌∙◌, append_assoc, length-append, arith}
-use Rattle.c_token.specs.declared.token.TokKind.{TokKind}
-use Rattle.c_token.specs.declared.token.TokKind.TheVariants as kinds
-use Rattle.c_token.specs.declared.token.Keyword.TheVariants as words
-use Rattle.c_token.specs.declared.token.Punct.{Punct}
+use Rattle.std.proofs.Common.{◌≡◌, ℕ, zero, suc, ◌≤◌, true, false, List, [], ◌∷◌, ◌++◌, length, Some, None, refl, ap, ◌∙◌, append_assoc, length-append, arith}
 use Rattle.c_token.specs.declared.token.Punct.TheVariants as marks
-use Rattle.c_tree.specs.Words.{Symbol, Symbols, punct, key}
-use Rattle.c_tree.specs.Kinds.{is_punct, is_key, is_name, is_spec}
-use Rattle.c_tree.specs.Trees.{Tree, TypeTree, TypeOf, SpecTrees, Specified, MoreSpecs, NoSpec, AndSpec, SpecTree, OneWord, Tagged, Body, MemberTree, MoreMembers, NoMember, AndMember, spelled_type, spelled_specs, spelled_more_specs, spelled_spec, spelled_member, spelled_more_members, IsType, AreSpecs, AreMoreSpecs, IsSpec, IsMember, AreMoreMembers, are_stars, are_pointers}
+use Rattle.c_tree.specs.Words.{Symbols, punct}
+use Rattle.c_tree.specs.Kinds.{is_punct, is_spec}
+use Rattle.c_tree.specs.Trees.{TypeOf, Specified, MoreSpecs, NoSpec, AndSpec, SpecTree, OneWord, Tagged, Body, MemberTree, MoreMembers, NoMember, AndMember, spelled_type, spelled_specs, spelled_more_specs, spelled_spec, spelled_member, spelled_more_members, IsType, AreSpecs, AreMoreSpecs, IsSpec, IsMember, AreMoreMembers, are_stars, are_pointers}
 use Rattle.c_tree.specs.Lists.{more_specs, more_members}
-use Rattle.c_expression.specs.Reader.{◌>>=◌, Reader, Step, front_is, symbol_at, punct_at, specs_come, got, all_that, collect, pointers_at}
-use Rattle.c_expression.specs.Reading.{Inner, body_by, struct_on, struct_by, spec_by, next_spec_by, specs_by, type_name_by}
-use Rattle.c_expression.proofs.Knots.{goes_on_specs, goes_on_pointers, StopsType, StopsMembers, spelled_members, AreMembers, Again, CompleteInner}
+use Rattle.c_expression.specs.Reader.{Step, front_is, symbol_at, punct_at, collect}
+use Rattle.c_expression.specs.Reading.{Inner, body_by, struct_by, spec_by, next_spec_by, specs_by, type_name_by}
+use Rattle.c_expression.proofs.Knots.{goes_on_specs, StopsType, Again, CompleteInner}
 use Rattle.c_expression.proofs.Collects.{front_not, front_narrow, collect_ends, collect_more, pointers_again, and_both, neither}
 use Rattle.c_expression.proofs.Starts.{spec_token, star_token, spec_starts, spec_has_token}
 
@@ -54,7 +50,7 @@ body_again n inner complete k tag o m ms c le is are rest =
     let back = members_of_items ms in
     let regrouped : (spelled_member m ++ (spelled_more_members ms ++ punct marks.RightBrace c ∷ [])) ++ rest ≡ (spelled_member m ++ spelled_more_members ms) ++ close = simp append_assoc in
     let is_read : inner.members ((spelled_member m ++ spelled_more_members ms) ++ close) ≡ Some ((m, member_items ms), close) =
-        rw back at (complete.members (m, member_items ms) (rw back le) (is, rw back are) close refl) in
+    rw back at (complete.members (m, member_items ms) (rw back le) (is, rw back are) close refl) in
     rw (regrouped, is_read, back) refl
 
 pub spec_again_by : (n : ℕ) (inner : Inner) → CompleteInner n inner → Again (suc n) spelled_spec IsSpec StopsSpec (spec_by inner)

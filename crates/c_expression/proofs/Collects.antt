@@ -1,12 +1,12 @@
 -- Loops that collect a list read it again, and tokens that a reader asks for in front.
-use Rattle.std.proofs.Common.{◌≡◌, ℕ, zero, suc, Bool, true, false, ◌&&◌, cond, List, [], ◌∷◌, ◌++◌, Option, Some, None, ◌⊎◌, inl, inr, refl}
+use Rattle.std.proofs.Common.{◌≡◌, ℕ, zero, suc, Bool, true, false, ◌&&◌, cond, List, [], ◌∷◌, ◌++◌, Some, None, ◌⊎◌, inl, inr, refl}
 use Rattle.c_token.specs.declared.token.TokKind.{TokKind}
 use Rattle.c_token.specs.declared.token.Punct.{Punct}
 use Rattle.c_token.specs.declared.token.Punct.TheVariants as marks
-use Rattle.c_tree.specs.Words.{Symbol, Symbols}
+use Rattle.c_tree.specs.Words.{Symbols}
 use Rattle.c_tree.specs.Kinds.{is_punct, is_qualifier}
 use Rattle.c_tree.specs.Trees.{are_stars, are_pointers}
-use Rattle.c_expression.specs.Reader.{◌>>=◌, Step, front_is, symbol_at, punct_at, collect, stars_at, pointers_at}
+use Rattle.c_expression.specs.Reader.{Step, front_is, symbol_at, punct_at, collect, stars_at, pointers_at}
 use Rattle.c_expression.proofs.Knots.{goes_on_pointers}
 
 pub and_both : (a b : Bool) → (a && b) ≡ true → (a ≡ true) × (b ≡ true)
