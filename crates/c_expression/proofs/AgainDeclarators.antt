@@ -89,19 +89,23 @@ param_no_void (Unnamed s (p ∷ ps) ss) is more =
     ap void_at (append_assoc (spelled_specs s) ((p ∷ ps) ++ spelled_suffixes ss) more) ∙ no_void s is.0 (((p ∷ ps) ++ spelled_suffixes ss) ++ more) (λ h. ap (is_punct marks.RightParenthesis) star)
 
 -- a list of parameters
-list_again : (n : ℕ) (inner : Inner) → CompleteInner n inner → (o : ℕ) (p : ParamTree) (ps : MoreParams) (c : ℕ) → length (spelled_param p ++ spelled_more_params ps) ≤ n → IsParam p → AreMoreParams ps → (rest : Symbols) → function_by inner o ((spelled_param p ++ (spelled_more_params ps ++ punct marks.RightParenthesis c ∷ [])) ++ rest) ≡ Some (Params o p ps c, rest)
+list_again : (n : ℕ) (inner : Inner) → CompleteInner n inner → (o : ℕ) (p : ParamTree) (ps : MoreParams) (c : ℕ) → length (spelled_suffix (Params o p ps c)) ≤ suc n → IsParam p → AreMoreParams ps → (rest : Symbols) → function_by inner o ((spelled_param p ++ (spelled_more_params ps ++ punct marks.RightParenthesis c ∷ [])) ++ rest) ≡ Some (Params o p ps c, rest)
 unfolding function_by list_by punct_at
 list_again n inner complete o p ps c le is are rest =
     let close = punct marks.RightParenthesis c ∷ rest in
+    let both = length-append (spelled_param p) (spelled_more_params ps) in
+    let one = length-append (spelled_param p) (spelled_more_params ps ++ punct marks.RightParenthesis c ∷ []) in
+    let two = length-append (spelled_more_params ps) (punct marks.RightParenthesis c ∷ []) in
+    let fits : length (spelled_param p ++ spelled_more_params ps) ≤ n = omega arith in
     let back = params_of_items ps in
-    let regrouped : (spelled_param p ++ (spelled_more_params ps ++ punct marks.RightParenthesis c ∷ [])) ++ rest ≡ (spelled_param p ++ spelled_more_params ps) ++ close = simp append_assoc in
-    let grouped = append_assoc (spelled_param p) (spelled_more_params ps) close in
+    let whole = (spelled_param p ++ spelled_more_params ps) ++ close in
     let behind = spelled_more_params ps ++ close in
+    let regrouped : (spelled_param p ++ (spelled_more_params ps ++ punct marks.RightParenthesis c ∷ [])) ++ rest ≡ whole = simp append_assoc in
+    let grouped = append_assoc (spelled_param p) (spelled_more_params ps) close in
     let begin = front_not is_spec (is_punct marks.RightParenthesis) (λ k. spec_token k (is_punct marks.RightParenthesis) (λ w. refl)) (spelled_param p ++ behind) (param_starts p is behind) in
-    let is_read : inner.params ((spelled_param p ++ spelled_more_params ps) ++ close) ≡ Some ((p, param_items ps), close) =
-    rw back at (complete.params (p, param_items ps) (rw back le) (is, rw back are) close refl) in
-    let first : punct_at marks.RightParenthesis ((spelled_param p ++ spelled_more_params ps) ++ close) ≡ None = rw grouped (punct_none marks.RightParenthesis (spelled_param p ++ behind) begin) in
-    let second : void_at ((spelled_param p ++ spelled_more_params ps) ++ close) ≡ None = rw grouped (param_no_void p is behind) in
+    let is_read : inner.params whole ≡ Some ((p, param_items ps), close) = rw back at (complete.params (p, param_items ps) (rw back fits) (is, rw back are) close refl) in
+    let first : punct_at marks.RightParenthesis whole ≡ None = rw grouped (punct_none marks.RightParenthesis (spelled_param p ++ behind) begin) in
+    let second : void_at whole ≡ None = rw grouped (param_no_void p is behind) in
     rw (regrouped, first, second, is_read, back) refl
 
 abbrev pub Anything : Symbols → Type 0
@@ -115,7 +119,7 @@ suffix_again_by n inner complete (Sized o e c) le is rest stop =
 suffix_again_by n inner complete (Empty o c) le is rest stop = refl
 suffix_again_by n inner complete (VoidOnly o v c) le is rest stop = refl
 suffix_again_by n inner complete (Params o p ps c) le is rest stop =
-    rw (list_again n inner complete o p ps c (omega (arith, length-append (spelled_param p) (spelled_more_params ps), length-append (spelled_param p) (spelled_more_params ps ++ punct marks.RightParenthesis c ∷ []), length-append (spelled_more_params ps) (punct marks.RightParenthesis c ∷ []))) is.0 is.1 rest) refl
+    rw (list_again n inner complete o p ps c le is.0 is.1 rest) refl
 
 abbrev pub StopsSuffixes : Symbols → Type 0
 StopsSuffixes rest = front_is goes_on_suffixes rest ≡ false
