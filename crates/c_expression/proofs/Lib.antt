@@ -3,4 +3,8 @@ pub mod Collects
 pub mod Starts
 pub mod AgainSpecifiers
 pub mod AgainDeclarators
+pub mod AgainKinds
+pub mod AgainLoops
+pub mod AgainOperands
+pub mod AgainExpressions
 pub mod AgainAll
