@@ -1,14 +1,14 @@
 -- Expressions are read again from their spelling: operators in tiers, choices, assignments, commas.
-use Rattle.std.proofs.Common.{◌≡◌, ℕ, zero, suc, ◌+◌, ◌-◌, ◌<◌, ◌≤◌, Bool, true, false, eqb, if◌then◌else◌, List, [], ◌∷◌, ◌++◌, length, Option, Some, None, refl, sym, ap, subst, ◌∙◌, append_assoc, length-append, arith, inl, inr}
+use Rattle.std.proofs.Common.{◌≡◌, ℕ, zero, suc, ◌+◌, ◌-◌, ◌<◌, ◌≤◌, Bool, true, false, if◌then◌else◌, [], ◌∷◌, ◌++◌, length, Option, Some, None, refl, sym, ap, subst, ◌∙◌, append_assoc, length-append, arith, inl, inr}
 use Rattle.std.proofs.lemmas.Bool.{cases_lt, eq-eqb, ne_eqb}
 use Rattle.c_token.specs.declared.token.Punct.TheVariants as marks
 use Rattle.c_tree.specs.Words.{Symbol, Symbols, punct}
 use Rattle.c_tree.specs.Kinds.{is_punct, level_of, is_assignment}
-use Rattle.c_tree.specs.Trees.{Tree, Leaf, Group, Behind, Before, Measure, Join, Choose, Assign, Sign, Sizeof, Cast, spelled, rank, is_unary, IsTree}
+use Rattle.c_tree.specs.Trees.{Tree, Join, Choose, Assign, spelled, rank, is_unary, IsTree}
 use Rattle.c_tree.specs.Lists.{joined, listed}
-use Rattle.c_expression.specs.Reader.{◌>>=◌, Reader, symbol_at, punct_at}
-use Rattle.c_expression.specs.Reading.{Inner, right_by, tier_by, choose_on, choices, cond_by, target_at, assign_on, assigns, assign_by, comma_by, expr_by}
-use Rattle.c_expression.proofs.Knots.{goes_on, Stops, IsCond, IsAssign, Again, CompleteInner}
+use Rattle.c_expression.specs.Reader.{Reader, symbol_at, punct_at}
+use Rattle.c_expression.specs.Reading.{Inner, right_by, tier_by, choices, cond_by, target_at, assigns, assign_by, comma_by, expr_by}
+use Rattle.c_expression.proofs.Knots.{Stops, IsCond, IsAssign, Again, CompleteInner}
 use Rattle.c_expression.proofs.AgainKinds.{quiet, stops_below, stops_operator, stops_assignment, comma_level, is_comma, tier_most}
 use Rattle.c_expression.proofs.AgainLoops.{Chained, chain_by, first, further, ends}
 use Rattle.c_expression.proofs.AgainOperands.{has_token, unary_reads}
@@ -94,7 +94,7 @@ operand_tier n inner c t r is le rest s = unary_reads n inner c t r is le rest s
 lowest : (n : ℕ) (inner : Inner) → CompleteInner n inner → (t : Tree) → rank t ≡ 0 → IsTree t → length (spelled t) ≤ suc n → Tiered inner t
 lowest n inner c t r is le =
     let reads : (k : ℕ) → k ≤ 10 → rank t ≤ k → (rest : Symbols) → Stops k rest → tier_by inner k (spelled t ++ rest) ≡ Some (t, rest)
-        = λ k most low rest s. climb inner 0 k (spelled t ++ rest) t rest (omega arith) (operand_tier n inner c t r is le rest (stops_below 0 k rest (omega arith) s)) s in
+    = λ k most low rest s. climb inner 0 k (spelled t ++ rest) t rest (omega arith) (operand_tier n inner c t r is le rest (stops_below 0 k rest (omega arith) s)) s in
     record { reads = reads; spine = λ j most low rest s. one_part inner j t rest (reads j (omega arith) (omega arith) rest s) }
 
 -- trees that no tier makes
@@ -115,7 +115,7 @@ join_own inner s a b is ta tb j e most rest st =
     let up = ta.spine j most (omega arith) (s ∷ more) (stops_operator j s more (omega arith)) in
     let one = right_reads (suc j) next s more b rest e (tb.reads j (omega arith) (omega arith) rest st) in
     subst (λ (l : Symbols). Spine inner j l (Join s a b) rest) (sym (append_assoc (spelled a) (s ∷ spelled b) rest))
-        (further joined next (right_by (suc j) next) (spelled a ++ s ∷ more) a (Join s a b) (s, b) (s ∷ more) rest (λ l. refl) up one (omega (arith, length-append (spelled b) rest)))
+    (further joined next (right_by (suc j) next) (spelled a ++ s ∷ more) a (Join s a b) (s, b) (s ∷ more) rest (λ l. refl) up one (omega (arith, length-append (spelled b) rest)))
 
 join_reads : (inner : Inner) (s : Symbol) (a b : Tree) → IsTree (Join s a b) → Tiered inner a → Tiered inner b → (k : ℕ) → k ≤ 10 → level_of s.kind ≤ k → (rest : Symbols) → Stops k rest → tier_by inner k (spelled (Join s a b) ++ rest) ≡ Some (Join s a b, rest)
 join_reads inner s a b is ta tb k most low rest st =
@@ -130,12 +130,12 @@ join_reads inner s a b is ta tb k most low rest st =
 
 join_tiered : (inner : Inner) (s : Symbol) (a b : Tree) → IsTree (Join s a b) → Tiered inner a → Tiered inner b → Tiered inner (Join s a b)
 join_tiered inner s a b is ta tb = record {
-    reads = join_reads inner s a b is ta tb;
-    spine = λ j most low rest st. elim (cases_lt j (level_of s.kind)) [
-      | inl lt ↦ join_own inner s a b is ta tb j (omega arith) most rest st
-      | inr ge ↦ one_part inner j (Join s a b) rest (join_reads inner s a b is ta tb j (omega arith) ge rest st)
-    ]
-  }
+  reads = join_reads inner s a b is ta tb;
+  spine = λ j most low rest st. elim (cases_lt j (level_of s.kind)) [
+    | inl lt ↦ join_own inner s a b is ta tb j (omega arith) most rest st
+    | inr ge ↦ one_part inner j (Join s a b) rest (join_reads inner s a b is ta tb j (omega arith) ge rest st)
+  ];
+}
 
 tiered : (n : ℕ) (inner : Inner) → CompleteInner n inner → (t : Tree) → IsTree t → length (spelled t) ≤ suc n → Tiered inner t
 tiered n inner c (Join s a b) is le =

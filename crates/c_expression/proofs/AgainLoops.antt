@@ -1,8 +1,8 @@
 -- Loops that group to the left: a part, and then all that a step finds behind it.
-use Rattle.std.proofs.Common.{◌≡◌, ℕ, zero, suc, ◌+◌, ◌-◌, ◌<◌, ◌≤◌, Bool, true, false, List, [], ◌∷◌, ◌++◌, length, Option, Some, None, refl, sym, ap, ◌∙◌, arith}
-use Rattle.c_tree.specs.Words.{Symbol, Symbols}
+use Rattle.std.proofs.Common.{◌≡◌, ℕ, zero, suc, ◌-◌, ◌<◌, ◌≤◌, List, [], ◌∷◌, length, Some, None, refl, ap, ◌∙◌, arith}
+use Rattle.c_tree.specs.Words.{Symbols}
 use Rattle.c_tree.specs.Trees.{Tree}
-use Rattle.c_expression.specs.Reader.{◌>>=◌, Reader, Step, collect_on, collect, all_that}
+use Rattle.c_expression.specs.Reader.{◌>>=◌, Reader, Step, collect, all_that}
 
 abbrev pub chain_by : {A : Type 0} → (Tree → List A → Tree) → Reader Tree → Step A → Reader Tree
 chain_by build next step toks = do
@@ -36,7 +36,7 @@ further build next step toks a t x more rest builds c h lt =
     record {
       turns = c.turns - 1;
       enough = omega arith;
-      goes = λ l end e. c.goes (x ∷ l) end (ap (λ (m : ℕ). collect step m more) turns ∙ collect_more step (c.turns - 1) more x rest l end h e) ∙ ap (λ (u : Tree). Some (u, end)) (builds l)
+      goes = λ l end e. c.goes (x ∷ l) end (ap (λ (m : ℕ). collect step m more) turns ∙ collect_more step (c.turns - 1) more x rest l end h e) ∙ ap (λ (u : Tree). Some (u, end)) (builds l);
     }
 
 pub ends : {A : Type 0} (build : Tree → List A → Tree) (next : Reader Tree) (step : Step A) (toks : Symbols) (t : Tree) (rest : Symbols) → build t [] ≡ t → Chained build next step toks t rest → step rest ≡ Some None → chain_by build next step toks ≡ Some (t, rest)

@@ -1,18 +1,17 @@
 -- Operands with their postfixes and prefixes are read again from their spelling.
-use Rattle.std.proofs.Common.{◌≡◌, ℕ, zero, suc, ◌+◌, ◌-◌, ◌<◌, ◌≤◌, Bool, true, false, ◌&&◌, if◌then◌else◌, List, [], ◌∷◌, ◌++◌, length, Option, Some, None, refl, sym, ap, subst, ◌∙◌, append_assoc, length-append, arith}
-use Rattle.c_token.specs.declared.token.TokKind.{TokKind}
+use Rattle.std.proofs.Common.{◌≡◌, ℕ, zero, suc, ◌<◌, ◌≤◌, Bool, true, false, ◌&&◌, if◌then◌else◌, List, [], ◌∷◌, ◌++◌, length, Option, Some, None, refl, sym, ap, subst, ◌∙◌, append_assoc, length-append, arith}
 use Rattle.c_token.specs.declared.token.Keyword.TheVariants as words
 use Rattle.c_token.specs.declared.token.Punct.{Punct}
 use Rattle.c_token.specs.declared.token.Punct.TheVariants as marks
 use Rattle.c_tree.specs.Words.{Symbol, Symbols, key, punct}
-use Rattle.c_tree.specs.Kinds.{is_punct, is_key, is_name, is_leaf, level_of, is_assignment, is_prefix, is_step, is_field, is_spec}
-use Rattle.c_tree.specs.Trees.{Tree, Leaf, Group, Behind, Before, Measure, Join, Choose, Assign, Post, Index, CallBare, Call, Field, Step, Pre, Sign, Sizeof, Cast, TypeTree, TypeOf, SpecTrees, Specified, SpecTree, OneWord, Tagged, Body, spelled, spelled_post, spelled_pre, spelled_type, spelled_specs, spelled_more_specs, spelled_spec, rank, is_postfix, is_unary, may_follow, IsTree, IsPost, IsPre, IsType, AreSpecs, IsSpec}
+use Rattle.c_tree.specs.Kinds.{is_punct, is_leaf, is_step, is_spec}
+use Rattle.c_tree.specs.Trees.{Tree, Leaf, Group, Behind, Before, Measure, Join, Choose, Assign, Post, Index, CallBare, Call, Field, Step, Pre, Sign, Sizeof, Cast, TypeTree, TypeOf, Specified, SpecTree, OneWord, Tagged, Body, spelled, spelled_post, spelled_pre, spelled_type, spelled_more_specs, spelled_spec, rank, is_postfix, is_unary, may_follow, IsTree, IsPost, IsPre, IsType, IsSpec}
 use Rattle.c_tree.specs.Lists.{posted, prefixed}
-use Rattle.c_expression.specs.Reader.{◌>>=◌, Reader, front_is, symbol_at, punct_at, key_at, specs_come, type_opens, got, collect, all_that}
-use Rattle.c_expression.specs.Reading.{Inner, group_by, primary_by, index_by, call_on, call_by, field_by, post_by, postfix_by, bracketed_by, cast_by, prefix_by, operand_on, operand_by, unary_by}
-use Rattle.c_expression.proofs.Knots.{goes_on, begins_expr, Stops, StopsType, CompleteInner}
-use Rattle.c_expression.proofs.AgainKinds.{quiet, front_not, no_spec, no_closing, begins_primary, primary, leaf_opens, prefix_opens, prefix_begins, field_only, step_only, spec_word}
-use Rattle.c_expression.proofs.AgainLoops.{Chained, chain_by, first, further, ends, collect_stops, collect_more}
+use Rattle.c_expression.specs.Reader.{◌>>=◌, Reader, front_is, symbol_at, punct_at, key_at, specs_come, type_opens, collect}
+use Rattle.c_expression.specs.Reading.{Inner, group_by, primary_by, index_by, call_by, field_by, post_by, postfix_by, bracketed_by, cast_by, prefix_by, operand_by, unary_by}
+use Rattle.c_expression.proofs.Knots.{begins_expr, Stops, CompleteInner}
+use Rattle.c_expression.proofs.AgainKinds.{quiet, front_not, no_spec, no_closing, no_bracket, begins_primary, primary, leaf_opens, prefix_opens, prefix_begins, field_only, step_only, spec_word}
+use Rattle.c_expression.proofs.AgainLoops.{Chained, first, further, ends, collect_stops}
 
 -- ---- first tokens
 
@@ -68,12 +67,15 @@ unfolding punct_at
 no_punct p [] h = refl
 no_punct p (s ∷ toks) h = rw h refl
 
--- no expression begins as a type does, nor with the bracket that closes
-no_type : (t : Tree) → IsTree t → (rest : Symbols) → specs_come (spelled t ++ rest) ≡ false
+-- no expression begins as a type does, nor with a bracket that closes
+pub no_type : (t : Tree) → IsTree t → (rest : Symbols) → specs_come (spelled t ++ rest) ≡ false
 no_type t is rest = front_not is_spec (spelled t ++ rest) no_spec (expr_starts t is rest)
 
-not_closed : (t : Tree) → IsTree t → (rest : Symbols) → punct_at marks.RightParenthesis (spelled t ++ rest) ≡ None
+pub not_closed : (t : Tree) → IsTree t → (rest : Symbols) → punct_at marks.RightParenthesis (spelled t ++ rest) ≡ None
 not_closed t is rest = no_punct marks.RightParenthesis (spelled t ++ rest) (front_not (is_punct marks.RightParenthesis) (spelled t ++ rest) no_closing (expr_starts t is rest))
+
+pub not_sized : (t : Tree) → IsTree t → (rest : Symbols) → punct_at marks.RightBracket (spelled t ++ rest) ≡ None
+not_sized t is rest = no_punct marks.RightBracket (spelled t ++ rest) (front_not (is_punct marks.RightBracket) (spelled t ++ rest) no_bracket (expr_starts t is rest))
 
 -- what stands in brackets, and behind them
 bracketed : (inside : Symbols) (s : Symbol) (rest : Symbols) → (inside ++ s ∷ []) ++ rest ≡ inside ++ s ∷ rest
@@ -141,7 +143,7 @@ post_spine n inner c (Behind e p) h is le rest =
     let up = post_spine n inner c e is.2 is.0 (omega arith) (spelled_post p ++ rest) in
     let one = post_reads n inner c p is.1 (omega arith) rest in
     subst (λ (l : Symbols). Chained posted (primary_by inner) (post_by inner) l (Behind e p) rest) (sym (append_assoc (spelled e) (spelled_post p) rest))
-        (further posted (primary_by inner) (post_by inner) (spelled e ++ (spelled_post p ++ rest)) e (Behind e p) p (spelled_post p ++ rest) rest (λ l. refl) up one (omega (arith, length-append (spelled_post p) rest, post_has_token p)))
+    (further posted (primary_by inner) (post_by inner) (spelled e ++ (spelled_post p ++ rest)) e (Behind e p) p (spelled_post p ++ rest) rest (λ l. refl) up one (omega (arith, length-append (spelled_post p) rest, post_has_token p)))
 post_spine n inner c _ h is le rest = absurd cc
 
 pub postfix_reads : (n : ℕ) (inner : Inner) → CompleteInner n inner → (t : Tree) → is_postfix t ≡ true → IsTree t → length (spelled t) ≤ suc n → (rest : Symbols) → Stops 0 rest → postfix_by inner (spelled t ++ rest) ≡ Some (t, rest)
