@@ -13,6 +13,7 @@ use Rattle.c_expression.specs.Reading.{Inner, length_by, array_by, void_at, list
 use Rattle.c_expression.proofs.Knots.{begins_expr, goes_on_pointers, goes_on_specs, goes_on_suffixes, StopsMembers, StopsParams, IsCond, spelled_members, AreMembers, spelled_params, AreParams, Again, CompleteInner}
 use Rattle.c_expression.proofs.Collects.{and_both, neither, true_or_false, front_not, punct_none, collect_ends, collect_more, pointers_again}
 use Rattle.c_expression.proofs.Starts.{spec_token, name_token, star_token, begins_declarator, declarator_token, suffix_token, ends_param, param_end, spec_starts, member_starts, member_has_token, declarator_starts, suffix_starts, suffix_has_token, param_starts}
+use Rattle.c_expression.proofs.AgainKinds.{no_bracket}
 use Rattle.c_expression.proofs.AgainOperands.{expr_starts}
 use Rattle.c_expression.proofs.AgainSpecifiers.{AgainStep, StopsSpecs, member_items, pointers_begin, specs_again_by}
 
@@ -43,11 +44,6 @@ params_of_items NoParam = refl
 params_of_items (AndParam c p ps) = ap (AndParam c p) (params_of_items ps)
 
 -- ---- suffixes
-
--- no expression begins with `]`
-no_bracket : (k : TokKind) → begins_expr k ≡ true → is_punct marks.RightBracket k ≡ false
-no_bracket (kinds.Punct marks.RightBracket) h = absurd cc
-no_bracket _ h = refl
 
 -- `[e]`
 length_again : (n : ℕ) (inner : Inner) → CompleteInner n inner → (o : ℕ) (e : Tree) (c : ℕ) → length (spelled e) ≤ n → IsCond e → (rest : Symbols) → array_by inner o ((spelled e ++ punct marks.RightBracket c ∷ []) ++ rest) ≡ Some (Sized o e c, rest)
