@@ -10,9 +10,11 @@ use Rattle.c_tree.specs.Trees.{Tree, SpecTrees, Specified, NoSpec, AndSpec, OneW
 use Rattle.c_tree.specs.Lists.{more_members, more_declarators, suffixes_of, more_params}
 use Rattle.c_expression.specs.Reader.{front_is, symbol_at, punct_at, key_at, all_that, collect, pointers_at}
 use Rattle.c_expression.specs.Reading.{Inner, length_by, array_by, void_at, list_by, function_by, suffix_by, named_by, declarator_by, next_declarator_by, member_by, next_member_by, members_by, unnamed_by, named_param_by, param_behind, param_by, next_param_by, params_by}
-use Rattle.c_expression.proofs.Knots.{goes_on_pointers, goes_on_specs, goes_on_suffixes, StopsMembers, StopsParams, IsCond, spelled_members, AreMembers, spelled_params, AreParams, Again, CompleteInner}
+use Rattle.c_expression.proofs.Knots.{begins_expr, goes_on_pointers, goes_on_specs, goes_on_suffixes, StopsMembers, StopsParams, IsCond, spelled_members, AreMembers, spelled_params, AreParams, Again, CompleteInner}
 use Rattle.c_expression.proofs.Collects.{and_both, neither, true_or_false, front_not, punct_none, collect_ends, collect_more, pointers_again}
-use Rattle.c_expression.proofs.Starts.{spec_token, name_token, star_token, begins_declarator, declarator_token, suffix_token, ends_param, param_end, spec_starts, member_starts, member_has_token, declarator_starts, suffix_starts, suffix_has_token, param_starts, tree_opens}
+use Rattle.c_expression.proofs.Starts.{spec_token, name_token, star_token, begins_declarator, declarator_token, suffix_token, ends_param, param_end, spec_starts, member_starts, member_has_token, declarator_starts, suffix_starts, suffix_has_token, param_starts}
+use Rattle.c_expression.proofs.AgainKinds.{no_bracket}
+use Rattle.c_expression.proofs.AgainOperands.{expr_starts}
 use Rattle.c_expression.proofs.AgainSpecifiers.{AgainStep, StopsSpecs, member_items, pointers_begin, specs_again_by}
 
 -- ---- the lists of trees as lists
@@ -50,7 +52,7 @@ length_again n inner complete o e c le is rest =
     let close = punct marks.RightBracket c ∷ rest in
     let regrouped = append_assoc (spelled e) (punct marks.RightBracket c ∷ []) rest in
     let is_read = complete.size e le is close refl in
-    rw (regrouped, punct_none marks.RightBracket (spelled e ++ close) (tree_opens e is.0 close), is_read) refl
+    rw (regrouped, punct_none marks.RightBracket (spelled e ++ close) (front_not begins_expr (is_punct marks.RightBracket) no_bracket (spelled e ++ close) (expr_starts e is.0 close)), is_read) refl
 
 -- `void` and `)` stand where the only parameter is that word
 void_behind : (s : Symbol) (more : Symbols) → (is_key words.Void s.kind ≡ true → front_is (is_punct marks.RightParenthesis) more ≡ false) → void_at (s ∷ more) ≡ None

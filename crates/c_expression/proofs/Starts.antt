@@ -1,4 +1,4 @@
--- The tokens that specifiers, declarators and what is in brackets begin with, and that each has one.
+-- The tokens that specifiers and declarators begin with, and that each has one.
 use Rattle.std.proofs.Common.{◌≡◌, ◌<◌, Bool, true, false, if◌then◌else◌, [], ◌∷◌, ◌++◌, length, refl, ap, ◌∙◌, append_assoc, length-append, arith}
 use Rattle.c_token.specs.declared.token.TokKind.{TokKind}
 use Rattle.c_token.specs.declared.token.TokKind.TheVariants as kinds
@@ -6,8 +6,8 @@ use Rattle.c_token.specs.declared.token.Keyword.{Keyword}
 use Rattle.c_token.specs.declared.token.Keyword.TheVariants as words
 use Rattle.c_token.specs.declared.token.Punct.TheVariants as marks
 use Rattle.c_tree.specs.Words.{Symbols, punct}
-use Rattle.c_tree.specs.Kinds.{is_punct, is_name, is_leaf, is_prefix, is_spec, is_spec_word, is_specifying, begins_spec}
-use Rattle.c_tree.specs.Trees.{Tree, Leaf, Group, Behind, Before, Measure, Join, Choose, Assign, Sign, Sizeof, Cast, TypeTree, TypeOf, SpecTrees, Specified, SpecTree, OneWord, Tagged, Body, MemberTree, Members, DeclaratorTree, Declares, SuffixTree, Unsized, Sized, Empty, VoidOnly, Params, ParamTree, Named, Unnamed, spelled, spelled_pre, spelled_post, spelled_type, spelled_specs, spelled_more_specs, spelled_spec, spelled_member, spelled_more_declarators, spelled_declarator, spelled_suffixes, spelled_suffix, spelled_param, IsTree, AreSpecs, IsSpec, IsMember, IsDeclarator, IsParam}
+use Rattle.c_tree.specs.Kinds.{is_punct, is_name, is_spec, is_spec_word, is_specifying, begins_spec}
+use Rattle.c_tree.specs.Trees.{TypeTree, TypeOf, SpecTrees, Specified, SpecTree, OneWord, Tagged, Body, MemberTree, Members, DeclaratorTree, Declares, SuffixTree, Unsized, Sized, Empty, VoidOnly, Params, ParamTree, Named, Unnamed, spelled_type, spelled_specs, spelled_more_specs, spelled_spec, spelled_member, spelled_more_declarators, spelled_declarator, spelled_suffixes, spelled_suffix, spelled_param, AreSpecs, IsSpec, IsMember, IsDeclarator, IsParam}
 use Rattle.c_expression.specs.Reader.{front_is}
 use Rattle.c_expression.proofs.Knots.{goes_on_suffixes}
 use Rattle.c_expression.proofs.Collects.{and_both}
@@ -116,36 +116,3 @@ param_starts (Unnamed s ps ss) is rest = ap (front_is is_spec) (append_assoc (sp
 pub param_has_token : (p : ParamTree) → 0 < length (spelled_param p)
 param_has_token (Named s d) = omega (arith, specs_have_token s, length-append (spelled_specs s) (spelled_declarator d))
 param_has_token (Unnamed s ps ss) = omega (arith, specs_have_token s, length-append (spelled_specs s) (ps ++ spelled_suffixes ss))
-
--- ---- expressions
-
--- no expression begins with `]`
-leaf_opens : (k : TokKind) → is_leaf k ≡ true → is_punct marks.RightBracket k ≡ false
-leaf_opens (kinds.Punct p) h = absurd cc
-leaf_opens _ h = refl
-
-prefix_opens : (k : TokKind) → is_prefix k ≡ true → is_punct marks.RightBracket k ≡ false
-prefix_opens (kinds.Punct marks.RightBracket) h = absurd cc
-prefix_opens _ h = refl
-
-pub tree_opens : (t : Tree) → IsTree t → (rest : Symbols) → front_is (is_punct marks.RightBracket) (spelled t ++ rest) ≡ false
-tree_opens (Leaf s) is rest = leaf_opens s.kind is
-tree_opens (Group o e c) is rest = refl
-tree_opens (Behind e p) is rest = ap (front_is (is_punct marks.RightBracket)) (append_assoc (spelled e) (spelled_post p) rest) ∙ tree_opens e is.0 (spelled_post p ++ rest)
-tree_opens (Before (Sign s) e) is rest = prefix_opens s.kind is.0
-tree_opens (Before (Sizeof k) e) is rest = refl
-tree_opens (Before (Cast o t c) e) is rest = refl
-tree_opens (Measure k o t c) is rest = refl
-tree_opens (Join s a b) is rest = ap (front_is (is_punct marks.RightBracket)) (append_assoc (spelled a) (s ∷ spelled b) rest) ∙ tree_opens a is.0 ((s ∷ spelled b) ++ rest)
-tree_opens (Choose c q t k e) is rest = let behind = punct marks.Question q ∷ (spelled t ++ punct marks.Colon k ∷ spelled e) in ap (front_is (is_punct marks.RightBracket)) (append_assoc (spelled c) behind rest) ∙ tree_opens c is.0 (behind ++ rest)
-tree_opens (Assign a s b) is rest = ap (front_is (is_punct marks.RightBracket)) (append_assoc (spelled a) (s ∷ spelled b) rest) ∙ tree_opens a is.0 ((s ∷ spelled b) ++ rest)
-
-pub tree_has_token : (t : Tree) → 0 < length (spelled t)
-tree_has_token (Leaf s) = omega arith
-tree_has_token (Group o e c) = omega arith
-tree_has_token (Behind e p) = omega (arith, tree_has_token e, length-append (spelled e) (spelled_post p))
-tree_has_token (Before p e) = omega (arith, tree_has_token e, length-append (spelled_pre p) (spelled e))
-tree_has_token (Measure k o t c) = omega arith
-tree_has_token (Join s a b) = omega (arith, tree_has_token a, length-append (spelled a) (s ∷ spelled b))
-tree_has_token (Choose c q t k e) = let behind = punct marks.Question q ∷ (spelled t ++ punct marks.Colon k ∷ spelled e) in omega (arith, tree_has_token c, length-append (spelled c) behind)
-tree_has_token (Assign a s b) = omega (arith, tree_has_token a, length-append (spelled a) (s ∷ spelled b))
