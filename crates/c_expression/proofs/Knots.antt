@@ -6,20 +6,29 @@ use Rattle.c_tree.specs.Words.{Symbol, Symbols}
 use Rattle.c_tree.specs.Kinds.{is_punct, level_of, is_assignment, is_step, is_field, is_spec, is_qualifier}
 use Rattle.c_tree.specs.Trees.{Tree, TypeTree, MemberTree, ParamTree, spelled, spelled_type, spelled_member, spelled_more_members, spelled_param, spelled_more_params, IsTree, IsType, IsMember, AreMoreMembers, IsParam, AreMoreParams, rank}
 use Rattle.c_tree.specs.Lists.{more_members, more_params}
-use Rattle.c_expression.specs.Reader.{Reader, Step, front_is}
+use Rattle.c_expression.specs.Reader.{Reader, Step, front_is, spells}
 use Rattle.c_expression.specs.Reading.{Inner}
 
 -- ---- what is read is a tree, and spells the tokens taken
 
+-- Only names and texts have bytes. So it is with the symbols of any tokens (`symbols_plain`).
+abbrev pub IsPlain : Symbol → Type 0
+IsPlain s = spells s.kind ≡ false → s.bytes ≡ []
+
+abbrev pub ArePlain : Symbols → Type 0
+ArePlain [] = Unit {0}
+ArePlain (s ∷ rest) = IsPlain s × ArePlain rest
+
 pub record Takes {A : Type 0} (spell : A → Symbols) (Is : A → Type 0) (toks : Symbols) (x : A × Symbols) : Type 0 where
   pub parts : toks ≡ spell x.0 ++ x.1
   pub tree : Is x.0
+  pub plain : ArePlain x.1
 
 abbrev pub Sound : {A : Type 0} → (A → Symbols) → (A → Type 0) → Reader A → Type 0
-Sound spell Is reader = (toks : Symbols) (x : _) → reader toks ≡ Some x → Takes spell Is toks x
+Sound spell Is reader = (toks : Symbols) → ArePlain toks → (x : _) → reader toks ≡ Some x → Takes spell Is toks x
 
 abbrev pub SoundStep : {A : Type 0} → (A → Symbols) → (A → Type 0) → Step A → Type 0
-SoundStep spell Is step = (toks : Symbols) (x : _) → step toks ≡ Some (Some x) → Takes spell Is toks x
+SoundStep spell Is step = (toks : Symbols) → ArePlain toks → (x : _) → step toks ≡ Some (Some x) → Takes spell Is toks x
 
 -- trees that bind no more loosely than a choice, than an assignment
 abbrev pub IsCond : Tree → Type 0

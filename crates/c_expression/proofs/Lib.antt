@@ -1,1 +1,4 @@
 pub mod Knots
+pub mod Plain
+pub mod Takes
+pub mod TakesOperands
