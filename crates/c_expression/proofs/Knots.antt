@@ -1,9 +1,10 @@
 -- What is shown of readers: that they take trees (Sound), and that they read each tree again (Complete).
 use Rattle.std.proofs.Common.{◌≡◌, ℕ, suc, ◌≤◌, Bool, true, false, nat_le, nat_lt, ◌&&◌, if◌then◌else◌, List, [], ◌∷◌, ◌++◌, length, Option, Some, None}
 use Rattle.c_token.specs.declared.token.TokKind.{TokKind}
+use Rattle.c_token.specs.declared.token.Keyword.TheVariants as words
 use Rattle.c_token.specs.declared.token.Punct.TheVariants as marks
 use Rattle.c_tree.specs.Words.{Symbol, Symbols}
-use Rattle.c_tree.specs.Kinds.{is_punct, level_of, is_assignment, is_step, is_field, is_spec, is_qualifier}
+use Rattle.c_tree.specs.Kinds.{is_punct, is_key, is_leaf, is_prefix, level_of, is_assignment, is_step, is_field, is_spec, is_qualifier}
 use Rattle.c_tree.specs.Trees.{Tree, TypeTree, MemberTree, ParamTree, spelled, spelled_type, spelled_member, spelled_more_members, spelled_param, spelled_more_params, IsTree, IsType, IsMember, AreMoreMembers, IsParam, AreMoreParams, rank}
 use Rattle.c_tree.specs.Lists.{more_members, more_params}
 use Rattle.c_expression.specs.Reader.{Reader, Step, front_is, spells}
@@ -68,6 +69,10 @@ goes_on k t =
     else if nat_le 11 k && is_punct marks.Question t then true
     else if nat_le 12 k && is_assignment t then true
     else nat_lt 0 (level_of t) && nat_le (level_of t) k
+
+-- tokens that an expression begins with
+abbrev pub begins_expr : TokKind → Bool
+begins_expr t = if is_leaf t then true else if is_punct marks.LeftParenthesis t then true else if is_prefix t then true else is_key words.Sizeof t
 
 abbrev pub Stops : ℕ → Symbols → Type 0
 Stops k rest = front_is (goes_on k) rest ≡ false

@@ -233,7 +233,7 @@ abbrev mutual
   IsTree (Behind e p) = IsTree e × IsPost p × (is_postfix e ≡ true)
   IsTree (Before p e) = IsPre p × IsTree e × (rank e ≡ 0) × (may_follow p e ≡ true)
   IsTree (Measure k o t c) = IsType t
-  IsTree (Join s a b) = IsTree a × IsTree b × (0 < level_of s.kind) × (rank a ≤ level_of s.kind) × (rank b < level_of s.kind)
+  IsTree (Join s a b) = IsTree a × IsTree b × (0 < level_of s.kind) × (rank a ≤ level_of s.kind) × (rank b < level_of s.kind) × (s.bytes ≡ [])
   IsTree (Choose c q t k e) = IsTree c × IsTree t × IsTree e × (rank c ≤ 10) × (rank e ≤ 11)
   IsTree (Assign a s b) = IsTree a × IsTree b × (is_assignment s.kind ≡ true) × (is_unary a ≡ true) × (rank b ≤ 12)
 
