@@ -3,3 +3,7 @@ pub mod Plain
 pub mod Takes
 pub mod TakesOperands
 pub mod AgainKinds
+pub mod Collects
+pub mod Starts
+pub mod AgainSpecifiers
+pub mod AgainDeclarators
