@@ -1,2 +1,3 @@
 mod Counting
 pub mod AgainFronts
+pub mod AgainDeclarations
