@@ -15,7 +15,7 @@ use Rattle.c_expression.proofs.Knots.{goes_on_specs, goes_on_suffixes, begins_ex
 use Rattle.c_expression.proofs.Collects.{front_not, punct_none, collect_ends, collect_more}
 use Rattle.c_expression.proofs.Starts.{begins_declarator, declarator_token, declarator_starts}
 use Rattle.c_parse.specs.Reading.{comma_at, next_init_by, list_by, value_by, init_by, init_inside, init_at, begun_on, begun_behind, begun_by, next_begun_by, declared_behind, declaration_on, declaration_behind, declaration_by, next_declaration_by}
-use Rattle.c_parse.proofs.AgainFronts.{Parts, apart_mark, no_mark, no_text, begins_init, init_starts, declaration_starts, declaration_has_token}
+use Rattle.c_parse.proofs.AgainFronts.{PartsAgain, apart_mark, no_mark, no_text, begins_init, init_starts, declaration_starts, declaration_has_token}
 
 -- ---- initializers
 
@@ -42,7 +42,7 @@ unfolding init_by
 value_front n inner [] h = absurd cc
 value_front n inner (s ∷ toks) h = rw (apart_mark begins_expr marks.LeftBrace refl s.kind h, no_text s.kind h) refl
 
-value_reads : Parts → (e : Tree) → ReadsInit (Value e)
+value_reads : PartsAgain → (e : Tree) → ReadsInit (Value e)
 unfolding value_by
 value_reads parts e n le is rest stop =
     let first = value_front n (init_inside n) (spelled e ++ rest) (parts.expr_starts e is.0 rest) in
@@ -89,11 +89,11 @@ listed_reads o i is last c hi his (suc n) le are rest stop =
 no_init_reads : ReadsInits NoInit
 no_init_reads n le are last c rest m turns = collect_ends (next_init_by (init_at n)) m (list_end last c rest) (inits_end (init_at n) last c rest)
 
-next_init_reads : Parts → (k : ℕ) (i : InitTree) (n : ℕ) (more : Symbols) → IsInit i → init_at n (spelled_init i ++ more) ≡ Some (i, more) → next_init_by (init_at n) (punct marks.Comma k ∷ (spelled_init i ++ more)) ≡ Some (Some ((k, i), more))
+next_init_reads : PartsAgain → (k : ℕ) (i : InitTree) (n : ℕ) (more : Symbols) → IsInit i → init_at n (spelled_init i ++ more) ≡ Some (i, more) → next_init_by (init_at n) (punct marks.Comma k ∷ (spelled_init i ++ more)) ≡ Some (Some ((k, i), more))
 unfolding next_init_by
 next_init_reads parts k i n more is h = rw (no_mark begins_init marks.RightBrace refl (spelled_init i ++ more) (init_starts parts i is more), h) refl
 
-and_init_reads : Parts → (k : ℕ) (i : InitTree) (is : MoreInits) → ReadsInit i → ReadsInits is → ReadsInits (AndInit k i is)
+and_init_reads : PartsAgain → (k : ℕ) (i : InitTree) (is : MoreInits) → ReadsInit i → ReadsInits is → ReadsInits (AndInit k i is)
 and_init_reads parts k i is hi his n le are last c rest zero turns = absurd (omega arith)
 and_init_reads parts k i is hi his n le are last c rest (suc m) turns =
     let end = list_end last c rest in
@@ -105,12 +105,12 @@ and_init_reads parts k i is hi his n le are last c rest (suc m) turns =
     ∙ collect_more (next_init_by (init_at n)) m (punct marks.Comma k ∷ (spelled_init i ++ more)) more end (k, i) (init_items is) step others
 
 mutual
-  pub init_again : Parts → (i : InitTree) → ReadsInit i
+  pub init_again : PartsAgain → (i : InitTree) → ReadsInit i
   init_again parts (Value e) = value_reads parts e
   init_again parts (Quoted s) = quoted_reads s
   init_again parts (Listed o i is last c) = listed_reads o i is last c (init_again parts i) (inits_again parts is)
 
-  inits_again : Parts → (is : MoreInits) → ReadsInits is
+  inits_again : PartsAgain → (is : MoreInits) → ReadsInits is
   inits_again parts NoInit = no_init_reads
   inits_again parts (AndInit k i is) = and_init_reads parts k i is (init_again parts i) (inits_again parts is)
 
@@ -133,12 +133,12 @@ pub equals_stop : (i : Option (ℕ × InitTree)) (rest : Symbols) → front_is e
 equals_stop None rest h = begun_not goes_on_suffixes refl refl rest h
 equals_stop (Some i) rest h = refl
 
-pub begun_behind_again : Parts → (n : ℕ) (d : DeclaratorTree) (i : Option (ℕ × InitTree)) → length (spelled_equals i) ≤ n → IsEquals i → (rest : Symbols) → front_is ends_begun rest ≡ true → begun_behind n d (spelled_equals i ++ rest) ≡ Some (record { declarator = d; init = i }, rest)
+pub begun_behind_again : PartsAgain → (n : ℕ) (d : DeclaratorTree) (i : Option (ℕ × InitTree)) → length (spelled_equals i) ≤ n → IsEquals i → (rest : Symbols) → front_is ends_begun rest ≡ true → begun_behind n d (spelled_equals i ++ rest) ≡ Some (record { declarator = d; init = i }, rest)
 unfolding begun_behind punct_at
 begun_behind_again parts n d None le is rest h = rw (punct_none marks.Assign rest (begun_not (is_punct marks.Assign) refl refl rest h)) refl
 begun_behind_again parts n d (Some i) le is rest h = rw (init_again parts i.1 n (omega arith) is rest (begun_not _ refl refl rest h)) refl
 
-pub begun_again : Parts → (n : ℕ) (b : BegunTree) → length (spelled_begun b) ≤ n → IsBegun b → (rest : Symbols) → front_is ends_begun rest ≡ true → begun_by n (spelled_begun b ++ rest) ≡ Some (b, rest)
+pub begun_again : PartsAgain → (n : ℕ) (b : BegunTree) → length (spelled_begun b) ≤ n → IsBegun b → (rest : Symbols) → front_is ends_begun rest ≡ true → begun_by n (spelled_begun b ++ rest) ≡ Some (b, rest)
 unfolding begun_by
 begun_again parts n b le is rest h =
     let more = spelled_equals b.init ++ rest in
@@ -159,7 +159,7 @@ next_begun_reads : (n k : ℕ) (b : BegunTree) (more : Symbols) → begun_by n (
 unfolding next_begun_by
 next_begun_reads n k b more h = rw h refl
 
-pub more_begun_again : Parts → (n : ℕ) (bs : List (ℕ × BegunTree)) → length (spelled_more_begun bs) ≤ n → AreMoreBegun bs → (c : ℕ) (rest : Symbols) (m : ℕ) → length (spelled_more_begun bs) ≤ m → collect (next_begun_by n) m (spelled_more_begun bs ++ punct marks.Semicolon c ∷ rest) ≡ Some (bs, punct marks.Semicolon c ∷ rest)
+pub more_begun_again : PartsAgain → (n : ℕ) (bs : List (ℕ × BegunTree)) → length (spelled_more_begun bs) ≤ n → AreMoreBegun bs → (c : ℕ) (rest : Symbols) (m : ℕ) → length (spelled_more_begun bs) ≤ m → collect (next_begun_by n) m (spelled_more_begun bs ++ punct marks.Semicolon c ∷ rest) ≡ Some (bs, punct marks.Semicolon c ∷ rest)
 more_begun_again parts n [] le are c rest m turns = collect_ends (next_begun_by n) m (punct marks.Semicolon c ∷ rest) (next_begun_end n c rest)
 more_begun_again parts n (b ∷ bs) le are c rest zero turns = absurd (omega arith)
 more_begun_again parts n (b ∷ bs) le are c rest (suc m) turns =
@@ -175,7 +175,7 @@ more_begun_again parts n (b ∷ bs) le are c rest (suc m) turns =
 -- ---- declarations
 
 -- behind the first declarator
-pub declared_again : Parts → (n : ℕ) (specs : SpecTrees) (b : BegunTree) (bs : List (ℕ × BegunTree)) (c : ℕ) → length (spelled_more_begun bs) ≤ n → AreMoreBegun bs → (rest : Symbols) → declared_behind n specs b (spelled_more_begun bs ++ punct marks.Semicolon c ∷ rest) ≡ Some (record { specs = specs; declared = Some (b, bs); semicolon = c }, rest)
+pub declared_again : PartsAgain → (n : ℕ) (specs : SpecTrees) (b : BegunTree) (bs : List (ℕ × BegunTree)) (c : ℕ) → length (spelled_more_begun bs) ≤ n → AreMoreBegun bs → (rest : Symbols) → declared_behind n specs b (spelled_more_begun bs ++ punct marks.Semicolon c ∷ rest) ≡ Some (record { specs = specs; declared = Some (b, bs); semicolon = c }, rest)
 unfolding declared_behind punct_at
 declared_again parts n specs b bs c le are rest =
     let end = punct marks.Semicolon c ∷ rest in
@@ -194,7 +194,7 @@ declared_stop None c are rest = refl
 declared_stop (Some d) c are rest = ap (front_is goes_on_specs) (append_assoc (spelled_begun d.0) (spelled_more_begun d.1) (punct marks.Semicolon c ∷ rest)) ∙ begun_not_front goes_on_specs refl refl d.0 are.0 (spelled_more_begun d.1 ++ punct marks.Semicolon c ∷ rest)
 
 -- behind the specifiers
-declaration_behind_again : Parts → (n : ℕ) (specs : SpecTrees) (d : Option DeclaredTrees) (c : ℕ) → length (spelled_declared d) ≤ n → AreDeclared d → (rest : Symbols) → declaration_behind n specs (spelled_declared d ++ punct marks.Semicolon c ∷ rest) ≡ Some (record { specs = specs; declared = d; semicolon = c }, rest)
+declaration_behind_again : PartsAgain → (n : ℕ) (specs : SpecTrees) (d : Option DeclaredTrees) (c : ℕ) → length (spelled_declared d) ≤ n → AreDeclared d → (rest : Symbols) → declaration_behind n specs (spelled_declared d ++ punct marks.Semicolon c ∷ rest) ≡ Some (record { specs = specs; declared = d; semicolon = c }, rest)
 unfolding declaration_behind punct_at
 declaration_behind_again parts n specs None c le are rest = refl
 declaration_behind_again parts n specs (Some d) c le are rest =
@@ -205,7 +205,7 @@ declaration_behind_again parts n specs (Some d) c le are rest =
     let first = begun_again parts n d.0 (omega arith) are.0 more (more_begun_stop d.1 c rest) in
     rw (append_assoc (spelled_begun d.0) (spelled_more_begun d.1) end, none, first) (declared_again parts n specs d.0 d.1 c (omega arith) are.1 rest)
 
-pub declaration_again : Parts → (n : ℕ) (d : DeclarationTree) → length (spelled_declaration d) ≤ n → IsDeclaration d → (rest : Symbols) → declaration_by n (spelled_declaration d ++ rest) ≡ Some (d, rest)
+pub declaration_again : PartsAgain → (n : ℕ) (d : DeclarationTree) → length (spelled_declaration d) ≤ n → IsDeclaration d → (rest : Symbols) → declaration_by n (spelled_declaration d ++ rest) ≡ Some (d, rest)
 unfolding declaration_by
 declaration_again parts n d le is rest =
     let end = punct marks.Semicolon d.semicolon ∷ rest in
@@ -222,7 +222,7 @@ next_declaration_reads : (n : ℕ) (d : DeclarationTree) (more : Symbols) → Is
 unfolding next_declaration_by
 next_declaration_reads n d more is h = rw (declaration_starts d is more, h) refl
 
-pub declarations_again : Parts → (n : ℕ) (ds : List DeclarationTree) → length (spelled_declarations ds) ≤ n → AreDeclarations ds → (rest : Symbols) → front_is is_spec rest ≡ false → (m : ℕ) → length (spelled_declarations ds) ≤ m → collect (next_declaration_by n) m (spelled_declarations ds ++ rest) ≡ Some (ds, rest)
+pub declarations_again : PartsAgain → (n : ℕ) (ds : List DeclarationTree) → length (spelled_declarations ds) ≤ n → AreDeclarations ds → (rest : Symbols) → front_is is_spec rest ≡ false → (m : ℕ) → length (spelled_declarations ds) ≤ m → collect (next_declaration_by n) m (spelled_declarations ds ++ rest) ≡ Some (ds, rest)
 declarations_again parts n [] le are rest stop m turns = collect_ends (next_declaration_by n) m rest (next_declaration_none n rest stop)
 declarations_again parts n (d ∷ ds) le are rest stop zero turns = absurd (omega (arith, declaration_has_token d, length-append (spelled_declaration d) (spelled_declarations ds)))
 declarations_again parts n (d ∷ ds) le are rest stop (suc m) turns =

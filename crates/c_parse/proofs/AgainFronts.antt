@@ -19,7 +19,7 @@ use Rattle.c_expression.proofs.Starts.{specs_start, specs_have_token, tree_has_t
 
 -- ---- what is known of expressions and declarators
 
-pub record Parts : Type 0 where
+pub record PartsAgain : Type 0 where
   pub expr : (n : ℕ) → Again n spelled IsTree (Stops 13) (expr_by (at n))
   pub choice : (n : ℕ) → Again n spelled IsCond (Stops 11) (cond_by (at n))
   pub assign : (n : ℕ) → Again n spelled IsAssign (Stops 12) (assign_by (at n))
@@ -76,7 +76,7 @@ text_init : (k : TokKind) → is_text k ≡ true → begins_init k ≡ true
 text_init kinds.Text h = refl
 text_init _ h = absurd cc
 
-pub init_starts : Parts → (i : InitTree) → IsInit i → (rest : Symbols) → front_is begins_init (spelled_init i ++ rest) ≡ true
+pub init_starts : PartsAgain → (i : InitTree) → IsInit i → (rest : Symbols) → front_is begins_init (spelled_init i ++ rest) ≡ true
 init_starts parts (Value e) is rest = front_wide begins_expr begins_init expr_init (spelled e ++ rest) (parts.expr_starts e is.0 rest)
 init_starts parts (Quoted s) is rest = text_init s.kind is
 init_starts parts (Listed o i is_ last c) is rest = refl
@@ -113,14 +113,14 @@ begins_statement k = if begins_expr k then true else begins_control k
 expr_statement : (k : TokKind) → begins_expr k ≡ true → begins_statement k ≡ true
 expr_statement k h = rw h refl
 
-pub any_starts : Parts → (e : Tree) → IsTree e → (rest : Symbols) → front_is begins_statement (spelled e ++ rest) ≡ true
+pub any_starts : PartsAgain → (e : Tree) → IsTree e → (rest : Symbols) → front_is begins_statement (spelled e ++ rest) ≡ true
 any_starts parts e is rest = front_wide begins_expr begins_statement expr_statement (spelled e ++ rest) (parts.expr_starts e is rest)
 
-plain_starts : Parts → (e : Option Tree) (c : ℕ) → IsAny e → (rest : Symbols) → front_is begins_statement ((spelled_any e ++ punct marks.Semicolon c ∷ []) ++ rest) ≡ true
+plain_starts : PartsAgain → (e : Option Tree) (c : ℕ) → IsAny e → (rest : Symbols) → front_is begins_statement ((spelled_any e ++ punct marks.Semicolon c ∷ []) ++ rest) ≡ true
 plain_starts parts None c is rest = refl
 plain_starts parts (Some e) c is rest = ap (front_is begins_statement) (append_assoc (spelled e) (punct marks.Semicolon c ∷ []) rest) ∙ any_starts parts e is (punct marks.Semicolon c ∷ rest)
 
-pub statement_starts : Parts → (s : StatementTree) → IsStatement s → (rest : Symbols) → front_is begins_statement (spelled_statement s ++ rest) ≡ true
+pub statement_starts : PartsAgain → (s : StatementTree) → IsStatement s → (rest : Symbols) → front_is begins_statement (spelled_statement s ++ rest) ≡ true
 statement_starts parts (Braced (Block o ds ss c)) is rest = refl
 statement_starts parts (Plain e c) is rest = plain_starts parts e c is rest
 statement_starts parts (Chain (Arm k e s) as_) is rest = refl
@@ -158,12 +158,12 @@ statement_no_spec (kinds.Keyword words.Return) h = refl
 statement_no_spec (kinds.Keyword _) h = absurd cc
 statement_no_spec _ h = refl
 
-plain_no_if : Parts → (e : Option Tree) (c : ℕ) → IsAny e → (rest : Symbols) → front_is (is_key words.If) ((spelled_any e ++ punct marks.Semicolon c ∷ []) ++ rest) ≡ false
+plain_no_if : PartsAgain → (e : Option Tree) (c : ℕ) → IsAny e → (rest : Symbols) → front_is (is_key words.If) ((spelled_any e ++ punct marks.Semicolon c ∷ []) ++ rest) ≡ false
 plain_no_if parts None c is rest = refl
 plain_no_if parts (Some e) c is rest = ap (front_is (is_key words.If)) (append_assoc (spelled e) (punct marks.Semicolon c ∷ []) rest) ∙ no_word begins_expr words.If refl (spelled e ++ punct marks.Semicolon c ∷ rest) (parts.expr_starts e is (punct marks.Semicolon c ∷ rest))
 
 -- a statement that is no `if` doesn't begin with one
-pub statement_no_if : Parts → (s : StatementTree) → IsStatement s → is_chain s ≡ false → (rest : Symbols) → front_is (is_key words.If) (spelled_statement s ++ rest) ≡ false
+pub statement_no_if : PartsAgain → (s : StatementTree) → IsStatement s → is_chain s ≡ false → (rest : Symbols) → front_is (is_key words.If) (spelled_statement s ++ rest) ≡ false
 statement_no_if parts (Braced (Block o ds ss c)) is none rest = refl
 statement_no_if parts (Plain e c) is none rest = plain_no_if parts e c is rest
 statement_no_if parts (Chain a as_) is none rest = absurd cc

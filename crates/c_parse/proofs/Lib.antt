@@ -1,3 +1,5 @@
 mod Counting
 pub mod AgainFronts
 pub mod AgainDeclarations
+pub mod AgainStatements
+pub mod AgainUnits
