@@ -1,9 +1,12 @@
 pub mod Knots
 pub mod Plain
 pub mod Takes
+pub mod TakesLists
 pub mod TakesOperands
 pub mod AgainKinds
 pub mod Collects
 pub mod Starts
 pub mod AgainSpecifiers
 pub mod AgainDeclarators
+pub mod TakesOperators
+pub mod TakesDeclarators

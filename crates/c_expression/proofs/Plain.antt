@@ -1,6 +1,7 @@
 -- What tells a symbol that is no name and no text: its kind and its line.
 use Rattle.std.proofs.Common.{◌≡◌, ℕ, zero, suc, Bool, true, false, List, [], ◌∷◌, Option, Some, None, refl, sym, ap, ◌∙◌, if◌then◌else◌}
 use Rattle.std.proofs.lemmas.Bool.{eqb-true}
+use Rattle.std.proofs.lemmas.Option.{same_Some}
 use Rattle.c_token.specs.declared.token.Tok.{Tok}
 use Rattle.c_token.specs.declared.token.TokKind.{TokKind}
 use Rattle.c_token.specs.declared.token.TokKind.TheVariants as kinds
@@ -9,7 +10,7 @@ use Rattle.c_token.specs.declared.token.Keyword.TheVariants as words
 use Rattle.c_token.specs.declared.token.Punct.{Punct}
 use Rattle.c_token.specs.declared.token.Punct.TheVariants as marks
 use Rattle.c_pre.specs.Words.{word_of}
-use Rattle.c_tree.specs.Words.{Symbol, Symbols, plain, key, punct}
+use Rattle.c_tree.specs.Words.{Symbol, plain, key, punct}
 use Rattle.c_tree.specs.Kinds.{number_of, number_of_word, is_punct, is_key}
 use Rattle.c_expression.specs.Reader.{spells, symbol_in, symbols_in}
 use Rattle.c_expression.proofs.Knots.{IsPlain, ArePlain}
@@ -35,14 +36,11 @@ word_at : (w : Keyword) → nth (number_of_word w) all_words ≡ Some w
 word_at words.Auto = refl
 word_at _ = refl
 
-some_is : {A : Type 0} (x y : A) → Some x ≡ Some y → x ≡ y
-some_is x y e = cc
-
 pub mark_is : (p q : Punct) → number_of p ≡ number_of q → p ≡ q
-mark_is p q e = some_is p q (sym (mark_at p) ∙ ap (λ (n : ℕ). nth n all_marks) e ∙ mark_at q)
+mark_is p q e = same_Some p q (sym (mark_at p) ∙ ap (λ (n : ℕ). nth n all_marks) e ∙ mark_at q)
 
 pub word_is : (v w : Keyword) → number_of_word v ≡ number_of_word w → v ≡ w
-word_is v w e = some_is v w (sym (word_at v) ∙ ap (λ (n : ℕ). nth n all_words) e ∙ word_at w)
+word_is v w e = same_Some v w (sym (word_at v) ∙ ap (λ (n : ℕ). nth n all_words) e ∙ word_at w)
 
 pub punct_kind : (p : Punct) (k : TokKind) → is_punct p k ≡ true → k ≡ kinds.Punct p
 punct_kind p (kinds.Punct q) h = ap (λ (r : Punct). kinds.Punct r) (mark_is q p (eqb-true (number_of q) (number_of p) h))

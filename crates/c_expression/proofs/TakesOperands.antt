@@ -1,17 +1,17 @@
 -- What is read as an operand, with prefixes and postfixes, is a tree.
-use Rattle.std.proofs.Common.{◌≡◌, ℕ, zero, suc, Bool, true, false, ◌&&◌, if◌then◌else◌, List, [], ◌∷◌, ◌++◌, length, map, Option, Some, None, refl, sym, ap, subst, ◌∙◌, append_assoc, append-nil}
-use Rattle.std.proofs.lemmas.Bool.{and_cases, and_right}
+use Rattle.std.proofs.Common.{◌≡◌, ℕ, zero, suc, Bool, true, false, ◌&&◌, if◌then◌else◌, List, [], ◌∷◌, ◌++◌, length, Some, None, refl, sym, ap, subst, ◌∙◌, append_assoc, append-nil}
+use Rattle.std.proofs.lemmas.Option.{same_Some}
 use Rattle.c_token.specs.declared.token.Keyword.TheVariants as words
 use Rattle.c_token.specs.declared.token.Punct.TheVariants as marks
-use Rattle.c_tree.specs.Words.{Symbol, Symbols, key, punct}
+use Rattle.c_tree.specs.Words.{Symbol, Symbols, punct}
 use Rattle.c_tree.specs.Kinds.{is_punct, is_key, is_name, is_leaf, is_prefix, is_step, is_field}
-use Rattle.c_tree.specs.Trees.{Tree, Leaf, Group, Behind, Before, Measure, Join, Choose, Assign, Post, Index, CallBare, Call, Field, Step, Pre, Sign, Sizeof, Cast, TypeTree, spelled, spelled_post, spelled_pre, spelled_type, rank, is_postfix, is_unary, is_cast, may_follow, IsTree, IsPost, IsPre, IsType}
+use Rattle.c_tree.specs.Trees.{Tree, Leaf, Group, Behind, Before, Measure, Post, Index, CallBare, Call, Field, Step, Pre, Sign, Sizeof, Cast, TypeTree, spelled, spelled_post, spelled_pre, spelled_type, rank, is_postfix, is_unary, is_cast, may_follow, IsTree, IsPost, IsPre, IsType}
 use Rattle.c_tree.specs.Lists.{posted, prefixed}
-use Rattle.c_expression.specs.Reader.{◌>>=◌, Reader, punct_at, key_at, type_opens, specs_come, got, collect_on, collect, all_that}
+use Rattle.c_expression.specs.Reader.{punct_at, key_at, type_opens, collect_on, collect, all_that}
 use Rattle.c_expression.specs.Reading.{Inner, group_by, primary_by, index_by, call_on, call_by, field_by, post_by, postfix_by, bracketed_by, cast_by, prefix_by, operand_on, operand_by, unary_by}
-use Rattle.c_expression.proofs.Knots.{IsPlain, ArePlain, Takes, Sound, SoundStep, SoundInner}
+use Rattle.c_expression.proofs.Knots.{ArePlain, Takes, Sound, SoundStep, SoundInner}
 use Rattle.c_expression.proofs.Plain.{punct_is, key_is}
-use Rattle.c_expression.proofs.Takes.{Splits, join, splits_as, part, one, taken_as, weaken, some_is, take, bind_ok, Then, sound_then, cases_if, cases_option, got_ok, symbol_takes, punct_takes, key_takes, Nothing, Each, spelled_all, all_take}
+use Rattle.c_expression.proofs.TakesLists.{join, splits_as, part, one, taken_as, weaken, take, bind_ok, sound_then, cases_if, cases_option, got_ok, symbol_takes, punct_takes, key_takes, Each, spelled_all, all_take}
 
 -- ---- a primary expression and its postfixes
 
@@ -44,12 +44,12 @@ call_takes : (inner : Inner) → SoundInner inner → (o : ℕ) (toks : Symbols)
 unfolding call_by
 call_takes inner sound o toks plain x e = cases_option (punct_at marks.RightParenthesis toks) (call_on inner o toks) (Some x)
     (λ z is e2.
-      let c = punct_takes marks.RightParenthesis toks plain z is in
-      take (CallBare o z.0) (join (one (punct marks.LeftParenthesis o) toks) (part c)) tt c.plain e2)
+    let c = punct_takes marks.RightParenthesis toks plain z is in
+    take (CallBare o z.0) (join (one (punct marks.LeftParenthesis o) toks) (part c)) tt c.plain e2)
     (λ is e2.
-      let m = sound_then sound.expr toks plain _ x e2 in
-      let c = sound_then (punct_takes marks.RightParenthesis) m.read.1 m.takes.plain _ x m.on in
-      take (Call o m.read.0 c.read.0) (join (one (punct marks.LeftParenthesis o) toks) (join (part m.takes) (part c.takes))) m.takes.tree c.takes.plain c.on) e
+    let m = sound_then sound.expr toks plain _ x e2 in
+    let c = sound_then (punct_takes marks.RightParenthesis) m.read.1 m.takes.plain _ x m.on in
+    take (Call o m.read.0 c.read.0) (join (one (punct marks.LeftParenthesis o) toks) (join (part m.takes) (part c.takes))) m.takes.tree c.takes.plain c.on) e
 
 field_takes : (s : Symbol) → is_field s.kind ≡ true → (toks : Symbols) → ArePlain toks → (x : _) → field_by s toks ≡ Some x → Takes spelled_post IsPost (s ∷ toks) x
 unfolding field_by
@@ -63,12 +63,12 @@ post_takes inner sound [] plain x e = absurd cc
 post_takes inner sound (s ∷ rest) plain x e = cases_if (is_punct marks.LeftBracket s.kind) _ _ (Some (Some x))
     (λ is e2. taken_as s (punct marks.LeftBracket s.line) rest (punct_is marks.LeftBracket s plain.0 is) (index_takes inner sound s.line rest plain.1 x (got_ok (index_by inner s.line rest) x e2)))
     (λ is e2. cases_if (is_punct marks.LeftParenthesis s.kind) _ _ (Some (Some x))
-      (λ is e3. taken_as s (punct marks.LeftParenthesis s.line) rest (punct_is marks.LeftParenthesis s plain.0 is) (call_takes inner sound s.line rest plain.1 x (got_ok (call_by inner s.line rest) x e3)))
-      (λ is e3. cases_if (is_field s.kind) _ _ (Some (Some x))
-        (λ is e4. field_takes s is rest plain.1 x (got_ok (field_by s rest) x e4))
-        (λ is e4. cases_if (is_step s.kind) _ _ (Some (Some x))
-          (λ is e5. take (Step s) (one s rest) is plain.1 (some_is _ _ e5))
-          (λ is e5. absurd cc) e4) e3) e2) e
+    (λ is e3. taken_as s (punct marks.LeftParenthesis s.line) rest (punct_is marks.LeftParenthesis s plain.0 is) (call_takes inner sound s.line rest plain.1 x (got_ok (call_by inner s.line rest) x e3)))
+    (λ is e3. cases_if (is_field s.kind) _ _ (Some (Some x))
+    (λ is e4. field_takes s is rest plain.1 x (got_ok (field_by s rest) x e4))
+    (λ is e4. cases_if (is_step s.kind) _ _ (Some (Some x))
+    (λ is e5. take (Step s) (one s rest) is plain.1 (same_Some _ _ e5))
+    (λ is e5. absurd cc) e4) e3) e2) e
 
 posted_spelled : (e : Tree) (ps : List Post) → spelled (posted e ps) ≡ spelled e ++ spelled_all spelled_post ps
 posted_spelled e [] = sym (append-nil (spelled e))
@@ -128,21 +128,21 @@ unfolding cast_by
 cast_takes inner sound toks plain x opens e =
     let b = sound_then (bracketed_takes inner sound) toks plain _ x e in
     let made : Pre × Symbols = (Cast b.read.0.0 b.read.0.1 b.read.0.2, b.read.1) in
-    subst (TakesPrefix toks) (some_is made x b.on) (record { takes = record { parts = b.takes.parts; tree = b.takes.tree; plain = b.takes.plain }; opens = λ is. opens; before = λ needs. absurd cc })
+    subst (TakesPrefix toks) (same_Some made x b.on) (record { takes = record { parts = b.takes.parts; tree = b.takes.tree; plain = b.takes.plain }; opens = λ is. opens; before = λ needs. absurd cc })
 
 sign_takes : (s : Symbol) (rest : Symbols) → ArePlain (s ∷ rest) → (x : Pre × Symbols) → is_prefix s.kind ≡ true → (if is_step s.kind && type_opens rest then None else Some (Some (Sign s, rest))) ≡ Some (Some x) → TakesPrefix (s ∷ rest) x
 sign_takes s rest plain x prefix e = cases_if (is_step s.kind && type_opens rest) _ _ (Some (Some x))
     (λ is e2. absurd cc)
     (λ is e2.
-      let made : Pre × Symbols = (Sign s, rest) in
-      subst (TakesPrefix (s ∷ rest)) (some_is made x (some_is (Some made) (Some x) e2)) (record { takes = record { parts = refl; tree = prefix; plain = plain.1 }; opens = λ cast. absurd cc; before = λ needs. second_false (is_step s.kind) (type_opens rest) is needs })) e
+    let made : Pre × Symbols = (Sign s, rest) in
+    subst (TakesPrefix (s ∷ rest)) (same_Some made x (same_Some (Some made) (Some x) e2)) (record { takes = record { parts = refl; tree = prefix; plain = plain.1 }; opens = λ cast. absurd cc; before = λ needs. second_false (is_step s.kind) (type_opens rest) is needs })) e
 
 sizeof_takes : (s : Symbol) (rest : Symbols) → ArePlain (s ∷ rest) → (x : Pre × Symbols) → is_key words.Sizeof s.kind ≡ true → (if type_opens rest then Some None else Some (Some (Sizeof s.line, rest))) ≡ Some (Some x) → TakesPrefix (s ∷ rest) x
 sizeof_takes s rest plain x is e = cases_if (type_opens rest) _ _ (Some (Some x))
     (λ opens e2. absurd cc)
     (λ opens e2.
-      let made : Pre × Symbols = (Sizeof s.line, rest) in
-      subst (TakesPrefix (s ∷ rest)) (some_is made x (some_is (Some made) (Some x) e2)) (record { takes = record { parts = ap (λ (t : Symbol). t ∷ rest) (key_is words.Sizeof s plain.0 is); tree = tt; plain = plain.1 }; opens = λ cast. absurd cc; before = λ needs. opens })) e
+    let made : Pre × Symbols = (Sizeof s.line, rest) in
+    subst (TakesPrefix (s ∷ rest)) (same_Some made x (same_Some (Some made) (Some x) e2)) (record { takes = record { parts = ap (λ (t : Symbol). t ∷ rest) (key_is words.Sizeof s plain.0 is); tree = tt; plain = plain.1 }; opens = λ cast. absurd cc; before = λ needs. opens })) e
 
 prefix_takes : (inner : Inner) → SoundInner inner → (toks : Symbols) → ArePlain toks → (x : _) → prefix_by inner toks ≡ Some (Some x) → TakesPrefix toks x
 unfolding prefix_by
@@ -150,10 +150,10 @@ prefix_takes inner sound [] plain x e = absurd cc
 prefix_takes inner sound (s ∷ rest) plain x e = cases_if (is_prefix s.kind) _ _ (Some (Some x))
     (λ is e2. sign_takes s rest plain x is e2)
     (λ is e2. cases_if (is_key words.Sizeof s.kind) _ _ (Some (Some x))
-      (λ is e3. sizeof_takes s rest plain x is e3)
-      (λ is e3. cases_if (type_opens (s ∷ rest)) _ _ (Some (Some x))
-        (λ is e4. cast_takes inner sound (s ∷ rest) plain x is (got_ok (cast_by inner (s ∷ rest)) x e4))
-        (λ is e4. absurd cc) e3) e2) e
+    (λ is e3. sizeof_takes s rest plain x is e3)
+    (λ is e3. cases_if (type_opens (s ∷ rest)) _ _ (Some (Some x))
+    (λ is e4. cast_takes inner sound (s ∷ rest) plain x is (got_ok (cast_by inner (s ∷ rest)) x e4))
+    (λ is e4. absurd cc) e3) e2) e
 
 -- ---- lists of prefixes
 
@@ -192,16 +192,16 @@ unary_unless_cast (Cast o t c) e h = absurd cc
 no_prefixes : (toks : Symbols) → ArePlain toks → (x : List Pre × Symbols) → Some ([], toks) ≡ Some x → TakesPrefixes toks x
 no_prefixes toks plain x e =
     let made : List Pre × Symbols = ([], toks) in
-    subst (TakesPrefixes toks) (some_is made x e) (record { takes = record { parts = refl; tree = λ e is. record { tree = is.0; rank = is.1; unary = λ h. is.2 }; plain = plain }; opens = λ h. absurd cc })
+    subst (TakesPrefixes toks) (same_Some made x e) (record { takes = record { parts = refl; tree = λ e is. record { tree = is.0; rank = is.1; unary = λ h. is.2 }; plain = plain }; opens = λ h. absurd cc })
 
 one_prefix_more : (toks : Symbols) (z : Pre × Symbols) (l x : List Pre × Symbols) → TakesPrefix toks z → TakesPrefixes z.1 l → Some (z.0 ∷ l.0, l.1) ≡ Some x → TakesPrefixes toks x
 one_prefix_more toks z l x t more e =
     let made : List Pre × Symbols = (z.0 ∷ l.0, l.1) in
     let are : ArePrefixes (z.0 ∷ l.0) = λ e is.
-      let b = more.takes.tree e is in
-      let may = may_follow_it z.0 (prefixed l.0 e) (λ needs. b.unary (not_true (starts_cast l.0) (type_opens z.1) more.opens (t.before needs))) in
-      record { tree = (t.takes.tree, b.tree, b.rank, may); rank = refl; unary = unary_unless_cast z.0 (prefixed l.0 e) } in
-    subst (TakesPrefixes toks) (some_is made x e) (record { takes = record { parts = (join (part t.takes) (part more.takes)).is; tree = are; plain = more.takes.plain }; opens = t.opens })
+    let b = more.takes.tree e is in
+    let may = may_follow_it z.0 (prefixed l.0 e) (λ needs. b.unary (not_true (starts_cast l.0) (type_opens z.1) more.opens (t.before needs))) in
+    record { tree = (t.takes.tree, b.tree, b.rank, may); rank = refl; unary = unary_unless_cast z.0 (prefixed l.0 e) } in
+    subst (TakesPrefixes toks) (same_Some made x e) (record { takes = record { parts = (join (part t.takes) (part more.takes)).is; tree = are; plain = more.takes.plain }; opens = t.opens })
 
 collect_prefixes : (inner : Inner) → SoundInner inner → (n : ℕ) (toks : Symbols) → ArePlain toks → (x : _) → collect (prefix_by inner) n toks ≡ Some x → TakesPrefixes toks x
 unfolding collect
@@ -209,11 +209,11 @@ collect_prefixes inner sound zero toks plain x e = no_prefixes toks plain x e
 collect_prefixes inner sound (suc n) toks plain x e =
     let a = bind_ok (prefix_by inner toks) (collect_on (collect (prefix_by inner) n) toks) x e in
     cases_option a.0 (collect_on (collect (prefix_by inner) n) toks) (Some x)
-      (λ z is e2.
-        let t = prefix_takes inner sound toks plain z (a.1 ∙ ap (λ o. Some o) is) in
-        let l = bind_ok (collect (prefix_by inner) n z.1) _ x e2 in
-        one_prefix_more toks z l.0 x t (collect_prefixes inner sound n z.1 t.takes.plain l.0 l.1) l.2)
-      (λ is e2. no_prefixes toks plain x e2) a.2
+    (λ z is e2.
+    let t = prefix_takes inner sound toks plain z (a.1 ∙ ap (λ o. Some o) is) in
+    let l = bind_ok (collect (prefix_by inner) n z.1) _ x e2 in
+    one_prefix_more toks z l.0 x t (collect_prefixes inner sound n z.1 t.takes.plain l.0 l.1) l.2)
+    (λ is e2. no_prefixes toks plain x e2) a.2
 
 prefixes_take : (inner : Inner) → SoundInner inner → Sound (spelled_all spelled_pre) ArePrefixes (all_that (prefix_by inner))
 prefixes_take inner sound toks plain x e = let t = collect_prefixes inner sound (length toks) toks plain x e in t.takes
@@ -230,18 +230,18 @@ bare_takes : (inner : Inner) → SoundInner inner → Sound spelled IsBare (oper
 unfolding operand_by
 bare_takes inner sound toks plain x e = cases_option (key_at words.Sizeof toks) (operand_on inner toks) (Some x)
     (λ k is e2.
-      let t = key_takes words.Sizeof toks plain k is in
-      let b = sound_then (bracketed_takes inner sound) k.1 t.plain _ x e2 in
-      take (Measure k.0 b.read.0.0 b.read.0.1 b.read.0.2) (join (part t) (part b.takes)) (b.takes.tree, refl, refl) b.takes.plain b.on)
+    let t = key_takes words.Sizeof toks plain k is in
+    let b = sound_then (bracketed_takes inner sound) k.1 t.plain _ x e2 in
+    take (Measure k.0 b.read.0.0 b.read.0.1 b.read.0.2) (join (part t) (part b.takes)) (b.takes.tree, refl, refl) b.takes.plain b.on)
     (λ is e2. weaken (λ is. let b = postfix_is_bare x.0 is.1 in (is.0, b.0, b.1)) (postfix_takes inner sound toks plain x e2)) e
 
 prefixed_spelled : (ps : List Pre) (e : Tree) → spelled (prefixed ps e) ≡ spelled_all spelled_pre ps ++ spelled e
 prefixed_spelled [] e = refl
 prefixed_spelled (p ∷ ps) e = ap (λ (l : Symbols). spelled_pre p ++ l) (prefixed_spelled ps e) ∙ sym (append_assoc (spelled_pre p) (spelled_all spelled_pre ps) (spelled e))
 
-pub unary_takes : (inner : Inner) → SoundInner inner → Sound spelled IsOperand (unary_by inner)
+pub unary_by_takes : (inner : Inner) → SoundInner inner → Sound spelled IsOperand (unary_by inner)
 unfolding unary_by
-unary_takes inner sound toks plain x e =
+unary_by_takes inner sound toks plain x e =
     let ps = sound_then (prefixes_take inner sound) toks plain _ x e in
     let a = sound_then (bare_takes inner sound) ps.read.1 ps.takes.plain _ x ps.on in
     let p = ps.takes.tree a.read.0 a.takes.tree in
