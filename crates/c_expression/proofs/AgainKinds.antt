@@ -1,15 +1,14 @@
 -- Which tokens stop a tree, and which begin one: the tests on kinds that readers make.
-use Rattle.std.proofs.Common.{◌≡◌, ℕ, zero, suc, ◌+◌, ◌<◌, ◌≤◌, nat_le, nat_lt, Bool, true, false, eqb, leb, ltb, ◌&&◌, if◌then◌else◌, List, [], ◌∷◌, ◌++◌, length, Option, Some, None, refl, sym, ap, subst, ◌∙◌, append_assoc, arith, inl, inr}
-use Rattle.std.proofs.lemmas.Bool.{le-leb, lt-leb, lt-ltb, leb-true, ne_eqb, cases_lt}
+use Rattle.std.proofs.Common.{◌≡◌, ℕ, zero, suc, ◌<◌, ◌≤◌, nat_le, nat_lt, Bool, true, false, leb, ltb, ◌&&◌, if◌then◌else◌, List, [], ◌∷◌, refl, ap, ◌∙◌, arith, inl, inr}
+use Rattle.std.proofs.lemmas.Bool.{le-leb, lt-leb, lt-ltb, cases_lt}
 use Rattle.c_token.specs.declared.token.TokKind.{TokKind}
 use Rattle.c_token.specs.declared.token.TokKind.TheVariants as kinds
 use Rattle.c_token.specs.declared.token.Keyword.{Keyword}
 use Rattle.c_token.specs.declared.token.Keyword.TheVariants as words
-use Rattle.c_token.specs.declared.token.Punct.{Punct}
 use Rattle.c_token.specs.declared.token.Punct.TheVariants as marks
-use Rattle.c_tree.specs.Words.{Symbol, Symbols, plain, key, punct}
-use Rattle.c_tree.specs.Kinds.{is_punct, is_key, is_name, is_leaf, tier_of, level_of, is_assign_mark, is_assignment, is_prefix_mark, is_prefix, is_step_mark, is_step, is_field_mark, is_field, is_spec, is_spec_word, is_specifying, begins_spec}
-use Rattle.c_expression.specs.Reader.{front_is}
+use Rattle.c_tree.specs.Words.{Symbol, Symbols, punct}
+use Rattle.c_tree.specs.Kinds.{is_punct, is_key, is_leaf, level_of, is_assignment, is_prefix, is_step, is_field, is_spec, is_spec_word, is_specifying, begins_spec}
+use Rattle.c_expression.specs.Reader.{front_is, spells}
 use Rattle.c_expression.proofs.Knots.{goes_on, begins_expr, Stops}
 
 -- ---- the tests of what goes on, one by one
@@ -51,7 +50,7 @@ quiet k t h =
       step = p.3;
       question = λ le. second_false (leb 11 k) (is_punct marks.Question t) (le-leb 11 k le) p.4;
       assignment = λ le. second_false (leb 12 k) (is_assignment t) (le-leb 12 k le) p.5;
-      operator = λ pos. above k (level_of t) p.6 pos
+      operator = λ pos. above k (level_of t) p.6 pos;
     }
 
 none_true : (a b c d q m l : Bool) → a ≡ false → b ≡ false → c ≡ false → d ≡ false → q ≡ false → m ≡ false → l ≡ false → (if a then true else if b then true else if c then true else if d then true else if q then true else if m then true else l) ≡ false
@@ -105,13 +104,19 @@ is_operator (kinds.Punct marks.Or) h = (refl, refl, refl, refl, refl, refl)
 is_operator (kinds.Punct marks.Comma) h = (refl, refl, refl, refl, refl, refl)
 is_operator _ h = absurd cc
 
+-- an operator is neither a name nor a text, and so has no bytes in a text
+pub operator_spells : (t : TokKind) → 0 < level_of t → spells t ≡ false
+operator_spells kinds.Name h = absurd (omega arith)
+operator_spells kinds.Text h = absurd (omega arith)
+operator_spells _ h = refl
+
 -- the sign of an operator stops what binds tighter
 pub stops_operator : (j : ℕ) (s : Symbol) (rest : Symbols) → j < level_of s.kind → Stops j (s ∷ rest)
 stops_operator j s rest lt =
     let o = is_operator s.kind (lt-ltb 0 (level_of s.kind) (omega arith)) in
     quiet_again j s.kind record { bracket = o.0; parenthesis = o.1; field = o.2; step = o.3; question = λ e. o.4; assignment = λ e. o.5; operator = λ pos. lt }
 
--- a tier is none of choices and assignments
+-- the comma is the one operator that no tier has
 pub comma_level : (t : TokKind) → is_punct marks.Comma t ≡ true → level_of t ≡ 13
 comma_level (kinds.Punct marks.Comma) h = refl
 comma_level _ h = absurd cc
@@ -120,9 +125,18 @@ comma_alone : (t : TokKind) → nat_le 11 (level_of t) ≡ true → t ≡ kinds.
 comma_alone (kinds.Punct marks.Comma) h = refl
 comma_alone _ h = absurd cc
 
+-- an operator that is no comma is one of the tiers
+pub tier_most : (t : TokKind) → level_of t ≤ 12 → level_of t ≤ 10
+tier_most t le = elim (cases_lt (level_of t) 11) [
+  | inl lt ↦ omega arith
+  | inr ge ↦ absurd (let is = ap level_of (comma_alone t (le-leb 11 (level_of t) ge)) in omega arith)
+]
+
+-- so an operator above the tiers is a comma, of which its line is all
 pub is_comma : (s : Symbol) → 11 ≤ level_of s.kind → s.bytes ≡ [] → s ≡ punct marks.Comma s.line
 is_comma s le e = ap (λ (t : TokKind). record { kind = t; bytes = s.bytes; line = s.line }) (comma_alone s.kind (le-leb 11 (level_of s.kind) le)) ∙ ap (λ (b : List ℕ). record { kind = kinds.Punct marks.Comma; bytes = b; line = s.line }) e
 
+-- the operator of an assignment stops what stands on its left
 assignment_stops : (t : TokKind) → is_assignment t ≡ true → goes_on 11 t ≡ false
 assignment_stops (kinds.Punct marks.Assign) h = refl
 assignment_stops (kinds.Punct marks.StarAssign) h = refl
@@ -142,24 +156,26 @@ stops_assignment s rest h = assignment_stops s.kind h
 
 -- ---- first tokens
 
+-- what the first token of an expression is not
 pub record Begins (t : TokKind) : Type 0 where
   pub spec : is_spec t ≡ false
   pub closing : is_punct marks.RightParenthesis t ≡ false
+  pub bracket : is_punct marks.RightBracket t ≡ false
 
 begins : (t : TokKind) → begins_expr t ≡ true → Begins t
-begins kinds.Name h = record { spec = refl; closing = refl }
-begins (kinds.Int v b u l) h = record { spec = refl; closing = refl }
-begins (kinds.Char v) h = record { spec = refl; closing = refl }
-begins (kinds.Keyword words.Sizeof) h = record { spec = refl; closing = refl }
-begins (kinds.Punct marks.LeftParenthesis) h = record { spec = refl; closing = refl }
-begins (kinds.Punct marks.Increment) h = record { spec = refl; closing = refl }
-begins (kinds.Punct marks.Decrement) h = record { spec = refl; closing = refl }
-begins (kinds.Punct marks.Ampersand) h = record { spec = refl; closing = refl }
-begins (kinds.Punct marks.Star) h = record { spec = refl; closing = refl }
-begins (kinds.Punct marks.Plus) h = record { spec = refl; closing = refl }
-begins (kinds.Punct marks.Minus) h = record { spec = refl; closing = refl }
-begins (kinds.Punct marks.Tilde) h = record { spec = refl; closing = refl }
-begins (kinds.Punct marks.Not) h = record { spec = refl; closing = refl }
+begins kinds.Name h = record { spec = refl; closing = refl; bracket = refl }
+begins (kinds.Int v b u l) h = record { spec = refl; closing = refl; bracket = refl }
+begins (kinds.Char v) h = record { spec = refl; closing = refl; bracket = refl }
+begins (kinds.Keyword words.Sizeof) h = record { spec = refl; closing = refl; bracket = refl }
+begins (kinds.Punct marks.LeftParenthesis) h = record { spec = refl; closing = refl; bracket = refl }
+begins (kinds.Punct marks.Increment) h = record { spec = refl; closing = refl; bracket = refl }
+begins (kinds.Punct marks.Decrement) h = record { spec = refl; closing = refl; bracket = refl }
+begins (kinds.Punct marks.Ampersand) h = record { spec = refl; closing = refl; bracket = refl }
+begins (kinds.Punct marks.Star) h = record { spec = refl; closing = refl; bracket = refl }
+begins (kinds.Punct marks.Plus) h = record { spec = refl; closing = refl; bracket = refl }
+begins (kinds.Punct marks.Minus) h = record { spec = refl; closing = refl; bracket = refl }
+begins (kinds.Punct marks.Tilde) h = record { spec = refl; closing = refl; bracket = refl }
+begins (kinds.Punct marks.Not) h = record { spec = refl; closing = refl; bracket = refl }
 begins _ h = absurd cc
 
 -- a test that no expression begins with
@@ -172,6 +188,9 @@ no_spec t h = let b = begins t h in b.spec
 
 pub no_closing : (t : TokKind) → begins_expr t ≡ true → is_punct marks.RightParenthesis t ≡ false
 no_closing t h = let b = begins t h in b.closing
+
+pub no_bracket : (t : TokKind) → begins_expr t ≡ true → is_punct marks.RightBracket t ≡ false
+no_bracket t h = let b = begins t h in b.bracket
 
 -- what begins an operand without a prefix
 pub record Primary (t : TokKind) : Type 0 where
@@ -198,6 +217,17 @@ pub prefix_opens : (t : TokKind) → is_prefix t ≡ true → is_punct marks.Lef
 prefix_opens (kinds.Punct marks.LeftParenthesis) h = absurd cc
 prefix_opens (kinds.Punct _) h = refl
 prefix_opens _ h = absurd cc
+
+pub prefix_begins : (t : TokKind) → is_prefix t ≡ true → begins_expr t ≡ true
+prefix_begins (kinds.Punct marks.Increment) h = refl
+prefix_begins (kinds.Punct marks.Decrement) h = refl
+prefix_begins (kinds.Punct marks.Ampersand) h = refl
+prefix_begins (kinds.Punct marks.Star) h = refl
+prefix_begins (kinds.Punct marks.Plus) h = refl
+prefix_begins (kinds.Punct marks.Minus) h = refl
+prefix_begins (kinds.Punct marks.Tilde) h = refl
+prefix_begins (kinds.Punct marks.Not) h = refl
+prefix_begins _ h = absurd cc
 
 -- what a postfix begins with
 pub record Dotted (t : TokKind) : Type 0 where

@@ -10,3 +10,6 @@ pub mod AgainSpecifiers
 pub mod AgainDeclarators
 pub mod TakesOperators
 pub mod TakesDeclarators
+pub mod AgainLoops
+pub mod AgainOperands
+pub mod AgainExpressions

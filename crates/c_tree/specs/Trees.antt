@@ -225,7 +225,8 @@ abbrev pub is_bare_void : SpecTrees → Symbols → SuffixTrees → Bool
 is_bare_void s [] NoSuffix = is_void s
 is_bare_void s _ _ = false
 
--- The trees of the grammar.
+-- The trees of the grammar. An operator between two operands is a symbol without bytes: of a comma a
+-- list keeps the line alone.
 abbrev mutual
   pub IsTree : Tree → Type 0
   IsTree (Leaf s) = is_leaf s.kind ≡ true
