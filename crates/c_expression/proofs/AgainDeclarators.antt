@@ -1,20 +1,19 @@
 -- Suffixes, declarators, members and parameters are read again from their spelling, where what stands in brackets is.
-use Rattle.std.proofs.Common.{◌≡◌, ℕ, zero, suc, ◌+◌, ◌<◌, ◌≤◌, Bool, true, false, cond, if◌then◌else◌, List, [], ◌∷◌, ◌++◌, length, Option, Some, None, ◌⊎◌, inl, inr, refl, sym, ap, ◌∙◌, append_assoc, length-append, arith}
+use Rattle.std.proofs.Common.{◌≡◌, ℕ, zero, suc, ◌≤◌, Bool, true, false, List, [], ◌∷◌, ◌++◌, length, Some, None, inl, inr, refl, ap, ◌∙◌, append_assoc, length-append, arith}
 use Rattle.c_token.specs.declared.token.TokKind.{TokKind}
 use Rattle.c_token.specs.declared.token.TokKind.TheVariants as kinds
 use Rattle.c_token.specs.declared.token.Keyword.TheVariants as words
-use Rattle.c_token.specs.declared.token.Punct.{Punct}
 use Rattle.c_token.specs.declared.token.Punct.TheVariants as marks
-use Rattle.c_tree.specs.Words.{Symbol, Symbols, punct, key}
+use Rattle.c_tree.specs.Words.{Symbol, Symbols, punct}
 use Rattle.c_tree.specs.Kinds.{is_punct, is_key, is_name, is_spec}
-use Rattle.c_tree.specs.Trees.{Tree, SpecTrees, Specified, MoreSpecs, NoSpec, AndSpec, SpecTree, OneWord, Tagged, Body, MemberTree, Members, MoreMembers, NoMember, AndMember, DeclaratorTree, Declares, MoreDeclarators, NoDeclarator, AndDeclarator, SuffixTrees, NoSuffix, AndSuffix, SuffixTree, Unsized, Sized, Empty, VoidOnly, Params, MoreParams, NoParam, AndParam, ParamTree, Named, Unnamed, spelled, spelled_specs, spelled_more_specs, spelled_spec, spelled_member, spelled_more_members, spelled_more_declarators, spelled_declarator, spelled_suffixes, spelled_suffix, spelled_more_params, spelled_param, IsTree, AreSpecs, IsMember, AreMoreMembers, IsDeclarator, AreMoreDeclarators, AreSuffixes, IsSuffix, IsParam, AreMoreParams, are_stars, are_pointers, is_void, is_bare_void}
+use Rattle.c_tree.specs.Trees.{Tree, SpecTrees, Specified, NoSpec, AndSpec, OneWord, Tagged, Body, MemberTree, Members, MoreMembers, NoMember, AndMember, DeclaratorTree, Declares, MoreDeclarators, NoDeclarator, AndDeclarator, SuffixTrees, NoSuffix, AndSuffix, SuffixTree, Unsized, Sized, Empty, VoidOnly, Params, MoreParams, NoParam, AndParam, ParamTree, Named, Unnamed, spelled, spelled_specs, spelled_more_specs, spelled_spec, spelled_member, spelled_more_members, spelled_more_declarators, spelled_declarator, spelled_suffixes, spelled_suffix, spelled_more_params, spelled_param, AreSpecs, IsMember, AreMoreMembers, IsDeclarator, AreMoreDeclarators, AreSuffixes, IsSuffix, IsParam, AreMoreParams, are_stars, are_pointers, is_void, is_bare_void}
 use Rattle.c_tree.specs.Lists.{more_members, more_declarators, suffixes_of, more_params}
-use Rattle.c_expression.specs.Reader.{◌>>=◌, Reader, Step, front_is, symbol_at, punct_at, key_at, specs_come, got, all_that, collect, pointers_at}
-use Rattle.c_expression.specs.Reading.{Inner, length_by, array_by, void_at, list_by, function_by, suffix_by, named_by, declarator_by, next_declarator_by, member_by, next_member_by, members_by, unnamed_on, unnamed_by, named_param_by, param_behind, param_by, next_param_by, params_by}
+use Rattle.c_expression.specs.Reader.{front_is, symbol_at, punct_at, key_at, all_that, collect, pointers_at}
+use Rattle.c_expression.specs.Reading.{Inner, length_by, array_by, void_at, list_by, function_by, suffix_by, named_by, declarator_by, next_declarator_by, member_by, next_member_by, members_by, unnamed_by, named_param_by, param_behind, param_by, next_param_by, params_by}
 use Rattle.c_expression.proofs.Knots.{goes_on_pointers, goes_on_specs, goes_on_suffixes, StopsMembers, StopsParams, IsCond, spelled_members, AreMembers, spelled_params, AreParams, Again, CompleteInner}
-use Rattle.c_expression.proofs.Collects.{and_both, neither, true_or_false, front_not, front_narrow, punct_none, collect_ends, collect_more, pointers_again}
-use Rattle.c_expression.proofs.Starts.{spec_token, name_token, star_token, begins_declarator, declarator_token, suffix_token, ends_param, param_end, spec_starts, specs_start, member_starts, member_has_token, declarator_starts, suffix_starts, suffix_has_token, param_starts, param_has_token, tree_opens}
-use Rattle.c_expression.proofs.AgainSpecifiers.{AgainStep, StopsSpecs, member_items, members_of_items, pointers_begin, specs_again_by}
+use Rattle.c_expression.proofs.Collects.{and_both, neither, true_or_false, front_not, punct_none, collect_ends, collect_more, pointers_again}
+use Rattle.c_expression.proofs.Starts.{spec_token, name_token, star_token, begins_declarator, declarator_token, suffix_token, ends_param, param_end, spec_starts, member_starts, member_has_token, declarator_starts, suffix_starts, suffix_has_token, param_starts, tree_opens}
+use Rattle.c_expression.proofs.AgainSpecifiers.{AgainStep, StopsSpecs, member_items, pointers_begin, specs_again_by}
 
 -- ---- the lists of trees as lists
 
@@ -90,19 +89,23 @@ param_no_void (Unnamed s (p ∷ ps) ss) is more =
     ap void_at (append_assoc (spelled_specs s) ((p ∷ ps) ++ spelled_suffixes ss) more) ∙ no_void s is.0 (((p ∷ ps) ++ spelled_suffixes ss) ++ more) (λ h. ap (is_punct marks.RightParenthesis) star)
 
 -- a list of parameters
-list_again : (n : ℕ) (inner : Inner) → CompleteInner n inner → (o : ℕ) (p : ParamTree) (ps : MoreParams) (c : ℕ) → length (spelled_param p ++ spelled_more_params ps) ≤ n → IsParam p → AreMoreParams ps → (rest : Symbols) → function_by inner o ((spelled_param p ++ (spelled_more_params ps ++ punct marks.RightParenthesis c ∷ [])) ++ rest) ≡ Some (Params o p ps c, rest)
+list_again : (n : ℕ) (inner : Inner) → CompleteInner n inner → (o : ℕ) (p : ParamTree) (ps : MoreParams) (c : ℕ) → length (spelled_suffix (Params o p ps c)) ≤ suc n → IsParam p → AreMoreParams ps → (rest : Symbols) → function_by inner o ((spelled_param p ++ (spelled_more_params ps ++ punct marks.RightParenthesis c ∷ [])) ++ rest) ≡ Some (Params o p ps c, rest)
 unfolding function_by list_by punct_at
 list_again n inner complete o p ps c le is are rest =
     let close = punct marks.RightParenthesis c ∷ rest in
+    let both = length-append (spelled_param p) (spelled_more_params ps) in
+    let one = length-append (spelled_param p) (spelled_more_params ps ++ punct marks.RightParenthesis c ∷ []) in
+    let two = length-append (spelled_more_params ps) (punct marks.RightParenthesis c ∷ []) in
+    let fits : length (spelled_param p ++ spelled_more_params ps) ≤ n = omega arith in
     let back = params_of_items ps in
-    let regrouped : (spelled_param p ++ (spelled_more_params ps ++ punct marks.RightParenthesis c ∷ [])) ++ rest ≡ (spelled_param p ++ spelled_more_params ps) ++ close = simp append_assoc in
-    let grouped = append_assoc (spelled_param p) (spelled_more_params ps) close in
+    let whole = (spelled_param p ++ spelled_more_params ps) ++ close in
     let behind = spelled_more_params ps ++ close in
+    let regrouped : (spelled_param p ++ (spelled_more_params ps ++ punct marks.RightParenthesis c ∷ [])) ++ rest ≡ whole = simp append_assoc in
+    let grouped = append_assoc (spelled_param p) (spelled_more_params ps) close in
     let begin = front_not is_spec (is_punct marks.RightParenthesis) (λ k. spec_token k (is_punct marks.RightParenthesis) (λ w. refl)) (spelled_param p ++ behind) (param_starts p is behind) in
-    let is_read : inner.params ((spelled_param p ++ spelled_more_params ps) ++ close) ≡ Some ((p, param_items ps), close) =
-        rw back at (complete.params (p, param_items ps) (rw back le) (is, rw back are) close refl) in
-    let first : punct_at marks.RightParenthesis ((spelled_param p ++ spelled_more_params ps) ++ close) ≡ None = rw grouped (punct_none marks.RightParenthesis (spelled_param p ++ behind) begin) in
-    let second : void_at ((spelled_param p ++ spelled_more_params ps) ++ close) ≡ None = rw grouped (param_no_void p is behind) in
+    let is_read : inner.params whole ≡ Some ((p, param_items ps), close) = rw back at (complete.params (p, param_items ps) (rw back fits) (is, rw back are) close refl) in
+    let first : punct_at marks.RightParenthesis whole ≡ None = rw grouped (punct_none marks.RightParenthesis (spelled_param p ++ behind) begin) in
+    let second : void_at whole ≡ None = rw grouped (param_no_void p is behind) in
     rw (regrouped, first, second, is_read, back) refl
 
 abbrev pub Anything : Symbols → Type 0
@@ -116,7 +119,7 @@ suffix_again_by n inner complete (Sized o e c) le is rest stop =
 suffix_again_by n inner complete (Empty o c) le is rest stop = refl
 suffix_again_by n inner complete (VoidOnly o v c) le is rest stop = refl
 suffix_again_by n inner complete (Params o p ps c) le is rest stop =
-    rw (list_again n inner complete o p ps c (omega (arith, length-append (spelled_param p) (spelled_more_params ps), length-append (spelled_param p) (spelled_more_params ps ++ punct marks.RightParenthesis c ∷ []), length-append (spelled_more_params ps) (punct marks.RightParenthesis c ∷ []))) is.0 is.1 rest) refl
+    rw (list_again n inner complete o p ps c le is.0 is.1 rest) refl
 
 abbrev pub StopsSuffixes : Symbols → Type 0
 StopsSuffixes rest = front_is goes_on_suffixes rest ≡ false
@@ -188,7 +191,7 @@ declarators_collect n inner complete (AndDeclarator c d ds) le are close rest (s
     ap (λ (l : Symbols). collect (next_declarator_by inner) (suc m) (punct marks.Comma c ∷ l)) regrouped ∙ collect_more (next_declarator_by inner) m (punct marks.Comma c ∷ (spelled_declarator d ++ more)) more end (c, d) (declarator_items ds) first others
 
 -- specifiers end at a declarator
-specs_end : (d : DeclaratorTree) → IsDeclarator d → (rest : Symbols) → StopsSpecs (spelled_declarator d ++ rest)
+pub specs_end : (d : DeclaratorTree) → IsDeclarator d → (rest : Symbols) → StopsSpecs (spelled_declarator d ++ rest)
 specs_end d is rest = front_not begins_declarator goes_on_specs (λ k. declarator_token k goes_on_specs refl refl) (spelled_declarator d ++ rest) (declarator_starts d is rest)
 
 pub member_again_by : (n : ℕ) (inner : Inner) → CompleteInner n inner → Again (suc n) spelled_member IsMember Anything (member_by inner)

@@ -1,17 +1,13 @@
--- Specifiers, type names and suffixes are read again from their spelling, where what stands in brackets is.
-use Rattle.std.proofs.Common.{◌≡◌, ℕ, zero, suc, ◌+◌, ◌<◌, ◌≤◌, Bool, true, false, cond, if◌then◌else◌, List, [], ◌∷◌, ◌++◌, length, Option, Some, None, refl, sym, ap, ◌∙◌, append_assoc, length-append, arith}
-use Rattle.c_token.specs.declared.token.TokKind.{TokKind}
-use Rattle.c_token.specs.declared.token.TokKind.TheVariants as kinds
-use Rattle.c_token.specs.declared.token.Keyword.TheVariants as words
-use Rattle.c_token.specs.declared.token.Punct.{Punct}
+-- Specifiers and type names are read again from their spelling, where what stands in brackets is.
+use Rattle.std.proofs.Common.{◌≡◌, ℕ, zero, suc, ◌≤◌, true, false, List, [], ◌∷◌, ◌++◌, length, Some, None, refl, ap, ◌∙◌, append_assoc, length-append, arith}
 use Rattle.c_token.specs.declared.token.Punct.TheVariants as marks
-use Rattle.c_tree.specs.Words.{Symbol, Symbols, punct, key}
-use Rattle.c_tree.specs.Kinds.{is_punct, is_key, is_name, is_spec}
-use Rattle.c_tree.specs.Trees.{Tree, TypeTree, TypeOf, SpecTrees, Specified, MoreSpecs, NoSpec, AndSpec, SpecTree, OneWord, Tagged, Body, MemberTree, MoreMembers, NoMember, AndMember, spelled_type, spelled_specs, spelled_more_specs, spelled_spec, spelled_member, spelled_more_members, IsType, AreSpecs, AreMoreSpecs, IsSpec, IsMember, AreMoreMembers, are_stars, are_pointers}
+use Rattle.c_tree.specs.Words.{Symbols, punct}
+use Rattle.c_tree.specs.Kinds.{is_punct, is_spec}
+use Rattle.c_tree.specs.Trees.{TypeOf, Specified, MoreSpecs, NoSpec, AndSpec, SpecTree, OneWord, Tagged, Body, MemberTree, MoreMembers, NoMember, AndMember, spelled_type, spelled_specs, spelled_more_specs, spelled_spec, spelled_member, spelled_more_members, IsType, AreSpecs, AreMoreSpecs, IsSpec, IsMember, AreMoreMembers, are_stars, are_pointers}
 use Rattle.c_tree.specs.Lists.{more_specs, more_members}
-use Rattle.c_expression.specs.Reader.{◌>>=◌, Reader, Step, front_is, symbol_at, punct_at, specs_come, got, all_that, collect, pointers_at}
-use Rattle.c_expression.specs.Reading.{Inner, body_by, struct_on, struct_by, spec_by, next_spec_by, specs_by, type_name_by}
-use Rattle.c_expression.proofs.Knots.{goes_on_specs, goes_on_pointers, StopsType, StopsMembers, spelled_members, AreMembers, Again, CompleteInner}
+use Rattle.c_expression.specs.Reader.{Step, front_is, symbol_at, punct_at, collect}
+use Rattle.c_expression.specs.Reading.{Inner, body_by, struct_by, spec_by, next_spec_by, specs_by, type_name_by}
+use Rattle.c_expression.proofs.Knots.{goes_on_specs, StopsType, Again, CompleteInner}
 use Rattle.c_expression.proofs.Collects.{front_not, front_narrow, collect_ends, collect_more, pointers_again, and_both, neither}
 use Rattle.c_expression.proofs.Starts.{spec_token, star_token, spec_starts, spec_has_token}
 
@@ -47,25 +43,27 @@ abbrev pub StopsSpecs : Symbols → Type 0
 StopsSpecs rest = front_is goes_on_specs rest ≡ false
 
 -- the members of a structure, and its `}`
-body_again : (n : ℕ) (inner : Inner) → CompleteInner n inner → (k : ℕ) (tag : Symbols) (o : ℕ) (m : MemberTree) (ms : MoreMembers) (c : ℕ) → length (spelled_member m ++ spelled_more_members ms) ≤ n → IsMember m → AreMoreMembers ms → (rest : Symbols) → body_by inner k tag (punct marks.LeftBrace o ∷ ((spelled_member m ++ (spelled_more_members ms ++ punct marks.RightBrace c ∷ [])) ++ rest)) ≡ Some (Body k tag o m ms c, rest)
+body_again : (n : ℕ) (inner : Inner) → CompleteInner n inner → (k : ℕ) (tag : Symbols) (o : ℕ) (m : MemberTree) (ms : MoreMembers) (c : ℕ) → length (spelled_spec (Body k tag o m ms c)) ≤ suc n → IsMember m → AreMoreMembers ms → (rest : Symbols) → body_by inner k tag (punct marks.LeftBrace o ∷ ((spelled_member m ++ (spelled_more_members ms ++ punct marks.RightBrace c ∷ [])) ++ rest)) ≡ Some (Body k tag o m ms c, rest)
 unfolding body_by punct_at
 body_again n inner complete k tag o m ms c le is are rest =
     let close = punct marks.RightBrace c ∷ rest in
+    let behind = spelled_more_members ms ++ punct marks.RightBrace c ∷ [] in
+    let both = length-append (spelled_member m) (spelled_more_members ms) in
+    let one = length-append tag (punct marks.LeftBrace o ∷ (spelled_member m ++ behind)) in
+    let two = length-append (spelled_member m) behind in
+    let three = length-append (spelled_more_members ms) (punct marks.RightBrace c ∷ []) in
+    let fits : length (spelled_member m ++ spelled_more_members ms) ≤ n = omega arith in
     let back = members_of_items ms in
-    let regrouped : (spelled_member m ++ (spelled_more_members ms ++ punct marks.RightBrace c ∷ [])) ++ rest ≡ (spelled_member m ++ spelled_more_members ms) ++ close = simp append_assoc in
-    let is_read : inner.members ((spelled_member m ++ spelled_more_members ms) ++ close) ≡ Some ((m, member_items ms), close) =
-        rw back at (complete.members (m, member_items ms) (rw back le) (is, rw back are) close refl) in
+    let regrouped : (spelled_member m ++ behind) ++ rest ≡ (spelled_member m ++ spelled_more_members ms) ++ close = simp append_assoc in
+    let is_read : inner.members ((spelled_member m ++ spelled_more_members ms) ++ close) ≡ Some ((m, member_items ms), close) = rw back at (complete.members (m, member_items ms) (rw back fits) (is, rw back are) close refl) in
     rw (regrouped, is_read, back) refl
 
 pub spec_again_by : (n : ℕ) (inner : Inner) → CompleteInner n inner → Again (suc n) spelled_spec IsSpec StopsSpec (spec_by inner)
 unfolding spec_by struct_by symbol_at
 spec_again_by n inner complete (OneWord s) le is rest stop = rw is refl
 spec_again_by n inner complete (Tagged k name) le is rest stop = rw (is, stop) refl
-spec_again_by n inner complete (Body k [] o m ms c) le is rest stop =
-    body_again n inner complete k [] o m ms c (omega (arith, length-append (spelled_member m) (spelled_more_members ms), length-append (spelled_member m) (spelled_more_members ms ++ punct marks.RightBrace c ∷ []), length-append (spelled_more_members ms) (punct marks.RightBrace c ∷ []))) is.1 is.2 rest
-spec_again_by n inner complete (Body k (t ∷ []) o m ms c) le is rest stop =
-    let named = is.0 in
-    rw named (body_again n inner complete k (t ∷ []) o m ms c (omega (arith, length-append (spelled_member m) (spelled_more_members ms), length-append (spelled_member m) (spelled_more_members ms ++ punct marks.RightBrace c ∷ []), length-append (spelled_more_members ms) (punct marks.RightBrace c ∷ []))) is.1 is.2 rest)
+spec_again_by n inner complete (Body k [] o m ms c) le is rest stop = body_again n inner complete k [] o m ms c le is.1 is.2 rest
+spec_again_by n inner complete (Body k (t ∷ []) o m ms c) le is rest stop = let named = is.0 in rw named (body_again n inner complete k (t ∷ []) o m ms c le is.1 is.2 rest)
 spec_again_by n inner complete (Body k (t ∷ u ∷ more) o m ms c) le is rest stop = absurd (let h = is.0 in cc)
 
 -- further specifiers

@@ -13,3 +13,4 @@ pub mod TakesDeclarators
 pub mod AgainLoops
 pub mod AgainOperands
 pub mod AgainExpressions
+pub mod AgainAll

@@ -1,14 +1,13 @@
 -- The tokens that specifiers, declarators and what is in brackets begin with, and that each has one.
-use Rattle.std.proofs.Common.{◌≡◌, ℕ, zero, suc, ◌+◌, ◌<◌, ◌≤◌, Bool, true, false, ◌&&◌, cond, if◌then◌else◌, List, [], ◌∷◌, ◌++◌, length, Option, Some, None, refl, sym, ap, ◌∙◌, append_assoc, length-append, arith}
+use Rattle.std.proofs.Common.{◌≡◌, ◌<◌, Bool, true, false, if◌then◌else◌, [], ◌∷◌, ◌++◌, length, refl, ap, ◌∙◌, append_assoc, length-append, arith}
 use Rattle.c_token.specs.declared.token.TokKind.{TokKind}
 use Rattle.c_token.specs.declared.token.TokKind.TheVariants as kinds
 use Rattle.c_token.specs.declared.token.Keyword.{Keyword}
 use Rattle.c_token.specs.declared.token.Keyword.TheVariants as words
-use Rattle.c_token.specs.declared.token.Punct.{Punct}
 use Rattle.c_token.specs.declared.token.Punct.TheVariants as marks
-use Rattle.c_tree.specs.Words.{Symbol, Symbols, punct}
-use Rattle.c_tree.specs.Kinds.{is_punct, is_key, is_name, is_leaf, is_prefix, is_spec, is_spec_word, is_specifying, begins_spec}
-use Rattle.c_tree.specs.Trees.{Tree, Leaf, Group, Behind, Before, Measure, Join, Choose, Assign, Pre, Sign, Sizeof, Cast, TypeTree, TypeOf, SpecTrees, Specified, MoreSpecs, NoSpec, AndSpec, SpecTree, OneWord, Tagged, Body, MemberTree, Members, DeclaratorTree, Declares, SuffixTrees, NoSuffix, AndSuffix, SuffixTree, Unsized, Sized, Empty, VoidOnly, Params, ParamTree, Named, Unnamed, spelled, spelled_pre, spelled_post, spelled_type, spelled_specs, spelled_more_specs, spelled_spec, spelled_member, spelled_more_declarators, spelled_declarator, spelled_suffixes, spelled_suffix, spelled_param, IsTree, IsType, AreSpecs, IsSpec, IsMember, IsDeclarator, IsParam, are_pointers}
+use Rattle.c_tree.specs.Words.{Symbols, punct}
+use Rattle.c_tree.specs.Kinds.{is_punct, is_name, is_leaf, is_prefix, is_spec, is_spec_word, is_specifying, begins_spec}
+use Rattle.c_tree.specs.Trees.{Tree, Leaf, Group, Behind, Before, Measure, Join, Choose, Assign, Sign, Sizeof, Cast, TypeTree, TypeOf, SpecTrees, Specified, SpecTree, OneWord, Tagged, Body, MemberTree, Members, DeclaratorTree, Declares, SuffixTree, Unsized, Sized, Empty, VoidOnly, Params, ParamTree, Named, Unnamed, spelled, spelled_pre, spelled_post, spelled_type, spelled_specs, spelled_more_specs, spelled_spec, spelled_member, spelled_more_declarators, spelled_declarator, spelled_suffixes, spelled_suffix, spelled_param, IsTree, AreSpecs, IsSpec, IsMember, IsDeclarator, IsParam}
 use Rattle.c_expression.specs.Reader.{front_is}
 use Rattle.c_expression.proofs.Knots.{goes_on_suffixes}
 use Rattle.c_expression.proofs.Collects.{and_both}
