@@ -14,8 +14,10 @@ use Rattle.c_expression.specs.Reading.{at, assign_by, specs_by, declarator_by}
 use Rattle.c_expression.proofs.Knots.{goes_on_specs, goes_on_suffixes, begins_expr, Stops}
 use Rattle.c_expression.proofs.Collects.{front_not, punct_none, collect_ends, collect_more}
 use Rattle.c_expression.proofs.Starts.{begins_declarator, declarator_token, declarator_starts}
+use Rattle.c_expression.proofs.AgainOperands.{expr_starts}
+use Rattle.c_parse.proofs.AgainParts.{assign_again, specs_again, declarator_again}
 use Rattle.c_parse.specs.Reading.{comma_at, next_init_by, list_by, value_by, init_by, init_inside, init_at, begun_on, begun_behind, begun_by, next_begun_by, declared_behind, declaration_on, declaration_behind, declaration_by, next_declaration_by}
-use Rattle.c_parse.proofs.AgainFronts.{PartsAgain, apart_mark, no_mark, no_text, begins_init, init_starts, declaration_starts, declaration_has_token}
+use Rattle.c_parse.proofs.AgainFronts.{apart_mark, no_mark, no_text, begins_init, init_starts, declaration_starts, declaration_has_token}
 
 -- ---- initializers
 
@@ -42,11 +44,11 @@ unfolding init_by
 value_front n inner [] h = absurd cc
 value_front n inner (s ∷ toks) h = rw (apart_mark begins_expr marks.LeftBrace refl s.kind h, no_text s.kind h) refl
 
-value_reads : PartsAgain → (e : Tree) → ReadsInit (Value e)
+value_reads : (e : Tree) → ReadsInit (Value e)
 unfolding value_by
-value_reads parts e n le is rest stop =
-    let first = value_front n (init_inside n) (spelled e ++ rest) (parts.expr_starts e is.0 rest) in
-    let whole = parts.assign n e le is rest stop in
+value_reads e n le is rest stop =
+    let first = value_front n (init_inside n) (spelled e ++ rest) (expr_starts e is.0 rest) in
+    let whole = assign_again n e le is rest stop in
     first ∙ rw whole refl
 
 no_brace : (k : TokKind) → is_text k ≡ true → is_punct marks.LeftBrace k ≡ false
@@ -89,30 +91,30 @@ listed_reads o i is last c hi his (suc n) le are rest stop =
 no_init_reads : ReadsInits NoInit
 no_init_reads n le are last c rest m turns = collect_ends (next_init_by (init_at n)) m (list_end last c rest) (inits_end (init_at n) last c rest)
 
-next_init_reads : PartsAgain → (k : ℕ) (i : InitTree) (n : ℕ) (more : Symbols) → IsInit i → init_at n (spelled_init i ++ more) ≡ Some (i, more) → next_init_by (init_at n) (punct marks.Comma k ∷ (spelled_init i ++ more)) ≡ Some (Some ((k, i), more))
+next_init_reads : (k : ℕ) (i : InitTree) (n : ℕ) (more : Symbols) → IsInit i → init_at n (spelled_init i ++ more) ≡ Some (i, more) → next_init_by (init_at n) (punct marks.Comma k ∷ (spelled_init i ++ more)) ≡ Some (Some ((k, i), more))
 unfolding next_init_by
-next_init_reads parts k i n more is h = rw (no_mark begins_init marks.RightBrace refl (spelled_init i ++ more) (init_starts parts i is more), h) refl
+next_init_reads k i n more is h = rw (no_mark begins_init marks.RightBrace refl (spelled_init i ++ more) (init_starts i is more), h) refl
 
-and_init_reads : PartsAgain → (k : ℕ) (i : InitTree) (is : MoreInits) → ReadsInit i → ReadsInits is → ReadsInits (AndInit k i is)
-and_init_reads parts k i is hi his n le are last c rest zero turns = absurd (omega arith)
-and_init_reads parts k i is hi his n le are last c rest (suc m) turns =
+and_init_reads : (k : ℕ) (i : InitTree) (is : MoreInits) → ReadsInit i → ReadsInits is → ReadsInits (AndInit k i is)
+and_init_reads k i is hi his n le are last c rest zero turns = absurd (omega arith)
+and_init_reads k i is hi his n le are last c rest (suc m) turns =
     let end = list_end last c rest in
     let more = spelled_more_inits is ++ end in
     let first = hi n (omega (arith, length-append (spelled_init i) (spelled_more_inits is))) are.0 more (more_stop is last c rest) in
-    let step = next_init_reads parts k i n more are.0 first in
+    let step = next_init_reads k i n more are.0 first in
     let others = his n (omega (arith, length-append (spelled_init i) (spelled_more_inits is))) are.1 last c rest m (omega (arith, length-append (spelled_init i) (spelled_more_inits is))) in
     ap (λ (l : Symbols). collect (next_init_by (init_at n)) (suc m) (punct marks.Comma k ∷ l)) (append_assoc (spelled_init i) (spelled_more_inits is) end)
     ∙ collect_more (next_init_by (init_at n)) m (punct marks.Comma k ∷ (spelled_init i ++ more)) more end (k, i) (init_items is) step others
 
 mutual
-  pub init_again : PartsAgain → (i : InitTree) → ReadsInit i
-  init_again parts (Value e) = value_reads parts e
-  init_again parts (Quoted s) = quoted_reads s
-  init_again parts (Listed o i is last c) = listed_reads o i is last c (init_again parts i) (inits_again parts is)
+  pub init_again : (i : InitTree) → ReadsInit i
+  init_again (Value e) = value_reads e
+  init_again (Quoted s) = quoted_reads s
+  init_again (Listed o i is last c) = listed_reads o i is last c (init_again i) (inits_again is)
 
-  inits_again : PartsAgain → (is : MoreInits) → ReadsInits is
-  inits_again parts NoInit = no_init_reads
-  inits_again parts (AndInit k i is) = and_init_reads parts k i is (init_again parts i) (inits_again parts is)
+  inits_again : (is : MoreInits) → ReadsInits is
+  inits_again NoInit = no_init_reads
+  inits_again (AndInit k i is) = and_init_reads k i is (init_again i) (inits_again is)
 
 -- ---- declarators with what they begin as
 
@@ -133,18 +135,18 @@ pub equals_stop : (i : Option (ℕ × InitTree)) (rest : Symbols) → front_is e
 equals_stop None rest h = begun_not goes_on_suffixes refl refl rest h
 equals_stop (Some i) rest h = refl
 
-pub begun_behind_again : PartsAgain → (n : ℕ) (d : DeclaratorTree) (i : Option (ℕ × InitTree)) → length (spelled_equals i) ≤ n → IsEquals i → (rest : Symbols) → front_is ends_begun rest ≡ true → begun_behind n d (spelled_equals i ++ rest) ≡ Some (record { declarator = d; init = i }, rest)
+pub begun_behind_again : (n : ℕ) (d : DeclaratorTree) (i : Option (ℕ × InitTree)) → length (spelled_equals i) ≤ n → IsEquals i → (rest : Symbols) → front_is ends_begun rest ≡ true → begun_behind n d (spelled_equals i ++ rest) ≡ Some (record { declarator = d; init = i }, rest)
 unfolding begun_behind punct_at
-begun_behind_again parts n d None le is rest h = rw (punct_none marks.Assign rest (begun_not (is_punct marks.Assign) refl refl rest h)) refl
-begun_behind_again parts n d (Some i) le is rest h = rw (init_again parts i.1 n (omega arith) is rest (begun_not _ refl refl rest h)) refl
+begun_behind_again n d None le is rest h = rw (punct_none marks.Assign rest (begun_not (is_punct marks.Assign) refl refl rest h)) refl
+begun_behind_again n d (Some i) le is rest h = rw (init_again i.1 n (omega arith) is rest (begun_not _ refl refl rest h)) refl
 
-pub begun_again : PartsAgain → (n : ℕ) (b : BegunTree) → length (spelled_begun b) ≤ n → IsBegun b → (rest : Symbols) → front_is ends_begun rest ≡ true → begun_by n (spelled_begun b ++ rest) ≡ Some (b, rest)
+pub begun_again : (n : ℕ) (b : BegunTree) → length (spelled_begun b) ≤ n → IsBegun b → (rest : Symbols) → front_is ends_begun rest ≡ true → begun_by n (spelled_begun b ++ rest) ≡ Some (b, rest)
 unfolding begun_by
-begun_again parts n b le is rest h =
+begun_again n b le is rest h =
     let more = spelled_equals b.init ++ rest in
     let sizes = length-append (spelled_declarator b.declarator) (spelled_equals b.init) in
-    let first = parts.declarator n b.declarator (omega arith) is.0 more (equals_stop b.init rest h) in
-    rw (append_assoc (spelled_declarator b.declarator) (spelled_equals b.init) rest, first) (begun_behind_again parts n b.declarator b.init (omega arith) is.1 rest h)
+    let first = declarator_again n b.declarator (omega arith) is.0 more (equals_stop b.init rest h) in
+    rw (append_assoc (spelled_declarator b.declarator) (spelled_equals b.init) rest, first) (begun_behind_again n b.declarator b.init (omega arith) is.1 rest h)
 
 -- further ones, to the semicolon
 more_begun_stop : (bs : List (ℕ × BegunTree)) (c : ℕ) (rest : Symbols) → front_is ends_begun (spelled_more_begun bs ++ punct marks.Semicolon c ∷ rest) ≡ true
@@ -159,28 +161,28 @@ next_begun_reads : (n k : ℕ) (b : BegunTree) (more : Symbols) → begun_by n (
 unfolding next_begun_by
 next_begun_reads n k b more h = rw h refl
 
-pub more_begun_again : PartsAgain → (n : ℕ) (bs : List (ℕ × BegunTree)) → length (spelled_more_begun bs) ≤ n → AreMoreBegun bs → (c : ℕ) (rest : Symbols) (m : ℕ) → length (spelled_more_begun bs) ≤ m → collect (next_begun_by n) m (spelled_more_begun bs ++ punct marks.Semicolon c ∷ rest) ≡ Some (bs, punct marks.Semicolon c ∷ rest)
-more_begun_again parts n [] le are c rest m turns = collect_ends (next_begun_by n) m (punct marks.Semicolon c ∷ rest) (next_begun_end n c rest)
-more_begun_again parts n (b ∷ bs) le are c rest zero turns = absurd (omega arith)
-more_begun_again parts n (b ∷ bs) le are c rest (suc m) turns =
+pub more_begun_again : (n : ℕ) (bs : List (ℕ × BegunTree)) → length (spelled_more_begun bs) ≤ n → AreMoreBegun bs → (c : ℕ) (rest : Symbols) (m : ℕ) → length (spelled_more_begun bs) ≤ m → collect (next_begun_by n) m (spelled_more_begun bs ++ punct marks.Semicolon c ∷ rest) ≡ Some (bs, punct marks.Semicolon c ∷ rest)
+more_begun_again n [] le are c rest m turns = collect_ends (next_begun_by n) m (punct marks.Semicolon c ∷ rest) (next_begun_end n c rest)
+more_begun_again n (b ∷ bs) le are c rest zero turns = absurd (omega arith)
+more_begun_again n (b ∷ bs) le are c rest (suc m) turns =
     let end = punct marks.Semicolon c ∷ rest in
     let more = spelled_more_begun bs ++ end in
     let sizes = length-append (spelled_begun b.1) (spelled_more_begun bs) in
-    let first = begun_again parts n b.1 (omega arith) are.0 more (more_begun_stop bs c rest) in
+    let first = begun_again n b.1 (omega arith) are.0 more (more_begun_stop bs c rest) in
     let step = next_begun_reads n b.0 b.1 more first in
-    let others = more_begun_again parts n bs (omega arith) are.1 c rest m (omega arith) in
+    let others = more_begun_again n bs (omega arith) are.1 c rest m (omega arith) in
     ap (λ (l : Symbols). collect (next_begun_by n) (suc m) (punct marks.Comma b.0 ∷ l)) (append_assoc (spelled_begun b.1) (spelled_more_begun bs) end)
     ∙ collect_more (next_begun_by n) m (punct marks.Comma b.0 ∷ (spelled_begun b.1 ++ more)) more end b bs step others
 
 -- ---- declarations
 
 -- behind the first declarator
-pub declared_again : PartsAgain → (n : ℕ) (specs : SpecTrees) (b : BegunTree) (bs : List (ℕ × BegunTree)) (c : ℕ) → length (spelled_more_begun bs) ≤ n → AreMoreBegun bs → (rest : Symbols) → declared_behind n specs b (spelled_more_begun bs ++ punct marks.Semicolon c ∷ rest) ≡ Some (record { specs = specs; declared = Some (b, bs); semicolon = c }, rest)
+pub declared_again : (n : ℕ) (specs : SpecTrees) (b : BegunTree) (bs : List (ℕ × BegunTree)) (c : ℕ) → length (spelled_more_begun bs) ≤ n → AreMoreBegun bs → (rest : Symbols) → declared_behind n specs b (spelled_more_begun bs ++ punct marks.Semicolon c ∷ rest) ≡ Some (record { specs = specs; declared = Some (b, bs); semicolon = c }, rest)
 unfolding declared_behind punct_at
-declared_again parts n specs b bs c le are rest =
+declared_again n specs b bs c le are rest =
     let end = punct marks.Semicolon c ∷ rest in
     let turns = length-append (spelled_more_begun bs) end in
-    rw (more_begun_again parts n bs le are c rest (length (spelled_more_begun bs ++ end)) (omega arith)) refl
+    rw (more_begun_again n bs le are c rest (length (spelled_more_begun bs ++ end)) (omega arith)) refl
 
 -- a declarator doesn't begin with `;`, nor with what goes on with specifiers
 pub declarator_not : (test : TokKind → Bool) → test (kinds.Punct marks.Star) ≡ false → test kinds.Name ≡ false → (d : DeclaratorTree) → IsDeclarator d → (rest : Symbols) → front_is test (spelled_declarator d ++ rest) ≡ false
@@ -194,25 +196,25 @@ declared_stop None c are rest = refl
 declared_stop (Some d) c are rest = ap (front_is goes_on_specs) (append_assoc (spelled_begun d.0) (spelled_more_begun d.1) (punct marks.Semicolon c ∷ rest)) ∙ begun_not_front goes_on_specs refl refl d.0 are.0 (spelled_more_begun d.1 ++ punct marks.Semicolon c ∷ rest)
 
 -- behind the specifiers
-declaration_behind_again : PartsAgain → (n : ℕ) (specs : SpecTrees) (d : Option DeclaredTrees) (c : ℕ) → length (spelled_declared d) ≤ n → AreDeclared d → (rest : Symbols) → declaration_behind n specs (spelled_declared d ++ punct marks.Semicolon c ∷ rest) ≡ Some (record { specs = specs; declared = d; semicolon = c }, rest)
+declaration_behind_again : (n : ℕ) (specs : SpecTrees) (d : Option DeclaredTrees) (c : ℕ) → length (spelled_declared d) ≤ n → AreDeclared d → (rest : Symbols) → declaration_behind n specs (spelled_declared d ++ punct marks.Semicolon c ∷ rest) ≡ Some (record { specs = specs; declared = d; semicolon = c }, rest)
 unfolding declaration_behind punct_at
-declaration_behind_again parts n specs None c le are rest = refl
-declaration_behind_again parts n specs (Some d) c le are rest =
+declaration_behind_again n specs None c le are rest = refl
+declaration_behind_again n specs (Some d) c le are rest =
     let end = punct marks.Semicolon c ∷ rest in
     let more = spelled_more_begun d.1 ++ end in
     let sizes = length-append (spelled_begun d.0) (spelled_more_begun d.1) in
     let none = punct_none marks.Semicolon (spelled_begun d.0 ++ more) (begun_not_front (is_punct marks.Semicolon) refl refl d.0 are.0 more) in
-    let first = begun_again parts n d.0 (omega arith) are.0 more (more_begun_stop d.1 c rest) in
-    rw (append_assoc (spelled_begun d.0) (spelled_more_begun d.1) end, none, first) (declared_again parts n specs d.0 d.1 c (omega arith) are.1 rest)
+    let first = begun_again n d.0 (omega arith) are.0 more (more_begun_stop d.1 c rest) in
+    rw (append_assoc (spelled_begun d.0) (spelled_more_begun d.1) end, none, first) (declared_again n specs d.0 d.1 c (omega arith) are.1 rest)
 
-pub declaration_again : PartsAgain → (n : ℕ) (d : DeclarationTree) → length (spelled_declaration d) ≤ n → IsDeclaration d → (rest : Symbols) → declaration_by n (spelled_declaration d ++ rest) ≡ Some (d, rest)
+pub declaration_again : (n : ℕ) (d : DeclarationTree) → length (spelled_declaration d) ≤ n → IsDeclaration d → (rest : Symbols) → declaration_by n (spelled_declaration d ++ rest) ≡ Some (d, rest)
 unfolding declaration_by
-declaration_again parts n d le is rest =
+declaration_again n d le is rest =
     let end = punct marks.Semicolon d.semicolon ∷ rest in
     let more = spelled_declared d.declared ++ end in
     let regrouped : spelled_declaration d ++ rest ≡ spelled_specs d.specs ++ more = simp append_assoc in
-    let first = parts.specs n d.specs (omega (arith, length-append {A = Symbol})) is.0 more (declared_stop d.declared d.semicolon is.1 rest) in
-    rw (regrouped, first) (declaration_behind_again parts n d.specs d.declared d.semicolon (omega (arith, length-append {A = Symbol})) is.1 rest)
+    let first = specs_again n d.specs (omega (arith, length-append {A = Symbol})) is.0 more (declared_stop d.declared d.semicolon is.1 rest) in
+    rw (regrouped, first) (declaration_behind_again n d.specs d.declared d.semicolon (omega (arith, length-append {A = Symbol})) is.1 rest)
 
 next_declaration_none : (n : ℕ) (rest : Symbols) → front_is is_spec rest ≡ false → next_declaration_by n rest ≡ Some None
 unfolding next_declaration_by
@@ -222,14 +224,14 @@ next_declaration_reads : (n : ℕ) (d : DeclarationTree) (more : Symbols) → Is
 unfolding next_declaration_by
 next_declaration_reads n d more is h = rw (declaration_starts d is more, h) refl
 
-pub declarations_again : PartsAgain → (n : ℕ) (ds : List DeclarationTree) → length (spelled_declarations ds) ≤ n → AreDeclarations ds → (rest : Symbols) → front_is is_spec rest ≡ false → (m : ℕ) → length (spelled_declarations ds) ≤ m → collect (next_declaration_by n) m (spelled_declarations ds ++ rest) ≡ Some (ds, rest)
-declarations_again parts n [] le are rest stop m turns = collect_ends (next_declaration_by n) m rest (next_declaration_none n rest stop)
-declarations_again parts n (d ∷ ds) le are rest stop zero turns = absurd (omega (arith, declaration_has_token d, length-append (spelled_declaration d) (spelled_declarations ds)))
-declarations_again parts n (d ∷ ds) le are rest stop (suc m) turns =
+pub declarations_again : (n : ℕ) (ds : List DeclarationTree) → length (spelled_declarations ds) ≤ n → AreDeclarations ds → (rest : Symbols) → front_is is_spec rest ≡ false → (m : ℕ) → length (spelled_declarations ds) ≤ m → collect (next_declaration_by n) m (spelled_declarations ds ++ rest) ≡ Some (ds, rest)
+declarations_again n [] le are rest stop m turns = collect_ends (next_declaration_by n) m rest (next_declaration_none n rest stop)
+declarations_again n (d ∷ ds) le are rest stop zero turns = absurd (omega (arith, declaration_has_token d, length-append (spelled_declaration d) (spelled_declarations ds)))
+declarations_again n (d ∷ ds) le are rest stop (suc m) turns =
     let more = spelled_declarations ds ++ rest in
     let sizes = length-append (spelled_declaration d) (spelled_declarations ds) in
-    let first = declaration_again parts n d (omega arith) are.0 more in
+    let first = declaration_again n d (omega arith) are.0 more in
     let step = next_declaration_reads n d more are.0 first in
-    let others = declarations_again parts n ds (omega arith) are.1 rest stop m (omega (arith, declaration_has_token d)) in
+    let others = declarations_again n ds (omega arith) are.1 rest stop m (omega (arith, declaration_has_token d)) in
     ap (collect (next_declaration_by n) (suc m)) (append_assoc (spelled_declaration d) (spelled_declarations ds) rest)
     ∙ collect_more (next_declaration_by n) m (spelled_declaration d ++ more) more rest d ds step others

@@ -11,21 +11,11 @@ use Rattle.c_tree.specs.Kinds.{is_punct, is_key, is_name, is_text, is_leaf, is_p
 use Rattle.c_tree.specs.Trees.{Tree, SpecTrees, DeclaratorTree, spelled, spelled_specs, spelled_declarator, IsTree, AreSpecs, IsDeclarator}
 use Rattle.c_tree.specs.Programs.{ConditionTree, HeadTree, InitTree, Value, Quoted, Listed, DeclarationTree, StatementTree, Braced, Plain, Chain, While, Do, For, Switch, Break, Continue, Return, BlockTree, Block, Statements, NoStatement, AndStatement, ArmTree, Arm, Arms, NoElse, Else, ElseIf, Items, NoItem, AndLabel, AndInner, LabelTree, Case, Default, ItemTree, Function, Declaration, spelled_any, spelled_condition, spelled_head, spelled_init, spelled_more_inits, spelled_comma, spelled_begun, spelled_declared, spelled_declaration, spelled_statement, spelled_block, spelled_statements, spelled_arm, spelled_arms, spelled_items, spelled_item, IsAny, IsInit, IsDeclaration, IsStatement, IsArm, IsItem, is_chain}
 use Rattle.c_expression.specs.Reader.{front_is}
-use Rattle.c_expression.specs.Reading.{at, expr_by, cond_by, assign_by, specs_by, declarator_by}
-use Rattle.c_expression.proofs.Knots.{goes_on_specs, goes_on_suffixes, begins_expr, Stops, IsCond, IsAssign, Again}
+use Rattle.c_expression.proofs.Knots.{begins_expr}
 use Rattle.c_expression.proofs.Plain.{punct_kind, key_kind}
 use Rattle.c_expression.proofs.Collects.{front_not}
+use Rattle.c_expression.proofs.AgainOperands.{expr_starts}
 use Rattle.c_expression.proofs.Starts.{specs_start, specs_have_token, tree_has_token}
-
--- ---- what is known of expressions and declarators
-
-pub record PartsAgain : Type 0 where
-  pub expr : (n : ℕ) → Again n spelled IsTree (Stops 13) (expr_by (at n))
-  pub choice : (n : ℕ) → Again n spelled IsCond (Stops 11) (cond_by (at n))
-  pub assign : (n : ℕ) → Again n spelled IsAssign (Stops 12) (assign_by (at n))
-  pub specs : (n : ℕ) → Again n spelled_specs AreSpecs (λ rest. front_is goes_on_specs rest ≡ false) (specs_by (at n))
-  pub declarator : (n : ℕ) → Again n spelled_declarator IsDeclarator (λ rest. front_is goes_on_suffixes rest ≡ false) (declarator_by (at n))
-  pub expr_starts : (t : Tree) → IsTree t → (rest : Symbols) → front_is begins_expr (spelled t ++ rest) ≡ true
 
 -- ---- a token that passes one test is not another token
 
@@ -76,10 +66,10 @@ text_init : (k : TokKind) → is_text k ≡ true → begins_init k ≡ true
 text_init kinds.Text h = refl
 text_init _ h = absurd cc
 
-pub init_starts : PartsAgain → (i : InitTree) → IsInit i → (rest : Symbols) → front_is begins_init (spelled_init i ++ rest) ≡ true
-init_starts parts (Value e) is rest = front_wide begins_expr begins_init expr_init (spelled e ++ rest) (parts.expr_starts e is.0 rest)
-init_starts parts (Quoted s) is rest = text_init s.kind is
-init_starts parts (Listed o i is_ last c) is rest = refl
+pub init_starts : (i : InitTree) → IsInit i → (rest : Symbols) → front_is begins_init (spelled_init i ++ rest) ≡ true
+init_starts (Value e) is rest = front_wide begins_expr begins_init expr_init (spelled e ++ rest) (expr_starts e is.0 rest)
+init_starts (Quoted s) is rest = text_init s.kind is
+init_starts (Listed o i is_ last c) is rest = refl
 
 -- ---- declarations
 
@@ -113,24 +103,24 @@ begins_statement k = if begins_expr k then true else begins_control k
 expr_statement : (k : TokKind) → begins_expr k ≡ true → begins_statement k ≡ true
 expr_statement k h = rw h refl
 
-pub any_starts : PartsAgain → (e : Tree) → IsTree e → (rest : Symbols) → front_is begins_statement (spelled e ++ rest) ≡ true
-any_starts parts e is rest = front_wide begins_expr begins_statement expr_statement (spelled e ++ rest) (parts.expr_starts e is rest)
+pub any_starts : (e : Tree) → IsTree e → (rest : Symbols) → front_is begins_statement (spelled e ++ rest) ≡ true
+any_starts e is rest = front_wide begins_expr begins_statement expr_statement (spelled e ++ rest) (expr_starts e is rest)
 
-plain_starts : PartsAgain → (e : Option Tree) (c : ℕ) → IsAny e → (rest : Symbols) → front_is begins_statement ((spelled_any e ++ punct marks.Semicolon c ∷ []) ++ rest) ≡ true
-plain_starts parts None c is rest = refl
-plain_starts parts (Some e) c is rest = ap (front_is begins_statement) (append_assoc (spelled e) (punct marks.Semicolon c ∷ []) rest) ∙ any_starts parts e is (punct marks.Semicolon c ∷ rest)
+plain_starts : (e : Option Tree) (c : ℕ) → IsAny e → (rest : Symbols) → front_is begins_statement ((spelled_any e ++ punct marks.Semicolon c ∷ []) ++ rest) ≡ true
+plain_starts None c is rest = refl
+plain_starts (Some e) c is rest = ap (front_is begins_statement) (append_assoc (spelled e) (punct marks.Semicolon c ∷ []) rest) ∙ any_starts e is (punct marks.Semicolon c ∷ rest)
 
-pub statement_starts : PartsAgain → (s : StatementTree) → IsStatement s → (rest : Symbols) → front_is begins_statement (spelled_statement s ++ rest) ≡ true
-statement_starts parts (Braced (Block o ds ss c)) is rest = refl
-statement_starts parts (Plain e c) is rest = plain_starts parts e c is rest
-statement_starts parts (Chain (Arm k e s) as_) is rest = refl
-statement_starts parts (While k e s) is rest = refl
-statement_starts parts (Do k s w e c) is rest = refl
-statement_starts parts (For k h s) is rest = refl
-statement_starts parts (Switch k e o is_ c) is rest = refl
-statement_starts parts (Break k c) is rest = refl
-statement_starts parts (Continue k c) is rest = refl
-statement_starts parts (Return k e c) is rest = refl
+pub statement_starts : (s : StatementTree) → IsStatement s → (rest : Symbols) → front_is begins_statement (spelled_statement s ++ rest) ≡ true
+statement_starts (Braced (Block o ds ss c)) is rest = refl
+statement_starts (Plain e c) is rest = plain_starts e c is rest
+statement_starts (Chain (Arm k e s) as_) is rest = refl
+statement_starts (While k e s) is rest = refl
+statement_starts (Do k s w e c) is rest = refl
+statement_starts (For k h s) is rest = refl
+statement_starts (Switch k e o is_ c) is rest = refl
+statement_starts (Break k c) is rest = refl
+statement_starts (Continue k c) is rest = refl
+statement_starts (Return k e c) is rest = refl
 
 pub statement_has_token : (s : StatementTree) → 0 < length (spelled_statement s)
 statement_has_token (Braced (Block o ds ss c)) = omega arith
@@ -158,22 +148,22 @@ statement_no_spec (kinds.Keyword words.Return) h = refl
 statement_no_spec (kinds.Keyword _) h = absurd cc
 statement_no_spec _ h = refl
 
-plain_no_if : PartsAgain → (e : Option Tree) (c : ℕ) → IsAny e → (rest : Symbols) → front_is (is_key words.If) ((spelled_any e ++ punct marks.Semicolon c ∷ []) ++ rest) ≡ false
-plain_no_if parts None c is rest = refl
-plain_no_if parts (Some e) c is rest = ap (front_is (is_key words.If)) (append_assoc (spelled e) (punct marks.Semicolon c ∷ []) rest) ∙ no_word begins_expr words.If refl (spelled e ++ punct marks.Semicolon c ∷ rest) (parts.expr_starts e is (punct marks.Semicolon c ∷ rest))
+plain_no_if : (e : Option Tree) (c : ℕ) → IsAny e → (rest : Symbols) → front_is (is_key words.If) ((spelled_any e ++ punct marks.Semicolon c ∷ []) ++ rest) ≡ false
+plain_no_if None c is rest = refl
+plain_no_if (Some e) c is rest = ap (front_is (is_key words.If)) (append_assoc (spelled e) (punct marks.Semicolon c ∷ []) rest) ∙ no_word begins_expr words.If refl (spelled e ++ punct marks.Semicolon c ∷ rest) (expr_starts e is (punct marks.Semicolon c ∷ rest))
 
 -- a statement that is no `if` doesn't begin with one
-pub statement_no_if : PartsAgain → (s : StatementTree) → IsStatement s → is_chain s ≡ false → (rest : Symbols) → front_is (is_key words.If) (spelled_statement s ++ rest) ≡ false
-statement_no_if parts (Braced (Block o ds ss c)) is none rest = refl
-statement_no_if parts (Plain e c) is none rest = plain_no_if parts e c is rest
-statement_no_if parts (Chain a as_) is none rest = absurd cc
-statement_no_if parts (While k e s) is none rest = refl
-statement_no_if parts (Do k s w e c) is none rest = refl
-statement_no_if parts (For k h s) is none rest = refl
-statement_no_if parts (Switch k e o is_ c) is none rest = refl
-statement_no_if parts (Break k c) is none rest = refl
-statement_no_if parts (Continue k c) is none rest = refl
-statement_no_if parts (Return k e c) is none rest = refl
+pub statement_no_if : (s : StatementTree) → IsStatement s → is_chain s ≡ false → (rest : Symbols) → front_is (is_key words.If) (spelled_statement s ++ rest) ≡ false
+statement_no_if (Braced (Block o ds ss c)) is none rest = refl
+statement_no_if (Plain e c) is none rest = plain_no_if e c is rest
+statement_no_if (Chain a as_) is none rest = absurd cc
+statement_no_if (While k e s) is none rest = refl
+statement_no_if (Do k s w e c) is none rest = refl
+statement_no_if (For k h s) is none rest = refl
+statement_no_if (Switch k e o is_ c) is none rest = refl
+statement_no_if (Break k c) is none rest = refl
+statement_no_if (Continue k c) is none rest = refl
+statement_no_if (Return k e c) is none rest = refl
 
 -- ---- units
 

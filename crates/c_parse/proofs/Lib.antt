@@ -1,4 +1,5 @@
 mod Counting
+pub mod AgainParts
 pub mod AgainFronts
 pub mod AgainDeclarations
 pub mod AgainStatements
