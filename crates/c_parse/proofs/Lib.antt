@@ -4,3 +4,4 @@ pub mod AgainFronts
 pub mod AgainDeclarations
 pub mod AgainStatements
 pub mod AgainUnits
+pub mod TakesDeclarations
