@@ -106,7 +106,7 @@ ReadsBlock n b = (room : ℕ) → depth_block b ≤ room → length (spelled_blo
 abbrev ReadsStatements : ℕ → Statements → Type 0
 ReadsStatements n ss = (room : ℕ) → depth_statements ss ≤ room → length (spelled_statements ss) ≤ n → AreStatements ss → (c : ℕ) (rest : Symbols) (m : ℕ) → length (spelled_statements ss) ≤ m → collect (next_statement_by (statement_at n room)) m (spelled_statements ss ++ punct marks.RightBrace c ∷ rest) ≡ Some (statement_items ss, punct marks.RightBrace c ∷ rest)
 
-abbrev body_open : ArmTree → Bool
+abbrev pub body_open : ArmTree → Bool
 body_open (Arm k e s) = is_open s
 
 abbrev ReadsArm : ℕ → ArmTree → Type 0

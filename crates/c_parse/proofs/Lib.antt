@@ -5,3 +5,5 @@ pub mod AgainDeclarations
 pub mod AgainStatements
 pub mod AgainUnits
 pub mod TakesDeclarations
+pub mod TakesStatements
+pub mod TakesUnits
