@@ -1,5 +1,5 @@
 -- Statements are read again from their spelling, where no `else` follows that an open `if` at the end would take.
-use Rattle.std.proofs.Common.{◌≡◌, ℕ, zero, suc, ◌+◌, ◌<◌, ◌≤◌, max, Bool, true, false, cond, eqb, ◌&&◌, if◌then◌else◌, List, [], ◌∷◌, ◌++◌, length, Option, Some, None, refl, sym, ap, ◌∙◌, append_assoc, length-append, arith}
+use Rattle.std.proofs.Common.{◌≡◌, ℕ, zero, suc, ◌+◌, ◌<◌, ◌≤◌, max, Bool, true, false, cond, ◌&&◌, if◌then◌else◌, List, [], ◌∷◌, ◌++◌, length, Option, Some, None, refl, sym, ap, ◌∙◌, append_assoc, length-append, arith}
 use Rattle.std.proofs.lemmas.Bool.{eq-eqb}
 use Rattle.c_token.specs.declared.token.TokKind.{TokKind}
 use Rattle.c_token.specs.declared.token.TokKind.TheVariants as kinds
@@ -32,18 +32,15 @@ condition_again n c le is rest =
     let first = expr_again n c.expr (omega arith) is close refl in
     rw (append_assoc (spelled c.expr) (punct marks.RightParenthesis c.closing ∷ []) rest, first) refl
 
-same_number : (k : ℕ) → eqb k k ≡ true
-same_number k = eq-eqb k k refl
-
 -- an expression that may be left out, before a punctuator with which none begins or goes on
 pub any_again : (n : ℕ) (p : Punct) → begins_expr (kinds.Punct p) ≡ false → Stops 13 (punct p 0 ∷ []) → (e : Option Tree) → length (spelled_any e) ≤ n → IsAny e → (c : ℕ) (rest : Symbols) → any_before n p (spelled_any e ++ punct p c ∷ rest) ≡ Some ((e, c), rest)
 unfolding any_before punct_at
-any_again n p never stop None le is c rest = rw (same_number (number_of p)) refl
+any_again n p never stop None le is c rest = rw (eq-eqb (number_of p) (number_of p) refl) refl
 any_again n p never stop (Some e) le is c rest =
     let close = punct p c ∷ rest in
     let none = punct_none p (spelled e ++ close) (no_mark begins_expr p never (spelled e ++ close) (expr_starts e is close)) in
     let first = expr_again n e le is close stop in
-    rw (none, first, same_number (number_of p)) refl
+    rw (none, first, eq-eqb (number_of p) (number_of p) refl) refl
 
 pub head_again : (n : ℕ) (h : HeadTree) → length (spelled_head h) ≤ n → IsHead h → (rest : Symbols) → head_by n (spelled_head h ++ rest) ≡ Some (h, rest)
 unfolding head_by punct_at

@@ -12,6 +12,7 @@ use Rattle.c_tree.specs.ProgramViews.{statements_of, arms_of, InnerTree, LabelIn
 use Rattle.c_expression.specs.Reader.{◌>>=◌, Reader, front_is, punct_at, key_at, got, all_that, collect, collect_on}
 use Rattle.c_expression.specs.Reading.{at, expr_by, cond_by}
 use Rattle.c_expression.proofs.Knots.{ArePlain, Takes, Sound, SoundStep}
+use Rattle.c_expression.proofs.Collects.{and_both}
 use Rattle.c_expression.proofs.Plain.{punct_is, key_is}
 use Rattle.c_expression.proofs.TakesLists.{Splits, join, splits_as, part, one, taken_as, take, bind_ok, sound_then, cases_if, cases_option, got_ok, punct_takes, key_takes, Each, spelled_all, all_take}
 use Rattle.c_expression.proofs.Takes.{expr_takes, cond_takes}
@@ -198,6 +199,10 @@ record TakesArm (room : ℕ) (toks : Symbols) (x : ArmTree × Symbols) : Type 0 
   takes : Takes spelled_arm (IsArmWithin room) toks x
   closed : body_open x.0 ≡ true → NoElseIn x.1
 
+-- what a reader of arms ends with
+arm_ended : {toks rest : Symbols} {x : ArmTree × Symbols} (room : ℕ) (a : ArmTree) → Splits toks (spelled_arm a) rest → IsArm a → depth_arm a ≤ room → ArePlain rest → (body_open a ≡ true → NoElseIn rest) → Some (a, rest) ≡ Some x → TakesArm room toks x
+arm_ended {toks} {rest} {x} room a split is deep plain closed e = subst (TakesArm room toks) (same_Some (a, rest) x e) (record { takes = record { parts = split.is; tree = (is, deep); plain = plain }; closed = closed })
+
 arm_takes : (n room : ℕ) (next : Reader StatementTree) → SoundStatement room next → (toks : Symbols) → ArePlain toks → (x : ArmTree × Symbols) → arm_by n next toks ≡ Some x → TakesArm room toks x
 unfolding arm_by
 arm_takes n room next sound toks plain x e =
@@ -206,25 +211,19 @@ arm_takes n room next sound toks plain x e =
     let s = statement_then sound m.read.1 m.takes.plain _ x m.on in
     let t = s.took.takes in
     let deep = t.tree.1 in
-    let made : ArmTree × Symbols = (Arm k.read.0 m.read.0 s.read.0, s.read.1) in
-    let split : Splits toks (spelled_arm made.0) s.read.1 = join (part k.takes) (join (part m.takes) (part t)) in
-    subst (TakesArm room toks) (same_Some made x s.on) (record { takes = record { parts = split.is; tree = ((m.takes.tree, t.tree.0), omega arith); plain = t.plain }; closed = s.took.closed })
+    arm_ended room (Arm k.read.0 m.read.0 s.read.0) (join (part k.takes) (join (part m.takes) (part t))) (m.takes.tree, t.tree.0) (omega arith) t.plain s.took.closed s.on
 
 -- `else` and an arm
 record TakesNextArm (room : ℕ) (toks : Symbols) (x : (ℕ × ArmTree) × Symbols) : Type 0 where
   takes : Takes (λ a. key words.Else a.0 ∷ spelled_arm a.1) (λ a. IsArmWithin room a.1) toks x
   closed : body_open x.0.1 ≡ true → NoElseIn x.1
 
-and_true : (a b : Bool) → (a && b) ≡ true → (a ≡ true) × (b ≡ true)
-and_true true b h = (refl, h)
-and_true false b h = absurd cc
-
 next_arm_takes : (n room : ℕ) (next : Reader StatementTree) → SoundStatement room next → (toks : Symbols) → ArePlain toks → (x : (ℕ × ArmTree) × Symbols) → next_arm_by n next toks ≡ Some (Some x) → TakesNextArm room toks x
 unfolding next_arm_by
 next_arm_takes n room next sound [] plain x e = absurd cc
 next_arm_takes n room next sound (s ∷ rest) plain x e = cases_if (is_key words.Else s.kind && front_is (is_key words.If) rest) _ _ (Some (Some x))
     (λ is e2.
-      let both = and_true (is_key words.Else s.kind) (front_is (is_key words.If) rest) is in
+      let both = and_both (is_key words.Else s.kind) (front_is (is_key words.If) rest) is in
       let a = bind_ok (arm_by n next rest) (λ a. Some ((s.line, a.0), a.1)) x (got_ok (arm_by n next rest >>= λ a. Some ((s.line, a.0), a.1)) x e2) in
       let t = arm_takes n room next sound rest plain.1 a.0 a.1 in
       let took = t.takes in

@@ -10,15 +10,12 @@ use Rattle.c_tree.specs.Programs.{DeclarationTree, ItemTree, Function, Declarati
 use Rattle.c_expression.specs.Reader.{◌>>=◌, Reader, front_is, punct_at, got, all_that}
 use Rattle.c_expression.specs.Reading.{at, specs_by, declarator_by}
 use Rattle.c_expression.proofs.Knots.{ArePlain, Takes, Sound, SoundStep}
+use Rattle.c_expression.proofs.Collects.{and_both}
 use Rattle.c_expression.proofs.TakesLists.{Splits, join, splits_as, part, one, take, bind_ok, sound_then, cases_if, cases_option, got_ok, punct_takes, Each, spelled_all, all_take}
 use Rattle.c_expression.proofs.Takes.{specs_takes, declarator_takes}
 use Rattle.c_parse.specs.Reading.{begun_behind, declared_behind, block_by, statement_at, function_by, variables_by, declared_item_by, item_on, item_behind, item_by, next_item_by, whole, unit_by}
 use Rattle.c_parse.proofs.TakesDeclarations.{begun_behind_takes, declared_takes}
 use Rattle.c_parse.proofs.TakesStatements.{block_takes, statement_takes}
-
-and_first : (a b : Bool) → (a && b) ≡ true → a ≡ true
-and_first true b h = refl
-and_first false b h = absurd cc
 
 -- behind the specifiers and the first declarator
 function_takes : (n : ℕ) (s : SpecTrees) (d : DeclaratorTree) → AreSpecs s → IsDeclarator d → is_function d ≡ true → (toks : Symbols) → ArePlain toks → (x : ItemTree × Symbols) → function_by n s d toks ≡ Some x → Takes spelled_item IsItem (spelled_specs s ++ (spelled_declarator d ++ toks)) x
@@ -40,7 +37,7 @@ variables_take n s d specs is toks plain x e =
 declared_item_takes : (n : ℕ) (s : SpecTrees) (d : DeclaratorTree) → AreSpecs s → IsDeclarator d → (toks : Symbols) → ArePlain toks → (x : ItemTree × Symbols) → declared_item_by n s d toks ≡ Some x → Takes spelled_item IsItem (spelled_specs s ++ (spelled_declarator d ++ toks)) x
 unfolding declared_item_by
 declared_item_takes n s d specs is toks plain x e = cases_if (is_function d && front_is (is_punct marks.LeftBrace) toks) _ _ (Some x)
-    (λ both e2. function_takes n s d specs is (and_first (is_function d) (front_is (is_punct marks.LeftBrace) toks) both) toks plain x e2)
+    (λ both e2. function_takes n s d specs is (and_both (is_function d) (front_is (is_punct marks.LeftBrace) toks) both).0 toks plain x e2)
     (λ both e2. variables_take n s d specs is toks plain x e2) e
 
 item_behind_takes : (n : ℕ) (s : SpecTrees) → AreSpecs s → (toks : Symbols) → ArePlain toks → (x : ItemTree × Symbols) → item_behind n s toks ≡ Some x → Takes spelled_item IsItem (spelled_specs s ++ toks) x
