@@ -1,21 +1,21 @@
 -- The tokens that initializers, declarations and statements begin with, and tests that none of those passes.
-use Rattle.std.proofs.Common.{◌≡◌, ℕ, zero, suc, ◌+◌, ◌<◌, ◌≤◌, Bool, true, false, cond, if◌then◌else◌, List, [], ◌∷◌, ◌++◌, length, Option, Some, None, refl, sym, ap, ◌∙◌, append_assoc, length-append, arith}
+use Rattle.std.proofs.Common.{◌≡◌, ℕ, ◌<◌, Bool, true, false, if◌then◌else◌, [], ◌∷◌, ◌++◌, length, Option, Some, None, refl, ap, ◌∙◌, append_assoc, length-append, arith}
 use Rattle.c_token.specs.declared.token.TokKind.{TokKind}
 use Rattle.c_token.specs.declared.token.TokKind.TheVariants as kinds
 use Rattle.c_token.specs.declared.token.Keyword.{Keyword}
 use Rattle.c_token.specs.declared.token.Keyword.TheVariants as words
 use Rattle.c_token.specs.declared.token.Punct.{Punct}
 use Rattle.c_token.specs.declared.token.Punct.TheVariants as marks
-use Rattle.c_tree.specs.Words.{Symbol, Symbols, punct, key}
-use Rattle.c_tree.specs.Kinds.{is_punct, is_key, is_name, is_text, is_leaf, is_prefix, is_spec}
-use Rattle.c_tree.specs.Trees.{Tree, SpecTrees, DeclaratorTree, spelled, spelled_specs, spelled_declarator, IsTree, AreSpecs, IsDeclarator}
-use Rattle.c_tree.specs.Programs.{ConditionTree, HeadTree, InitTree, Value, Quoted, Listed, DeclarationTree, StatementTree, Braced, Plain, Chain, While, Do, For, Switch, Break, Continue, Return, BlockTree, Block, Statements, NoStatement, AndStatement, ArmTree, Arm, Arms, NoElse, Else, ElseIf, Items, NoItem, AndLabel, AndInner, LabelTree, Case, Default, ItemTree, Function, Declaration, spelled_any, spelled_condition, spelled_head, spelled_init, spelled_more_inits, spelled_comma, spelled_begun, spelled_declared, spelled_declaration, spelled_statement, spelled_block, spelled_statements, spelled_arm, spelled_arms, spelled_items, spelled_item, IsAny, IsInit, IsDeclaration, IsStatement, IsArm, IsItem, is_chain}
+use Rattle.c_tree.specs.Words.{Symbols, punct}
+use Rattle.c_tree.specs.Kinds.{is_punct, is_key, is_text, is_spec}
+use Rattle.c_tree.specs.Trees.{Tree, spelled, spelled_specs, spelled_declarator, IsTree}
+use Rattle.c_tree.specs.Programs.{InitTree, Value, Quoted, Listed, DeclarationTree, StatementTree, Braced, Plain, Chain, While, Do, For, Switch, Break, Continue, Return, Block, Arm, ItemTree, Function, Declaration, spelled_any, spelled_init, spelled_declared, spelled_declaration, spelled_statement, spelled_block, spelled_item, IsAny, IsInit, IsDeclaration, IsStatement, IsItem, is_chain}
 use Rattle.c_expression.specs.Reader.{front_is}
 use Rattle.c_expression.proofs.Knots.{begins_expr}
 use Rattle.c_expression.proofs.Plain.{punct_kind, key_kind}
 use Rattle.c_expression.proofs.Collects.{front_not}
 use Rattle.c_expression.proofs.AgainOperands.{expr_starts}
-use Rattle.c_expression.proofs.Starts.{specs_start, specs_have_token, tree_has_token}
+use Rattle.c_expression.proofs.Starts.{specs_start, specs_have_token}
 
 -- ---- a token that passes one test is not another token
 

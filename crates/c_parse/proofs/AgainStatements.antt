@@ -1,5 +1,5 @@
 -- Statements are read again from their spelling, where no `else` follows that an open `if` at the end would take.
-use Rattle.std.proofs.Common.{◌≡◌, ℕ, zero, suc, ◌+◌, ◌<◌, ◌≤◌, max, Bool, true, false, cond, ◌&&◌, if◌then◌else◌, List, [], ◌∷◌, ◌++◌, length, Option, Some, None, refl, sym, ap, ◌∙◌, append_assoc, length-append, arith}
+use Rattle.std.proofs.Common.{◌≡◌, ℕ, zero, suc, ◌<◌, ◌≤◌, Bool, true, false, List, [], ◌∷◌, ◌++◌, length, Option, Some, None, refl, ap, ◌∙◌, append_assoc, length-append, arith}
 use Rattle.std.proofs.lemmas.Bool.{eq-eqb}
 use Rattle.c_token.specs.declared.token.TokKind.{TokKind}
 use Rattle.c_token.specs.declared.token.TokKind.TheVariants as kinds
@@ -8,17 +8,16 @@ use Rattle.c_token.specs.declared.token.Keyword.TheVariants as words
 use Rattle.c_token.specs.declared.token.Punct.{Punct}
 use Rattle.c_token.specs.declared.token.Punct.TheVariants as marks
 use Rattle.c_tree.specs.Words.{Symbol, Symbols, key, punct}
-use Rattle.c_tree.specs.Kinds.{number_of, is_punct, is_key, is_spec}
+use Rattle.c_tree.specs.Kinds.{number_of, is_key, is_spec}
 use Rattle.c_tree.specs.Trees.{Tree, spelled, IsTree}
-use Rattle.c_tree.specs.Programs.{ConditionTree, HeadTree, LabelTree, Case, Default, DeclarationTree, StatementTree, Braced, Plain, Chain, While, Do, For, Switch, Break, Continue, Return, BlockTree, Block, Statements, NoStatement, AndStatement, ArmTree, Arm, Arms, NoElse, Else, ElseIf, Items, NoItem, AndLabel, AndInner, spelled_any, spelled_condition, spelled_head, spelled_label, spelled_declarations, spelled_statement, spelled_block, spelled_statements, spelled_arm, spelled_arms, spelled_items, IsAny, IsHead, IsLabel, AreDeclarations, IsStatement, IsBlock, AreStatements, IsArm, AreArms, AreItems, is_open, is_open_arms, is_chain, MayPrecede, depth, depth_block, depth_statements, depth_arm, depth_arms, depth_items}
+use Rattle.c_tree.specs.Programs.{ConditionTree, HeadTree, LabelTree, Case, Default, DeclarationTree, StatementTree, Braced, Plain, Chain, While, Do, For, Switch, Break, Continue, Return, BlockTree, Block, Statements, NoStatement, AndStatement, ArmTree, Arm, Arms, NoElse, Else, ElseIf, Items, NoItem, AndLabel, AndInner, spelled_any, spelled_condition, spelled_head, spelled_label, spelled_declarations, spelled_statement, spelled_block, spelled_statements, spelled_arm, spelled_arms, spelled_items, IsAny, IsHead, IsLabel, IsStatement, IsBlock, AreStatements, IsArm, AreArms, AreItems, is_open, is_open_arms, MayPrecede, depth, depth_block, depth_statements, depth_arm, depth_arms, depth_items}
 use Rattle.c_tree.specs.ProgramViews.{statements_of, arms_of, InnerTree, LabelInner, StatementInner, items_of}
-use Rattle.c_expression.specs.Reader.{◌>>=◌, Reader, Step, front_is, punct_at, key_at, got, all_that, collect}
-use Rattle.c_expression.specs.Reading.{at, expr_by, cond_by}
+use Rattle.c_expression.specs.Reader.{◌>>=◌, Reader, front_is, punct_at, key_at, got, collect}
 use Rattle.c_expression.proofs.Knots.{begins_expr, Stops}
 use Rattle.c_expression.proofs.Collects.{front_not, punct_none, collect_ends, collect_more}
 use Rattle.c_expression.proofs.AgainOperands.{expr_starts}
 use Rattle.c_parse.proofs.AgainParts.{expr_again, cond_again}
-use Rattle.c_parse.specs.Reading.{condition_by, any_on, any_before, head_by, plain_by, break_by, continue_by, return_by, arm_by, next_arm_by, last_by, chain_by, while_by, do_by, for_by, case_by, default_by, inner_by, switch_by, next_statement_by, next_declaration_by, block_by, braced_by, statement_by, statement_at}
+use Rattle.c_parse.specs.Reading.{condition_by, any_before, head_by, plain_by, break_by, continue_by, return_by, arm_by, next_arm_by, last_by, chain_by, while_by, do_by, for_by, case_by, default_by, inner_by, switch_by, next_statement_by, block_by, braced_by, statement_by, statement_at}
 use Rattle.c_parse.proofs.AgainFronts.{apart_mark, apart_word, no_mark, no_word, has_front, begins_statement, statement_starts, statement_has_token, statement_no_spec, statement_no_if}
 use Rattle.c_parse.proofs.AgainDeclarations.{declarations_again}
 
@@ -291,7 +290,7 @@ no_else_reads : (n : ℕ) → ReadsArms n NoElse
 unfolding last_by
 no_else_reads n room deep le are rest f m turns = record {
   others = collect_ends (next_arm_by n (statement_at n room)) m rest (next_arm_none n (statement_at n room) rest (f refl));
-  last = rw (key_none words.Else rest (f refl)) refl
+  last = rw (key_none words.Else rest (f refl)) refl;
 }
 
 else_reads : (n k : ℕ) (s : StatementTree) → ReadsStatement n s → ReadsArms n (Else k s)
@@ -301,7 +300,7 @@ else_reads n k s hs room deep le are rest f m turns =
     let a = hs room (omega arith) (omega arith) are.0 rest f in
     record {
       others = collect_ends (next_arm_by n (statement_at n room)) m (key words.Else k ∷ more) (next_arm_last n (statement_at n room) k more (statement_no_if s are.0 are.1 rest));
-      last = rw a refl
+      last = rw a refl;
     }
 
 else_if_reads : (n k : ℕ) (a : ArmTree) (as_ : Arms) → ReadsArm n a → ReadsArms n as_ → ReadsArms n (ElseIf k a as_)
@@ -314,7 +313,7 @@ else_if_reads n k a as_ ha has room deep le are rest f (suc m) turns =
     let behind = has room (omega arith) (omega arith) are.1 rest f m (omega arith) in
     record {
       others = ap (λ (l : Symbols). collect (next_arm_by n (statement_at n room)) (suc m) (key words.Else k ∷ l)) (append_assoc (spelled_arm a) (spelled_arms as_) rest) ∙ collect_more (next_arm_by n (statement_at n room)) m (key words.Else k ∷ (spelled_arm a ++ more)) more (last_part as_ rest) (k, a) (arm_items as_) step behind.others;
-      last = behind.last
+      last = behind.last;
     }
 
 chain_front : (n : ℕ) (next : Reader StatementTree) (a : ArmTree) (more : Symbols) → statement_by n next (spelled_arm a ++ more) ≡ chain_by n next (spelled_arm a ++ more)

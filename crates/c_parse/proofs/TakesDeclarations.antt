@@ -1,13 +1,12 @@
 -- What is read as an initializer or as a declaration is a tree of its kind.
-use Rattle.std.proofs.Common.{◌≡◌, ℕ, zero, suc, Bool, true, false, if◌then◌else◌, List, [], ◌∷◌, ◌++◌, Option, Some, None, refl, sym, ap, subst, ◌∙◌}
+use Rattle.std.proofs.Common.{◌≡◌, ℕ, zero, suc, List, [], ◌∷◌, ◌++◌, Some, None, refl, sym, ap, subst, ◌∙◌}
 use Rattle.c_token.specs.declared.token.Punct.TheVariants as marks
-use Rattle.c_tree.specs.Words.{Symbol, Symbols, punct}
+use Rattle.c_tree.specs.Words.{Symbols, punct}
 use Rattle.c_tree.specs.Kinds.{is_punct, is_text}
 use Rattle.c_tree.specs.Trees.{SpecTrees, DeclaratorTree, spelled_specs, spelled_declarator, AreSpecs, IsDeclarator}
-use Rattle.c_tree.specs.Programs.{InitTree, Value, Quoted, Listed, MoreInits, BegunTree, DeclaredTrees, DeclarationTree, spelled_init, spelled_more_inits, spelled_comma, spelled_equals, spelled_begun, spelled_more_begun, spelled_declared, spelled_declaration, spelled_declarations, IsInit, AreMoreInits, IsEquals, IsBegun, AreMoreBegun, AreDeclared, IsDeclaration, AreDeclarations}
+use Rattle.c_tree.specs.Programs.{InitTree, Value, Quoted, Listed, BegunTree, DeclarationTree, spelled_init, spelled_more_inits, spelled_comma, spelled_begun, spelled_more_begun, spelled_declaration, spelled_declarations, IsInit, AreMoreInits, IsBegun, AreMoreBegun, IsDeclaration, AreDeclarations}
 use Rattle.c_tree.specs.ProgramViews.{more_inits}
-use Rattle.c_expression.specs.Reader.{◌>>=◌, Reader, front_is, punct_at, specs_come, got, all_that}
-use Rattle.c_expression.specs.Reading.{at, assign_by, specs_by, declarator_by}
+use Rattle.c_expression.specs.Reader.{◌>>=◌, Reader, front_is, punct_at, specs_come, all_that}
 use Rattle.c_expression.proofs.Knots.{ArePlain, Takes, Sound, SoundStep}
 use Rattle.c_expression.proofs.Plain.{punct_is}
 use Rattle.c_expression.proofs.TakesLists.{Splits, join, splits_as, part, one, taken_as, take, sound_then, cases_if, cases_option, got_ok, punct_takes, Each, spelled_all, all_take}
@@ -24,11 +23,11 @@ unfolding next_init_by
 next_init_takes inner sound [] plain x e = absurd cc
 next_init_takes inner sound (s ∷ rest) plain x e = cases_if (is_punct marks.Comma s.kind) _ _ (Some (Some x))
     (λ is e2. cases_if (front_is (is_punct marks.RightBrace) rest) _ _ (Some (Some x))
-      (λ ends e3. absurd cc)
-      (λ ends e3.
-        let i = sound_then sound rest plain.1 _ x (got_ok (inner rest >>= λ i. Some ((s.line, i.0), i.1)) x e3) in
-        taken_as s (punct marks.Comma s.line) rest (punct_is marks.Comma s plain.0 is)
-          (take (s.line, i.read.0) (join (one (punct marks.Comma s.line) rest) (part i.takes)) i.takes.tree i.takes.plain i.on)) e2)
+    (λ ends e3. absurd cc)
+    (λ ends e3.
+    let i = sound_then sound rest plain.1 _ x (got_ok (inner rest >>= λ i. Some ((s.line, i.0), i.1)) x e3) in
+    taken_as s (punct marks.Comma s.line) rest (punct_is marks.Comma s plain.0 is)
+    (take (s.line, i.read.0) (join (one (punct marks.Comma s.line) rest) (part i.takes)) i.takes.tree i.takes.plain i.on)) e2)
     (λ is e2. absurd cc) e
 
 more_inits_spelled : (is : List (ℕ × InitTree)) → spelled_more_inits (more_inits is) ≡ spelled_all spelled_next_init is
@@ -43,9 +42,9 @@ more_inits_are (i ∷ is) each = (each.0, more_inits_are is each.1)
 comma_takes : (toks : Symbols) → ArePlain toks → Takes spelled_comma (λ c. Unit {0}) toks (comma_at toks)
 unfolding comma_at
 comma_takes toks plain = elim (punct_at marks.Comma toks) as (λ q. punct_at marks.Comma toks ≡ q → Takes spelled_comma (λ c. Unit {0}) toks (comma_on toks q)) [
-      | None ↦ λ is. record { parts = refl; tree = tt; plain = plain }
-      | Some c ↦ λ is. let t = punct_takes marks.Comma toks plain c is in record { parts = t.parts; tree = tt; plain = t.plain }
-    ] refl
+  | None ↦ λ is. record { parts = refl; tree = tt; plain = plain }
+  | Some c ↦ λ is. let t = punct_takes marks.Comma toks plain c is in record { parts = t.parts; tree = tt; plain = t.plain }
+] refl
 
 list_takes : (inner : Reader InitTree) → Sound spelled_init IsInit inner → (o : ℕ) (toks : Symbols) → ArePlain toks → (x : InitTree × Symbols) → list_by inner o toks ≡ Some x → Takes spelled_init IsInit (punct marks.LeftBrace o ∷ toks) x
 unfolding list_by
@@ -55,8 +54,8 @@ list_takes inner sound o toks plain x e =
     let last = comma_takes is.read.1 is.takes.plain in
     let c = sound_then (punct_takes marks.RightBrace) (comma_at is.read.1).1 last.plain _ x is.on in
     take (Listed o i.read.0 (more_inits is.read.0) (comma_at is.read.1).0 c.read.0)
-      (join (one (punct marks.LeftBrace o) toks) (join (part i.takes) (join (splits_as (part is.takes) (more_inits_spelled is.read.0)) (join (part last) (part c.takes)))))
-      (i.takes.tree, more_inits_are is.read.0 is.takes.tree) c.takes.plain c.on
+    (join (one (punct marks.LeftBrace o) toks) (join (part i.takes) (join (splits_as (part is.takes) (more_inits_spelled is.read.0)) (join (part last) (part c.takes)))))
+    (i.takes.tree, more_inits_are is.read.0 is.takes.tree) c.takes.plain c.on
 
 value_takes : (n : ℕ) → Sound spelled_init IsInit (value_by n)
 unfolding value_by
@@ -70,8 +69,8 @@ init_by_takes n inner sound [] plain x e = absurd cc
 init_by_takes n inner sound (s ∷ rest) plain x e = cases_if (is_punct marks.LeftBrace s.kind) _ _ (Some x)
     (λ is e2. taken_as s (punct marks.LeftBrace s.line) rest (punct_is marks.LeftBrace s plain.0 is) (list_takes inner sound s.line rest plain.1 x e2))
     (λ is e2. cases_if (is_text s.kind) _ _ (Some x)
-      (λ is e3. take (Quoted s) (one s rest) is plain.1 e3)
-      (λ is e3. value_takes n (s ∷ rest) plain x e3) e2) e
+    (λ is e3. take (Quoted s) (one s rest) is plain.1 e3)
+    (λ is e3. value_takes n (s ∷ rest) plain x e3) e2) e
 
 inside_takes : (n : ℕ) → Sound spelled_init IsInit (init_inside n)
 unfolding init_inside
@@ -88,9 +87,9 @@ pub begun_behind_takes : (n : ℕ) (d : DeclaratorTree) → IsDeclarator d → (
 unfolding begun_behind
 begun_behind_takes n d is toks plain x e = cases_option (punct_at marks.Assign toks) (begun_on n d toks) (Some x)
     (λ z come e2.
-      let t = punct_takes marks.Assign toks plain z come in
-      let i = sound_then (init_takes n) z.1 t.plain _ x e2 in
-      take (record { declarator = d; init = Some (z.0, i.read.0) }) (join (record { is = refl }) (join (part t) (part i.takes))) (is, i.takes.tree) i.takes.plain i.on)
+    let t = punct_takes marks.Assign toks plain z come in
+    let i = sound_then (init_takes n) z.1 t.plain _ x e2 in
+    take (record { declarator = d; init = Some (z.0, i.read.0) }) (join (record { is = refl }) (join (part t) (part i.takes))) (is, i.takes.tree) i.takes.plain i.on)
     (λ come e2. take (record { declarator = d; init = None }) (join {toks = spelled_declarator d ++ toks} {b = []} {middle = toks} (record { is = refl }) (record { is = refl })) (is, tt) plain e2) e
 
 begun_takes : (n : ℕ) → Sound spelled_begun IsBegun (begun_by n)
@@ -108,9 +107,9 @@ unfolding next_begun_by
 next_begun_takes n [] plain x e = absurd cc
 next_begun_takes n (s ∷ rest) plain x e = cases_if (is_punct marks.Comma s.kind) _ _ (Some (Some x))
     (λ is e2.
-      let b = sound_then (begun_takes n) rest plain.1 _ x (got_ok (begun_by n rest >>= λ b. Some ((s.line, b.0), b.1)) x e2) in
-      taken_as s (punct marks.Comma s.line) rest (punct_is marks.Comma s plain.0 is)
-        (take (s.line, b.read.0) (join (one (punct marks.Comma s.line) rest) (part b.takes)) b.takes.tree b.takes.plain b.on))
+    let b = sound_then (begun_takes n) rest plain.1 _ x (got_ok (begun_by n rest >>= λ b. Some ((s.line, b.0), b.1)) x e2) in
+    taken_as s (punct marks.Comma s.line) rest (punct_is marks.Comma s plain.0 is)
+    (take (s.line, b.read.0) (join (one (punct marks.Comma s.line) rest) (part b.takes)) b.takes.tree b.takes.plain b.on))
     (λ is e2. absurd cc) e
 
 more_begun_spelled : (bs : List (ℕ × BegunTree)) → spelled_more_begun bs ≡ spelled_all spelled_next_begun bs
@@ -136,12 +135,12 @@ declaration_behind_takes : (n : ℕ) (s : SpecTrees) → AreSpecs s → (toks : 
 unfolding declaration_behind
 declaration_behind_takes n s specs toks plain x e = cases_option (punct_at marks.Semicolon toks) (declaration_on n s toks) (Some x)
     (λ z come e2.
-      let t = punct_takes marks.Semicolon toks plain z come in
-      take (record { specs = s; declared = None; semicolon = z.0 }) (join (record { is = refl }) (part t)) (specs, tt) t.plain e2)
+    let t = punct_takes marks.Semicolon toks plain z come in
+    take (record { specs = s; declared = None; semicolon = z.0 }) (join (record { is = refl }) (part t)) (specs, tt) t.plain e2)
     (λ come e2.
-      let b = sound_then (begun_takes n) toks plain _ x e2 in
-      let t = b.takes in
-      subst (λ (l : Symbols). Takes spelled_declaration IsDeclaration (spelled_specs s ++ l) x) (sym t.parts) (declared_takes n s b.read.0 specs t.tree b.read.1 t.plain x b.on)) e
+    let b = sound_then (begun_takes n) toks plain _ x e2 in
+    let t = b.takes in
+    subst (λ (l : Symbols). Takes spelled_declaration IsDeclaration (spelled_specs s ++ l) x) (sym t.parts) (declared_takes n s b.read.0 specs t.tree b.read.1 t.plain x b.on)) e
 
 pub declaration_takes : (n : ℕ) → Sound spelled_declaration IsDeclaration (declaration_by n)
 unfolding declaration_by

@@ -1,22 +1,21 @@
 -- What is read as a statement is one, and no `else` stands behind a statement with an open `if` at its end.
-use Rattle.std.proofs.Common.{◌≡◌, ℕ, zero, suc, ◌+◌, ◌<◌, ◌≤◌, max, Bool, true, false, ◌&&◌, if◌then◌else◌, List, [], ◌∷◌, ◌++◌, length, Option, Some, None, refl, sym, ap, subst, ◌∙◌, append_assoc, length-append, arith}
+use Rattle.std.proofs.Common.{◌≡◌, ℕ, zero, suc, ◌<◌, ◌≤◌, Bool, true, false, ◌&&◌, List, [], ◌∷◌, ◌++◌, length, Option, Some, None, refl, sym, ap, subst, ◌∙◌, append_assoc, length-append, arith}
 use Rattle.std.proofs.lemmas.Option.{same_Some}
 use Rattle.c_token.specs.declared.token.Keyword.TheVariants as words
 use Rattle.c_token.specs.declared.token.Punct.{Punct}
 use Rattle.c_token.specs.declared.token.Punct.TheVariants as marks
 use Rattle.c_tree.specs.Words.{Symbol, Symbols, key, punct}
 use Rattle.c_tree.specs.Kinds.{is_punct, is_key}
-use Rattle.c_tree.specs.Trees.{Tree, spelled, IsTree}
-use Rattle.c_tree.specs.Programs.{ConditionTree, HeadTree, LabelTree, Case, Default, DeclarationTree, StatementTree, Braced, Plain, Chain, While, Do, For, Switch, Break, Continue, Return, BlockTree, Block, Statements, ArmTree, Arm, Arms, NoElse, Else, ElseIf, Items, AndLabel, AndInner, spelled_any, spelled_condition, spelled_head, spelled_label, spelled_declarations, spelled_statement, spelled_block, spelled_statements, spelled_arm, spelled_arms, spelled_items, IsAny, IsHead, IsLabel, IsStatement, IsBlock, AreStatements, IsArm, AreArms, AreItems, is_open, is_open_arms, is_chain, MayPrecede, depth, depth_block, depth_statements, depth_arm, depth_arms, depth_items}
-use Rattle.c_tree.specs.ProgramViews.{statements_of, arms_of, InnerTree, LabelInner, StatementInner, with_inner, items_of}
+use Rattle.c_tree.specs.Trees.{Tree, IsTree}
+use Rattle.c_tree.specs.Programs.{HeadTree, LabelTree, Case, Default, StatementTree, Braced, Plain, Chain, While, Do, For, Switch, Break, Continue, Return, BlockTree, Block, ArmTree, Arm, Arms, NoElse, Else, ElseIf, spelled_any, spelled_condition, spelled_head, spelled_label, spelled_statement, spelled_block, spelled_statements, spelled_arm, spelled_arms, spelled_items, IsAny, IsHead, IsLabel, IsStatement, IsBlock, AreStatements, IsArm, AreArms, AreItems, is_open, is_open_arms, is_chain, MayPrecede, depth, depth_block, depth_statements, depth_arm, depth_arms, depth_items}
+use Rattle.c_tree.specs.ProgramViews.{statements_of, arms_of, InnerTree, LabelInner, StatementInner, items_of}
 use Rattle.c_expression.specs.Reader.{◌>>=◌, Reader, front_is, punct_at, key_at, got, all_that, collect, collect_on}
-use Rattle.c_expression.specs.Reading.{at, expr_by, cond_by}
 use Rattle.c_expression.proofs.Knots.{ArePlain, Takes, Sound, SoundStep}
 use Rattle.c_expression.proofs.Collects.{and_both}
-use Rattle.c_expression.proofs.Plain.{punct_is, key_is}
+use Rattle.c_expression.proofs.Plain.{key_is}
 use Rattle.c_expression.proofs.TakesLists.{Splits, join, splits_as, part, one, taken_as, take, bind_ok, sound_then, cases_if, cases_option, got_ok, punct_takes, key_takes, Each, spelled_all, all_take}
 use Rattle.c_expression.proofs.Takes.{expr_takes, cond_takes}
-use Rattle.c_parse.specs.Reading.{condition_by, any_on, any_before, head_by, plain_by, break_by, continue_by, return_by, arm_by, next_arm_by, last_on, last_by, chain_by, while_by, do_by, for_by, case_by, default_by, inner_by, switch_by, next_statement_by, next_declaration_by, block_by, braced_by, statement_by, statement_at}
+use Rattle.c_parse.specs.Reading.{condition_by, any_on, any_before, head_by, plain_by, break_by, continue_by, return_by, arm_by, next_arm_by, last_on, last_by, chain_by, while_by, do_by, for_by, case_by, default_by, inner_by, switch_by, next_statement_by, block_by, braced_by, statement_by, statement_at}
 use Rattle.c_parse.proofs.AgainStatements.{NoElseIn, body_open}
 use Rattle.c_parse.proofs.TakesDeclarations.{declarations_take}
 
@@ -37,12 +36,12 @@ any_takes : (n : ℕ) (p : Punct) → Sound (spelled_before p) (λ e. IsAny e.0)
 unfolding any_before
 any_takes n p toks plain x e = cases_option (punct_at p toks) (any_on n p toks) (Some x)
     (λ z come e2.
-      let t = punct_takes p toks plain z come in
-      take (None, z.0) (part t) tt t.plain e2)
+    let t = punct_takes p toks plain z come in
+    take (None, z.0) (part t) tt t.plain e2)
     (λ come e2.
-      let m = sound_then (expr_takes n) toks plain _ x e2 in
-      let c = sound_then (punct_takes p) m.read.1 m.takes.plain _ x m.on in
-      take (Some m.read.0, c.read.0) (join (part m.takes) (part c.takes)) m.takes.tree c.takes.plain c.on) e
+    let m = sound_then (expr_takes n) toks plain _ x e2 in
+    let c = sound_then (punct_takes p) m.read.1 m.takes.plain _ x m.on in
+    take (Some m.read.0, c.read.0) (join (part m.takes) (part c.takes)) m.takes.tree c.takes.plain c.on) e
 
 head_takes : (n : ℕ) → Sound spelled_head IsHead (head_by n)
 unfolding head_by
@@ -153,8 +152,8 @@ unfolding next_statement_by
 next_statement_takes room next sound toks plain x e = cases_if (front_is (is_punct marks.RightBrace) toks) _ _ (Some (Some x))
     (λ is e2. absurd cc)
     (λ is e2. cases_if (front_is (λ k. true) toks) _ _ (Some (Some x))
-      (λ come e3. only_takes room next sound toks plain x (got_ok (next toks) x e3))
-      (λ come e3. absurd cc) e2) e
+    (λ come e3. only_takes room next sound toks plain x (got_ok (next toks) x e3))
+    (λ come e3. absurd cc) e2) e
 
 statements_spelled : (ss : List StatementTree) → spelled_statements (statements_of ss) ≡ spelled_all spelled_statement ss
 statements_spelled [] = refl
@@ -180,8 +179,8 @@ block_takes n room next sound toks plain x e =
     let c = sound_then (punct_takes marks.RightBrace) ss.read.1 ss.takes.plain _ x ss.on in
     let are = statements_are room ss.read.0 ss.takes.tree in
     take (Block o.read.0 ds.read.0 (statements_of ss.read.0) c.read.0)
-      (join (part o.takes) (join (part ds.takes) (join (splits_as (part ss.takes) (statements_spelled ss.read.0)) (part c.takes))))
-      ((ds.takes.tree, are.0), are.1) c.takes.plain c.on
+    (join (part o.takes) (join (part ds.takes) (join (splits_as (part ss.takes) (statements_spelled ss.read.0)) (part c.takes))))
+    ((ds.takes.tree, are.0), are.1) c.takes.plain c.on
 
 braced_takes : (n room : ℕ) (next : Reader StatementTree) → SoundStatement room next → SoundStatement (suc room) (braced_by n next)
 unfolding braced_by
@@ -223,13 +222,13 @@ unfolding next_arm_by
 next_arm_takes n room next sound [] plain x e = absurd cc
 next_arm_takes n room next sound (s ∷ rest) plain x e = cases_if (is_key words.Else s.kind && front_is (is_key words.If) rest) _ _ (Some (Some x))
     (λ is e2.
-      let both = and_both (is_key words.Else s.kind) (front_is (is_key words.If) rest) is in
-      let a = bind_ok (arm_by n next rest) (λ a. Some ((s.line, a.0), a.1)) x (got_ok (arm_by n next rest >>= λ a. Some ((s.line, a.0), a.1)) x e2) in
-      let t = arm_takes n room next sound rest plain.1 a.0 a.1 in
-      let took = t.takes in
-      let made : (ℕ × ArmTree) × Symbols = ((s.line, a.0.0), a.0.1) in
-      let split : Splits (key words.Else s.line ∷ rest) (key words.Else s.line ∷ spelled_arm a.0.0) a.0.1 = join (one (key words.Else s.line) rest) (part took) in
-      subst (TakesNextArm room (s ∷ rest)) (same_Some made x a.2) (record { takes = record { parts = ap (λ (u : Symbol). u ∷ rest) (key_is words.Else s plain.0 both.0) ∙ split.is; tree = took.tree; plain = took.plain }; closed = t.closed }))
+    let both = and_both (is_key words.Else s.kind) (front_is (is_key words.If) rest) is in
+    let a = bind_ok (arm_by n next rest) (λ a. Some ((s.line, a.0), a.1)) x (got_ok (arm_by n next rest >>= λ a. Some ((s.line, a.0), a.1)) x e2) in
+    let t = arm_takes n room next sound rest plain.1 a.0 a.1 in
+    let took = t.takes in
+    let made : (ℕ × ArmTree) × Symbols = ((s.line, a.0.0), a.0.1) in
+    let split : Splits (key words.Else s.line ∷ rest) (key words.Else s.line ∷ spelled_arm a.0.0) a.0.1 = join (one (key words.Else s.line) rest) (part took) in
+    subst (TakesNextArm room (s ∷ rest)) (same_Some made x a.2) (record { takes = record { parts = ap (λ (u : Symbol). u ∷ rest) (key_is words.Else s plain.0 both.0) ∙ split.is; tree = took.tree; plain = took.plain }; closed = t.closed }))
     (λ is e2. absurd cc) e
 
 -- what may stand behind an arm, by what is read there
@@ -273,19 +272,19 @@ last_takes : (n room : ℕ) (next : Reader StatementTree) → SoundStatement roo
 unfolding last_by
 last_takes n room next sound toks plain none o e = cases_option (key_at words.Else toks) (last_on next toks) (Some o)
     (λ z come e2.
-      let k = key_takes words.Else toks plain z come in
-      let s = statement_then sound z.1 k.plain _ o e2 in
-      let t = s.took.takes in
-      let deep = t.tree.1 in
-      let made : Option (ℕ × StatementTree) × Symbols = (Some (z.0, s.read.0), s.read.1) in
-      let split : Splits toks (key words.Else z.0 ∷ spelled_statement s.read.0) s.read.1 = join (part k) (part t) in
-      let front = no_if n next z.0 z.1 (sym (ap (next_arm_by n next) k.parts) ∙ none) in
-      subst (λ (y : Option (ℕ × StatementTree) × Symbols). TakesArms room toks (arms_of [] y.0, y.1)) (same_Some made o s.on)
-        (record { takes = record { parts = split.is; tree = ((t.tree.0, no_chain s.read.0 z.1 s.read.1 t.parts front), omega arith); plain = t.plain }; closed = s.took.closed }))
+    let k = key_takes words.Else toks plain z come in
+    let s = statement_then sound z.1 k.plain _ o e2 in
+    let t = s.took.takes in
+    let deep = t.tree.1 in
+    let made : Option (ℕ × StatementTree) × Symbols = (Some (z.0, s.read.0), s.read.1) in
+    let split : Splits toks (key words.Else z.0 ∷ spelled_statement s.read.0) s.read.1 = join (part k) (part t) in
+    let front = no_if n next z.0 z.1 (sym (ap (next_arm_by n next) k.parts) ∙ none) in
+    subst (λ (y : Option (ℕ × StatementTree) × Symbols). TakesArms room toks (arms_of [] y.0, y.1)) (same_Some made o s.on)
+    (record { takes = record { parts = split.is; tree = ((t.tree.0, no_chain s.read.0 z.1 s.read.1 t.parts front), omega arith); plain = t.plain }; closed = s.took.closed }))
     (λ come e2.
-      let made : Option (ℕ × StatementTree) × Symbols = (None, toks) in
-      subst (λ (y : Option (ℕ × StatementTree) × Symbols). TakesArms room toks (arms_of [] y.0, y.1)) (same_Some made o e2)
-        (record { takes = record { parts = refl; tree = (tt, omega arith); plain = plain }; closed = λ opens. no_key toks come })) e
+    let made : Option (ℕ × StatementTree) × Symbols = (None, toks) in
+    subst (λ (y : Option (ℕ × StatementTree) × Symbols). TakesArms room toks (arms_of [] y.0, y.1)) (same_Some made o e2)
+    (record { takes = record { parts = refl; tree = (tt, omega arith); plain = plain }; closed = λ opens. no_key toks come })) e
 
 next_arm_end : (n : ℕ) (next : Reader StatementTree) → next_arm_by n next [] ≡ Some None
 unfolding next_arm_by
@@ -313,16 +312,16 @@ arms_take n room next sound zero (s ∷ toks) plain le as_ e o last = absurd (om
 arms_take n room next sound (suc m) toks plain le as_ e o last =
     let a = bind_ok (next_arm_by n next toks) (collect_on (collect (next_arm_by n next) m) toks) as_ e in
     cases_option a.0 (collect_on (collect (next_arm_by n next) m) toks) (Some as_)
-      (λ z is e2.
-        let t = next_arm_takes n room next sound toks plain z (a.1 ∙ ap (λ q. Some q) is) in
-        let l = bind_ok (collect (next_arm_by n next) m z.1) _ as_ e2 in
-        let made : List (ℕ × ArmTree) × Symbols = (z.0 ∷ l.0.0, l.0.1) in
-        subst (λ (y : List (ℕ × ArmTree) × Symbols). last_by next y.1 ≡ Some o → TakesArms room toks (arms_of y.0 o.0, o.1)) (same_Some made as_ l.2)
-          (λ last. arm_more room toks z (arms_of l.0.0 o.0) o.1 t (arms_take n room next sound m z.1 (let took = t.takes in took.plain) (shorter room toks z m t le) l.0 l.1 o last)) last)
-      (λ is e2.
-        let made : List (ℕ × ArmTree) × Symbols = ([], toks) in
-        subst (λ (y : List (ℕ × ArmTree) × Symbols). last_by next y.1 ≡ Some o → TakesArms room toks (arms_of y.0 o.0, o.1)) (same_Some made as_ e2)
-          (last_takes n room next sound toks plain (a.1 ∙ ap (λ q. Some q) is) o) last) a.2
+    (λ z is e2.
+    let t = next_arm_takes n room next sound toks plain z (a.1 ∙ ap (λ q. Some q) is) in
+    let l = bind_ok (collect (next_arm_by n next) m z.1) _ as_ e2 in
+    let made : List (ℕ × ArmTree) × Symbols = (z.0 ∷ l.0.0, l.0.1) in
+    subst (λ (y : List (ℕ × ArmTree) × Symbols). last_by next y.1 ≡ Some o → TakesArms room toks (arms_of y.0 o.0, o.1)) (same_Some made as_ l.2)
+    (λ last. arm_more room toks z (arms_of l.0.0 o.0) o.1 t (arms_take n room next sound m z.1 (let took = t.takes in took.plain) (shorter room toks z m t le) l.0 l.1 o last)) last)
+    (λ is e2.
+    let made : List (ℕ × ArmTree) × Symbols = ([], toks) in
+    subst (λ (y : List (ℕ × ArmTree) × Symbols). last_by next y.1 ≡ Some o → TakesArms room toks (arms_of y.0 o.0, o.1)) (same_Some made as_ e2)
+    (last_takes n room next sound toks plain (a.1 ∙ ap (λ q. Some q) is) o) last) a.2
 
 chain_takes : (n room : ℕ) (next : Reader StatementTree) → SoundStatement room next → SoundStatement (suc room) (chain_by n next)
 unfolding chain_by
@@ -370,17 +369,17 @@ inner_takes n room next sound [] plain x e = absurd cc
 inner_takes n room next sound (s ∷ rest) plain x e = cases_if (is_punct marks.RightBrace s.kind) _ _ (Some (Some x))
     (λ is e2. absurd cc)
     (λ is e2. cases_if (is_key words.Case s.kind) _ _ (Some (Some x))
-      (λ is e3.
-        let l = bind_ok (case_by n s.line rest) _ x (got_ok (case_by n s.line rest >>= λ l. Some (LabelInner l.0, l.1)) x e3) in
-        taken_as s (key words.Case s.line) rest (key_is words.Case s plain.0 is) (label_inner room (key words.Case s.line ∷ rest) l.0 x (case_takes n s.line rest plain.1 l.0 l.1) l.2))
-      (λ is e3. cases_if (is_key words.Default s.kind) _ _ (Some (Some x))
-        (λ is e4.
-          let l = bind_ok (default_by s.line rest) _ x (got_ok (default_by s.line rest >>= λ l. Some (LabelInner l.0, l.1)) x e4) in
-          taken_as s (key words.Default s.line) rest (key_is words.Default s plain.0 is) (label_inner room (key words.Default s.line ∷ rest) l.0 x (default_takes s.line rest plain.1 l.0 l.1) l.2))
-        (λ is e4.
-          let t = statement_then sound (s ∷ rest) plain _ x (got_ok (next (s ∷ rest) >>= λ t. Some (StatementInner t.0, t.1)) x e4) in
-          let took = t.took.takes in
-          take (StatementInner t.read.0) (record { is = took.parts }) took.tree took.plain t.on) e3) e2) e
+    (λ is e3.
+    let l = bind_ok (case_by n s.line rest) _ x (got_ok (case_by n s.line rest >>= λ l. Some (LabelInner l.0, l.1)) x e3) in
+    taken_as s (key words.Case s.line) rest (key_is words.Case s plain.0 is) (label_inner room (key words.Case s.line ∷ rest) l.0 x (case_takes n s.line rest plain.1 l.0 l.1) l.2))
+    (λ is e3. cases_if (is_key words.Default s.kind) _ _ (Some (Some x))
+    (λ is e4.
+    let l = bind_ok (default_by s.line rest) _ x (got_ok (default_by s.line rest >>= λ l. Some (LabelInner l.0, l.1)) x e4) in
+    taken_as s (key words.Default s.line) rest (key_is words.Default s plain.0 is) (label_inner room (key words.Default s.line ∷ rest) l.0 x (default_takes s.line rest plain.1 l.0 l.1) l.2))
+    (λ is e4.
+    let t = statement_then sound (s ∷ rest) plain _ x (got_ok (next (s ∷ rest) >>= λ t. Some (StatementInner t.0, t.1)) x e4) in
+    let took = t.took.takes in
+    take (StatementInner t.read.0) (record { is = took.parts }) took.tree took.plain t.on) e3) e2) e
 
 items_spelled : (is : List InnerTree) → spelled_items (items_of is) ≡ spelled_all spelled_inner is
 items_spelled [] = refl
@@ -406,8 +405,8 @@ switch_takes n room next sound k toks plain x e =
     let are = items_are room is.read.0 is.takes.tree in
     let deep = are.1 in
     ended (suc room) (Switch k m.read.0 o.read.0 (items_of is.read.0) c.read.0)
-      (join (one (key words.Switch k) toks) (join (part m.takes) (join (part o.takes) (join (splits_as (part is.takes) (items_spelled is.read.0)) (part c.takes)))))
-      (m.takes.tree, are.0) (omega arith) c.takes.plain (λ opens. absurd cc) c.on
+    (join (one (key words.Switch k) toks) (join (part m.takes) (join (part o.takes) (join (splits_as (part is.takes) (items_spelled is.read.0)) (part c.takes)))))
+    (m.takes.tree, are.0) (omega arith) c.takes.plain (λ opens. absurd cc) c.on
 
 -- ---- all of them
 
@@ -417,22 +416,22 @@ statement_by_takes n room next sound [] plain x e = absurd cc
 statement_by_takes n room next sound (s ∷ rest) plain x e = cases_if (is_punct marks.LeftBrace s.kind) _ _ (Some x)
     (λ is e2. braced_takes n room next sound (s ∷ rest) plain x e2)
     (λ is e2. cases_if (is_key words.If s.kind) _ _ (Some x)
-      (λ is e3. chain_takes n room next sound (s ∷ rest) plain x e3)
-      (λ is e3. cases_if (is_key words.While s.kind) _ _ (Some x)
-        (λ is e4. statement_as s (key words.While s.line) rest (key_is words.While s plain.0 is) (while_takes n room next sound s.line rest plain.1 x e4))
-        (λ is e4. cases_if (is_key words.Do s.kind) _ _ (Some x)
-          (λ is e5. statement_as s (key words.Do s.line) rest (key_is words.Do s plain.0 is) (do_takes n room next sound s.line rest plain.1 x e5))
-          (λ is e5. cases_if (is_key words.For s.kind) _ _ (Some x)
-            (λ is e6. statement_as s (key words.For s.line) rest (key_is words.For s plain.0 is) (for_takes n room next sound s.line rest plain.1 x e6))
-            (λ is e6. cases_if (is_key words.Switch s.kind) _ _ (Some x)
-              (λ is e7. statement_as s (key words.Switch s.line) rest (key_is words.Switch s plain.0 is) (switch_takes n room next sound s.line rest plain.1 x e7))
-              (λ is e7. cases_if (is_key words.Break s.kind) _ _ (Some x)
-                (λ is e8. statement_as s (key words.Break s.line) rest (key_is words.Break s plain.0 is) (break_takes room s.line rest plain.1 x e8))
-                (λ is e8. cases_if (is_key words.Continue s.kind) _ _ (Some x)
-                  (λ is e9. statement_as s (key words.Continue s.line) rest (key_is words.Continue s plain.0 is) (continue_takes room s.line rest plain.1 x e9))
-                  (λ is e9. cases_if (is_key words.Return s.kind) _ _ (Some x)
-                    (λ is e10. statement_as s (key words.Return s.line) rest (key_is words.Return s plain.0 is) (return_takes n room s.line rest plain.1 x e10))
-                    (λ is e10. plain_takes n room (s ∷ rest) plain x e10) e9) e8) e7) e6) e5) e4) e3) e2) e
+    (λ is e3. chain_takes n room next sound (s ∷ rest) plain x e3)
+    (λ is e3. cases_if (is_key words.While s.kind) _ _ (Some x)
+    (λ is e4. statement_as s (key words.While s.line) rest (key_is words.While s plain.0 is) (while_takes n room next sound s.line rest plain.1 x e4))
+    (λ is e4. cases_if (is_key words.Do s.kind) _ _ (Some x)
+    (λ is e5. statement_as s (key words.Do s.line) rest (key_is words.Do s plain.0 is) (do_takes n room next sound s.line rest plain.1 x e5))
+    (λ is e5. cases_if (is_key words.For s.kind) _ _ (Some x)
+    (λ is e6. statement_as s (key words.For s.line) rest (key_is words.For s plain.0 is) (for_takes n room next sound s.line rest plain.1 x e6))
+    (λ is e6. cases_if (is_key words.Switch s.kind) _ _ (Some x)
+    (λ is e7. statement_as s (key words.Switch s.line) rest (key_is words.Switch s plain.0 is) (switch_takes n room next sound s.line rest plain.1 x e7))
+    (λ is e7. cases_if (is_key words.Break s.kind) _ _ (Some x)
+    (λ is e8. statement_as s (key words.Break s.line) rest (key_is words.Break s plain.0 is) (break_takes room s.line rest plain.1 x e8))
+    (λ is e8. cases_if (is_key words.Continue s.kind) _ _ (Some x)
+    (λ is e9. statement_as s (key words.Continue s.line) rest (key_is words.Continue s plain.0 is) (continue_takes room s.line rest plain.1 x e9))
+    (λ is e9. cases_if (is_key words.Return s.kind) _ _ (Some x)
+    (λ is e10. statement_as s (key words.Return s.line) rest (key_is words.Return s plain.0 is) (return_takes n room s.line rest plain.1 x e10))
+    (λ is e10. plain_takes n room (s ∷ rest) plain x e10) e9) e8) e7) e6) e5) e4) e3) e2) e
 
 pub statement_takes : (n room : ℕ) → SoundStatement room (statement_at n room)
 unfolding statement_at

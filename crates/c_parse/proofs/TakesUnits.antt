@@ -1,19 +1,18 @@
 -- What is read as a unit is one, and it is spelled with all tokens.
-use Rattle.std.proofs.Common.{◌≡◌, ℕ, Bool, true, false, ◌&&◌, if◌then◌else◌, List, [], ◌∷◌, ◌++◌, length, Option, Some, None, refl, sym, ap, subst, ◌∙◌, append_assoc}
+use Rattle.std.proofs.Common.{◌≡◌, ℕ, true, ◌&&◌, List, [], ◌∷◌, ◌++◌, length, Some, None, refl, sym, ap, subst, ◌∙◌}
 use Rattle.std.proofs.lemmas.List.{append-nil}
 use Rattle.std.proofs.lemmas.Option.{same_Some}
 use Rattle.c_token.specs.declared.token.Punct.TheVariants as marks
-use Rattle.c_tree.specs.Words.{Symbol, Symbols, punct}
+use Rattle.c_tree.specs.Words.{Symbols}
 use Rattle.c_tree.specs.Kinds.{is_punct}
 use Rattle.c_tree.specs.Trees.{SpecTrees, DeclaratorTree, spelled_specs, spelled_declarator, AreSpecs, IsDeclarator}
-use Rattle.c_tree.specs.Programs.{DeclarationTree, ItemTree, Function, Declaration, spelled_begun, spelled_block, spelled_declaration, spelled_item, spelled_unit, IsItem, IsUnit, is_function}
-use Rattle.c_expression.specs.Reader.{◌>>=◌, Reader, front_is, punct_at, got, all_that}
-use Rattle.c_expression.specs.Reading.{at, specs_by, declarator_by}
+use Rattle.c_tree.specs.Programs.{ItemTree, Function, Declaration, spelled_declaration, spelled_item, spelled_unit, IsItem, IsUnit, is_function}
+use Rattle.c_expression.specs.Reader.{front_is, punct_at, all_that}
 use Rattle.c_expression.proofs.Knots.{ArePlain, Takes, Sound, SoundStep}
 use Rattle.c_expression.proofs.Collects.{and_both}
-use Rattle.c_expression.proofs.TakesLists.{Splits, join, splits_as, part, one, take, bind_ok, sound_then, cases_if, cases_option, got_ok, punct_takes, Each, spelled_all, all_take}
+use Rattle.c_expression.proofs.TakesLists.{Splits, join, part, take, bind_ok, sound_then, cases_if, cases_option, got_ok, punct_takes, Each, spelled_all, all_take}
 use Rattle.c_expression.proofs.Takes.{specs_takes, declarator_takes}
-use Rattle.c_parse.specs.Reading.{begun_behind, declared_behind, block_by, statement_at, function_by, variables_by, declared_item_by, item_on, item_behind, item_by, next_item_by, whole, unit_by}
+use Rattle.c_parse.specs.Reading.{begun_behind, declared_behind, statement_at, function_by, variables_by, declared_item_by, item_on, item_behind, item_by, next_item_by, whole, unit_by}
 use Rattle.c_parse.proofs.TakesDeclarations.{begun_behind_takes, declared_takes}
 use Rattle.c_parse.proofs.TakesStatements.{block_takes, statement_takes}
 
@@ -44,12 +43,12 @@ item_behind_takes : (n : ℕ) (s : SpecTrees) → AreSpecs s → (toks : Symbols
 unfolding item_behind
 item_behind_takes n s specs toks plain x e = cases_option (punct_at marks.Semicolon toks) (item_on n s toks) (Some x)
     (λ z come e2.
-      let t = punct_takes marks.Semicolon toks plain z come in
-      take (Declaration (record { specs = s; declared = None; semicolon = z.0 })) (join (record { is = refl }) (part t)) (specs, tt) t.plain e2)
+    let t = punct_takes marks.Semicolon toks plain z come in
+    take (Declaration (record { specs = s; declared = None; semicolon = z.0 })) (join (record { is = refl }) (part t)) (specs, tt) t.plain e2)
     (λ come e2.
-      let d = sound_then (declarator_takes n) toks plain _ x e2 in
-      let t = d.takes in
-      subst (λ (l : Symbols). Takes spelled_item IsItem (spelled_specs s ++ l) x) (sym t.parts) (declared_item_takes n s d.read.0 specs t.tree d.read.1 t.plain x d.on)) e
+    let d = sound_then (declarator_takes n) toks plain _ x e2 in
+    let t = d.takes in
+    subst (λ (l : Symbols). Takes spelled_item IsItem (spelled_specs s ++ l) x) (sym t.parts) (declared_item_takes n s d.read.0 specs t.tree d.read.1 t.plain x d.on)) e
 
 pub item_takes : (n : ℕ) → Sound spelled_item IsItem (item_by n)
 unfolding item_by
