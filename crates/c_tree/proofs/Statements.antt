@@ -6,7 +6,7 @@ use Rattle.c_tree.specs.Words.{Symbols, key, punct, quoted, flat}
 use Rattle.c_tree.specs.Programs.{InitTree, StatementTree, ArmTree, spelled_init, spelled_comma, spelled_condition, spelled_begun, spelled_statement, spelled_statements, spelled_arm, spelled_block}
 use Rattle.c_tree.specs.ProgramViews.{condition_of, init_of, next_init_of, begun_of, next_begun_of, declaration_of, statements_of, statement_of, switch_item_of, arm_of, else_arm_of, otherwise_in}
 use Rattle.c_tree.specs.Spelling.{spell_assign}
-use Rattle.c_tree.specs.Statements.{spelled_inner, spell_any, spell_arm, spell_block, spell_comma, spell_condition, spell_declaration, spell_declared, spell_else_arm, spell_for_head, spell_if_chain, spell_init, spell_init_declarator, spell_label, spell_last, spell_next_init, spell_next_init_declarator, spell_otherwise, spell_statement, spell_switch_item}
+use Rattle.c_tree.specs.Statements.{spelled_inner, spell_any, spell_arm, spell_block, spell_condition, spell_declaration, spell_declared, spell_else_arm, spell_for_head, spell_if_chain, spell_init, spell_init_declarator, spell_label, spell_last, spell_next_init, spell_next_init_declarator, spell_otherwise, spell_statement, spell_switch_item}
 use Rattle.c_tree.proofs.Lists.{inits_listed, begun_listed, declarations_listed, statements_listed, arms_listed, items_listed}
 use Rattle.c_tree.proofs.ProgramShapes.{show_init_assign, show_init_text, show_init_list, show_next_init, show_statement_block, show_statement_expr, show_statement_if, show_statement_while, show_statement_do, show_statement_for, show_statement_switch, show_statement_break, show_statement_continue, show_statement_return, show_switch_item_label, show_switch_item_statement, show_arm, show_block, show_else_arm, show_otherwise, show_if_chain}
 use Rattle.c_tree.specs.declared.statement.Declared.{Declared}
@@ -28,7 +28,7 @@ see_init_assign assign = ap spelled_init (show_init_assign assign)
 pub see_init_text : (text : _) → spell_init (Init.Text text) ≡ quoted text ∷ []
 see_init_text text = ap spelled_init (show_init_text text)
 
-pub see_init_list : (opening : _) (first : _) (others : _) (last_comma : _) (closing : _) → spell_init (Init.List opening first others last_comma closing) ≡ punct LeftBrace opening ∷ (spell_init first.value ++ (flat (map spell_next_init others.items) ++ (spell_comma last_comma ++ punct RightBrace closing ∷ [])))
+pub see_init_list : (opening : _) (first : _) (others : _) (last_comma : _) (closing : _) → spell_init (Init.List opening first others last_comma closing) ≡ punct LeftBrace opening ∷ (spell_init first.value ++ (flat (map spell_next_init others.items) ++ (spelled_comma last_comma ++ punct RightBrace closing ∷ [])))
 see_init_list opening first others last_comma closing = ap spelled_init (show_init_list opening first others last_comma closing) ∙ ap (λ (l : Symbols). punct LeftBrace opening ∷ (spelled_init (init_of first.value) ++ (l ++ (spelled_comma last_comma ++ punct RightBrace closing ∷ [])))) (inits_listed next_init_of others.items)
 
 pub see_next_init : (x : NextInit) → spell_next_init x ≡ punct Comma (out-NextInit x).comma ∷ spell_init (out-NextInit x).init

@@ -1,4 +1,4 @@
--- The tokens of expressions and of declarators as the code has them: those of the pure data that they are.
+-- How the expressions and declarators of the code are spelled: as the pure data that they are.
 use Rattle.std.specs.Prelude.{[], ◌∷◌, ◌++◌}
 use Rattle.c_token.specs.declared.token.Punct.TheVariants as marks
 use Rattle.c_tree.specs.Words.{Symbols, punct}
@@ -83,7 +83,7 @@ spell_struct_body x = spelled_spec (struct_body_of x)
 abbrev pub spell_type_name : TypeName → Symbols
 spell_type_name x = spelled_type (type_name_of x)
 
--- Parts of a list.
+-- what stands in lists: each part with the token before it or behind it
 abbrev pub spell_choice : Choice → Symbols
 spell_choice x = spelled (choice_of x).0 ++ punct marks.Question (choice_of x).1 ∷ (spelled (choice_of x).2 ++ punct marks.Colon (choice_of x).3 ∷ [])
 

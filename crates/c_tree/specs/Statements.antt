@@ -1,4 +1,5 @@
--- The tokens of initializers, declarations, statements and units as the code has them: those of the pure data that they are.
+-- How the initializers, declarations and statements of the code are spelled: as the pure data that
+-- they are.
 use Rattle.std.specs.Prelude.{ℕ, [], ◌∷◌, ◌++◌, Option, Some, None}
 use Rattle.std.specs.Global.{Box}
 use Rattle.c_token.specs.declared.token.Keyword.TheVariants as words
@@ -6,7 +7,7 @@ use Rattle.c_token.specs.declared.token.Punct.TheVariants as marks
 use Rattle.c_tree.specs.Words.{Symbols, key, punct}
 use Rattle.c_tree.specs.Views.{specs_of, declarator_of}
 use Rattle.c_tree.specs.Trees.{spelled_specs, spelled_declarator}
-use Rattle.c_tree.specs.Programs.{StatementTree, spelled_any, spelled_condition, spelled_head, spelled_label, spelled_comma, spelled_init, spelled_equals, spelled_begun, spelled_declared, spelled_declaration, spelled_statement, spelled_arm, spelled_block, spelled_item}
+use Rattle.c_tree.specs.Programs.{StatementTree, spelled_any, spelled_condition, spelled_head, spelled_label, spelled_init, spelled_equals, spelled_begun, spelled_declared, spelled_declaration, spelled_statement, spelled_arm, spelled_block, spelled_item}
 use Rattle.c_tree.specs.ProgramViews.{any_of, condition_of, head_of, label_of, init_of, next_init_of, equals_of, begun_of, next_begun_of, declared_of, declaration_of, statement_of, InnerTree, LabelInner, StatementInner, switch_item_of, arm_of, block_of, else_arm_of, if_chain_of, otherwise_of, otherwise_in, item_of}
 use Rattle.c_tree.specs.declared.expression.Expr.{Expr}
 use Rattle.c_tree.specs.declared.statement.Item.{Item}
@@ -40,9 +41,6 @@ spell_for_head x = spelled_head (head_of x)
 
 abbrev pub spell_label : Label → Symbols
 spell_label x = spelled_label (label_of x)
-
-abbrev pub spell_comma : Option ℕ → Symbols
-spell_comma = spelled_comma
 
 abbrev pub spell_init : Init → Symbols
 spell_init x = spelled_init (init_of x)
@@ -88,13 +86,13 @@ spell_else_arm x = key words.Else (else_arm_of x).0 ∷ spelled_arm (else_arm_of
 abbrev pub spell_if_chain : IfChain → Symbols
 spell_if_chain x = spelled_statement (if_chain_of x)
 
-abbrev pub spell_otherwise : Otherwise → Symbols
-spell_otherwise x = key words.Else (otherwise_of x).0 ∷ spelled_statement (otherwise_of x).1
-
--- the part behind `else`, if there is one
+-- `else` and the statement behind it, if there are any
 abbrev pub spelled_otherwise : Option (ℕ × StatementTree) → Symbols
 spelled_otherwise None = []
 spelled_otherwise (Some e) = key words.Else e.0 ∷ spelled_statement e.1
+
+abbrev pub spell_otherwise : Otherwise → Symbols
+spell_otherwise x = spelled_otherwise (Some (otherwise_of x))
 
 abbrev pub spell_last : Option (Box Otherwise) → Symbols
 spell_last x = spelled_otherwise (otherwise_in x)

@@ -6,8 +6,8 @@ ghost use Rattle.std.specs.Prelude.{◌≡◌, ◌++◌, ◌∷◌, [], IfOk, ma
 ghost use Rattle.c_token.specs.declared.token.Punct.TheVariants.{Semicolon, RightBrace};
 ghost use Rattle.c_token.specs.declared.token.TokKind.TheVariants as kinds;
 ghost use Rattle.c_tree.specs.Words.{kinds_of, flat};
-ghost use Rattle.c_tree.specs.Statements.{spell_any, spell_condition, spell_for_head, spell_label, spell_comma, spell_init, spell_next_init, spell_equals_init, spell_init_declarator, spell_next_init_declarator, spell_declared, spell_declaration, spell_statement, spell_switch_item, spell_arm, spell_block, spell_else_arm, spell_if_chain, spell_otherwise, spell_function, spell_item};
-ghost use Rattle.c_tree.specs.Programs.{spelled_unit};
+ghost use Rattle.c_tree.specs.Statements.{spell_any, spell_condition, spell_for_head, spell_label, spell_init, spell_next_init, spell_equals_init, spell_init_declarator, spell_next_init_declarator, spell_declared, spell_declaration, spell_statement, spell_switch_item, spell_arm, spell_block, spell_else_arm, spell_if_chain, spell_otherwise, spell_function, spell_item};
+ghost use Rattle.c_tree.specs.Programs.{spelled_comma, spelled_unit};
 ghost use Rattle.c_tree.specs.ProgramViews.{unit_of};
 
 use crate::expression::Expr;
@@ -72,7 +72,7 @@ fn put_label(out: &mut Vec<TokKind>, label: &Label) -> Result<(), AllocError>
 
 #[tactic(auto, using(std::proofs::lemmas::List::append_assoc, crate::proofs::Append::kinds_append))]
 fn put_comma(out: &mut Vec<TokKind>, comma: &Option<u32>) -> Result<(), AllocError>
-    ensures { IfOk result (λ _. out.new.items ≡ out.old.items ++ kinds_of (spell_comma comma.now)) }
+    ensures { IfOk result (λ _. out.new.items ≡ out.old.items ++ kinds_of (spelled_comma comma.now)) }
 {
     match comma {
         Some(_) => punct(out, Punct::Comma),
@@ -82,7 +82,7 @@ fn put_comma(out: &mut Vec<TokKind>, comma: &Option<u32>) -> Result<(), AllocErr
 
 #[tactic(auto, using(std::proofs::lemmas::List::append_assoc, crate::proofs::Append::kinds_append))]
 fn put_list_end(out: &mut Vec<TokKind>, comma: &Option<u32>) -> Result<(), AllocError>
-    ensures { IfOk result (λ _. out.new.items ≡ out.old.items ++ (kinds_of (spell_comma comma.now) ++ kinds.Punct RightBrace ∷ [])) }
+    ensures { IfOk result (λ _. out.new.items ≡ out.old.items ++ (kinds_of (spelled_comma comma.now) ++ kinds.Punct RightBrace ∷ [])) }
 {
     put_comma(out, comma)?;
     punct(out, Punct::RightBrace)
