@@ -5,7 +5,7 @@ use Rattle.c_token.specs.declared.token.Punct.TheVariants.{LeftBracket, RightBra
 use Rattle.c_tree.specs.Words.{Symbol, Symbols, key, punct, keyed, signed, named, flat, spell_constant, spell_pointers, spell_tag}
 use Rattle.c_tree.specs.Trees.{Tree, DeclaratorTree, ParamTree, spelled, spelled_post, spelled_pre, spelled_type, spelled_specs, spelled_spec, spelled_member, spelled_declarator, spelled_suffix, spelled_param}
 use Rattle.c_tree.specs.Lists.{ChoiceParts}
-use Rattle.c_tree.specs.Views.{binary_of, operand_of, param_of, postfix_suffix_of, prefix_of, primary_of, spec_of, suffix_of, assign_of, cast_of, choice_of, cond_of, declarator_of, expr_of, member_of, next_assign_of, next_declarator_of, next_operand_of, next_param_of, postfix_of, specs_of, struct_body_of, target_of, type_name_of}
+use Rattle.c_tree.specs.Views.{binary_of, operand_of, param_of, postfix_suffix_of, prefix_of, primary_of, spec_of, suffix_of, assign_of, choice_of, cond_of, declarator_of, member_of, next_assign_of, next_declarator_of, next_operand_of, next_param_of, specs_of, target_of}
 use Rattle.c_tree.specs.Spelling.{spell_binary, spell_operand, spell_param, spell_postfix_suffix, spell_prefix, spell_primary, spell_spec, spell_suffix, spell_assign, spell_cast, spell_choice, spell_cond, spell_declarator, spell_expr, spell_member, spell_next_assign, spell_next_declarator, spell_next_operand, spell_next_param, spell_postfix, spell_specs, spell_struct_body, spell_target, spell_type_name}
 use Rattle.c_tree.proofs.Lists.{spelled_posted, spelled_joined, spelled_listed, spelled_prefixed, spelled_chosen, spelled_assigned, specs_listed, members_listed, declarators_listed, suffixes_listed, params_listed}
 use Rattle.c_tree.proofs.Shapes.{show_binary_operand, show_binary_chain, show_operand_postfix, show_operand_sizeof_type, show_param_named, show_param_unnamed, show_postfix_suffix_index, show_postfix_suffix_call_bare, show_postfix_suffix_call, show_postfix_suffix_member, show_postfix_suffix_step, show_prefix_operator, show_prefix_sizeof, show_prefix_cast, show_primary_name, show_primary_constant, show_primary_group, show_spec_word, show_spec_reference, show_spec_body, show_suffix_array_unsized, show_suffix_array, show_suffix_empty, show_suffix_void, show_suffix_params, show_assign, show_cast, show_choice, show_cond, show_declarator, show_expr, show_member, show_next_assign, show_next_declarator, show_next_operand, show_next_param, show_postfix, show_specs, show_struct_body, show_target, show_type_name}
