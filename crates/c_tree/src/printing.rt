@@ -6,7 +6,9 @@ ghost use Rattle.std.specs.Prelude.{◌≡◌, ◌++◌, ◌∷◌, [], IfOk, ma
 ghost use Rattle.c_token.specs.declared.token.Punct.TheVariants.{Semicolon, RightBrace};
 ghost use Rattle.c_token.specs.declared.token.TokKind.TheVariants as kinds;
 ghost use Rattle.c_tree.specs.Words.{kinds_of, flat};
-ghost use Rattle.c_tree.specs.Statements.{spell_any, spell_condition, spell_for_head, spell_label, spell_comma, spell_init, spell_next_init, spell_equals_init, spell_init_declarator, spell_next_init_declarator, spell_declared, spell_declaration, spell_statement, spell_switch_item, spell_arm, spell_block, spell_else_arm, spell_if_chain, spell_otherwise, spell_function, spell_item, spell_unit};
+ghost use Rattle.c_tree.specs.Statements.{spell_any, spell_condition, spell_for_head, spell_label, spell_init, spell_next_init, spell_equals_init, spell_init_declarator, spell_next_init_declarator, spell_declared, spell_declaration, spell_statement, spell_switch_item, spell_arm, spell_block, spell_else_arm, spell_if_chain, spell_otherwise, spell_function, spell_item};
+ghost use Rattle.c_tree.specs.Programs.{spelled_comma, spelled_unit};
+ghost use Rattle.c_tree.specs.ProgramViews.{unit_of};
 
 use crate::expression::Expr;
 use crate::marks::{punct, text, word};
@@ -70,7 +72,7 @@ fn put_label(out: &mut Vec<TokKind>, label: &Label) -> Result<(), AllocError>
 
 #[tactic(auto, using(std::proofs::lemmas::List::append_assoc, crate::proofs::Append::kinds_append))]
 fn put_comma(out: &mut Vec<TokKind>, comma: &Option<u32>) -> Result<(), AllocError>
-    ensures { IfOk result (λ _. out.new.items ≡ out.old.items ++ kinds_of (spell_comma comma.now)) }
+    ensures { IfOk result (λ _. out.new.items ≡ out.old.items ++ kinds_of (spelled_comma comma.now)) }
 {
     match comma {
         Some(_) => punct(out, Punct::Comma),
@@ -80,7 +82,7 @@ fn put_comma(out: &mut Vec<TokKind>, comma: &Option<u32>) -> Result<(), AllocErr
 
 #[tactic(auto, using(std::proofs::lemmas::List::append_assoc, crate::proofs::Append::kinds_append))]
 fn put_list_end(out: &mut Vec<TokKind>, comma: &Option<u32>) -> Result<(), AllocError>
-    ensures { IfOk result (λ _. out.new.items ≡ out.old.items ++ (kinds_of (spell_comma comma.now) ++ kinds.Punct RightBrace ∷ [])) }
+    ensures { IfOk result (λ _. out.new.items ≡ out.old.items ++ (kinds_of (spelled_comma comma.now) ++ kinds.Punct RightBrace ∷ [])) }
 {
     put_comma(out, comma)?;
     punct(out, Punct::RightBrace)
@@ -164,7 +166,7 @@ fn put_next_init_declarator(
     put_init_declarator(out, &next.declarator)
 }
 
-#[tactic(auto, using(std::proofs::lemmas::List::append_assoc, crate::proofs::Append::kinds_append))]
+#[tactic(auto, using(std::proofs::lemmas::List::append_assoc, crate::proofs::Append::kinds_append, crate::proofs::Statements::see_declared))]
 fn put_declared(out: &mut Vec<TokKind>, declared: &Option<Declared>) -> Result<(), AllocError>
     ensures { IfOk result (λ _. out.new.items ≡ out.old.items ++ kinds_of (spell_declared declared.now)) }
 {
@@ -348,10 +350,10 @@ fn put_item(out: &mut Vec<TokKind>, item: &Item) -> Result<(), AllocError>
 }
 
 /// The kinds of the tokens that a unit is spelled with, in order (ISO/IEC 9899:1990, 6.7).
-#[tactic(auto, unfolding(crate::specs::Statements::spell_unit))]
+#[tactic(auto, using(crate::proofs::Lists::unit_listed))]
 pub fn spell(alloc: Global, unit: &Unit) -> Result<Vec<TokKind>, AllocError>
     // The list is the spelling of the unit.
-    ensures spelling { IfOk result (λ kinds. kinds.items ≡ kinds_of (spell_unit unit.now)) }
+    ensures spelling { IfOk result (λ kinds. kinds.items ≡ kinds_of (spelled_unit (unit_of unit.now))) }
 {
     let mut out = Vec::new(alloc);
     for item in &unit.items {
