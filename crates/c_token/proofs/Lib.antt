@@ -4,3 +4,6 @@ pub mod Comments
 pub mod Bounds
 pub mod Passing
 pub mod Order
+pub mod LongestFronts
+pub mod LongestNumbers
+pub mod LongestElements
