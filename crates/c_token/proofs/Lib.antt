@@ -7,3 +7,5 @@ pub mod Order
 pub mod LongestFronts
 pub mod LongestNumbers
 pub mod LongestElements
+pub mod LongestPunctuators
+pub mod Longest
