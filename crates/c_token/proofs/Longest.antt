@@ -1,6 +1,6 @@
 -- The token that is read at a front is the longest that stands there, and where none is read, none
 -- stands.
-use Rattle.std.proofs.Common.{ℕ, zero, suc, ◌+◌, ◌<◌, ◌≤◌, ◌≡◌, Bool, true, false, ◌&&◌, not, cond, Option, Some, None, List, [], ◌∷◌, length, drop, take, arith, ap, sym, ◌∙◌, refl, subst, eqb-true}
+use Rattle.std.proofs.Common.{ℕ, zero, suc, ◌+◌, ◌≤◌, ◌≡◌, Bool, true, false, ◌&&◌, not, cond, Option, Some, None, List, [], ◌∷◌, length, drop, take, arith, ap, sym, ◌∙◌, refl, subst, eqb-true}
 use Rattle.std.specs.Prelude.{◌==◌}
 use Rattle.std.specs.Option.{option_or}
 use Rattle.std.specs.List.{prefix_len, list_all}
@@ -16,8 +16,8 @@ use Rattle.c_token.specs.Token.{keyword_of, kind_of_word, word_at, integer_at, s
 use Rattle.c_token.specs.Longest.{is_word, word_spelled, character_spelled, string_spelled, punctuator_spelled, token_spelled, is_integer, number_goes_on, Stands, IsLongest, StandsNone}
 use Rattle.c_token.proofs.LongestFronts.{bound, all_within, prefix_all, number_ends, number_whole}
 use Rattle.c_token.proofs.LongestNumbers.{branches, word_bytes, decimal_no_name, integer_first, integer_is}
-use Rattle.c_token.proofs.LongestElements.{Quoted, string_reads, string_quoted, character_reads, character_quoted}
-use Rattle.c_token.proofs.LongestPunctuators.{is_mark, begins_with_mark, Marked, Spelled, punctuator_reads, punctuator_spells}
+use Rattle.c_token.proofs.LongestElements.{string_reads, string_quoted, character_reads, character_quoted}
+use Rattle.c_token.proofs.LongestPunctuators.{is_mark, begins_with_mark, Marked, punctuator_reads, punctuator_spells}
 
 -- ---- the kinds of tokens exclude each other
 
@@ -56,7 +56,7 @@ unfolding token_spelled
 word_token bytes e =
     let k = kind_of_word (keyword_of bytes) in
     or_first (word_spelled bytes) (option_or (integer_of bytes) (option_or (character_spelled bytes) (option_or (string_spelled bytes) (punctuator_spelled bytes)))) k
-      (ap (λ t. cond t (Some k) None) e)
+    (ap (λ t. cond t (Some k) None) e)
 
 integer_token : (bytes : List ℕ) (k : TokKind) → integer_of bytes ≡ Some k → token_spelled bytes ≡ Some k
 unfolding token_spelled integer_of
@@ -134,7 +134,8 @@ word_stands b rest k n t e =
     record {
       within = omega arith;
       spelled = word_token (take n (b ∷ rest)) (ap (λ (c : ℕ). is_word (take c (b ∷ rest))) count ∙ word) ∙ ap Some same;
-      ended = not_integer k (ap is_integer (sym same) ∙ word_kind (keyword_of (take n (b ∷ rest)))) }
+      ended = not_integer k (ap is_integer (sym same) ∙ word_kind (keyword_of (take n (b ∷ rest))));
+    }
 
 integer_stands : (text : List ℕ) (k : TokKind) (n : ℕ) → integer_at text ≡ Some (k, n) → Stands text n k
 unfolding integer_at
@@ -147,7 +148,8 @@ integer_stands text k n e =
     record {
       within = omega arith;
       spelled = integer_token (take n text) k spelled;
-      ended = λ i. ap (λ (c : ℕ). number_goes_on (drop c text)) (sym parts.1) ∙ number_ends text }
+      ended = λ i. ap (λ (c : ℕ). number_goes_on (drop c text)) (sym parts.1) ∙ number_ends text;
+    }
 
 character_stands : (rest : List ℕ) (k : TokKind) (n : ℕ) → character_at rest ≡ Some (k, n) → Stands (39 ∷ rest) n k
 character_stands rest k n e =
@@ -180,14 +182,14 @@ stands (b ∷ rest) k n e =
     let characters = cond (b == 39) (character_at rest) strings in
     let integers = cond (is_decimal b) (integer_at (b ∷ rest)) characters in
     branches (begins_name b) (Some (word_at (b ∷ rest))) integers (k, n)
-      (λ t g. word_stands b rest k n t (same_answer (word_at (b ∷ rest)) (k, n) g))
-      (λ t g. branches (is_decimal b) (integer_at (b ∷ rest)) characters (k, n)
-        (λ u h. integer_stands (b ∷ rest) k n h)
-        (λ u h. branches (b == 39) (character_at rest) strings (k, n)
-          (λ v i. subst (λ (c : ℕ). Stands (c ∷ rest) n k) (sym (eqb-true b 39 v)) (character_stands rest k n i))
-          (λ v i. branches (b == 34) (string_at rest) marks (k, n)
-            (λ w j. subst (λ (c : ℕ). Stands (c ∷ rest) n k) (sym (eqb-true b 34 w)) (string_stands rest k n j))
-            (λ w j. punctuator_stands (b ∷ rest) k n j) i) h) g) e
+    (λ t g. word_stands b rest k n t (same_answer (word_at (b ∷ rest)) (k, n) g))
+    (λ t g. branches (is_decimal b) (integer_at (b ∷ rest)) characters (k, n)
+    (λ u h. integer_stands (b ∷ rest) k n h)
+    (λ u h. branches (b == 39) (character_at rest) strings (k, n)
+    (λ v i. subst (λ (c : ℕ). Stands (c ∷ rest) n k) (sym (eqb-true b 39 v)) (character_stands rest k n i))
+    (λ v i. branches (b == 34) (string_at rest) marks (k, n)
+    (λ w j. subst (λ (c : ℕ). Stands (c ∷ rest) n k) (sym (eqb-true b 34 w)) (string_stands rest k n j))
+    (λ w j. punctuator_stands (b ∷ rest) k n j) i) h) g) e
 
 -- ---- what stands there is read, or a longer one
 
@@ -199,9 +201,10 @@ record Reads (text : List ℕ) (m : ℕ) : Type 0 where
 word_reads : (m : ℕ) (b : ℕ) (rest : List ℕ) → m ≤ length (b ∷ rest) → begins_name b ≡ true → list_all is_name_byte (take m (b ∷ rest)) ≡ true → Reads (b ∷ rest) m
 unfolding token_at word_at
 word_reads m b rest l t e = record {
-    token = word_at (b ∷ rest);
-    is = rw t refl;
-    enough = all_within is_name_byte m (b ∷ rest) l e }
+  token = word_at (b ∷ rest);
+  is = rw t refl;
+  enough = all_within is_name_byte m (b ∷ rest) l e;
+}
 
 integer_whole : (m : ℕ) (text : List ℕ) (k : TokKind) → m ≡ prefix_len is_number_byte text → integer_of (take m text) ≡ Some k → integer_at text ≡ Some (k, m)
 unfolding integer_at
@@ -231,8 +234,8 @@ mark_reads m b rest t q =
 by_word : (m : ℕ) (b : ℕ) (rest : List ℕ) (j : TokKind) → m ≤ length rest → word_spelled (b ∷ take m rest) ≡ Some j → Reads (b ∷ rest) (suc m)
 by_word m b rest j l e =
     branches (is_word (b ∷ take m rest)) (Some (kind_of_word (keyword_of (b ∷ take m rest)))) None j
-      (λ t g. word_reads (suc m) b rest (omega arith) (and_parts (begins_name b) (list_all is_name_byte (take m rest)) t).0 (word_bytes (b ∷ take m rest) t))
-      (λ t g. absurd cc) e
+    (λ t g. word_reads (suc m) b rest (omega arith) (and_parts (begins_name b) (list_all is_name_byte (take m rest)) t).0 (word_bytes (b ∷ take m rest) t))
+    (λ t g. absurd cc) e
 
 by_integer : (m : ℕ) (b : ℕ) (rest : List ℕ) (j : TokKind) → Stands (b ∷ rest) (suc m) j → integer_of (b ∷ take m rest) ≡ Some j → Reads (b ∷ rest) (suc m)
 by_integer m b rest j s e =
@@ -242,17 +245,19 @@ by_integer m b rest j s e =
 
 by_character : (m : ℕ) (b : ℕ) (rest : List ℕ) (j : TokKind) → m ≤ length rest → character_spelled (b ∷ take m rest) ≡ Some j → Reads (b ∷ rest) (suc m)
 by_character m b rest j l e = elim (b == 39) as (λ t. (b == 39) ≡ t → Reads (b ∷ rest) (suc m)) [
-    true ↦ λ t.
+  | true ↦ λ t.
       let same = eqb-true b 39 t in
       subst (λ (c : ℕ). Reads (c ∷ rest) (suc m)) (sym same) (quoted_reads m rest j (character_reads m rest j l (subst (λ (c : ℕ). character_spelled (c ∷ take m rest) ≡ Some j) same e)))
-  | false ↦ λ t. absurd (let no : None ≡ Some j = sym (no_character b (take m rest) t) ∙ e in cc) ] refl
+  | false ↦ λ t. absurd (let no : None ≡ Some j = sym (no_character b (take m rest) t) ∙ e in cc)
+] refl
 
 by_string : (m : ℕ) (b : ℕ) (rest : List ℕ) (j : TokKind) → m ≤ length rest → string_spelled (b ∷ take m rest) ≡ Some j → Reads (b ∷ rest) (suc m)
 by_string m b rest j l e = elim (b == 34) as (λ t. (b == 34) ≡ t → Reads (b ∷ rest) (suc m)) [
-    true ↦ λ t.
+  | true ↦ λ t.
       let same = eqb-true b 34 t in
       subst (λ (c : ℕ). Reads (c ∷ rest) (suc m)) (sym same) (text_reads m rest j (string_reads m rest j l (subst (λ (c : ℕ). string_spelled (c ∷ take m rest) ≡ Some j) same e)))
-  | false ↦ λ t. absurd (let no : None ≡ Some j = sym (no_string b (take m rest) t) ∙ e in cc) ] refl
+  | false ↦ λ t. absurd (let no : None ≡ Some j = sym (no_string b (take m rest) t) ∙ e in cc)
+] refl
 
 by_punctuator : (m : ℕ) (b : ℕ) (rest : List ℕ) (j : TokKind) → m ≤ length rest → punctuator_spelled (b ∷ take m rest) ≡ Some j → Reads (b ∷ rest) (suc m)
 by_punctuator m b rest j l e = let q = punctuator_reads (suc m) (b ∷ rest) j (omega arith) e in mark_reads (suc m) b rest q.mark q
@@ -270,9 +275,9 @@ reads (b ∷ rest) (suc m) j s =
     let characters = option_or (character_spelled bytes) strings in
     let integers = option_or (integer_of bytes) characters in
     either (word_spelled bytes) integers j (λ e. by_word m b rest j l e)
-      (λ f. either (integer_of bytes) characters j (λ e. by_integer m b rest j s e)
-        (λ g. either (character_spelled bytes) strings j (λ e. by_character m b rest j l e)
-          (λ h. either (string_spelled bytes) (punctuator_spelled bytes) j (λ e. by_string m b rest j l e) (λ e. by_punctuator m b rest j l e) h) g) f) s.spelled
+    (λ f. either (integer_of bytes) characters j (λ e. by_integer m b rest j s e)
+    (λ g. either (character_spelled bytes) strings j (λ e. by_character m b rest j l e)
+    (λ h. either (string_spelled bytes) (punctuator_spelled bytes) j (λ e. by_string m b rest j l e) (λ e. by_punctuator m b rest j l e) h) g) f) s.spelled
 
 -- ---- the law
 

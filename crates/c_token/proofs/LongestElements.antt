@@ -1,6 +1,6 @@
 -- Elements of character constants and strings: what is read from a front that has a byte behind it is
 -- what is read from the whole text.
-use Rattle.std.proofs.Common.{ℕ, zero, suc, ◌+◌, ◌-◌, ◌<◌, ◌≤◌, ◌≡◌, Bool, true, false, cond, Option, Some, None, List, [], ◌∷◌, length, drop, take, arith, ap, sym, ◌∙◌, refl, subst, eqb-true, eq-eqb, length-take, length-drop, take-take, add-one}
+use Rattle.std.proofs.Common.{ℕ, zero, suc, ◌+◌, ◌-◌, ◌<◌, ◌≤◌, ◌≡◌, true, false, cond, Option, Some, None, List, [], ◌∷◌, length, drop, take, arith, ap, sym, ◌∙◌, refl, eqb-true, eq-eqb, length-take, length-drop, take-take, add-one}
 use Rattle.std.specs.Prelude.{nat_eq, ◌==◌}
 use Rattle.std.specs.List.{prefix_len, starts_with}
 use Rattle.std.specs.Str.{bytes_eq}
@@ -70,10 +70,10 @@ unfolding escape_at
 escape_some [] x e = absurd cc
 escape_some (b ∷ rest) x e =
     branches (is_digit 8 b) (octal_escape (b ∷ rest)) (cond (b == 120) (hexadecimal_escape rest) (escape_letter b >>= λ code. Some (code, 2))) x
-      (λ t g. omega (arith, octal_length (b ∷ rest) x g))
-      (λ t g. branches (b == 120) (hexadecimal_escape rest) (escape_letter b >>= λ code. Some (code, 2)) x
-        (λ u h. omega (arith, hexadecimal_length rest x h))
-        (λ u h. omega (arith, made (escape_letter b) 2 x h)) g) e
+    (λ t g. omega (arith, octal_length (b ∷ rest) x g))
+    (λ t g. branches (b == 120) (hexadecimal_escape rest) (escape_letter b >>= λ code. Some (code, 2)) x
+    (λ u h. omega (arith, hexadecimal_length rest x h))
+    (λ u h. omega (arith, made (escape_letter b) 2 x h)) g) e
 
 escape_front : (m : ℕ) (xs : List ℕ) (x : ℕ × ℕ) → escape_at (take m xs) ≡ Some x → x.1 ≤ m → escape_at xs ≡ Some x
 unfolding escape_at
@@ -82,8 +82,8 @@ escape_front (suc m) [] x e h = absurd cc
 escape_front (suc m) (b ∷ rest) x e h =
     let letter : Option (ℕ × ℕ) = escape_letter b >>= λ code. Some (code, 2) in
     branch_into (is_digit 8 b) (octal_escape (b ∷ take m rest)) (cond (b == 120) (hexadecimal_escape (take m rest)) letter) (octal_escape (b ∷ rest)) (cond (b == 120) (hexadecimal_escape rest) letter) x
-      (λ g. octal_front (suc m) (b ∷ rest) x g h)
-      (branch_into (b == 120) (hexadecimal_escape (take m rest)) letter (hexadecimal_escape rest) letter x (λ g. hexadecimal_front m rest x g h) (λ g. g)) e
+    (λ g. octal_front (suc m) (b ∷ rest) x g h)
+    (branch_into (b == 120) (hexadecimal_escape (take m rest)) letter (hexadecimal_escape rest) letter x (λ g. hexadecimal_front m rest x g h) (λ g. g)) e
 
 escape_whole : (m : ℕ) (xs : List ℕ) (x : ℕ × ℕ) → escape_at xs ≡ Some x → x.1 ≤ m → escape_at (take m xs) ≡ Some x
 unfolding escape_at
@@ -92,8 +92,8 @@ escape_whole (suc m) [] x e h = absurd cc
 escape_whole (suc m) (b ∷ rest) x e h =
     let letter : Option (ℕ × ℕ) = escape_letter b >>= λ code. Some (code, 2) in
     branch_into (is_digit 8 b) (octal_escape (b ∷ rest)) (cond (b == 120) (hexadecimal_escape rest) letter) (octal_escape (b ∷ take m rest)) (cond (b == 120) (hexadecimal_escape (take m rest)) letter) x
-      (λ g. octal_whole (suc m) (b ∷ rest) x g h)
-      (branch_into (b == 120) (hexadecimal_escape rest) letter (hexadecimal_escape (take m rest)) letter x (λ g. hexadecimal_whole m rest x g h) (λ g. g)) e
+    (λ g. octal_whole (suc m) (b ∷ rest) x g h)
+    (branch_into (b == 120) (hexadecimal_escape rest) letter (hexadecimal_escape (take m rest)) letter x (λ g. hexadecimal_whole m rest x g h) (λ g. g)) e
 
 element_front : (quote m : ℕ) (xs : List ℕ) (x : ℕ × ℕ) → element_at quote (take m xs) ≡ Some x → x.1 < m → element_at quote xs ≡ Some x
 unfolding element_at
@@ -126,13 +126,13 @@ string_bounds (x ∷ xs) (suc p) n e =
     (omega arith, omega arith)
 string_bounds (x ∷ xs) zero n e =
     branches (x == 34) (Some 1) (element_at 34 (x ∷ xs) >>= λ el. string_end (el.1 - 1) xs >>= λ k. Some (k + 1)) n
-      (λ t g. let f : 1 ≡ n = cc in (omega arith, omega arith))
-      (λ t g.
-        let b = bound (element_at 34 (x ∷ xs)) (λ el. string_end (el.1 - 1) xs >>= λ k. Some (k + 1)) n g in
-        let c = bound (string_end (b.first.1 - 1) xs) (λ k. Some (k + 1)) n b.then in
-        let h = string_bounds xs (b.first.1 - 1) c.first c.is in
-        let f = one_further c.first n c.then in
-        (omega arith, omega arith)) e
+    (λ t g. let f : 1 ≡ n = cc in (omega arith, omega arith))
+    (λ t g.
+    let b = bound (element_at 34 (x ∷ xs)) (λ el. string_end (el.1 - 1) xs >>= λ k. Some (k + 1)) n g in
+    let c = bound (string_end (b.first.1 - 1) xs) (λ k. Some (k + 1)) n b.then in
+    let h = string_bounds xs (b.first.1 - 1) c.first c.is in
+    let f = one_further c.first n c.then in
+    (omega arith, omega arith)) e
 
 string_front : (xs : List ℕ) (m p n : ℕ) → string_end p (take m xs) ≡ Some n → string_end p xs ≡ Some n
 unfolding string_end
@@ -142,13 +142,14 @@ string_front (x ∷ xs) zero p n e = absurd cc
 string_front (x ∷ xs) (suc m) (suc p) n e = bind_into (string_end p (take m xs)) (string_end p xs) (λ k. Some (k + 1)) (λ k. Some (k + 1)) n (λ k g h. (string_front xs m p k g, h)) e
 string_front (x ∷ xs) (suc m) zero n e =
     branch_into (x == 34) (Some 1) (element_at 34 (x ∷ take m xs) >>= λ el. string_end (el.1 - 1) (take m xs) >>= λ k. Some (k + 1)) (Some 1) (element_at 34 (x ∷ xs) >>= λ el. string_end (el.1 - 1) xs >>= λ k. Some (k + 1)) n
-      (λ g. g)
-      (bind_into (element_at 34 (x ∷ take m xs)) (element_at 34 (x ∷ xs)) (λ el. string_end (el.1 - 1) (take m xs) >>= λ k. Some (k + 1)) (λ el. string_end (el.1 - 1) xs >>= λ k. Some (k + 1)) n
-        (λ el g h.
-          let b = bound (string_end (el.1 - 1) (take m xs)) (λ k. Some (k + 1)) n h in
-          let s = string_bounds (take m xs) (el.1 - 1) b.first b.is in
-          (element_front 34 (suc m) (x ∷ xs) el g (omega (arith, s, length-take m xs)),
-           bind_into (string_end (el.1 - 1) (take m xs)) (string_end (el.1 - 1) xs) (λ k. Some (k + 1)) (λ k. Some (k + 1)) n (λ k i j. (string_front xs m (el.1 - 1) k i, j)) h))) e
+    (λ g. g)
+    (bind_into (element_at 34 (x ∷ take m xs)) (element_at 34 (x ∷ xs)) (λ el. string_end (el.1 - 1) (take m xs) >>= λ k. Some (k + 1)) (λ el. string_end (el.1 - 1) xs >>= λ k. Some (k + 1)) n
+    (λ el g h.
+    let b = bound (string_end (el.1 - 1) (take m xs)) (λ k. Some (k + 1)) n h in
+    let s = string_bounds (take m xs) (el.1 - 1) b.first b.is in (
+      element_front 34 (suc m) (x ∷ xs) el g (omega (arith, s, length-take m xs)),
+      bind_into (string_end (el.1 - 1) (take m xs)) (string_end (el.1 - 1) xs) (λ k. Some (k + 1)) (λ k. Some (k + 1)) n (λ k i j. (string_front xs m (el.1 - 1) k i, j)) h,
+    ))) e
 
 string_whole : (xs : List ℕ) (m p n : ℕ) → n ≤ m → string_end p xs ≡ Some n → string_end p (take m xs) ≡ Some n
 unfolding string_end
@@ -157,14 +158,15 @@ string_whole (x ∷ xs) zero p n l e = absurd (let s = string_bounds (x ∷ xs) 
 string_whole (x ∷ xs) (suc m) (suc p) n l e = bind_into (string_end p xs) (string_end p (take m xs)) (λ k. Some (k + 1)) (λ k. Some (k + 1)) n (λ k g h. (string_whole xs m p k (omega (arith, one_further k n h)) g, h)) e
 string_whole (x ∷ xs) (suc m) zero n l e =
     branch_into (x == 34) (Some 1) (element_at 34 (x ∷ xs) >>= λ el. string_end (el.1 - 1) xs >>= λ k. Some (k + 1)) (Some 1) (element_at 34 (x ∷ take m xs) >>= λ el. string_end (el.1 - 1) (take m xs) >>= λ k. Some (k + 1)) n
-      (λ g. g)
-      (bind_into (element_at 34 (x ∷ xs)) (element_at 34 (x ∷ take m xs)) (λ el. string_end (el.1 - 1) xs >>= λ k. Some (k + 1)) (λ el. string_end (el.1 - 1) (take m xs) >>= λ k. Some (k + 1)) n
-        (λ el g h.
-          let b = bound (string_end (el.1 - 1) xs) (λ k. Some (k + 1)) n h in
-          let s = string_bounds xs (el.1 - 1) b.first b.is in
-          let f = one_further b.first n b.then in
-          (element_whole 34 (suc m) (x ∷ xs) el g (omega arith),
-           bind_into (string_end (el.1 - 1) xs) (string_end (el.1 - 1) (take m xs)) (λ k. Some (k + 1)) (λ k. Some (k + 1)) n (λ k i j. (string_whole xs m (el.1 - 1) k (omega (arith, one_further k n j)) i, j)) h))) e
+    (λ g. g)
+    (bind_into (element_at 34 (x ∷ xs)) (element_at 34 (x ∷ take m xs)) (λ el. string_end (el.1 - 1) xs >>= λ k. Some (k + 1)) (λ el. string_end (el.1 - 1) (take m xs) >>= λ k. Some (k + 1)) n
+    (λ el g h.
+    let b = bound (string_end (el.1 - 1) xs) (λ k. Some (k + 1)) n h in
+    let s = string_bounds xs (el.1 - 1) b.first b.is in
+    let f = one_further b.first n b.then in (
+      element_whole 34 (suc m) (x ∷ xs) el g (omega arith),
+      bind_into (string_end (el.1 - 1) xs) (string_end (el.1 - 1) (take m xs)) (λ k. Some (k + 1)) (λ k. Some (k + 1)) n (λ k i j. (string_whole xs m (el.1 - 1) k (omega (arith, one_further k n j)) i, j)) h,
+    ))) e
 
 -- ---- constants in quotes
 
@@ -191,11 +193,11 @@ unfolding string_spelled
 string_reads m rest k l e =
     let b = bound (string_end 0 (take m rest)) (λ count. cond (count == length (take m rest)) (Some kind.Text) None) k e in
     branches (b.first == length (take m rest)) (Some kind.Text) None k
-      (λ t g.
-        let count : b.first ≡ m = omega (arith, eqb-true b.first (length (take m rest)) t, length-take m rest) in
-        let text : kind.Text ≡ k = cc in
-        string_ends rest m (string_front rest m 0 m (b.is ∙ ap Some count)) ∙ ap (λ (j : TokKind). Some (j, suc m)) text)
-      (λ t g. absurd cc) b.then
+    (λ t g.
+    let count : b.first ≡ m = omega (arith, eqb-true b.first (length (take m rest)) t, length-take m rest) in
+    let text : kind.Text ≡ k = cc in
+    string_ends rest m (string_front rest m 0 m (b.is ∙ ap Some count)) ∙ ap (λ (j : TokKind). Some (j, suc m)) text)
+    (λ t g. absurd cc) b.then
 
 string_text : (rest : List ℕ) (count : ℕ) → string_end 0 rest ≡ Some count → count ≤ length rest → string_spelled (34 ∷ take count rest) ≡ Some kind.Text
 string_text rest count e l =
@@ -213,7 +215,8 @@ string_quoted rest k n e =
       is = omega arith;
       within = s.1;
       spells = string_text rest b.first b.is s.1 ∙ ap Some parts.0;
-      kind_is = ap is_integer (sym parts.0) }
+      kind_is = ap is_integer (sym parts.0);
+    }
 
 closing : (c : ℕ) (rest : List ℕ) → take 1 (drop c rest) ≡ 39 ∷ [] → starts_with nat_eq (drop c rest) (39 ∷ []) ≡ true
 closing c rest e = (bytes_decides (39 ∷ []) (take 1 (drop c rest))).1 (sym e)
@@ -245,10 +248,10 @@ unfolding character_spelled
 character_reads m rest k l e =
     let b = bound (element_at 39 (take m rest)) (λ x. cond (bytes_eq (drop x.1 (take m rest)) (39 ∷ [])) (Some (kind.Char x.0)) None) k e in
     branches (bytes_eq (drop b.first.1 (take m rest)) (39 ∷ [])) (Some (kind.Char b.first.0)) None k
-      (λ t g.
-        let char : kind.Char b.first.0 ≡ k = cc in
-        character_element m rest b.first l b.is ((bytes_decides (drop b.first.1 (take m rest)) (39 ∷ [])).0 t) ∙ ap (λ (j : TokKind). Some (j, suc m)) char)
-      (λ t g. absurd cc) b.then
+    (λ t g.
+    let char : kind.Char b.first.0 ≡ k = cc in
+    character_element m rest b.first l b.is ((bytes_decides (drop b.first.1 (take m rest)) (39 ∷ [])).0 t) ∙ ap (λ (j : TokKind). Some (j, suc m)) char)
+    (λ t g. absurd cc) b.then
 
 character_char : (rest : List ℕ) (x : ℕ × ℕ) → element_at 39 rest ≡ Some x → take 1 (drop x.1 rest) ≡ 39 ∷ [] → character_spelled (39 ∷ take (x.1 + 1) rest) ≡ Some (kind.Char x.0)
 character_char rest x e q = character_spells (take (x.1 + 1) rest) x (element_whole 39 (x.1 + 1) rest x e (omega arith)) (drop-take x.1 1 rest ∙ q)
@@ -258,13 +261,14 @@ unfolding character_at
 character_quoted rest k n e =
     let b = bound (element_at 39 rest) (λ x. cond (starts_with nat_eq (drop x.1 rest) (39 ∷ [])) (Some (kind.Char x.0, x.1 + 2)) None) (k, n) e in
     branches (starts_with nat_eq (drop b.first.1 rest) (39 ∷ [])) (Some (kind.Char b.first.0, b.first.1 + 2)) None (k, n)
-      (λ t g.
-        let parts = some_pair_parts (kind.Char b.first.0) k (b.first.1 + 2) n g in
-        let quote = closed b.first.1 rest t in
-        record {
-          further = b.first.1 + 1;
-          is = omega arith;
-          within = omega (arith, ap length quote, length-take 1 (drop b.first.1 rest), length-drop b.first.1 rest);
-          spells = character_char rest b.first b.is quote ∙ ap Some parts.0;
-          kind_is = ap is_integer (sym parts.0) })
-      (λ t g. absurd cc) b.then
+    (λ t g.
+    let parts = some_pair_parts (kind.Char b.first.0) k (b.first.1 + 2) n g in
+    let quote = closed b.first.1 rest t in
+    record {
+      further = b.first.1 + 1;
+      is = omega arith;
+      within = omega (arith, ap length quote, length-take 1 (drop b.first.1 rest), length-drop b.first.1 rest);
+      spells = character_char rest b.first b.is quote ∙ ap Some parts.0;
+      kind_is = ap is_integer (sym parts.0);
+    })
+    (λ t g. absurd cc) b.then

@@ -1,6 +1,6 @@
 -- Fronts of lists: how many bytes of a class stand there, and what is the same in a front and in the
 -- whole list.
-use Rattle.std.proofs.Common.{ℕ, zero, suc, ◌+◌, ◌-◌, ◌<◌, ◌≤◌, ◌≡◌, min, Bool, true, false, ◌&&◌, ◌||◌, cond, Option, Some, None, List, [], ◌∷◌, ◌++◌, length, drop, take, arith, ap, sym, ◌∙◌, refl, subst, length-take}
+use Rattle.std.proofs.Common.{ℕ, zero, suc, ◌+◌, ◌≤◌, ◌≡◌, min, Bool, true, false, ◌&&◌, cond, Option, Some, None, List, [], ◌∷◌, length, drop, take, arith, ap, ◌∙◌, refl, subst, length-take}
 use Rattle.std.specs.List.{prefix_len, list_all}
 use Rattle.std.proofs.lemmas.Bool.{and_parts, and_from}
 use Rattle.c_token.specs.Bytes.{is_number_byte}

@@ -1,5 +1,5 @@
 -- What each byte of a name and of an integer constant is.
-use Rattle.std.proofs.Common.{ℕ, ◌+◌, ◌-◌, ◌<◌, ◌≤◌, ◌≡◌, ◌⊎◌, inl, inr, Bool, true, false, ◌&&◌, ◌||◌, cond, ltb, eqb, Option, Some, None, List, [], ◌∷◌, ◌++◌, length, drop, take, arith, ap, sym, ◌∙◌, refl, subst, ltb-true, eqb-true, leb-true, take-append-drop}
+use Rattle.std.proofs.Common.{ℕ, ◌+◌, ◌-◌, ◌≤◌, ◌≡◌, ◌⊎◌, inl, inr, Bool, true, false, ◌&&◌, cond, Option, Some, None, List, [], ◌∷◌, ◌++◌, drop, take, arith, ap, sym, ◌∙◌, refl, subst, ltb-true, eqb-true, leb-true, take-append-drop}
 use Rattle.std.specs.Prelude.{nat_le, nat_lt, ◌==◌}
 use Rattle.std.specs.List.{prefix_len, list_all}
 use Rattle.std.proofs.lemmas.Bool.{and_parts, and_from, or_left, or_right, or_cases}
@@ -8,7 +8,7 @@ use Rattle.std.proofs.lemmas.List.Folds.{list_all-append}
 use Rattle.std.proofs.lemmas.List.Sums.{prefix_len-le-length}
 use Rattle.c_token.specs.declared.token.TokKind.{TokKind}
 use Rattle.c_token.specs.declared.token.TokKind.TheVariants as kind
-use Rattle.c_token.specs.Bytes.{begins_name, is_decimal, is_name_byte, is_number_byte, is_digit, digit_value}
+use Rattle.c_token.specs.Bytes.{begins_name, is_decimal, is_name_byte, is_number_byte, is_digit}
 use Rattle.c_token.specs.Constant.{◌>>=◌, is_unsigned_suffix, is_long_suffix, suffixes_of, is_either, number_in, integer_of, value_in}
 use Rattle.c_token.specs.Longest.{is_word, is_integer}
 use Rattle.c_token.proofs.LongestFronts.{bound, prefix_all, all_more}
@@ -47,8 +47,9 @@ digit_cases false false false x y z base h e = absurd (let l = ltb-true 16 base 
 digit_number : (base : ℕ) → base ≤ 16 → (b : ℕ) → is_digit base b ≡ true → is_number_byte b ≡ true
 digit_number base h b e =
     elim (digit_cases (is_decimal b) (nat_le 97 b && nat_le b 102) (nat_le 65 b && nat_le b 70) (b - 48) (b - 87) (b - 55) base h e) as (λ w. is_number_byte b ≡ true) [
-      inl d ↦ decimal_number b d
-    | inr w ↦ elim w as (λ w. is_number_byte b ≡ true) [ inl s ↦ letter_number b (small_letter b s) | inr c ↦ letter_number b (capital_letter b c) ] ]
+      | inl d ↦ decimal_number b d
+      | inr w ↦ elim w as (λ w. is_number_byte b ≡ true) [ inl s ↦ letter_number b (small_letter b s) | inr c ↦ letter_number b (capital_letter b c) ]
+    ]
 
 decimal_cases : (decimal small capital : Bool) (b : ℕ) → (small ≡ true → 97 ≤ b) → (capital ≡ true → 65 ≤ b) → nat_lt (cond decimal (b - 48) (cond small (b - 87) (cond capital (b - 55) 16))) 10 ≡ true → decimal ≡ true
 decimal_cases true small capital b f g e = refl
@@ -62,8 +63,9 @@ decimal_digit b e = decimal_cases (is_decimal b) (nat_le 97 b && nat_le b 102) (
 either_number : (x y b : ℕ) → is_number_byte x ≡ true → is_number_byte y ≡ true → is_either x y b ≡ true → is_number_byte b ≡ true
 either_number x y b p q e =
     elim (or_cases (b == x) (b == y) e) as (λ w. is_number_byte b ≡ true) [
-      inl h ↦ subst (λ (c : ℕ). is_number_byte c ≡ true) (sym (eqb-true b x h)) p
-    | inr h ↦ subst (λ (c : ℕ). is_number_byte c ≡ true) (sym (eqb-true b y h)) q ]
+      | inl h ↦ subst (λ (c : ℕ). is_number_byte c ≡ true) (sym (eqb-true b x h)) p
+      | inr h ↦ subst (λ (c : ℕ). is_number_byte c ≡ true) (sym (eqb-true b y h)) q
+    ]
 
 unsigned_number : (b : ℕ) → is_unsigned_suffix b ≡ true → is_number_byte b ≡ true
 unsigned_number b e = either_number 117 85 b refl refl e
@@ -87,14 +89,14 @@ unfolding suffixes_of
 suffix_bytes [] s e = refl
 suffix_bytes (a ∷ []) s e =
     branches (is_unsigned_suffix a) (Some (true, false)) (cond (is_long_suffix a) (Some (false, true)) None) s
-      (λ u h. one_byte a (unsigned_number a u))
-      (λ u h. branches (is_long_suffix a) (Some (false, true)) None s (λ l g. one_byte a (long_number a l)) (λ l g. absurd cc) h) e
+    (λ u h. one_byte a (unsigned_number a u))
+    (λ u h. branches (is_long_suffix a) (Some (false, true)) None s (λ l g. one_byte a (long_number a l)) (λ l g. absurd cc) h) e
 suffix_bytes (a ∷ b ∷ []) s e =
     branches (is_unsigned_suffix a && is_long_suffix b) (Some (true, true)) (cond (is_long_suffix a && is_unsigned_suffix b) (Some (true, true)) None) s
-      (λ u h. let w = and_parts (is_unsigned_suffix a) (is_long_suffix b) u in two_bytes a b [] (unsigned_number a w.0) (long_number b w.1) refl)
-      (λ u h. branches (is_long_suffix a && is_unsigned_suffix b) (Some (true, true)) None s
-        (λ l g. let w = and_parts (is_long_suffix a) (is_unsigned_suffix b) l in two_bytes a b [] (long_number a w.0) (unsigned_number b w.1) refl)
-        (λ l g. absurd cc) h) e
+    (λ u h. let w = and_parts (is_unsigned_suffix a) (is_long_suffix b) u in two_bytes a b [] (unsigned_number a w.0) (long_number b w.1) refl)
+    (λ u h. branches (is_long_suffix a && is_unsigned_suffix b) (Some (true, true)) None s
+    (λ l g. let w = and_parts (is_long_suffix a) (is_unsigned_suffix b) l in two_bytes a b [] (long_number a w.0) (unsigned_number b w.1) refl)
+    (λ l g. absurd cc) h) e
 suffix_bytes (a ∷ b ∷ c ∷ rest) s e = absurd cc
 
 -- ---- integer constants
@@ -120,9 +122,9 @@ number_is base bytes k h e =
     let value = value_in base (take count bytes) in
     let made : Option TokKind = suffixes_of (drop count bytes) >>= λ s. Some (kind.Int value base s.0 s.1) in
     branches (nat_lt 0 count && nat_lt value 4294967296) made None k
-      (λ t g. let b = bound (suffixes_of (drop count bytes)) (λ s. Some (kind.Int value base s.0 s.1)) k g in
-        record { numbers = number_all base count bytes b.first h refl b.is; is = some_integer value base b.first.0 b.first.1 k b.then })
-      (λ t g. absurd cc) e
+    (λ t g. let b = bound (suffixes_of (drop count bytes)) (λ s. Some (kind.Int value base s.0 s.1)) k g in
+    record { numbers = number_all base count bytes b.first h refl b.is; is = some_integer value base b.first.0 b.first.1 k b.then })
+    (λ t g. absurd cc) e
 
 first_digit : (t : Bool) (n : ℕ) → nat_lt 0 (cond t (1 + n) 0) ≡ true → t ≡ true
 first_digit true n e = refl
@@ -135,8 +137,8 @@ number_first a rest k e =
     let value = value_in 10 (take count (a ∷ rest)) in
     let made : Option TokKind = suffixes_of (drop count (a ∷ rest)) >>= λ s. Some (kind.Int value 10 s.0 s.1) in
     branches (nat_lt 0 count && nat_lt value 4294967296) made None k
-      (λ t g. decimal_digit a (first_digit (is_digit 10 a) (prefix_len (is_digit 10) rest) (and_parts (nat_lt 0 count) (nat_lt value 4294967296) t).0))
-      (λ t g. absurd cc) e
+    (λ t g. decimal_digit a (first_digit (is_digit 10 a) (prefix_len (is_digit 10) rest) (and_parts (nat_lt 0 count) (nat_lt value 4294967296) t).0))
+    (λ t g. absurd cc) e
 
 zero_decimal : (a : ℕ) → (a == 48) ≡ true → is_decimal a ≡ true
 zero_decimal a e = subst (λ (c : ℕ). is_decimal c ≡ true) (sym (eqb-true a 48 e)) refl
@@ -147,7 +149,7 @@ unfolding integer_of
 integer_first a [] k e = branches (a == 48) (number_in 8 (a ∷ [])) (number_in 10 (a ∷ [])) k (λ t g. zero_decimal a t) (λ t g. number_first a [] k g) e
 integer_first a (b ∷ rest) k e =
     branches (a == 48) (cond (is_either 120 88 b) (number_in 16 rest) (cond (is_either 98 66 b) (number_in 2 rest) (number_in 8 (a ∷ b ∷ rest)))) (number_in 10 (a ∷ b ∷ rest)) k
-      (λ t g. zero_decimal a t) (λ t g. number_first a (b ∷ rest) k g) e
+    (λ t g. zero_decimal a t) (λ t g. number_first a (b ∷ rest) k g) e
 
 behind_prefix : (x y a b : ℕ) (rest : List ℕ) (k : TokKind) → (a == 48) ≡ true → is_number_byte x ≡ true → is_number_byte y ≡ true → is_either x y b ≡ true → Integral rest k → Integral (a ∷ b ∷ rest) k
 behind_prefix x y a b rest k t p q e i = record { numbers = two_bytes a b rest (decimal_number a (zero_decimal a t)) (either_number x y b p q e) i.numbers; is = i.is }
@@ -158,9 +160,9 @@ integer_is [] k e = absurd cc
 integer_is (a ∷ []) k e = branches (a == 48) (number_in 8 (a ∷ [])) (number_in 10 (a ∷ [])) k (λ t g. number_is 8 (a ∷ []) k (omega arith) g) (λ t g. number_is 10 (a ∷ []) k (omega arith) g) e
 integer_is (a ∷ b ∷ rest) k e =
     branches (a == 48) (cond (is_either 120 88 b) (number_in 16 rest) (cond (is_either 98 66 b) (number_in 2 rest) (number_in 8 (a ∷ b ∷ rest)))) (number_in 10 (a ∷ b ∷ rest)) k
-      (λ t g. branches (is_either 120 88 b) (number_in 16 rest) (cond (is_either 98 66 b) (number_in 2 rest) (number_in 8 (a ∷ b ∷ rest))) k
-        (λ x h. behind_prefix 120 88 a b rest k t refl refl x (number_is 16 rest k (omega arith) h))
-        (λ x h. branches (is_either 98 66 b) (number_in 2 rest) (number_in 8 (a ∷ b ∷ rest)) k
-          (λ y i. behind_prefix 98 66 a b rest k t refl refl y (number_is 2 rest k (omega arith) i))
-          (λ y i. number_is 8 (a ∷ b ∷ rest) k (omega arith) i) h) g)
-      (λ t g. number_is 10 (a ∷ b ∷ rest) k (omega arith) g) e
+    (λ t g. branches (is_either 120 88 b) (number_in 16 rest) (cond (is_either 98 66 b) (number_in 2 rest) (number_in 8 (a ∷ b ∷ rest))) k
+    (λ x h. behind_prefix 120 88 a b rest k t refl refl x (number_is 16 rest k (omega arith) h))
+    (λ x h. branches (is_either 98 66 b) (number_in 2 rest) (number_in 8 (a ∷ b ∷ rest)) k
+    (λ y i. behind_prefix 98 66 a b rest k t refl refl y (number_is 2 rest k (omega arith) i))
+    (λ y i. number_is 8 (a ∷ b ∷ rest) k (omega arith) i) h) g)
+    (λ t g. number_is 10 (a ∷ b ∷ rest) k (omega arith) g) e

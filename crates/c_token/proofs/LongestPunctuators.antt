@@ -1,6 +1,6 @@
 -- Punctuators: the first of the list that a text begins with is the longest, since the longer ones come
 -- first, and no other token begins with a byte that begins one.
-use Rattle.std.proofs.Common.{ℕ, ◌+◌, ◌<◌, ◌≤◌, ◌≡◌, Bool, true, false, ◌&&◌, not, cond, Option, Some, None, List, [], ◌∷◌, length, take, arith, ap, sym, ◌∙◌, refl, subst, leb-true, length-take}
+use Rattle.std.proofs.Common.{ℕ, ◌≤◌, ◌≡◌, Bool, true, false, ◌&&◌, not, cond, Some, List, [], ◌∷◌, length, take, arith, ap, sym, ◌∙◌, refl, subst, leb-true, length-take}
 use Rattle.std.specs.Prelude.{nat_eq, nat_le, ◌==◌, find}
 use Rattle.std.specs.List.{list_all, starts_with}
 use Rattle.std.specs.Str.{bytes_eq}
@@ -38,8 +38,8 @@ falls_below n (p ∷ ps) other q f e =
     let h = and_parts (nat_le (length (punct_spelling p)) n) (falls (length (punct_spelling p)) ps) f in
     let l = leb-true (length (punct_spelling p)) n h.0 in
     branches (other p) (Some p) (find other ps) q
-      (λ t g. subst (λ (r : Punct). length (punct_spelling r) ≤ n) (same_found p q g) l)
-      (λ t g. let b = falls_below (length (punct_spelling p)) ps other q h.1 g in omega arith) e
+    (λ t g. subst (λ (r : Punct). length (punct_spelling r) ≤ n) (same_found p q g) l)
+    (λ t g. let b = falls_below (length (punct_spelling p)) ps other q h.1 g in omega arith) e
 
 -- the first that passes, no shorter than one that does
 record Best (test : Punct → Bool) (ps : List Punct) (q : Punct) : Type 0 where
@@ -53,27 +53,30 @@ best_of n (p ∷ ps) test other q f e w =
     let size = length (punct_spelling p) in
     let h = and_parts (nat_le size n) (falls size ps) f in
     elim (test p) as (λ t. test p ≡ t → Best test (p ∷ ps) q) [
-      true ↦ λ t. record {
+      | true ↦ λ t. record {
         best = p;
         is = ap (λ b. cond b (Some p) (find test ps)) t;
         longer = branches (other p) (Some p) (find other ps) q
-          (λ u g. subst (λ (r : Punct). length (punct_spelling r) ≤ size) (same_found p q g) (omega arith))
-          (λ u g. falls_below size ps other q h.1 g) e }
-    | false ↦ λ t. branches (other p) (Some p) (find other ps) q
-        (λ u g. let same = same_found p q g in absurd (let at : test p ≡ true = ap test same ∙ w in cc))
-        (λ u g.
+            (λ u g. subst (λ (r : Punct). length (punct_spelling r) ≤ size) (same_found p q g) (omega arith))
+            (λ u g. falls_below size ps other q h.1 g) e;
+      }
+      | false ↦ λ t. branches (other p) (Some p) (find other ps) q
+          (λ u g. let same = same_found p q g in absurd (let at : test p ≡ true = ap test same ∙ w in cc))
+          (λ u g.
           let b = best_of size ps test other q h.1 g w in
-          record { best = b.best; is = ap (λ c. cond c (Some p) (find test ps)) t ∙ b.is; longer = b.longer }) e ] refl
+          record { best = b.best; is = ap (λ c. cond c (Some p) (find test ps)) t ∙ b.is; longer = b.longer }) e
+    ] refl
 
 -- what is found first by one test is found first by a narrower one that it passes
 find_narrower : (f g : Punct → Bool) (ps : List Punct) (p : Punct) → ((q : Punct) → g q ≡ true → f q ≡ true) → g p ≡ true → find f ps ≡ Some p → find g ps ≡ Some p
 find_narrower f g [] p into w e = absurd cc
 find_narrower f g (q ∷ ps) p into w e =
     branches (f q) (Some q) (find f ps) p
-      (λ t h. let same = same_found q p h in ap (λ c. cond c (Some q) (find g ps)) (ap g same ∙ w) ∙ ap Some same)
-      (λ t h. elim (g q) as (λ b. g q ≡ b → find g (q ∷ ps) ≡ Some p) [
-          true ↦ λ b. absurd (let at = into q b in cc)
-        | false ↦ λ b. ap (λ c. cond c (Some q) (find g ps)) b ∙ find_narrower f g ps p into w h ] refl) e
+    (λ t h. let same = same_found q p h in ap (λ c. cond c (Some q) (find g ps)) (ap g same ∙ w) ∙ ap Some same)
+    (λ t h. elim (g q) as (λ b. g q ≡ b → find g (q ∷ ps) ≡ Some p) [
+      | true ↦ λ b. absurd (let at = into q b in cc)
+      | false ↦ λ b. ap (λ c. cond c (Some q) (find g ps)) b ∙ find_narrower f g ps p into w h
+    ] refl) e
 
 -- ---- the first byte
 
@@ -121,7 +124,8 @@ marked_by m text q l e =
       mark = ap begins_with_mark (sym same) ∙ find_in_all (λ p. begins_with_mark (punct_spelling p)) (λ p. bytes_eq (punct_spelling p) (take m text)) punctuators q marks_begin e;
       punct = b.best;
       is = ap (λ o. o >>= λ p. Some (kind.Punct p, length (punct_spelling p))) b.is;
-      enough = omega (arith, b.longer) }
+      enough = omega (arith, b.longer);
+    }
 
 pub punctuator_reads : (m : ℕ) (text : List ℕ) (k : TokKind) → m ≤ length text → punctuator_spelled (take m text) ≡ Some k → Marked m text
 unfolding punctuator_spelled
@@ -148,7 +152,8 @@ spelled_by text p e =
       within = fits;
       mark = ap begins_with_mark (sym same) ∙ find_in_all (λ q. begins_with_mark (punct_spelling q)) (λ q. starts_with nat_eq text (punct_spelling q)) punctuators p marks_begin e;
       spells = ap (λ o. o >>= λ q. Some (kind.Punct q)) found;
-      kind_is = refl }
+      kind_is = refl;
+    }
 
 pub punctuator_spells : (text : List ℕ) (k : TokKind) (n : ℕ) → punctuator_at text ≡ Some (k, n) → Spelled text k n
 unfolding punctuator_at punct_of
