@@ -9,3 +9,4 @@ pub mod LongestNumbers
 pub mod LongestElements
 pub mod LongestPunctuators
 pub mod Longest
+pub mod LongestTokens

@@ -6,7 +6,7 @@ use Rattle.std.specs.Option.{option_or}
 use Rattle.std.specs.List.{prefix_len, list_all}
 use Rattle.std.proofs.lemmas.Bool.{and_parts, and_from, and_left, or_left, not-true}
 use Rattle.std.proofs.lemmas.List.Sums.{prefix_len-le-length}
-use Rattle.std.proofs.lemmas.Option.{some_pair_parts}
+use Rattle.std.proofs.lemmas.Option.{same_Some, some_pair_parts}
 use Rattle.c_token.specs.declared.token.TokKind.{TokKind}
 use Rattle.c_token.specs.declared.token.TokKind.TheVariants as kind
 use Rattle.c_token.specs.declared.token.Keyword.{Keyword}
@@ -170,9 +170,6 @@ punctuator_stands text k n e =
     let s = punctuator_spells text k n e in
     record { within = s.within; spelled = mark_token (take n text) s.mark ∙ s.spells; ended = not_integer k s.kind_is }
 
-same_answer : {A : Type 0} (x y : A) → Some x ≡ Some y → x ≡ y
-same_answer x y e = cc
-
 stands : (text : List ℕ) (k : TokKind) (n : ℕ) → token_at text ≡ Some (k, n) → Stands text n k
 unfolding token_at
 stands [] k n e = absurd cc
@@ -182,7 +179,7 @@ stands (b ∷ rest) k n e =
     let characters = cond (b == 39) (character_at rest) strings in
     let integers = cond (is_decimal b) (integer_at (b ∷ rest)) characters in
     branches (begins_name b) (Some (word_at (b ∷ rest))) integers (k, n)
-    (λ t g. word_stands b rest k n t (same_answer (word_at (b ∷ rest)) (k, n) g))
+    (λ t g. word_stands b rest k n t (same_Some (word_at (b ∷ rest)) (k, n) g))
     (λ t g. branches (is_decimal b) (integer_at (b ∷ rest)) characters (k, n)
     (λ u h. integer_stands (b ∷ rest) k n h)
     (λ u h. branches (b == 39) (character_at rest) strings (k, n)
@@ -284,7 +281,7 @@ reads (b ∷ rest) (suc m) j s =
 no_more : (text : List ℕ) (k : TokKind) (n m : ℕ) → token_at text ≡ Some (k, n) → Reads text m → m ≤ n
 no_more text k n m e r =
     let both : Some r.token ≡ Some (k, n) = sym r.is ∙ e in
-    let same = same_answer r.token (k, n) both in
+    let same = same_Some r.token (k, n) both in
     let size : r.token.1 ≡ n = ap (λ (x : TokKind × ℕ). x.1) same in
     let enough = r.enough in
     omega arith

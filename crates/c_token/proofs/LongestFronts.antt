@@ -9,9 +9,6 @@ use Rattle.c_token.specs.Longest.{number_goes_on}
 
 -- ---- answers that may be none
 
-pub not_none : {A : Type 0} {x : A} → None ≡ Some x → ⊥
-not_none e = cc
-
 -- what a step gives, another gives, if each of its two parts does
 pub bind_into : {A B : Type 0} (o p : Option A) (f g : A → Option B) (y : B) → ((a : A) → o ≡ Some a → f a ≡ Some y → (p ≡ Some a) × (g a ≡ Some y)) → (o >>= f) ≡ Some y → (p >>= g) ≡ Some y
 bind_into None p f g y into e = absurd cc

@@ -6,7 +6,7 @@ use Rattle.std.specs.List.{list_all, starts_with}
 use Rattle.std.specs.Str.{bytes_eq}
 use Rattle.std.specs.Cmp.Lexicographic.{bytes_decides}
 use Rattle.std.proofs.lemmas.Bool.{and_parts}
-use Rattle.std.proofs.lemmas.Option.{some_pair_parts}
+use Rattle.std.proofs.lemmas.Option.{same_Some, some_pair_parts}
 use Rattle.c_token.specs.declared.token.TokKind.{TokKind}
 use Rattle.c_token.specs.declared.token.TokKind.TheVariants as kind
 use Rattle.c_token.specs.declared.token.Punct.{Punct}
@@ -29,16 +29,13 @@ falls n (p ∷ ps) = nat_le (length (punct_spelling p)) n && falls (length (punc
 the_list_falls : falls 3 punctuators ≡ true
 the_list_falls = refl
 
-same_found : {X : Type 0} (x y : X) → Some x ≡ Some y → x ≡ y
-same_found x y e = cc
-
 falls_below : (n : ℕ) (ps : List Punct) (other : Punct → Bool) (q : Punct) → falls n ps ≡ true → find other ps ≡ Some q → length (punct_spelling q) ≤ n
 falls_below n [] other q f e = absurd cc
 falls_below n (p ∷ ps) other q f e =
     let h = and_parts (nat_le (length (punct_spelling p)) n) (falls (length (punct_spelling p)) ps) f in
     let l = leb-true (length (punct_spelling p)) n h.0 in
     branches (other p) (Some p) (find other ps) q
-    (λ t g. subst (λ (r : Punct). length (punct_spelling r) ≤ n) (same_found p q g) l)
+    (λ t g. subst (λ (r : Punct). length (punct_spelling r) ≤ n) (same_Some p q g) l)
     (λ t g. let b = falls_below (length (punct_spelling p)) ps other q h.1 g in omega arith) e
 
 -- the first that passes, no shorter than one that does
@@ -57,11 +54,11 @@ best_of n (p ∷ ps) test other q f e w =
         best = p;
         is = ap (λ b. cond b (Some p) (find test ps)) t;
         longer = branches (other p) (Some p) (find other ps) q
-            (λ u g. subst (λ (r : Punct). length (punct_spelling r) ≤ size) (same_found p q g) (omega arith))
+            (λ u g. subst (λ (r : Punct). length (punct_spelling r) ≤ size) (same_Some p q g) (omega arith))
             (λ u g. falls_below size ps other q h.1 g) e;
       }
       | false ↦ λ t. branches (other p) (Some p) (find other ps) q
-          (λ u g. let same = same_found p q g in absurd (let at : test p ≡ true = ap test same ∙ w in cc))
+          (λ u g. let same = same_Some p q g in absurd (let at : test p ≡ true = ap test same ∙ w in cc))
           (λ u g.
           let b = best_of size ps test other q h.1 g w in
           record { best = b.best; is = ap (λ c. cond c (Some p) (find test ps)) t ∙ b.is; longer = b.longer }) e
@@ -72,7 +69,7 @@ find_narrower : (f g : Punct → Bool) (ps : List Punct) (p : Punct) → ((q : P
 find_narrower f g [] p into w e = absurd cc
 find_narrower f g (q ∷ ps) p into w e =
     branches (f q) (Some q) (find f ps) p
-    (λ t h. let same = same_found q p h in ap (λ c. cond c (Some q) (find g ps)) (ap g same ∙ w) ∙ ap Some same)
+    (λ t h. let same = same_Some q p h in ap (λ c. cond c (Some q) (find g ps)) (ap g same ∙ w) ∙ ap Some same)
     (λ t h. elim (g q) as (λ b. g q ≡ b → find g (q ∷ ps) ≡ Some p) [
       | true ↦ λ b. absurd (let at = into q b in cc)
       | false ↦ λ b. ap (λ c. cond c (Some q) (find g ps)) b ∙ find_narrower f g ps p into w h
@@ -95,7 +92,7 @@ find_in_all : (test other : Punct → Bool) (ps : List Punct) (p : Punct) → li
 find_in_all test other [] p a e = absurd cc
 find_in_all test other (q ∷ ps) p a e =
     let h = and_parts (test q) (list_all test ps) a in
-    branches (other q) (Some q) (find other ps) p (λ t g. ap test (sym (same_found q p g)) ∙ h.0) (λ t g. find_in_all test other ps p h.1 g) e
+    branches (other q) (Some q) (find other ps) p (λ t g. ap test (sym (same_Some q p g)) ∙ h.0) (λ t g. find_in_all test other ps p h.1 g) e
 
 -- ---- spellings at the front
 

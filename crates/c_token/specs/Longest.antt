@@ -1,9 +1,10 @@
 -- Which lists of bytes are one token, and which token is the longest at the front of a text
 -- (ISO/IEC 9899:1990, 6.1).
-use Rattle.std.specs.Prelude.{ℕ, ◌≤◌, Bool, true, false, ◌&&◌, ◌==◌, if◌then◌else◌, List, [], ◌∷◌, length, take, drop, Option, Some, None, ◌≡◌, find}
+use Rattle.std.specs.Prelude.{ℕ, ◌-◌, ◌≤◌, Bool, true, false, ◌&&◌, ◌==◌, if◌then◌else◌, List, [], ◌∷◌, length, take, drop, Option, Some, None, ◌≡◌, find}
 use Rattle.std.specs.List.{list_all}
 use Rattle.std.specs.Option.{option_or}
 use Rattle.std.specs.Str.{bytes_eq}
+use Rattle.c_token.specs.declared.token.Tok.{Tok}
 use Rattle.c_token.specs.declared.token.TokKind.{TokKind}
 use Rattle.c_token.specs.declared.token.TokKind.TheVariants as kind
 use Rattle.c_token.specs.Bytes.{begins_name, is_name_byte, is_number_byte}
@@ -57,13 +58,14 @@ abbrev pub is_integer : TokKind → Bool
 is_integer (kind.Int value base unsigned_suffix long_suffix) = true
 is_integer _ = false
 
--- whether a number that ends here would go on: with such a byte it is one preprocessing number
+-- whether a number before these bytes goes on: with such a byte it is one preprocessing number
 -- (6.1.8)
 abbrev pub number_goes_on : List ℕ → Bool
 number_goes_on [] = false
 number_goes_on (b ∷ rest) = is_number_byte b
 
--- the first bytes of a text, so many, are a token of this kind
+-- So many bytes at the front of a text are a token of this kind. An integer constant stands only where
+-- the number doesn't go on.
 pub record Stands (text : List ℕ) (count : ℕ) (k : TokKind) : Type 0 where
   pub within : count ≤ length text
   pub spelled : token_spelled (take count text) ≡ Some k
@@ -74,6 +76,10 @@ pub record IsLongest (text : List ℕ) (k : TokKind) (count : ℕ) : Type 0 wher
   pub stands : Stands text count k
   pub longest : (m : ℕ) (j : TokKind) → Stands text m j → m ≤ count
 
--- no token stands at the front, of no length
+-- no token stands at the front, whatever its length
 abbrev pub StandsNone : List ℕ → Type 0
 StandsNone text = (m : ℕ) (j : TokKind) → Stands text m j → ⊥
+
+-- the token's bytes are the longest token at its place in a text
+abbrev pub IsLongestIn : List ℕ → Tok → Type 0
+IsLongestIn text t = IsLongest (drop t.start text) t.kind (t.end - t.start)

@@ -6,9 +6,11 @@
 // error names the line of the first place that has no token.
 #![tactic(auto)]
 
-ghost use Rattle.std.specs.Prelude.{◌≡◌, ℕ, List, Some, None};
-ghost use Rattle.c_token.specs.Longest.{IsLongest, StandsNone};
+ghost use Rattle.std.specs.Prelude.{◌≡◌, ℕ, List, Some, None, Ok, All};
+ghost use Rattle.c_token.specs.Longest.{IsLongest, IsLongestIn, StandsNone};
+ghost use Rattle.c_token.specs.Text.{tokens_of};
 ghost use Rattle.c_token.specs.Token.{token_at};
+ghost use Rattle.c_token.specs.declared.token.Tok.{Tok};
 ghost use Rattle.c_token.specs.declared.token.TokKind.{TokKind};
 
 mod bytes;
@@ -22,10 +24,12 @@ pub use scan::raw;
 pub use token::{Keyword, LexError, Punct, Tok, TokKind};
 
 /// The token that is read at the front of a text, neither white space nor a comment, is the longest
-/// that stands there (ISO/IEC 9899:1990, 6.1), and where none is read, none stands, of no length.
+/// that stands there (ISO/IEC 9899:1990, 6.1), and where none is read, none stands.
+/// So each token of a text is the longest at its place.
 pub fn longest_token()
     ensures found { (text : List ℕ) (k : TokKind) (n : ℕ) → token_at text ≡ Some (k, n) → IsLongest text k n }
     ensures none { (text : List ℕ) → token_at text ≡ None → StandsNone text }
+    ensures each { (text : List ℕ) (tokens : List Tok) → tokens_of text ≡ Ok tokens → All (IsLongestIn text) tokens }
 {}
 
 #[cfg(test)]
