@@ -4,3 +4,9 @@ pub mod Comments
 pub mod Bounds
 pub mod Passing
 pub mod Order
+pub mod LongestFronts
+pub mod LongestNumbers
+pub mod LongestElements
+pub mod LongestPunctuators
+pub mod Longest
+pub mod LongestTokens

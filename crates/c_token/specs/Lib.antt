@@ -3,3 +3,4 @@ pub mod Spelling
 pub mod Constant
 pub mod Token
 pub mod Text
+pub mod Longest

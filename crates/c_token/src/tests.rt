@@ -39,6 +39,7 @@ fn a_text_is_cut_into_its_longest_tokens(rt: HostRuntime) -> Result<(), Fail> {
         token(name, 40, 41, 3, false),
     ];
     assert_eq!(rt; tokens.as_slice(), want.as_slice());
+    longest_token();
     Ok(())
 }
 
