@@ -1,7 +1,8 @@
 // The typed tree of a C program: what the checker makes, and what all passes behind it take.
 //
 // In: nothing; the tree is plain data. Out: the tree's types, sizes, constants and counts.
-// The promise: these end on every tree.
+// The promise: each ends on every tree, and `Typed::nodes` is the count of nodes that specs/ defines by
+// recursion on the tree.
 #![tactic(auto)]
 
 mod expression;
