@@ -1,6 +1,6 @@
 -- Which functions the functions of a program call, chains of calls, and the rules on main and on the interrupt
 -- handler (HI-TECH PICC manual, interrupt functions; the rules are the project's own).
-use Rattle.std.specs.Prelude.{ℕ, ◌+◌, ◌≡◌, List, [], ◌∷◌, ◌++◌, Option, Some, None, Bool, true, false, map, nat_eq, not, IsTrue, zero, suc, if◌then◌else◌}
+use Rattle.std.specs.Prelude.{ℕ, ◌+◌, List, [], ◌∷◌, ◌++◌, Option, Some, None, Bool, true, false, map, nat_eq, not, IsTrue, zero, suc, if◌then◌else◌}
 use Rattle.std.specs.Global.{Box}
 use Rattle.c_typed.specs.declared.types.Ty.{Ty}
 use Rattle.c_typed.specs.declared.types.Ty.TheVariants as tys

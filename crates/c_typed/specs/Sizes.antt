@@ -3,7 +3,6 @@
 use Rattle.std.specs.Prelude.{ℕ, ◌+◌, ◌*◌, List, [], ◌∷◌, Option, Some, None, map, max, zero, suc}
 use Rattle.std.specs.Global.{Box}
 use Rattle.c_ints.specs.Range.{bytes_of}
-use Rattle.c_ints.specs.declared.types.IntTy.{IntTy}
 use Rattle.c_typed.specs.declared.types.Ty.{Ty}
 use Rattle.c_typed.specs.declared.types.Ty.TheVariants as tys
 use Rattle.c_typed.specs.declared.types.Structure.{Structure}
@@ -18,7 +17,6 @@ use Rattle.c_typed.specs.declared.statement.TStmt.TheOpen as OpenStmt
 use Rattle.c_typed.specs.declared.statement.TStmt.TheFolds.{fold-TStmt}
 use Rattle.c_typed.specs.declared.program.Function.{Function}
 use Rattle.c_typed.specs.declared.program.Variable.{Variable}
-use Rattle.c_typed.specs.declared.program.Typed.{Typed}
 
 abbrev pub structure_bytes : List Structure → ℕ → ℕ
 structure_bytes [] n = 0
