@@ -9,7 +9,6 @@ use Rattle.c_tree.specs.Programs.{ConditionTree, HeadTree, LabelTree, InitTree, 
 use Rattle.c_tree.specs.declared.expression.Expr.{Expr}
 use Rattle.c_tree.specs.declared.statement.Unit.{Unit}
 use Rattle.c_tree.specs.declared.statement.Item.{Item}
-use Rattle.c_tree.specs.declared.statement.Function.{Function}
 use Rattle.c_tree.specs.declared.statement.Declaration.{Declaration}
 use Rattle.c_tree.specs.declared.statement.Declared.{Declared}
 use Rattle.c_tree.specs.declared.statement.NextInitDeclarator.{NextInitDeclarator}

@@ -1,8 +1,7 @@
 -- Trees of expressions and of declarators as pure data, the tokens that each is spelled with, and
 -- which of them are trees of the grammar (ISO/IEC 9899:1990, 6.3 and 6.5, in the subset).
 -- A number that stands where a token does is the line of that token.
-use Rattle.std.specs.Prelude.{◌≡◌, ℕ, Bool, true, false, ◌&&◌, if◌then◌else◌, ◌<◌, ◌≤◌, List, [], ◌∷◌, ◌++◌}
-use Rattle.c_token.specs.declared.token.TokKind.{TokKind}
+use Rattle.std.specs.Prelude.{◌≡◌, ℕ, Bool, true, false, ◌&&◌, if◌then◌else◌, ◌<◌, ◌≤◌, [], ◌∷◌, ◌++◌}
 use Rattle.c_token.specs.declared.token.Keyword.TheVariants as words
 use Rattle.c_token.specs.declared.token.Punct.TheVariants as marks
 use Rattle.c_tree.specs.Words.{Symbol, Symbols, key, punct}

@@ -1,6 +1,6 @@
 -- The trees that the code has, as pure data.
-use Rattle.std.specs.Prelude.{ℕ, List, [], ◌∷◌, Option, Some, None}
-use Rattle.c_tree.specs.Words.{Symbol, Symbols, keyed, signed, named, spell_constant, spell_pointers, spell_tag}
+use Rattle.std.specs.Prelude.{ℕ, Some, None}
+use Rattle.c_tree.specs.Words.{Symbol, keyed, signed, named, spell_constant, spell_pointers, spell_tag}
 use Rattle.c_tree.specs.Trees as tree
 use Rattle.c_tree.specs.Trees.{Tree, Post, Pre, TypeTree, SpecTrees, SpecTree, MemberTree, DeclaratorTree, SuffixTree, ParamTree}
 use Rattle.c_tree.specs.Lists.{posted, prefixed, joined, listed, ChoiceParts, chosen, assigned, more_specs, more_members, more_declarators, suffixes_of, more_params}
