@@ -7,5 +7,7 @@
 #![tactic(auto)]
 
 mod error;
+pub mod kind;
+pub mod take;
 
 pub use error::ParseError;
