@@ -8,6 +8,8 @@
 
 mod error;
 pub mod kind;
+mod parser;
 pub mod take;
 
 pub use error::ParseError;
+pub use parser::{assign, cond, declarator, expr, specs};
