@@ -4,6 +4,8 @@
 // of the grammar that these tokens spell, or why there is none, with its line.
 #![tactic(auto)]
 
+mod build;
+mod initial;
 mod limits;
 
 pub use c_expression::ParseError;
