@@ -1,3 +1,5 @@
 mod Counting
 pub mod Strings
 pub mod Loops
+pub mod LastSuffix
+pub mod Failing

@@ -3,10 +3,10 @@
 ghost use Rattle.std.specs.Prelude.{◌≡◌, ℕ, Some, None, IfOk, map};
 ghost use Rattle.c_tree.specs.Words.{quoted};
 ghost use Rattle.c_tree.specs.Programs as tree;
-ghost use Rattle.c_tree.specs.Views.{assign_of, cond_of, specs_of, declarator_of};
+ghost use Rattle.c_tree.specs.Views.{assign_of, specs_of, declarator_of};
 ghost use Rattle.c_tree.specs.ProgramViews.{any_of, condition_of, head_of, label_of, more_inits, init_of, next_init_of, begun_of, next_begun_of, declaration_of, statements_of, arms_of, LabelInner, StatementInner, items_of, statement_of, switch_item_of, arm_of, block_of, else_arm_of, otherwise_of, otherwise_in, item_of};
 
-use c_tree::expression::{Assign, Cond, Declarator, Expr, Specs};
+use c_tree::expression::{Assign, Declarator, Expr, Specs};
 use c_tree::statement::{
     Arm, Block, Condition, Declaration, Declared, ElseArm, EqualsInit, ForHead, Function, IfChain,
     Init, InitDeclarator, Item, Label, NextInit, NextInitDeclarator, Otherwise, Statement,
@@ -284,21 +284,10 @@ pub fn return_jump(keyword: u32, value: Option<Expr>, semicolon: u32) -> Stateme
 }
 
 #[tactic(auto, using(c_tree::proofs::ProgramShapes::show_switch_item_label))]
-pub fn case_label(keyword: u32, value: Cond, colon: u32) -> SwitchItem
-    ensures { switch_item_of result ≡ LabelInner (tree.Case keyword (cond_of value) colon) }
+pub fn inner_label(label: Label) -> SwitchItem
+    ensures { switch_item_of result ≡ LabelInner (label_of label) }
 {
-    SwitchItem::Label(Label::Case {
-        keyword,
-        value,
-        colon,
-    })
-}
-
-#[tactic(auto, using(c_tree::proofs::ProgramShapes::show_switch_item_label))]
-pub fn default_label(keyword: u32, colon: u32) -> SwitchItem
-    ensures { switch_item_of result ≡ LabelInner (tree.Default keyword colon) }
-{
-    SwitchItem::Label(Label::Default { keyword, colon })
+    SwitchItem::Label(label)
 }
 
 #[tactic(auto, using(c_tree::proofs::ProgramShapes::show_switch_item_statement))]

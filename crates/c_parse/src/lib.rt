@@ -5,8 +5,14 @@
 #![tactic(auto)]
 
 mod build;
+mod declaration;
+mod entry;
 mod initial;
 mod limits;
+mod part;
+mod statement;
+mod unit;
 
 pub use c_expression::ParseError;
+pub use entry::parse;
 pub use limits::over;
