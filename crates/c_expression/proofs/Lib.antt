@@ -1,2 +1,3 @@
 pub mod Knots
 pub mod Takes
+pub mod Loops

@@ -6,10 +6,11 @@
 // spelling, and nothing else.
 #![tactic(auto)]
 
+pub mod declarator;
 mod error;
+pub mod expression;
 pub mod kind;
-mod parser;
+pub mod specifier;
 pub mod take;
 
 pub use error::ParseError;
-pub use parser::{assign, cond, declarator, expr, specs};

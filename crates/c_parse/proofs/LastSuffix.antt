@@ -1,5 +1,5 @@
 -- Which declarators end in a list of parameters.
-use Rattle.std.proofs.Common.{◌≡◌, ℕ, suc, ◌-◌, true, false, List, [], ◌∷◌, length, Some, None, map, refl, sym, ap, ◌∙◌, arith}
+use Rattle.std.proofs.Common.{◌≡◌, suc, ◌-◌, true, false, List, [], ◌∷◌, length, Some, None, map, refl, sym, ap, ◌∙◌, arith}
 use Rattle.std.specs.List.{slice_get}
 use Rattle.c_tree.specs.Views.{suffix_of}
 use Rattle.c_tree.specs.Programs.{is_bracketed, ends_bracketed}

@@ -8,9 +8,10 @@ ghost use Rattle.c_parse.specs.Reading.{begun_behind, begun_by, next_begun_by, d
 
 use crate::build;
 use crate::initial::init;
+use c_expression::declarator::declarator;
 use c_expression::kind::is_punct;
+use c_expression::specifier::specs;
 use c_expression::take::{Read, Step, behind_punct, punct, specs_come};
-use c_expression::{declarator, specs};
 use c_token::{Punct, Tok};
 use c_tree::expression::{Declarator, Specs};
 use c_tree::statement::{Declaration, InitDeclarator, NextInitDeclarator};

@@ -8,7 +8,7 @@ ghost use Rattle.c_expression.specs.Reader.{Gives, over, symbol_in, symbols_in, 
 ghost use Rattle.c_parse.specs.Reading.{comma_at, next_init_by, list_by, value_by, init_by, init_inside, init_at};
 
 use crate::build;
-use c_expression::assign;
+use c_expression::expression::assign;
 use c_expression::kind::is_punct;
 use c_expression::take::{Read, Step, behind_punct, punct, punct_comes, stopped};
 use c_pre::word_of;
@@ -39,13 +39,7 @@ fn quoted(alloc: Global, text: &[u8], tok: &Tok) -> Result<Text, AllocError>
 
 /// An assignment.
 #[tactic(auto, unfolding(crate::specs::Reading::value_by))]
-fn value<'s>(
-    alloc: Global,
-    text: &[u8],
-    last: u32,
-    fuel: usize,
-    toks: &'s [Tok],
-) -> Read<'s, Init>
+fn value<'s>(alloc: Global, text: &[u8], last: u32, fuel: usize, toks: &'s [Tok]) -> Read<'s, Init>
     ensures { Gives (λ x. (init_of x.0, symbols_in text.now x.1.now)) result (value_by fuel (symbols_in text.now toks.now)) }
 {
     let (assign, rest) = assign(alloc, text, last, fuel, toks)?;
@@ -124,7 +118,10 @@ fn list<'s>(
     let (others, rest) = next_inits(alloc, text, last, fuel, rest)?;
     let (last_comma, rest) = comma(rest);
     let (closing, rest) = punct(last, Punct::RightBrace, rest)?;
-    Ok((build::list(alloc, opening, first, others, last_comma, closing)?, rest))
+    Ok((
+        build::list(alloc, opening, first, others, last_comma, closing)?,
+        rest,
+    ))
 }
 
 /// A comma that an initializer follows, and not the end of the list.

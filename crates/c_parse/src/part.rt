@@ -8,9 +8,10 @@ ghost use Rattle.c_expression.specs.Reader.{Gives, front_is, symbols_in};
 ghost use Rattle.c_parse.specs.Reading.{condition_by, any_before, head_by, plain_by, break_by, continue_by, return_by, case_by, default_by};
 
 use crate::build;
+use c_expression::ParseError;
+use c_expression::expression::{cond, expr};
 use c_expression::kind::is_keyword;
 use c_expression::take::{Read, behind_punct, punct};
-use c_expression::{ParseError, cond, expr};
 use c_token::{Keyword, Punct, Tok};
 use c_tree::expression::Expr;
 use c_tree::statement::{Condition, ForHead, Label, Statement};
@@ -96,14 +97,7 @@ pub fn head<'s>(
         Punct::Semicolon,
         rest,
     )?;
-    let (step, closing, rest) = any_before(
-        alloc,
-        text,
-        last,
-        fuel,
-        Punct::RightParenthesis,
-        rest,
-    )?;
+    let (step, closing, rest) = any_before(alloc, text, last, fuel, Punct::RightParenthesis, rest)?;
     let head = ForHead {
         opening,
         begin,
@@ -194,12 +188,7 @@ pub fn case_label<'s>(
 
 /// `":"`, behind `default`
 #[tactic(auto, unfolding(crate::specs::Reading::default_by))]
-pub fn default_label<'s>(
-    text: &[u8],
-    last: u32,
-    keyword: u32,
-    toks: &'s [Tok],
-) -> Read<'s, Label>
+pub fn default_label<'s>(text: &[u8], last: u32, keyword: u32, toks: &'s [Tok]) -> Read<'s, Label>
     ensures { Gives (λ x. (label_of x.0, symbols_in text.now x.1.now)) result (default_by keyword (symbols_in text.now toks.now)) }
 {
     let (colon, rest) = punct(last, Punct::Colon, toks)?;

@@ -115,7 +115,10 @@ pub fn block<'s>(
     let (declarations, rest) = declarations(alloc, text, last, fuel, rest)?;
     let (statements, rest) = statements(alloc, text, last, fuel, room, rest)?;
     let (closing, rest) = punct(last, Punct::RightBrace, rest)?;
-    Ok((build::block(opening, declarations, statements, closing), rest))
+    Ok((
+        build::block(opening, declarations, statements, closing),
+        rest,
+    ))
 }
 
 /// A statement of a block, where the block doesn't end.

@@ -10,8 +10,10 @@ ghost use Rattle.c_parse.specs.Reading.{function_by, variables_by, declared_item
 use crate::build;
 use crate::declaration::{begun_behind, declared_behind};
 use crate::statement::block;
+use c_expression::ParseError;
+use c_expression::declarator::declarator;
+use c_expression::specifier::specs;
 use c_expression::take::{Read, Step, behind_punct, punct_comes, stopped};
-use c_expression::{ParseError, declarator, specs};
 use c_token::{Punct, Tok};
 use c_tree::expression::{Declarator, Specs, Suffix};
 use c_tree::statement::{Item, Unit};

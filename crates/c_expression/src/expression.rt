@@ -1,13 +1,13 @@
-//! The parser of expressions and declarators.
+//! The reader of expressions.
 
-ghost use Rattle.c_tree.specs.Views.{expr_of, cond_of, assign_of, specs_of, declarator_of};
+ghost use Rattle.c_tree.specs.Views.{expr_of, cond_of, assign_of};
 ghost use Rattle.c_expression.specs.Reader.{Gives, symbols_in};
-ghost use Rattle.c_expression.specs.Reading.{at, expr_by, cond_by, assign_by, specs_by, declarator_by};
+ghost use Rattle.c_expression.specs.Reading.{at, expr_by, cond_by, assign_by};
 
 use crate::error::ParseError;
 use crate::take::Read;
 use c_token::Tok;
-use c_tree::expression::{Assign, Cond, Declarator, Expr, Specs};
+use c_tree::expression::{Assign, Cond, Expr};
 use std::alloc::Global;
 
 pub fn expr<'s>(
@@ -42,30 +42,6 @@ pub fn assign<'s>(
     toks: &'s [Tok],
 ) -> Read<'s, Assign>
     ensures { Gives (λ x. (assign_of x.0, symbols_in text.now x.1.now)) result (assign_by (at fuel) (symbols_in text.now toks.now)) }
-{
-    Err(ParseError::NoMemory)
-}
-
-pub fn specs<'s>(
-    alloc: Global,
-    text: &[u8],
-    last: u32,
-    fuel: usize,
-    toks: &'s [Tok],
-) -> Read<'s, Specs>
-    ensures { Gives (λ x. (specs_of x.0, symbols_in text.now x.1.now)) result (specs_by (at fuel) (symbols_in text.now toks.now)) }
-{
-    Err(ParseError::NoMemory)
-}
-
-pub fn declarator<'s>(
-    alloc: Global,
-    text: &[u8],
-    last: u32,
-    fuel: usize,
-    toks: &'s [Tok],
-) -> Read<'s, Declarator>
-    ensures { Gives (λ x. (declarator_of x.0, symbols_in text.now x.1.now)) result (declarator_by (at fuel) (symbols_in text.now toks.now)) }
 {
     Err(ParseError::NoMemory)
 }
