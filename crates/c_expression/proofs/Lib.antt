@@ -14,3 +14,5 @@ pub mod AgainExpressions
 pub mod AgainSpecifiers
 pub mod AgainDeclarators
 pub mod AgainAll
+pub mod Loops
+pub mod Names

@@ -6,6 +6,11 @@
 // spelling, and nothing else.
 #![tactic(auto)]
 
+pub mod declarator;
 mod error;
+pub mod expression;
+pub mod kind;
+pub mod specifier;
+pub mod take;
 
 pub use error::ParseError;

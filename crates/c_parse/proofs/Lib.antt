@@ -6,3 +6,6 @@ pub mod AgainUnits
 pub mod TakesDeclarations
 pub mod TakesStatements
 pub mod TakesUnits
+pub mod Strings
+pub mod LastSuffix
+pub mod Failing

@@ -12,6 +12,7 @@ mod replace;
 mod words;
 
 pub use program::tokens;
+pub use words::word_of;
 
 /// Why a text's tokens are no program's.
 #[derive(Clone, Copy, PartialEq, Eq, Debug)]

@@ -1,0 +1,202 @@
+//! Tests on the kind of a token.
+
+ghost use Rattle.std.specs.Prelude.{◌≡◌, Bool};
+ghost use Rattle.c_tree.specs.Kinds.{number_of, number_of_word, is_punct, is_key, is_name, is_assign_mark, is_assignment, is_prefix_mark, is_prefix, is_step_mark, is_step, is_field_mark, is_field, tier_of, level_of, is_qualifying, is_qualifier, is_specifying, is_spec_word, begins_spec, is_spec};
+
+use c_token::{Keyword, Punct, TokKind};
+
+fn number(punct: Punct) -> u8
+    ensures { result ≡ number_of punct }
+{
+    punct as u8
+}
+
+fn word_number(keyword: Keyword) -> u8
+    ensures { result ≡ number_of_word keyword }
+{
+    keyword as u8
+}
+
+/// Whether it is this punctuator.
+pub fn is_punct(wanted: Punct, kind: TokKind) -> bool
+    ensures { result ≡ is_punct wanted kind }
+{
+    match kind {
+        TokKind::Punct(found) => number(found) == number(wanted),
+        _ => false,
+    }
+}
+
+/// Whether it is this keyword.
+pub fn is_keyword(wanted: Keyword, kind: TokKind) -> bool
+    ensures { result ≡ is_key wanted kind }
+{
+    match kind {
+        TokKind::Keyword(found) => word_number(found) == word_number(wanted),
+        _ => false,
+    }
+}
+
+/// Whether it is an identifier.
+pub fn is_name(kind: TokKind) -> bool
+    ensures { result ≡ is_name kind }
+{
+    matches!(kind, TokKind::Name)
+}
+
+fn is_assign_mark(punct: Punct) -> bool
+    ensures { result ≡ is_assign_mark punct }
+{
+    match punct {
+        Punct::Assign
+        | Punct::StarAssign
+        | Punct::SlashAssign
+        | Punct::PercentAssign
+        | Punct::PlusAssign
+        | Punct::MinusAssign
+        | Punct::ShiftLeftAssign
+        | Punct::ShiftRightAssign
+        | Punct::AmpersandAssign
+        | Punct::CaretAssign
+        | Punct::BarAssign => true,
+        _ => false,
+    }
+}
+
+/// Whether it is an assignment operator (ISO/IEC 9899:1990, 6.3.16).
+pub fn is_assignment(kind: TokKind) -> bool
+    ensures { result ≡ is_assignment kind }
+{
+    match kind {
+        TokKind::Punct(punct) => is_assign_mark(punct),
+        _ => false,
+    }
+}
+
+fn is_prefix_mark(punct: Punct) -> bool
+    ensures { result ≡ is_prefix_mark punct }
+{
+    match punct {
+        Punct::Increment
+        | Punct::Decrement
+        | Punct::Ampersand
+        | Punct::Star
+        | Punct::Plus
+        | Punct::Minus
+        | Punct::Tilde
+        | Punct::Not => true,
+        _ => false,
+    }
+}
+
+/// Whether it is an operator that stands before its operand (ISO/IEC 9899:1990, 6.3.3).
+pub fn is_prefix(kind: TokKind) -> bool
+    ensures { result ≡ is_prefix kind }
+{
+    match kind {
+        TokKind::Punct(punct) => is_prefix_mark(punct),
+        _ => false,
+    }
+}
+
+/// Whether it is `++` or `--`.
+pub fn is_step(kind: TokKind) -> bool
+    ensures { result ≡ is_step kind }
+{
+    match kind {
+        TokKind::Punct(Punct::Increment) | TokKind::Punct(Punct::Decrement) => true,
+        _ => false,
+    }
+}
+
+/// Whether it is `.` or `->`.
+pub fn is_field(kind: TokKind) -> bool
+    ensures { result ≡ is_field kind }
+{
+    match kind {
+        TokKind::Punct(Punct::Dot) | TokKind::Punct(Punct::Arrow) => true,
+        _ => false,
+    }
+}
+
+fn tier_of(punct: Punct) -> usize
+    ensures { result ≡ tier_of punct }
+{
+    match punct {
+        Punct::Star | Punct::Slash | Punct::Percent => 1,
+        Punct::Plus | Punct::Minus => 2,
+        Punct::ShiftLeft | Punct::ShiftRight => 3,
+        Punct::Less | Punct::Greater | Punct::LessEqual | Punct::GreaterEqual => 4,
+        Punct::Equal | Punct::NotEqual => 5,
+        Punct::Ampersand => 6,
+        Punct::Caret => 7,
+        Punct::Bar => 8,
+        Punct::And => 9,
+        Punct::Or => 10,
+        Punct::Comma => 13,
+        _ => 0,
+    }
+}
+
+/// The tier of a binary operator: 1 for `*` to 10 for `||`, 13 for the comma, and 0 for what is
+/// none (ISO/IEC 9899:1990, 6.3.5 to 6.3.14 and 6.3.17).
+pub fn level_of(kind: TokKind) -> usize
+    ensures { result ≡ level_of kind }
+{
+    match kind {
+        TokKind::Punct(punct) => tier_of(punct),
+        _ => 0,
+    }
+}
+
+/// Whether it is `const` or `volatile`.
+pub fn is_qualifier(kind: TokKind) -> bool
+    ensures { result ≡ is_qualifier kind }
+{
+    match kind {
+        TokKind::Keyword(Keyword::Const) | TokKind::Keyword(Keyword::Volatile) => true,
+        _ => false,
+    }
+}
+
+fn is_specifying(keyword: Keyword) -> bool
+    ensures { result ≡ is_specifying keyword }
+{
+    match keyword {
+        Keyword::Static
+        | Keyword::Auto
+        | Keyword::Register
+        | Keyword::Const
+        | Keyword::Volatile
+        | Keyword::Interrupt
+        | Keyword::Void
+        | Keyword::Char
+        | Keyword::Short
+        | Keyword::Int
+        | Keyword::Long
+        | Keyword::Signed
+        | Keyword::Unsigned => true,
+        _ => false,
+    }
+}
+
+/// Whether it is a specifier alone (ISO/IEC 9899:1990, 6.5).
+pub fn is_spec_word(kind: TokKind) -> bool
+    ensures { result ≡ is_spec_word kind }
+{
+    match kind {
+        TokKind::Keyword(keyword) => is_specifying(keyword),
+        _ => false,
+    }
+}
+
+/// Whether a specifier begins with it.
+pub fn is_spec(kind: TokKind) -> bool
+    ensures { result ≡ is_spec kind }
+{
+    match kind {
+        TokKind::Keyword(Keyword::Struct) => true,
+        TokKind::Keyword(keyword) => is_specifying(keyword),
+        _ => false,
+    }
+}

@@ -1,0 +1,5 @@
+use Rattle.c_tree.proofs.ProgramShapes.{made_arm}
+use Rattle.c_parse.proofs.build.arm.Goals as goal
+
+pub returns : goal.returns
+returns c = made_arm _

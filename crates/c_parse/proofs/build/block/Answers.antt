@@ -1,0 +1,5 @@
+use Rattle.c_tree.proofs.ProgramShapes.{made_block}
+use Rattle.c_parse.proofs.build.block.Goals as goal
+
+pub returns : goal.returns
+returns c = made_block _

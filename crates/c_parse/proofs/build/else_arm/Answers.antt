@@ -1,0 +1,5 @@
+use Rattle.c_tree.proofs.ProgramShapes.{made_else_arm}
+use Rattle.c_parse.proofs.build.else_arm.Goals as goal
+
+pub returns : goal.returns
+returns c = made_else_arm _

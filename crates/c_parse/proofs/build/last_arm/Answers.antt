@@ -1,0 +1,5 @@
+use Rattle.c_tree.proofs.ProgramShapes.{made_otherwise}
+use Rattle.c_parse.proofs.build.last_arm.Goals as goal
+
+pub returns : goal.returns
+returns c = made_otherwise _
