@@ -104,7 +104,7 @@ pub fn behind_keyword<'s>(wanted: Keyword, toks: &'s [Tok]) -> Option<(u32, &'s 
 }
 
 /// A name with a copy of its bytes.
-#[tactic(auto, using(crate::proofs::Takes::name_is))]
+#[tactic(auto, using(crate::proofs::Names::name_is))]
 pub fn named(alloc: Global, text: &[u8], tok: &Tok) -> Result<Name, AllocError>
     requires { is_name tok.now.kind ≡ true }
     ensures { IfOk result (λ n. named n ≡ symbol_in text.now tok.now) }

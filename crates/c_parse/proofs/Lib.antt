@@ -9,3 +9,4 @@ pub mod TakesUnits
 pub mod Strings
 pub mod LastSuffix
 pub mod Failing
+pub mod Whole

@@ -33,3 +33,9 @@ judged open_now run line later = if nat_lt 64 open_now then Some (Nesting line) 
 unfoldable pub first_over : ℕ → ℕ → List Tok → Option ParseError
 first_over open_now run [] = None
 first_over open_now run (t ∷ ts) = judged (open_after open_now t.kind) (run_after run t.kind) t.line (first_over (open_after open_now t.kind) (run_after run t.kind) ts)
+
+-- the errors that tell of a limit
+abbrev pub IsLimit : ParseError → Type 0
+IsLimit (Nesting line) = Unit {0}
+IsLimit (Run line) = Unit {0}
+IsLimit _ = ⊥

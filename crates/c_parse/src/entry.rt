@@ -1,9 +1,11 @@
 //! Parsing a whole text.
 
-ghost use Rattle.std.specs.Prelude.{◌≡◌, Some, None, Err};
+ghost use Rattle.std.specs.Prelude.{◌≡◌, List, ℕ, Some, None, Err, IfOk};
+ghost use Rattle.c_tree.specs.Programs.{ItemTree, IsUnit, spelled_unit};
 ghost use Rattle.c_tree.specs.ProgramViews.{unit_of};
+ghost use Rattle.c_expression.specs.declared.error.ParseError.TheVariants.{Syntax};
 ghost use Rattle.c_expression.specs.Reader.{Gives, symbols_in};
-ghost use Rattle.c_parse.specs.Limits.{first_over};
+ghost use Rattle.c_parse.specs.Limits.{first_over, IsLimit};
 ghost use Rattle.c_parse.specs.Reading.{unit_by};
 
 use crate::limits::over;
@@ -21,16 +23,33 @@ fn last_line(toks: &[Tok]) -> u32 {
     }
 }
 
-/// The tree that the tokens of a text spell (ISO/IEC 9899:1990, 6.3 to 6.7, in the subset), or the
-/// first token that passes a limit, or the place where no tree goes on.
-pub fn parse(alloc: Global, text: &[u8], toks: &[Tok]) -> Result<Unit, ParseError>
-    // The first token that passes a limit is told, whatever the tokens spell.
+/// Reads the tokens from left to right, where none passes a limit.
+fn read(alloc: Global, text: &[u8], toks: &[Tok]) -> Result<Unit, ParseError>
     ensures limit { (e : ParseError) → first_over 0 0 toks.now ≡ Some e → result ≡ Err e }
-    // Where none does, the answer is what reading from left to right gives.
     ensures within { first_over 0 0 toks.now ≡ None → Gives unit_of result (unit_by (symbols_in text.now toks.now)) }
 {
     if let Some(error) = over(toks) {
         return Err(error);
     }
     unit(alloc, text, last_line(toks), toks)
+}
+
+/// The tree that the tokens of a text spell (ISO/IEC 9899:1990, 6.3 to 6.7, in the subset), or the
+/// first token that passes a limit, or the place where no tree goes on.
+///
+/// `toks` are the tokens that are left of the text behind directives and replacement. They are the
+/// tokens of the tree, each with its line, and with its bytes where it is a name or a string.
+pub fn parse(alloc: Global, text: &[u8], toks: &[Tok]) -> Result<Unit, ParseError>
+    // The first token that passes a limit is told, whatever the tokens spell.
+    ensures limit { (e : ParseError) → first_over 0 0 toks.now ≡ Some e → result ≡ Err e }
+    // A limit is told of no other token.
+    ensures limit_only { (e : ParseError) → result ≡ Err e → IsLimit e → first_over 0 0 toks.now ≡ Some e }
+    // What is given is a tree of the grammar, and it is spelled by exactly these tokens.
+    ensures found { IfOk result (λ u. (symbols_in text.now toks.now ≡ spelled_unit (unit_of u)) × IsUnit (unit_of u)) }
+    // Each tree that these tokens spell is the one that is given, unless memory runs out: there is one at most.
+    ensures only { (u : List ItemTree) → IsUnit u → symbols_in text.now toks.now ≡ spelled_unit u → first_over 0 0 toks.now ≡ None → Gives unit_of result (Some u) }
+    // An error of syntax comes only where there is no tree.
+    ensures no_tree { (line : ℕ) → result ≡ Err (Syntax line) → (u : List ItemTree) → IsUnit u → symbols_in text.now toks.now ≡ spelled_unit u → ⊥ }
+{
+    read(alloc, text, toks)
 }
