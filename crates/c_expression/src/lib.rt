@@ -7,7 +7,9 @@
 #![tactic(auto)]
 
 mod error;
+mod build;
 pub mod kind;
+mod operator;
 pub mod take;
 
 pub use error::ParseError;
