@@ -1,7 +1,8 @@
 -- Reading parts of an expression, in the order in which the code reads them.
-use Rattle.std.specs.Prelude.{◌≡◌, ℕ, suc, Bool, true, false, ◌&&◌, if◌then◌else◌, List, [], ◌∷◌, Option, Some, None}
+use Rattle.std.specs.Prelude.{◌≡◌, ℕ, suc, Bool, true, false, ◌&&◌, if◌then◌else◌, List, [], ◌∷◌, ◌++◌, Option, Some, None}
 use Rattle.c_token.specs.declared.token.Keyword.TheVariants as words
 use Rattle.c_token.specs.declared.token.Punct.TheVariants as marks
+use Rattle.c_tree.specs.Words.{Symbols}
 use Rattle.c_tree.specs.Kinds.{is_key, is_prefix, is_step, is_field}
 use Rattle.c_tree.specs.Trees.{Tree, Post, Step, Pre, Sign, Sizeof}
 use Rattle.c_tree.specs.Lists.{ChoiceParts}
@@ -24,6 +25,10 @@ plain_prefix_at (s ∷ rest) =
     if is_prefix s.kind then (if is_step s.kind && type_opens rest then None else Some (Some (Sign s, rest)))
     else if is_key words.Sizeof s.kind then (if type_opens rest then Some None else Some (Some (Sizeof s.line, rest)))
     else Some None
+
+-- symbols before others
+abbrev pub in_front : Symbols → Symbols × Symbols → Symbols × Symbols
+in_front ss x = (ss ++ x.0, x.1)
 
 -- a choice, behind its condition and the `?`
 unfoldable pub choice_by : Inner → Tree → ℕ → Reader ChoiceParts

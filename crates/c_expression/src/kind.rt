@@ -1,7 +1,7 @@
 //! Tests on the kind of a token.
 
 ghost use Rattle.std.specs.Prelude.{◌≡◌, Bool};
-ghost use Rattle.c_tree.specs.Kinds.{number_of, number_of_word, is_punct, is_key, is_name, is_assign_mark, is_prefix_mark, is_step_mark, is_field_mark, tier_of, is_qualifying, is_qualifier, is_specifying, is_spec_word, begins_spec, is_spec};
+ghost use Rattle.c_tree.specs.Kinds.{number_of, number_of_word, is_punct, is_key, is_name, is_assign_mark, is_prefix_mark, is_step_mark, is_field_mark, tier_of, is_qualifying, is_specifying, begins_spec, is_spec};
 
 use c_token::{Keyword, Punct, TokKind};
 
@@ -117,16 +117,14 @@ pub fn tier_of(punct: Punct) -> usize
 }
 
 /// Whether it is `const` or `volatile`.
-pub fn is_qualifier(kind: TokKind) -> bool
-    ensures { result ≡ is_qualifier kind }
+pub fn is_qualifying(keyword: Keyword) -> bool
+    ensures { result ≡ is_qualifying keyword }
 {
-    match kind {
-        TokKind::Keyword(Keyword::Const) | TokKind::Keyword(Keyword::Volatile) => true,
-        _ => false,
-    }
+    matches!(keyword, Keyword::Const | Keyword::Volatile)
 }
 
-fn is_specifying(keyword: Keyword) -> bool
+/// Whether it is a specifier alone (ISO/IEC 9899:1990, 6.5).
+pub fn is_specifying(keyword: Keyword) -> bool
     ensures { result ≡ is_specifying keyword }
 {
     match keyword {
@@ -143,16 +141,6 @@ fn is_specifying(keyword: Keyword) -> bool
         | Keyword::Long
         | Keyword::Signed
         | Keyword::Unsigned => true,
-        _ => false,
-    }
-}
-
-/// Whether it is a specifier alone (ISO/IEC 9899:1990, 6.5).
-pub fn is_spec_word(kind: TokKind) -> bool
-    ensures { result ≡ is_spec_word kind }
-{
-    match kind {
-        TokKind::Keyword(keyword) => is_specifying(keyword),
         _ => false,
     }
 }

@@ -7,9 +7,14 @@
 #![tactic(auto)]
 
 mod error;
+pub mod expression;
 mod build;
+pub mod declarator;
 pub mod kind;
+mod operand;
 mod operator;
+mod pointer;
+pub mod specifier;
 pub mod take;
 
 pub use error::ParseError;

@@ -1,6 +1,6 @@
 //! The operators of expressions, and the parts in which no other reader is called.
 
-ghost use Rattle.std.specs.Prelude.{◌≡◌, ◌<◌, ◌==◌, ℕ, List, Some, None, true, false, if◌then◌else◌, IfOk};
+ghost use Rattle.std.specs.Prelude.{◌≡◌, ◌<◌, ◌==◌, ℕ, List, Some, None, Err, true, false, if◌then◌else◌, IfOk};
 ghost use Rattle.c_tree.specs.Words.{signed};
 ghost use Rattle.c_tree.specs.Kinds.{is_assignment, is_prefix, is_leaf, level_of};
 ghost use Rattle.c_tree.specs.Trees as tree;
@@ -142,5 +142,73 @@ pub fn plain_prefix<'s>(last: u32, toks: &'s [Tok]) -> Step<'s, Prefix>
             }
         },
         [] => Ok(None),
+    }
+}
+
+/// Whether an operand may be assigned to: no cast is its first prefix.
+#[tactic(auto, using(c_tree::proofs::Shapes::show_cast, c_tree::proofs::Shapes::show_prefix_cast, c_tree::proofs::Shapes::show_prefix_operator, c_tree::proofs::Shapes::show_prefix_sizeof, crate::proofs::Unary::operand_is_unary))]
+fn is_unary(cast: &Cast) -> bool
+    ensures { result ≡ is_unary (cast_of cast.now) }
+{
+    match cast.prefixes.first() {
+        Some(Prefix::Cast { .. }) => false,
+        Some(Prefix::Operator(_)) | Some(Prefix::Sizeof { .. }) => true,
+        None => true,
+    }
+}
+
+/// The operand that may stand left of an assignment; another is given back.
+#[tactic(auto, using(c_tree::proofs::Shapes::show_binary_operand, c_tree::proofs::Shapes::show_binary_chain))]
+fn operand_place(operand: Binary) -> Result<Cast, Binary>
+    ensures ok { IfOk result (λ c. (cast_of c ≡ binary_of operand) × (is_unary (binary_of operand) ≡ true)) }
+    ensures err { (b : Binary) → result ≡ Err b → (binary_of b ≡ binary_of operand) × (is_unary (binary_of operand) ≡ false) }
+{
+    match operand {
+        Binary::Operand(cast) => {
+            if is_unary(&cast) {
+                Ok(cast)
+            } else {
+                Err(build::single(cast))
+            }
+        }
+        Binary::Chain { first, others } => {
+            if others.is_empty() {
+                operand_place(Box::into_inner(first))
+            } else {
+                Err(Binary::Chain { first, others })
+            }
+        }
+    }
+}
+
+/// What may stand left of an assignment; another value is given back.
+#[tactic(auto, using(c_tree::proofs::Shapes::show_cond))]
+fn place(value: Cond) -> Result<Cast, Cond>
+    ensures ok { IfOk result (λ c. (cast_of c ≡ cond_of value) × (is_unary (cond_of value) ≡ true)) }
+    ensures err { (c : Cond) → result ≡ Err c → (cond_of c ≡ cond_of value) × (is_unary (cond_of value) ≡ false) }
+{
+    let Cond { choices, last } = value;
+    if !choices.is_empty() {
+        return Err(build::cond(choices, last));
+    }
+    match operand_place(last) {
+        Ok(place) => Ok(place),
+        Err(last) => Err(build::cond(choices, last)),
+    }
+}
+
+/// What is assigned to where an assignment operator follows, and what is behind it; otherwise the
+/// value is given back.
+#[tactic(auto, unfolding(crate::specs::Reading::target_at))]
+pub fn behind_target<'s>(value: Cond, toks: &'s [Tok]) -> Result<(Target, &'s [Tok]), Cond>
+    ensures ok { IfOk result (λ x. ((target_of x.0).0 ≡ cond_of value) × ((text : List ℕ) → target_at (cond_of value) (symbols_in text toks.now) ≡ Some ((target_of x.0).1, symbols_in text x.1.now))) }
+    ensures err { (c : Cond) → result ≡ Err c → (cond_of c ≡ cond_of value) × ((text : List ℕ) → target_at (cond_of value) (symbols_in text toks.now) ≡ None) }
+{
+    match behind_assignment(toks) {
+        Some((operator, rest)) => match place(value) {
+            Ok(place) => Ok((build::target(place, operator), rest)),
+            Err(value) => Err(value),
+        },
+        None => Err(value),
     }
 }
