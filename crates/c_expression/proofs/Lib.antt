@@ -4,3 +4,4 @@ pub mod Unary
 pub mod Pointers
 pub mod Loops
 pub mod Parts
+pub mod Fuel

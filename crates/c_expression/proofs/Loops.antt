@@ -81,7 +81,7 @@ behind_colon : (again : Reader Tree) (c t : Tree) (q : ℕ) (colon : Option (ℕ
 behind_colon again c t q None = refl
 behind_colon again c t q (Some k) = refl
 
-behind_then : (again : Reader Tree) (c : Tree) (q : ℕ) (then : Option (Tree × Symbols)) → (then >>= λ t. punct_at marks.Colon t.1 >>= λ k. chosen_by (c, q, t.0, k.0) (again k.1)) ≡ ((then >>= λ t. punct_at marks.Colon t.1 >>= λ k. Some ((c, q, t.0, k.0), k.1)) >>= λ (x : ChoiceParts × Symbols). chosen_by x.0 (again x.1))
+behind_then : (again : Reader Tree) (c : Tree) (q : ℕ) (middle : Option (Tree × Symbols)) → (middle >>= λ t. punct_at marks.Colon t.1 >>= λ k. chosen_by (c, q, t.0, k.0) (again k.1)) ≡ ((middle >>= λ t. punct_at marks.Colon t.1 >>= λ k. Some ((c, q, t.0, k.0), k.1)) >>= λ (x : ChoiceParts × Symbols). chosen_by x.0 (again x.1))
 behind_then again c q None = refl
 behind_then again c q (Some t) = behind_colon again c t.0 q (punct_at marks.Colon t.1)
 

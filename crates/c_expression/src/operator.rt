@@ -4,7 +4,7 @@ ghost use Rattle.std.specs.Prelude.{◌≡◌, ◌<◌, ◌==◌, ℕ, List, Som
 ghost use Rattle.c_tree.specs.Words.{signed};
 ghost use Rattle.c_tree.specs.Kinds.{is_assignment, is_prefix, is_leaf, level_of};
 ghost use Rattle.c_tree.specs.Trees as tree;
-ghost use Rattle.c_tree.specs.Trees.{is_unary};
+ghost use Rattle.c_tree.specs.Trees.{is_unary, is_cast};
 ghost use Rattle.c_tree.specs.Views.{binary_of, cast_of, cond_of, operand_of, postfix_suffix_of, prefix_of, primary_of, target_of};
 ghost use Rattle.c_expression.specs.Reader.{Gives, Shows, over, symbol_in, symbols_in, symbol_at};
 ghost use Rattle.c_expression.specs.Reading.{target_at};
@@ -145,15 +145,33 @@ pub fn plain_prefix<'s>(last: u32, toks: &'s [Tok]) -> Step<'s, Prefix>
     }
 }
 
+/// Whether it is a unary expression. Each operand without prefixes is one.
+#[tactic(auto, using(c_tree::proofs::Shapes::show_operand_postfix, c_tree::proofs::Shapes::show_operand_sizeof_type, crate::proofs::Unary::postfix_is_unary))]
+fn is_unary_operand(operand: &Operand) -> bool
+    ensures { result ≡ is_unary (operand_of operand.now) }
+{
+    match operand {
+        Operand::Postfix(_) | Operand::SizeofType { .. } => true,
+    }
+}
+
+#[tactic(auto, using(c_tree::proofs::Shapes::show_prefix_cast, c_tree::proofs::Shapes::show_prefix_operator, c_tree::proofs::Shapes::show_prefix_sizeof))]
+fn is_cast(prefix: &Prefix) -> bool
+    ensures { result ≡ is_cast (prefix_of prefix.now) }
+{
+    match prefix {
+        Prefix::Operator(_) | Prefix::Sizeof { .. } => false,
+        Prefix::Cast { .. } => true,
+    }
+}
+
 /// Whether an operand may be assigned to: no cast is its first prefix.
-#[tactic(auto, using(c_tree::proofs::Shapes::show_cast, c_tree::proofs::Shapes::show_prefix_cast, c_tree::proofs::Shapes::show_prefix_operator, c_tree::proofs::Shapes::show_prefix_sizeof, crate::proofs::Unary::operand_is_unary))]
 fn is_unary(cast: &Cast) -> bool
     ensures { result ≡ is_unary (cast_of cast.now) }
 {
     match cast.prefixes.first() {
-        Some(Prefix::Cast { .. }) => false,
-        Some(Prefix::Operator(_)) | Some(Prefix::Sizeof { .. }) => true,
-        None => true,
+        Some(prefix) => !is_cast(prefix),
+        None => is_unary_operand(&cast.operand),
     }
 }
 

@@ -4,8 +4,8 @@ use Rattle.c_expression.specs.Reader.{symbols_in, stars_at}
 use Rattle.c_expression.specs.Parts.{in_front}
 use Rattle.c_expression.proofs.pointer.qualifiers.Given as goal
 
-abbrev pub invariant-loop-first : goal.invariant-loop-first
-invariant-loop-first l = ((text : List ℕ) → stars_at (symbols_in text l.toks) ≡ in_front (map keyed l.found.items) (stars_at (symbols_in text l.rest))) × (length l.rest ≤ length l.toks)
+abbrev pub invariant-loop-word : goal.invariant-loop-word
+invariant-loop-word l = ((text : List ℕ) → stars_at (symbols_in text l.toks) ≡ in_front (map keyed l.found.items) (stars_at (symbols_in text l.rest))) × (length l.rest ≤ length l.toks)
 
-abbrev pub decreases-loop-first : goal.decreases-loop-first
-decreases-loop-first l = length l.rest
+abbrev pub decreases-loop-word : goal.decreases-loop-word
+decreases-loop-word l = length l.rest
