@@ -1,5 +1,5 @@
 -- What may be read where brackets may still be entered, and where none may.
-use Rattle.std.proofs.Common.{◌≡◌, ℕ, zero, suc, ◌-◌, Option, None, Result, Ok, Err, refl, sym, ap, subst, arith}
+use Rattle.std.proofs.Common.{◌≡◌, ℕ, suc, ◌-◌, Option, None, Result, refl, sym, ap, subst, arith}
 use Rattle.c_tree.specs.Words.{Symbols}
 use Rattle.c_expression.specs.declared.error.ParseError.{ParseError}
 use Rattle.c_expression.specs.declared.error.ParseError.TheVariants as errors

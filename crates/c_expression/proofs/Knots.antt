@@ -1,10 +1,10 @@
 -- What is shown of readers: that they take trees (Sound), and that they read each tree again (Complete).
-use Rattle.std.proofs.Common.{◌≡◌, ℕ, suc, ◌≤◌, Bool, true, false, nat_le, nat_lt, ◌&&◌, if◌then◌else◌, List, [], ◌∷◌, ◌++◌, length, Option, Some, None}
+use Rattle.std.proofs.Common.{◌≡◌, ℕ, ◌≤◌, Bool, true, false, nat_le, nat_lt, ◌&&◌, if◌then◌else◌, List, ◌++◌, length, Some}
 use Rattle.c_token.specs.declared.token.TokKind.{TokKind}
 use Rattle.c_token.specs.declared.token.Punct.TheVariants as marks
-use Rattle.c_tree.specs.Words.{Symbol, Symbols}
+use Rattle.c_tree.specs.Words.{Symbols}
 use Rattle.c_tree.specs.Kinds.{is_punct, level_of, is_assignment, is_step, is_field, is_spec, is_qualifier}
-use Rattle.c_tree.specs.Trees.{Tree, TypeTree, MemberTree, ParamTree, spelled, spelled_type, spelled_member, spelled_more_members, spelled_param, spelled_more_params, IsTree, IsType, IsMember, AreMoreMembers, IsParam, AreMoreParams, rank}
+use Rattle.c_tree.specs.Trees.{Tree, MemberTree, ParamTree, spelled, spelled_type, spelled_member, spelled_more_members, spelled_param, spelled_more_params, IsTree, IsType, IsMember, AreMoreMembers, IsParam, AreMoreParams, rank}
 use Rattle.c_tree.specs.Lists.{more_members, more_params}
 use Rattle.c_expression.specs.Reader.{Reader, Step, front_is}
 use Rattle.c_expression.specs.Reading.{Inner}

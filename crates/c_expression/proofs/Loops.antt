@@ -1,8 +1,7 @@
 -- What the loops of the reader keep.
-use Rattle.std.proofs.Common.{◌≡◌, ℕ, zero, suc, ◌+◌, ◌-◌, ◌<◌, ◌≤◌, ◌==◌, Bool, true, false, ◌&&◌, if◌then◌else◌, List, [], ◌∷◌, ◌++◌, length, Option, Some, None, map, refl, sym, ap, ◌∙◌, append-nil, append_assoc, arith}
+use Rattle.std.proofs.Common.{◌≡◌, ℕ, suc, ◌+◌, ◌-◌, ◌<◌, ◌≤◌, List, [], ◌∷◌, ◌++◌, length, Option, Some, None, map, refl, sym, ap, ◌∙◌, append-nil, arith}
 use Rattle.c_token.specs.declared.token.Punct.TheVariants as marks
 use Rattle.c_tree.specs.Words.{Symbol, Symbols}
-use Rattle.c_tree.specs.Kinds.{level_of}
 use Rattle.c_tree.specs.Trees.{Tree, Choose, Assign}
 use Rattle.c_tree.specs.Lists.{ChoiceParts, chosen, assigned}
 use Rattle.c_tree.specs.Views.{choice_of, target_of}
@@ -10,8 +9,8 @@ use Rattle.c_tree.specs.declared.expression.Choice.{Choice}
 use Rattle.c_tree.specs.declared.expression.Target.{Target}
 use Rattle.c_expression.specs.declared.error.ParseError.{ParseError}
 use Rattle.c_expression.specs.declared.error.ParseError.TheVariants as errors
-use Rattle.c_expression.specs.Reader.{◌>>=◌, Reader, Step, Fails, symbol_at, punct_at, got, collect, collect_on, all_that}
-use Rattle.c_expression.specs.Reading.{Inner, tier_by, right_by, choose_on, choices, cond_by, target_at, assign_on, assigns, assign_by}
+use Rattle.c_expression.specs.Reader.{◌>>=◌, Reader, Step, Fails, punct_at, collect, all_that}
+use Rattle.c_expression.specs.Reading.{Inner, tier_by, choose_on, choices, cond_by, target_at, assigns, assign_by}
 use Rattle.c_expression.specs.Parts.{choice_by}
 
 -- ---- lists

@@ -1,14 +1,14 @@
 -- The readers of the code are those of the grammar, where they take parts in another order.
-use Rattle.std.proofs.Common.{◌≡◌, ℕ, suc, ◌+◌, add-one, ◌==◌, Bool, true, false, ◌&&◌, if◌then◌else◌, List, [], ◌∷◌, Option, Some, None, refl, sym, ap, ◌∙◌}
+use Rattle.std.proofs.Common.{◌≡◌, ℕ, suc, ◌+◌, add-one, ◌==◌, Bool, true, false, ◌&&◌, if◌then◌else◌, [], ◌∷◌, Option, Some, None, refl}
 use Rattle.c_token.specs.declared.token.TokKind.{TokKind}
 use Rattle.c_token.specs.declared.token.TokKind.TheVariants as kinds
 use Rattle.c_token.specs.declared.token.Keyword.TheVariants as words
 use Rattle.c_token.specs.declared.token.Punct.{Punct}
 use Rattle.c_token.specs.declared.token.Punct.TheVariants as marks
 use Rattle.c_tree.specs.Words.{Symbol, Symbols}
-use Rattle.c_tree.specs.Kinds.{level_of, is_punct, is_key, is_prefix, is_prefix_mark, number_of}
-use Rattle.c_tree.specs.Trees.{Tree, Pre}
-use Rattle.c_expression.specs.Reader.{◌>>=◌, Reader, symbol_at, punct_at, type_opens, specs_come, got}
+use Rattle.c_tree.specs.Kinds.{level_of, is_punct, is_key, is_prefix, is_prefix_mark}
+use Rattle.c_tree.specs.Trees.{Tree}
+use Rattle.c_expression.specs.Reader.{◌>>=◌, Reader, symbol_at, type_opens, specs_come, got}
 use Rattle.c_expression.specs.Reading.{Inner, right_by, prefix_by, cast_by}
 use Rattle.c_expression.specs.Parts.{plain_prefix_at}
 

@@ -1,4 +1,4 @@
--- Which operands may be assigned to.
+-- What tests on trees tell of them: what may be assigned to, and the word `void` alone.
 use Rattle.std.proofs.Common.{◌≡◌, ℕ, ◌<◌, ◌≤◌, ◌==◌, Bool, true, false, not, List, [], ◌∷◌, None, Result, Err, Vec, Box, Global, vec_len, length, get_or, map, refl, sym, ap, ◌∙◌, arith}
 use Rattle.std.proofs.lemmas.Bool.{eqb-true, eq-eqb}
 use Rattle.c_tree.specs.Words.{Symbol, Symbols, spell_pointers}
@@ -16,7 +16,6 @@ use Rattle.c_tree.specs.declared.expression.Cast.{Cast}
 use Rattle.c_tree.specs.declared.expression.Choice.{Choice}
 use Rattle.c_tree.specs.declared.expression.Cond.{Cond}
 use Rattle.c_tree.specs.declared.expression.NextOperand.{NextOperand}
-use Rattle.c_tree.specs.declared.expression.Operand.{Operand}
 use Rattle.c_tree.specs.declared.expression.Postfix.{Postfix}
 use Rattle.c_tree.specs.declared.expression.Prefix.{Prefix}
 use Rattle.c_tree.specs.declared.expression.Primary.{Primary}

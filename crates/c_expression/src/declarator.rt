@@ -7,7 +7,6 @@ ghost use Rattle.c_expression.specs.Reader.{Gives, over, symbols_in, all_that};
 ghost use Rattle.c_expression.specs.Reading.{at, declarator_by, named_by, suffix_by, array_by, length_by, function_by, list_by, params_by, next_param_by, param_by, param_behind, named_param_by, unnamed_by};
 
 use crate::build;
-use crate::error::ParseError;
 use crate::expression::inner_size;
 use crate::kind::is_punct;
 use crate::pointer::{behind_void, is_bare_void, pointers};
@@ -266,13 +265,7 @@ fn next_param<'s>(
 /// `specs declarator | specs { pointer } { suffix }`
 #[cycle(parse)]
 #[tactic(auto, unfolding(crate::specs::Reading::param_by, crate::specs::Reading::param_behind))]
-fn param<'s>(
-    alloc: Global,
-    text: &[u8],
-    last: u32,
-    fuel: usize,
-    toks: &'s [Tok],
-) -> Read<'s, Param>
+fn param<'s>(alloc: Global, text: &[u8], last: u32, fuel: usize, toks: &'s [Tok]) -> Read<'s, Param>
     ensures { Gives (λ x. (param_of x.0, symbols_in text.now x.1.now)) result (param_by (at fuel) (symbols_in text.now toks.now)) }
 {
     let (specs, rest) = specs(alloc, text, last, fuel, toks)?;

@@ -10,7 +10,6 @@ ghost use Rattle.c_expression.specs.Reading.{at, expr_by, assign_by, cond_by, ti
 ghost use Rattle.c_expression.specs.Parts.{choice_by};
 
 use crate::build;
-use crate::error::ParseError;
 use crate::kind::is_punct;
 use crate::operand::unary;
 use crate::operator::{behind_operator, behind_target};
@@ -148,7 +147,9 @@ pub fn cond<'s>(
         let (condition, after) = tier(alloc, text, last, fuel, LEVELS, rest)?;
         match behind_punct(Punct::Question, after) {
             Some((question, behind)) => {
-                let (choice, behind) = choice(alloc, text, last, fuel, condition, question, behind)?;
+                let (choice, behind) = choice(
+                    alloc, text, last, fuel, condition, question, behind,
+                )?;
                 choices.push(choice)?;
                 rest = behind;
             }

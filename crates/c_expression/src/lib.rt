@@ -6,10 +6,10 @@
 // spelling, and nothing else.
 #![tactic(auto)]
 
-mod error;
-pub mod expression;
 mod build;
 pub mod declarator;
+mod error;
+pub mod expression;
 pub mod kind;
 mod operand;
 mod operator;

@@ -6,7 +6,6 @@ ghost use Rattle.c_expression.specs.Reader.{Gives, over, symbols_in, all_that};
 ghost use Rattle.c_expression.specs.Reading.{at, unary_by, prefix_by, operand_by, postfix_by, post_by, primary_by, group_by, index_by, call_by, bracketed_by, cast_by};
 
 use crate::build;
-use crate::error::ParseError;
 use crate::expression::inner_expr;
 use crate::kind::is_punct;
 use crate::operator::{leaf, plain_post, plain_prefix};
@@ -80,13 +79,7 @@ fn prefix<'s>(
 /// `"(" typename ")"`, as a prefix
 #[cycle(parse)]
 #[tactic(auto, unfolding(crate::specs::Reading::cast_by))]
-fn cast<'s>(
-    alloc: Global,
-    text: &[u8],
-    last: u32,
-    fuel: usize,
-    toks: &'s [Tok],
-) -> Read<'s, Prefix>
+fn cast<'s>(alloc: Global, text: &[u8], last: u32, fuel: usize, toks: &'s [Tok]) -> Read<'s, Prefix>
     ensures { Gives (λ x. (prefix_of x.0, symbols_in text.now x.1.now)) result (cast_by (at fuel) (symbols_in text.now toks.now)) }
 {
     let ((opening, type_name, closing), rest) = bracketed(alloc, text, last, fuel, toks)?;

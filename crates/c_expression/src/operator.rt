@@ -11,7 +11,9 @@ ghost use Rattle.c_expression.specs.Reading.{target_at};
 ghost use Rattle.c_expression.specs.Parts.{plain_post_at, plain_prefix_at};
 
 use crate::build;
-use crate::kind::{is_assign_mark, is_field_mark, is_keyword, is_prefix_mark, is_step_mark, tier_of};
+use crate::kind::{
+    is_assign_mark, is_field_mark, is_keyword, is_prefix_mark, is_step_mark, tier_of,
+};
 use crate::take::{Step, name, named, stopped, type_opens};
 use c_token::{Keyword, Punct, Tok, TokKind};
 use c_tree::expression::{
@@ -30,7 +32,13 @@ pub fn behind_operator<'s>(level: usize, toks: &'s [Tok]) -> Option<(Sign, &'s [
         [first, rest @ ..] => match first.kind {
             TokKind::Punct(punct) => {
                 if tier_of(punct) == level {
-                    Some((Sign { punct, line: first.line }, rest))
+                    Some((
+                        Sign {
+                            punct,
+                            line: first.line,
+                        },
+                        rest,
+                    ))
                 } else {
                     None
                 }
@@ -50,7 +58,13 @@ fn behind_assignment<'s>(toks: &'s [Tok]) -> Option<(Sign, &'s [Tok])>
         [first, rest @ ..] => match first.kind {
             TokKind::Punct(punct) => {
                 if is_assign_mark(punct) {
-                    Some((Sign { punct, line: first.line }, rest))
+                    Some((
+                        Sign {
+                            punct,
+                            line: first.line,
+                        },
+                        rest,
+                    ))
                 } else {
                     None
                 }
@@ -100,7 +114,10 @@ pub fn plain_post<'s>(
     match toks {
         [first, rest @ ..] => match first.kind {
             TokKind::Punct(punct) => {
-                let operator = Sign { punct, line: first.line };
+                let operator = Sign {
+                    punct,
+                    line: first.line,
+                };
                 if is_field_mark(punct) {
                     let (name, rest) = name(alloc, text, last, rest)?;
                     Ok(Some((build::field(operator, name), rest)))
@@ -129,7 +146,10 @@ pub fn plain_prefix<'s>(last: u32, toks: &'s [Tok]) -> Step<'s, Prefix>
                 } else if is_step_mark(punct) && type_opens(rest) {
                     Err(stopped(last, rest))
                 } else {
-                    let operator = Sign { punct, line: first.line };
+                    let operator = Sign {
+                        punct,
+                        line: first.line,
+                    };
                     Ok(Some((build::operator_prefix(operator), rest)))
                 }
             }

@@ -8,7 +8,6 @@ ghost use Rattle.c_expression.specs.Reading.{at, type_name_by, specs_by, next_sp
 
 use crate::build;
 use crate::declarator::declarator;
-use crate::error::ParseError;
 use crate::kind::{is_keyword, is_punct, is_specifying};
 use crate::pointer::pointers;
 use crate::take::{Read, Step, behind_name, punct, punct_comes, specs_come, stopped};
@@ -115,13 +114,7 @@ fn next_spec<'s>(
 /// A word, or a structure.
 #[cycle(parse)]
 #[tactic(auto, unfolding(crate::specs::Reading::spec_by))]
-fn spec<'s>(
-    alloc: Global,
-    text: &[u8],
-    last: u32,
-    fuel: usize,
-    toks: &'s [Tok],
-) -> Read<'s, Spec>
+fn spec<'s>(alloc: Global, text: &[u8], last: u32, fuel: usize, toks: &'s [Tok]) -> Read<'s, Spec>
     ensures { Gives (λ x. (spec_of x.0, symbols_in text.now x.1.now)) result (spec_by (at fuel) (symbols_in text.now toks.now)) }
 {
     match toks {

@@ -1,4 +1,4 @@
-use Rattle.std.proofs.Common.{◌≡◌, ◌+◌, ◌-◌, suc, length, map, refl, sym, ap, ◌∙◌}
+use Rattle.std.proofs.Common.{◌-◌, suc, length, map, refl}
 use Rattle.std.proofs.lemmas.List.{length-map}
 use Rattle.std.proofs.lemmas.Result.{err_from_is_err_and}
 use Rattle.c_tree.specs.Views.{binary_of, postfix_suffix_of, prefix_of, spec_of, suffix_of, choice_of, cond_of, expr_of, type_name_of, member_of, param_of, next_assign_of, next_declarator_of, next_operand_of, next_param_of, target_of}

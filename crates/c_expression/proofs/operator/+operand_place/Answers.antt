@@ -1,4 +1,4 @@
-use Rattle.std.proofs.Common.{◌≡◌, ap, sym, ◌∙◌}
+use Rattle.std.proofs.Common.{ap, sym, ◌∙◌}
 use Rattle.c_tree.specs.Views.{binary_of}
 use Rattle.c_tree.specs.declared.expression.Binary.TheVariants.{Chain}
 use Rattle.c_expression.proofs.Unary.{chain_alone, chain_is_not, same_err}

@@ -1,4 +1,4 @@
-use Rattle.std.proofs.Common.{◌≡◌, ap, refl, ◌∙◌}
+use Rattle.std.proofs.Common.{ap, refl, ◌∙◌}
 use Rattle.c_tree.specs.Views.{cond_of}
 use Rattle.c_expression.specs.Reader.{symbols_in}
 use Rattle.c_expression.proofs.Unary.{no_target, same_err}

@@ -1,4 +1,4 @@
-use Rattle.std.proofs.Common.{◌≡◌, ap, sym, refl, ◌∙◌}
+use Rattle.std.proofs.Common.{ap, sym, refl, ◌∙◌}
 use Rattle.c_tree.specs.Views.{cond_of}
 use Rattle.c_tree.proofs.Shapes.{show_cond}
 use Rattle.c_expression.proofs.Unary.{choices_none, choices_same, choices_are_not, same_err}

@@ -1,4 +1,4 @@
-use Rattle.std.proofs.Common.{◌≡◌, sym, ◌∙◌}
+use Rattle.std.proofs.Common.{sym, ◌∙◌}
 use Rattle.c_expression.proofs.Unary.{others_are_not, first_is_void}
 use Rattle.c_expression.proofs.pointer.is_void.Goals as goal
 

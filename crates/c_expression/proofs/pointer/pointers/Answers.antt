@@ -1,4 +1,4 @@
-use Rattle.std.proofs.Common.{◌≡◌, ◌<◌, ◌≤◌, length, refl, arith}
+use Rattle.std.proofs.Common.{◌<◌, ◌≤◌, length, refl, arith}
 use Rattle.c_tree.specs.Words.{spell_pointers}
 use Rattle.c_expression.specs.Reader.{symbols_in}
 use Rattle.c_expression.proofs.Pointers.{pointers_step, pointers_end}

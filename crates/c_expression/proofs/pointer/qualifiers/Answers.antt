@@ -1,4 +1,4 @@
-use Rattle.std.proofs.Common.{◌≡◌, ◌<◌, ◌≤◌, length, map, refl, arith}
+use Rattle.std.proofs.Common.{◌<◌, ◌≤◌, length, map, refl, arith}
 use Rattle.c_tree.specs.Words.{keyed}
 use Rattle.c_expression.specs.Reader.{symbols_in}
 use Rattle.c_expression.proofs.Pointers.{qualifiers_step, qualifiers_end}
