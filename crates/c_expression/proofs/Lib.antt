@@ -14,5 +14,9 @@ pub mod AgainExpressions
 pub mod AgainSpecifiers
 pub mod AgainDeclarators
 pub mod AgainAll
-pub mod Loops
 pub mod Names
+pub mod Unary
+pub mod Pointers
+pub mod Loops
+pub mod Parts
+pub mod Fuel

@@ -1,10 +1,10 @@
 -- Reading expressions, declarators and type names from left to right.
-use Rattle.std.specs.Prelude.{◌≡◌, ℕ, zero, suc, Bool, true, false, ◌&&◌, ◌==◌, if◌then◌else◌, List, [], ◌∷◌, length, Option, Some, None}
+use Rattle.std.specs.Prelude.{ℕ, zero, suc, ◌&&◌, ◌==◌, if◌then◌else◌, List, [], ◌∷◌, length, Option, Some, None}
 use Rattle.c_token.specs.declared.token.Keyword.TheVariants as words
 use Rattle.c_token.specs.declared.token.Punct.TheVariants as marks
-use Rattle.c_tree.specs.Words.{Symbol, Symbols, punct}
+use Rattle.c_tree.specs.Words.{Symbol, Symbols}
 use Rattle.c_tree.specs.Kinds.{is_punct, is_key, is_name, is_leaf, level_of, is_assignment, is_prefix, is_step, is_field, is_spec_word}
-use Rattle.c_tree.specs.Trees.{Tree, Leaf, Group, Behind, Before, Measure, Join, Choose, Assign, Post, Index, CallBare, Call, Field, Step, Pre, Sign, Sizeof, Cast, TypeTree, TypeOf, SpecTrees, Specified, SpecTree, OneWord, Tagged, Body, MemberTree, Members, DeclaratorTree, Declares, SuffixTree, Unsized, Sized, Empty, VoidOnly, Params, ParamTree, Named, Unnamed, is_unary, is_bare_void}
+use Rattle.c_tree.specs.Trees.{Tree, Leaf, Group, Measure, Choose, Assign, Post, Index, CallBare, Call, Field, Step, Pre, Sign, Sizeof, Cast, TypeTree, TypeOf, SpecTrees, Specified, SpecTree, OneWord, Tagged, Body, MemberTree, Members, DeclaratorTree, Declares, SuffixTree, Unsized, Sized, Empty, VoidOnly, Params, ParamTree, Named, Unnamed, is_unary, is_bare_void}
 use Rattle.c_tree.specs.Lists.{posted, prefixed, joined, listed, more_specs, more_members, more_declarators, suffixes_of, more_params}
 use Rattle.c_expression.specs.Reader.{◌>>=◌, Reader, front_is, symbol_at, punct_at, key_at, specs_come, type_opens, got, all_that, pointers_at}
 use Rattle.c_expression.specs.Reader as reader

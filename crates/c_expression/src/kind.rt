@@ -1,7 +1,7 @@
 //! Tests on the kind of a token.
 
 ghost use Rattle.std.specs.Prelude.{◌≡◌, Bool};
-ghost use Rattle.c_tree.specs.Kinds.{number_of, number_of_word, is_punct, is_key, is_name, is_assign_mark, is_assignment, is_prefix_mark, is_prefix, is_step_mark, is_step, is_field_mark, is_field, tier_of, level_of, is_qualifying, is_qualifier, is_specifying, is_spec_word, begins_spec, is_spec};
+ghost use Rattle.c_tree.specs.Kinds.{number_of, number_of_word, is_punct, is_key, is_name, is_assign_mark, is_prefix_mark, is_step_mark, is_field_mark, tier_of, is_qualifying, is_specifying, begins_spec, is_spec};
 
 use c_token::{Keyword, Punct, TokKind};
 
@@ -44,7 +44,8 @@ pub fn is_name(kind: TokKind) -> bool
     matches!(kind, TokKind::Name)
 }
 
-fn is_assign_mark(punct: Punct) -> bool
+/// Whether it is an assignment operator (ISO/IEC 9899:1990, 6.3.16).
+pub fn is_assign_mark(punct: Punct) -> bool
     ensures { result ≡ is_assign_mark punct }
 {
     match punct {
@@ -63,17 +64,8 @@ fn is_assign_mark(punct: Punct) -> bool
     }
 }
 
-/// Whether it is an assignment operator (ISO/IEC 9899:1990, 6.3.16).
-pub fn is_assignment(kind: TokKind) -> bool
-    ensures { result ≡ is_assignment kind }
-{
-    match kind {
-        TokKind::Punct(punct) => is_assign_mark(punct),
-        _ => false,
-    }
-}
-
-fn is_prefix_mark(punct: Punct) -> bool
+/// Whether it is an operator that stands before its operand (ISO/IEC 9899:1990, 6.3.3).
+pub fn is_prefix_mark(punct: Punct) -> bool
     ensures { result ≡ is_prefix_mark punct }
 {
     match punct {
@@ -89,37 +81,23 @@ fn is_prefix_mark(punct: Punct) -> bool
     }
 }
 
-/// Whether it is an operator that stands before its operand (ISO/IEC 9899:1990, 6.3.3).
-pub fn is_prefix(kind: TokKind) -> bool
-    ensures { result ≡ is_prefix kind }
-{
-    match kind {
-        TokKind::Punct(punct) => is_prefix_mark(punct),
-        _ => false,
-    }
-}
-
 /// Whether it is `++` or `--`.
-pub fn is_step(kind: TokKind) -> bool
-    ensures { result ≡ is_step kind }
+pub fn is_step_mark(punct: Punct) -> bool
+    ensures { result ≡ is_step_mark punct }
 {
-    match kind {
-        TokKind::Punct(Punct::Increment) | TokKind::Punct(Punct::Decrement) => true,
-        _ => false,
-    }
+    matches!(punct, Punct::Increment | Punct::Decrement)
 }
 
 /// Whether it is `.` or `->`.
-pub fn is_field(kind: TokKind) -> bool
-    ensures { result ≡ is_field kind }
+pub fn is_field_mark(punct: Punct) -> bool
+    ensures { result ≡ is_field_mark punct }
 {
-    match kind {
-        TokKind::Punct(Punct::Dot) | TokKind::Punct(Punct::Arrow) => true,
-        _ => false,
-    }
+    matches!(punct, Punct::Dot | Punct::Arrow)
 }
 
-fn tier_of(punct: Punct) -> usize
+/// The tier of a binary operator: 1 for `*` to 10 for `||`, 13 for the comma, and 0 for what is
+/// none (ISO/IEC 9899:1990, 6.3.5 to 6.3.14 and 6.3.17).
+pub fn tier_of(punct: Punct) -> usize
     ensures { result ≡ tier_of punct }
 {
     match punct {
@@ -138,28 +116,15 @@ fn tier_of(punct: Punct) -> usize
     }
 }
 
-/// The tier of a binary operator: 1 for `*` to 10 for `||`, 13 for the comma, and 0 for what is
-/// none (ISO/IEC 9899:1990, 6.3.5 to 6.3.14 and 6.3.17).
-pub fn level_of(kind: TokKind) -> usize
-    ensures { result ≡ level_of kind }
-{
-    match kind {
-        TokKind::Punct(punct) => tier_of(punct),
-        _ => 0,
-    }
-}
-
 /// Whether it is `const` or `volatile`.
-pub fn is_qualifier(kind: TokKind) -> bool
-    ensures { result ≡ is_qualifier kind }
+pub fn is_qualifying(keyword: Keyword) -> bool
+    ensures { result ≡ is_qualifying keyword }
 {
-    match kind {
-        TokKind::Keyword(Keyword::Const) | TokKind::Keyword(Keyword::Volatile) => true,
-        _ => false,
-    }
+    matches!(keyword, Keyword::Const | Keyword::Volatile)
 }
 
-fn is_specifying(keyword: Keyword) -> bool
+/// Whether it is a specifier alone (ISO/IEC 9899:1990, 6.5).
+pub fn is_specifying(keyword: Keyword) -> bool
     ensures { result ≡ is_specifying keyword }
 {
     match keyword {
@@ -176,16 +141,6 @@ fn is_specifying(keyword: Keyword) -> bool
         | Keyword::Long
         | Keyword::Signed
         | Keyword::Unsigned => true,
-        _ => false,
-    }
-}
-
-/// Whether it is a specifier alone (ISO/IEC 9899:1990, 6.5).
-pub fn is_spec_word(kind: TokKind) -> bool
-    ensures { result ≡ is_spec_word kind }
-{
-    match kind {
-        TokKind::Keyword(keyword) => is_specifying(keyword),
         _ => false,
     }
 }

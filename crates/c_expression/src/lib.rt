@@ -6,10 +6,14 @@
 // spelling, and nothing else.
 #![tactic(auto)]
 
+mod build;
 pub mod declarator;
 mod error;
 pub mod expression;
 pub mod kind;
+mod operand;
+mod operator;
+mod pointer;
 pub mod specifier;
 pub mod take;
 

@@ -173,3 +173,24 @@ pub fn type_opens(toks: &[Tok]) -> bool
         [] => false,
     }
 }
+
+/// A name in front, and what is behind it.
+#[tactic(auto, unfolding(crate::specs::Reader::symbol_at))]
+pub fn behind_name<'s>(
+    alloc: Global,
+    text: &[u8],
+    toks: &'s [Tok],
+) -> Result<Option<(Name, &'s [Tok])>, AllocError>
+    ensures { IfOk result (λ r. Shows (λ x. (named x.0, symbols_in text.now x.1.now)) r (symbol_at is_name (symbols_in text.now toks.now))) }
+{
+    match toks {
+        [first, rest @ ..] => {
+            if is_name(first.kind) {
+                Ok(Some((named(alloc, text, first)?, rest)))
+            } else {
+                Ok(None)
+            }
+        }
+        [] => Ok(None),
+    }
+}

@@ -1,0 +1,423 @@
+//! Trees from their parts.
+
+ghost use Rattle.std.specs.Prelude.{◌≡◌, ℕ, List, [], ◌∷◌, Some, None, true, IfOk, map};
+ghost use Rattle.c_tree.specs.Words.{Symbol, signed, keyed, named, spell_constant, spell_pointers, spell_tag};
+ghost use Rattle.c_tree.specs.Trees as tree;
+ghost use Rattle.c_tree.specs.Lists.{posted, prefixed, joined, listed, chosen, assigned, more_specs, more_members, more_declarators, suffixes_of, more_params};
+ghost use Rattle.c_tree.specs.Views.{binary_of, operand_of, param_of, postfix_suffix_of, prefix_of, primary_of, spec_of, suffix_of, assign_of, cast_of, choice_of, cond_of, declarator_of, expr_of, member_of, next_assign_of, next_declarator_of, next_operand_of, next_param_of, postfix_of, specs_of, struct_body_of, target_of, type_name_of};
+
+use c_tree::expression::{
+    Assign, Binary, Cast, Choice, Cond, Declarator, Expr, Member, NextAssign, NextDeclarator,
+    NextOperand, NextParam, Operand, Param, Postfix, PostfixSuffix, Prefix, Primary, Spec, Specs,
+    StructBody, Suffix, Target, TypeName,
+};
+use c_tree::word::{Constant, Name, Pointer, Sign, Word};
+use std::alloc::{AllocError, Global};
+
+#[tactic(auto, using(c_tree::proofs::Shapes::show_primary_name))]
+pub fn name_operand(name: Name) -> Primary
+    ensures { primary_of result ≡ tree.Leaf (named name) }
+{
+    Primary::Name(name)
+}
+
+#[tactic(auto, using(c_tree::proofs::Shapes::show_primary_constant))]
+pub fn constant_operand(constant: Constant) -> Primary
+    ensures { primary_of result ≡ tree.Leaf (spell_constant constant) }
+{
+    Primary::Constant(constant)
+}
+
+#[tactic(auto, using(c_tree::proofs::Shapes::show_primary_group))]
+pub fn group(alloc: Global, opening: u32, inner: Expr, closing: u32) -> Result<Primary, AllocError>
+    ensures { IfOk result (λ p. primary_of p ≡ tree.Group opening (expr_of inner) closing) }
+{
+    let inner = Box::new(alloc, inner)?;
+    Ok(Primary::Group {
+        opening,
+        inner,
+        closing,
+    })
+}
+
+#[tactic(auto, using(c_tree::proofs::Shapes::made_expr))]
+pub fn expr(first: Assign, others: Vec<NextAssign>) -> Expr
+    ensures { expr_of result ≡ listed (assign_of first) (map next_assign_of others.items) }
+{
+    Expr { first, others }
+}
+
+#[tactic(auto, using(c_tree::proofs::Shapes::made_next_assign))]
+pub fn next_assign(comma: u32, assign: Assign) -> NextAssign
+    ensures { next_assign_of result ≡ (comma, assign_of assign) }
+{
+    NextAssign { comma, assign }
+}
+
+#[tactic(auto, using(c_tree::proofs::Shapes::made_assign))]
+pub fn assign(targets: Vec<Target>, value: Cond) -> Assign
+    ensures { assign_of result ≡ assigned (map target_of targets.items) (cond_of value) }
+{
+    Assign { targets, value }
+}
+
+#[tactic(auto, using(c_tree::proofs::Shapes::made_target))]
+pub fn target(place: Cast, operator: Sign) -> Target
+    ensures { target_of result ≡ (cast_of place, signed operator) }
+{
+    Target { place, operator }
+}
+
+#[tactic(auto, using(c_tree::proofs::Shapes::made_cond))]
+pub fn cond(choices: Vec<Choice>, last: Binary) -> Cond
+    ensures { cond_of result ≡ chosen (map choice_of choices.items) (binary_of last) }
+{
+    Cond { choices, last }
+}
+
+#[tactic(auto, using(c_tree::proofs::Shapes::made_choice))]
+pub fn choice(
+    alloc: Global,
+    condition: Binary,
+    question: u32,
+    then: Expr,
+    colon: u32,
+) -> Result<Choice, AllocError>
+    ensures { IfOk result (λ c. choice_of c ≡ (binary_of condition, question, expr_of then, colon)) }
+{
+    let then = Box::new(alloc, then)?;
+    Ok(Choice {
+        condition,
+        question,
+        then,
+        colon,
+    })
+}
+
+#[tactic(auto, using(c_tree::proofs::Shapes::show_binary_operand))]
+pub fn single(cast: Cast) -> Binary
+    ensures { binary_of result ≡ cast_of cast }
+{
+    Binary::Operand(cast)
+}
+
+/// Operands between operators of one level, or the first operand alone.
+#[tactic(auto, using(c_tree::proofs::Shapes::show_binary_chain))]
+pub fn chain(alloc: Global, first: Binary, others: Vec<NextOperand>) -> Result<Binary, AllocError>
+    ensures { IfOk result (λ b. binary_of b ≡ joined (binary_of first) (map next_operand_of others.items)) }
+{
+    if others.is_empty() {
+        return Ok(first);
+    }
+    let first = Box::new(alloc, first)?;
+    Ok(Binary::Chain { first, others })
+}
+
+#[tactic(auto, using(c_tree::proofs::Shapes::made_next_operand))]
+pub fn next_operand(operator: Sign, operand: Binary) -> NextOperand
+    ensures { next_operand_of result ≡ (signed operator, binary_of operand) }
+{
+    NextOperand { operator, operand }
+}
+
+#[tactic(auto, using(c_tree::proofs::Shapes::made_cast))]
+pub fn cast(prefixes: Vec<Prefix>, operand: Operand) -> Cast
+    ensures { cast_of result ≡ prefixed (map prefix_of prefixes.items) (operand_of operand) }
+{
+    Cast { prefixes, operand }
+}
+
+#[tactic(auto, using(c_tree::proofs::Shapes::show_prefix_operator))]
+pub fn operator_prefix(operator: Sign) -> Prefix
+    ensures { prefix_of result ≡ tree.Sign (signed operator) }
+{
+    Prefix::Operator(operator)
+}
+
+#[tactic(auto, using(c_tree::proofs::Shapes::show_prefix_sizeof))]
+pub fn sizeof_prefix(keyword: u32) -> Prefix
+    ensures { prefix_of result ≡ tree.Sizeof keyword }
+{
+    Prefix::Sizeof { keyword }
+}
+
+#[tactic(auto, using(c_tree::proofs::Shapes::show_prefix_cast))]
+pub fn cast_prefix(
+    alloc: Global,
+    opening: u32,
+    type_name: TypeName,
+    closing: u32,
+) -> Result<Prefix, AllocError>
+    ensures { IfOk result (λ p. prefix_of p ≡ tree.Cast opening (type_name_of type_name) closing) }
+{
+    let type_name = Box::new(alloc, type_name)?;
+    Ok(Prefix::Cast {
+        opening,
+        type_name,
+        closing,
+    })
+}
+
+#[tactic(auto, using(c_tree::proofs::Shapes::show_operand_postfix))]
+pub fn postfix_operand(postfix: Postfix) -> Operand
+    ensures { operand_of result ≡ postfix_of postfix }
+{
+    Operand::Postfix(postfix)
+}
+
+#[tactic(auto, using(c_tree::proofs::Shapes::show_operand_sizeof_type))]
+pub fn measure(
+    alloc: Global,
+    keyword: u32,
+    opening: u32,
+    type_name: TypeName,
+    closing: u32,
+) -> Result<Operand, AllocError>
+    ensures { IfOk result (λ o. operand_of o ≡ tree.Measure keyword opening (type_name_of type_name) closing) }
+{
+    let type_name = Box::new(alloc, type_name)?;
+    Ok(Operand::SizeofType {
+        keyword,
+        opening,
+        type_name,
+        closing,
+    })
+}
+
+#[tactic(auto, using(c_tree::proofs::Shapes::made_postfix))]
+pub fn postfix(primary: Primary, suffixes: Vec<PostfixSuffix>) -> Postfix
+    ensures { postfix_of result ≡ posted (primary_of primary) (map postfix_suffix_of suffixes.items) }
+{
+    Postfix { primary, suffixes }
+}
+
+#[tactic(auto, using(c_tree::proofs::Shapes::show_postfix_suffix_index))]
+pub fn index(
+    alloc: Global,
+    opening: u32,
+    index: Expr,
+    closing: u32,
+) -> Result<PostfixSuffix, AllocError>
+    ensures { IfOk result (λ s. postfix_suffix_of s ≡ tree.Index opening (expr_of index) closing) }
+{
+    let index = Box::new(alloc, index)?;
+    Ok(PostfixSuffix::Index {
+        opening,
+        index,
+        closing,
+    })
+}
+
+#[tactic(auto, using(c_tree::proofs::Shapes::show_postfix_suffix_call_bare))]
+pub fn bare_call(opening: u32, closing: u32) -> PostfixSuffix
+    ensures { postfix_suffix_of result ≡ tree.CallBare opening closing }
+{
+    PostfixSuffix::Call {
+        opening,
+        arguments: None,
+        closing,
+    }
+}
+
+#[tactic(auto, using(c_tree::proofs::Shapes::show_postfix_suffix_call))]
+pub fn call(
+    alloc: Global,
+    opening: u32,
+    arguments: Expr,
+    closing: u32,
+) -> Result<PostfixSuffix, AllocError>
+    ensures { IfOk result (λ s. postfix_suffix_of s ≡ tree.Call opening (expr_of arguments) closing) }
+{
+    let arguments = Some(Box::new(alloc, arguments)?);
+    Ok(PostfixSuffix::Call {
+        opening,
+        arguments,
+        closing,
+    })
+}
+
+#[tactic(auto, using(c_tree::proofs::Shapes::show_postfix_suffix_member))]
+pub fn field(operator: Sign, name: Name) -> PostfixSuffix
+    ensures { postfix_suffix_of result ≡ tree.Field (signed operator) (named name) }
+{
+    PostfixSuffix::Member { operator, name }
+}
+
+#[tactic(auto, using(c_tree::proofs::Shapes::show_postfix_suffix_step))]
+pub fn step(operator: Sign) -> PostfixSuffix
+    ensures { postfix_suffix_of result ≡ tree.Step (signed operator) }
+{
+    PostfixSuffix::Step(operator)
+}
+
+#[tactic(auto, using(c_tree::proofs::Shapes::made_type_name))]
+pub fn type_name(specs: Specs, pointers: Vec<Pointer>) -> TypeName
+    ensures { type_name_of result ≡ tree.TypeOf (specs_of specs) (spell_pointers pointers.items) }
+{
+    TypeName { specs, pointers }
+}
+
+#[tactic(auto, using(c_tree::proofs::Shapes::made_specs))]
+pub fn specs(first: Spec, others: Vec<Spec>) -> Specs
+    ensures { specs_of result ≡ tree.Specified (spec_of first) (more_specs (map spec_of others.items)) }
+{
+    Specs { first, others }
+}
+
+#[tactic(auto, using(c_tree::proofs::Shapes::show_spec_word))]
+pub fn word_spec(word: Word) -> Spec
+    ensures { spec_of result ≡ tree.OneWord (keyed word) }
+{
+    Spec::Word(word)
+}
+
+#[tactic(auto, using(c_tree::proofs::Shapes::show_spec_reference))]
+pub fn reference(keyword: u32, tag: Name) -> Spec
+    ensures { spec_of result ≡ tree.Tagged keyword (named tag) }
+{
+    Spec::Reference { keyword, tag }
+}
+
+/// A structure with its members; `braces` are the lines of the braces.
+#[tactic(auto, using(c_tree::proofs::Shapes::show_spec_body, c_tree::proofs::Shapes::made_struct_body))]
+pub fn body(
+    alloc: Global,
+    keyword: u32,
+    tag: Option<Name>,
+    braces: (u32, u32),
+    members: (Member, Vec<Member>),
+) -> Result<Spec, AllocError>
+    ensures { IfOk result (λ s. spec_of s ≡ tree.Body keyword (spell_tag tag) braces.0 (member_of members.0) (more_members (map member_of members.1.items)) braces.1) }
+{
+    let (opening, closing) = braces;
+    let (first, others) = members;
+    let body = StructBody {
+        keyword,
+        tag,
+        opening,
+        first,
+        others,
+        closing,
+    };
+    Ok(Spec::Body(Box::new(alloc, body)?))
+}
+
+#[tactic(auto, using(c_tree::proofs::Shapes::made_member))]
+pub fn member(
+    specs: Specs,
+    first: Declarator,
+    others: Vec<NextDeclarator>,
+    semicolon: u32,
+) -> Member
+    ensures { member_of result ≡ tree.Members (specs_of specs) (declarator_of first) (more_declarators (map next_declarator_of others.items)) semicolon }
+{
+    Member {
+        specs,
+        first,
+        others,
+        semicolon,
+    }
+}
+
+#[tactic(auto, using(c_tree::proofs::Shapes::made_next_declarator))]
+pub fn next_declarator(comma: u32, declarator: Declarator) -> NextDeclarator
+    ensures { next_declarator_of result ≡ (comma, declarator_of declarator) }
+{
+    NextDeclarator { comma, declarator }
+}
+
+#[tactic(auto, using(c_tree::proofs::Shapes::made_declarator))]
+pub fn declarator(pointers: Vec<Pointer>, name: Name, suffixes: Vec<Suffix>) -> Declarator
+    ensures { declarator_of result ≡ tree.Declares (spell_pointers pointers.items) (named name) (suffixes_of (map suffix_of suffixes.items)) }
+{
+    Declarator {
+        pointers,
+        name,
+        suffixes,
+    }
+}
+
+#[tactic(auto, using(c_tree::proofs::Shapes::show_suffix_array_unsized))]
+pub fn unsized_array(opening: u32, closing: u32) -> Suffix
+    ensures { suffix_of result ≡ tree.Unsized opening closing }
+{
+    Suffix::Array {
+        opening,
+        length: None,
+        closing,
+    }
+}
+
+#[tactic(auto, using(c_tree::proofs::Shapes::show_suffix_array))]
+pub fn array(alloc: Global, opening: u32, length: Cond, closing: u32) -> Result<Suffix, AllocError>
+    ensures { IfOk result (λ s. suffix_of s ≡ tree.Sized opening (cond_of length) closing) }
+{
+    let length = Some(Box::new(alloc, length)?);
+    Ok(Suffix::Array {
+        opening,
+        length,
+        closing,
+    })
+}
+
+#[tactic(auto, using(c_tree::proofs::Shapes::show_suffix_empty))]
+pub fn no_params(opening: u32, closing: u32) -> Suffix
+    ensures { suffix_of result ≡ tree.Empty opening closing }
+{
+    Suffix::Empty { opening, closing }
+}
+
+#[tactic(auto, using(c_tree::proofs::Shapes::show_suffix_void))]
+pub fn void_params(opening: u32, void: u32, closing: u32) -> Suffix
+    ensures { suffix_of result ≡ tree.VoidOnly opening void closing }
+{
+    Suffix::Void {
+        opening,
+        void,
+        closing,
+    }
+}
+
+#[tactic(auto, using(c_tree::proofs::Shapes::show_suffix_params))]
+pub fn params(
+    alloc: Global,
+    opening: u32,
+    params: (Param, Vec<NextParam>),
+    closing: u32,
+) -> Result<Suffix, AllocError>
+    ensures { IfOk result (λ s. suffix_of s ≡ tree.Params opening (param_of params.0) (more_params (map next_param_of params.1.items)) closing) }
+{
+    let (first, others) = params;
+    let first = Box::new(alloc, first)?;
+    Ok(Suffix::Params {
+        opening,
+        first,
+        others,
+        closing,
+    })
+}
+
+#[tactic(auto, using(c_tree::proofs::Shapes::made_next_param))]
+pub fn next_param(comma: u32, param: Param) -> NextParam
+    ensures { next_param_of result ≡ (comma, param_of param) }
+{
+    NextParam { comma, param }
+}
+
+#[tactic(auto, using(c_tree::proofs::Shapes::show_param_named))]
+pub fn named_param(specs: Specs, declarator: Declarator) -> Param
+    ensures { param_of result ≡ tree.Named (specs_of specs) (declarator_of declarator) }
+{
+    Param::Named { specs, declarator }
+}
+
+#[tactic(auto, using(c_tree::proofs::Shapes::show_param_unnamed))]
+pub fn unnamed_param(specs: Specs, pointers: Vec<Pointer>, suffixes: Vec<Suffix>) -> Param
+    ensures { param_of result ≡ tree.Unnamed (specs_of specs) (spell_pointers pointers.items) (suffixes_of (map suffix_of suffixes.items)) }
+{
+    Param::Unnamed {
+        specs,
+        pointers,
+        suffixes,
+    }
+}
