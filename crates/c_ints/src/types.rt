@@ -5,7 +5,7 @@ ghost use Rattle.c_ints.specs.Conversions.{promoted, common, candidates, first_h
 
 /// The integer types (ISO/IEC 9899:1990, 6.1.2.5). `Char` is plain char: a type of its own, which is
 /// unsigned as in HI-TECH PICC. A char has 8 bits, short and int have 16, long has 32.
-#[derive(Clone, Copy, PartialEq, Eq, Debug)]
+#[derive(Clone, Copy, PartialEq, Eq, Hash, Debug)]
 pub enum IntTy {
     Char,
     SChar,
