@@ -1,0 +1,267 @@
+//! Typed expressions: each node has its type and the line of its first token, counted from 1.
+
+use crate::types::{Qualified, Ty};
+use c_ints::{BinOp, IntTy, UnOp, Value};
+
+/// What a name that is a place stands for.
+#[derive(Clone, Copy, PartialEq, Eq, Debug)]
+pub enum Object {
+    /// The object of this number in `Typed::statics`.
+    Static(u32),
+    /// The parameter of this number of the function that the node stands in.
+    Param(u32),
+    /// The local of this number of the function that the node stands in.
+    Local(u32),
+    /// The device register with this lowest address.
+    Register(u8),
+}
+
+/// `&&` and `||` (ISO/IEC 9899:1990, 6.3.13 and 6.3.14).
+#[derive(Clone, Copy, PartialEq, Eq, Debug)]
+pub enum LogicalOp {
+    And,
+    Or,
+}
+
+/// `++` and `--`, before their operand or behind it (ISO/IEC 9899:1990, 6.3.2.4 and 6.3.3.1).
+#[derive(Clone, Copy, PartialEq, Eq, Debug)]
+pub enum StepOp {
+    PreIncrement,
+    PreDecrement,
+    PostIncrement,
+    PostDecrement,
+}
+
+/// An expression that has a value (ISO/IEC 9899:1990, 6.3).
+#[cycle(expression)]
+#[derive(Drop)]
+pub enum TExpr {
+    /// A constant, or what `sizeof` gives.
+    Constant {
+        value: Value,
+        line: u32,
+    },
+    /// The value that a place has.
+    Read {
+        place: Box<TPlace>,
+        ty: Ty,
+        line: u32,
+    },
+    /// Where a place is: `&`, or an array that becomes a pointer to its first element.
+    Address {
+        place: Box<TPlace>,
+        ty: Ty,
+        line: u32,
+    },
+    /// A conversion that no cast asks for.
+    Convert {
+        operand: Box<TExpr>,
+        ty: Ty,
+        line: u32,
+    },
+    /// A conversion that a cast asks for.
+    Cast {
+        operand: Box<TExpr>,
+        ty: Ty,
+        line: u32,
+    },
+    /// `+ - ~` of a promoted operand, and `!` of any integer or pointer.
+    Unary {
+        op: UnOp,
+        operand: Box<TExpr>,
+        ty: Ty,
+        line: u32,
+    },
+    /// A binary operator on integers, or a comparison of pointers. The type of the operation is that
+    /// of the left operand, which the right one has too, except of a shift.
+    Binary {
+        op: BinOp,
+        left: Box<TExpr>,
+        right: Box<TExpr>,
+        ty: Ty,
+        line: u32,
+    },
+    /// A pointer plus an integer, an integer plus a pointer, or a pointer less an integer (`Add` and
+    /// `Sub`). An element has `size` bytes.
+    Offset {
+        op: BinOp,
+        left: Box<TExpr>,
+        right: Box<TExpr>,
+        size: u64,
+        ty: Ty,
+        line: u32,
+    },
+    /// How many elements of `size` bytes lie between two pointers. Its type is int.
+    Difference {
+        left: Box<TExpr>,
+        right: Box<TExpr>,
+        size: u64,
+        line: u32,
+    },
+    /// `&&` or `||`. Its type is int.
+    Logical {
+        op: LogicalOp,
+        left: Box<TExpr>,
+        right: Box<TExpr>,
+        line: u32,
+    },
+    /// `CONDITION ? THEN : OTHERWISE`
+    Conditional {
+        condition: Box<TExpr>,
+        then: Box<TExpr>,
+        otherwise: Box<TExpr>,
+        ty: Ty,
+        line: u32,
+    },
+    /// `LEFT, RIGHT`
+    Comma {
+        left: Box<TExpr>,
+        right: Box<TExpr>,
+        ty: Ty,
+        line: u32,
+    },
+    /// `PLACE = VALUE` of an integer or a pointer.
+    Assign {
+        place: Box<TPlace>,
+        value: Box<TExpr>,
+        ty: Ty,
+        line: u32,
+    },
+    /// `PLACE = FROM` of structures of `size` bytes. It has no value.
+    StructAssign {
+        place: Box<TPlace>,
+        from: Box<TPlace>,
+        size: u64,
+        line: u32,
+    },
+    /// `PLACE op= VALUE`. `operation` is the type that the place's value is converted to before the
+    /// operator, and `size` is that of an element where it is a pointer, otherwise 0.
+    Update {
+        op: BinOp,
+        place: Box<TPlace>,
+        value: Box<TExpr>,
+        operation: Ty,
+        size: u64,
+        ty: Ty,
+        line: u32,
+    },
+    /// `++` or `--`, as an update by the int 1.
+    Step {
+        op: StepOp,
+        place: Box<TPlace>,
+        operation: Ty,
+        size: u64,
+        ty: Ty,
+        line: u32,
+    },
+    /// A call of the function of this number in `Typed::functions`.
+    Call {
+        function: u32,
+        arguments: Vec<TExpr>,
+        ty: Ty,
+        line: u32,
+    },
+}
+
+/// An expression that is a place (ISO/IEC 9899:1990, 6.2.2.1: an lvalue).
+#[cycle(expression)]
+#[derive(Drop)]
+pub enum TPlace {
+    /// The name of an object or of a device register.
+    Name {
+        object: Object,
+        ty: Qualified,
+        line: u32,
+    },
+    /// The name of a bit, 0 to 7, of the device register with this lowest address.
+    Bit {
+        register: u8,
+        bit: u8,
+        line: u32,
+    },
+    /// The member of this number of a structure, `offset` bytes behind the structure's start.
+    Member {
+        whole: Box<TPlace>,
+        member: u32,
+        offset: u64,
+        ty: Qualified,
+        line: u32,
+    },
+    /// What a pointer points to.
+    Deref {
+        pointer: Box<TExpr>,
+        ty: Qualified,
+        line: u32,
+    },
+}
+
+impl TExpr {
+    /// The type of the value.
+    pub fn ty(&self) -> Ty {
+        match self {
+            TExpr::Constant { value, .. } => Ty::Int(value.ty()),
+            TExpr::Read { ty, .. }
+            | TExpr::Address { ty, .. }
+            | TExpr::Convert { ty, .. }
+            | TExpr::Cast { ty, .. }
+            | TExpr::Unary { ty, .. }
+            | TExpr::Binary { ty, .. }
+            | TExpr::Offset { ty, .. }
+            | TExpr::Conditional { ty, .. }
+            | TExpr::Comma { ty, .. }
+            | TExpr::Assign { ty, .. }
+            | TExpr::Update { ty, .. }
+            | TExpr::Step { ty, .. }
+            | TExpr::Call { ty, .. } => *ty,
+            TExpr::Difference { .. } | TExpr::Logical { .. } => Ty::Int(IntTy::Int),
+            TExpr::StructAssign { .. } => Ty::Void,
+        }
+    }
+
+    /// The line of the node's first token.
+    pub fn line(&self) -> u32 {
+        match self {
+            TExpr::Constant { line, .. }
+            | TExpr::Read { line, .. }
+            | TExpr::Address { line, .. }
+            | TExpr::Convert { line, .. }
+            | TExpr::Cast { line, .. }
+            | TExpr::Unary { line, .. }
+            | TExpr::Binary { line, .. }
+            | TExpr::Offset { line, .. }
+            | TExpr::Difference { line, .. }
+            | TExpr::Logical { line, .. }
+            | TExpr::Conditional { line, .. }
+            | TExpr::Comma { line, .. }
+            | TExpr::Assign { line, .. }
+            | TExpr::StructAssign { line, .. }
+            | TExpr::Update { line, .. }
+            | TExpr::Step { line, .. }
+            | TExpr::Call { line, .. } => *line,
+        }
+    }
+}
+
+impl TPlace {
+    /// The type of the place. A bit is an unsigned char that is volatile, as its register is.
+    pub fn ty(&self) -> Qualified {
+        match self {
+            TPlace::Name { ty, .. } | TPlace::Member { ty, .. } | TPlace::Deref { ty, .. } => *ty,
+            TPlace::Bit { .. } => Qualified {
+                ty: Ty::Int(IntTy::UChar),
+                constant: false,
+                volatile: true,
+            },
+        }
+    }
+
+    /// The line of the node's first token.
+    pub fn line(&self) -> u32 {
+        match self {
+            TPlace::Name { line, .. }
+            | TPlace::Bit { line, .. }
+            | TPlace::Member { line, .. }
+            | TPlace::Deref { line, .. } => *line,
+        }
+    }
+}

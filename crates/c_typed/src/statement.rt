@@ -1,0 +1,124 @@
+//! Typed statements: each node has the line of its first token, counted from 1.
+
+use crate::expression::{TExpr, TPlace};
+use c_ints::Value;
+
+/// `while`, `do` and `for` (ISO/IEC 9899:1990, 6.6.5).
+#[derive(Clone, Copy, PartialEq, Eq, Debug)]
+pub enum LoopForm {
+    While,
+    Do,
+    For,
+}
+
+/// A statement (ISO/IEC 9899:1990, 6.6), or a declarator of a local.
+#[cycle(statement)]
+#[derive(Drop)]
+pub enum TStmt {
+    Block {
+        statements: Vec<TStmt>,
+        line: u32,
+    },
+    /// `;`
+    Empty {
+        line: u32,
+    },
+    /// An expression whose value is dropped.
+    Expr {
+        value: TExpr,
+        line: u32,
+    },
+    /// The declarator of a local that is given no value: its bytes become unset. It is no node.
+    Declare {
+        local: u32,
+        line: u32,
+    },
+    /// The declarator of a local that is an integer or a pointer, and its value.
+    InitScalar {
+        local: u32,
+        value: TExpr,
+        line: u32,
+    },
+    /// The declarator of a local with a list or a string: its items in order. Bytes without an item
+    /// become 0 behind them.
+    InitList {
+        local: u32,
+        items: Vec<TItem>,
+        line: u32,
+    },
+    /// `if`, any number of `else if`, and at most one `else`. At least one arm, and each is a node.
+    If {
+        arms: Vec<TArm>,
+        otherwise: Option<Box<TStmt>>,
+        line: u32,
+    },
+    /// A loop. `begin` and `step` stand only in a `for`, and only there the condition may be left out.
+    Loop {
+        form: LoopForm,
+        begin: Option<TExpr>,
+        condition: Option<TExpr>,
+        step: Option<TExpr>,
+        body: Box<TStmt>,
+        line: u32,
+    },
+    /// A `switch`: its promoted value, its case labels in order, where `default` leads, and the
+    /// statements of its body.
+    Switch {
+        value: TExpr,
+        cases: Vec<TCase>,
+        default: Option<u32>,
+        statements: Vec<TStmt>,
+        line: u32,
+    },
+    Break {
+        line: u32,
+    },
+    Continue {
+        line: u32,
+    },
+    Return {
+        value: Option<TExpr>,
+        line: u32,
+    },
+}
+
+/// `if (CONDITION) THEN`, with the line of its `if`.
+#[cycle(statement)]
+#[derive(Drop)]
+pub struct TArm {
+    pub condition: TExpr,
+    pub then: TStmt,
+    pub line: u32,
+}
+
+/// A case label: its value in the type of the switch, and how many statements of the body stand
+/// before it.
+#[derive(Clone, Copy, PartialEq, Eq, Debug)]
+pub struct TCase {
+    pub value: Value,
+    pub target: u32,
+    pub line: u32,
+}
+
+/// An item of a local's list, `offset` bytes behind the local's start.
+#[derive(Drop)]
+pub enum TItem {
+    /// An integer or a pointer.
+    Scalar {
+        offset: u64,
+        value: TExpr,
+    },
+    /// A structure of `size` bytes.
+    Struct {
+        offset: u64,
+        from: TPlace,
+        size: u64,
+    },
+    /// A string for a char array of `size` bytes: its characters, which may be fewer than these. The
+    /// others become 0.
+    Text {
+        offset: u64,
+        bytes: Vec<u8>,
+        size: u64,
+    },
+}

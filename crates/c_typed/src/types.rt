@@ -1,0 +1,124 @@
+//! Types of C, as the typed tree has them.
+
+use c_ints::IntTy;
+
+/// A type (ISO/IEC 9899:1990, 6.1.2.5). Two types are the same exactly where these values are equal.
+#[derive(Clone, Copy, PartialEq, Eq, Hash, Debug)]
+pub enum Ty {
+    Void,
+    Int(IntTy),
+    /// A pointer to the type of this row of `Typed::targets`.
+    Pointer(u32),
+    /// An array of elements of the type of a row of `Typed::targets`, which has no qualifiers: those
+    /// of the elements stand at the array. `length` is 0 where it isn't known yet; `size` is the number
+    /// of bytes.
+    Array {
+        element: u32,
+        length: u32,
+        size: u64,
+    },
+    /// The structure of this number in `Typed::structures`.
+    Struct(u32),
+}
+
+impl Ty {
+    /// The integer type that this type is, if it is one.
+    pub fn int(self) -> Option<IntTy> {
+        match self {
+            Ty::Int(ty) => Some(ty),
+            _ => None,
+        }
+    }
+
+    /// The row of what this type points to, if it is a pointer.
+    pub fn target(self) -> Option<u32> {
+        match self {
+            Ty::Pointer(target) => Some(target),
+            _ => None,
+        }
+    }
+
+    /// Whether the type is an array.
+    pub fn is_array(self) -> bool {
+        match self {
+            Ty::Array { .. } => true,
+            _ => false,
+        }
+    }
+
+    /// Whether the type is an integer or a pointer (ISO/IEC 9899:1990, 6.1.2.5: a scalar).
+    pub fn is_scalar(self) -> bool {
+        match self {
+            Ty::Int(_) | Ty::Pointer(_) => true,
+            _ => false,
+        }
+    }
+}
+
+/// A type with its qualifiers (ISO/IEC 9899:1990, 6.5.3). An array has those of its elements.
+#[derive(Clone, Copy, PartialEq, Eq, Hash, Debug)]
+pub struct Qualified {
+    pub ty: Ty,
+    pub constant: bool,
+    pub volatile: bool,
+}
+
+impl Qualified {
+    /// The type without qualifiers.
+    pub fn plain(ty: Ty) -> Qualified {
+        Qualified {
+            ty,
+            constant: false,
+            volatile: false,
+        }
+    }
+
+    /// This type with the qualifiers of another one too.
+    pub fn qualified_as(self, other: Qualified) -> Qualified {
+        Qualified {
+            ty: self.ty,
+            constant: self.constant || other.constant,
+            volatile: self.volatile || other.volatile,
+        }
+    }
+
+    /// Another type with the qualifiers of this one.
+    pub fn of(self, ty: Ty) -> Qualified {
+        Qualified {
+            ty,
+            constant: self.constant,
+            volatile: self.volatile,
+        }
+    }
+}
+
+/// A member of a structure, and how many bytes of the structure stand before it.
+#[derive(Drop)]
+pub struct Member {
+    pub name: Vec<u8>,
+    pub ty: Qualified,
+    pub offset: u64,
+}
+
+/// A structure (ISO/IEC 9899:1990, 6.5.2.1): its members in order, without padding between them, and
+/// how many bytes it has. One that never got a body has no members and no bytes.
+#[derive(Drop)]
+pub struct Structure {
+    pub members: Vec<Member>,
+    pub size: u64,
+}
+
+/// How many bytes a value or an object of the type has (ISO/IEC 9899:1990, 6.3.3.4): 0 for void, 2
+/// for a pointer. A structure has the number that is told of it.
+pub fn bytes_of(structures: &[Structure], ty: Ty) -> u64 {
+    match ty {
+        Ty::Void => 0,
+        Ty::Int(ty) => c_ints::size(ty) as u64,
+        Ty::Pointer(_) => 2,
+        Ty::Array { size, .. } => size,
+        Ty::Struct(number) => match structures.get(number as usize) {
+            Some(structure) => structure.size,
+            None => 0,
+        },
+    }
+}
