@@ -42,7 +42,7 @@ fn truth(holds: bool) -> Folded {
     Folded::Value(Value::new(IntTy::Int, if holds { 1 } else { 0 }))
 }
 
-fn is_variable(folded: Folded) -> bool {
+fn is_variable(folded: &Folded) -> bool {
     match folded {
         Folded::Variable => true,
         _ => false,
@@ -57,7 +57,7 @@ fn value_of(folded: Folded) -> Option<Value> {
 }
 
 fn binary(op: BinOp, left: Folded, right: Folded) -> Folded {
-    if is_variable(left) || is_variable(right) {
+    if is_variable(&left) || is_variable(&right) {
         return Folded::Variable;
     }
     let Some(a) = value_of(left) else {
@@ -74,7 +74,7 @@ fn binary(op: BinOp, left: Folded, right: Folded) -> Folded {
 
 // The right operand counts only where the left one doesn't decide.
 fn logical(op: LogicalOp, left: Folded, right: Folded) -> Folded {
-    if is_variable(left) || is_variable(right) {
+    if is_variable(&left) || is_variable(&right) {
         return Folded::Variable;
     }
     let Some(a) = value_of(left) else {
@@ -96,7 +96,7 @@ fn as_truth(folded: Folded) -> Folded {
 }
 
 fn conditional(condition: Folded, then: Folded, otherwise: Folded) -> Folded {
-    if is_variable(then) || is_variable(otherwise) {
+    if is_variable(&then) || is_variable(&otherwise) {
         return Folded::Variable;
     }
     match condition {
