@@ -153,7 +153,7 @@ fn on_pointers(types: &Types, op: BinOp, a: u32, b: u32) -> Option<Operation> {
 }
 
 /// What a binary operator does with operands of these types, or `None` where they don't fit it.
-pub(crate) fn operation(types: &Types, op: BinOp, left: Side, right: Side) -> Option<Operation> {
+pub(crate) fn operation_of(types: &Types, op: BinOp, left: Side, right: Side) -> Option<Operation> {
     match left.ty {
         Ty::Int(a) => match right.ty {
             Ty::Int(b) => Some(on_integers(op, a, b)),

@@ -2,7 +2,7 @@
 
 use crate::conversion::{converted, is_assignable, is_castable};
 use crate::error::{CheckError, Kind, refused};
-use crate::operation::{Node, binary_operator, operation};
+use crate::operation::{Node, binary_operator, operation_of};
 use crate::term::{Operand, Term, value_term};
 use crate::types::Types;
 use c_ints::{BinOp, IntTy, UnOp, promote, usual};
@@ -18,7 +18,7 @@ fn binary(
     right: Operand,
 ) -> Result<Term, CheckError> {
     let line = left.start;
-    let Some(found) = operation(types, op, left.side(), right.side()) else {
+    let Some(found) = operation_of(types, op, left.side(), right.side()) else {
         return refused(Kind::Operand, line);
     };
     let left = Box::new(alloc, converted(alloc, left.value, found.left)?)?;

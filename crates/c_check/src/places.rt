@@ -2,9 +2,9 @@
 
 use crate::conversion::converted;
 use crate::error::{CheckError, Kind, number, refused};
-use crate::operation::operation;
+use crate::operation::operation_of;
 use crate::term::{
-    Form, Operand, Place, Term, array_start, constant, operand, place_term, refuse_table,
+    Form, Operand, Place, Term, array_start, constant, place_term, refuse_table, used_value,
     value_term,
 };
 use crate::types::Types;
@@ -47,7 +47,7 @@ pub(crate) fn address(
     line: u32,
 ) -> Result<Term, CheckError> {
     refuse_table(&term)?;
-    let Form::Place(place) = term.form else {
+    let Some(place) = into_place(term) else {
         return refused(Kind::Address, line);
     };
     if !place.is_addressable() {
@@ -98,7 +98,7 @@ pub(crate) fn indexable(alloc: Global, types: &mut Types, term: Term) -> Result<
     if is_array {
         return Ok(term);
     }
-    let found = operand(alloc, types, term)?;
+    let found = used_value(alloc, types, term)?;
     Ok(Term {
         form: Form::Value(found.value),
         null: found.null,
@@ -174,7 +174,7 @@ pub(crate) fn element(
     let line = whole.start;
     let (left, left_reach) = side(alloc, types, whole)?;
     let (right, right_reach) = side(alloc, types, index)?;
-    let Some(found) = operation(types, BinOp::Add, left.side(), right.side()) else {
+    let Some(found) = operation_of(types, BinOp::Add, left.side(), right.side()) else {
         return refused(Kind::Operand, line);
     };
     let Ty::Pointer(row) = found.ty else {
@@ -226,7 +226,7 @@ pub(crate) fn member(
     line: u32,
 ) -> Result<Term, CheckError> {
     refuse_table(&whole)?;
-    let Form::Place(whole) = whole.form else {
+    let Some(whole) = into_place(whole) else {
         return refused(Kind::Member, line);
     };
     let Ty::Struct(structure) = whole.ty().ty else {

@@ -69,6 +69,11 @@ impl Scopes {
         let _scope = self.open.pop();
     }
 
+    /// Whether no block is open.
+    pub fn is_file(&self) -> bool {
+        self.open.len() <= 1
+    }
+
     /// What a name stands for.
     pub fn find(&self, name: &[u8]) -> Option<Binding> {
         for scope in self.open.iter().rev() {

@@ -145,7 +145,11 @@ pub(crate) fn place_value(
 }
 
 /// The value of an expression. A function has none.
-pub(crate) fn operand(alloc: Global, types: &mut Types, term: Term) -> Result<Operand, CheckError> {
+pub(crate) fn used_value(
+    alloc: Global,
+    types: &mut Types,
+    term: Term,
+) -> Result<Operand, CheckError> {
     let Term {
         form,
         null,
@@ -179,17 +183,23 @@ pub(crate) fn refuse_table(term: &Term) -> Result<(), CheckError> {
     }
 }
 
+/// The place that a term is, if it is one.
+pub(crate) fn into_place(term: Term) -> Option<Place> {
+    match term.form {
+        Form::Place(place) => Some(place),
+        _ => None,
+    }
+}
+
 /// The place that is written by an assignment, `++` or `--` at this line.
 pub(crate) fn written(term: Term, line: u32) -> Result<TPlace, CheckError> {
-    match term.form {
-        Form::Place(place) => {
-            let ty = place.ty();
-            if ty.constant || ty.ty.is_array() {
-                refused(Kind::Assign, line)
-            } else {
-                Ok(place.place)
-            }
-        }
-        _ => refused(Kind::Assign, line),
+    let Some(place) = into_place(term) else {
+        return refused(Kind::Assign, line);
+    };
+    let ty = place.ty();
+    if ty.constant || ty.ty.is_array() {
+        refused(Kind::Assign, line)
+    } else {
+        Ok(place.place)
     }
 }

@@ -1,6 +1,6 @@
 //! The types that a unit has so far.
 
-use crate::error::{CheckError, number};
+use crate::error::{CheckError, Kind, number};
 use c_typed::{Member, Qualified, Structure, Ty};
 use indexmap::{IndexMap, IndexSet};
 use std::alloc::Global;
@@ -119,6 +119,15 @@ impl Types {
         match self.shapes.get(number as usize) {
             Some(shape) => shape.body,
             None => Progress::Absent,
+        }
+    }
+
+    /// Why a body of a structure can't stand where no body may: it is a second one, or one too many.
+    pub fn second_body(&self, number: u32) -> Kind {
+        if self.progress(number) == Progress::Absent {
+            Kind::Declare
+        } else {
+            Kind::Again
         }
     }
 

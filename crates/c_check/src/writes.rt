@@ -2,7 +2,7 @@
 
 use crate::conversion::{assigned, converted};
 use crate::error::{CheckError, Kind, refused};
-use crate::operation::{Node, compound_operator, operation};
+use crate::operation::{Node, compound_operator, operation_of};
 use crate::term::{Operand, Side, Term, refuse_table, value_term, written};
 use crate::types::Types;
 use c_ints::{BinOp, IntTy, usual};
@@ -73,7 +73,7 @@ fn compound(
 ) -> Result<TExpr, CheckError> {
     let ty = place.ty().ty;
     let left = Side { ty, null: false };
-    let Some(found) = operation(types, op, left, from.side()) else {
+    let Some(found) = operation_of(types, op, left, from.side()) else {
         return refused(Kind::Operand, line);
     };
     let keeps = match found.node {
