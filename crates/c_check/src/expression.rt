@@ -5,7 +5,7 @@ use crate::checker::Checker;
 use crate::error::CheckError;
 use crate::operators::{chosen, combined, sequenced};
 use crate::places::{element, indexable, member, pointed_member};
-use crate::prefixes::{Applied, applied, listed};
+use crate::prefixes::{Applied, apply_prefix, listed};
 use crate::primary::{constant_term, grouped, named};
 use crate::term::{Operand, Term, refuse_table};
 use crate::writes::{assignment, stepped};
@@ -148,7 +148,7 @@ fn apply_all(
 ) -> Result<Term, CheckError> {
     let mut term = operand;
     for prefix in prefixes.into_iter().rev() {
-        term = applied(checker, prefix, term)?;
+        term = apply_prefix(checker, prefix, term)?;
     }
     Ok(term)
 }

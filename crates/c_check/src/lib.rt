@@ -1,12 +1,20 @@
+// The checker of C: from a concrete tree to a typed tree, in which each conversion is explicit.
+//
+// In: the tree of a text. Out: its typed tree, or the first node that breaks a rule on names and types.
+// The promise so far: it ends on every tree. That the typed tree is the one of the rules is tested, and
+// owed.
 #![tactic(auto)]
 
 mod calls;
 mod checker;
 mod constants;
 mod conversion;
+mod declaration;
 mod declarator;
 mod error;
 mod expression;
+mod initializer;
+mod objects;
 mod operation;
 mod operators;
 mod outline;
@@ -14,9 +22,19 @@ mod places;
 mod prefixes;
 mod primary;
 mod scope;
+mod slots;
 mod specifiers;
+mod statement;
 mod term;
+mod text;
 mod types;
+mod unit;
 mod writes;
 
+pub use c_typed::{
+    Folded, Function, Initial, InitialByte, LogicalOp, LoopForm, Member, Object, Qualified,
+    RootKind, Static, StepOp, Structure, TArm, TCase, TExpr, TItem, TPlace, TStmt, Ty, Typed,
+    Variable, bytes_of,
+};
 pub use error::{CheckError, Kind};
+pub use unit::check;

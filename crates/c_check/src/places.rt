@@ -4,8 +4,8 @@ use crate::conversion::converted;
 use crate::error::{CheckError, Kind, number, refused};
 use crate::operation::operation_of;
 use crate::term::{
-    Form, Operand, Place, Term, array_start, constant, place_term, refuse_table, used_value,
-    value_term,
+    Form, Operand, Place, Term, array_start, constant, into_place, place_term, refuse_table,
+    used_value, value_term,
 };
 use crate::types::Types;
 use c_ints::{BinOp, IntTy};

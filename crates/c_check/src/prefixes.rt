@@ -113,7 +113,7 @@ pub(crate) fn listed(
 }
 
 /// An operand with a prefix before it.
-pub(crate) fn applied(
+pub(crate) fn apply_prefix(
     checker: &mut Checker,
     prefix: Applied,
     term: Term,

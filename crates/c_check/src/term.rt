@@ -191,6 +191,14 @@ pub(crate) fn into_place(term: Term) -> Option<Place> {
     }
 }
 
+/// The place whose structure a value is read from.
+pub(crate) fn read_from(value: TExpr) -> Option<TPlace> {
+    match value {
+        TExpr::Read { place, .. } => Some(Box::into_inner(place)),
+        _ => None,
+    }
+}
+
 /// The place that is written by an assignment, `++` or `--` at this line.
 pub(crate) fn written(term: Term, line: u32) -> Result<TPlace, CheckError> {
     let Some(place) = into_place(term) else {

@@ -3,20 +3,12 @@
 use crate::conversion::{assigned, converted};
 use crate::error::{CheckError, Kind, refused};
 use crate::operation::{Node, compound_operator, operation_of};
-use crate::term::{Operand, Side, Term, refuse_table, value_term, written};
+use crate::term::{Operand, Side, Term, read_from, refuse_table, value_term, written};
 use crate::types::Types;
 use c_ints::{BinOp, IntTy, usual};
 use c_token::Punct;
 use c_typed::{StepOp, TExpr, TPlace, Ty};
 use std::alloc::Global;
-
-// The place whose structure a value is read from.
-fn read_from(value: TExpr) -> Option<TPlace> {
-    match value {
-        TExpr::Read { place, .. } => Some(Box::into_inner(place)),
-        _ => None,
-    }
-}
 
 /// The assignment of a structure to a structure's place.
 pub(crate) fn copied(
