@@ -54,9 +54,9 @@ pub show_expression_logical : (op : _) (left : _) (right : _) (line : _) → exp
 unfolding expression_of place_of
 show_expression_logical op left right line = ap (fold-TExpr Expression Place expression_step place_step) (sym (TExpr.rolls-Logical op left right line)) ∙ fold-roll-TExpr Expression Place expression_step place_step (Open.Logical op left right line)
 
-pub show_expression_conditional : (condition : _) (then : _) (otherwise : _) (ty : _) (line : _) → expression_of (TExpr.Conditional condition then otherwise ty line) ≡ tree.Conditional (expression_of condition.value) (expression_of then.value) (expression_of otherwise.value) ty line
+pub show_expression_conditional : (condition : _) (chosen : _) (otherwise : _) (ty : _) (line : _) → expression_of (TExpr.Conditional condition chosen otherwise ty line) ≡ tree.Conditional (expression_of condition.value) (expression_of chosen.value) (expression_of otherwise.value) ty line
 unfolding expression_of place_of
-show_expression_conditional condition then otherwise ty line = ap (fold-TExpr Expression Place expression_step place_step) (sym (TExpr.rolls-Conditional condition then otherwise ty line)) ∙ fold-roll-TExpr Expression Place expression_step place_step (Open.Conditional condition then otherwise ty line)
+show_expression_conditional condition chosen otherwise ty line = ap (fold-TExpr Expression Place expression_step place_step) (sym (TExpr.rolls-Conditional condition chosen otherwise ty line)) ∙ fold-roll-TExpr Expression Place expression_step place_step (Open.Conditional condition chosen otherwise ty line)
 
 pub show_expression_comma : (left : _) (right : _) (ty : _) (line : _) → expression_of (TExpr.Comma left right ty line) ≡ tree.Comma (expression_of left.value) (expression_of right.value) ty line
 unfolding expression_of place_of
@@ -130,9 +130,9 @@ pub show_statement_if_else : (arms : _) (last : _) (line : _) → statement_of (
 unfolding statement_of arm_of
 show_statement_if_else arms last line = ap (fold-TStmt Statement Arm statement_step arm_step) (sym (TStmt.rolls-If arms (Some last) line)) ∙ fold-roll-TStmt Statement Arm statement_step arm_step (OpenStmt.If arms (Some last) line)
 
-pub show_statement_loop : (form : _) (begin : _) (condition : _) (step : _) (body : _) (line : _) → statement_of (TStmt.Loop form begin condition step body line) ≡ tree.Loop form (option_map expression_of begin) (option_map expression_of condition) (option_map expression_of step) (statement_of body.value) line
+pub show_statement_loop : (shape : _) (begin : _) (condition : _) (step : _) (body : _) (line : _) → statement_of (TStmt.Loop shape begin condition step body line) ≡ tree.Loop shape (option_map expression_of begin) (option_map expression_of condition) (option_map expression_of step) (statement_of body.value) line
 unfolding statement_of arm_of
-show_statement_loop form begin condition step body line = ap (fold-TStmt Statement Arm statement_step arm_step) (sym (TStmt.rolls-Loop form begin condition step body line)) ∙ fold-roll-TStmt Statement Arm statement_step arm_step (OpenStmt.Loop form begin condition step body line)
+show_statement_loop shape begin condition step body line = ap (fold-TStmt Statement Arm statement_step arm_step) (sym (TStmt.rolls-Loop shape begin condition step body line)) ∙ fold-roll-TStmt Statement Arm statement_step arm_step (OpenStmt.Loop shape begin condition step body line)
 
 pub show_statement_switch : (value : _) (cases : _) (default : _) (statements : _) (line : _) → statement_of (TStmt.Switch value cases default statements line) ≡ tree.Switch (expression_of value) cases.items default (statements_of (map statement_of statements.items)) line
 unfolding statement_of arm_of

@@ -11,7 +11,7 @@ mod program;
 mod statement;
 mod types;
 
-pub use expression::{LogicalOp, Object, StepOp, TExpr, TPlace};
+pub use expression::{LogicalOp, Object, PlaceForm, StepOp, TExpr, TPlace};
 pub use folding::Folded;
 pub use program::{Function, Initial, InitialByte, RootKind, Static, Typed, Variable};
 pub use statement::{LoopForm, TArm, TCase, TItem, TStmt};
