@@ -124,12 +124,12 @@ pub statement_room_init_list : (sizes : List ℕ) (local : _) (items : _) (line 
 unfolding statement_room
 statement_room_init_list sizes local items line = ap (statement_room sizes) (show_statement_init_list local items line)
 
-pub statement_room_if_alone : (sizes : List ℕ) (arms : _) (line : _) → statement_room sizes (statement_of (TStmt.If arms None line)) ≡ max (arms_room sizes (arms_of (map arm_of arms.items))) (last_room sizes tree.NoLast)
-unfolding statement_room
+pub statement_room_if_alone : (sizes : List ℕ) (arms : _) (line : _) → statement_room sizes (statement_of (TStmt.If arms None line)) ≡ max (arms_room sizes (arms_of (map arm_of arms.items))) (0)
+unfolding statement_room last_room
 statement_room_if_alone sizes arms line = ap (statement_room sizes) (show_statement_if_alone arms line)
 
-pub statement_room_if_else : (sizes : List ℕ) (arms : _) (last : _) (line : _) → statement_room sizes (statement_of (TStmt.If arms (Some last) line)) ≡ max (arms_room sizes (arms_of (map arm_of arms.items))) (last_room sizes (tree.Last (statement_of last.value)))
-unfolding statement_room
+pub statement_room_if_else : (sizes : List ℕ) (arms : _) (last : _) (line : _) → statement_room sizes (statement_of (TStmt.If arms (Some last) line)) ≡ max (arms_room sizes (arms_of (map arm_of arms.items))) (statement_room sizes (statement_of last.value))
+unfolding statement_room last_room
 statement_room_if_else sizes arms last line = ap (statement_room sizes) (show_statement_if_else arms last line)
 
 pub statement_room_loop : (sizes : List ℕ) (shape : _) (begin : _) (condition : _) (step : _) (body : _) (line : _) → statement_room sizes (statement_of (TStmt.Loop shape begin condition step body line)) ≡ max (any_room sizes (option_map expression_of begin)) (max (any_room sizes (option_map expression_of condition)) (max (any_room sizes (option_map expression_of step)) (statement_room sizes (statement_of body.value))))

@@ -125,12 +125,12 @@ pub statement_words_init_list : (sizes locals : List ℕ) (local : _) (items : _
 unfolding statement_words
 statement_words_init_list sizes locals local items line = ap (statement_words sizes locals) (show_statement_init_list local items line)
 
-pub statement_words_if_alone : (sizes locals : List ℕ) (arms : _) (line : _) → statement_words sizes locals (statement_of (TStmt.If arms None line)) ≡ arms_words sizes locals (arms_of (map arm_of arms.items)) + last_words sizes locals tree.NoLast
-unfolding statement_words
+pub statement_words_if_alone : (sizes locals : List ℕ) (arms : _) (line : _) → statement_words sizes locals (statement_of (TStmt.If arms None line)) ≡ arms_words sizes locals (arms_of (map arm_of arms.items)) + 0
+unfolding statement_words last_words
 statement_words_if_alone sizes locals arms line = ap (statement_words sizes locals) (show_statement_if_alone arms line)
 
-pub statement_words_if_else : (sizes locals : List ℕ) (arms : _) (last : _) (line : _) → statement_words sizes locals (statement_of (TStmt.If arms (Some last) line)) ≡ arms_words sizes locals (arms_of (map arm_of arms.items)) + last_words sizes locals (tree.Last (statement_of last.value))
-unfolding statement_words
+pub statement_words_if_else : (sizes locals : List ℕ) (arms : _) (last : _) (line : _) → statement_words sizes locals (statement_of (TStmt.If arms (Some last) line)) ≡ arms_words sizes locals (arms_of (map arm_of arms.items)) + statement_words sizes locals (statement_of last.value)
+unfolding statement_words last_words
 statement_words_if_else sizes locals arms last line = ap (statement_words sizes locals) (show_statement_if_else arms last line)
 
 pub statement_words_loop : (sizes locals : List ℕ) (shape : _) (begin : _) (condition : _) (step : _) (body : _) (line : _) → statement_words sizes locals (statement_of (TStmt.Loop shape begin condition step body line)) ≡ condition_words sizes (option_map expression_of condition) + (any_words sizes (option_map expression_of begin) + (any_words sizes (option_map expression_of step) + statement_words sizes locals (statement_of body.value)))

@@ -1,0 +1,2 @@
+// Calls.
+#![tactic(auto)]
