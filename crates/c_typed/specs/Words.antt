@@ -76,7 +76,7 @@ operator_words binop.Xor constant bytes = 8 * bytes
 operator_words binop.Or constant bytes = 8 * bytes
 
 -- The number of binary digits of a number below 2 to the `fuel`.
-abbrev pub digits_within : ℕ → ℕ → ℕ
+unfoldable pub digits_within : ℕ → ℕ → ℕ
 digits_within zero n = 0
 digits_within (suc fuel) n = if nat_eq n 0 then 0 else 1 + digits_within fuel (n / 2)
 

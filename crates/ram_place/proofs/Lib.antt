@@ -1,3 +1,5 @@
 pub mod Arguments
+pub mod Digits
 pub mod Loops
 pub mod Statements
+pub mod WordLists

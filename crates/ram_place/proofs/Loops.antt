@@ -1,5 +1,5 @@
 -- Loops that add up, or take the greatest of, what each element of a list gives. `F` is what a whole list gives.
-use Rattle.std.proofs.Common.{◌≡◌, ℕ, ◌+◌, ◌<◌, ◌≤◌, ◌^◌, ◌-◌, max, min, List, [], ◌∷◌, length, get_or, drop, refl, sym, ap, ◌∙◌, arith}
+use Rattle.std.proofs.Common.{◌≡◌, ℕ, zero, suc, ◌+◌, ◌<◌, ◌≤◌, ◌^◌, ◌-◌, max, min, List, [], ◌∷◌, length, get_or, slice_index, map, drop, refl, sym, ap, ◌∙◌, arith}
 use Rattle.std.proofs.lemmas.List.{at_drop_more, drop_all}
 use Rattle.c_typed.specs.Nodes.{capped}
 
@@ -30,3 +30,9 @@ greatest count rest whole none fits so_far = omega (arith, none, fits, so_far)
 
 pub all_grown : {A : Type 0} (F : List A → ℕ) → F [] ≡ 0 → (xs : List A) (i : ℕ) (count whole : ℕ) → length xs ≤ i → (count < 2 ^ 64) × (capped (max count (F (drop i xs))) ≡ capped whole) → count ≡ capped whole
 all_grown F none xs i count whole past so_far = greatest count (F (drop i xs)) whole (ap F (drop_all i xs past) ∙ none) so_far.0 so_far.1
+
+-- what stands at an index of a list that was made from another one
+pub made_at : {A B : Type 0} (f : B → ℕ) (g : A → B) (xs : List A) (i : ℕ) (x : A) → i < length xs → x ≡ get_or xs i x → slice_index (map f (map g xs)) i ≡ f (g x)
+made_at f g [] i x lt is = omega (arith, lt)
+made_at f g (y ∷ ys) zero x lt is = ap (λ z. f (g z)) (sym is)
+made_at f g (y ∷ ys) (suc i) x lt is = made_at f g ys i x (omega (arith, lt)) is

@@ -6,3 +6,4 @@
 
 mod amount;
 mod room;
+mod words;

@@ -213,7 +213,8 @@ fn arguments_room(structures: &[Structure], arguments: &[TExpr]) -> u64
     greatest
 }
 
-fn arguments_bytes(structures: &[Structure], arguments: &[TExpr]) -> u64
+/// The bytes of the arguments of a call.
+pub fn arguments_bytes(structures: &[Structure], arguments: &[TExpr]) -> u64
     ensures { result ≡ capped (stated.arguments_bytes (map size_of structures.now) (arguments_of (map expression_of arguments.now))) }
 {
     let mut bytes = 0;
