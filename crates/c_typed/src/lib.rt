@@ -4,6 +4,7 @@
 // The promise: these end on every tree.
 #![tactic(auto)]
 
+mod calls;
 mod expression;
 mod folding;
 mod nodes;
@@ -11,6 +12,7 @@ mod program;
 mod statement;
 mod types;
 
+pub use calls::{FnId, Helper};
 pub use expression::{LogicalOp, Object, PlaceForm, StepOp, TExpr, TPlace};
 pub use folding::Folded;
 pub use program::{Function, Initial, InitialByte, RootKind, Static, Typed, Variable};
