@@ -5,10 +5,14 @@
 #![tactic(auto)]
 
 mod calls;
-
-
-
-
+mod finding;
+mod graph;
+mod levels;
+mod roots;
+mod types;
 
 pub use c_typed::{FnId, Helper};
-
+pub use finding::copies;
+pub use graph::{graph_of, number_of};
+pub use levels::reached;
+pub use types::{Copies, FnCopy, GraphError};
