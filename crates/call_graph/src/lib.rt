@@ -13,6 +13,6 @@ mod types;
 
 pub use c_typed::{FnId, Helper};
 pub use finding::copies;
-pub use graph::{graph_of, number_of};
+pub use graph::{graph_of, number_of, reversed};
 pub use levels::reached;
 pub use types::{Copies, FnCopy, GraphError};

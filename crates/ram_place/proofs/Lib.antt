@@ -2,4 +2,5 @@ pub mod Arguments
 pub mod Digits
 pub mod Loops
 pub mod Statements
+pub mod Variables
 pub mod WordLists

@@ -5,5 +5,11 @@
 #![tactic(auto)]
 
 mod amount;
+mod frame;
+mod memory;
+mod placing;
 mod room;
 mod words;
+
+pub use frame::{block_words, frame_bytes, start_words};
+pub use placing::{PlaceError, Placed, place};
