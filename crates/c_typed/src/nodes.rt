@@ -1,16 +1,24 @@
 //! How many nodes a typed tree has.
 
+ghost use Rattle.std.specs.Prelude.{◌≡◌, ◌+◌, map};
+ghost use Rattle.c_typed.specs.Nodes.{capped, total, expression_nodes, place_nodes, any_nodes, item_nodes, statement_nodes, arm_nodes, last_nodes, function_nodes, program_nodes};
+
 use crate::expression::{TExpr, TPlace};
 use crate::program::{Function, Typed};
 use crate::statement::{TArm, TItem, TStmt};
 
 // Counts add up to the greatest number there is, and no further.
-fn plus(a: u64, b: u64) -> u64 {
-    a.saturating_add(b)
+fn plus(a: u64, b: u64) -> u64
+    ensures { result ≡ capped (a + b) }
+{
+    if a <= u64::MAX - b { a + b } else { u64::MAX }
 }
 
 #[cycle(nodes)]
-fn nodes_in_expression(expr: &TExpr) -> u64 {
+#[tactic(auto, using(crate::proofs::Counts::see_expression_constant, crate::proofs::Counts::see_expression_read, crate::proofs::Counts::see_expression_address, crate::proofs::Counts::see_expression_convert, crate::proofs::Counts::see_expression_cast, crate::proofs::Counts::see_expression_unary, crate::proofs::Counts::see_expression_binary, crate::proofs::Counts::see_expression_offset, crate::proofs::Counts::see_expression_difference, crate::proofs::Counts::see_expression_logical, crate::proofs::Counts::see_expression_conditional, crate::proofs::Counts::see_expression_comma, crate::proofs::Counts::see_expression_assign, crate::proofs::Counts::see_expression_struct_assign, crate::proofs::Counts::see_expression_update, crate::proofs::Counts::see_expression_step, crate::proofs::Counts::see_expression_call))]
+fn nodes_in_expression(expr: &TExpr) -> u64
+    ensures { result ≡ capped (expression_nodes expr.now) }
+{
     match expr {
         TExpr::Constant { .. } => 1,
         TExpr::Read { place, .. } | TExpr::Address { place, .. } | TExpr::Step { place, .. } => {
@@ -47,7 +55,10 @@ fn nodes_in_expression(expr: &TExpr) -> u64 {
 }
 
 #[cycle(nodes)]
-fn nodes_in_place(place: &TPlace) -> u64 {
+#[tactic(auto, using(crate::proofs::Counts::see_place_name, crate::proofs::Counts::see_place_bit, crate::proofs::Counts::see_place_member, crate::proofs::Counts::see_place_deref))]
+fn nodes_in_place(place: &TPlace) -> u64
+    ensures { result ≡ capped (place_nodes place.now) }
+{
     match place {
         TPlace::Name { .. } | TPlace::Bit { .. } => 1,
         TPlace::Member { whole, .. } => plus(1, nodes_in_place(whole)),
@@ -56,7 +67,9 @@ fn nodes_in_place(place: &TPlace) -> u64 {
 }
 
 #[cycle(nodes)]
-fn nodes_in_arguments(arguments: &[TExpr]) -> u64 {
+fn nodes_in_arguments(arguments: &[TExpr]) -> u64
+    ensures { result ≡ capped (total (map expression_nodes arguments.now)) }
+{
     let mut count = 0;
     for argument in arguments {
         count = plus(count, nodes_in_expression(argument));
@@ -64,14 +77,18 @@ fn nodes_in_arguments(arguments: &[TExpr]) -> u64 {
     count
 }
 
-fn nodes_in_any(expr: &Option<TExpr>) -> u64 {
+fn nodes_in_any(expr: &Option<TExpr>) -> u64
+    ensures { result ≡ capped (any_nodes expr.now) }
+{
     match expr {
         Some(expr) => nodes_in_expression(expr),
         None => 0,
     }
 }
 
-fn nodes_in_item(item: &TItem) -> u64 {
+fn nodes_in_item(item: &TItem) -> u64
+    ensures { result ≡ capped (item_nodes item.now) }
+{
     match item {
         TItem::Scalar { value, .. } => nodes_in_expression(value),
         TItem::Struct { from, .. } => nodes_in_place(from),
@@ -79,7 +96,9 @@ fn nodes_in_item(item: &TItem) -> u64 {
     }
 }
 
-fn nodes_in_items(items: &[TItem]) -> u64 {
+fn nodes_in_items(items: &[TItem]) -> u64
+    ensures { result ≡ capped (total (map item_nodes items.now)) }
+{
     let mut count = 0;
     for item in items {
         count = plus(count, nodes_in_item(item));
@@ -88,7 +107,10 @@ fn nodes_in_items(items: &[TItem]) -> u64 {
 }
 
 #[cycle(nodes_of_statements)]
-fn nodes_in_statement(statement: &TStmt) -> u64 {
+#[tactic(auto, using(crate::proofs::Counts::see_statement_block, crate::proofs::Counts::see_statement_empty, crate::proofs::Counts::see_statement_expr, crate::proofs::Counts::see_statement_declare, crate::proofs::Counts::see_statement_init_scalar, crate::proofs::Counts::see_statement_init_list, crate::proofs::Counts::see_statement_if, crate::proofs::Counts::see_statement_loop, crate::proofs::Counts::see_statement_switch, crate::proofs::Counts::see_statement_break, crate::proofs::Counts::see_statement_continue, crate::proofs::Counts::see_statement_return))]
+fn nodes_in_statement(statement: &TStmt) -> u64
+    ensures { result ≡ capped (statement_nodes statement.now) }
+{
     match statement {
         TStmt::Block { statements, .. } => plus(1, nodes_in_statements(statements)),
         TStmt::Empty { .. } | TStmt::Break { .. } | TStmt::Continue { .. } => 1,
@@ -101,13 +123,7 @@ fn nodes_in_statement(statement: &TStmt) -> u64 {
             arms,
             otherwise,
             ..
-        } => {
-            let last = match otherwise {
-                Some(statement) => nodes_in_statement(statement),
-                None => 0,
-            };
-            plus(nodes_in_arms(arms), last)
-        }
+        } => { plus(nodes_in_arms(arms), nodes_in_last(otherwise)) }
         TStmt::Loop {
             begin,
             condition,
@@ -132,7 +148,19 @@ fn nodes_in_statement(statement: &TStmt) -> u64 {
 }
 
 #[cycle(nodes_of_statements)]
-fn nodes_in_statements(statements: &[TStmt]) -> u64 {
+fn nodes_in_last(last: &Option<Box<TStmt>>) -> u64
+    ensures { result ≡ capped (last_nodes last.now) }
+{
+    match last {
+        Some(statement) => nodes_in_statement(statement),
+        None => 0,
+    }
+}
+
+#[cycle(nodes_of_statements)]
+fn nodes_in_statements(statements: &[TStmt]) -> u64
+    ensures { result ≡ capped (total (map statement_nodes statements.now)) }
+{
     let mut count = 0;
     for statement in statements {
         count = plus(count, nodes_in_statement(statement));
@@ -141,7 +169,9 @@ fn nodes_in_statements(statements: &[TStmt]) -> u64 {
 }
 
 #[cycle(nodes_of_statements)]
-fn nodes_in_arms(arms: &[TArm]) -> u64 {
+fn nodes_in_arms(arms: &[TArm]) -> u64
+    ensures { result ≡ capped (total (map arm_nodes arms.now)) }
+{
     let mut count = 0;
     for arm in arms {
         count = plus(count, nodes_in_arm(arm));
@@ -150,21 +180,28 @@ fn nodes_in_arms(arms: &[TArm]) -> u64 {
 }
 
 #[cycle(nodes_of_statements)]
-fn nodes_in_arm(arm: &TArm) -> u64 {
+#[tactic(auto, using(crate::proofs::Counts::see_arm))]
+fn nodes_in_arm(arm: &TArm) -> u64
+    ensures { result ≡ capped (arm_nodes arm.now) }
+{
     plus(
         plus(1, nodes_in_expression(&arm.condition)),
         nodes_in_statement(&arm.then),
     )
 }
 
-fn nodes_in_function(function: &Function) -> u64 {
+fn nodes_in_function(function: &Function) -> u64
+    ensures { result ≡ capped (function_nodes function.now) }
+{
     plus(1, nodes_in_statements(&function.body))
 }
 
 impl Typed {
     /// How many nodes the program has: each expression, place and statement, each arm of an `if`, each
     /// case label, and each function. A number of 2 to 64 or more is told as one less.
-    pub fn nodes(&self) -> u64 {
+    pub fn nodes(&self) -> u64
+        ensures { result ≡ capped (program_nodes self.now) }
+    {
         let mut count = 0;
         for function in &self.functions {
             count = plus(count, nodes_in_function(function));

@@ -12,6 +12,9 @@ type Case = (&'static [u8], Option<(Kind, u32)>);
 
 /// What the checker says of a text.
 fn checked(alloc: Global, text: &[u8]) -> Result<Result<Typed, CheckError>, Fail> {
+    if text.len() > 262_144 {
+        return Ok(Err(CheckError::NoMemory));
+    }
     let raw = raw(alloc, text)?;
     let toks = tokens(alloc, text, &raw)?;
     let unit = parse(alloc, text, &toks)?;
