@@ -1,5 +1,6 @@
 pub mod Arguments
 pub mod Digits
+pub mod FreeRuns
 pub mod Loops
 pub mod Statements
 pub mod Variables
