@@ -14,7 +14,58 @@ use Rattle.c_typed.specs.declared.statement.TStmt.TheVariants as TStmt
 use Rattle.c_typed.specs.declared.statement.TStmt.TheViews.{out-TArm}
 use Rattle.c_typed.specs.declared.types.Ty.TheVariants.{Void, Int}
 use Rattle.c_typed.specs.Types.{type_bytes, value_bytes, place_bytes, form_of}
-use Rattle.c_typed.specs.Room.{read_room, unary_room, binary_room, assign_room, struct_room, update_room, local_room, switch_room, room, place_room, arguments_room, arguments_bytes, any_room, items_room, statement_room, statements_room, arm_room, arms_room, last_room}
+use Rattle.c_typed.specs.Room.{read_room, unary_room, binary_room, assign_room, struct_room, update_room, local_room, switch_room, node_room, room, place_room, arguments_room, arguments_bytes, any_room, items_room, statement_room, statements_room, arm_room, arms_room, last_room}
+
+pub node_room_constant : (sizes : List ℕ) (value : _) (line : _) (first second third : ℕ) → node_room sizes (expression_of (TExpr.Constant value line)) first second third ≡ bytes_of value.ty
+node_room_constant sizes value line first second third = ap (λ e. node_room sizes e first second third) (show_expression_constant value line)
+
+pub node_room_read : (sizes : List ℕ) (place : _) (ty : _) (line : _) (first second third : ℕ) → node_room sizes (expression_of (TExpr.Read place ty line)) first second third ≡ read_room first (form_of (place_of place.value)) (type_bytes sizes ty)
+node_room_read sizes place ty line first second third = ap (λ e. node_room sizes e first second third) (show_expression_read place ty line)
+
+pub node_room_address : (sizes : List ℕ) (place : _) (ty : _) (line : _) (first second third : ℕ) → node_room sizes (expression_of (TExpr.Address place ty line)) first second third ≡ max first 2
+node_room_address sizes place ty line first second third = ap (λ e. node_room sizes e first second third) (show_expression_address place ty line)
+
+pub node_room_convert : (sizes : List ℕ) (operand : _) (ty : _) (line : _) (first second third : ℕ) → node_room sizes (expression_of (TExpr.Convert operand ty line)) first second third ≡ max first (value_bytes sizes (expression_of operand.value) + type_bytes sizes ty)
+node_room_convert sizes operand ty line first second third = ap (λ e. node_room sizes e first second third) (show_expression_convert operand ty line)
+
+pub node_room_cast : (sizes : List ℕ) (operand : _) (ty : _) (line : _) (first second third : ℕ) → node_room sizes (expression_of (TExpr.Cast operand ty line)) first second third ≡ max first (value_bytes sizes (expression_of operand.value) + type_bytes sizes ty)
+node_room_cast sizes operand ty line first second third = ap (λ e. node_room sizes e first second third) (show_expression_cast operand ty line)
+
+pub node_room_unary : (sizes : List ℕ) (op : _) (operand : _) (ty : _) (line : _) (first second third : ℕ) → node_room sizes (expression_of (TExpr.Unary op operand ty line)) first second third ≡ unary_room op first (value_bytes sizes (expression_of operand.value)) (type_bytes sizes ty)
+node_room_unary sizes op operand ty line first second third = ap (λ e. node_room sizes e first second third) (show_expression_unary op operand ty line)
+
+pub node_room_binary : (sizes : List ℕ) (op : _) (left : _) (right : _) (ty : _) (line : _) (first second third : ℕ) → node_room sizes (expression_of (TExpr.Binary op left right ty line)) first second third ≡ binary_room first (value_bytes sizes (expression_of left.value)) second (value_bytes sizes (expression_of right.value)) (type_bytes sizes ty)
+node_room_binary sizes op left right ty line first second third = ap (λ e. node_room sizes e first second third) (show_expression_binary op left right ty line)
+
+pub node_room_offset : (sizes : List ℕ) (op : _) (left : _) (right : _) (size : _) (ty : _) (line : _) (first second third : ℕ) → node_room sizes (expression_of (TExpr.Offset op left right size ty line)) first second third ≡ binary_room first (value_bytes sizes (expression_of left.value)) second (value_bytes sizes (expression_of right.value)) (type_bytes sizes ty)
+node_room_offset sizes op left right size ty line first second third = ap (λ e. node_room sizes e first second third) (show_expression_offset op left right size ty line)
+
+pub node_room_difference : (sizes : List ℕ) (left : _) (right : _) (size : _) (line : _) (first second third : ℕ) → node_room sizes (expression_of (TExpr.Difference left right size line)) first second third ≡ binary_room first (value_bytes sizes (expression_of left.value)) second (value_bytes sizes (expression_of right.value)) 2
+node_room_difference sizes left right size line first second third = ap (λ e. node_room sizes e first second third) (show_expression_difference left right size line)
+
+pub node_room_logical : (sizes : List ℕ) (op : _) (left : _) (right : _) (line : _) (first second third : ℕ) → node_room sizes (expression_of (TExpr.Logical op left right line)) first second third ≡ max first (max second 2)
+node_room_logical sizes op left right line first second third = ap (λ e. node_room sizes e first second third) (show_expression_logical op left right line)
+
+pub node_room_conditional : (sizes : List ℕ) (condition : _) (chosen : _) (otherwise : _) (ty : _) (line : _) (first second third : ℕ) → node_room sizes (expression_of (TExpr.Conditional condition chosen otherwise ty line)) first second third ≡ max first (max second third)
+node_room_conditional sizes condition chosen otherwise ty line first second third = ap (λ e. node_room sizes e first second third) (show_expression_conditional condition chosen otherwise ty line)
+
+pub node_room_comma : (sizes : List ℕ) (left : _) (right : _) (ty : _) (line : _) (first second third : ℕ) → node_room sizes (expression_of (TExpr.Comma left right ty line)) first second third ≡ max first second
+node_room_comma sizes left right ty line first second third = ap (λ e. node_room sizes e first second third) (show_expression_comma left right ty line)
+
+pub node_room_assign : (sizes : List ℕ) (place : _) (value : _) (ty : _) (line : _) (first second third : ℕ) → node_room sizes (expression_of (TExpr.Assign place value ty line)) first second third ≡ assign_room first (form_of (place_of place.value)) second (value_bytes sizes (expression_of value.value))
+node_room_assign sizes place value ty line first second third = ap (λ e. node_room sizes e first second third) (show_expression_assign place value ty line)
+
+pub node_room_struct_assign : (sizes : List ℕ) (place : _) (from : _) (size : _) (line : _) (first second third : ℕ) → node_room sizes (expression_of (TExpr.StructAssign place from size line)) first second third ≡ struct_room first (form_of (place_of place.value)) second (form_of (place_of from.value))
+node_room_struct_assign sizes place from size line first second third = ap (λ e. node_room sizes e first second third) (show_expression_struct_assign place from size line)
+
+pub node_room_update : (sizes : List ℕ) (op : _) (place : _) (value : _) (operation : _) (size : _) (ty : _) (line : _) (first second third : ℕ) → node_room sizes (expression_of (TExpr.Update op place value operation size ty line)) first second third ≡ update_room first (form_of (place_of place.value)) (place_bytes sizes (place_of place.value)) second (value_bytes sizes (expression_of value.value)) (type_bytes sizes operation)
+node_room_update sizes op place value operation size ty line first second third = ap (λ e. node_room sizes e first second third) (show_expression_update op place value operation size ty line)
+
+pub node_room_step : (sizes : List ℕ) (op : _) (place : _) (operation : _) (size : _) (ty : _) (line : _) (first second third : ℕ) → node_room sizes (expression_of (TExpr.Step op place operation size ty line)) first second third ≡ update_room first (form_of (place_of place.value)) (place_bytes sizes (place_of place.value)) 2 2 (type_bytes sizes operation)
+node_room_step sizes op place operation size ty line first second third = ap (λ e. node_room sizes e first second third) (show_expression_step op place operation size ty line)
+
+pub node_room_call : (sizes : List ℕ) (function : _) (arguments : _) (ty : _) (line : _) (first second third : ℕ) → node_room sizes (expression_of (TExpr.Call function arguments ty line)) first second third ≡ max first (max (arguments_bytes sizes (arguments_of (map expression_of arguments.items))) (type_bytes sizes ty))
+node_room_call sizes function arguments ty line first second third = ap (λ e. node_room sizes e first second third) (show_expression_call function arguments ty line)
 
 pub room_constant : (sizes : List ℕ) (value : _) (line : _) → room sizes (expression_of (TExpr.Constant value line)) ≡ bytes_of value.ty
 unfolding room
@@ -155,6 +206,8 @@ statement_room_return sizes value line = ap (statement_room sizes) (show_stateme
 pub arm_room_one : (sizes : List ℕ) (arm : TArm) → arm_room sizes (arm_of arm) ≡ max (room sizes (expression_of (out-TArm arm).condition)) (statement_room sizes (statement_of (out-TArm arm).then))
 unfolding arm_room
 arm_room_one sizes arm = ap (arm_room sizes) (show_arm arm)
+
+pub ruleset node_rooms = (node_room_constant, node_room_read, node_room_address, node_room_convert, node_room_cast, node_room_unary, node_room_binary, node_room_offset, node_room_difference, node_room_logical, node_room_conditional, node_room_comma, node_room_assign, node_room_struct_assign, node_room_update, node_room_step, node_room_call)
 
 pub ruleset rooms = (room_constant, room_read, room_address, room_convert, room_cast, room_unary, room_binary, room_offset, room_difference, room_logical, room_conditional, room_comma, room_assign, room_struct_assign, room_update, room_step, room_call)
 

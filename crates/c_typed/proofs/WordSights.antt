@@ -15,7 +15,58 @@ use Rattle.c_typed.specs.declared.statement.TStmt.TheViews.{out-TArm}
 use Rattle.c_typed.specs.declared.types.Ty.TheVariants.{Void, Int}
 use Rattle.c_typed.specs.Types.{type_bytes, value_bytes, place_bytes, form_of, is_constant}
 use Rattle.c_typed.specs.Room.{arguments_bytes}
-use Rattle.c_typed.specs.Words.{read_words, store_words, address_words, member_words, convert_words, unary_words, operator_words, offset_words, difference_words, struct_words, update_words, step_words, condition_words, any_words, any_bytes, items_words, items_bytes, cases_words, words, place_words, arguments_words, statement_words, statements_words, arm_words, arms_words, last_words}
+use Rattle.c_typed.specs.Words.{read_words, store_words, address_words, member_words, convert_words, unary_words, operator_words, offset_words, difference_words, struct_words, update_words, step_words, condition_words, any_words, any_bytes, items_words, items_bytes, cases_words, own_words, words, place_words, arguments_words, statement_words, statements_words, arm_words, arms_words, last_words}
+
+pub own_words_constant : (sizes : List ℕ) (value : _) (line : _) → own_words sizes (expression_of (TExpr.Constant value line)) ≡ 4 * bytes_of value.ty
+own_words_constant sizes value line = ap (own_words sizes) (show_expression_constant value line)
+
+pub own_words_read : (sizes : List ℕ) (place : _) (ty : _) (line : _) → own_words sizes (expression_of (TExpr.Read place ty line)) ≡ read_words (form_of (place_of place.value)) (type_bytes sizes ty)
+own_words_read sizes place ty line = ap (own_words sizes) (show_expression_read place ty line)
+
+pub own_words_address : (sizes : List ℕ) (place : _) (ty : _) (line : _) → own_words sizes (expression_of (TExpr.Address place ty line)) ≡ address_words (form_of (place_of place.value))
+own_words_address sizes place ty line = ap (own_words sizes) (show_expression_address place ty line)
+
+pub own_words_convert : (sizes : List ℕ) (operand : _) (ty : _) (line : _) → own_words sizes (expression_of (TExpr.Convert operand ty line)) ≡ convert_words (value_bytes sizes (expression_of operand.value)) (type_bytes sizes ty)
+own_words_convert sizes operand ty line = ap (own_words sizes) (show_expression_convert operand ty line)
+
+pub own_words_cast : (sizes : List ℕ) (operand : _) (ty : _) (line : _) → own_words sizes (expression_of (TExpr.Cast operand ty line)) ≡ convert_words (value_bytes sizes (expression_of operand.value)) (type_bytes sizes ty)
+own_words_cast sizes operand ty line = ap (own_words sizes) (show_expression_cast operand ty line)
+
+pub own_words_unary : (sizes : List ℕ) (op : _) (operand : _) (ty : _) (line : _) → own_words sizes (expression_of (TExpr.Unary op operand ty line)) ≡ unary_words op (value_bytes sizes (expression_of operand.value)) (type_bytes sizes ty)
+own_words_unary sizes op operand ty line = ap (own_words sizes) (show_expression_unary op operand ty line)
+
+pub own_words_binary : (sizes : List ℕ) (op : _) (left : _) (right : _) (ty : _) (line : _) → own_words sizes (expression_of (TExpr.Binary op left right ty line)) ≡ operator_words op (is_constant (expression_of right.value)) (value_bytes sizes (expression_of left.value))
+own_words_binary sizes op left right ty line = ap (own_words sizes) (show_expression_binary op left right ty line)
+
+pub own_words_offset : (sizes : List ℕ) (op : _) (left : _) (right : _) (size : _) (ty : _) (line : _) → own_words sizes (expression_of (TExpr.Offset op left right size ty line)) ≡ offset_words size
+own_words_offset sizes op left right size ty line = ap (own_words sizes) (show_expression_offset op left right size ty line)
+
+pub own_words_difference : (sizes : List ℕ) (left : _) (right : _) (size : _) (line : _) → own_words sizes (expression_of (TExpr.Difference left right size line)) ≡ difference_words size
+own_words_difference sizes left right size line = ap (own_words sizes) (show_expression_difference left right size line)
+
+pub own_words_logical : (sizes : List ℕ) (op : _) (left : _) (right : _) (line : _) → own_words sizes (expression_of (TExpr.Logical op left right line)) ≡ 4 * value_bytes sizes (expression_of left.value) + 4 * value_bytes sizes (expression_of right.value) + 30
+own_words_logical sizes op left right line = ap (own_words sizes) (show_expression_logical op left right line)
+
+pub own_words_conditional : (sizes : List ℕ) (condition : _) (chosen : _) (otherwise : _) (ty : _) (line : _) → own_words sizes (expression_of (TExpr.Conditional condition chosen otherwise ty line)) ≡ 4 * value_bytes sizes (expression_of condition.value) + 20
+own_words_conditional sizes condition chosen otherwise ty line = ap (own_words sizes) (show_expression_conditional condition chosen otherwise ty line)
+
+pub own_words_comma : (sizes : List ℕ) (left : _) (right : _) (ty : _) (line : _) → own_words sizes (expression_of (TExpr.Comma left right ty line)) ≡ 0
+own_words_comma sizes left right ty line = ap (own_words sizes) (show_expression_comma left right ty line)
+
+pub own_words_assign : (sizes : List ℕ) (place : _) (value : _) (ty : _) (line : _) → own_words sizes (expression_of (TExpr.Assign place value ty line)) ≡ store_words (form_of (place_of place.value)) (type_bytes sizes ty)
+own_words_assign sizes place value ty line = ap (own_words sizes) (show_expression_assign place value ty line)
+
+pub own_words_struct_assign : (sizes : List ℕ) (place : _) (from : _) (size : _) (line : _) → own_words sizes (expression_of (TExpr.StructAssign place from size line)) ≡ struct_words (form_of (place_of place.value)) (form_of (place_of from.value)) size
+own_words_struct_assign sizes place from size line = ap (own_words sizes) (show_expression_struct_assign place from size line)
+
+pub own_words_update : (sizes : List ℕ) (op : _) (place : _) (value : _) (operation : _) (size : _) (ty : _) (line : _) → own_words sizes (expression_of (TExpr.Update op place value operation size ty line)) ≡ update_words op (is_constant (expression_of value.value)) (form_of (place_of place.value)) (place_bytes sizes (place_of place.value)) operation (type_bytes sizes operation) size
+own_words_update sizes op place value operation size ty line = ap (own_words sizes) (show_expression_update op place value operation size ty line)
+
+pub own_words_step : (sizes : List ℕ) (op : _) (place : _) (operation : _) (size : _) (ty : _) (line : _) → own_words sizes (expression_of (TExpr.Step op place operation size ty line)) ≡ step_words op (form_of (place_of place.value)) (place_bytes sizes (place_of place.value)) operation (type_bytes sizes operation) size
+own_words_step sizes op place operation size ty line = ap (own_words sizes) (show_expression_step op place operation size ty line)
+
+pub own_words_call : (sizes : List ℕ) (function : _) (arguments : _) (ty : _) (line : _) → own_words sizes (expression_of (TExpr.Call function arguments ty line)) ≡ 6 * arguments_bytes sizes (arguments_of (map expression_of arguments.items)) + 6 * type_bytes sizes ty + 6
+own_words_call sizes function arguments ty line = ap (own_words sizes) (show_expression_call function arguments ty line)
 
 pub words_constant : (sizes : List ℕ) (value : _) (line : _) → words sizes (expression_of (TExpr.Constant value line)) ≡ 4 * bytes_of value.ty
 unfolding words
@@ -61,7 +112,7 @@ pub words_conditional : (sizes : List ℕ) (condition : _) (chosen : _) (otherwi
 unfolding words
 words_conditional sizes condition chosen otherwise ty line = ap (words sizes) (show_expression_conditional condition chosen otherwise ty line)
 
-pub words_comma : (sizes : List ℕ) (left : _) (right : _) (ty : _) (line : _) → words sizes (expression_of (TExpr.Comma left right ty line)) ≡ words sizes (expression_of left.value) + words sizes (expression_of right.value)
+pub words_comma : (sizes : List ℕ) (left : _) (right : _) (ty : _) (line : _) → words sizes (expression_of (TExpr.Comma left right ty line)) ≡ 0 + (words sizes (expression_of left.value) + words sizes (expression_of right.value))
 unfolding words
 words_comma sizes left right ty line = ap (words sizes) (show_expression_comma left right ty line)
 
@@ -156,6 +207,8 @@ statement_words_return sizes locals value line = ap (statement_words sizes local
 pub arm_words_one : (sizes locals : List ℕ) (arm : TArm) → arm_words sizes locals (arm_of arm) ≡ 4 * value_bytes sizes (expression_of (out-TArm arm).condition) + 20 + (words sizes (expression_of (out-TArm arm).condition) + statement_words sizes locals (statement_of (out-TArm arm).then))
 unfolding arm_words
 arm_words_one sizes locals arm = ap (arm_words sizes locals) (show_arm arm)
+
+pub ruleset own_words_of = (own_words_constant, own_words_read, own_words_address, own_words_convert, own_words_cast, own_words_unary, own_words_binary, own_words_offset, own_words_difference, own_words_logical, own_words_conditional, own_words_comma, own_words_assign, own_words_struct_assign, own_words_update, own_words_step, own_words_call)
 
 pub ruleset words_of = (words_constant, words_read, words_address, words_convert, words_cast, words_unary, words_binary, words_offset, words_difference, words_logical, words_conditional, words_comma, words_assign, words_struct_assign, words_update, words_step, words_call)
 

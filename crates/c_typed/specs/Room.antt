@@ -39,26 +39,51 @@ struct_room place form from from_form = max place (max (address_bytes form + fro
 abbrev pub update_room : ℕ → PlaceForm → ℕ → ℕ → ℕ → ℕ → ℕ
 update_room place form place_bytes value value_bytes operation = max place (max (address_bytes form + value) (address_bytes form + value_bytes + place_bytes + 3 * operation + 2))
 
+-- the bytes of the arguments of a call
+abbrev pub arguments_bytes : List ℕ → Expressions → ℕ
+arguments_bytes sizes tree.NoExpression = 0
+arguments_bytes sizes (tree.AndExpression e es) = value_bytes sizes e + arguments_bytes sizes es
+
+-- The temporary bytes of an expression, from those of its parts in their order.
+abbrev pub node_room : List ℕ → Expression → ℕ → ℕ → ℕ → ℕ
+node_room sizes (tree.Constant value line) first second third = bytes_of value.ty
+node_room sizes (tree.Read place ty line) first second third = read_room first (form_of place) (type_bytes sizes ty)
+node_room sizes (tree.Address place ty line) first second third = max first 2
+node_room sizes (tree.Convert operand ty line) first second third = max first (value_bytes sizes operand + type_bytes sizes ty)
+node_room sizes (tree.Cast operand ty line) first second third = max first (value_bytes sizes operand + type_bytes sizes ty)
+node_room sizes (tree.Unary op operand ty line) first second third = unary_room op first (value_bytes sizes operand) (type_bytes sizes ty)
+node_room sizes (tree.Binary op left right ty line) first second third = binary_room first (value_bytes sizes left) second (value_bytes sizes right) (type_bytes sizes ty)
+node_room sizes (tree.Offset op left right size ty line) first second third = binary_room first (value_bytes sizes left) second (value_bytes sizes right) (type_bytes sizes ty)
+node_room sizes (tree.Difference left right size line) first second third = binary_room first (value_bytes sizes left) second (value_bytes sizes right) 2
+node_room sizes (tree.Logical op left right line) first second third = max first (max second 2)
+node_room sizes (tree.Conditional condition chosen otherwise ty line) first second third = max first (max second third)
+node_room sizes (tree.Comma left right ty line) first second third = max first second
+node_room sizes (tree.Assign place value ty line) first second third = assign_room first (form_of place) second (value_bytes sizes value)
+node_room sizes (tree.StructAssign place from size line) first second third = struct_room first (form_of place) second (form_of from)
+node_room sizes (tree.Update op place value operation size ty line) first second third = update_room first (form_of place) (place_bytes sizes place) second (value_bytes sizes value) (type_bytes sizes operation)
+node_room sizes (tree.Step op place operation size ty line) first second third = update_room first (form_of place) (place_bytes sizes place) 2 2 (type_bytes sizes operation)
+node_room sizes (tree.Call function arguments ty line) first second third = max first (max (arguments_bytes sizes arguments) (type_bytes sizes ty))
+
 unfoldable mutual
   -- the temporary bytes of an expression
   pub room : List ℕ → Expression → ℕ
-  room sizes (tree.Constant value line) = bytes_of value.ty
-  room sizes (tree.Read place ty line) = read_room (place_room sizes place) (form_of place) (type_bytes sizes ty)
-  room sizes (tree.Address place ty line) = max (place_room sizes place) 2
-  room sizes (tree.Convert operand ty line) = max (room sizes operand) (value_bytes sizes operand + type_bytes sizes ty)
-  room sizes (tree.Cast operand ty line) = max (room sizes operand) (value_bytes sizes operand + type_bytes sizes ty)
-  room sizes (tree.Unary op operand ty line) = unary_room op (room sizes operand) (value_bytes sizes operand) (type_bytes sizes ty)
-  room sizes (tree.Binary op left right ty line) = binary_room (room sizes left) (value_bytes sizes left) (room sizes right) (value_bytes sizes right) (type_bytes sizes ty)
-  room sizes (tree.Offset op left right size ty line) = binary_room (room sizes left) (value_bytes sizes left) (room sizes right) (value_bytes sizes right) (type_bytes sizes ty)
-  room sizes (tree.Difference left right size line) = binary_room (room sizes left) (value_bytes sizes left) (room sizes right) (value_bytes sizes right) 2
-  room sizes (tree.Logical op left right line) = max (room sizes left) (max (room sizes right) 2)
-  room sizes (tree.Conditional condition chosen otherwise ty line) = max (room sizes condition) (max (room sizes chosen) (room sizes otherwise))
-  room sizes (tree.Comma left right ty line) = max (room sizes left) (room sizes right)
-  room sizes (tree.Assign place value ty line) = assign_room (place_room sizes place) (form_of place) (room sizes value) (value_bytes sizes value)
-  room sizes (tree.StructAssign place from size line) = struct_room (place_room sizes place) (form_of place) (place_room sizes from) (form_of from)
-  room sizes (tree.Update op place value operation size ty line) = update_room (place_room sizes place) (form_of place) (place_bytes sizes place) (room sizes value) (value_bytes sizes value) (type_bytes sizes operation)
-  room sizes (tree.Step op place operation size ty line) = update_room (place_room sizes place) (form_of place) (place_bytes sizes place) 2 2 (type_bytes sizes operation)
-  room sizes (tree.Call function arguments ty line) = max (arguments_room sizes 0 arguments) (max (arguments_bytes sizes arguments) (type_bytes sizes ty))
+  room sizes (tree.Constant value line) = node_room sizes (tree.Constant value line) 0 0 0
+  room sizes (tree.Read place ty line) = node_room sizes (tree.Read place ty line) (place_room sizes place) 0 0
+  room sizes (tree.Address place ty line) = node_room sizes (tree.Address place ty line) (place_room sizes place) 0 0
+  room sizes (tree.Convert operand ty line) = node_room sizes (tree.Convert operand ty line) (room sizes operand) 0 0
+  room sizes (tree.Cast operand ty line) = node_room sizes (tree.Cast operand ty line) (room sizes operand) 0 0
+  room sizes (tree.Unary op operand ty line) = node_room sizes (tree.Unary op operand ty line) (room sizes operand) 0 0
+  room sizes (tree.Binary op left right ty line) = node_room sizes (tree.Binary op left right ty line) (room sizes left) (room sizes right) 0
+  room sizes (tree.Offset op left right size ty line) = node_room sizes (tree.Offset op left right size ty line) (room sizes left) (room sizes right) 0
+  room sizes (tree.Difference left right size line) = node_room sizes (tree.Difference left right size line) (room sizes left) (room sizes right) 0
+  room sizes (tree.Logical op left right line) = node_room sizes (tree.Logical op left right line) (room sizes left) (room sizes right) 0
+  room sizes (tree.Conditional condition chosen otherwise ty line) = node_room sizes (tree.Conditional condition chosen otherwise ty line) (room sizes condition) (room sizes chosen) (room sizes otherwise)
+  room sizes (tree.Comma left right ty line) = node_room sizes (tree.Comma left right ty line) (room sizes left) (room sizes right) 0
+  room sizes (tree.Assign place value ty line) = node_room sizes (tree.Assign place value ty line) (place_room sizes place) (room sizes value) 0
+  room sizes (tree.StructAssign place from size line) = node_room sizes (tree.StructAssign place from size line) (place_room sizes place) (place_room sizes from) 0
+  room sizes (tree.Update op place value operation size ty line) = node_room sizes (tree.Update op place value operation size ty line) (place_room sizes place) (room sizes value) 0
+  room sizes (tree.Step op place operation size ty line) = node_room sizes (tree.Step op place operation size ty line) (place_room sizes place) 0 0
+  room sizes (tree.Call function arguments ty line) = node_room sizes (tree.Call function arguments ty line) (arguments_room sizes 0 arguments) 0 0
 
   -- those that finding a place takes
   pub place_room : List ℕ → Place → ℕ
@@ -71,10 +96,6 @@ unfoldable mutual
   pub arguments_room : List ℕ → ℕ → Expressions → ℕ
   arguments_room sizes before tree.NoExpression = 0
   arguments_room sizes before (tree.AndExpression e es) = max (before + room sizes e) (arguments_room sizes (before + value_bytes sizes e) es)
-
-  pub arguments_bytes : List ℕ → Expressions → ℕ
-  arguments_bytes sizes tree.NoExpression = 0
-  arguments_bytes sizes (tree.AndExpression e es) = value_bytes sizes e + arguments_bytes sizes es
 
 abbrev pub any_room : List ℕ → Option Expression → ℕ
 any_room sizes None = 0

@@ -131,26 +131,46 @@ kept_words PostDecrement place = 6 * place
 abbrev pub step_words : StepOp → PlaceForm → ℕ → Ty → ℕ → ℕ → ℕ
 step_words op form place operation bytes size = update_words (step_operator op) true form place operation bytes size + kept_words op place + 8
 
+-- The words of an expression without its parts.
+abbrev pub own_words : List ℕ → Expression → ℕ
+own_words sizes (tree.Constant value line) = 4 * bytes_of value.ty
+own_words sizes (tree.Read place ty line) = read_words (form_of place) (type_bytes sizes ty)
+own_words sizes (tree.Address place ty line) = address_words (form_of place)
+own_words sizes (tree.Convert operand ty line) = convert_words (value_bytes sizes operand) (type_bytes sizes ty)
+own_words sizes (tree.Cast operand ty line) = convert_words (value_bytes sizes operand) (type_bytes sizes ty)
+own_words sizes (tree.Unary op operand ty line) = unary_words op (value_bytes sizes operand) (type_bytes sizes ty)
+own_words sizes (tree.Binary op left right ty line) = operator_words op (is_constant right) (value_bytes sizes left)
+own_words sizes (tree.Offset op left right size ty line) = offset_words size
+own_words sizes (tree.Difference left right size line) = difference_words size
+own_words sizes (tree.Logical op left right line) = 4 * value_bytes sizes left + 4 * value_bytes sizes right + 30
+own_words sizes (tree.Conditional condition chosen otherwise ty line) = 4 * value_bytes sizes condition + 20
+own_words sizes (tree.Comma left right ty line) = 0
+own_words sizes (tree.Assign place value ty line) = store_words (form_of place) (type_bytes sizes ty)
+own_words sizes (tree.StructAssign place from size line) = struct_words (form_of place) (form_of from) size
+own_words sizes (tree.Update op place value operation size ty line) = update_words op (is_constant value) (form_of place) (place_bytes sizes place) operation (type_bytes sizes operation) size
+own_words sizes (tree.Step op place operation size ty line) = step_words op (form_of place) (place_bytes sizes place) operation (type_bytes sizes operation) size
+own_words sizes (tree.Call function arguments ty line) = 6 * arguments_bytes sizes arguments + 6 * type_bytes sizes ty + 6
+
 unfoldable mutual
   -- the words of an expression with its parts
   pub words : List ℕ → Expression → ℕ
-  words sizes (tree.Constant value line) = 4 * bytes_of value.ty
-  words sizes (tree.Read place ty line) = read_words (form_of place) (type_bytes sizes ty) + place_words sizes place
-  words sizes (tree.Address place ty line) = address_words (form_of place) + place_words sizes place
-  words sizes (tree.Convert operand ty line) = convert_words (value_bytes sizes operand) (type_bytes sizes ty) + words sizes operand
-  words sizes (tree.Cast operand ty line) = convert_words (value_bytes sizes operand) (type_bytes sizes ty) + words sizes operand
-  words sizes (tree.Unary op operand ty line) = unary_words op (value_bytes sizes operand) (type_bytes sizes ty) + words sizes operand
-  words sizes (tree.Binary op left right ty line) = operator_words op (is_constant right) (value_bytes sizes left) + (words sizes left + words sizes right)
-  words sizes (tree.Offset op left right size ty line) = offset_words size + (words sizes left + words sizes right)
-  words sizes (tree.Difference left right size line) = difference_words size + (words sizes left + words sizes right)
-  words sizes (tree.Logical op left right line) = 4 * value_bytes sizes left + 4 * value_bytes sizes right + 30 + (words sizes left + words sizes right)
-  words sizes (tree.Conditional condition chosen otherwise ty line) = 4 * value_bytes sizes condition + 20 + (words sizes condition + (words sizes chosen + words sizes otherwise))
-  words sizes (tree.Comma left right ty line) = words sizes left + words sizes right
-  words sizes (tree.Assign place value ty line) = store_words (form_of place) (type_bytes sizes ty) + (place_words sizes place + words sizes value)
-  words sizes (tree.StructAssign place from size line) = struct_words (form_of place) (form_of from) size + (place_words sizes place + place_words sizes from)
-  words sizes (tree.Update op place value operation size ty line) = update_words op (is_constant value) (form_of place) (place_bytes sizes place) operation (type_bytes sizes operation) size + (place_words sizes place + words sizes value)
-  words sizes (tree.Step op place operation size ty line) = step_words op (form_of place) (place_bytes sizes place) operation (type_bytes sizes operation) size + place_words sizes place
-  words sizes (tree.Call function arguments ty line) = 6 * arguments_bytes sizes arguments + 6 * type_bytes sizes ty + 6 + arguments_words sizes arguments
+  words sizes (tree.Constant value line) = own_words sizes (tree.Constant value line)
+  words sizes (tree.Read place ty line) = own_words sizes (tree.Read place ty line) + place_words sizes place
+  words sizes (tree.Address place ty line) = own_words sizes (tree.Address place ty line) + place_words sizes place
+  words sizes (tree.Convert operand ty line) = own_words sizes (tree.Convert operand ty line) + words sizes operand
+  words sizes (tree.Cast operand ty line) = own_words sizes (tree.Cast operand ty line) + words sizes operand
+  words sizes (tree.Unary op operand ty line) = own_words sizes (tree.Unary op operand ty line) + words sizes operand
+  words sizes (tree.Binary op left right ty line) = own_words sizes (tree.Binary op left right ty line) + (words sizes left + words sizes right)
+  words sizes (tree.Offset op left right size ty line) = own_words sizes (tree.Offset op left right size ty line) + (words sizes left + words sizes right)
+  words sizes (tree.Difference left right size line) = own_words sizes (tree.Difference left right size line) + (words sizes left + words sizes right)
+  words sizes (tree.Logical op left right line) = own_words sizes (tree.Logical op left right line) + (words sizes left + words sizes right)
+  words sizes (tree.Conditional condition chosen otherwise ty line) = own_words sizes (tree.Conditional condition chosen otherwise ty line) + (words sizes condition + (words sizes chosen + words sizes otherwise))
+  words sizes (tree.Comma left right ty line) = own_words sizes (tree.Comma left right ty line) + (words sizes left + words sizes right)
+  words sizes (tree.Assign place value ty line) = own_words sizes (tree.Assign place value ty line) + (place_words sizes place + words sizes value)
+  words sizes (tree.StructAssign place from size line) = own_words sizes (tree.StructAssign place from size line) + (place_words sizes place + place_words sizes from)
+  words sizes (tree.Update op place value operation size ty line) = own_words sizes (tree.Update op place value operation size ty line) + (place_words sizes place + words sizes value)
+  words sizes (tree.Step op place operation size ty line) = own_words sizes (tree.Step op place operation size ty line) + place_words sizes place
+  words sizes (tree.Call function arguments ty line) = own_words sizes (tree.Call function arguments ty line) + arguments_words sizes arguments
 
   pub place_words : List ℕ → Place → ℕ
   place_words sizes (tree.Name object ty line) = 0

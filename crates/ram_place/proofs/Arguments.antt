@@ -17,11 +17,9 @@ abbrev pub expression_bytes : List ℕ → TExpr → ℕ
 expression_bytes sizes e = value_bytes sizes (expression_of e)
 
 pub bytes_none : (sizes : List ℕ) → bytes_in sizes [] ≡ 0
-unfolding arguments_bytes
 bytes_none sizes = refl
 
 pub bytes_more : (sizes : List ℕ) (e : TExpr) (es : List TExpr) → bytes_in sizes (e ∷ es) ≡ expression_bytes sizes e + bytes_in sizes es
-unfolding arguments_bytes
 bytes_more sizes e es = refl
 
 -- the temporary bytes of some arguments behind others

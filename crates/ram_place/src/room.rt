@@ -85,29 +85,30 @@ fn update_room(
     most(place, most(plus(address, value), plus(plus(kept, times(3, operation)), 2)))
 }
 
-/// The temporary bytes of an expression.
-#[cycle(room)]
-#[tactic(auto, using(c_typed::proofs::RoomSights::rooms))]
-pub fn room(structures: &[Structure], expr: &TExpr) -> u64
-    ensures { result ≡ capped (stated.room (map size_of structures.now) (expression_of expr.now)) }
+// The temporary bytes of an expression from those of its parts in their order.
+#[tactic(auto, using(c_typed::proofs::RoomSights::node_rooms))]
+fn node_room(
+    structures: &[Structure],
+    expr: &TExpr,
+    first: u64,
+    second: u64,
+    third: u64,
+) -> u64
+    ensures { result ≡ capped (stated.node_room (map size_of structures.now) (expression_of expr.now) first second third) }
 {
     match expr {
         TExpr::Constant { value, .. } => c_ints::size(value.ty()) as u64,
-        TExpr::Read { place, ty, .. } => read_room(
-            place_room(structures, place),
-            place.form(),
-            bytes_of(structures, *ty),
-        ),
-        TExpr::Address { place, .. } => most(place_room(structures, place), 2),
+        TExpr::Read { place, ty, .. } => read_room(first, place.form(), bytes_of(structures, *ty)),
+        TExpr::Address { .. } => most(first, 2),
         TExpr::Convert { operand, ty, .. } | TExpr::Cast { operand, ty, .. } => most(
-            room(structures, operand),
+            first,
             plus(value_bytes(structures, operand), bytes_of(structures, *ty)),
         ),
         TExpr::Unary {
             op, operand, ty, ..
         } => unary_room(
             *op,
-            room(structures, operand),
+            first,
             value_bytes(structures, operand),
             bytes_of(structures, *ty),
         ),
@@ -117,61 +118,48 @@ pub fn room(structures: &[Structure], expr: &TExpr) -> u64
         | TExpr::Offset {
             left, right, ty, ..
         } => binary_room(
-            room(structures, left),
+            first,
             value_bytes(structures, left),
-            room(structures, right),
+            second,
             value_bytes(structures, right),
             bytes_of(structures, *ty),
         ),
         TExpr::Difference { left, right, .. } => binary_room(
-            room(structures, left),
+            first,
             value_bytes(structures, left),
-            room(structures, right),
+            second,
             value_bytes(structures, right),
             2,
         ),
-        TExpr::Logical { left, right, .. } => {
-            most(room(structures, left), most(room(structures, right), 2))
-        }
-        TExpr::Conditional {
-            condition,
-            then,
-            otherwise,
-            ..
-        } => most(
-            room(structures, condition),
-            most(room(structures, then), room(structures, otherwise)),
-        ),
-        TExpr::Comma { left, right, .. } => most(room(structures, left), room(structures, right)),
+        TExpr::Logical { .. } => most(first, most(second, 2)),
+        TExpr::Conditional { .. } => most(first, most(second, third)),
+        TExpr::Comma { .. } => most(first, second),
         TExpr::Assign { place, value, .. } => assign_room(
-            place_room(structures, place),
+            first,
             place.form(),
-            room(structures, value),
+            second,
             value_bytes(structures, value),
         ),
-        TExpr::StructAssign { place, from, .. } => struct_room(
-            place_room(structures, place),
-            place.form(),
-            place_room(structures, from),
-            from.form(),
-        ),
+        TExpr::StructAssign { place, from, .. } => {
+            struct_room(first, place.form(), second, from.form())
+        }
         TExpr::Update {
             place,
             value,
             operation,
             ..
         } => update_room(
-            place_room(structures, place),
+            first,
             place.form(),
             place_bytes(structures, place),
-            room(structures, value),
+            second,
             value_bytes(structures, value),
             bytes_of(structures, *operation),
         ),
         TExpr::Step {
             place, operation, ..
         } => update_room(
-            place_room(structures, place),
+            first,
             place.form(),
             place_bytes(structures, place),
             2,
@@ -179,12 +167,60 @@ pub fn room(structures: &[Structure], expr: &TExpr) -> u64
             bytes_of(structures, *operation),
         ),
         TExpr::Call { arguments, ty, .. } => most(
-            arguments_room(structures, arguments),
+            first,
             most(
                 arguments_bytes(structures, arguments),
                 bytes_of(structures, *ty),
             ),
         ),
+    }
+}
+
+/// The temporary bytes of an expression.
+#[cycle(room)]
+#[tactic(auto, using(c_typed::proofs::RoomSights::rooms, c_typed::proofs::RoomSights::node_rooms))]
+pub fn room(structures: &[Structure], expr: &TExpr) -> u64
+    ensures { result ≡ capped (stated.room (map size_of structures.now) (expression_of expr.now)) }
+{
+    match expr {
+        TExpr::Constant { .. } => node_room(structures, expr, 0, 0, 0),
+        TExpr::Read { place, .. } | TExpr::Address { place, .. } | TExpr::Step { place, .. } => {
+            node_room(structures, expr, place_room(structures, place), 0, 0)
+        }
+        TExpr::Convert { operand, .. }
+        | TExpr::Cast { operand, .. }
+        | TExpr::Unary { operand, .. } => {
+            node_room(structures, expr, room(structures, operand), 0, 0)
+        }
+        TExpr::Binary { left, right, .. }
+        | TExpr::Offset { left, right, .. }
+        | TExpr::Difference { left, right, .. }
+        | TExpr::Logical { left, right, .. }
+        | TExpr::Comma { left, right, .. } => {
+            let first = room(structures, left);
+            node_room(structures, expr, first, room(structures, right), 0)
+        }
+        TExpr::Conditional {
+            condition,
+            then,
+            otherwise,
+            ..
+        } => {
+            let first = room(structures, condition);
+            let second = room(structures, then);
+            node_room(structures, expr, first, second, room(structures, otherwise))
+        }
+        TExpr::Assign { place, value, .. } | TExpr::Update { place, value, .. } => {
+            let first = place_room(structures, place);
+            node_room(structures, expr, first, room(structures, value), 0)
+        }
+        TExpr::StructAssign { place, from, .. } => {
+            let first = place_room(structures, place);
+            node_room(structures, expr, first, place_room(structures, from), 0)
+        }
+        TExpr::Call { arguments, .. } => {
+            node_room(structures, expr, arguments_room(structures, arguments), 0, 0)
+        }
     }
 }
 

@@ -223,82 +223,39 @@ fn step_words(
     plus(plus(updated, kept_words(op, place)), 8)
 }
 
-/// The words of an expression with its parts.
-#[cycle(words)]
-#[tactic(auto, using(c_typed::proofs::WordSights::words_of))]
-fn words(structures: &[Structure], expr: &TExpr) -> u64
-    ensures { result ≡ capped (stated.words (map size_of structures.now) (expression_of expr.now)) }
+// The words of an expression without its parts.
+#[tactic(auto, using(c_typed::proofs::WordSights::own_words_of))]
+fn own_words(structures: &[Structure], expr: &TExpr) -> u64
+    ensures { result ≡ capped (stated.own_words (map size_of structures.now) (expression_of expr.now)) }
 {
     match expr {
         TExpr::Constant { value, .. } => 4 * c_ints::size(value.ty()) as u64,
-        TExpr::Read { place, ty, .. } => plus(
-            read_words(place.form(), bytes_of(structures, *ty)),
-            place_words(structures, place),
-        ),
-        TExpr::Address { place, .. } => {
-            plus(address_words(place.form()), place_words(structures, place))
+        TExpr::Read { place, ty, .. } => read_words(place.form(), bytes_of(structures, *ty)),
+        TExpr::Address { place, .. } => address_words(place.form()),
+        TExpr::Convert { operand, ty, .. } | TExpr::Cast { operand, ty, .. } => {
+            convert_words(value_bytes(structures, operand), bytes_of(structures, *ty))
         }
-        TExpr::Convert { operand, ty, .. } | TExpr::Cast { operand, ty, .. } => plus(
-            convert_words(value_bytes(structures, operand), bytes_of(structures, *ty)),
-            words(structures, operand),
-        ),
         TExpr::Unary {
             op, operand, ty, ..
-        } => plus(
-            unary_words(
-                *op,
-                value_bytes(structures, operand),
-                bytes_of(structures, *ty),
-            ),
-            words(structures, operand),
+        } => unary_words(
+            *op,
+            value_bytes(structures, operand),
+            bytes_of(structures, *ty),
         ),
         TExpr::Binary {
             op, left, right, ..
-        } => plus(
-            operator_words(*op, right.is_constant(), value_bytes(structures, left)),
-            plus(words(structures, left), words(structures, right)),
-        ),
-        TExpr::Offset {
-            left, right, size, ..
-        } => plus(
-            offset_words(*size),
-            plus(words(structures, left), words(structures, right)),
-        ),
-        TExpr::Difference {
-            left, right, size, ..
-        } => plus(
-            difference_words(*size),
-            plus(words(structures, left), words(structures, right)),
-        ),
-        TExpr::Logical { left, right, .. } => plus(
-            tests_words(value_bytes(structures, left), value_bytes(structures, right)),
-            plus(words(structures, left), words(structures, right)),
-        ),
-        TExpr::Conditional {
-            condition,
-            then,
-            otherwise,
-            ..
-        } => plus(
-            test_words(value_bytes(structures, condition)),
-            plus(
-                words(structures, condition),
-                plus(words(structures, then), words(structures, otherwise)),
-            ),
-        ),
-        TExpr::Comma { left, right, .. } => plus(words(structures, left), words(structures, right)),
-        TExpr::Assign {
-            place, value, ty, ..
-        } => plus(
-            store_words(place.form(), bytes_of(structures, *ty)),
-            plus(place_words(structures, place), words(structures, value)),
-        ),
+        } => operator_words(*op, right.is_constant(), value_bytes(structures, left)),
+        TExpr::Offset { size, .. } => offset_words(*size),
+        TExpr::Difference { size, .. } => difference_words(*size),
+        TExpr::Logical { left, right, .. } => {
+            tests_words(value_bytes(structures, left), value_bytes(structures, right))
+        }
+        TExpr::Conditional { condition, .. } => test_words(value_bytes(structures, condition)),
+        TExpr::Comma { .. } => 0,
+        TExpr::Assign { place, ty, .. } => store_words(place.form(), bytes_of(structures, *ty)),
         TExpr::StructAssign {
             place, from, size, ..
-        } => plus(
-            struct_words(place.form(), from.form(), *size),
-            plus(place_words(structures, place), place_words(structures, from)),
-        ),
+        } => struct_words(place.form(), from.form(), *size),
         TExpr::Update {
             op,
             place,
@@ -306,17 +263,14 @@ fn words(structures: &[Structure], expr: &TExpr) -> u64
             operation,
             size,
             ..
-        } => plus(
-            update_words(
-                *op,
-                value.is_constant(),
-                place.form(),
-                place_bytes(structures, place),
-                *operation,
-                bytes_of(structures, *operation),
-                *size,
-            ),
-            plus(place_words(structures, place), words(structures, value)),
+        } => update_words(
+            *op,
+            value.is_constant(),
+            place.form(),
+            place_bytes(structures, place),
+            *operation,
+            bytes_of(structures, *operation),
+            *size,
         ),
         TExpr::Step {
             op,
@@ -324,24 +278,63 @@ fn words(structures: &[Structure], expr: &TExpr) -> u64
             operation,
             size,
             ..
-        } => plus(
-            step_words(
-                *op,
-                place.form(),
-                place_bytes(structures, place),
-                *operation,
-                bytes_of(structures, *operation),
-                *size,
-            ),
-            place_words(structures, place),
+        } => step_words(
+            *op,
+            place.form(),
+            place_bytes(structures, place),
+            *operation,
+            bytes_of(structures, *operation),
+            *size,
         ),
-        TExpr::Call { arguments, ty, .. } => plus(
-            call_words(
-                arguments_bytes(structures, arguments),
-                bytes_of(structures, *ty),
-            ),
-            arguments_words(structures, arguments),
+        TExpr::Call { arguments, ty, .. } => call_words(
+            arguments_bytes(structures, arguments),
+            bytes_of(structures, *ty),
         ),
+    }
+}
+
+/// The words of an expression with its parts.
+#[cycle(words)]
+#[tactic(auto, using(c_typed::proofs::WordSights::words_of, c_typed::proofs::WordSights::own_words_of))]
+fn words(structures: &[Structure], expr: &TExpr) -> u64
+    ensures { result ≡ capped (stated.words (map size_of structures.now) (expression_of expr.now)) }
+{
+    let own = own_words(structures, expr);
+    match expr {
+        TExpr::Constant { .. } => own,
+        TExpr::Read { place, .. } | TExpr::Address { place, .. } | TExpr::Step { place, .. } => {
+            plus(own, place_words(structures, place))
+        }
+        TExpr::Convert { operand, .. }
+        | TExpr::Cast { operand, .. }
+        | TExpr::Unary { operand, .. } => plus(own, words(structures, operand)),
+        TExpr::Binary { left, right, .. }
+        | TExpr::Offset { left, right, .. }
+        | TExpr::Difference { left, right, .. }
+        | TExpr::Logical { left, right, .. }
+        | TExpr::Comma { left, right, .. } => {
+            let first = words(structures, left);
+            plus(own, plus(first, words(structures, right)))
+        }
+        TExpr::Conditional {
+            condition,
+            then,
+            otherwise,
+            ..
+        } => {
+            let first = words(structures, condition);
+            let second = words(structures, then);
+            plus(own, plus(first, plus(second, words(structures, otherwise))))
+        }
+        TExpr::Assign { place, value, .. } | TExpr::Update { place, value, .. } => {
+            let first = place_words(structures, place);
+            plus(own, plus(first, words(structures, value)))
+        }
+        TExpr::StructAssign { place, from, .. } => {
+            let first = place_words(structures, place);
+            plus(own, plus(first, place_words(structures, from)))
+        }
+        TExpr::Call { arguments, .. } => plus(own, arguments_words(structures, arguments)),
     }
 }
 
