@@ -1,7 +1,8 @@
 // The typed tree of a C program: what the checker makes, and what all passes behind it take.
 //
 // In: nothing; the tree is plain data. Out: the tree's types, sizes, constants and counts.
-// The promise: these end on every tree.
+// The promise: each ends on every tree; types, forms of places and integer constant expressions are those that specs/
+// defines, and `Typed::nodes` is the count of nodes that it defines, by recursion on the tree.
 #![tactic(auto)]
 
 mod calls;

@@ -27,8 +27,20 @@ fn int_helper(op: BinOp, constant: bool, ty: IntTy) -> Option<Helper>
 {
     match op {
         BinOp::Mul => by_type(Helper::Mul2, Helper::Mul2, Helper::Mul4, Helper::Mul4, ty),
-        BinOp::Div => by_type(Helper::Divs2, Helper::Divu2, Helper::Divs4, Helper::Divu4, ty),
-        BinOp::Rem => by_type(Helper::Rems2, Helper::Remu2, Helper::Rems4, Helper::Remu4, ty),
+        BinOp::Div => by_type(
+            Helper::Divs2,
+            Helper::Divu2,
+            Helper::Divs4,
+            Helper::Divu4,
+            ty,
+        ),
+        BinOp::Rem => by_type(
+            Helper::Rems2,
+            Helper::Remu2,
+            Helper::Rems4,
+            Helper::Remu4,
+            ty,
+        ),
         BinOp::Shl => {
             if constant {
                 None
@@ -40,7 +52,13 @@ fn int_helper(op: BinOp, constant: bool, ty: IntTy) -> Option<Helper>
             if constant {
                 None
             } else {
-                by_type(Helper::Shrs2, Helper::Shru2, Helper::Shrs4, Helper::Shru4, ty)
+                by_type(
+                    Helper::Shrs2,
+                    Helper::Shru2,
+                    Helper::Shrs4,
+                    Helper::Shru4,
+                    ty,
+                )
             }
         }
         BinOp::Add
@@ -99,14 +117,20 @@ fn put_calls(out: &mut Vec<FnId>, expr: &TExpr) -> Result<(), AllocError>
         | TExpr::Cast { operand, .. }
         | TExpr::Unary { operand, .. } => put_calls(out, operand),
         TExpr::Binary {
-            op, left, right, ..
+            op,
+            left,
+            right,
+            ..
         } => {
             put_calls(out, left)?;
             put_calls(out, right)?;
             put_helper(out, helper_for(*op, right.is_constant(), left.ty()))
         }
         TExpr::Difference {
-            left, right, size, ..
+            left,
+            right,
+            size,
+            ..
         } => {
             put_calls(out, left)?;
             put_calls(out, right)?;
@@ -224,7 +248,9 @@ fn put_statement_calls(out: &mut Vec<FnId>, statement: &TStmt) -> Result<(), All
         TStmt::Expr { value, .. } | TStmt::InitScalar { value, .. } => put_calls(out, value),
         TStmt::InitList { items, .. } => put_items_calls(out, items),
         TStmt::If {
-            arms, otherwise, ..
+            arms,
+            otherwise,
+            ..
         } => {
             put_arms_calls(out, arms)?;
             match otherwise {
@@ -245,7 +271,9 @@ fn put_statement_calls(out: &mut Vec<FnId>, statement: &TStmt) -> Result<(), All
             put_statement_calls(out, body)
         }
         TStmt::Switch {
-            value, statements, ..
+            value,
+            statements,
+            ..
         } => {
             put_calls(out, value)?;
             put_statements_calls(out, statements)

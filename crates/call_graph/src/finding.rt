@@ -83,7 +83,9 @@ pub fn copies(alloc: Global, p: &Typed) -> Result<Copies, GraphError>
     if let Some(handler) = found.handler {
         let from_handler = levels(alloc, &rows, handler)?;
         put_root(&mut list, functions, Root::Isr, &from_handler)?;
-        depth = depth.saturating_add(1).saturating_add(depth_of(&from_handler));
+        depth = depth
+            .saturating_add(1)
+            .saturating_add(depth_of(&from_handler));
     }
     if depth > DEEPEST {
         return Err(GraphError::Depth { depth });

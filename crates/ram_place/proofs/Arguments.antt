@@ -54,7 +54,9 @@ stepped sizes es greatest before w r now after left whole is put behind so_far =
 
 -- one argument more
 pub one_argument : (sizes : List ℕ) (xs : List TExpr) (i : ℕ) (x : TExpr) (now after greatest before r w m b whole : ℕ) → i < length xs → x ≡ get_or xs i x → r ≡ capped (room sizes (expression_of x)) → m ≡ capped (before + r) → now ≡ max greatest m → w ≡ expression_bytes sizes x → after ≡ capped (before + w) → now < 2 ^ 64 → (greatest < 2 ^ 64) × (capped (max greatest (room_in sizes before (drop i xs))) ≡ capped whole) → (now < 2 ^ 64) × (capped (max now (room_in sizes after (drop (i + 1) xs))) ≡ capped whole)
-one_argument sizes xs i x now after greatest before r w m b whole lt is made sum put bytes behind fits so_far =
-    (fits, stepped sizes (drop (i + 1) xs) greatest before (expression_bytes sizes x) (room sizes (expression_of x)) now after (room_in sizes before (drop i xs)) whole
+one_argument sizes xs i x now after greatest before r w m b whole lt is made sum put bytes behind fits so_far = (
+  fits,
+  stepped sizes (drop (i + 1) xs) greatest before (expression_bytes sizes x) (room sizes (expression_of x)) now after (room_in sizes before (drop i xs)) whole
       (at_drop_more (room_in sizes before) xs i x lt ∙ (ap (λ y. room_in sizes before (y ∷ drop (i + 1) xs)) (sym is) ∙ room_more sizes before x (drop (i + 1) xs)))
-      (put ∙ ap (max greatest) (sum ∙ ap (λ n. capped (before + n)) made)) (behind ∙ ap (λ n. capped (before + n)) bytes) so_far.1)
+      (put ∙ ap (max greatest) (sum ∙ ap (λ n. capped (before + n)) made)) (behind ∙ ap (λ n. capped (before + n)) bytes) so_far.1,
+)

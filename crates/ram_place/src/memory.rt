@@ -19,14 +19,17 @@ const FIRST: Span = Span {
     address: 0x20,
     size: 0x50,
 };
+
 const SECOND: Span = Span {
     address: 0xA0,
     size: 0x50,
 };
+
 const THIRD: Span = Span {
     address: 0x110,
     size: 0x60,
 };
+
 const FOURTH: Span = Span {
     address: 0x190,
     size: 0x60,

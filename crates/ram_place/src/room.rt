@@ -53,21 +53,33 @@ fn binary_room(left: u64, left_bytes: u64, right: u64, right_bytes: u64, bytes: 
     ensures { result ≡ capped (stated.binary_room left left_bytes right right_bytes bytes) }
 {
     let operands = plus(left_bytes, right_bytes);
-    most(left, most(plus(left_bytes, right), plus(plus(operands, bytes), 2)))
+    most(
+        left,
+        most(plus(left_bytes, right), plus(plus(operands, bytes), 2)),
+    )
 }
 
 fn assign_room(place: u64, form: PlaceForm, value: u64, value_bytes: u64) -> u64
     ensures { result ≡ capped (stated.assign_room place form value value_bytes) }
 {
     let address = address_bytes(form);
-    most(place, most(plus(address, value), plus(plus(address, value_bytes), 2)))
+    most(
+        place,
+        most(plus(address, value), plus(plus(address, value_bytes), 2)),
+    )
 }
 
 fn struct_room(place: u64, form: PlaceForm, from: u64, from_form: PlaceForm) -> u64
     ensures { result ≡ capped (stated.struct_room place form from from_form) }
 {
     let address = address_bytes(form);
-    most(place, most(plus(address, from), plus(plus(address, address_bytes(from_form)), 2)))
+    most(
+        place,
+        most(
+            plus(address, from),
+            plus(plus(address, address_bytes(from_form)), 2),
+        ),
+    )
 }
 
 fn update_room(
@@ -82,18 +94,18 @@ fn update_room(
 {
     let address = address_bytes(form);
     let kept = plus(plus(address, value_bytes), place_bytes);
-    most(place, most(plus(address, value), plus(plus(kept, times(3, operation)), 2)))
+    most(
+        place,
+        most(
+            plus(address, value),
+            plus(plus(kept, times(3, operation)), 2),
+        ),
+    )
 }
 
 // The temporary bytes of an expression from those of its parts in their order.
 #[tactic(auto, using(c_typed::proofs::RoomSights::node_rooms))]
-fn node_room(
-    structures: &[Structure],
-    expr: &TExpr,
-    first: u64,
-    second: u64,
-    third: u64,
-) -> u64
+fn node_room(structures: &[Structure], expr: &TExpr, first: u64, second: u64, third: u64) -> u64
     ensures { result ≡ capped (stated.node_room (map size_of structures.now) (expression_of expr.now) first second third) }
 {
     match expr {
@@ -105,7 +117,10 @@ fn node_room(
             plus(value_bytes(structures, operand), bytes_of(structures, *ty)),
         ),
         TExpr::Unary {
-            op, operand, ty, ..
+            op,
+            operand,
+            ty,
+            ..
         } => unary_room(
             *op,
             first,
@@ -113,10 +128,16 @@ fn node_room(
             bytes_of(structures, *ty),
         ),
         TExpr::Binary {
-            left, right, ty, ..
+            left,
+            right,
+            ty,
+            ..
         }
         | TExpr::Offset {
-            left, right, ty, ..
+            left,
+            right,
+            ty,
+            ..
         } => binary_room(
             first,
             value_bytes(structures, left),
@@ -157,7 +178,9 @@ fn node_room(
             bytes_of(structures, *operation),
         ),
         TExpr::Step {
-            place, operation, ..
+            place,
+            operation,
+            ..
         } => update_room(
             first,
             place.form(),
@@ -219,7 +242,13 @@ pub fn room(structures: &[Structure], expr: &TExpr) -> u64
             node_room(structures, expr, first, place_room(structures, from), 0)
         }
         TExpr::Call { arguments, .. } => {
-            node_room(structures, expr, arguments_room(structures, arguments), 0, 0)
+            node_room(
+                structures,
+                expr,
+                arguments_room(structures, arguments),
+                0,
+                0,
+            )
         }
     }
 }
@@ -326,7 +355,9 @@ fn statement_room(structures: &[Structure], statement: &TStmt) -> u64
         ),
         TStmt::InitList { items, .. } => items_room(structures, items),
         TStmt::If {
-            arms, otherwise, ..
+            arms,
+            otherwise,
+            ..
         } => match otherwise {
             Some(last) => most(
                 arms_room(structures, arms),
@@ -344,14 +375,13 @@ fn statement_room(structures: &[Structure], statement: &TStmt) -> u64
             any_room(structures, begin),
             most(
                 any_room(structures, condition),
-                most(
-                    any_room(structures, step),
-                    statement_room(structures, body),
-                ),
+                most(any_room(structures, step), statement_room(structures, body)),
             ),
         ),
         TStmt::Switch {
-            value, statements, ..
+            value,
+            statements,
+            ..
         } => most(
             switch_room(room(structures, value), value_bytes(structures, value)),
             statements_room(structures, statements),

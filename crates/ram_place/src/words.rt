@@ -201,25 +201,10 @@ fn kept_words(op: StepOp, place: u64) -> u64
     }
 }
 
-fn step_words(
-    op: StepOp,
-    form: PlaceForm,
-    place: u64,
-    operation: Ty,
-    bytes: u64,
-    size: u64,
-) -> u64
+fn step_words(op: StepOp, form: PlaceForm, place: u64, operation: Ty, bytes: u64, size: u64) -> u64
     ensures { result ≡ capped (stated.step_words op form place operation bytes size) }
 {
-    let updated = update_words(
-        step_operator(op),
-        true,
-        form,
-        place,
-        operation,
-        bytes,
-        size,
-    );
+    let updated = update_words(step_operator(op), true, form, place, operation, bytes, size);
     plus(plus(updated, kept_words(op, place)), 8)
 }
 
@@ -236,25 +221,37 @@ fn own_words(structures: &[Structure], expr: &TExpr) -> u64
             convert_words(value_bytes(structures, operand), bytes_of(structures, *ty))
         }
         TExpr::Unary {
-            op, operand, ty, ..
+            op,
+            operand,
+            ty,
+            ..
         } => unary_words(
             *op,
             value_bytes(structures, operand),
             bytes_of(structures, *ty),
         ),
         TExpr::Binary {
-            op, left, right, ..
+            op,
+            left,
+            right,
+            ..
         } => operator_words(*op, right.is_constant(), value_bytes(structures, left)),
         TExpr::Offset { size, .. } => offset_words(*size),
         TExpr::Difference { size, .. } => difference_words(*size),
         TExpr::Logical { left, right, .. } => {
-            tests_words(value_bytes(structures, left), value_bytes(structures, right))
+            tests_words(
+                value_bytes(structures, left),
+                value_bytes(structures, right),
+            )
         }
         TExpr::Conditional { condition, .. } => test_words(value_bytes(structures, condition)),
         TExpr::Comma { .. } => 0,
         TExpr::Assign { place, ty, .. } => store_words(place.form(), bytes_of(structures, *ty)),
         TExpr::StructAssign {
-            place, from, size, ..
+            place,
+            from,
+            size,
+            ..
         } => struct_words(place.form(), from.form(), *size),
         TExpr::Update {
             op,
@@ -481,12 +478,7 @@ fn local_bytes(structures: &[Structure], locals: &[Variable], local: u32) -> u64
 }
 
 // A local's list: its items, and 4 words for each byte of the local without an item.
-fn list_words(
-    structures: &[Structure],
-    locals: &[Variable],
-    local: u32,
-    items: &[TItem],
-) -> u64
+fn list_words(structures: &[Structure], locals: &[Variable], local: u32, items: &[TItem]) -> u64
     ensures { result ≡ capped (stated.items_words (map size_of structures.now) (map item_of items.now) + 4 * (slice_index (map (stated.variable_bytes (map size_of structures.now)) (map variable_of locals.now)) local - stated.items_bytes (map size_of structures.now) (map item_of items.now))) }
 {
     let sum = items_words(structures, items);
@@ -513,7 +505,9 @@ fn statement_words(structures: &[Structure], locals: &[Variable], statement: &TS
         ),
         TStmt::InitList { local, items, .. } => list_words(structures, locals, *local, items),
         TStmt::If {
-            arms, otherwise, ..
+            arms,
+            otherwise,
+            ..
         } => match otherwise {
             Some(last) => plus(
                 arms_words(structures, locals, arms),
@@ -558,11 +552,7 @@ fn statement_words(structures: &[Structure], locals: &[Variable], statement: &TS
 
 /// The words of some statements.
 #[cycle(statement_words)]
-pub fn statements_words(
-    structures: &[Structure],
-    locals: &[Variable],
-    statements: &[TStmt],
-) -> u64
+pub fn statements_words(structures: &[Structure], locals: &[Variable], statements: &[TStmt]) -> u64
     ensures { result ≡ capped (stated.statements_words (map size_of structures.now) (map (stated.variable_bytes (map size_of structures.now)) (map variable_of locals.now)) (statements_of (map statement_of statements.now))) }
 {
     let mut sum = 0;

@@ -106,15 +106,62 @@ fn generated(alloc: Global, k: usize) -> Result<String, AllocError> {
 #[test]
 fn words_of_many_statements(rt: HostRuntime) -> Result<(), Fail> {
     let alloc = rt.alloc();
-    let exact = repeated(alloc, "void f(void){", "PORTB=5;", 146, "}void main(void){f();}")?;
+    let exact = repeated(
+        alloc,
+        "void f(void){",
+        "PORTB=5;",
+        146,
+        "}void main(void){f();}",
+    )?;
     let found = told(alloc, exact.as_bytes())?;
-    assert_eq!(rt; found, Told::Sizes { words: 2158, block: 2048, ram: 3, depth: 1 });
-    let over = repeated(alloc, "void f(void){", "PORTB=5;", 147, "}void main(void){f();}")?;
+    assert_eq!(rt;
+        found,
+        Told::Sizes {
+            words: 2158,
+            block: 2048,
+            ram: 3,
+            depth: 1
+        }
+    );
+    let over = repeated(
+        alloc,
+        "void f(void){",
+        "PORTB=5;",
+        147,
+        "}void main(void){f();}",
+    )?;
     let found = told(alloc, over.as_bytes())?;
-    assert_eq!(rt; found, Told::Sizes { words: 2172, block: 2062, ram: 3, depth: 1 });
+    assert_eq!(rt;
+        found,
+        Told::Sizes {
+            words: 2172,
+            block: 2062,
+            ram: 3,
+            depth: 1
+        }
+    );
+    let ones = repeated(alloc, "void main(void){PORTB=1", "+1", 4094, ";}")?;
+    let found = told(alloc, ones.as_bytes())?;
+    assert_eq!(rt;
+        found,
+        Told::Sizes {
+            words: 114750,
+            block: 114650,
+            ram: 8,
+            depth: 0
+        }
+    );
     let loops = repeated(alloc, "void main(void){", "for(;;)", 255, ";}")?;
     let found = told(alloc, loops.as_bytes())?;
-    assert_eq!(rt; found, Told::Sizes { words: 5204, block: 5104, ram: 0, depth: 0 });
+    assert_eq!(rt;
+        found,
+        Told::Sizes {
+            words: 5204,
+            block: 5104,
+            ram: 0,
+            depth: 0
+        }
+    );
     Ok(())
 }
 
@@ -123,10 +170,26 @@ fn generated_programs(rt: HostRuntime) -> Result<(), Fail> {
     let alloc = rt.alloc();
     let two = generated(alloc, 2)?;
     let found = told(alloc, two.as_bytes())?;
-    assert_eq!(rt; found, Told::Sizes { words: 316, block: 88, ram: 14, depth: 1 });
+    assert_eq!(rt;
+        found,
+        Told::Sizes {
+            words: 316,
+            block: 88,
+            ram: 14,
+            depth: 1
+        }
+    );
     let many = generated(alloc, 64)?;
     let found = told(alloc, many.as_bytes())?;
-    assert_eq!(rt; found, Told::Sizes { words: 6020, block: 1948, ram: 14, depth: 1 });
+    assert_eq!(rt;
+        found,
+        Told::Sizes {
+            words: 6020,
+            block: 1948,
+            ram: 14,
+            depth: 1
+        }
+    );
     Ok(())
 }
 
@@ -135,12 +198,29 @@ fn refused(rt: HostRuntime) -> Result<(), Fail> {
     let alloc = rt.alloc();
     let found = told(alloc, b"")?;
     assert_eq!(rt; found, Told::Roots(RootKind::None));
-    let found = told(alloc, b"void g(void);void f(void){g();}void g(void){f();}void main(void){}")?;
+    let found = told(
+        alloc,
+        b"void g(void);void f(void){g();}void g(void){f();}void main(void){}",
+    )?;
     let f = Vec::from_array(alloc, [b'f'])?;
     assert_eq!(rt; found, Told::Recursion(f));
-    let found = told(alloc, b"unsigned char a[80],b[80],c[96],d[96];void main(void){}")?;
-    assert_eq!(rt; found, Told::Sizes { words: 1512, block: 4, ram: 352, depth: 0 });
-    let found = told(alloc, b"unsigned char a[80],b[80],c[96],d[96];unsigned char x;void main(void){}")?;
+    let found = told(
+        alloc,
+        b"unsigned char a[80],b[80],c[96],d[96];void main(void){}",
+    )?;
+    assert_eq!(rt;
+        found,
+        Told::Sizes {
+            words: 1512,
+            block: 4,
+            ram: 352,
+            depth: 0
+        }
+    );
+    let found = told(
+        alloc,
+        b"unsigned char a[80],b[80],c[96],d[96];unsigned char x;void main(void){}",
+    )?;
     let x = Vec::from_array(alloc, [b'x'])?;
     assert_eq!(rt; found, Told::Ram(x));
     let found = told(alloc, b"unsigned char a[97];void main(void){}")?;
@@ -201,7 +281,11 @@ fn frames(alloc: Global, text: &[u8]) -> Result<Vec<(u16, u16)>, Fail> {
     if let Ok(copies) = copies(alloc, &p) {
         if let Ok(placed) = place(alloc, &p, &copies) {
             for frame in &placed.frames {
-                let high = if frame.root == Root::Isr { 1000u16 } else { 0u16 };
+                let high = if frame.root == Root::Isr {
+                    1000u16
+                } else {
+                    0u16
+                };
                 found.push((frame.address, frame.size.wrapping_add(high)))?;
             }
         }
@@ -212,10 +296,15 @@ fn frames(alloc: Global, text: &[u8]) -> Result<Vec<(u16, u16)>, Fail> {
 #[test]
 fn places(rt: HostRuntime) -> Result<(), Fail> {
     let alloc = rt.alloc();
-    let text = b"unsigned char add(unsigned char a){unsigned char b;b=a;return b+1;}void interrupt h(void){PORTC=add(9);INTF=0;}void main(void){INTCON=0x90;PORTB=add(1);}";
-    let wanted = Vec::from_array(alloc, [(0x20u16, 3u16), (0x23, 10), (0x2D, 1003), (0x30, 1010)])?;
+    let text =
+        b"unsigned char add(unsigned char a){unsigned char b;b=a;return b+1;}void interrupt h(void){PORTC=add(9);INTF=0;}void main(void){INTCON=0x90;PORTB=add(1);}";
+    let wanted = Vec::from_array(
+        alloc,
+        [(0x20u16, 3u16), (0x23, 10), (0x2D, 1003), (0x30, 1010)],
+    )?;
     assert_eq!(rt; frames(alloc, text)?, wanted);
-    let text = b"unsigned char*q;void f(void){unsigned char a;q=&a;}void g(void){unsigned char b;PORTB=(q==&b);}void main(void){f();g();}";
+    let text =
+        b"unsigned char*q;void f(void){unsigned char a;q=&a;}void g(void){unsigned char b;PORTB=(q==&b);}void main(void){f();g();}";
     let found = frames(alloc, text)?;
     assert_eq!(rt; found[1].0, 0x22);
     assert_eq!(rt; found[2].0, 0x22);
