@@ -1,6 +1,9 @@
 //! The copies of functions.
 
 ghost use Rattle.std.specs.Prelude.{◌≤◌, ◌<◌, ◌^◌, length};
+ghost use Rattle.c_typed.specs.Roots.{broken_root};
+ghost use Rattle.c_typed.specs.Views.{program_of};
+ghost use Rattle.call_graph.specs.Answers.{TellsRoots};
 
 use crate::graph::{graph_of, id_of};
 use crate::levels::{greatest, levels, recursive};
@@ -64,6 +67,7 @@ fn name_of(alloc: Global, p: &Typed, number: u32) -> Result<Vec<u8>, AllocError>
 /// longest chain of calls from main, and, where there is a handler, 1 and the longest chain from it.
 pub fn copies(alloc: Global, p: &Typed) -> Result<Copies, GraphError>
     requires { length p.now.functions.items ≤ 2 ^ 28 }
+    ensures roots { TellsRoots result (broken_root (program_of p.now)) }
 {
     let rows = graph_of(alloc, p)?;
     let found = match find_roots(p, &rows) {

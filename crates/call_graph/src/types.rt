@@ -1,5 +1,8 @@
 //! Copies of functions, and why there are none.
 
+ghost use Rattle.std.specs.Prelude.{◌≡◌};
+ghost use Rattle.call_graph.specs.declared.types.GraphError.TheVariants.{NoMemory};
+
 use c_typed::{FnId, RootKind};
 use pic_chip::Root;
 use std::alloc::AllocError;
@@ -33,6 +36,8 @@ pub enum GraphError {
 }
 
 impl From<AllocError> for GraphError {
+    ghost from_gives = { λ _ e. e ≡ NoMemory };
+
     fn from(_: AllocError) -> GraphError {
         GraphError::NoMemory
     }

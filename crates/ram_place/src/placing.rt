@@ -1,6 +1,7 @@
 //! Where the static objects and the frames stand.
 
 ghost use Rattle.std.specs.Prelude.{◌≡◌, ◌≤◌, ◌^◌, length};
+ghost use Rattle.ram_place.specs.declared.placing.PlaceError.TheVariants.{NoMemory};
 
 use crate::frame::frame_bytes;
 use crate::memory::{Span, Taken};
@@ -27,6 +28,8 @@ pub enum PlaceError {
 }
 
 impl From<AllocError> for PlaceError {
+    ghost from_gives = { λ _ e. e ≡ NoMemory };
+
     fn from(_: AllocError) -> PlaceError {
         PlaceError::NoMemory
     }
