@@ -1,18 +1,14 @@
 -- The temporary bytes of each variant, from those of its parts.
-use Rattle.std.proofs.Common.{◌≡◌, ℕ, ◌+◌, ◌-◌, ◌*◌, max, List, [], ◌∷◌, Bool, true, false, ◌&&◌, Some, None, map, slice_index, ap}
+use Rattle.std.proofs.Common.{◌≡◌, ℕ, ◌+◌, max, List, Some, None, map, ap}
 use Rattle.std.specs.Option.{option_map}
 use Rattle.c_ints.specs.Range.{bytes_of}
-use Rattle.c_ints.specs.declared.types.IntTy.TheVariants as IntTy
 use Rattle.c_typed.proofs.Shapes.{show_expression_constant, show_expression_read, show_expression_address, show_expression_convert, show_expression_cast, show_expression_unary, show_expression_binary, show_expression_offset, show_expression_difference, show_expression_logical, show_expression_conditional, show_expression_comma, show_expression_assign, show_expression_struct_assign, show_expression_update, show_expression_step, show_expression_call, show_place_name, show_place_bit, show_place_member, show_place_deref, show_statement_block, show_statement_empty, show_statement_expr, show_statement_declare, show_statement_init_scalar, show_statement_init_list, show_statement_loop, show_statement_switch, show_statement_break, show_statement_continue, show_statement_return, show_statement_if_alone, show_statement_if_else, show_arm}
-use Rattle.c_typed.specs.Trees as tree
-use Rattle.c_typed.specs.Views.{arguments_of, expression_of, place_of, item_of, statements_of, arms_of, last_arm_of, statement_of, arm_of}
-use Rattle.c_typed.specs.declared.expression.PlaceForm.TheVariants.{Fixed, Bit, Computed}
+use Rattle.c_typed.specs.Views.{arguments_of, expression_of, place_of, item_of, statements_of, arms_of, statement_of, arm_of}
 use Rattle.c_typed.specs.declared.expression.TExpr.TheVariants as TExpr
 use Rattle.c_typed.specs.declared.expression.TPlace.TheVariants as TPlace
 use Rattle.c_typed.specs.declared.statement.TArm.{TArm}
 use Rattle.c_typed.specs.declared.statement.TStmt.TheVariants as TStmt
 use Rattle.c_typed.specs.declared.statement.TStmt.TheViews.{out-TArm}
-use Rattle.c_typed.specs.declared.types.Ty.TheVariants.{Void, Int}
 use Rattle.c_typed.specs.Types.{type_bytes, value_bytes, place_bytes, form_of}
 use Rattle.c_typed.specs.Room.{read_room, unary_room, binary_room, assign_room, struct_room, update_room, local_room, switch_room, node_room, room, place_room, arguments_room, arguments_bytes, any_room, items_room, statement_room, statements_room, arm_room, arms_room, last_room}
 

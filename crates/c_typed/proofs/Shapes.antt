@@ -1,15 +1,15 @@
 -- Each variant of the typed trees as pure data.
-use Rattle.std.proofs.Common.{◌≡◌, [], ◌∷◌, Some, None, map, sym, ap, ◌∙◌}
+use Rattle.std.proofs.Common.{◌≡◌, Some, None, map, sym, ap, ◌∙◌}
 use Rattle.std.specs.Option.{option_map}
 use Rattle.c_typed.specs.Trees as tree
 use Rattle.c_typed.specs.Trees.{Expression, Place, Statement, Arm}
-use Rattle.c_typed.specs.Views.{arguments_of, expression_step, place_step, expression_of, place_of, item_of, statements_of, arms_of, last_of, statement_step, arm_step, statement_of, arm_of}
+use Rattle.c_typed.specs.Views.{arguments_of, expression_step, place_step, expression_of, place_of, item_of, statements_of, arms_of, statement_step, arm_step, statement_of, arm_of}
 use Rattle.c_typed.specs.declared.expression.TExpr.TheFolds.{fold-TExpr, fold-TPlace, fold-roll-TExpr, fold-roll-TPlace}
 use Rattle.c_typed.specs.declared.expression.TExpr.TheOpen as Open
 use Rattle.c_typed.specs.declared.expression.TExpr.TheVariants as TExpr
 use Rattle.c_typed.specs.declared.expression.TPlace.TheVariants as TPlace
 use Rattle.c_typed.specs.declared.statement.TArm.{TArm}
-use Rattle.c_typed.specs.declared.statement.TStmt.TheFolds.{fold-TStmt, fold-TArm, fold-roll-TStmt, fold_out-TArm}
+use Rattle.c_typed.specs.declared.statement.TStmt.TheFolds.{fold-TStmt, fold-roll-TStmt, fold_out-TArm}
 use Rattle.c_typed.specs.declared.statement.TStmt.TheOpen as OpenStmt
 use Rattle.c_typed.specs.declared.statement.TStmt.TheVariants as TStmt
 use Rattle.c_typed.specs.declared.statement.TStmt.TheViews.{out-TArm}

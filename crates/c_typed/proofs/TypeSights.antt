@@ -1,17 +1,11 @@
 -- Types and forms of each variant, from those of its parts.
-use Rattle.std.proofs.Common.{◌≡◌, ℕ, ◌+◌, ◌-◌, ◌*◌, max, List, [], ◌∷◌, Bool, true, false, ◌&&◌, Some, None, map, slice_index, ap}
-use Rattle.std.specs.Option.{option_map}
-use Rattle.c_ints.specs.Range.{bytes_of}
+use Rattle.std.proofs.Common.{◌≡◌, true, false, ◌&&◌, ap}
 use Rattle.c_ints.specs.declared.types.IntTy.TheVariants as IntTy
 use Rattle.c_typed.proofs.Shapes.{show_expression_constant, show_expression_read, show_expression_address, show_expression_convert, show_expression_cast, show_expression_unary, show_expression_binary, show_expression_offset, show_expression_difference, show_expression_logical, show_expression_conditional, show_expression_comma, show_expression_assign, show_expression_struct_assign, show_expression_update, show_expression_step, show_expression_call, show_place_name, show_place_bit, show_place_member, show_place_deref}
-use Rattle.c_typed.specs.Trees as tree
-use Rattle.c_typed.specs.Views.{arguments_of, expression_of, place_of, item_of, statements_of, arms_of, last_arm_of, statement_of, arm_of}
+use Rattle.c_typed.specs.Views.{expression_of, place_of}
 use Rattle.c_typed.specs.declared.expression.PlaceForm.TheVariants.{Fixed, Bit, Computed}
 use Rattle.c_typed.specs.declared.expression.TExpr.TheVariants as TExpr
 use Rattle.c_typed.specs.declared.expression.TPlace.TheVariants as TPlace
-use Rattle.c_typed.specs.declared.statement.TArm.{TArm}
-use Rattle.c_typed.specs.declared.statement.TStmt.TheVariants as TStmt
-use Rattle.c_typed.specs.declared.statement.TStmt.TheViews.{out-TArm}
 use Rattle.c_typed.specs.declared.types.Ty.TheVariants.{Void, Int}
 use Rattle.c_typed.specs.Types.{type_of, place_type, form_of, member_form, is_constant, is_integer}
 

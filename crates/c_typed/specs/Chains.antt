@@ -1,6 +1,6 @@
 -- The call graph of a program, and chains of calls in it. Each function stands under its number, and the helpers follow
 -- behind the functions in their order.
-use Rattle.std.specs.Prelude.{◌≡◌, ℕ, zero, suc, ◌+◌, ◌≤◌, List, [], ◌∷◌, ◌++◌, length, map, replicate, get_or}
+use Rattle.std.specs.Prelude.{◌≡◌, ℕ, ◌+◌, ◌≤◌, List, [], ◌∷◌, ◌++◌, length, map, replicate, get_or}
 use Rattle.std.specs.List.{Contains}
 use Rattle.c_typed.specs.Calls.{statements_calls}
 use Rattle.c_typed.specs.Trees.{FunctionTree, Program}

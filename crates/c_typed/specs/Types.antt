@@ -1,5 +1,5 @@
 -- The types of expressions and places, how many bytes they have, and the forms of places.
-use Rattle.std.specs.Prelude.{ℕ, List, Bool, true, false, ◌&&◌, slice_index, if◌then◌else◌}
+use Rattle.std.specs.Prelude.{ℕ, List, Bool, true, false, ◌&&◌, slice_index}
 use Rattle.c_ints.specs.Range.{bytes_of}
 use Rattle.c_ints.specs.declared.types.IntTy.TheVariants as IntTy
 use Rattle.c_typed.specs.Trees as tree

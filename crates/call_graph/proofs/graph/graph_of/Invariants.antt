@@ -1,4 +1,4 @@
-use Rattle.std.proofs.Common.{◌≡◌, ◌++◌, [], map, take, replicate, length}
+use Rattle.std.proofs.Common.{◌≡◌, map, take}
 use Rattle.c_typed.specs.Chains.{row_of}
 use Rattle.c_typed.specs.Views.{function_of}
 use Rattle.call_graph.specs.Rows.{rows_of}
