@@ -1,10 +1,8 @@
 -- The temporary bytes of the arguments of a call, one argument after the other.
-use Rattle.std.proofs.Common.{◌≡◌, ℕ, ◌+◌, ◌<◌, ◌≤◌, ◌^◌, ◌-◌, max, min, List, [], ◌∷◌, map, length, get_or, drop, refl, sym, ap, ◌∙◌, arith}
+use Rattle.std.proofs.Common.{◌≡◌, ℕ, ◌+◌, ◌<◌, ◌^◌, max, List, [], ◌∷◌, map, length, get_or, drop, refl, sym, ap, ◌∙◌, arith}
 use Rattle.c_typed.specs.declared.expression.TExpr.{TExpr}
 use Rattle.c_typed.specs.Nodes.{capped}
 use Rattle.c_typed.specs.Room.{room, arguments_room, arguments_bytes}
-use Rattle.c_typed.specs.Trees as tree
-use Rattle.c_typed.specs.Trees.{Expression, Expressions}
 use Rattle.c_typed.specs.Types.{value_bytes}
 use Rattle.c_typed.specs.Views.{expression_of, arguments_of}
 use Rattle.std.proofs.lemmas.List.{at_drop_more}

@@ -1,8 +1,8 @@
 -- Laws of runs of free bytes.
-use Rattle.std.proofs.Common.{◌≡◌, ℕ, zero, suc, ◌+◌, ◌-◌, ◌<◌, ◌≤◌, ◌⊎◌, inl, inr, Bool, true, false, IsTrue, List, [], ◌∷◌, get_or, replicate, refl, sym, ap, ◌∙◌, subst, arith}
+use Rattle.std.proofs.Common.{◌≡◌, ℕ, zero, suc, ◌+◌, ◌-◌, ◌<◌, ◌≤◌, ◌⊎◌, inl, inr, Bool, true, false, IsTrue, List, get_or, replicate, refl, ap, ◌∙◌, subst, arith}
 use Rattle.std.proofs.lemmas.Bool.Decides.{eqb_tells}
 use Rattle.ram_place.specs.declared.memory.Span.{Span}
-use Rattle.ram_place.specs.Memory.{is_taken, IsFree, IsIn, IsPlace, IsFull}
+use Rattle.ram_place.specs.Memory.{is_taken, IsFree, IsPlace, IsFull}
 
 pub none_taken : (n a : ℕ) → get_or (replicate n false) a false ≡ false
 none_taken zero a = refl

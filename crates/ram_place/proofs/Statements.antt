@@ -1,5 +1,5 @@
 -- What lists of statements, arms and items give, one element after the other.
-use Rattle.std.proofs.Common.{◌≡◌, ℕ, ◌+◌, max, List, [], ◌∷◌, map, refl}
+use Rattle.std.proofs.Common.{◌≡◌, ℕ, max, List, [], ◌∷◌, map, refl}
 use Rattle.c_typed.specs.declared.statement.TArm.{TArm}
 use Rattle.c_typed.specs.declared.statement.TItem.{TItem}
 use Rattle.c_typed.specs.declared.statement.TStmt.{TStmt}

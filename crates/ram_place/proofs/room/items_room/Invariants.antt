@@ -1,4 +1,4 @@
-use Rattle.std.proofs.Common.{◌≡◌, ◌+◌, ◌<◌, ◌^◌, drop, map, max}
+use Rattle.std.proofs.Common.{◌≡◌, ◌<◌, ◌^◌, drop, map, max}
 use Rattle.c_typed.specs.Nodes.{capped}
 use Rattle.c_typed.specs.Views.{size_of}
 use Rattle.ram_place.proofs.Statements.{items_room_in}

@@ -1,4 +1,3 @@
-use Rattle.std.proofs.Common.{◌≡◌, ℕ, ◌+◌, ◌<◌, ◌≤◌, false}
 use Rattle.ram_place.specs.Memory.{IsFree}
 use Rattle.ram_place.proofs.memory.Taken.is_free.Given as goal
 

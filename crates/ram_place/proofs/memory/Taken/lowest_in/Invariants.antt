@@ -1,4 +1,4 @@
-use Rattle.std.proofs.Common.{◌≡◌, ℕ, ◌+◌, ◌<◌, ◌≤◌}
+use Rattle.std.proofs.Common.{ℕ, ◌+◌, ◌<◌}
 use Rattle.ram_place.specs.Memory.{IsPlace}
 use Rattle.ram_place.proofs.memory.Taken.lowest_in.Given as goal
 
