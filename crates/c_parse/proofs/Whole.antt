@@ -23,7 +23,7 @@ by_limit : (toks : List Tok) (C : Type 0) → ((e : ParseError) → first_over 0
 by_limit toks C some none = elim (first_over 0 0 toks) as (λ q. first_over 0 0 toks ≡ q → C) [ Some e ↦ λ h. some e h | None ↦ λ h. none h ] refl
 
 pub found : {X : Type 0} (view : X → List ItemTree) (text : List ℕ) (toks : List Tok) (r : Result X ParseError) → Limits toks r → Within view text toks r → IfOk r (λ u. (symbols_in text toks ≡ spelled_unit (view u)) × IsUnit (view u))
-found view text toks (Ok u) limit within = by_limit toks ((symbols_in text toks ≡ spelled_unit (view u)) × IsUnit (view u)) (λ e h. absurd (let no = limit e h in cc)) (λ h. unit_takes (symbols_in text toks) (view u) (symbols_plain text toks) (within h))
+found view text toks (Ok u) limit within = by_limit toks ((symbols_in text toks ≡ spelled_unit (view u)) × IsUnit (view u)) (λ e h. absurd (let differ = limit e h in cc)) (λ h. unit_takes (symbols_in text toks) (view u) (symbols_plain text toks) (within h))
 found view text toks (Err e) limit within = tt
 
 pub only : {X : Type 0} (view : X → List ItemTree) (text : List ℕ) (toks : List Tok) (r : Result X ParseError) → Within view text toks r → (u : List ItemTree) → IsUnit u → symbols_in text toks ≡ spelled_unit u → first_over 0 0 toks ≡ None → Gives view r (Some u)
@@ -47,11 +47,11 @@ limit_only view text toks r limit within e h is =
 
 -- the first token over a limit is never told as an error of syntax
 judged_limit : (a b line : ℕ) (later : Option ParseError) (l : ℕ) → (later ≡ Some (Syntax l) → ⊥) → judged a b line later ≡ Some (Syntax l) → ⊥
-judged_limit a b line later l no e = go (nat_lt 64 a) (nat_lt 8192 b) e where
+judged_limit a b line later l never e = go (nat_lt 64 a) (nat_lt 8192 b) e where
   go : (x y : Bool) → cond x (Some (Nesting line)) (cond y (Some (Run line)) later) ≡ Some (Syntax l) → ⊥
-  go true y h = absurd cc
-  go false true h = absurd cc
-  go false false h = no h
+  go true y h = absurd (let differ : Some (Nesting line) ≡ Some (Syntax l) = h in cc)
+  go false true h = absurd (let differ : Some (Run line) ≡ Some (Syntax l) = h in cc)
+  go false false h = never h
 
 never_syntax : (n m : ℕ) (toks : List Tok) (l : ℕ) → first_over n m toks ≡ Some (Syntax l) → ⊥
 unfolding first_over
