@@ -813,3 +813,47 @@ fn functions_keep_their_parts(rt: HostRuntime) -> Result<(), Fail> {
     );
     Ok(())
 }
+
+/// A text between two that are repeated.
+fn repeated(alloc: Global, parts: &[(&[u8], usize)]) -> Result<Vec<u8>, Fail> {
+    let mut text = Vec::new(alloc);
+    for (part, times) in parts {
+        for _ in 0..*times {
+            text.extend_from_slice(part)?;
+        }
+    }
+    Ok(text)
+}
+
+#[test]
+fn long_texts_are_taken(rt: HostRuntime) -> Result<(), Fail> {
+    let prefixes: [(&[u8], usize); 3] = [(b"void main(void){", 1), (b"- ", 8_000), (b"1;}", 1)];
+    let sum: [(&[u8], usize); 3] = [(b"void main(void){1", 1), (b"+1", 4_000), (b";}", 1)];
+    let chain: [(&[u8], usize); 3] = [
+        (b"struct s{struct s*a;}*p;void main(void){p", 1),
+        (b"->a", 4_000),
+        (b";}", 1),
+    ];
+    let choices: [(&[u8], usize); 3] = [(b"void main(void){", 1), (b"1?2:", 2_000), (b"3;}", 1)];
+    let arms: [(&[u8], usize); 3] = [
+        (b"void main(void){", 1),
+        (b"if(1);else ", 10_000),
+        (b";}", 1),
+    ];
+    let cases: [(&[(&[u8], usize)], u64); 5] = [
+        (&prefixes, 8_003),
+        (&sum, 8_003),
+        (&chain, 12_004),
+        (&choices, 6_003),
+        (&arms, 30_002),
+    ];
+    let mut wrong: usize = 0;
+    for (parts, wanted) in cases {
+        let text = repeated(rt.alloc(), parts)?;
+        if typed(rt.alloc(), &text)?.nodes() != wanted {
+            wrong = wrong.wrapping_add(1);
+        }
+    }
+    assert_eq!(rt; wrong, 0);
+    Ok(())
+}
