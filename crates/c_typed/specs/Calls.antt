@@ -1,174 +1,125 @@
--- Which functions the functions of a program call, chains of calls, and the rules on main and on the interrupt
--- handler (HI-TECH PICC manual, interrupt functions; the rules are the project's own).
-use Rattle.std.specs.Prelude.{ℕ, ◌+◌, List, [], ◌∷◌, ◌++◌, Option, Some, None, Bool, true, false, map, nat_eq, not, IsTrue, zero, suc, if◌then◌else◌}
-use Rattle.std.specs.Global.{Box}
+-- Which functions and helpers a function calls, and chains of calls.
+use Rattle.std.specs.Prelude.{ℕ, nat_eq, Bool, true, false, if◌then◌else◌, List, [], ◌∷◌, ◌++◌, Option, Some, None}
+use Rattle.c_ints.specs.declared.operators.BinOp.{BinOp}
+use Rattle.c_ints.specs.declared.operators.BinOp.TheVariants as binop
+use Rattle.c_ints.specs.declared.types.IntTy.{IntTy}
+use Rattle.c_ints.specs.declared.types.IntTy.TheVariants as int
+use Rattle.c_typed.specs.Trees as tree
+use Rattle.c_typed.specs.Trees.{Expression, Expressions, Place, Item, Statement, Statements, Arm, Arms, LastArm}
+use Rattle.c_typed.specs.Types.{type_of, is_constant}
+use Rattle.c_typed.specs.declared.calls.FnId.{FnId}
+use Rattle.c_typed.specs.declared.calls.FnId.TheVariants as callee
+use Rattle.c_typed.specs.declared.calls.FnId.TheVariants.{User}
+use Rattle.c_typed.specs.declared.calls.Helper.{Helper}
+use Rattle.c_typed.specs.declared.calls.Helper.TheVariants.{Mul2, Mul4, Divu2, Divs2, Remu2, Rems2, Divu4, Divs4, Remu4, Rems4, Shl2, Shru2, Shrs2, Shl4, Shru4, Shrs4}
 use Rattle.c_typed.specs.declared.types.Ty.{Ty}
-use Rattle.c_typed.specs.declared.types.Ty.TheVariants as tys
-use Rattle.c_typed.specs.declared.expression.TExpr.{TExpr}
-use Rattle.c_typed.specs.declared.expression.TPlace.{TPlace}
-use Rattle.c_typed.specs.declared.expression.TExpr.TheOpen as Open
-use Rattle.c_typed.specs.declared.expression.TExpr.TheFolds.{fold-TExpr, fold-TPlace}
-use Rattle.c_typed.specs.declared.statement.TItem.{TItem}
-use Rattle.c_typed.specs.declared.statement.TItem.TheVariants as items
-use Rattle.c_typed.specs.declared.statement.TStmt.{TStmt}
-use Rattle.c_typed.specs.declared.statement.TStmt.TheOpen as OpenStmt
-use Rattle.c_typed.specs.declared.statement.TStmt.TheFolds.{fold-TStmt}
-use Rattle.c_typed.specs.declared.program.Function.{Function}
-use Rattle.c_typed.specs.declared.program.Typed.{Typed}
-use Rattle.c_typed.specs.declared.program.RootKind.{RootKind}
-use Rattle.c_typed.specs.declared.program.RootKind.TheVariants as kinds
+use Rattle.c_typed.specs.declared.types.Ty.TheVariants.{Int}
 
-abbrev pub flat : List (List ℕ) → List ℕ
-flat [] = []
-flat (xs ∷ xss) = xs ++ flat xss
+-- the helper of that width and sign for a type: signed and unsigned of 2 bytes, signed and unsigned of 4 bytes
+abbrev pub by_type : Helper → Helper → Helper → Helper → IntTy → Option Helper
+by_type s2 u2 s4 u4 int.Char = None
+by_type s2 u2 s4 u4 int.SChar = None
+by_type s2 u2 s4 u4 int.UChar = None
+by_type s2 u2 s4 u4 int.Short = Some s2
+by_type s2 u2 s4 u4 int.UShort = Some u2
+by_type s2 u2 s4 u4 int.Int = Some s2
+by_type s2 u2 s4 u4 int.UInt = Some u2
+by_type s2 u2 s4 u4 int.Long = Some s4
+by_type s2 u2 s4 u4 int.ULong = Some u4
 
--- The functions that one layer of a tree calls, by number, with those of each part in the place of that part.
-abbrev pub expression_step : Open.TExpr-F (List ℕ) (List ℕ) → List ℕ
-expression_step (Open.Constant x1 x2) = []
-expression_step (Open.Read x1 x2 x3) = x1.value
-expression_step (Open.Address x1 x2 x3) = x1.value
-expression_step (Open.Convert x1 x2 x3) = x1.value
-expression_step (Open.Cast x1 x2 x3) = x1.value
-expression_step (Open.Unary x1 x2 x3 x4) = x2.value
-expression_step (Open.Binary x1 x2 x3 x4 x5) = x2.value ++ x3.value
-expression_step (Open.Offset x1 x2 x3 x4 x5 x6) = x2.value ++ x3.value
-expression_step (Open.Difference x1 x2 x3 x4) = x1.value ++ x2.value
-expression_step (Open.Logical x1 x2 x3 x4) = x2.value ++ x3.value
-expression_step (Open.Conditional x1 x2 x3 x4 x5) = x1.value ++ x2.value ++ x3.value
-expression_step (Open.Comma x1 x2 x3 x4) = x1.value ++ x2.value
-expression_step (Open.Assign x1 x2 x3 x4) = x1.value ++ x2.value
-expression_step (Open.StructAssign x1 x2 x3 x4) = x1.value ++ x2.value
-expression_step (Open.Update x1 x2 x3 x4 x5 x6 x7) = x2.value ++ x3.value
-expression_step (Open.Step x1 x2 x3 x4 x5 x6) = x2.value
-expression_step (Open.Call x1 x2 x3 x4) = flat x2.items ++ (x1 ∷ [])
+-- The helper of an operator on a type; a shift by an integer constant expression has none.
+abbrev pub int_helper : BinOp → Bool → IntTy → Option Helper
+int_helper binop.Mul constant ty = by_type Mul2 Mul2 Mul4 Mul4 ty
+int_helper binop.Div constant ty = by_type Divs2 Divu2 Divs4 Divu4 ty
+int_helper binop.Rem constant ty = by_type Rems2 Remu2 Rems4 Remu4 ty
+int_helper binop.Shl true ty = None
+int_helper binop.Shl false ty = by_type Shl2 Shl2 Shl4 Shl4 ty
+int_helper binop.Shr true ty = None
+int_helper binop.Shr false ty = by_type Shrs2 Shru2 Shrs4 Shru4 ty
+int_helper _ constant ty = None
 
-abbrev pub place_step : Open.TPlace-F (List ℕ) (List ℕ) → List ℕ
-place_step (Open.Name x1 x2 x3) = []
-place_step (Open.Bit x1 x2 x3) = []
-place_step (Open.Member x1 x2 x3 x4 x5) = x1.value
-place_step (Open.Deref x1 x2 x3) = x1.value
+abbrev pub helper_for : BinOp → Bool → Ty → Option Helper
+helper_for op constant (Int ty) = int_helper op constant ty
+helper_for op constant _ = None
 
--- The functions that a whole expression calls, and that a place does.
-unfoldable pub expression_calls : TExpr → List ℕ
-expression_calls = fold-TExpr (List ℕ) (List ℕ) expression_step place_step
+-- A difference of pointers divides, but for elements of one byte.
+abbrev pub difference_helper : ℕ → Option Helper
+difference_helper size = if nat_eq size 1 then None else Some Divs2
 
-unfoldable pub place_calls : TPlace → List ℕ
-place_calls = fold-TPlace (List ℕ) (List ℕ) expression_step place_step
+abbrev pub helper_calls : Option Helper → List FnId
+helper_calls None = []
+helper_calls (Some h) = callee.Helper h ∷ []
 
-abbrev pub any_calls : Option TExpr → List ℕ
+unfoldable mutual
+  -- the calls of an expression, each as often as it stands there
+  pub calls : Expression → List FnId
+  calls (tree.Constant value line) = []
+  calls (tree.Read place ty line) = place_calls place
+  calls (tree.Address place ty line) = place_calls place
+  calls (tree.Convert operand ty line) = calls operand
+  calls (tree.Cast operand ty line) = calls operand
+  calls (tree.Unary op operand ty line) = calls operand
+  calls (tree.Binary op left right ty line) = calls left ++ calls right ++ helper_calls (helper_for op (is_constant right) (type_of left))
+  calls (tree.Offset op left right size ty line) = calls left ++ calls right
+  calls (tree.Difference left right size line) = calls left ++ calls right ++ helper_calls (difference_helper size)
+  calls (tree.Logical op left right line) = calls left ++ calls right
+  calls (tree.Conditional condition chosen otherwise ty line) = calls condition ++ calls chosen ++ calls otherwise
+  calls (tree.Comma left right ty line) = calls left ++ calls right
+  calls (tree.Assign place value ty line) = place_calls place ++ calls value
+  calls (tree.StructAssign place from size line) = place_calls place ++ place_calls from
+  calls (tree.Update op place value operation size ty line) = place_calls place ++ calls value ++ helper_calls (helper_for op (is_constant value) operation)
+  calls (tree.Step op place operation size ty line) = place_calls place
+  calls (tree.Call function arguments ty line) = arguments_calls arguments ++ User function ∷ []
+
+  pub place_calls : Place → List FnId
+  place_calls (tree.Name object ty line) = []
+  place_calls (tree.Bit register bit line) = []
+  place_calls (tree.Member whole member offset ty line) = place_calls whole
+  place_calls (tree.Deref pointer ty line) = calls pointer
+
+  pub arguments_calls : Expressions → List FnId
+  arguments_calls tree.NoExpression = []
+  arguments_calls (tree.AndExpression e es) = calls e ++ arguments_calls es
+
+abbrev pub any_calls : Option Expression → List FnId
 any_calls None = []
-any_calls (Some e) = expression_calls e
+any_calls (Some e) = calls e
 
-abbrev pub item_calls : TItem → List ℕ
-item_calls (items.Scalar offset value) = expression_calls value
-item_calls (items.Struct offset from size) = place_calls from
-item_calls (items.Text offset bytes size) = []
+abbrev pub item_calls : Item → List FnId
+item_calls (tree.Scalar offset value) = calls value
+item_calls (tree.Struct offset from size) = place_calls from
+item_calls (tree.Text offset bytes size) = []
 
-abbrev pub last_of : Option (Box (List ℕ)) → List ℕ
-last_of None = []
-last_of (Some last) = last.value
+abbrev pub items_calls : List Item → List FnId
+items_calls [] = []
+items_calls (item ∷ items) = item_calls item ++ items_calls items
 
-abbrev pub statement_step : OpenStmt.TStmt-F (List ℕ) (List ℕ) → List ℕ
-statement_step (OpenStmt.Block x1 x2) = flat x1.items
-statement_step (OpenStmt.Empty x1) = []
-statement_step (OpenStmt.Expr x1 x2) = expression_calls x1
-statement_step (OpenStmt.Declare x1 x2) = []
-statement_step (OpenStmt.InitScalar x1 x2 x3) = expression_calls x2
-statement_step (OpenStmt.InitList x1 x2 x3) = flat (map item_calls x2.items)
-statement_step (OpenStmt.If x1 x2 x3) = flat x1.items ++ last_of x2
-statement_step (OpenStmt.Loop x1 x2 x3 x4 x5 x6) = any_calls x2 ++ any_calls x3 ++ any_calls x4 ++ x5.value
-statement_step (OpenStmt.Switch x1 x2 x3 x4 x5) = expression_calls x1 ++ flat x4.items
-statement_step (OpenStmt.Break x1) = []
-statement_step (OpenStmt.Continue x1) = []
-statement_step (OpenStmt.Return x1 x2) = any_calls x1
+unfoldable mutual
+  pub statement_calls : Statement → List FnId
+  statement_calls (tree.Block statements line) = statements_calls statements
+  statement_calls (tree.Empty line) = []
+  statement_calls (tree.Expr value line) = calls value
+  statement_calls (tree.Declare local line) = []
+  statement_calls (tree.InitScalar local value line) = calls value
+  statement_calls (tree.InitList local items line) = items_calls items
+  statement_calls (tree.If arms otherwise line) = arms_calls arms ++ last_calls otherwise
+  statement_calls (tree.Loop shape begin condition step body line) = any_calls begin ++ any_calls condition ++ any_calls step ++ statement_calls body
+  statement_calls (tree.Switch value cases default statements line) = calls value ++ statements_calls statements
+  statement_calls (tree.Break line) = []
+  statement_calls (tree.Continue line) = []
+  statement_calls (tree.Return value line) = any_calls value
 
-abbrev pub arm_step : OpenStmt.TArm-F (List ℕ) (List ℕ) → List ℕ
-arm_step a = expression_calls a.condition ++ a.then
+  pub statements_calls : Statements → List FnId
+  statements_calls tree.NoStatement = []
+  statements_calls (tree.AndStatement s ss) = statement_calls s ++ statements_calls ss
 
--- The functions that a whole statement calls.
-unfoldable pub statement_calls : TStmt → List ℕ
-statement_calls = fold-TStmt (List ℕ) (List ℕ) statement_step arm_step
+  pub arm_calls : Arm → List FnId
+  arm_calls (tree.OneArm condition chosen line) = calls condition ++ statement_calls chosen
 
-abbrev pub function_calls : Function → List ℕ
-function_calls f = flat (map statement_calls f.body.items)
+  pub arms_calls : Arms → List FnId
+  arms_calls tree.NoArm = []
+  arms_calls (tree.AndArm arm arms) = arm_calls arm ++ arms_calls arms
 
-abbrev pub has : List ℕ → ℕ → Bool
-has [] g = false
-has (f ∷ fs) g = if nat_eq f g then true else has fs g
-
--- Whether the function of the number f, in this list of functions, calls that of the number g.
-abbrev pub calls_in : List Function → ℕ → ℕ → Bool
-calls_in [] f g = false
-calls_in (x ∷ xs) zero g = has (function_calls x) g
-calls_in (x ∷ xs) (suc f) g = calls_in xs f g
-
-abbrev pub calls : Typed → ℕ → ℕ → Bool
-calls p f g = calls_in p.functions.items f g
-
--- A chain of calls: each function of the list calls the next one.
-abbrev pub is_chain : Typed → List ℕ → Bool
-is_chain p [] = true
-is_chain p (f ∷ []) = true
-is_chain p (f ∷ g ∷ fs) = if calls p f g then is_chain p (g ∷ fs) else false
-
--- A function reaches another one by a chain of at least one call.
-abbrev pub Reaches : Typed → ℕ → ℕ → Type 0
-Reaches p f g = (between : List ℕ) × IsTrue (is_chain p (f ∷ (between ++ g ∷ [])))
-
-abbrev pub is_void : Ty → Bool
-is_void tys.Void = true
-is_void (tys.Int ty) = false
-is_void (tys.Pointer target) = false
-is_void (tys.Array element length size) = false
-is_void (tys.Struct number) = false
-
-abbrev pub is_empty : {A : Type 0} → List A → Bool
-is_empty [] = true
-is_empty (x ∷ xs) = false
-
--- void, and without parameters
-abbrev pub is_plain : Function → Bool
-is_plain f = if is_void f.result then is_empty f.params.items else false
-
-abbrev pub same_bytes : List ℕ → List ℕ → Bool
-same_bytes [] [] = true
-same_bytes [] (y ∷ ys) = false
-same_bytes (x ∷ xs) [] = false
-same_bytes (x ∷ xs) (y ∷ ys) = if nat_eq x y then same_bytes xs ys else false
-
--- main, by its name
-abbrev pub is_main : Function → Bool
-is_main f = same_bytes f.name.items (109 ∷ 97 ∷ 105 ∷ 110 ∷ [])
-
-abbrev pub some : (Function → Bool) → List Function → Bool
-some test [] = false
-some test (f ∷ fs) = if test f then true else some test fs
-
-abbrev pub handlers : List Function → ℕ
-handlers [] = 0
-handlers (f ∷ fs) = (if f.interrupt then 1 else 0) + handlers fs
-
-abbrev pub is_bad_main : Function → Bool
-is_bad_main f = if is_main f then (if is_plain f then f.interrupt else true) else false
-
-abbrev pub is_bad_handler : Function → Bool
-is_bad_handler f = if f.interrupt then not (is_plain f) else false
-
--- Whether a function of the list calls that of the number g.
-abbrev pub is_called : List Function → ℕ → Bool
-is_called [] g = false
-is_called (f ∷ fs) g = if has (function_calls f) g then true else is_called fs g
-
--- Whether main or a handler among the functions from the number n on is called by one of all.
-abbrev pub is_root_called : List Function → List Function → ℕ → Bool
-is_root_called all [] n = false
-is_root_called all (f ∷ fs) n = if (if is_main f then true else f.interrupt) then (if is_called all n then true else is_root_called all fs (n + 1)) else is_root_called all fs (n + 1)
-
--- The first rule on main and on the handler that a program breaks.
-abbrev pub broken_root : Typed → Option RootKind
-broken_root p =
-    let fs = p.functions.items in
-    if not (some is_main fs) then Some kinds.None
-    else (if some is_bad_main fs then Some kinds.Main
-    else (if some is_bad_handler fs then Some kinds.Shape
-    else (if (if nat_eq (handlers fs) 0 then true else nat_eq (handlers fs) 1) then (if is_root_called fs fs 0 then Some kinds.Called else None) else Some kinds.Second)))
+  pub last_calls : LastArm → List FnId
+  last_calls tree.NoLast = []
+  last_calls (tree.Last s) = statement_calls s

@@ -1,5 +1,9 @@
 //! Typed expressions: each node has its type and the line of its first token, counted from 1.
 
+ghost use Rattle.std.specs.Prelude.{◌≡◌};
+ghost use Rattle.c_typed.specs.Types.{type_of, place_type, form_of, is_constant};
+ghost use Rattle.c_typed.specs.Views.{expression_of, place_of};
+
 use crate::types::{Qualified, Ty};
 use c_ints::{BinOp, IntTy, UnOp, Value};
 
@@ -163,6 +167,15 @@ pub enum TExpr {
     },
 }
 
+/// How a place is found: by its name alone (a name, or a member of such a place), as a bit of a register,
+/// or by an address that is computed.
+#[derive(Clone, Copy, PartialEq, Eq, Debug)]
+pub enum PlaceForm {
+    Fixed,
+    Bit,
+    Computed,
+}
+
 /// An expression that is a place (ISO/IEC 9899:1990, 6.2.2.1: an lvalue).
 #[cycle(expression)]
 #[derive(Drop)]
@@ -197,7 +210,10 @@ pub enum TPlace {
 
 impl TExpr {
     /// The type of the value.
-    pub fn ty(&self) -> Ty {
+    #[tactic(auto, using(crate::proofs::TypeSights::types))]
+    pub fn ty(&self) -> Ty
+        ensures { result ≡ type_of (expression_of self.now) }
+    {
         match self {
             TExpr::Constant { value, .. } => Ty::Int(value.ty()),
             TExpr::Read { ty, .. }
@@ -215,6 +231,40 @@ impl TExpr {
             | TExpr::Call { ty, .. } => *ty,
             TExpr::Difference { .. } | TExpr::Logical { .. } => Ty::Int(IntTy::Int),
             TExpr::StructAssign { .. } => Ty::Void,
+        }
+    }
+
+    /// Whether this is an integer constant expression (ISO/IEC 9899:1990, 6.4): it has only constants,
+    /// `sizeof`, casts to integer types, and operators other than assignments and the comma.
+    #[tactic(auto, using(crate::proofs::TypeSights::constants))]
+    pub fn is_constant(&self) -> bool
+        ensures { result ≡ is_constant (expression_of self.now) }
+    {
+        match self {
+            TExpr::Constant { .. } => true,
+            TExpr::Convert { operand, ty, .. } | TExpr::Cast { operand, ty, .. } => {
+                ty.int().is_some() && operand.is_constant()
+            }
+            TExpr::Unary { operand, .. } => operand.is_constant(),
+            TExpr::Binary { left, right, .. } | TExpr::Logical { left, right, .. } => {
+                left.is_constant() && right.is_constant()
+            }
+            TExpr::Conditional {
+                condition,
+                then,
+                otherwise,
+                ..
+            } => condition.is_constant() && (then.is_constant() && otherwise.is_constant()),
+            TExpr::Read { .. }
+            | TExpr::Address { .. }
+            | TExpr::Offset { .. }
+            | TExpr::Difference { .. }
+            | TExpr::Comma { .. }
+            | TExpr::Assign { .. }
+            | TExpr::StructAssign { .. }
+            | TExpr::Update { .. }
+            | TExpr::Step { .. }
+            | TExpr::Call { .. } => false,
         }
     }
 
@@ -244,13 +294,32 @@ impl TExpr {
 
 impl TPlace {
     /// The type of the place. A bit is an unsigned char that is volatile, as its register is.
-    pub fn ty(&self) -> Qualified {
+    #[tactic(auto, using(crate::proofs::TypeSights::place_types))]
+    pub fn ty(&self) -> Qualified
+        ensures { result ≡ place_type (place_of self.now) }
+    {
         match self {
             TPlace::Name { ty, .. } | TPlace::Member { ty, .. } | TPlace::Deref { ty, .. } => *ty,
             TPlace::Bit { .. } => Qualified {
                 ty: Ty::Int(IntTy::UChar),
                 constant: false,
                 volatile: true,
+            },
+        }
+    }
+
+    /// How the place is found.
+    #[tactic(auto, using(crate::proofs::TypeSights::forms))]
+    pub fn form(&self) -> PlaceForm
+        ensures { result ≡ form_of (place_of self.now) }
+    {
+        match self {
+            TPlace::Name { .. } => PlaceForm::Fixed,
+            TPlace::Bit { .. } => PlaceForm::Bit,
+            TPlace::Deref { .. } => PlaceForm::Computed,
+            TPlace::Member { whole, .. } => match whole.form() {
+                PlaceForm::Fixed => PlaceForm::Fixed,
+                PlaceForm::Bit | PlaceForm::Computed => PlaceForm::Computed,
             },
         }
     }

@@ -1,10 +1,11 @@
 // The typed tree of a C program: what the checker makes, and what all passes behind it take.
 //
 // In: nothing; the tree is plain data. Out: the tree's types, sizes, constants and counts.
-// The promise: each ends on every tree, and `Typed::nodes` is the count of nodes that specs/ defines by
-// recursion on the tree.
+// The promise: each ends on every tree; types, forms of places and integer constant expressions are those that specs/
+// defines, and `Typed::nodes` is the count of nodes that it defines, by recursion on the tree.
 #![tactic(auto)]
 
+mod calls;
 mod expression;
 mod folding;
 mod nodes;
@@ -12,7 +13,8 @@ mod program;
 mod statement;
 mod types;
 
-pub use expression::{LogicalOp, Object, StepOp, TExpr, TPlace};
+pub use calls::{FnId, Helper};
+pub use expression::{LogicalOp, Object, PlaceForm, StepOp, TExpr, TPlace};
 pub use folding::Folded;
 pub use program::{Function, Initial, InitialByte, RootKind, Static, Typed, Variable};
 pub use statement::{LoopForm, TArm, TCase, TItem, TStmt};

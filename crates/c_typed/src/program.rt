@@ -1,5 +1,9 @@
 //! A typed program.
 
+ghost use Rattle.std.specs.Prelude.{◌≡◌, map};
+ghost use Rattle.c_typed.specs.Types.{type_bytes};
+ghost use Rattle.c_typed.specs.Views.{size_of};
+
 use crate::statement::TStmt;
 use crate::types::{Qualified, Structure, Ty, bytes_of};
 
@@ -73,7 +77,9 @@ pub enum RootKind {
 
 impl Typed {
     /// How many bytes a value or an object of the type has.
-    pub fn bytes_of(&self, ty: Ty) -> u64 {
+    pub fn bytes_of(&self, ty: Ty) -> u64
+        ensures { result ≡ type_bytes (map size_of self.now.structures.items) ty }
+    {
         bytes_of(&self.structures, ty)
     }
 }

@@ -1,5 +1,9 @@
 //! Types of C, as the typed tree has them.
 
+ghost use Rattle.std.specs.Prelude.{◌≡◌, map, is_some};
+ghost use Rattle.c_typed.specs.Types.{is_integer, type_bytes};
+ghost use Rattle.c_typed.specs.Views.{size_of};
+
 use c_ints::IntTy;
 
 /// A type (ISO/IEC 9899:1990, 6.1.2.5). Two types are the same exactly where these values are equal.
@@ -23,7 +27,9 @@ pub enum Ty {
 
 impl Ty {
     /// The integer type that this type is, if it is one.
-    pub fn int(self) -> Option<IntTy> {
+    pub fn int(self) -> Option<IntTy>
+        ensures { is_some result ≡ is_integer self }
+    {
         match self {
             Ty::Int(ty) => Some(ty),
             _ => None,
@@ -110,7 +116,9 @@ pub struct Structure {
 
 /// How many bytes a value or an object of the type has (ISO/IEC 9899:1990, 6.3.3.4): 0 for void, 2
 /// for a pointer. A structure has the number that is told of it.
-pub fn bytes_of(structures: &[Structure], ty: Ty) -> u64 {
+pub fn bytes_of(structures: &[Structure], ty: Ty) -> u64
+    ensures { result ≡ type_bytes (map size_of structures.now) ty }
+{
     match ty {
         Ty::Void => 0,
         Ty::Int(ty) => c_ints::size(ty) as u64,

@@ -1,0 +1,7 @@
+use Rattle.std.proofs.Common.{◌≡◌, drop}
+use Rattle.c_typed.specs.Roots.{is_main}
+use Rattle.call_graph.proofs.Searches.{has_in}
+use Rattle.call_graph.proofs.roots.has_main.Given as goal
+
+abbrev pub invariant-loop-function : goal.invariant-loop-function
+invariant-loop-function l = has_in is_main (drop l.function-index l.functions) ≡ has_in is_main l.functions

@@ -1,0 +1,7 @@
+pub mod Arguments
+pub mod Digits
+pub mod FreeRuns
+pub mod Loops
+pub mod Statements
+pub mod Variables
+pub mod WordLists

@@ -1,0 +1,8 @@
+use Rattle.std.proofs.Common.{◌≡◌, ◌+◌, ◌<◌, ◌^◌, drop, map}
+use Rattle.c_typed.specs.Nodes.{capped}
+use Rattle.c_typed.specs.Views.{size_of}
+use Rattle.ram_place.proofs.WordLists.{items_bytes_in}
+use Rattle.ram_place.proofs.words.items_bytes.Given as goal
+
+abbrev pub invariant-loop-item : goal.invariant-loop-item
+invariant-loop-item l = (l.sum < 2 ^ 64) × (capped (l.sum + items_bytes_in (map size_of l.structures) (drop l.item-index l.items)) ≡ capped (items_bytes_in (map size_of l.structures) l.items))
