@@ -1,5 +1,5 @@
 -- The loop that replaces the names of the tokens outside directives.
-use Rattle.std.proofs.Common.{ℕ, zero, suc, ◌+◌, ◌-◌, ◌<◌, ◌≤◌, ◌≡◌, Bool, true, false, Option, Some, None, Result, Ok, Err, List, [], ◌∷◌, ◌++◌, length, take, drop, get_or, map, replicate, min, arith, ap, ap₂, sym, ◌∙◌, subst, refl, append_assoc, append-nil, drop-cons, add-one}
+use Rattle.std.proofs.Common.{ℕ, zero, suc, ◌+◌, ◌<◌, ◌≤◌, ◌≡◌, Bool, false, Option, Some, None, Result, Ok, Err, List, [], ◌∷◌, ◌++◌, length, take, drop, get_or, replicate, arith, ap, ap₂, sym, ◌∙◌, refl, append-nil, drop-cons, add-one}
 use Rattle.std.specs.Prelude.{All}
 use Rattle.std.specs.List.{flat_map}
 use Rattle.std.proofs.lemmas.List.{drop_all, length-map, length-take}
@@ -15,8 +15,8 @@ use Rattle.c_pre.specs.declared.program.Free.{Free}
 use Rattle.c_pre.specs.declared.replace.Output.{Output}
 use Rattle.c_pre.specs.declared.directive.Definition.{Definition}
 use Rattle.c_pre.specs.Directive.{Table, table_of, entry_of}
-use Rattle.c_pre.specs.Replace.{Event, events_of, replace, limited, with_tokens, total, Passes, Unless}
-use Rattle.c_pre.specs.Items.{Item, items, first_word, first_bad, free_tokens, free_view, or_else, judged, program_of, Walks, IsFree, IsWordOf, IsError, Gives, events}
+use Rattle.c_pre.specs.Replace.{Event, events_of, replace, limited, with_tokens, total, Unless}
+use Rattle.c_pre.specs.Items.{items, first_word, first_bad, free_tokens, free_view, or_else, judged, program_of, Walks, IsFree, IsWordOf, IsError, events}
 use Rattle.c_pre.proofs.Walking.{map_front}
 
 -- what is left of the tokens outside directives, after the first `i` of them

@@ -1,5 +1,5 @@
 -- Lists whose names were looked up are replaced like their tokens.
-use Rattle.std.proofs.Common.{ℕ, zero, suc, ◌+◌, ◌<◌, ◌≤◌, ◌≡◌, Bool, true, false, cond, Option, Some, None, List, [], ◌∷◌, ◌++◌, length, take, map, get_or, set, replicate, arith, ap, ap₂, refl, sym, ◌∙◌, nat_lt}
+use Rattle.std.proofs.Common.{ℕ, zero, suc, ◌+◌, ◌<◌, ◌≤◌, ◌≡◌, Bool, true, false, cond, Option, Some, None, List, [], ◌∷◌, ◌++◌, length, take, map, get_or, set, replicate, ap, ap₂, refl, sym, ◌∙◌, nat_lt}
 use Rattle.std.specs.Prelude.{◌&&◌, not}
 use Rattle.std.proofs.lemmas.List.{length-map, length-set, length-replicate, map-append, take_all, take_more, take-map}
 use Rattle.std.specs.declared.vec.Vec.{Vec}

@@ -1,4 +1,4 @@
-use Rattle.std.proofs.Common.{refl, get_or, arith, []}
+use Rattle.std.proofs.Common.{refl, get_or, []}
 use Rattle.std.proofs.lemmas.Result.{err_from_is_err_and}
 use Rattle.c_pre.specs.declared.program.Free.{Free}
 use Rattle.c_pre.proofs.Finishing.{finishes_on, finishes_end, finishes_stop, made_of_item, marks_at_item, marks_after_item}

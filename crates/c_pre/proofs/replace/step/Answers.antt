@@ -1,4 +1,4 @@
-use Rattle.std.proofs.Common.{◌∙◌, ap, sym, refl, ◌∷◌, ◌++◌, [], arith, length, Bool, true, false, set, List, ℕ, ◌≡◌, ◌<◌, get_or, Some, subst, reverse}
+use Rattle.std.proofs.Common.{◌∙◌, ap, sym, refl, ◌∷◌, ◌++◌, [], arith, length, true, false, set, List, ℕ, ◌≡◌, ◌<◌, get_or, Some, subst, reverse}
 use Rattle.std.specs.Prelude.{All}
 use Rattle.std.proofs.lemmas.Result.{err_from_is_err_and}
 use Rattle.std.specs.declared.vec.Vec.{Vec}
