@@ -24,7 +24,9 @@ ends_run (kinds.Punct Semicolon) = true
 ends_run (kinds.Punct RightBrace) = true
 ends_run _ = false
 
--- Four tokens stand with each `?` of a tree: itself, the `:`, and one at least of the two parts behind them.
+-- To each `?` of a tree belong a condition, a part behind it, `:` and a part behind that. So an
+-- expression has more than four tokens to each of them, and what is left of one behind the body of a
+-- structure has four.
 abbrev pub is_crowded : ℕ → ℕ → Bool
 is_crowded run choices = nat_lt run (4 * choices)
 
