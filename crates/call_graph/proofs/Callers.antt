@@ -68,7 +68,7 @@ pub record AreKnown (graph : List (List ℕ)) (i : ℕ) (callers : List (List �
   pub sound : (f g : ℕ) → Calls callers g f → (f < i) × Calls graph f g
   pub complete : (f g : ℕ) → g < length graph → f < i → Calls graph f g → Calls callers g f
 
-none_calls : (count g f : ℕ) → Calls (replicate count []) g f → ⊥
+pub none_calls : (count g f : ℕ) → Calls (replicate count []) g f → ⊥
 none_calls count g f c =
     let lt : g < count = let w : g < length (replicate count []) = caller_within (replicate count []) g f c in omega (arith, w, length-replicate {A = List ℕ} count []) in
     in_none f (subst (λ (r : List ℕ). Contains r f) (get_or-replicate count g [] [] lt) c)

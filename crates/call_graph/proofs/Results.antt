@@ -1,12 +1,12 @@
 -- From the levels under the roots to the copies of a program and its depth.
-use Rattle.std.proofs.Common.{◌≡◌, ℕ, ◌+◌, ◌<◌, ◌≤◌, ◌^◌, ◌⊎◌, ◌↔◌, inl, inr, List, [], ◌∷◌, ◌++◌, Option, Some, None, length, get_or, map, replicate, refl, sym, ap, ◌∙◌, subst, arith}
+use Rattle.std.proofs.Common.{◌≡◌, ℕ, ◌+◌, ◌-◌, ◌<◌, ◌≤◌, ◌⊎◌, ◌↔◌, inl, inr, List, [], ◌∷◌, ◌++◌, Option, Some, None, length, get_or, map, replicate, refl, sym, ap, ◌∙◌, subst, arith}
 use Rattle.std.specs.Global.{Global}
 use Rattle.std.specs.List.{Contains, AllPairs}
 use Rattle.std.specs.Option.{ForSome, MatchOption}
 use Rattle.std.specs.declared.vec.Vec.{Vec}
 use Rattle.std.proofs.lemmas.Bool.{cases_lt}
-use Rattle.std.proofs.lemmas.List.{get_or-map, length-append, length-map, length-replicate}
-use Rattle.c_typed.specs.Chains.{graph_of, row_of, number_of, helper_number, IsChain, IsLevel}
+use Rattle.std.proofs.lemmas.List.{get_or-append_right, get_or-map, length-append, length-map, length-replicate}
+use Rattle.c_typed.specs.Chains.{graph_of, row_of, number_of, helper_number, Calls, IsChain, IsLevel}
 use Rattle.c_typed.specs.Trees.{FunctionTree, Program}
 use Rattle.c_typed.specs.Views.{function_of, program_of}
 use Rattle.c_typed.specs.declared.calls.FnId.{FnId}
@@ -16,11 +16,12 @@ use Rattle.c_typed.specs.declared.calls.Helper.TheVariants.{Mul2, Mul4, Divu2, D
 use Rattle.c_typed.specs.declared.program.Function.{Function}
 use Rattle.call_graph.specs.Adding.{Adds, UnderRoot, UnderHandler, UnderRoots, Measures, MeasuresHandler}
 use Rattle.call_graph.specs.Copies.{IsOne, IsCopy, AreCopies, IsDepth, StandsBefore, name_at, root_of}
-use Rattle.call_graph.specs.Levels.{HasLevel, AreLevels, IsLongest}
+use Rattle.call_graph.specs.Levels.{HasLevel, AreLevels, IsFirstRecursive, IsLongest}
 use Rattle.call_graph.specs.Rows.{rows_of}
 use Rattle.call_graph.specs.declared.levels.Levels.{Levels}
 use Rattle.call_graph.specs.declared.types.FnCopy.{FnCopy}
 use Rattle.call_graph.proofs.Additions.{numbered}
+use Rattle.call_graph.proofs.Callers.{none_calls}
 use Rattle.call_graph.proofs.Marking.{in_none}
 use Rattle.pic_chip.specs.declared.Root.{Root}
 use Rattle.pic_chip.specs.declared.Root.TheVariants as root
@@ -178,3 +179,18 @@ at_none (Some n) A B m is = absurd cc
 pub at_some : (o : Option ℕ) (n : ℕ) (A : Type 0) (B : ℕ → Type 0) → MatchOption o A B → o ≡ Some n → B n
 at_some None n A B m is = absurd cc
 at_some (Some k) n A B m is = let same : k ≡ n = cc in subst B same m
+
+-- helpers call nothing
+function_calls : (p : Program) (f g : ℕ) → Calls (graph_of p) f g → f < length p.functions
+function_calls p f g c = elim (cases_lt f (length p.functions)) [
+  inl lt ↦ lt
+  | inr past ↦ absurd (
+    let none : List ℕ = [] in
+    let front : List (List ℕ) = map (row_of (length p.functions)) p.functions in
+    let row : get_or (graph_of p) f none ≡ get_or (replicate 16 none) (f - length p.functions) none = get_or-append_right front (replicate 16 none) (length p.functions) f none (length-map p.functions (row_of (length p.functions))) past in
+    none_calls 16 (f - length p.functions) g (subst (λ (r : List ℕ). Contains r g) row c)) ]
+
+pub recursion_told : (p : Program) (graph : List (List ℕ)) (f : ℕ) (name : List ℕ) → graph ≡ graph_of p → IsFirstRecursive graph f → name ≡ name_at p f → (g : ℕ) × (g < length p.functions) × IsFirstRecursive (graph_of p) g × (name ≡ name_at p g)
+recursion_told p graph f name is first called =
+    let r : IsFirstRecursive (graph_of p) f = subst (λ (g : List (List ℕ)). IsFirstRecursive g f) is first in
+    (f, function_calls p f r.reaches_itself.0 r.reaches_itself.2.0, r, called)
