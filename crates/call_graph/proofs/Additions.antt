@@ -1,6 +1,6 @@
 -- How the list of copies is made: one copy, one level and one root after the other.
-use Rattle.std.proofs.Common.{◌≡◌, ℕ, ◌+◌, ◌<◌, ◌≤◌, ◌⊎◌, ◌↔◌, inl, inr, List, [], ◌∷◌, ◌++◌, Option, Some, None, length, get_or, zero, suc, refl, sym, ap, ◌∙◌, subst, arith}
-use Rattle.std.specs.List.{Contains, AllPairs}
+use Rattle.std.proofs.Common.{◌≡◌, ℕ, ◌+◌, ◌<◌, ◌≤◌, ◌⊎◌, inl, inr, List, [], ◌∷◌, ◌++◌, Option, Some, None, length, get_or, refl, sym, ap, ◌∙◌, subst, arith}
+use Rattle.std.specs.List.{Contains}
 use Rattle.std.proofs.lemmas.Bool.{cases_eq, cases_lt}
 use Rattle.std.proofs.lemmas.List.{get_or_past}
 use Rattle.std.proofs.lemmas.List.Elements.{Contains-append_left, Contains-get_or, Contains-push, Contains-push_cases}
@@ -76,8 +76,10 @@ adds_one functions P Q old list x a from to here before = record {
   exact = λ c. (
     λ h. elim (Contains-push_cases list x c h) [ inl o ↦ (elim ((a.exact c).0 o) [ inl p ↦ inl p | inr q ↦ inr (to c q) ]) | inr e ↦ inr (subst Q e here) ],
     λ h. elim h [
-      inl o ↦ Contains-append_left list (x ∷ []) c ((a.exact c).1 (inl o))
-      | inr q ↦ (elim (from c q) [ inl p ↦ Contains-append_left list (x ∷ []) c ((a.exact c).1 (inr p)) | inr e ↦ subst (λ (y : FnCopy). Contains (list ++ x ∷ []) y) e (Contains-push list x) ]) ]);
+      | inl o ↦ Contains-append_left list (x ∷ []) c ((a.exact c).1 (inl o))
+      | inr q ↦ (elim (from c q) [ inl p ↦ Contains-append_left list (x ∷ []) c ((a.exact c).1 (inr p)) | inr e ↦ subst (λ (y : FnCopy). Contains (list ++ x ∷ []) y) e (Contains-push list x) ])
+    ],
+  );
   ordered = λ o first. all_pairs_push (StandsBefore functions) list x (a.ordered o (λ y z there p. first y z there (to z p))) (λ k d lt. elim ((a.exact (get_or list k d)).0 (Contains-get_or list k d lt)) [ inl p ↦ first (get_or list k d) x p here | inr q ↦ before (get_or list k d) q ]);
 }
 
@@ -87,8 +89,10 @@ adds_more functions P Q a b c f g before = record {
   exact = λ x. (
     λ h. elim ((g.exact x).0 h) [ inl o ↦ (elim ((f.exact x).0 o) [ inl p ↦ inl p | inr q ↦ inr (inl q) ]) | inr q ↦ inr (inr q) ],
     λ h. elim h [
-      inl o ↦ (g.exact x).1 (inl ((f.exact x).1 (inl o)))
-      | inr e ↦ (elim e [ inl p ↦ (g.exact x).1 (inl ((f.exact x).1 (inr p))) | inr q ↦ (g.exact x).1 (inr q) ]) ]);
+      | inl o ↦ (g.exact x).1 (inl ((f.exact x).1 (inl o)))
+      | inr e ↦ (elim e [ inl p ↦ (g.exact x).1 (inl ((f.exact x).1 (inr p))) | inr q ↦ (g.exact x).1 (inr q) ])
+    ],
+  );
   ordered = λ o first. g.ordered (f.ordered o (λ x y there p. first x y there (inl p))) (λ x y there q. elim ((f.exact x).0 there) [ inl p ↦ first x y p (inr q) | inr p ↦ before x y p q ]);
 }
 
@@ -104,20 +108,25 @@ level_push functions entry levels level i old list new function a here one numbe
     let x : FnCopy = record { root = entry; function = function; level = level } in
     let under : UnderRoot functions entry levels x = record { same = refl; one = one; level = subst (λ (n : ℕ). get_or levels n None ≡ Some level) (sym number) here } in
     subst (λ (l : List FnCopy). Adds functions (AtLevelBelow functions entry levels level (i + 1)) old l) (sym is) (adds_one functions (AtLevelBelow functions entry levels level i) (AtLevelBelow functions entry levels level (i + 1)) old list x a
-      (λ c q. elim (cases_eq (number_of functions c.function) i) [
-        inl e ↦ inr (same_copy x c (sym q.1.1.same) (number_once functions function c.function one q.1.1.one (number ∙ sym e)) (sym q.1.0))
-        | inr ne ↦ inl ((let lt : number_of functions c.function < i + 1 = q.0 in omega (arith, ne)), q.1) ])
-      (λ c p. ((let lt : number_of functions c.function < i = p.0 in omega arith), p.1))
-      ((omega (arith, number)), (refl, under))
-      (λ c p. inr (p.1.1.same, inr (p.1.0, (let lt : number_of functions c.function < i = p.0 in omega (arith, number))))))
+    (λ c q. elim (cases_eq (number_of functions c.function) i) [
+      | inl e ↦ inr (same_copy x c (sym q.1.1.same) (number_once functions function c.function one q.1.1.one (number ∙ sym e)) (sym q.1.0))
+      | inr ne ↦ inl ((let lt : number_of functions c.function < i + 1 = q.0 in omega (arith, ne)), q.1)
+    ])
+    (λ c p. ((let lt : number_of functions c.function < i = p.0 in omega arith), p.1))
+    ((omega (arith, number)), (refl, under))
+    (λ c p. inr (p.1.1.same, inr (p.1.0, (let lt : number_of functions c.function < i = p.0 in omega (arith, number))))))
 
 pub level_skip : (functions : ℕ) (entry : Root) (levels : List (Option ℕ)) (level i : ℕ) (old list new : List FnCopy) → Adds functions (AtLevelBelow functions entry levels level i) old list → (get_or levels i None ≡ Some level → ⊥) → new ≡ list → Adds functions (AtLevelBelow functions entry levels level (i + 1)) old new
 level_skip functions entry levels level i old list new a here is =
     subst (λ (l : List FnCopy). Adds functions (AtLevelBelow functions entry levels level (i + 1)) old l) (sym is) (adds_same functions (AtLevelBelow functions entry levels level i) (AtLevelBelow functions entry levels level (i + 1)) old list a
-      (λ c p. ((let lt : number_of functions c.function < i = p.0 in omega arith), p.1))
-      (λ c q. ((elim (cases_eq (number_of functions c.function) i) [
-        inl e ↦ absurd (here (subst (λ (n : ℕ). get_or levels n None ≡ Some level) e (q.1.1.level ∙ ap Some q.1.0)))
-        | inr ne ↦ (let lt : number_of functions c.function < i + 1 = q.0 in omega (arith, ne)) ]), q.1)))
+    (λ c p. ((let lt : number_of functions c.function < i = p.0 in omega arith), p.1))
+    (λ c q. (
+      (elim (cases_eq (number_of functions c.function) i) [
+        | inl e ↦ absurd (here (subst (λ (n : ℕ). get_or levels n None ≡ Some level) e (q.1.1.level ∙ ap Some q.1.0)))
+        | inr ne ↦ (let lt : number_of functions c.function < i + 1 = q.0 in omega (arith, ne))
+      ]),
+      q.1,
+    )))
 
 -- what has a level has a number of the graph
 pub numbered : (levels : List (Option ℕ)) (n level : ℕ) → get_or levels n None ≡ Some level → n < length levels
@@ -138,8 +147,8 @@ root_more functions entry levels seen level old list new same a given =
     let b : Adds functions (AtLevel functions entry levels level) list new = subst (λ (l : List (Option ℕ)). Adds functions (AtLevel functions entry l level) list new) same given in
     let both = adds_more functions (UnderBelow functions entry levels level) (AtLevel functions entry levels level) old list new a b (λ x y p q. inr (p.1.same ∙ sym q.1.same, inl (let lt : x.level < level = p.0 in let is : y.level ≡ level = q.0 in omega arith))) in
     adds_same functions (λ x. UnderBelow functions entry levels level x ⊎ AtLevel functions entry levels level x) (UnderBelow functions entry levels (level + 1)) old new both
-      (λ c h. elim h [ inl p ↦ ((let lt : c.level < level = p.0 in omega arith), p.1) | inr q ↦ ((let is : c.level ≡ level = q.0 in omega arith), q.1) ])
-      (λ c h. elim (cases_eq c.level level) [ inl e ↦ inr (e, h.1) | inr ne ↦ inl ((let lt : c.level < level + 1 = h.0 in omega (arith, ne)), h.1) ])
+    (λ c h. elim h [ inl p ↦ ((let lt : c.level < level = p.0 in omega arith), p.1) | inr q ↦ ((let is : c.level ≡ level = q.0 in omega arith), q.1) ])
+    (λ c h. elim (cases_eq c.level level) [ inl e ↦ inr (e, h.1) | inr ne ↦ inl ((let lt : c.level < level + 1 = h.0 in omega (arith, ne)), h.1) ])
 
 pub root_all : (functions : ℕ) (entry : Root) (levels : List (Option ℕ)) (longest bound : ℕ) (old new : List FnCopy) → ((g level : ℕ) → get_or levels g None ≡ Some level → level ≤ longest) → longest < bound → Adds functions (UnderBelow functions entry levels bound) old new → Adds functions (UnderRoot functions entry levels) old new
 root_all functions entry levels longest bound old new most above a = adds_same functions (UnderBelow functions entry levels bound) (UnderRoot functions entry levels) old new a (λ c p. p.1) (λ c q. ((let le = most (number_of functions c.function) c.level q.level in omega (arith, le)), q))
@@ -152,9 +161,9 @@ under_handler functions (Some found) c u = u.same
 pub both_roots : (functions : ℕ) (main : Levels) (handler : Option Levels) (old list new : List FnCopy) → old ≡ [] → Adds functions (UnderRoot functions root.Main main.levels.items) old list → Adds functions (UnderHandler functions handler) list new → Adds functions (UnderRoots functions main handler) [] new
 both_roots functions main handler old list new none a b =
     let both = adds_more functions (UnderRoot functions root.Main main.levels.items) (UnderHandler functions handler) old list new a b (λ x y p q. inl (
-      let first : root_place x.root ≡ 0 = ap root_place p.same in
-      let second : root_place y.root ≡ 1 = ap root_place (under_handler functions handler y q) in
-      omega arith)) in
+    let first : root_place x.root ≡ 0 = ap root_place p.same in
+    let second : root_place y.root ≡ 1 = ap root_place (under_handler functions handler y q) in
+    omega arith)) in
     subst (λ (l : List FnCopy). Adds functions (UnderRoots functions main handler) l new) none both
 
 pub handler_some : (functions : ℕ) (handler : Option Levels) (found : Levels) (old new : List FnCopy) → handler ≡ Some found → Adds functions (UnderRoot functions root.Isr found.levels.items) old new → Adds functions (UnderHandler functions handler) old new

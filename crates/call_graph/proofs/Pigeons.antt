@@ -1,12 +1,12 @@
 -- Different numbers below a bound are at most so many; so a chain of calls is no longer than its graph, where nothing
 -- reaches itself.
-use Rattle.std.proofs.Common.{◌≡◌, ℕ, ◌+◌, ◌*◌, ◌<◌, ◌≤◌, ◌⊎◌, inl, inr, Bool, true, false, not, cond, List, [], ◌∷◌, ◌++◌, length, get_or, set, replicate, zero, suc, refl, sym, ap, ◌∙◌, subst, arith}
+use Rattle.std.proofs.Common.{◌≡◌, ℕ, ◌+◌, ◌*◌, ◌<◌, ◌≤◌, ◌⊎◌, inl, inr, Bool, true, false, not, cond, List, [], ◌∷◌, length, get_or, set, replicate, suc, refl, sym, ap, ◌∙◌, subst, arith}
 use Rattle.std.specs.List.{Contains}
 use Rattle.std.proofs.lemmas.Bool.{cases_eq, cases_Bool}
 use Rattle.std.proofs.lemmas.List.{get_or-set_other, length-set, length-replicate}
 use Rattle.std.proofs.lemmas.List.Elements.{Contains-append_left, Contains-append_right, Contains-append_cases, Contains-push}
 use Rattle.std.proofs.lemmas.List.Folds.{sum_by-replicate}
-use Rattle.c_typed.specs.Chains.{Calls, IsChain, Reaches}
+use Rattle.c_typed.specs.Chains.{IsChain, Reaches}
 use Rattle.call_graph.specs.Levels.{IsAcyclic}
 use Rattle.call_graph.specs.Search.{unmarked}
 use Rattle.call_graph.proofs.Marking.{in_none, one_is, one_less}
@@ -35,8 +35,9 @@ is_among : (n g : ℕ) (xs : List ℕ) → get_or (marks_at n xs) g false ≡ tr
 unfolding marks_at
 is_among n g [] h = absurd (not_yet n g h)
 is_among n g (x ∷ xs) h = elim (cases_eq g x) [
-  inl e ↦ Contains-append_left (x ∷ []) xs g (subst (λ (k : ℕ). Contains (x ∷ []) k) (sym e) (Contains-push [] x))
-  | inr ne ↦ Contains-append_right (x ∷ []) xs g (is_among n g xs (sym (get_or-set_other (marks_at n xs) x g true false ne) ∙ h)) ]
+  | inl e ↦ Contains-append_left (x ∷ []) xs g (subst (λ (k : ℕ). Contains (x ∷ []) k) (sym e) (Contains-push [] x))
+  | inr ne ↦ Contains-append_right (x ∷ []) xs g (is_among n g xs (sym (get_or-set_other (marks_at n xs) x g true false ne) ∙ h))
+]
 
 all_unmarked : (n : ℕ) → unmarked (replicate n false) ≡ n
 all_unmarked n = let e : unmarked (replicate n false) ≡ n * 1 = sum_by-replicate (λ (b : Bool). cond (not b) 1 0) n false in omega (arith, e)

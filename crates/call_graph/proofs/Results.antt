@@ -1,22 +1,22 @@
 -- From the levels under the roots to the copies of a program and its depth.
-use Rattle.std.proofs.Common.{◌≡◌, ℕ, ◌+◌, ◌-◌, ◌<◌, ◌≤◌, ◌⊎◌, ◌↔◌, inl, inr, List, [], ◌∷◌, ◌++◌, Option, Some, None, length, get_or, map, replicate, refl, sym, ap, ◌∙◌, subst, arith}
+use Rattle.std.proofs.Common.{◌≡◌, ℕ, ◌+◌, ◌-◌, ◌<◌, ◌≤◌, ◌⊎◌, inl, inr, List, [], Option, Some, None, length, get_or, map, replicate, refl, sym, ap, ◌∙◌, subst, arith}
 use Rattle.std.specs.Global.{Global}
-use Rattle.std.specs.List.{Contains, AllPairs}
-use Rattle.std.specs.Option.{ForSome, MatchOption}
+use Rattle.std.specs.List.{Contains}
+use Rattle.std.specs.Option.{MatchOption}
 use Rattle.std.specs.declared.vec.Vec.{Vec}
 use Rattle.std.proofs.lemmas.Bool.{cases_lt}
 use Rattle.std.proofs.lemmas.List.{get_or-append_right, get_or-map, length-append, length-map, length-replicate}
-use Rattle.c_typed.specs.Chains.{graph_of, row_of, number_of, helper_number, Calls, IsChain, IsLevel}
+use Rattle.c_typed.specs.Chains.{graph_of, row_of, number_of, helper_number, Calls, IsLevel}
 use Rattle.c_typed.specs.Trees.{FunctionTree, Program}
-use Rattle.c_typed.specs.Views.{function_of, program_of}
+use Rattle.c_typed.specs.Views.{function_of}
 use Rattle.c_typed.specs.declared.calls.FnId.{FnId}
 use Rattle.c_typed.specs.declared.calls.FnId.TheVariants as callee
 use Rattle.c_typed.specs.declared.calls.Helper.{Helper}
 use Rattle.c_typed.specs.declared.calls.Helper.TheVariants.{Mul2, Mul4, Divu2, Divs2, Remu2, Rems2, Divu4, Divs4, Remu4, Rems4, Shl2, Shru2, Shrs2, Shl4, Shru4, Shrs4}
 use Rattle.c_typed.specs.declared.program.Function.{Function}
 use Rattle.call_graph.specs.Adding.{Adds, UnderRoot, UnderHandler, UnderRoots, Measures, MeasuresHandler}
-use Rattle.call_graph.specs.Copies.{IsOne, IsCopy, AreCopies, IsDepth, StandsBefore, name_at, root_of}
-use Rattle.call_graph.specs.Levels.{HasLevel, AreLevels, IsFirstRecursive, IsLongest}
+use Rattle.call_graph.specs.Copies.{IsOne, IsCopy, AreCopies, IsDepth, name_at, root_of}
+use Rattle.call_graph.specs.Levels.{HasLevel, IsFirstRecursive, IsLongest}
 use Rattle.call_graph.specs.Rows.{rows_of}
 use Rattle.call_graph.specs.declared.levels.Levels.{Levels}
 use Rattle.call_graph.specs.declared.types.FnCopy.{FnCopy}
@@ -118,12 +118,14 @@ pub are_copies : (p : Program) (number : ℕ) (main : Levels) (handler : Option 
 are_copies p number main handler list entered m h a =
     let functions : ℕ = length p.functions in
     let to : (c : FnCopy) → UnderRoots functions main handler c → IsCopy p c = λ (c : FnCopy) (u : UnderRoots functions main handler c). elim u [
-      inl q ↦ record { number = number; entered = ap (root_of p) q.same ∙ entered; one = q.one; level = root_copy (graph_of p) functions number root.Main main c m q }
-      | inr q ↦ (let w = handler_copy (graph_of p) functions (root_of p root.Isr) handler c h q in record { number = w.0; entered = ap (root_of p) w.4 ∙ w.1; one = w.3; level = w.2 }) ] in
+      | inl q ↦ record { number = number; entered = ap (root_of p) q.same ∙ entered; one = q.one; level = root_copy (graph_of p) functions number root.Main main c m q }
+      | inr q ↦ (let w = handler_copy (graph_of p) functions (root_of p root.Isr) handler c h q in record { number = w.0; entered = ap (root_of p) w.4 ∙ w.1; one = w.3; level = w.2 })
+    ] in
     let from : (c : FnCopy) → IsCopy p c → UnderRoots functions main handler c = λ (c : FnCopy) (k : IsCopy p c). elim (root_cases c.root) [
-      inl is ↦ (let both : Some k.number ≡ Some number = sym k.entered ∙ (ap (root_of p) is ∙ entered) in let same : k.number ≡ number = cc in
-        inl (copy_root (graph_of p) functions number root.Main main c (graph_size p) m is k.one (subst (λ (j : ℕ). IsLevel (graph_of p) j (number_of functions c.function) c.level) same k.level)))
-      | inr is ↦ inr (copy_handler (graph_of p) functions k.number (root_of p root.Isr) handler c (graph_size p) h (sym (ap (root_of p) is) ∙ k.entered) is k.one k.level) ] in
+      | inl is ↦ (let both : Some k.number ≡ Some number = sym k.entered ∙ (ap (root_of p) is ∙ entered) in let same : k.number ≡ number = cc in
+          inl (copy_root (graph_of p) functions number root.Main main c (graph_size p) m is k.one (subst (λ (j : ℕ). IsLevel (graph_of p) j (number_of functions c.function) c.level) same k.level)))
+      | inr is ↦ inr (copy_handler (graph_of p) functions k.number (root_of p root.Isr) handler c (graph_size p) h (sym (ap (root_of p) is) ∙ k.entered) is k.one k.level)
+    ] in
     record {
       exact = λ c. (λ there. elim ((a.exact c).0 there) [ inl o ↦ absurd (in_none c o) | inr u ↦ to c u ], λ k. (a.exact c).1 (inr (from c k)));
       ordered = a.ordered (λ i j d before lt. absurd (let no_such : j < 0 = lt in omega arith)) (λ x y there u. absurd (in_none x there));
@@ -183,12 +185,13 @@ at_some (Some k) n A B m is = let same : k ≡ n = cc in subst B same m
 -- helpers call nothing
 function_calls : (p : Program) (f g : ℕ) → Calls (graph_of p) f g → f < length p.functions
 function_calls p f g c = elim (cases_lt f (length p.functions)) [
-  inl lt ↦ lt
+  | inl lt ↦ lt
   | inr past ↦ absurd (
-    let none : List ℕ = [] in
-    let front : List (List ℕ) = map (row_of (length p.functions)) p.functions in
-    let row : get_or (graph_of p) f none ≡ get_or (replicate 16 none) (f - length p.functions) none = get_or-append_right front (replicate 16 none) (length p.functions) f none (length-map p.functions (row_of (length p.functions))) past in
-    none_calls 16 (f - length p.functions) g (subst (λ (r : List ℕ). Contains r g) row c)) ]
+      let none : List ℕ = [] in
+      let front : List (List ℕ) = map (row_of (length p.functions)) p.functions in
+      let row : get_or (graph_of p) f none ≡ get_or (replicate 16 none) (f - length p.functions) none = get_or-append_right front (replicate 16 none) (length p.functions) f none (length-map p.functions (row_of (length p.functions))) past in
+      none_calls 16 (f - length p.functions) g (subst (λ (r : List ℕ). Contains r g) row c))
+]
 
 pub recursion_told : (p : Program) (graph : List (List ℕ)) (f : ℕ) (name : List ℕ) → graph ≡ graph_of p → IsFirstRecursive graph f → name ≡ name_at p f → (g : ℕ) × (g < length p.functions) × IsFirstRecursive (graph_of p) g × (name ≡ name_at p g)
 recursion_told p graph f name is first called =

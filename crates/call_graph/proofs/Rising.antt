@@ -1,11 +1,11 @@
 -- What one number, and one row after the other, change in the levels; and that wave by wave they come to be those of the
 -- longest chains.
-use Rattle.std.proofs.Common.{◌≡◌, ℕ, ◌+◌, ◌<◌, ◌≤◌, ◌⊎◌, ◌↔◌, inl, inr, List, [], ◌∷◌, ◌++◌, Option, Some, None, length, get_or, set, take, replicate, zero, suc, refl, sym, ap, ◌∙◌, subst, append_assoc, arith}
-use Rattle.std.specs.List.{Contains, flat_map}
+use Rattle.std.proofs.Common.{◌≡◌, ℕ, ◌+◌, ◌<◌, ◌≤◌, inl, inr, List, [], ◌∷◌, ◌++◌, Option, Some, None, length, get_or, set, take, replicate, suc, refl, sym, ap, ◌∙◌, subst, append_assoc, arith}
+use Rattle.std.specs.List.{Contains}
 use Rattle.std.proofs.lemmas.Bool.{cases_eq, cases_lt}
 use Rattle.std.proofs.lemmas.List.{get_or-replicate, get_or-set_same, get_or-set_other, length-replicate, length-set, length_push, take_more}
 use Rattle.std.proofs.lemmas.List.Elements.{Contains-append_left, Contains-append_right, Contains-append_cases, Contains-get_or, Contains-push}
-use Rattle.c_typed.specs.Chains.{Calls, IsChain, Reaches}
+use Rattle.c_typed.specs.Chains.{Calls, IsChain}
 use Rattle.call_graph.specs.Levels.{IsAcyclic, HasLevel, AreLevels, IsLongest}
 use Rattle.call_graph.specs.Waves.{HasLevelWithin, AreAtLevel, Raised, callees}
 use Rattle.call_graph.proofs.Appends.{append_none}
@@ -24,11 +24,13 @@ pub raised_more : (level : ℕ) (r1 r2 : List ℕ) (a b c : List (Option ℕ)) �
 raised_more level r1 r2 a b c f1 f2 = record {
   size = f2.size ∙ f1.size;
   raised = λ g lt con. elim (Contains-append_cases r1 r2 g con) [
-    inl l ↦ (elim (f2.others g) [ inl same ↦ same ∙ f1.raised g lt l | inr q ↦ q.0 ])
-    | inr r ↦ f2.raised g (let z = f1.size in omega arith) r ];
+    | inl l ↦ (elim (f2.others g) [ inl same ↦ same ∙ f1.raised g lt l | inr q ↦ q.0 ])
+    | inr r ↦ f2.raised g (let z = f1.size in omega arith) r
+  ];
   others = λ g. elim (f2.others g) [
-    inl same ↦ (elim (f1.others g) [ inl also ↦ inl (same ∙ also) | inr q ↦ inr (same ∙ q.0, Contains-append_left r1 r2 g q.1) ])
-    | inr q ↦ inr (q.0, Contains-append_right r1 r2 g q.1) ];
+    | inl same ↦ (elim (f1.others g) [ inl also ↦ inl (same ∙ also) | inr q ↦ inr (same ∙ q.0, Contains-append_left r1 r2 g q.1) ])
+    | inr q ↦ inr (q.0, Contains-append_right r1 r2 g q.1)
+  ];
 }
 
 pub raised_outside : (level n : ℕ) (levels : List (Option ℕ)) → length levels ≤ n → Raised level (n ∷ []) levels levels
@@ -46,8 +48,9 @@ raised_once level n levels lt =
       size = length-set levels n (Some level);
       raised = λ g l c. subst (λ (k : ℕ). get_or new k None ≡ Some level) (one_is n g c) here;
       others = λ g. elim (cases_eq g n) [
-        inl e ↦ inr (subst (λ (k : ℕ). (get_or new k None ≡ Some level) × Contains (n ∷ []) k) (sym e) (here, Contains-push [] n))
-        | inr ne ↦ inl (get_or-set_other levels n g (Some level) None ne) ];
+        | inl e ↦ inr (subst (λ (k : ℕ). (get_or new k None ≡ Some level) × Contains (n ∷ []) k) (sym e) (here, Contains-push [] n))
+        | inr ne ↦ inl (get_or-set_other levels n g (Some level) None ne)
+      ];
     }
 
 pub row_raised : (level : ℕ) (row : List ℕ) (i : ℕ) (a b c : List (Option ℕ)) → i < length row → Raised level (take i row) a b → Raised level (get_or row i 0 ∷ []) b c → Raised level (take (i + 1) row) a c
@@ -67,14 +70,16 @@ callees_raised graph level numbers i row a b c lt is f1 f2 =
 pub called_by : (graph : List (List ℕ)) (numbers : List ℕ) (g : ℕ) → Contains (callees graph numbers) g → (n : ℕ) × Contains numbers n × Calls graph n g
 called_by graph [] g c = absurd (in_none g c)
 called_by graph (m ∷ ms) g c = elim (Contains-append_cases (get_or graph m []) (callees graph ms) g c) [
-  inl l ↦ (m, Contains-append_left (m ∷ []) ms m (Contains-push [] m), l)
-  | inr r ↦ (let w = called_by graph ms g r in (w.0, Contains-append_right (m ∷ []) ms w.0 w.1, w.2)) ]
+  | inl l ↦ (m, Contains-append_left (m ∷ []) ms m (Contains-push [] m), l)
+  | inr r ↦ (let w = called_by graph ms g r in (w.0, Contains-append_right (m ∷ []) ms w.0 w.1, w.2))
+]
 
 pub among_callees : (graph : List (List ℕ)) (numbers : List ℕ) (n g : ℕ) → Contains numbers n → Calls graph n g → Contains (callees graph numbers) g
 among_callees graph [] n g c w = absurd (in_none n c)
 among_callees graph (m ∷ ms) n g c w = elim (first_or_rest m n ms c) [
-  inl e ↦ Contains-append_left (get_or graph m []) (callees graph ms) g (subst (λ (k : ℕ). Calls graph k g) (sym e) w)
-  | inr r ↦ Contains-append_right (get_or graph m []) (callees graph ms) g (among_callees graph ms n g r w) ]
+  | inl e ↦ Contains-append_left (get_or graph m []) (callees graph ms) g (subst (λ (k : ℕ). Calls graph k g) (sym e) w)
+  | inr r ↦ Contains-append_right (get_or graph m []) (callees graph ms) g (among_callees graph ms n g r w)
+]
 
 -- The levels are those of the longest chains of at most k calls, and the wave those of exactly so many.
 pub record Knows (graph : List (List ℕ)) (root k : ℕ) (levels : List (Option ℕ)) (wave : List ℕ) : Type 0 where
@@ -108,24 +113,25 @@ risen graph root k levels new wave known r g lt =
     let size : length levels ≡ length graph = known.size in
     let mine = known.within g lt in
     elim (r.others g) [
-      inl same ↦ (let none : (hs : List ℕ) → IsChain graph root hs g → length hs ≡ k + 1 → ⊥ = λ (hs : List ℕ) (c : IsChain graph root hs g) (e : length hs ≡ k + 1). not_above graph root k g (get_or levels g None) mine (sym same ∙ r.raised g (omega arith) (risen_by graph root k levels wave known g hs c e)) in
-        subst (λ (o : Option ℕ). HasLevelWithin graph root (k + 1) g o) (sym same) (kept graph root k g (get_or levels g None) mine none))
+      | inl same ↦ (let none : (hs : List ℕ) → IsChain graph root hs g → length hs ≡ k + 1 → ⊥ = λ (hs : List ℕ) (c : IsChain graph root hs g) (e : length hs ≡ k + 1). not_above graph root k g (get_or levels g None) mine (sym same ∙ r.raised g (omega arith) (risen_by graph root k levels wave known g hs c e)) in
+          subst (λ (o : Option ℕ). HasLevelWithin graph root (k + 1) g o) (sym same) (kept graph root k g (get_or levels g None) mine none))
       | inr q ↦ (let w = called_by graph wave g q.1 in
-        let n : ℕ = w.0 in
-        let at = (known.at n).0 w.1 in
-        let here : n < length graph = caller_within graph n g w.2 in
-        let s = shown graph root k n (get_or levels n None) (known.within n here) at.1 in
-        subst (λ (o : Option ℕ). HasLevelWithin graph root (k + 1) g o) (sym q.0) (taken_on graph root k n g s.0 s.1 s.2 w.2)) ]
-    where
-      risen_by : (graph : List (List ℕ)) (root k : ℕ) (levels : List (Option ℕ)) (wave : List ℕ) → Knows graph root k levels wave → (g : ℕ) (hs : List ℕ) → IsChain graph root hs g → length hs ≡ k + 1 → Contains (callees graph wave) g
-      risen_by graph root k levels wave known g [] c e = absurd (omega (arith, e))
-      risen_by graph root k levels wave known g (h ∷ hs) c e =
-          let l = last_call graph root g h hs c in
-          let m : ℕ = l.0 in
-          let here : m < length graph = caller_within graph m g l.4 in
-          let size : length levels ≡ length graph = known.size in
-          let many : length l.1 ≡ k = let a : length l.1 ≡ length hs = l.3 in let b : suc (length hs) ≡ k + 1 = e in omega arith in
-          among_callees graph wave m g ((known.at m).1 (omega arith, exactly graph root k m l.1 (get_or levels m None) (known.within m here) l.2 many)) l.4
+          let n : ℕ = w.0 in
+          let at = (known.at n).0 w.1 in
+          let here : n < length graph = caller_within graph n g w.2 in
+          let s = shown graph root k n (get_or levels n None) (known.within n here) at.1 in
+          subst (λ (o : Option ℕ). HasLevelWithin graph root (k + 1) g o) (sym q.0) (taken_on graph root k n g s.0 s.1 s.2 w.2))
+    ]
+  where
+    risen_by : (graph : List (List ℕ)) (root k : ℕ) (levels : List (Option ℕ)) (wave : List ℕ) → Knows graph root k levels wave → (g : ℕ) (hs : List ℕ) → IsChain graph root hs g → length hs ≡ k + 1 → Contains (callees graph wave) g
+    risen_by graph root k levels wave known g [] c e = absurd (omega (arith, e))
+    risen_by graph root k levels wave known g (h ∷ hs) c e =
+        let l = last_call graph root g h hs c in
+        let m : ℕ = l.0 in
+        let here : m < length graph = caller_within graph m g l.4 in
+        let size : length levels ≡ length graph = known.size in
+        let many : length l.1 ≡ k = let a : length l.1 ≡ length hs = l.3 in let b : suc (length hs) ≡ k + 1 = e in omega arith in
+        among_callees graph wave m g ((known.at m).1 (omega arith, exactly graph root k m l.1 (get_or levels m None) (known.within m here) l.2 many)) l.4
 
 pub knows_first : (graph : List (List ℕ)) (root : ℕ) (start new : List (Option ℕ)) (wave : List ℕ) → start ≡ replicate (length graph) None → root < length graph → Raised 0 (root ∷ []) start new → AreAtLevel new 0 wave → Knows graph root 0 new wave
 knows_first graph root start new wave is lt r at =
@@ -133,16 +139,17 @@ knows_first graph root start new wave is lt r at =
     record {
       size = r.size ∙ all;
       within = λ g l. elim (r.others g) [
-        inl same ↦ (let none : get_or new g None ≡ None = same ∙ (ap (λ (s : List (Option ℕ)). get_or s g None) is ∙ get_or-replicate (length graph) g None None l) in
-          subst (λ (o : Option ℕ). HasLevelWithin graph root 0 g o) (sym none) (nothing_yet graph root g new none (λ e. r.raised g (omega (arith, all)) (subst (λ (k : ℕ). Contains (root ∷ []) k) e (Contains-push [] root)))))
-        | inr q ↦ subst (λ (o : Option ℕ). HasLevelWithin graph root 0 g o) (sym q.0) ((omega arith), ([], one_is root g q.1, refl), λ hs c le. le) ];
+        | inl same ↦ (let none : get_or new g None ≡ None = same ∙ (ap (λ (s : List (Option ℕ)). get_or s g None) is ∙ get_or-replicate (length graph) g None None l) in
+            subst (λ (o : Option ℕ). HasLevelWithin graph root 0 g o) (sym none) (nothing_yet graph root g new none (λ e. r.raised g (omega (arith, all)) (subst (λ (k : ℕ). Contains (root ∷ []) k) e (Contains-push [] root)))))
+        | inr q ↦ subst (λ (o : Option ℕ). HasLevelWithin graph root 0 g o) (sym q.0) ((omega arith), ([], one_is root g q.1, refl), λ hs c le. le)
+      ];
       at = at;
       some = (root, [], lt, refl, refl);
     }
-    where
-      nothing_yet : (graph : List (List ℕ)) (root g : ℕ) (new : List (Option ℕ)) → get_or new g None ≡ None → (root ≡ g → get_or new g None ≡ Some 0) → (hs : List ℕ) → IsChain graph root hs g → length hs ≤ 0 → ⊥
-      nothing_yet graph root g new none at [] e le = let h : get_or new g None ≡ Some 0 = at e in cc
-      nothing_yet graph root g new none at (h ∷ hs) c le = omega arith
+  where
+    nothing_yet : (graph : List (List ℕ)) (root g : ℕ) (new : List (Option ℕ)) → get_or new g None ≡ None → (root ≡ g → get_or new g None ≡ Some 0) → (hs : List ℕ) → IsChain graph root hs g → length hs ≤ 0 → ⊥
+    nothing_yet graph root g new none at [] e le = let h : get_or new g None ≡ Some 0 = at e in cc
+    nothing_yet graph root g new none at (h ∷ hs) c le = omega arith
 
 at_next : (graph : List (List ℕ)) (root k : ℕ) (levels new : List (Option ℕ)) (wave next : List ℕ) → Knows graph root k levels wave → Raised (k + 1) (callees graph wave) levels new → AreAtLevel new (k + 1) next → (g : ℕ) (hs : List ℕ) → g < length graph → IsChain graph root hs g → length hs ≡ k + 1 → Contains next g
 at_next graph root k levels new wave next known r at g hs lt c e =
@@ -168,11 +175,12 @@ knows_next graph root k levels new wave next known r at many =
 -- where no chain has one call more, none is longer
 none_longer : (graph : List (List ℕ)) (root k : ℕ) (levels new : List (Option ℕ)) (wave next : List ℕ) → Knows graph root k levels wave → Raised (k + 1) (callees graph wave) levels new → AreAtLevel new (k + 1) next → length next ≡ 0 → (g : ℕ) (hs : List ℕ) → g < length graph → IsChain graph root hs g → length hs ≤ k
 none_longer graph root k levels new wave next known r at none g hs lt c = elim (cases_lt k (length hs)) [
-  inl longer ↦ absurd (
-    let f = first_calls graph (k + 1) root g hs c (omega arith) lt in
-    let w = at_next graph root k levels new wave next known r at f.0 f.1 f.2 f.3 f.4 in
-    let here : w.0 < length next = w.1 in omega arith)
-  | inr le ↦ le ]
+  | inl longer ↦ absurd (
+      let f = first_calls graph (k + 1) root g hs c (omega arith) lt in
+      let w = at_next graph root k levels new wave next known r at f.0 f.1 f.2 f.3 f.4 in
+      let here : w.0 < length next = w.1 in omega arith)
+  | inr le ↦ le
+]
 
 settled : (graph : List (List ℕ)) (root k g : ℕ) (o : Option ℕ) → HasLevelWithin graph root (k + 1) g o → ((hs : List ℕ) → IsChain graph root hs g → length hs ≤ k) → HasLevel graph root g o
 settled graph root k g None w most = λ way. w way.0 way.1 (let le = most way.0 way.1 in omega (arith, le))

@@ -1,5 +1,5 @@
 -- The turns of the loop over waves, over the lists that the code has; and the numbers at a level, one after the other.
-use Rattle.std.proofs.Common.{◌≡◌, ℕ, ◌+◌, ◌<◌, ◌≤◌, ◌⊎◌, ◌↔◌, inl, inr, List, [], ◌∷◌, ◌++◌, Option, Some, None, length, get_or, map, take, drop, replicate, refl, sym, ap, ◌∙◌, subst, arith}
+use Rattle.std.proofs.Common.{◌≡◌, ℕ, ◌+◌, ◌<◌, ◌↔◌, inl, inr, List, [], ◌∷◌, ◌++◌, Option, Some, None, length, get_or, take, drop, replicate, sym, ap, ◌∙◌, subst, arith}
 use Rattle.std.specs.Global.{Global}
 use Rattle.std.specs.List.{Contains}
 use Rattle.std.specs.declared.vec.Vec.{Vec}
@@ -60,22 +60,28 @@ pub below_none : (levels : List (Option ℕ)) (level : ℕ) → AreBelow levels 
 below_none levels level = λ n. (λ c. absurd (in_none n c), λ h. absurd (let lt : n < 0 = h.0 in omega arith))
 
 pub below_push : (levels : List (Option ℕ)) (level i : ℕ) (numbers new : List ℕ) → AreBelow levels level i numbers → new ≡ numbers ++ i ∷ [] → get_or levels i None ≡ Some level → AreBelow levels level (i + 1) new
-below_push levels level i numbers new are is here = λ n.
-    (λ c. elim (Contains-push_cases numbers i n (subst (λ (l : List ℕ). Contains l n) is c)) [
-      inl o ↦ (let h = (are n).0 o in let lt : n < i = h.0 in (omega arith, h.1))
-      | inr e ↦ (omega (arith, e), subst (λ (k : ℕ). get_or levels k None ≡ Some level) e here) ],
-     λ h. subst (λ (l : List ℕ). Contains l n) (sym is) (elim (cases_eq i n) [
-      inl e ↦ subst (λ (k : ℕ). Contains (numbers ++ i ∷ []) k) e (Contains-push numbers i)
-      | inr ne ↦ Contains-append_left numbers (i ∷ []) n ((are n).1 ((let lt : n < i + 1 = h.0 in omega (arith, ne)), h.1)) ]))
+below_push levels level i numbers new are is here = λ n. (
+  λ c. elim (Contains-push_cases numbers i n (subst (λ (l : List ℕ). Contains l n) is c)) [
+    | inl o ↦ (let h = (are n).0 o in let lt : n < i = h.0 in (omega arith, h.1))
+    | inr e ↦ (omega (arith, e), subst (λ (k : ℕ). get_or levels k None ≡ Some level) e here)
+  ],
+  λ h. subst (λ (l : List ℕ). Contains l n) (sym is) (elim (cases_eq i n) [
+    | inl e ↦ subst (λ (k : ℕ). Contains (numbers ++ i ∷ []) k) e (Contains-push numbers i)
+    | inr ne ↦ Contains-append_left numbers (i ∷ []) n ((are n).1 ((let lt : n < i + 1 = h.0 in omega (arith, ne)), h.1))
+  ]),
+)
 
 pub below_skip : (levels : List (Option ℕ)) (level i : ℕ) (numbers new : List ℕ) → AreBelow levels level i numbers → new ≡ numbers → (get_or levels i None ≡ Some level → ⊥) → AreBelow levels level (i + 1) new
-below_skip levels level i numbers new are is here = λ n.
-    (λ c. (let h = (are n).0 (subst (λ (l : List ℕ). Contains l n) is c) in let lt : n < i = h.0 in (omega arith, h.1)),
-     λ h. subst (λ (l : List ℕ). Contains l n) (sym is) (elim (cases_eq i n) [
-      inl e ↦ absurd (here (subst (λ (k : ℕ). get_or levels k None ≡ Some level) (sym e) h.1))
-      | inr ne ↦ (are n).1 ((let lt : n < i + 1 = h.0 in omega (arith, ne)), h.1) ]))
+below_skip levels level i numbers new are is here = λ n. (
+  λ c. (let h = (are n).0 (subst (λ (l : List ℕ). Contains l n) is c) in let lt : n < i = h.0 in (omega arith, h.1)),
+  λ h. subst (λ (l : List ℕ). Contains l n) (sym is) (elim (cases_eq i n) [
+    | inl e ↦ absurd (here (subst (λ (k : ℕ). get_or levels k None ≡ Some level) (sym e) h.1))
+    | inr ne ↦ (are n).1 ((let lt : n < i + 1 = h.0 in omega (arith, ne)), h.1)
+  ]),
+)
 
 pub below_all : (levels : List (Option ℕ)) (level i : ℕ) (numbers : List ℕ) → i ≡ length levels → AreBelow levels level i numbers → AreAtLevel levels level numbers
-below_all levels level i numbers all are = λ n.
-    (λ c. (let h = (are n).0 c in let lt : n < i = h.0 in (omega (arith, all), h.1)),
-     λ h. (are n).1 ((let lt : n < length levels = h.0 in omega (arith, all)), h.1))
+below_all levels level i numbers all are = λ n. (
+  λ c. (let h = (are n).0 c in let lt : n < i = h.0 in (omega (arith, all), h.1)),
+  λ h. (are n).1 ((let lt : n < length levels = h.0 in omega (arith, all)), h.1),
+)

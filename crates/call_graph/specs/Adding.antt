@@ -1,5 +1,5 @@
 -- Lists of copies, as they are made: what is put behind a list, under a root and a level.
-use Rattle.std.specs.Prelude.{◌≡◌, ℕ, ◌<◌, ◌≤◌, ◌⊎◌, ◌↔◌, List, Option, Some, None, length, get_or}
+use Rattle.std.specs.Prelude.{◌≡◌, ℕ, ◌≤◌, ◌⊎◌, ◌↔◌, List, Option, Some, None, length, get_or}
 use Rattle.std.specs.List.{Contains, AllPairs}
 use Rattle.c_typed.specs.Chains.{number_of}
 use Rattle.call_graph.specs.Copies.{IsOne, StandsBefore}

@@ -1,5 +1,5 @@
 -- Levels wave by wave: what chains of so many calls lead to.
-use Rattle.std.specs.Prelude.{◌≡◌, ℕ, ◌+◌, ◌<◌, ◌≤◌, ◌⊎◌, ◌↔◌, List, [], Option, Some, None, length, get_or}
+use Rattle.std.specs.Prelude.{◌≡◌, ℕ, ◌<◌, ◌≤◌, ◌⊎◌, ◌↔◌, List, [], Option, Some, None, length, get_or}
 use Rattle.std.specs.List.{Contains, flat_map}
 use Rattle.c_typed.specs.Chains.{IsChain}
 

@@ -105,10 +105,7 @@ pub fn levels_from(alloc: Global, rows: &[Vec<u32>], root: u32) -> Result<Levels
         raise_callees(&mut levels, next, rows, &wave);
         wave = numbers_at(alloc, &levels, next)?;
         if wave.is_empty() {
-            return Ok(Levels {
-                levels,
-                longest,
-            });
+            return Ok(Levels { levels, longest });
         }
         longest = next;
     }

@@ -1,5 +1,4 @@
 use Rattle.std.proofs.Common.{ap, ◌∙◌}
-use Rattle.std.specs.Global.{Global}
 use Rattle.c_typed.specs.Views.{program_of}
 use Rattle.call_graph.specs.Levels.{IsAcyclic, IsFirstRecursive}
 use Rattle.call_graph.specs.Rows.{rows_of}

@@ -1,4 +1,4 @@
-use Rattle.std.proofs.Common.{◌≡◌, ◌+◌, ◌<◌, ℕ, List, length, map, ◌∙◌, subst, arith}
+use Rattle.std.proofs.Common.{ℕ, List, map, ◌∙◌, subst, arith}
 use Rattle.std.proofs.lemmas.List.{length-map}
 use Rattle.c_typed.specs.Roots.{is_main, is_handler}
 use Rattle.c_typed.specs.Views.{function_of, program_of}

@@ -1,5 +1,4 @@
-use Rattle.std.proofs.Common.{◌≡◌, ℕ, length, get_or, sym, ap, ◌∙◌, arith}
-use Rattle.c_typed.specs.declared.program.Function.{Function}
+use Rattle.std.proofs.Common.{sym, ◌∙◌, arith}
 use Rattle.call_graph.proofs.Results.{named}
 use Rattle.call_graph.proofs.finding.name_of.Goals as goal
 

@@ -1,5 +1,3 @@
-use Rattle.std.proofs.Common.{arith, subst, sym, List, ℕ}
-use Rattle.call_graph.specs.Search.{Found}
 use Rattle.call_graph.proofs.Marking.{marked_newly}
 use Rattle.call_graph.proofs.reach.mark.Goals as goal
 

@@ -1,4 +1,4 @@
-use Rattle.std.proofs.Common.{◌≡◌, ◌∷◌, [], ◌++◌, arith, refl, ap, sym, ◌∙◌}
+use Rattle.std.proofs.Common.{arith}
 use Rattle.call_graph.specs.Rows.{rows_of}
 use Rattle.call_graph.proofs.Reaching.{begun, gone_on, ended}
 use Rattle.call_graph.proofs.reach.reached.Goals as goal
