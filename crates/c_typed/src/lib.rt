@@ -10,6 +10,7 @@ mod expression;
 mod folding;
 mod nodes;
 mod program;
+mod standing;
 mod statement;
 mod types;
 

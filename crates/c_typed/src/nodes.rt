@@ -200,7 +200,7 @@ impl Typed {
     /// How many nodes the program has: each expression, place and statement, each arm of an `if`, each
     /// case label, and each function. A number of 2 to 64 or more is told as one less.
     pub fn nodes(&self) -> u64
-        ensures { result ≡ capped (program_nodes self.now) }
+        ensures { result ≡ capped (program_nodes self.now.functions.items) }
     {
         let mut count = 0;
         for function in &self.functions {

@@ -1,8 +1,8 @@
 //! A typed program.
 
 ghost use Rattle.std.specs.Prelude.{◌≡◌, map};
+ghost use Rattle.c_typed.specs.Shown.{size_of};
 ghost use Rattle.c_typed.specs.Types.{type_bytes};
-ghost use Rattle.c_typed.specs.Views.{size_of};
 
 use crate::statement::TStmt;
 use crate::types::{Qualified, Structure, Ty, bytes_of};
