@@ -76,6 +76,14 @@ abbrev pub is_side : Option Ty → Ty → Bool
 is_side None ty = true
 is_side (Some from) ty = not (is_pointer ty)
 
+-- both sides of a choice
+abbrev pub sides_fit : Option Ty → Ty → Option Ty → Ty → Ty → Bool
+sides_fit from chosen source otherwise ty = choice_fits chosen otherwise ty && (is_side from ty && is_side source ty)
+
+-- an assignment of a value
+abbrev pub assigned_fits : Program → Qualified → Option Ty → Ty → Ty → Bool
+assigned_fits p place from value ty = assign_fits place ty && goes_to p from value ty
+
 -- a register of the device, which is no place in memory that an address leads to
 abbrev pub is_no_register : Object → Bool
 is_no_register (object.Register number) = false
@@ -178,9 +186,13 @@ declared_type p f (object.Local number) = option_map variable_type (slice_get f.
 declared_type p f (object.Register number) = Some register_type
 
 -- The type of an array before its list of first values has told its length (6.5.7).
+abbrev pub is_open_array : ℕ → Ty → Bool
+is_open_array a (Array b n y) = nat_eq a b && (nat_eq n 0 && nat_eq y 0)
+is_open_array a _ = false
+
 abbrev pub is_open : Ty → Ty → Bool
-is_open (Array a m x) (Array b n y) = nat_eq a b && (nat_eq n 0 && nat_eq y 0)
-is_open _ _ = false
+is_open (Array element count size) ty = is_open_array element ty
+is_open _ ty = false
 
 -- A name has the declared type; in its own list of first values a local array has it still without a length.
 abbrev pub is_named : Bool → Option Qualified → Qualified → Bool
@@ -221,36 +233,66 @@ abbrev pub params_of : Option FunctionTree → List VariableTree
 params_of None = []
 params_of (Some g) = g.params
 
+abbrev pub no_params : List VariableTree → Bool
+no_params [] = true
+no_params (v ∷ vs) = false
+
+-- The typing rule of a node, on the types of its parts: one line for each kind of expression.
+unfoldable pub rule_holds : Program → Standing → Expression → Bool
+rule_holds p standing (tree.Constant value line) = true
+rule_holds p standing (tree.Read place ty line) = read_fits (place_type place) ty
+rule_holds p standing (tree.Address place ty line) = leads_fits p standing (is_memory place) (is_reached place) (place_type place) ty
+rule_holds p standing (tree.Convert operand ty line) = convert_fits p (is_null operand) (type_of operand) ty
+rule_holds p standing (tree.Cast operand ty line) = cast_fits p (is_null operand) (type_of operand) ty
+rule_holds p standing (tree.Unary op operand ty line) = unary_fits op (type_of operand) ty
+rule_holds p standing (tree.Binary op left right ty line) = binary_fits p op (type_of left) (type_of right) ty
+rule_holds p standing (tree.Offset op left right size ty line) = offset_fits p op (type_of left) (type_of right) size ty
+rule_holds p standing (tree.Difference left right size line) = difference_fits p (type_of left) (type_of right) size
+rule_holds p standing (tree.Logical op left right line) = logical_fits (type_of left) (type_of right)
+rule_holds p standing (tree.Conditional condition chosen otherwise ty line) = is_scalar (type_of condition) && sides_fit (source_of chosen) (type_of chosen) (source_of otherwise) (type_of otherwise) ty
+rule_holds p standing (tree.Comma left right ty line) = same_type (type_of right) ty
+rule_holds p standing (tree.Assign place value ty line) = assigned_fits p (place_type place) (source_of value) (type_of value) ty
+rule_holds p standing (tree.StructAssign place from size line) = copy_fits p (is_alone standing && is_local_name place) (place_type place) (place_type from) size
+rule_holds p standing (tree.Update op place value operation size ty line) = update_fits p op (place_type place) (type_of value) operation size ty
+rule_holds p standing (tree.Step op place operation size ty line) = step_fits p (place_type place) operation size ty
+rule_holds p standing (tree.Call function arguments ty line) = returns_type (slice_get p.functions function) ty
+
+-- The same for places.
+unfoldable pub place_rule_holds : Program → FunctionTree → Place → Bool
+place_rule_holds p f (tree.Name object ty line) = is_named (names_local object) (declared_type p f object) ty
+place_rule_holds p f (tree.Bit register bit line) = nat_lt register 256 && nat_lt bit 8
+place_rule_holds p f (tree.Member whole member offset ty line) = member_fits (member_at p (place_type whole).ty member) (place_type whole) offset ty
+place_rule_holds p f (tree.Deref pointer ty line) = deref_fits p (type_of pointer) ty
+
 unfoldable mutual
-  -- An expression of a function fits where it stands.
+  -- An expression of a function fits where it stands: its rule holds, and its parts fit.
   pub fits : Program → FunctionTree → Standing → Expression → Bool
-  fits p f standing (tree.Constant value line) = true
-  fits p f standing (tree.Read place ty line) = read_fits (place_type place) ty && place_fits p f place
-  fits p f standing (tree.Address place ty line) = leads_fits p standing (is_memory place) (is_reached place) (place_type place) ty && place_fits p f place
-  fits p f standing (tree.Convert operand ty line) = convert_fits p (is_null operand) (type_of operand) ty && fits p f Used operand
-  fits p f standing (tree.Cast operand ty line) = cast_fits p (is_null operand) (type_of operand) ty && fits p f Used operand
-  fits p f standing (tree.Unary op operand ty line) = unary_fits op (type_of operand) ty && fits p f Used operand
-  fits p f standing (tree.Binary op left right ty line) = binary_fits p op (type_of left) (type_of right) ty && (fits p f Used left && fits p f Used right)
-  fits p f standing (tree.Offset op left right size ty line) = offset_fits p op (type_of left) (type_of right) size ty && (fits p f (operand_standing standing op) left && fits p f (operand_standing standing op) right)
-  fits p f standing (tree.Difference left right size line) = difference_fits p (type_of left) (type_of right) size && (fits p f Used left && fits p f Used right)
-  fits p f standing (tree.Logical op left right line) = logical_fits (type_of left) (type_of right) && (fits p f Used left && fits p f Used right)
-  fits p f standing (tree.Conditional condition chosen otherwise ty line) = is_scalar (type_of condition) && (choice_fits (type_of chosen) (type_of otherwise) ty && (is_side (source_of chosen) ty && (is_side (source_of otherwise) ty && (fits p f Used condition && (fits p f Used chosen && fits p f Used otherwise)))))
-  fits p f standing (tree.Comma left right ty line) = same_type (type_of right) ty && (fits p f Used left && fits p f Used right)
-  fits p f standing (tree.Assign place value ty line) = assign_fits (place_type place) ty && (goes_to p (source_of value) (type_of value) ty && (place_fits p f place && fits p f Used value))
-  fits p f standing (tree.StructAssign place from size line) = copy_fits p (is_alone standing && is_local_name place) (place_type place) (place_type from) size && (place_fits p f place && place_fits p f from)
-  fits p f standing (tree.Update op place value operation size ty line) = update_fits p op (place_type place) (type_of value) operation size ty && (place_fits p f place && fits p f Used value)
-  fits p f standing (tree.Step op place operation size ty line) = step_fits p (place_type place) operation size ty && place_fits p f place
-  fits p f standing (tree.Call function arguments ty line) = returns_type (slice_get p.functions function) ty && arguments_fit p f arguments (params_of (slice_get p.functions function))
+  fits p f standing (tree.Constant value line) = rule_holds p standing (tree.Constant value line)
+  fits p f standing (tree.Read place ty line) = rule_holds p standing (tree.Read place ty line) && place_fits p f place
+  fits p f standing (tree.Address place ty line) = rule_holds p standing (tree.Address place ty line) && place_fits p f place
+  fits p f standing (tree.Convert operand ty line) = rule_holds p standing (tree.Convert operand ty line) && fits p f Used operand
+  fits p f standing (tree.Cast operand ty line) = rule_holds p standing (tree.Cast operand ty line) && fits p f Used operand
+  fits p f standing (tree.Unary op operand ty line) = rule_holds p standing (tree.Unary op operand ty line) && fits p f Used operand
+  fits p f standing (tree.Binary op left right ty line) = rule_holds p standing (tree.Binary op left right ty line) && (fits p f Used left && fits p f Used right)
+  fits p f standing (tree.Offset op left right size ty line) = rule_holds p standing (tree.Offset op left right size ty line) && (fits p f (operand_standing standing op) left && fits p f (operand_standing standing op) right)
+  fits p f standing (tree.Difference left right size line) = rule_holds p standing (tree.Difference left right size line) && (fits p f Used left && fits p f Used right)
+  fits p f standing (tree.Logical op left right line) = rule_holds p standing (tree.Logical op left right line) && (fits p f Used left && fits p f Used right)
+  fits p f standing (tree.Conditional condition chosen otherwise ty line) = rule_holds p standing (tree.Conditional condition chosen otherwise ty line) && (fits p f Used condition && (fits p f Used chosen && fits p f Used otherwise))
+  fits p f standing (tree.Comma left right ty line) = rule_holds p standing (tree.Comma left right ty line) && (fits p f Used left && fits p f Used right)
+  fits p f standing (tree.Assign place value ty line) = rule_holds p standing (tree.Assign place value ty line) && (place_fits p f place && fits p f Used value)
+  fits p f standing (tree.StructAssign place from size line) = rule_holds p standing (tree.StructAssign place from size line) && (place_fits p f place && place_fits p f from)
+  fits p f standing (tree.Update op place value operation size ty line) = rule_holds p standing (tree.Update op place value operation size ty line) && (place_fits p f place && fits p f Used value)
+  fits p f standing (tree.Step op place operation size ty line) = rule_holds p standing (tree.Step op place operation size ty line) && place_fits p f place
+  fits p f standing (tree.Call function arguments ty line) = rule_holds p standing (tree.Call function arguments ty line) && arguments_fit p f arguments (params_of (slice_get p.functions function))
 
   pub place_fits : Program → FunctionTree → Place → Bool
-  place_fits p f (tree.Name object ty line) = is_named (names_local object) (declared_type p f object) ty
-  place_fits p f (tree.Bit register bit line) = nat_lt register 256 && nat_lt bit 8
-  place_fits p f (tree.Member whole member offset ty line) = member_fits (member_at p (place_type whole).ty member) (place_type whole) offset ty && place_fits p f whole
-  place_fits p f (tree.Deref pointer ty line) = deref_fits p (type_of pointer) ty && fits p f Pointed pointer
+  place_fits p f (tree.Name object ty line) = place_rule_holds p f (tree.Name object ty line)
+  place_fits p f (tree.Bit register bit line) = place_rule_holds p f (tree.Bit register bit line)
+  place_fits p f (tree.Member whole member offset ty line) = place_rule_holds p f (tree.Member whole member offset ty line) && place_fits p f whole
+  place_fits p f (tree.Deref pointer ty line) = place_rule_holds p f (tree.Deref pointer ty line) && fits p f Pointed pointer
 
   -- As many arguments as parameters, each one that goes to its parameter.
   pub arguments_fit : Program → FunctionTree → Expressions → List VariableTree → Bool
-  arguments_fit p f tree.NoExpression [] = true
-  arguments_fit p f tree.NoExpression (v ∷ vs) = false
+  arguments_fit p f tree.NoExpression vs = no_params vs
   arguments_fit p f (tree.AndExpression e es) [] = false
   arguments_fit p f (tree.AndExpression e es) (v ∷ vs) = goes_to p (source_of e) (type_of e) v.ty.ty && (fits p f Used e && arguments_fit p f es vs)

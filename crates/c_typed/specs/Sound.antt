@@ -1,11 +1,11 @@
 -- Whether statements, functions, static objects and structures fit, and what makes a program sound.
-use Rattle.std.specs.Prelude.{ℕ, ◌+◌, ◌-◌, ◌*◌, ◌^◌, ◌%◌, nat_eq, nat_lt, nat_le, ℤ, int_le, Bool, true, false, not, ◌&&◌, ◌||◌, if◌then◌else◌, List, [], ◌∷◌, length, Option, Some, None, is_some, slice_get}
+use Rattle.std.specs.Prelude.{ℕ, suc, ◌+◌, ◌-◌, ◌*◌, ◌^◌, ◌%◌, nat_eq, nat_lt, nat_le, ℤ, int_le, Bool, true, false, not, ◌&&◌, ◌||◌, if◌then◌else◌, List, [], ◌∷◌, length, Option, Some, None, is_some, slice_get}
 use Rattle.std.specs.List.{list_all}
 use Rattle.c_ints.specs.Quantity.{Quantity}
 use Rattle.c_typed.specs.Fits.{source_of, goes_to, fits, place_fits}
 use Rattle.c_typed.specs.Sameness.{same_type, is_void, is_array, is_struct, is_scalar, is_promoted, is_complete}
 use Rattle.c_typed.specs.Trees as tree
-use Rattle.c_typed.specs.Trees.{Expression, Item, Statement, Statements, Arm, Arms, LastArm, VariableTree, StaticTree, FunctionTree, MemberTree, StructureTree, Program}
+use Rattle.c_typed.specs.Trees.{Expression, Place, Item, Statement, Statements, Arm, Arms, LastArm, VariableTree, StaticTree, FunctionTree, MemberTree, StructureTree, Program}
 use Rattle.c_typed.specs.Types.{type_bytes, type_of, place_type}
 use Rattle.c_typed.specs.Words.{item_bytes}
 use Rattle.c_typed.specs.declared.program.Initial.{Initial}
@@ -51,10 +51,14 @@ item_start (tree.Scalar offset value) = offset
 item_start (tree.Struct offset from size) = offset
 item_start (tree.Text offset bytes size) = offset
 
+-- a structure of so many bytes
+abbrev pub copied_item_fits : Program → FunctionTree → Place → ℕ → Bool
+copied_item_fits p f from size = is_struct (place_type from).ty && (nat_eq size (type_bytes p.sizes (place_type from).ty) && place_fits p f from)
+
 -- what an item gives: an integer or a pointer, a structure, or characters that have room (6.5.7)
 abbrev pub item_fits : Program → FunctionTree → Item → Bool
 item_fits p f (tree.Scalar offset value) = value_fits p f (type_of value) value
-item_fits p f (tree.Struct offset from size) = is_struct (place_type from).ty && (nat_eq size (type_bytes p.sizes (place_type from).ty) && place_fits p f from)
+item_fits p f (tree.Struct offset from size) = copied_item_fits p f from size
 item_fits p f (tree.Text offset bytes size) = nat_le (length bytes) size
 
 -- Bytes from an offset on lie behind those before, and within an object.
@@ -66,10 +70,13 @@ abbrev pub items_fit : Program → FunctionTree → ℕ → ℕ → List Item �
 items_fit p f size before [] = true
 items_fit p f size before (item ∷ items) = lies_within size before (item_start item) (item_bytes p.sizes item) && (item_fits p f item && items_fit p f size (item_start item + item_bytes p.sizes item) items)
 
+abbrev pub has_parts : Ty → Bool
+has_parts ty = is_array ty || is_struct ty
+
 -- A list or a string is the first value of an array or a structure.
 abbrev pub list_fits : Program → FunctionTree → Option VariableTree → List Item → Bool
 list_fits p f None items = false
-list_fits p f (Some v) items = (is_array v.ty.ty || is_struct v.ty.ty) && items_fit p f (type_bytes p.sizes v.ty.ty) 0 items
+list_fits p f (Some v) items = has_parts v.ty.ty && items_fit p f (type_bytes p.sizes v.ty.ty) 0 items
 
 -- Only a `for` has expressions before and behind its body, and may have no condition (6.6.5).
 abbrev pub loop_fits : LoopForm → Bool → Bool → Bool → Bool
@@ -98,12 +105,16 @@ cases_fit ty count (c ∷ cs) = same_type (Int c.value.ty) ty && (nat_le c.targe
 
 abbrev pub count_of : Statements → ℕ
 count_of tree.NoStatement = 0
-count_of (tree.AndStatement s ss) = 1 + count_of ss
+count_of (tree.AndStatement s ss) = suc (count_of ss)
 
 -- `return` with a value that goes to the function's result, or without one in a function without a result (6.6.6.4).
 abbrev pub return_fits : Program → FunctionTree → Option Expression → Bool
 return_fits p f None = is_void f.result
 return_fits p f (Some e) = value_fits p f f.result e
+
+-- a switch looks at an integer of a promoted type (6.6.4.2)
+abbrev pub switch_rule : Program → FunctionTree → Expression → Bool
+switch_rule p f value = is_promoted (type_of value) && fits p f Used value
 
 abbrev pub is_some_arm : Arms → Bool
 is_some_arm tree.NoArm = false
@@ -121,7 +132,7 @@ unfoldable mutual
   statement_fits p f leaves repeats (tree.InitList local items line) = list_fits p f (slice_get f.locals local) items
   statement_fits p f leaves repeats (tree.If arms otherwise line) = is_some_arm arms && (arms_fit p f leaves repeats arms && last_fits p f leaves repeats otherwise)
   statement_fits p f leaves repeats (tree.Loop shape begin condition step body line) = loop_fits shape (is_some begin) (is_some condition) (is_some step) && (any_fits p f begin && (any_condition_fits p f condition && (any_fits p f step && statement_fits p f true true body)))
-  statement_fits p f leaves repeats (tree.Switch value cases default statements line) = is_promoted (type_of value) && (fits p f Used value && (cases_fit (type_of value) (count_of statements) cases && (default_fits (count_of statements) default && statements_fit p f true repeats statements)))
+  statement_fits p f leaves repeats (tree.Switch value cases default statements line) = switch_rule p f value && (cases_fit (type_of value) (count_of statements) cases && (default_fits (count_of statements) default && statements_fit p f true repeats statements))
   statement_fits p f leaves repeats (tree.Break line) = leaves
   statement_fits p f leaves repeats (tree.Continue line) = repeats
   statement_fits p f leaves repeats (tree.Return value line) = return_fits p f value
