@@ -114,10 +114,8 @@ pub fn check(alloc: Global, unit: &Unit) -> Result<Typed, CheckError> {
     }
     let Checker { types, statics, .. } = checker;
     let (targets, structures) = types.into_tables()?;
-    Ok(Typed {
-        targets,
-        structures,
-        statics,
-        functions,
-    })
+    match Typed::new(targets, structures, statics, functions) {
+        Some(typed) => Ok(typed),
+        None => Err(CheckError::NoMemory),
+    }
 }

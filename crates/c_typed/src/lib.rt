@@ -7,11 +7,18 @@
 
 mod calls;
 mod expression;
+mod fits;
 mod folding;
 mod nodes;
 mod program;
+mod rules;
+mod sameness;
+mod sound;
+mod standing;
 mod statement;
+mod tables;
 mod types;
+mod whole;
 
 pub use calls::{FnId, Helper};
 pub use expression::{LogicalOp, Object, PlaceForm, StepOp, TExpr, TPlace};
