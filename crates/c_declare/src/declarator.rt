@@ -206,7 +206,14 @@ fn param(
             let specified = specified(specs, checker, param_context(bodies))?;
             let outline = outline(declarator, checker, specified, bodies)?;
             let line = line_of(declarator);
-            add_param(checker, list, specified, outline, Some(&declarator.name), line)
+            add_param(
+                checker,
+                list,
+                specified,
+                outline,
+                Some(&declarator.name),
+                line,
+            )
         }
         Param::Unnamed {
             specs,

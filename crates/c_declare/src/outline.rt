@@ -154,7 +154,12 @@ fn is_structure(ty: Ty) -> bool {
 }
 
 // Notes a parameter's name, which no other parameter of the list may have.
-fn note_param(alloc: Global, list: &mut ParamList, name: &[u8], line: u32) -> Result<(), CheckError> {
+fn note_param(
+    alloc: Global,
+    list: &mut ParamList,
+    name: &[u8],
+    line: u32,
+) -> Result<(), CheckError> {
     let (_, is_new) = list.names.insert_full(name.to_vec(alloc)?)?;
     if is_new {
         Ok(())

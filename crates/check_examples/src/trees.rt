@@ -15,43 +15,45 @@ fn sizes(alloc: Global, text: &[u8]) -> Result<Vec<u64>, Fail> {
     Ok(sizes)
 }
 
+// Texts, and the bytes of their static objects in order.
+const SIZES: [(&[u8], &[u64]); 10] = [
+    (
+        b"char a[(-1<1u)+1],b[(-1L<1u)+1],c[sizeof 40000],d[sizeof 0x9C40];",
+        &[1, 2, 4, 2],
+    ),
+    (
+        b"char a[sizeof('a')],b[sizeof(1u)],c[sizeof(1L)],d[sizeof(sizeof 1)];",
+        &[2, 2, 4, 2],
+    ),
+    (
+        b"char c;char a[sizeof(c+c)],b[sizeof(c)],d[sizeof(c+1L)],e[sizeof(c<<1L)];",
+        &[1, 2, 1, 4, 2],
+    ),
+    (
+        b"char*p;char a[sizeof(p)],b[sizeof(*p)],c[sizeof(p-p)],d[sizeof(p==p)];",
+        &[2, 2, 1, 2, 2],
+    ),
+    (
+        b"struct s{char a;int b;long c[2];}x;char a[sizeof x],b[sizeof x.c];",
+        &[11, 11, 8],
+    ),
+    (
+        b"int a[2][3];char b[sizeof a[0]],c[sizeof a[0][0]],d[sizeof&a];",
+        &[12, 6, 2, 2],
+    ),
+    (b"int a[]={1,2,3};char b[]=\"ab\",c[]={1,2};", &[6, 3, 2]),
+    (
+        b"char a[1?1:2],b[3%2+4*2],c[7>>1|8^3&1],d[-7/-2],e[!0+!5+~-2];",
+        &[1, 9, 11, 3, 2],
+    ),
+    (b"char a[(char)257],b[(signed char)255+2];", &[1, 1]),
+    (b"struct s{char a[65535],b;}*p;char c[sizeof*p+1];", &[2, 1]),
+];
+
 #[test]
 fn types_show_in_sizes(rt: HostRuntime) -> Result<(), Fail> {
-    let cases: [(&[u8], &[u64]); 10] = [
-        (
-            b"char a[(-1<1u)+1],b[(-1L<1u)+1],c[sizeof 40000],d[sizeof 0x9C40];",
-            &[1, 2, 4, 2],
-        ),
-        (
-            b"char a[sizeof('a')],b[sizeof(1u)],c[sizeof(1L)],d[sizeof(sizeof 1)];",
-            &[2, 2, 4, 2],
-        ),
-        (
-            b"char c;char a[sizeof(c+c)],b[sizeof(c)],d[sizeof(c+1L)],e[sizeof(c<<1L)];",
-            &[1, 2, 1, 4, 2],
-        ),
-        (
-            b"char*p;char a[sizeof(p)],b[sizeof(*p)],c[sizeof(p-p)],d[sizeof(p==p)];",
-            &[2, 2, 1, 2, 2],
-        ),
-        (
-            b"struct s{char a;int b;long c[2];}x;char a[sizeof x],b[sizeof x.c];",
-            &[11, 11, 8],
-        ),
-        (
-            b"int a[2][3];char b[sizeof a[0]],c[sizeof a[0][0]],d[sizeof&a];",
-            &[12, 6, 2, 2],
-        ),
-        (b"int a[]={1,2,3};char b[]=\"ab\",c[]={1,2};", &[6, 3, 2]),
-        (
-            b"char a[1?1:2],b[3%2+4*2],c[7>>1|8^3&1],d[-7/-2],e[!0+!5+~-2];",
-            &[1, 9, 11, 3, 2],
-        ),
-        (b"char a[(char)257],b[(signed char)255+2];", &[1, 1]),
-        (b"struct s{char a[65535],b;}*p;char c[sizeof*p+1];", &[2, 1]),
-    ];
     let mut wrong: usize = 0;
-    for (text, wanted) in cases {
+    for (text, wanted) in SIZES {
         if sizes(rt.alloc(), text)?.as_slice() != wanted {
             wrong = wrong.wrapping_add(1);
         }
