@@ -1,3 +1,5 @@
+pub mod Answers
 pub mod Helpers
 pub mod Memory
+pub mod Placement
 pub mod Sizes

@@ -35,24 +35,6 @@ impl From<AllocError> for PlaceError {
     }
 }
 
-// The size as a number of 16 bits, where a region may hold so much.
-fn small(size: u64) -> Option<u16> {
-    if size <= 96 { Some(size as u16) } else { None }
-}
-
-// The lowest free run of so many bytes. A run of none stands at 20h.
-fn find(taken: &Taken, size: u64) -> Option<Span> {
-    let size = small(size)?;
-    if size == 0 {
-        return Some(Span {
-            address: 0x20,
-            size: 0,
-        });
-    }
-    let address = taken.lowest(size)?;
-    Some(Span { address, size })
-}
-
 fn helper_name(helper: Helper) -> &'static [u8] {
     match helper {
         Helper::Mul2 => b"$mul2",
@@ -96,7 +78,7 @@ fn place_static(
     taken: &mut Taken,
 ) -> Result<ObjLine, PlaceError> {
     let name = copied(alloc, &object.name)?;
-    let Some(span) = find(taken, bytes_of(&p.structures, object.ty.ty)) else {
+    let Some(span) = taken.find(bytes_of(&p.structures, object.ty.ty)) else {
         return Err(PlaceError::Ram { object: name });
     };
     taken.take(span);
@@ -173,7 +155,7 @@ fn place_frame(
     taken: &Taken,
 ) -> Result<FrameLine, PlaceError> {
     let name = name_of(alloc, p, copy.function)?;
-    let Some(span) = find(taken, frame_bytes(p, copy.function)) else {
+    let Some(span) = taken.find(frame_bytes(p, copy.function)) else {
         return Err(PlaceError::Ram { object: name });
     };
     Ok(FrameLine {
