@@ -124,32 +124,3 @@ fn put_helpers(alloc: Global, rows: &mut Vec<Vec<u32>>) -> Result<(), AllocError
     }
     Ok(())
 }
-
-// Puts a number into each row that a row names.
-fn put_caller(callers: &mut [Vec<u32>], number: u32, row: &[u32]) -> Result<(), AllocError> {
-    for callee in row {
-        if let Some(found) = callers.get_mut(*callee as usize) {
-            found.push(number)?;
-        }
-    }
-    Ok(())
-}
-
-fn no_rows(alloc: Global, count: usize) -> Result<Vec<Vec<u32>>, AllocError> {
-    let mut rows = Vec::new(alloc);
-    for _row in 0..count {
-        rows.push(Vec::new(alloc))?;
-    }
-    Ok(rows)
-}
-
-/// The numbers that call each number.
-pub fn reversed(alloc: Global, rows: &[Vec<u32>]) -> Result<Vec<Vec<u32>>, AllocError>
-    requires { length rows.now < 2 ^ 32 }
-{
-    let mut callers = no_rows(alloc, rows.len())?;
-    for (number, row) in rows.iter().enumerate() {
-        put_caller(&mut callers, number as u32, row)?;
-    }
-    Ok(callers)
-}

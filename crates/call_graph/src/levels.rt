@@ -2,47 +2,8 @@
 
 ghost use Rattle.std.specs.Prelude.{◌≡◌, ◌<◌, ◌≤◌, ◌^◌, length, IfOk};
 
+use crate::reach::reached;
 use std::alloc::{AllocError, Global};
-
-fn no_marks(alloc: Global, count: usize) -> Result<Vec<bool>, AllocError>
-    ensures { IfOk result (λ marks. length marks.items ≡ count) }
-{
-    let marks = vec![in alloc; false; count]?;
-    Ok(marks)
-}
-
-// Marks what a row names and is not marked yet, and puts it on the stack.
-fn mark_row(marks: &mut [bool], stack: &mut Vec<u32>, row: &[u32]) -> Result<(), AllocError> {
-    for number in row {
-        if let Some(mark) = marks.get_mut(*number as usize) {
-            if !*mark {
-                *mark = true;
-                stack.push(*number)?;
-            }
-        }
-    }
-    Ok(())
-}
-
-/// For each number whether one call or more lead to it from `from`.
-pub fn reached(alloc: Global, rows: &[Vec<u32>], from: u32) -> Result<Vec<bool>, AllocError>
-    ensures { IfOk result (λ marks. length marks.items ≡ length rows.now) }
-{
-    let mut marks = no_marks(alloc, rows.len())?;
-    let mut stack = Vec::new(alloc);
-    if let Some(row) = rows.get(from as usize) {
-        mark_row(&mut marks, &mut stack, row)?;
-    }
-    for _ in 0..rows.len() {
-        let Some(number) = stack.pop() else {
-            return Ok(marks);
-        };
-        if let Some(row) = rows.get(number as usize) {
-            mark_row(&mut marks, &mut stack, row)?;
-        }
-    }
-    Ok(marks)
-}
 
 /// The first number that one call or more lead back to.
 pub fn recursive(alloc: Global, rows: &[Vec<u32>]) -> Result<Option<u32>, AllocError>
