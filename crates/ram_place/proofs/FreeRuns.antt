@@ -63,6 +63,9 @@ pub count_more : (test : ℕ → Bool) (n : ℕ) → count_below test (n + 1) �
 unfolding count_below
 count_more test n = rw add-one refl
 
+pub counted_small : (test : ℕ → Bool) (n : ℕ) → counted test n ≤ 1
+counted_small test n = elim (test n) as (λ (b : Bool). (if b then 1 else 0) ≤ 1) [ true ↦ lit≤ tt | false ↦ lit≤ tt ]
+
 -- tests that agree on the first n addresses count the same
 pub same_count : (test other : ℕ → Bool) (n : ℕ) → ((x : ℕ) → x < n → test x ≡ other x) → count_below test n ≡ count_below other n
 unfolding count_below

@@ -86,17 +86,21 @@ pub record LacksObject (p : Program) (name : List ℕ) : Type 0 where
   pub has_none : HasNoPlace (IsTaken objects) (type_bytes p.sizes object.ty.ty)
   pub named : name ≡ object.name
 
--- All objects and the frames before one of that name have addresses, and it has none.
-pub record LacksFrame (p : Program) (copies : List FnCopy) (name : List ℕ) : Type 0 where
-  pub objects : List ObjectLine
-  pub each_object : length objects ≡ length p.statics
-  pub objects_stand : AreObjects p objects
+-- Behind these objects the frames before one of that name have addresses, and it has none.
+pub record LacksFrameBehind (p : Program) (objects : List ObjectLine) (copies : List FnCopy) (name : List ℕ) : Type 0 where
   pub frames : List FrameLine
   pub frames_stand : AreFrames p objects copies frames
   pub copy : FnCopy
   pub is_next : slice_get copies (length frames) ≡ Some copy
   pub has_none : HasNoPlace (IsTakenFor p objects copies frames copy) (sizes.frame_bytes p copy.function)
   pub named : name ≡ sizes.name_of p copy.function
+
+-- All objects and the frames before one of that name have addresses, and it has none.
+pub record LacksFrame (p : Program) (copies : List FnCopy) (name : List ℕ) : Type 0 where
+  pub objects : List ObjectLine
+  pub each_object : length objects ≡ length p.statics
+  pub objects_stand : AreObjects p objects
+  pub frame : LacksFrameBehind p objects copies name
 
 -- how many addresses objects and frames cover, each counted once
 abbrev pub addresses_covered : List ObjectLine → List FrameLine → ℕ
