@@ -1,8 +1,10 @@
-use Rattle.std.proofs.Common.{map}
+use Rattle.std.proofs.Common.{List, map, ap, ◌∙◌}
 use Rattle.c_typed.specs.Views.{program_of}
 use Rattle.pic_map.specs.MapView.{object_of, frame_of}
+use Rattle.pic_map.specs.declared.FrameLine.{FrameLine}
+use Rattle.ram_place.specs.Placement.{addresses_covered}
 use Rattle.ram_place.proofs.Lawful.{live_disjoint, frames_clear, objects_disjoint}
-use Rattle.ram_place.proofs.Told.{objects_lost, frames_lost, all_placed, copies_in}
+use Rattle.ram_place.proofs.Told.{all_placed}
 use Rattle.ram_place.proofs.placing.place.Goals as goal
 
 pub returns : goal.returns
@@ -17,5 +19,5 @@ returns c =
       apart = live_disjoint p copies objects frames placing;
       clear = frames_clear p copies objects frames placing;
       objects = objects_disjoint p copies objects frames placing;
-      ram = ?
+      ram = c.covered-ram.ensures ∙ ap (λ (list : List FrameLine). addresses_covered objects (map frame_of list)) c.deref-2.ensures.value
     }
