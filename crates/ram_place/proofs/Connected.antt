@@ -44,7 +44,8 @@ backward_told rows callers given f n marks same number own size are reached g be
 pub live_more : (graph : List (List ℕ)) (functions : ℕ) (copy other : FnCopy) (others : List FnCopy) (line : FrameLine) (lines : List FrameLine) (x : ℕ) (old new all : Type 0) → (new ↔ (old ⊎ (MayBeLive graph functions other copy × (covers line.address line.size x ≡ true)))) → ((old ⊎ LiveFramesHave graph functions copy (other ∷ others) (line ∷ lines) x) ↔ all) → ((new ⊎ LiveFramesHave graph functions copy others lines x) ↔ all)
 live_more graph functions copy other others line lines x old new all here so_far = (
   λ one. elim one [ inl now ↦ elim (here.0 now) [ inl was ↦ so_far.0 (inl was) | inr live ↦ so_far.0 (inr (inl live)) ] | inr later ↦ so_far.0 (inr (inr later)) ],
-  λ has. elim (so_far.1 has) [ inl was ↦ inl (here.1 (inl was)) | inr one ↦ elim one [ inl live ↦ inl (here.1 (inr live)) | inr later ↦ inr later ] ])
+  λ has. elim (so_far.1 has) [ inl was ↦ inl (here.1 (inl was)) | inr one ↦ elim one [ inl live ↦ inl (here.1 (inr live)) | inr later ↦ inr later ] ],
+)
 
 -- none are left
 pub live_none : (graph : List (List ℕ)) (functions : ℕ) (copy : FnCopy) (others : List FnCopy) (x : ℕ) → LiveFramesHave graph functions copy others [] x → ⊥

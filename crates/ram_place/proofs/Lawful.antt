@@ -46,7 +46,7 @@ turned graph functions a b live = elim live [ inl roots ↦ inl (λ same. roots 
 earlier : (p : Program) (copies : List FnCopy) (objects : List ObjectLine) (frames : List FrameLine) → IsPlacing p copies objects frames → (j k : ℕ) (a b : FnCopy) (f g : FrameLine) → j < k → slice_get copies j ≡ Some a → slice_get copies k ≡ Some b → slice_get frames j ≡ Some f → slice_get frames k ≡ Some g → MayBeLive (graph_of p) (length p.functions) a b → AreDisjoint f.address f.size g.address g.size
 earlier p copies objects frames placing j k a b f g less one two here there live x in_first in_second =
     stands_free (IsTakenFor p objects copies (take k frames) b) g.size g.address x (placing.frames_stand k b g two there).1 in_second
-        (inr (one_frame (graph_of p) (length p.functions) b copies (take k frames) j a f x one (get_take frames k j f less here) live in_first))
+    (inr (one_frame (graph_of p) (length p.functions) b copies (take k frames) j a f x one (get_take frames k j f less here) live in_first))
 
 other_way : (j k : ℕ) → (j ≡ k → ⊥) → (j < k) ⊎ (k < j)
 other_way j k other = elim (cases_lt j k) [ inl less ↦ inl less | inr more ↦ inr (below j k other more) ] where
@@ -56,24 +56,28 @@ other_way j k other = elim (cases_lt j k) [ inl less ↦ inl less | inr more ↦
 pub live_disjoint : (p : Program) (copies : List FnCopy) (objects : List ObjectLine) (frames : List FrameLine) → IsPlacing p copies objects frames → LiveFramesAreDisjoint p copies frames
 live_disjoint p copies objects frames placing j k a b f g other one two here there live x in_first in_second =
     elim (other_way j k other) [
-      inl less ↦ earlier p copies objects frames placing j k a b f g less one two here there live x in_first in_second
-    | inr more ↦ earlier p copies objects frames placing k j b a g f more two one there here (turned (graph_of p) (length p.functions) a b live) x in_second in_first ]
+      | inl less ↦ earlier p copies objects frames placing j k a b f g less one two here there live x in_first in_second
+      | inr more ↦ earlier p copies objects frames placing k j b a g f more two one there here (turned (graph_of p) (length p.functions) a b live) x in_second in_first
+    ]
 
 -- a frame is clear of each object
 pub frames_clear : (p : Program) (copies : List FnCopy) (objects : List ObjectLine) (frames : List FrameLine) → IsPlacing p copies objects frames → FramesAreClear objects frames
 frames_clear p copies objects frames placing j k o f here there x in_object in_frame =
     elim (slice_get_cases copies k).1 [
-      inl found ↦ stands_free (IsTakenFor p objects copies (take k frames) found.0) f.size f.address x (placing.frames_stand k found.0 f found.2 there).1 in_frame (inl (one_object objects j o x here in_object))
-    | inr past ↦ absurd (omega (arith, past.0, placing.each_frame, slice_get_within frames k f there)) ]
+      | inl found ↦ stands_free (IsTakenFor p objects copies (take k frames) found.0) f.size f.address x (placing.frames_stand k found.0 f found.2 there).1 in_frame (inl (one_object objects j o x here in_object))
+      | inr past ↦ absurd (omega (arith, past.0, placing.each_frame, slice_get_within frames k f there))
+    ]
 
 earlier_object : (p : Program) (copies : List FnCopy) (objects : List ObjectLine) (frames : List FrameLine) → IsPlacing p copies objects frames → (j k : ℕ) (o q : ObjectLine) → j < k → slice_get objects j ≡ Some o → slice_get objects k ≡ Some q → AreDisjoint o.address o.size q.address q.size
 earlier_object p copies objects frames placing j k o q less here there x in_first in_second =
     elim (slice_get_cases p.statics k).1 [
-      inl found ↦ stands_free (IsTaken (take k objects)) q.size q.address x (placing.objects_stand k found.0 q found.2 there).1 in_second (one_object (take k objects) j o x (get_take objects k j o less here) in_first)
-    | inr past ↦ absurd (omega (arith, past.0, placing.each_object, slice_get_within objects k q there)) ]
+      | inl found ↦ stands_free (IsTaken (take k objects)) q.size q.address x (placing.objects_stand k found.0 q found.2 there).1 in_second (one_object (take k objects) j o x (get_take objects k j o less here) in_first)
+      | inr past ↦ absurd (omega (arith, past.0, placing.each_object, slice_get_within objects k q there))
+    ]
 
 pub objects_disjoint : (p : Program) (copies : List FnCopy) (objects : List ObjectLine) (frames : List FrameLine) → IsPlacing p copies objects frames → ObjectsAreDisjoint objects
 objects_disjoint p copies objects frames placing j k o q other here there x in_first in_second =
     elim (other_way j k other) [
-      inl less ↦ earlier_object p copies objects frames placing j k o q less here there x in_first in_second
-    | inr more ↦ earlier_object p copies objects frames placing k j q o more there here x in_second in_first ]
+      | inl less ↦ earlier_object p copies objects frames placing j k o q less here there x in_first in_second
+      | inr more ↦ earlier_object p copies objects frames placing k j q o more there here x in_second in_first
+    ]

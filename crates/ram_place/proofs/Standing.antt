@@ -58,8 +58,8 @@ next_told p objects list frames copy graph functions marks old rows count agree 
     let P : ℕ → List (List ℕ) → Type 0 = λ (x : ℕ) (g : List (List ℕ)). LiveFramesHave g functions copy list frames x in
     let Q : ℕ → ℕ → Type 0 = λ (x : ℕ) (n : ℕ). LiveFramesHave (graph_of p) n copy list frames x in
     frame_too p copy (λ (x : ℕ). is_taken marks x ≡ true) (IsTakenFor p objects list frames copy)
-        (λ x small here. elim ((told x small).0 here) [ inl was ↦ inl (sym (agree x small) ∙ was) | inr live ↦ inr (subst (Q x) count (subst (P x) rows live)) ])
-        (λ x small there. (told x small).1 (elim there [ inl was ↦ inl (agree x small ∙ was) | inr live ↦ inr (subst (P x) (sym rows) (subst (Q x) (sym count) live)) ])) r frame
+    (λ x small here. elim ((told x small).0 here) [ inl was ↦ inl (sym (agree x small) ∙ was) | inr live ↦ inr (subst (Q x) count (subst (P x) rows live)) ])
+    (λ x small there. (told x small).1 (elim there [ inl was ↦ inl (agree x small ∙ was) | inr live ↦ inr (subst (P x) (sym rows) (subst (Q x) (sym count) live)) ])) r frame
 
 -- an element of a list with one more: one of before, or the new one
 pushed : {X : Type 0} (xs : List X) (y x : X) (k : ℕ) → slice_get (xs ++ y ∷ []) k ≡ Some x → ((k < length xs) × (slice_get xs k ≡ Some x)) ⊎ ((k ≡ length xs) × (x ≡ y))
@@ -77,26 +77,28 @@ objects_pushed p xs y s marks so_far next agree told stands k t line declared go
     let here : Stands (IsTaken xs) y.size y.address = stands_too (λ (x : ℕ). is_taken marks x ≡ true) (IsTaken xs) (λ x small h. sym (agree x small) ∙ h) (λ x small h. agree x small ∙ h) y.size y.address stands in
     let P : List ObjectLine → Type 0 = λ (list : List ObjectLine). IsObject p list t line in
     elim (pushed xs y line k got) [
-      inl was ↦ subst P (sym (take-append-le k xs (y ∷ []) (omega (arith, was.0)))) (so_far k t line declared was.1)
-    | inr now ↦ (
-        let E : ℕ → Type 0 = λ (n : ℕ). slice_get p.statics n ≡ Some t in
-        let same : t ≡ s = same_some t s (slice_get p.statics (length xs)) (subst E now.0 declared) next in
-        let Q : StaticTree → Type 0 = λ (u : StaticTree). IsObject p xs u y in
-        let R : ObjectLine → Type 0 = λ (l : ObjectLine). IsObject p xs t l in
-        subst P (sym (take_at xs (y ∷ []) k (sym now.0))) (subst R (sym now.1) (subst Q (sym same) (told, here)))) ]
+      | inl was ↦ subst P (sym (take-append-le k xs (y ∷ []) (omega (arith, was.0)))) (so_far k t line declared was.1)
+      | inr now ↦ (
+          let E : ℕ → Type 0 = λ (n : ℕ). slice_get p.statics n ≡ Some t in
+          let same : t ≡ s = same_some t s (slice_get p.statics (length xs)) (subst E now.0 declared) next in
+          let Q : StaticTree → Type 0 = λ (u : StaticTree). IsObject p xs u y in
+          let R : ObjectLine → Type 0 = λ (l : ObjectLine). IsObject p xs t l in
+          subst P (sym (take_at xs (y ∷ []) k (sym now.0))) (subst R (sym now.1) (subst Q (sym same) (told, here))))
+    ]
 
 -- one frame more stands behind those before it
 pub frames_pushed : (p : Program) (objects : List ObjectLine) (copies : List FnCopy) (xs : List FrameLine) (y : FrameLine) (copy : FnCopy) → AreFrames p objects copies xs → slice_get copies (length xs) ≡ Some copy → IsFrame p objects copies xs copy y → AreFrames p objects copies (xs ++ y ∷ [])
 frames_pushed p objects copies xs y copy so_far next told k c line listed got =
     let P : List FrameLine → Type 0 = λ (list : List FrameLine). IsFrame p objects copies list c line in
     elim (pushed xs y line k got) [
-      inl was ↦ subst P (sym (take-append-le k xs (y ∷ []) (omega (arith, was.0)))) (so_far k c line listed was.1)
-    | inr now ↦ (
-        let E : ℕ → Type 0 = λ (n : ℕ). slice_get copies n ≡ Some c in
-        let same : c ≡ copy = same_some c copy (slice_get copies (length xs)) (subst E now.0 listed) next in
-        let Q : FnCopy → Type 0 = λ (d : FnCopy). IsFrame p objects copies xs d y in
-        let R : FrameLine → Type 0 = λ (l : FrameLine). IsFrame p objects copies xs c l in
-        subst P (sym (take_at xs (y ∷ []) k (sym now.0))) (subst R (sym now.1) (subst Q (sym same) told))) ]
+      | inl was ↦ subst P (sym (take-append-le k xs (y ∷ []) (omega (arith, was.0)))) (so_far k c line listed was.1)
+      | inr now ↦ (
+          let E : ℕ → Type 0 = λ (n : ℕ). slice_get copies n ≡ Some c in
+          let same : c ≡ copy = same_some c copy (slice_get copies (length xs)) (subst E now.0 listed) next in
+          let Q : FnCopy → Type 0 = λ (d : FnCopy). IsFrame p objects copies xs d y in
+          let R : FrameLine → Type 0 = λ (l : FrameLine). IsFrame p objects copies xs c l in
+          subst P (sym (take_at xs (y ∷ []) k (sym now.0))) (subst R (sym now.1) (subst Q (sym same) told)))
+    ]
 
 -- the bytes of one object more
 or_turned : (a b c : Bool) → (a || (b || c)) ≡ (b || (a || c))

@@ -53,10 +53,11 @@ pub object_placed : (p : Program) (statics given : List Static) (lines new : Lis
 object_placed p statics given lines new i object line marks marked of same count below read so_far agree grown told more =
     let seen : map object_of new ≡ map object_of lines ++ object_of line ∷ [] = ap (map object_of) grown ∙ map-append object_of lines (line ∷ []) in
     let next : slice_get p.statics (length (map object_of lines)) ≡ Some (static_of object) = ap (λ (list : List StaticTree). slice_get list (length (map object_of lines))) of ∙ next_static statics given lines i object same count below read in
-    let P : List ObjectLine → Type 0 = λ (list : List ObjectLine). AreObjects p list in
-    (ap length grown ∙ length_push lines line ∙ ap (λ (n : ℕ). n + 1) count,
-     subst P (sym seen) (objects_pushed p (map object_of lines) (object_of line) (static_of object) marks so_far next agree told.0 told.1),
-     λ x small. more x small ∙ ap (λ (b : Bool). covers line.address line.size x || b) (agree x small) ∙ sym (objects_have_more (map object_of lines) (object_of line) x) ∙ sym (ap (λ (list : List ObjectLine). objects_have list x) seen))
+    let P : List ObjectLine → Type 0 = λ (list : List ObjectLine). AreObjects p list in (
+      ap length grown ∙ length_push lines line ∙ ap (λ (n : ℕ). n + 1) count,
+      subst P (sym seen) (objects_pushed p (map object_of lines) (object_of line) (static_of object) marks so_far next agree told.0 told.1),
+      λ x small. more x small ∙ ap (λ (b : Bool). covers line.address line.size x || b) (agree x small) ∙ sym (objects_have_more (map object_of lines) (object_of line) x) ∙ sym (ap (λ (list : List ObjectLine). objects_have list x) seen),
+    )
 
 pub object_lost : (p : Program) (statics given : List Static) (lines : List ObjLine) (i : ℕ) (object : Static) (marks : List Bool) → p.statics ≡ map static_of statics → given ≡ statics → length lines ≡ i → i < length given → object ≡ get_or given i object → AreObjects p (map object_of lines) → ((x : ℕ) → x < 512 → is_taken marks x ≡ objects_have (map object_of lines) x) → (e : PlaceError) → TellsObject p (λ x. is_taken marks x ≡ true) (static_of object) (Err e) → TellsObjects p (Err e)
 object_lost p statics given lines i object marks of same count below read so_far agree NoMemory told = tt
@@ -68,7 +69,7 @@ object_lost p statics given lines i object marks of same count below read so_far
       object = static_of object;
       is_next = next;
       has_none = no_place_too (λ (x : ℕ). is_taken marks x ≡ true) (IsTaken (map object_of lines)) (λ x small here. sym (agree x small) ∙ here) (type_bytes p.sizes object.ty.ty) told.1;
-      named = told.0
+      named = told.0;
     }
 
 next_copy : (copies : List FnCopy) (lines : List code.FrameLine) (i : ℕ) (copy : FnCopy) → length lines ≡ i → slice_get copies i ≡ Some copy → slice_get copies (length (map frame_of lines)) ≡ Some copy
@@ -80,9 +81,10 @@ pub frame_placed : (p : Program) (objects : List ObjectLine) (copies : List FnCo
 frame_placed p objects copies lines given new i copy line same count listed so_far grown told =
     let seen : map frame_of new ≡ map frame_of lines ++ frame_of line ∷ [] = ap (map frame_of) grown ∙ map-append frame_of lines (line ∷ []) in
     let P : List FrameLine → Type 0 = λ (list : List FrameLine). AreFrames p objects copies list in
-    let Q : List code.FrameLine → Type 0 = λ (list : List code.FrameLine). TellsFrame p (IsTakenFor p objects copies (map frame_of list) copy) copy (Ok line) in
-    (ap length grown ∙ length_push lines line ∙ ap (λ (n : ℕ). n + 1) count,
-     subst P (sym seen) (frames_pushed p objects copies (map frame_of lines) (frame_of line) copy so_far (next_copy copies lines i copy count listed) (subst Q same told)))
+    let Q : List code.FrameLine → Type 0 = λ (list : List code.FrameLine). TellsFrame p (IsTakenFor p objects copies (map frame_of list) copy) copy (Ok line) in (
+      ap length grown ∙ length_push lines line ∙ ap (λ (n : ℕ). n + 1) count,
+      subst P (sym seen) (frames_pushed p objects copies (map frame_of lines) (frame_of line) copy so_far (next_copy copies lines i copy count listed) (subst Q same told)),
+    )
 
 pub frame_lost : (p : Program) (objects : List ObjectLine) (copies : List FnCopy) (lines given : List code.FrameLine) (i : ℕ) (copy : FnCopy) → given ≡ lines → length lines ≡ i → slice_get copies i ≡ Some copy → AreFrames p objects copies (map frame_of lines) → (e : PlaceError) → TellsFrame p (IsTakenFor p objects copies (map frame_of given) copy) copy (Err e) → TellsFrames p objects copies (Err e)
 frame_lost p objects copies lines given i copy same count listed so_far NoMemory told = tt
@@ -95,7 +97,7 @@ frame_lost p objects copies lines given i copy same count listed so_far (Ram nam
       copy = copy;
       is_next = next_copy copies lines i copy count listed;
       has_none = here.1;
-      named = here.0
+      named = here.0;
     }
 
 -- what is told of the objects, and of the frames behind them, is told of the placing
@@ -111,7 +113,7 @@ frames_lost p objects copies given (Ram name) same stood told =
       objects = map object_of objects.lines.items;
       each_object = length-map objects.lines.items object_of ∙ stood.0;
       objects_stand = stood.1;
-      frame = subst Q same told
+      frame = subst Q same told;
     })
 
 pub all_placed : (p : Program) (objects : Objects) (copies given : List FnCopy) (frames : Vec code.FrameLine Global) → given ≡ copies → TellsObjects p (Ok objects) → TellsFrames p (map object_of objects.lines.items) given (Ok frames) → IsPlacing p copies (map object_of objects.lines.items) (map frame_of frames.items)
@@ -122,7 +124,7 @@ all_placed p objects copies given frames same stood told =
       each_object = length-map objects.lines.items object_of ∙ stood.0;
       objects_stand = stood.1;
       each_frame = length-map frames.items frame_of ∙ here.0;
-      frames_stand = here.1
+      frames_stand = here.1;
     }
 
 -- the number of a function of the program, or of a helper, is one of the graph

@@ -19,5 +19,5 @@ returns c =
       apart = live_disjoint p copies objects frames placing;
       clear = frames_clear p copies objects frames placing;
       objects = objects_disjoint p copies objects frames placing;
-      ram = c.covered-ram.ensures ∙ ap (λ (list : List FrameLine). addresses_covered objects (map frame_of list)) c.deref-2.ensures.value
+      ram = c.covered-ram.ensures ∙ ap (λ (list : List FrameLine). addresses_covered objects (map frame_of list)) c.deref-2.ensures.value;
     }

@@ -14,7 +14,7 @@ use Rattle.ram_place.proofs.placing.place_frames.Goals as goal
 pub loop-copy-init : goal.loop-copy-init
 loop-copy-init c = record {
   count = ap length c.new-frames.ensures.items;
-  stand = frames_none (program_of c.args.p.now) (map object_of c.args.objects.now.lines.items) c.args.list.now c.new-frames.result.items c.new-frames.ensures.items
+  stand = frames_none (program_of c.args.p.now) (map object_of c.args.objects.now.lines.items) c.args.list.now c.new-frames.result.items c.new-frames.ensures.items;
 }
 
 pub returns-in_err-line : goal.returns-in_err-line

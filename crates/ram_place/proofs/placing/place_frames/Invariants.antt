@@ -7,5 +7,5 @@ use Rattle.ram_place.proofs.placing.place_frames.Given as goal
 abbrev pub invariant-loop-copy : goal.invariant-loop-copy
 invariant-loop-copy l = record {
   count : length l.frames.items ≡ l.copy-index;
-  stand : AreFrames (program_of l.p) (map object_of l.objects.lines.items) l.list (map frame_of l.frames.items)
+  stand : AreFrames (program_of l.p) (map object_of l.objects.lines.items) l.list (map frame_of l.frames.items);
 }

@@ -15,7 +15,7 @@ pub loop-object-init : goal.loop-object-init
 loop-object-init c = record {
   count = ap length c.new-lines.ensures.items;
   stand = objects_none (program_of c.args.p.now) c.new-lines.result.items c.new-lines.ensures.items;
-  marks = λ x small. c.none-taken.ensures x ∙ sym (ap (λ (list : List ObjLine). objects_have (map object_of list) x) c.new-lines.ensures.items)
+  marks = λ x small. c.none-taken.ensures x ∙ sym (ap (λ (list : List ObjLine). objects_have (map object_of list) x) c.new-lines.ensures.items);
 }
 
 pub returns-in_err-line : goal.returns-in_err-line

@@ -9,5 +9,5 @@ abbrev pub invariant-loop-object : goal.invariant-loop-object
 invariant-loop-object l = record {
   count : length l.lines.items ≡ l.object-index;
   stand : AreObjects (program_of l.p) (map object_of l.lines.items);
-  marks : (x : ℕ) → x < 512 → is_taken l.taken.marks x ≡ objects_have (map object_of l.lines.items) x
+  marks : (x : ℕ) → x < 512 → is_taken l.taken.marks x ≡ objects_have (map object_of l.lines.items) x;
 }

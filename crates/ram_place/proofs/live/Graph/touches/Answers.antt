@@ -18,6 +18,7 @@ returns c =
     let graph = rows_of c.args.self.now.rows.items in
     let unmarked = sym (ap (λ marks. is_taken marks c.args.number) c.deref.ensures.value) ∙ sym c.is_marked.ensures ∙ c.if-is_marked.false in
     let told = c.is_marked-2.ensures ∙ ap (λ marks. is_taken marks c.args.number) c.deref-2.ensures.value in
-    let known = c.requires.known.backward c.args.number c.requires.within in
-    (λ marked. inl (reaches_by graph c.args.number c.args.own (known.0 (sym told ∙ marked))),
-     λ one. (told ∙ known.1 (only_back graph c.args.own c.args.number c.if-number-own.false (λ leads. true_false (sym ((c.requires.known.forward c.args.number c.requires.within).1 leads) ∙ unmarked)) one)))
+    let known = c.requires.known.backward c.args.number c.requires.within in (
+      λ marked. inl (reaches_by graph c.args.number c.args.own (known.0 (sym told ∙ marked))),
+      λ one. (told ∙ known.1 (only_back graph c.args.own c.args.number c.if-number-own.false (λ leads. true_false (sym ((c.requires.known.forward c.args.number c.requires.within).1 leads) ∙ unmarked)) one)),
+    )
