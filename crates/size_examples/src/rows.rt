@@ -7,7 +7,8 @@ use std::alloc::Global;
 use std::test::Fail;
 
 // What the functions name: bytes of 1, 2 and 4, arrays, pointers to 1, 2 and 3 bytes, structures of 3 bytes.
-const NAMES: &str = "unsigned char c;int i,j;long l;unsigned char a[4];int b[4];unsigned char*q;int*r;struct s{unsigned char m;int n;};struct s t,v;struct s*p;int f(unsigned char x,int y){return y;}";
+const NAMES: &str =
+    "unsigned char c;int i,j;long l;unsigned char a[4];int b[4];unsigned char*q;int*r;struct s{unsigned char m;int n;};struct s t,v;struct s*p;int f(unsigned char x,int y){return y;}";
 
 // A function, its frame and its words. Each function has 4 words besides those of its parts.
 // Of the parts: a read of c, i or l has 1, 2 or 4 bytes and 6, 12 or 24 words, of a pointer 2 and 12.
@@ -89,7 +90,11 @@ const ROWS: [(&str, u64, u64); 65] = [
     ("void g(void){while(c){break;continue;}}", 1, 42),
     ("void g(void){for(;;);}", 0, 24),
     // `switch`: 10, and 10W + 14 for each case; the operand once more and 2 bytes.
-    ("void g(void){switch(i){case 1:c;case 2:;default:;}}", 6, 100),
+    (
+        "void g(void){switch(i){case 1:c;case 2:;default:;}}",
+        6,
+        100,
+    ),
     ("void g(void){switch(c){}}", 6, 32),
     // `return` 6w + 6.
     ("int g(void){return i;}", 2, 34),

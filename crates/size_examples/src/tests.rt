@@ -4,9 +4,10 @@ use c_check::{RootKind, Typed, check};
 use c_parse::parse;
 use c_pre::tokens;
 use c_token::raw;
-use call_graph::{Copies, FnId, GraphError, copies};
+use call_graph::{Copies, FnCopy, FnId, GraphError, copies};
+use code_place::{PageError, pages};
 use pic_chip::Root;
-use ram_place::{PlaceError, Placed, block_words, frame_bytes, place, start_words};
+use ram_place::{PlaceError, Placed, block_words, place, start_words};
 use std::alloc::{AllocError, Global};
 use std::test::Fail;
 
@@ -28,7 +29,7 @@ enum Told {
 }
 
 /// The typed tree of a text.
-fn typed(alloc: Global, text: &[u8]) -> Result<Typed, Fail> {
+pub fn typed(alloc: Global, text: &[u8]) -> Result<Typed, Fail> {
     let raw = raw(alloc, text)?;
     let toks = tokens(alloc, text, &raw)?;
     let unit = parse(alloc, text, &toks)?;
@@ -271,42 +272,184 @@ fn depths(rt: HostRuntime) -> Result<(), Fail> {
     Ok(())
 }
 
-/// The addresses of the frames, and their sizes, those of the handler's root 1000 higher.
-fn frames(alloc: Global, text: &[u8]) -> Result<Vec<(u16, u16)>, Fail> {
+/// The words of the blocks of a program without helpers and handler: the start block, and then the copies
+/// in order of definition.
+fn blocks(alloc: Global, p: &Typed, list: &[FnCopy]) -> Result<Vec<u64>, Fail> {
+    let mut blocks = Vec::new(alloc);
+    blocks.push(start_words(p))?;
+    for number in 0..p.functions.len() {
+        let function = FnId::User(number as u32);
+        if list.iter().any(|copy| copy.function == function) {
+            blocks.push(block_words(p, function))?;
+        }
+    }
+    Ok(blocks)
+}
+
+fn paged(alloc: Global, text: &[u8]) -> Result<Result<Vec<u16>, PageError>, Fail> {
     let p = typed(alloc, text)?;
-    let mut found = Vec::new(alloc);
+    if p.functions.len() > 1000 {
+        return Ok(Err(PageError::NoMemory));
+    }
+    match copies(alloc, &p) {
+        Ok(copies) => {
+            let blocks = blocks(alloc, &p, &copies.list)?;
+            if blocks.len() > 1001 {
+                return Ok(Err(PageError::NoMemory));
+            }
+            Ok(pages(alloc, &blocks))
+        }
+        Err(_) => Ok(Err(PageError::NoMemory)),
+    }
+}
+
+/// Functions f, g and h with 146 assignments each, of 4 + 146 * 14 = 2048 words.
+fn three_pages(alloc: Global) -> Result<String, AllocError> {
+    let mut text = repeated(alloc, "void f(void){", "PORTB=5;", 146, "}")?;
+    text.push_str(&repeated(alloc, "void g(void){", "PORTB=5;", 146, "}")?)?;
+    text.push_str(&repeated(alloc, "void h(void){", "PORTB=5;", 146, "}")?)?;
+    Ok(text)
+}
+
+#[test]
+fn blocks_in_pages(rt: HostRuntime) -> Result<(), Fail> {
+    let alloc = rt.alloc();
+    let three = three_pages(alloc)?;
+    // main has 4 + 3 * 6 = 22 words, and stands behind the 100 of the start block.
+    let main = "void f(void);void g(void);void h(void);void main(void){f();g();h();}";
+    let first = format!(in alloc; "{main}{three}")?;
+    let found = paged(alloc, first.as_bytes())?;
+    assert!(rt; found.is_ok_and(|at| at.as_slice() == [0u16, 100, 2048, 4096, 6144].as_slice()));
+    // With main behind the three, the fourth page is full: 100 + 3 * 2048 + 22 words.
+    let last = format!(in alloc; "{three}{main}")?;
+    let found = paged(alloc, last.as_bytes())?;
+    assert!(rt; matches!(&found, Err(PageError::Code { words: 6266 })));
+    // 147 assignments are 2062 words, over a page; f is the block behind the start block.
+    let over = repeated(
+        alloc,
+        "void f(void){",
+        "PORTB=5;",
+        147,
+        "}void main(void){f();}",
+    )?;
+    let found = paged(alloc, over.as_bytes())?;
+    assert!(rt;
+        matches!(
+            &found,
+            Err(PageError::Page {
+                block: 1,
+                words: 2062
+            })
+        )
+    );
+    Ok(())
+}
+
+/// The lines of objects and frames: name, address and size.
+fn lines(alloc: Global, text: &[u8]) -> Result<String, Fail> {
+    let p = typed(alloc, text)?;
+    let mut found = String::new(alloc);
     if p.functions.len() > 1000 {
         return Ok(found);
     }
     if let Ok(copies) = copies(alloc, &p) {
         if let Ok(placed) = place(alloc, &p, &copies) {
+            for object in &placed.objects {
+                let kind = if object.fixed { "const" } else { "static" };
+                found.push_str(&line(alloc, kind, &object.name, object.address, object.size)?)?;
+            }
             for frame in &placed.frames {
-                let high = if frame.root == Root::Isr {
-                    1000u16
-                } else {
-                    0u16
+                let kind = match frame.root {
+                    Root::Main => "main",
+                    Root::Isr => "isr",
                 };
-                found.push((frame.address, frame.size.wrapping_add(high)))?;
+                found.push_str(&line(alloc, kind, &frame.name, frame.address, frame.size)?)?;
             }
         }
     }
     Ok(found)
 }
 
+fn line(
+    alloc: Global,
+    kind: &str,
+    name: &[u8],
+    address: u16,
+    size: u16,
+) -> Result<String, AllocError> {
+    let name = match std::str::from_utf8(name) {
+        Ok(name) => name,
+        Err(_) => "?",
+    };
+    format!(in alloc; "{kind} {name} {address:04X} {size}\n")
+}
+
+const TWO_COPIES: &str =
+    "unsigned char add(unsigned char a){unsigned char b;b=a;return b+1;}void interrupt h(void){PORTC=add(9);INTF=0;}void main(void){INTCON=0x90;PORTB=add(1);}";
+
+// Of different functions that never run together, with a static pointer before them.
+const OVERLAID: &str =
+    "unsigned char*q;void f(void){unsigned char a;q=&a;}void g(void){unsigned char b;PORTB=(q==&b);}void main(void){f();g();}";
+
+const COUNTS: &str = "#include <htc.h>
+#define LED RB1
+#define KEY RB0
+struct counts { unsigned int ticks; unsigned char presses; };
+struct counts n;
+unsigned char stable;
+void interrupt tick(void)
+{
+    if (TMR0IF) { TMR0IF = 0; n.ticks++; }
+}
+void pause(unsigned char k)
+{
+    volatile unsigned char i;
+    for (i = 0; i < k; i++)
+        ;
+}
+void main(void)
+{
+    unsigned char last = 1;
+    TRISB = 0x01;
+    OPTION_REG = 0x07;
+    TMR0IE = 1;
+    GIE = 1;
+    for (;;) {
+        unsigned char now = KEY;
+        pause(20);
+        if (now == KEY && now != last) {
+            last = now;
+            if (!now) { n.presses++; LED = !LED; }
+        }
+        stable = last;
+    }
+}
+";
+
 #[test]
 fn places(rt: HostRuntime) -> Result<(), Fail> {
     let alloc = rt.alloc();
-    let text =
-        b"unsigned char add(unsigned char a){unsigned char b;b=a;return b+1;}void interrupt h(void){PORTC=add(9);INTF=0;}void main(void){INTCON=0x90;PORTB=add(1);}";
-    let wanted = Vec::from_array(
-        alloc,
-        [(0x20u16, 3u16), (0x23, 10), (0x2D, 1003), (0x30, 1010)],
-    )?;
-    assert_eq!(rt; frames(alloc, text)?, wanted);
-    let text =
-        b"unsigned char*q;void f(void){unsigned char a;q=&a;}void g(void){unsigned char b;PORTB=(q==&b);}void main(void){f();g();}";
-    let found = frames(alloc, text)?;
-    assert_eq!(rt; found[1].0, 0x22);
-    assert_eq!(rt; found[2].0, 0x22);
+    // add: 2 bytes of variables, and 8 of `b+1`.
+    assert_eq!(rt;
+        lines(alloc, TWO_COPIES.as_bytes())?.as_str(),
+        "main main 0020 3\nmain add 0023 10\nisr h 002D 3\nisr add 0030 10\n"
+    );
+    // f: a byte, and 4 of `q=&a`. g: a byte, and 8 of the comparison.
+    assert_eq!(rt;
+        lines(alloc, OVERLAID.as_bytes())?.as_str(),
+        "static q 0020 2\nmain main 0020 0\nmain f 0022 5\nmain g 0022 9\n"
+    );
+    // main and pause: 2 bytes of variables, and 11 of `n.presses++` and `i++`. tick: 12 of `n.ticks++`.
+    assert_eq!(rt;
+        lines(alloc, COUNTS.as_bytes())?.as_str(),
+        "static n 0020 3\nstatic stable 0023 1\nmain main 0024 13\nmain pause 0031 13\nisr tick 003E 12\n"
+    );
+    // Each region filled by one array.
+    let full =
+        b"unsigned char a[80],b[80];const unsigned char c[96]={1};unsigned char d[96];void main(void){}";
+    assert_eq!(rt;
+        lines(alloc, full)?.as_str(),
+        "static a 0020 80\nstatic b 00A0 80\nconst c 0110 96\nstatic d 0190 96\nmain main 0020 0\n"
+    );
     Ok(())
 }
