@@ -7,7 +7,7 @@ use Rattle.std.proofs.lemmas.List.Elements.{Contains-append_left, Contains-appen
 use Rattle.std.proofs.lemmas.List.Sums.{sum_by-set}
 use Rattle.call_graph.specs.Search.{Found, unmarked}
 
-pub in_none : (g : ℕ) → Contains [] g → ⊥
+pub in_none : {A : Type 0} (g : A) → Contains [] g → ⊥
 in_none g c = let lt : c.0 < 0 = c.1 in omega arith
 
 -- what stands in a list of one number

@@ -3,6 +3,7 @@
 ghost use Rattle.std.specs.Prelude.{◌≡◌, ◌+◌, ◌<◌, ◌≤◌, ◌^◌, ◌++◌, [], map, replicate, length, IfOk};
 ghost use Rattle.c_typed.specs.Chains as stated;
 ghost use Rattle.c_typed.specs.Views.{program_of, function_of};
+ghost use Rattle.call_graph.specs.Copies.{IsOne};
 ghost use Rattle.call_graph.specs.Rows.{rows_of};
 
 use crate::calls::put_statements_calls;
@@ -72,7 +73,8 @@ pub fn number_of(functions: u32, id: FnId) -> u32
 
 /// What has that number.
 pub fn id_of(functions: u32, number: u32) -> FnId
-    ensures { number < functions + 16 → stated.number_of functions result ≡ number }
+    ensures number { number < functions + 16 → stated.number_of functions result ≡ number }
+    ensures one { IsOne functions result }
 {
     if number < functions {
         FnId::User(number)

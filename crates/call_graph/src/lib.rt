@@ -8,6 +8,7 @@ mod calls;
 mod finding;
 mod graph;
 mod levels;
+mod listing;
 mod reach;
 mod roots;
 mod types;
