@@ -12,6 +12,8 @@ use Rattle.c_typed.specs.declared.calls.FnId.TheVariants as callee
 use Rattle.c_typed.specs.declared.calls.Helper as helper
 use Rattle.c_typed.specs.declared.calls.Helper.TheVariants.{Mul2, Mul4, Divu2, Divs2, Remu2, Rems2, Divu4, Divs4, Remu4, Rems4, Shl2, Shru2, Shrs2, Shl4, Shru4, Shrs4}
 use Rattle.c_typed.specs.declared.program.Static.{Static}
+use Rattle.std.proofs.lemmas.Option.{slice_get_within, get_or_from_slice_get}
+use Rattle.call_graph.specs.Copies.{IsOne, AreCopies}
 use Rattle.call_graph.specs.Rows.{rows_of}
 use Rattle.call_graph.specs.declared.types.FnCopy.{FnCopy}
 use Rattle.pic_map.specs.MapContent.{ObjectLine, FrameLine}
@@ -21,7 +23,7 @@ use Rattle.pic_map.specs.declared.FrameLine as code
 use Rattle.ram_place.specs.Answers.{TellsPlacing, TellsObject, TellsFrame, TellsObjects, TellsFrames}
 use Rattle.ram_place.specs.Live.{IsGraphOf}
 use Rattle.ram_place.specs.Memory.{is_taken, covers, Stands, HasNoPlace}
-use Rattle.ram_place.specs.Placement.{IsOf, AreOf, objects_have, IsTaken, IsTakenFor, AreObjects, AreFrames, IsPlacing, LacksObject, LacksFrame}
+use Rattle.ram_place.specs.Placement.{objects_have, IsTaken, IsTakenFor, AreObjects, AreFrames, IsPlacing, LacksObject, LacksFrame}
 use Rattle.ram_place.specs.declared.live.Graph.{Graph}
 use Rattle.ram_place.specs.declared.placing.Objects.{Objects}
 use Rattle.ram_place.specs.declared.placing.Placed.{Placed}
@@ -146,18 +148,19 @@ helper_below Shl4 = lit< tt
 helper_below Shru4 = lit< tt
 helper_below Shrs4 = lit< tt
 
-number_below : (functions : ℕ) (f : FnId) → IsOf functions f → number_of functions f < functions + 16
-number_below functions (callee.User n) of = omega (arith, of)
-number_below functions (callee.Helper h) of = omega (arith, helper_below h)
+number_below : (functions : ℕ) (f : FnId) → IsOne functions f → number_of functions f < functions + 16
+number_below functions (callee.User n) one = omega (arith, one)
+number_below functions (callee.Helper h) one = omega (arith, helper_below h)
 
 graph_length : (p : Program) → length (graph_of p) ≡ length p.functions + 16
 graph_length p = length-append (map (row_of (length p.functions)) p.functions) (replicate 16 []) ∙ ap (λ (n : ℕ). n + 16) (length-map p.functions (row_of (length p.functions)))
 
-pub copies_in : (p : Program) (graph : Graph) (copies given : List FnCopy) → given ≡ copies → IsGraphOf p graph → AreOf p copies → (k : ℕ) (copy : FnCopy) → slice_get given k ≡ Some copy → number_of graph.functions copy.function < length graph.rows.items
-copies_in p graph copies given same is of k copy got =
+pub copies_in : (p : Program) (graph : Graph) (copies given : List FnCopy) → given ≡ copies → IsGraphOf p graph → AreCopies p copies → (k : ℕ) (copy : FnCopy) → slice_get given k ≡ Some copy → number_of graph.functions copy.function < length graph.rows.items
+copies_in p graph copies given same is are k copy got =
     let P : List FnCopy → Type 0 = λ (list : List FnCopy). slice_get list k ≡ Some copy in
     let listed : slice_get copies k ≡ Some copy = subst P same got in
+    let one : IsOne (length p.functions) copy.function = ((are.exact copy).0 (k, slice_get_within copies k copy listed, get_or_from_slice_get copies k copy copy listed)).one in
     let Q : ℕ → Type 0 = λ (n : ℕ). number_of n copy.function < length p.functions + 16 in
-    let below : number_of graph.functions copy.function < length p.functions + 16 = subst Q (sym is.0) (number_below (length p.functions) copy.function (of k copy listed)) in
+    let below : number_of graph.functions copy.function < length p.functions + 16 = subst Q (sym is.0) (number_below (length p.functions) copy.function one) in
     let size : length graph.rows.items ≡ length p.functions + 16 = sym (rows_length graph.rows.items) ∙ ap length is.1 ∙ graph_length p in
     omega (arith, below, size)

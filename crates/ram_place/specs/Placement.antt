@@ -4,20 +4,10 @@ use Rattle.std.specs.Prelude.{◌≡◌, ℕ, ◌+◌, ◌<◌, Bool, true, fals
 use Rattle.c_typed.specs.Chains.{number_of, graph_of, Reaches}
 use Rattle.c_typed.specs.Trees.{StaticTree, Program}
 use Rattle.c_typed.specs.Types.{type_bytes}
-use Rattle.c_typed.specs.declared.calls.FnId.{FnId}
-use Rattle.c_typed.specs.declared.calls.FnId.TheVariants.{User, Helper}
 use Rattle.call_graph.specs.declared.types.FnCopy.{FnCopy}
 use Rattle.pic_map.specs.MapContent.{ObjectLine, FrameLine}
 use Rattle.ram_place.specs.Memory.{covers, AreDisjoint, Stands, HasNoPlace, count_below}
 use Rattle.ram_place.specs.Sizes as sizes
-
--- each copy is one of a function of the program, or of a helper
-abbrev pub IsOf : ℕ → FnId → Type 0
-IsOf functions (User number) = number < functions
-IsOf functions (Helper helper) = Unit {0}
-
-abbrev pub AreOf : Program → List FnCopy → Type 0
-AreOf p copies = (k : ℕ) (copy : FnCopy) → slice_get copies k ≡ Some copy → IsOf (length p.functions) copy.function
 
 -- Two copies may be live together where their roots differ, or one reaches the other.
 abbrev pub MayBeLive : List (List ℕ) → ℕ → FnCopy → FnCopy → Type 0

@@ -1,10 +1,9 @@
 //! Where the static objects and the frames stand.
 
-ghost use Rattle.std.specs.Prelude.{◌≡◌, ℕ, ◌+◌, ◌<◌, ◌≤◌, ◌^◌, ◌||◌, ◌⊎◌, ◌++◌, ◌∷◌, [], true, false, length, map, slice_get, IfOk};
-ghost use Rattle.c_typed.specs.Chains.{graph_of, number_of};
+ghost use Rattle.std.specs.Prelude.{◌≡◌, ℕ, ◌<◌, ◌≤◌, ◌^◌, ◌||◌, ◌⊎◌, ◌++◌, ◌∷◌, [], true, false, length, map, slice_get, IfOk};
 ghost use Rattle.c_typed.specs.Views.{program_of, static_of};
 ghost use Rattle.pic_map.specs.MapView.{object_of, frame_of};
-ghost use Rattle.call_graph.specs.Rows.{rows_of};
+ghost use Rattle.call_graph.specs.Copies.{AreCopies};
 ghost use Rattle.ram_place.specs.Answers as answers;
 ghost use Rattle.ram_place.specs.Live.{IsGraphOf, IsSound, IsIn};
 ghost use Rattle.ram_place.specs.Memory.{is_taken};
@@ -194,8 +193,8 @@ fn covered(objects: &Objects, frames: &[FrameLine]) -> u16
 /// bytes stands at 20h and overlaps nothing.
 pub fn place(alloc: Global, p: &Typed, copies: &Copies) -> Result<Placed, PlaceError>
     requires small { length p.now.functions.items ≤ 2 ^ 28 }
-    // Each copy is one of a function of the program, or of a helper.
-    requires known { stated.AreOf (program_of p.now) copies.now.list.items }
+    // The copies are those of the program.
+    requires known { AreCopies (program_of p.now) copies.now.list.items }
     // The answer is that of the placing.
     ensures exact { answers.TellsPlacing (program_of p.now) copies.now.list.items result }
     // Frames that may be live together are disjoint,

@@ -1,5 +1,7 @@
 //! Programs whose copies, depth, sizes and addresses were worked out by hand.
 
+ghost use Rattle.std.specs.Prelude.{◌≤◌, ◌^◌, length};
+
 use c_check::{RootKind, Typed, check};
 use c_parse::parse;
 use c_pre::tokens;
@@ -274,7 +276,9 @@ fn depths(rt: HostRuntime) -> Result<(), Fail> {
 
 /// The words of the blocks of a program without helpers and handler: the start block, and then the copies
 /// in order of definition.
-fn blocks(alloc: Global, p: &Typed, list: &[FnCopy]) -> Result<Vec<u64>, Fail> {
+fn blocks(alloc: Global, p: &Typed, list: &[FnCopy]) -> Result<Vec<u64>, Fail>
+    requires { length p.now.functions.items ≤ 2 ^ 28 }
+{
     let mut blocks = Vec::new(alloc);
     blocks.push(start_words(p))?;
     for number in 0..p.functions.len() {

@@ -4,8 +4,11 @@ use Rattle.pic_map.specs.MapView.{object_of, frame_of}
 use Rattle.pic_map.specs.declared.FrameLine.{FrameLine}
 use Rattle.ram_place.specs.Placement.{addresses_covered}
 use Rattle.ram_place.proofs.Lawful.{live_disjoint, frames_clear, objects_disjoint}
-use Rattle.ram_place.proofs.Told.{all_placed}
+use Rattle.ram_place.proofs.Told.{all_placed, copies_in}
 use Rattle.ram_place.proofs.placing.place.Goals as goal
+
+pub place_frames-requires-clause-list : goal.place_frames-requires-clause-list
+place_frames-requires-clause-list c = copies_in (program_of c.args.p.now) c.in_ok-graph.graph c.args.copies.now.list.items c.deref.result.now c.deref.ensures.value c.in_ok-graph.ensures.0 c.requires.known
 
 pub returns : goal.returns
 returns c =
