@@ -1,6 +1,6 @@
 //! Where the static objects and the frames stand.
 
-ghost use Rattle.std.specs.Prelude.{◌≡◌, ℕ, ◌<◌, ◌≤◌, ◌^◌, ◌||◌, ◌⊎◌, ◌++◌, ◌∷◌, [], true, false, length, map, slice_get, IfOk};
+ghost use Rattle.std.specs.Prelude.{◌≡◌, ℕ, ◌+◌, ◌<◌, ◌≤◌, ◌^◌, ◌||◌, ◌⊎◌, ◌++◌, ◌∷◌, [], true, false, length, map, slice_get, IfOk};
 ghost use Rattle.c_typed.specs.Views.{program_of, static_of};
 ghost use Rattle.pic_map.specs.MapView.{object_of, frame_of};
 ghost use Rattle.call_graph.specs.Copies.{AreCopies};
