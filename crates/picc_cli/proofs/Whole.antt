@@ -57,6 +57,6 @@ pub why_whole : (text bytes : List ℕ) (why : Outcome) → (length text ≤ 262
 why_whole text bytes why short e t =
     ⊎_elim
     (λ h. let long : length bytes ≡ min 262145 (length text) = ap (length {A = ℕ}) (sym e) ∙ length-take 262145 text in
-      long_why text bytes (omega arith) (omega arith) why t)
+    long_why text bytes (omega arith) (omega arith) why t)
     (λ l. subst (λ b. TellsWhy b why) (short l) t)
     (cases_lt 262145 (length text))

@@ -2,9 +2,8 @@
 ghost use Rattle.std.specs.Prelude.{◌≡◌, ◌++◌, codes, decimal, IfOk, OnOk};
 ghost use Rattle.picc_cli.specs.Refusals as stated;
 
-use c_check::{Kind, RootKind};
 use itoa::Buffer;
-use picc_core::{LimitKind, Refusal};
+use picc_core::{Kind, LimitKind, Refusal, RootKind};
 use std::alloc::{AllocError, Global};
 
 /// The line for a refusal of the text of a file: the name and, where the refusal has one, the line; its number, and

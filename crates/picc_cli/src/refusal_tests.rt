@@ -78,7 +78,12 @@ fn chain(alloc: Global, count: usize, last: &str, before: &str) -> Result<String
     let names: [&str; 10] = ["f0", "f1", "f2", "f3", "f4", "f5", "f6", "f7", "f8", "f9"];
     let mut text = String::from_str(alloc, before)?;
     let mut calls = last;
-    for name in names.iter().rev().skip(9usize.saturating_sub(count)).take(count) {
+    for name in names
+        .iter()
+        .rev()
+        .skip(9usize.saturating_sub(count))
+        .take(count)
+    {
         text.push_str("void ")?;
         text.push_str(name)?;
         text.push_str("(void){")?;
@@ -128,13 +133,21 @@ fn blocks_fill_pages(rt: HostRuntime) -> Result<(), Fail> {
     check_parts(
         &rt,
         alloc,
-        &[("void f(void){", 1), (store, 146), ("}void main(void){f();}", 1)],
+        &[
+            ("void f(void){", 1),
+            (store, 146),
+            ("}void main(void){f();}", 1),
+        ],
         NOT_YET,
     )?;
     check_parts(
         &rt,
         alloc,
-        &[("void f(void){", 1), (store, 147), ("}void main(void){f();}", 1)],
+        &[
+            ("void f(void){", 1),
+            (store, 147),
+            ("}void main(void){f();}", 1),
+        ],
         "a.c: error 11: page f 2062\n",
     )?;
     let main = "void main(void){f();g();h();}";
@@ -143,13 +156,32 @@ fn blocks_fill_pages(rt: HostRuntime) -> Result<(), Fail> {
     check_parts(
         &rt,
         alloc,
-        &[(declared, 1), (main, 1), (f, 1), (store, 146), (g, 1), (store, 146), (h, 1), (store, 146), ("}", 1)],
+        &[
+            (declared, 1),
+            (main, 1),
+            (f, 1),
+            (store, 146),
+            (g, 1),
+            (store, 146),
+            (h, 1),
+            (store, 146),
+            ("}", 1),
+        ],
         NOT_YET,
     )?;
     check_parts(
         &rt,
         alloc,
-        &[(f, 1), (store, 146), (g, 1), (store, 146), (h, 1), (store, 146), ("}", 1), (main, 1)],
+        &[
+            (f, 1),
+            (store, 146),
+            (g, 1),
+            (store, 146),
+            (h, 1),
+            (store, 146),
+            ("}", 1),
+            (main, 1),
+        ],
         "a.c: error 10: code 6266\n",
     )?;
     Ok(())
@@ -161,16 +193,31 @@ fn texts_at_the_limits(rt: HostRuntime) -> Result<(), Fail> {
     let main = "void main(void){}";
     let store = "void main(void){PORTB=";
     check_parts(&rt, alloc, &[(main, 1), (" ", 262_127)], NOT_YET)?;
-    check_parts(&rt, alloc, &[(main, 1), (" ", 262_128)], "a.c:0: error 12: limit text\n")?;
+    check_parts(
+        &rt,
+        alloc,
+        &[(main, 1), (" ", 262_128)],
+        "a.c:0: error 12: limit text\n",
+    )?;
     let byte = "unsigned char ";
-    check_parts(&rt, alloc, &[(byte, 1), ("n", 255), (";", 1), (main, 1)], NOT_YET)?;
+    check_parts(
+        &rt,
+        alloc,
+        &[(byte, 1), ("n", 255), (";", 1), (main, 1)],
+        NOT_YET,
+    )?;
     check_parts(
         &rt,
         alloc,
         &[(byte, 1), ("n", 256), (";", 1), (main, 1)],
         "a.c:1: error 12: limit identifier\n",
     )?;
-    check_parts(&rt, alloc, &[(store, 1), ("(", 63), ("1", 1), (")", 63), (";}", 1)], NOT_YET)?;
+    check_parts(
+        &rt,
+        alloc,
+        &[(store, 1), ("(", 63), ("1", 1), (")", 63), (";}", 1)],
+        NOT_YET,
+    )?;
     check_parts(
         &rt,
         alloc,
@@ -208,11 +255,17 @@ fn texts_at_the_limits(rt: HostRuntime) -> Result<(), Fail> {
 #[test]
 fn replaced_names_count_as_tokens(rt: HostRuntime) -> Result<(), Fail> {
     let alloc = rt.alloc();
-    let defined = "#define a0 ;\n#define a1 a0 a0\n#define a2 a1 a1\n#define a3 a2 a2\n#define a4 a3 a3\n\
+    let defined =
+        "#define a0 ;\n#define a1 a0 a0\n#define a2 a1 a1\n#define a3 a2 a2\n#define a4 a3 a3\n\
 #define a5 a4 a4\n#define a6 a5 a5\n#define a7 a6 a6\n#define a8 a7 a7\n#define a9 a8 a8\n\
 #define a10 a9 a9\n#define a11 a10 a10\n#define a12 a11 a11\n#define a13 a12 a12\n\
 #define a14 a13 a13\n#define a15 a14 a14\n#define a16 a15 a15\n#define a17 a16 a16\n";
-    check_parts(&rt, alloc, &[(defined, 1), ("void main(void){a16}", 1)], NOT_YET)?;
+    check_parts(
+        &rt,
+        alloc,
+        &[(defined, 1), ("void main(void){a16}", 1)],
+        NOT_YET,
+    )?;
     check_parts(
         &rt,
         alloc,

@@ -100,12 +100,7 @@ fn words_of(alloc: Global, p: &Typed, order: &[FnCopy]) -> Result<Vec<u64>, Allo
 
 /// The name of the function whose block has this number, counted from the start block. The start block and those of
 /// helpers have none.
-fn name_of(
-    alloc: Global,
-    p: &Typed,
-    order: &[FnCopy],
-    number: u32,
-) -> Result<Vec<u8>, AllocError> {
+fn name_of(alloc: Global, p: &Typed, order: &[FnCopy], number: u32) -> Result<Vec<u8>, AllocError> {
     let Some(place) = number.checked_sub(1) else {
         return Ok(Vec::new(alloc));
     };
