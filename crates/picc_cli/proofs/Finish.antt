@@ -207,13 +207,13 @@ module _ (names : Names) (form : Option Names) (is : form ≡ Some names) where
 
   said_told : (outcome : Outcome) (o : Contents) (new : Option Contents) (p q : Option (List ℕ)) (result : ℕ) → WorkedOn outcome names o new
       → q ≡ option_map (λ text. text ++ line_of names outcome) p → result ≡ status_of outcome → HasTold form o new p q result
-  said_told Built o new p q result w e st one = number_apart 0 1 result (omega arith) st one
+  said_told Built o new p q result w e st = λ one. number_apart 0 1 result (omega arith) st one
   said_told NotYet o new p q result w e st = told_at NotYet o new p q result w e
   said_told (Refused refusal) o new p q result w e st = told_at (Refused refusal) o new p q result w e
-  said_told CannotRead o new p q result w e st one = number_apart 1 3 result (omega arith) one st
-  said_told CannotWriteHex o new p q result w e st one = number_apart 1 3 result (omega arith) one st
-  said_told CannotWriteMap o new p q result w e st one = number_apart 1 3 result (omega arith) one st
-  said_told NoMemory o new p q result w e st one = number_apart 1 9 result (omega arith) one st
+  said_told CannotRead o new p q result w e st = λ one. number_apart 1 3 result (omega arith) one st
+  said_told CannotWriteHex o new p q result w e st = λ one. number_apart 1 3 result (omega arith) one st
+  said_told CannotWriteMap o new p q result w e st = λ one. number_apart 1 3 result (omega arith) one st
+  said_told NoMemory o new p q result w e st = λ one. number_apart 1 9 result (omega arith) one st
 
   pub build_told : (outcome : Outcome) (old middle new : Option Contents) (kind : Kind) (before now : ℕ) (p still q : Option (List ℕ)) (result : ℕ)
       → IfSome old (λ o. WorkedOn outcome names o middle) → new ≡ middle → still ≡ p
@@ -221,4 +221,4 @@ module _ (names : Names) (form : Option Names) (is : form ≡ Some names) where
   build_told outcome None middle new kind before now p still q result w same quiet says = tt
   build_told outcome (Some o) middle new kind before now p still q result w same quiet (inl s) =
       said_told outcome o new p q result (subst (WorkedOn outcome names o) (sym same) w) (s.printed ∙ ap (option_map (λ text. text ++ line_of names outcome)) quiet) s.ends
-  build_told outcome (Some o) middle new kind before now p still q result w same quiet (inr u) one = up_apart 1 result (omega arith) one u.ends
+  build_told outcome (Some o) middle new kind before now p still q result w same quiet (inr u) = λ one. up_apart 1 result (omega arith) one u.ends
