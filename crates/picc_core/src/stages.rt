@@ -1,8 +1,13 @@
 //! The stages from a text to its sizes and addresses.
 
 ghost use Rattle.std.specs.Prelude.{◌≡◌, ◌<◌, ◌≤◌, ◌^◌, ◌+◌, ℕ, length, map, sum, Some, None, Ok, Err, IfOk, IfErr, MatchResult};
+ghost use Rattle.c_typed.specs.Chains.{graph_of};
 ghost use Rattle.c_typed.specs.Roots.{broken_root};
 ghost use Rattle.c_typed.specs.Views.{program_of};
+ghost use Rattle.call_graph.specs.Copies.{AreCopies, HasDepth};
+ghost use Rattle.call_graph.specs.Levels.{IsAcyclic};
+ghost use Rattle.pic_map.specs.MapView.{object_of, frame_of};
+ghost use Rattle.ram_place.specs.Placement as placement;
 ghost use Rattle.picc_core.specs.Answers.{IsRefusedUnless, TellsError};
 ghost use Rattle.picc_core.specs.Blocks.{copy_words as words_of_copy, sizes, HasBlocks, IsOfCode};
 ghost use Rattle.picc_core.specs.Texts.{tokens_left, program_tokens, HasTree};
@@ -168,6 +173,14 @@ fn known(alloc: Global, text: &[u8]) -> Result<Front, CompileError>
     ensures answer { MatchResult result (λ _. HasTree text.now) (TellsError text.now) }
     ensures long { 262144 < length text.now → result ≡ Err (Refused (refusals.Limit kinds.Text 0)) }
     ensures roots { IfOk result (λ front. broken_root (program_of front.typed) ≡ None) }
+    ensures recursion { IfOk result (λ front. IsAcyclic (graph_of (program_of front.typed))) }
+    ensures depth { IfOk result (λ front. HasDepth (program_of front.typed) front.copies.depth × (front.copies.depth ≤ 8)) }
+    ensures list { IfOk result (λ front. AreCopies (program_of front.typed) front.copies.list.items) }
+    ensures exact { IfOk result (λ front. placement.IsPlacing (program_of front.typed) front.copies.list.items (map object_of front.placed.objects.items) (map frame_of front.placed.frames.items)) }
+    ensures apart { IfOk result (λ front. placement.LiveFramesAreDisjoint (program_of front.typed) front.copies.list.items (map frame_of front.placed.frames.items)) }
+    ensures clear { IfOk result (λ front. placement.FramesAreClear (map object_of front.placed.objects.items) (map frame_of front.placed.frames.items)) }
+    ensures objects { IfOk result (λ front. placement.ObjectsAreDisjoint (map object_of front.placed.objects.items)) }
+    ensures ram { IfOk result (λ front. front.placed.ram ≡ placement.addresses_covered (map object_of front.placed.objects.items) (map frame_of front.placed.frames.items)) }
     ensures blocks { IfOk result (λ front. HasBlocks (program_of front.typed) front.copies.list.items front.at.items front.words) }
 {
     let typed = typed_of(alloc, text)?;
@@ -201,6 +214,22 @@ pub fn front(alloc: Global, text: &[u8]) -> Result<Front, CompileError>
     ensures tokens { (r : Refusal) → program_tokens text.now ≡ Err (Refused r) → IsRefusedUnless result r }
     // What is accepted breaks no rule on main and the interrupt handler.
     ensures roots { IfOk result (λ front. broken_root (program_of front.typed) ≡ None) }
+    // No function of it reaches itself.
+    ensures recursion { IfOk result (λ front. IsAcyclic (graph_of (program_of front.typed))) }
+    // This many words of the return stack its calls take, and there are eight.
+    ensures depth { IfOk result (λ front. HasDepth (program_of front.typed) front.copies.depth × (front.copies.depth ≤ 8)) }
+    // These are the copies of its functions.
+    ensures list { IfOk result (λ front. AreCopies (program_of front.typed) front.copies.list.items) }
+    // Its objects and frames stand where they are to stand.
+    ensures exact { IfOk result (λ front. placement.IsPlacing (program_of front.typed) front.copies.list.items (map object_of front.placed.objects.items) (map frame_of front.placed.frames.items)) }
+    // Frames that may be live together are disjoint,
+    ensures apart { IfOk result (λ front. placement.LiveFramesAreDisjoint (program_of front.typed) front.copies.list.items (map frame_of front.placed.frames.items)) }
+    // and no frame overlaps a static object,
+    ensures clear { IfOk result (λ front. placement.FramesAreClear (map object_of front.placed.objects.items) (map frame_of front.placed.frames.items)) }
+    // nor does another static object.
+    ensures objects { IfOk result (λ front. placement.ObjectsAreDisjoint (map object_of front.placed.objects.items)) }
+    // Each address that is covered is counted once.
+    ensures ram { IfOk result (λ front. front.placed.ram ≡ placement.addresses_covered (map object_of front.placed.objects.items) (map frame_of front.placed.frames.items)) }
     // Its blocks stand where they are to stand, and this is the sum of their words.
     ensures blocks { IfOk result (λ front. HasBlocks (program_of front.typed) front.copies.list.items front.at.items front.words) }
 {
