@@ -1,13 +1,17 @@
 -- A command's status, by how the build went and by what was printed.
-use Rattle.std.proofs.Common.{◌≡◌, ℕ, ◌<◌, inl, inr, true, IsTrue, Option, Some, None, IfSome, List, [], ◌++◌, length, refl, sym, ap, ◌∙◌, subst, arith, option_map, append-nil}
+use Rattle.std.proofs.Common.{◌≡◌, ℕ, ◌<◌, ◌≤◌, ◌⊎◌, inl, inr, ⊎_elim, true, IsTrue, Option, Some, None, IfSome, List, [], ◌++◌, length, refl, sym, ap, ◌∙◌, subst, arith, option_map, append-nil}
 use Rattle.std.specs.Prelude.{IsSomeAnd, MatchOption}
+use Rattle.std.proofs.lemmas.Bool.{cases_lt}
 use Rattle.std.proofs.Math.Seq.{take-length}
-use Rattle.host_io.specs.Host.{Kind, Contents, put, PrintsPrefix}
+use Rattle.host_io.specs.Host.{Kind, Contents, put, PrintsPrefix, IsCounted}
+use Rattle.picc_cli.specs.declared.program.Assignment.{Assignment}
 use Rattle.picc_cli.specs.declared.picc.Outcome.{Outcome}
 use Rattle.picc_cli.specs.declared.picc.Outcome.TheVariants.{Built, NotYet, Refused, CannotRead, CannotWriteHex, CannotWriteMap, NoMemory}
+use Rattle.picc_cli.specs.Built.{IsRefused}
 use Rattle.picc_cli.specs.Command.{Names}
-use Rattle.picc_cli.specs.Outcome.{Builds, Refuses, BreaksOff, WorkedOn, is_fault, FailsWithoutInput, usage_line, line_of, status_of, Says}
-use Rattle.picc_cli.specs.Finished.{GivesUp, HasFiles, HasStatus, HasPrinted, IsTold, HasTold}
+use Rattle.picc_cli.specs.PortProgram.{IsProgram}
+use Rattle.picc_cli.specs.Outcome.{Builds, Refuses, BreaksOff, WorkedOn, is_fault, HasOutcomeCause, FailsWithoutInput, usage_line, line_of, status_of, Says}
+use Rattle.picc_cli.specs.Finished.{GivesUp, HasFiles, HasStatus, HasPrinted, IsTold, HasTold, IsComplete}
 
 -- ---- statuses
 pub number_apart : {P : Type 0} (m n result : ℕ) → m < n → result ≡ m → result ≡ n → P
@@ -23,6 +27,20 @@ add_nothing (Some text) = ap Some (append-nil text)
 
 whole_line : (o : Option (List ℕ)) (line : List ℕ) → PrintsPrefix o (option_map (λ text. text ++ line) o) line
 whole_line o line = (length line, omega arith, ap (λ l. option_map (λ text. text ++ l) o) (sym (take-length line)))
+
+-- ---- faults
+-- one that was counted late was counted
+counted_later : (kind : Kind) (first before now : ℕ) → first ≤ before → IsCounted kind before now → IsCounted kind first now
+counted_later kind first before now low (inl more) = inl (omega arith)
+counted_later kind first before now low (inr (last, same)) =
+    ⊎_elim
+    (λ h. inl (omega arith))
+    (λ h. let e : before ≡ first = omega arith in inr (subst (λ n. kind.last ≡ Some n) e last, same ∙ e))
+    (cases_lt first before)
+
+quiet_ends : (n result : ℕ) → (result ≡ 3 → ⊥) → GivesUp result → (result ≡ n) ⊎ (result ≡ 9)
+quiet_ends n result never (inl three) = absurd (never three)
+quiet_ends n result never (inr nine) = inr nine
 
 -- ---- a build
 -- what the status is, where the line was printed
@@ -222,3 +240,63 @@ module _ (names : Names) (form : Option Names) (is : form ≡ Some names) where
   build_told outcome (Some o) middle new kind before now p still q result w same quiet (inl s) =
       said_told outcome o new p q result (subst (WorkedOn outcome names o) (sym same) w) (s.printed ∙ ap (option_map (λ text. text ++ line_of names outcome)) quiet) s.ends
   build_told outcome (Some o) middle new kind before now p still q result w same quiet (inr u) = λ one. up_apart 1 result (omega arith) one u.ends
+
+  -- ---- without a fault
+  same_names : (others : Names) → form ≡ Some others → others ≡ names
+  same_names others e = let both : Some others ≡ Some names = sym e ∙ is in cc
+
+  same_text : (o : Contents) (text other : List ℕ) → o names.input ≡ Some text → o names.input ≡ Some other → other ≡ text
+  same_text o text other a b = let both : Some text ≡ Some other = sym a ∙ b in cc
+
+  refused_ends : (outcome : Outcome) (o : Contents) (new : Option Contents) (result : ℕ) → WorkedOn outcome names o new → result ≡ status_of outcome
+      → (is_fault outcome ≡ true → ⊥) → (text : List ℕ) → o names.input ≡ Some text → IsRefused text → (result ≡ 1) ⊎ (result ≡ 9)
+  refused_ends Built o new result w e quiet text read refused =
+      absurd (refused w.built.assignments (subst (λ t. IsProgram t w.built.assignments) (same_text o text w.text read w.read) w.built.program))
+  refused_ends NotYet o new result w e quiet text read refused = inl e
+  refused_ends (Refused refusal) o new result w e quiet text read refused = inl e
+  refused_ends CannotRead o new result w e quiet text read refused = absurd (quiet refl)
+  refused_ends CannotWriteHex o new result w e quiet text read refused = absurd (quiet refl)
+  refused_ends CannotWriteMap o new result w e quiet text read refused = absurd (quiet refl)
+  refused_ends NoMemory o new result w e quiet text read refused = inr e
+
+  no_refusal : {P : Type 0} (why : Outcome) (o : Contents) (new : Option Contents) (text : List ℕ) (xs : List Assignment) → Refuses why names o new
+      → o names.input ≡ Some text → IsProgram text xs → P
+  no_refusal why o new text xs w read program = absurd (w.refused xs (subst (λ t. IsProgram t xs) (sym (same_text o text w.text read w.read)) program))
+
+  built_ends : (outcome : Outcome) (o : Contents) (new : Option Contents) (result : ℕ) → WorkedOn outcome names o new → result ≡ status_of outcome
+      → (is_fault outcome ≡ true → ⊥) → (text : List ℕ) (xs : List Assignment) → o names.input ≡ Some text → IsProgram text xs → (result ≡ 0) ⊎ (result ≡ 9)
+  built_ends Built o new result w e quiet text xs read program = inl e
+  built_ends NotYet o new result w e quiet text xs read program = no_refusal NotYet o new text xs w read program
+  built_ends (Refused refusal) o new result w e quiet text xs read program = no_refusal (Refused refusal) o new text xs w read program
+  built_ends CannotRead o new result w e quiet text xs read program = absurd (quiet refl)
+  built_ends CannotWriteHex o new result w e quiet text xs read program = absurd (quiet refl)
+  built_ends CannotWriteMap o new result w e quiet text xs read program = absurd (quiet refl)
+  built_ends NoMemory o new result w e quiet text xs read program = inr e
+
+  complete_at : (kind : Kind) (outcome : Outcome) (o : Contents) (middle : Option Contents) (first before now : ℕ) (p q : Option (List ℕ)) (result : ℕ)
+      → WorkedOn outcome names o middle → HasOutcomeCause kind first before (is_fault outcome)
+      → Says kind before now p q (line_of names outcome) (status_of outcome) result → IsComplete kind first now form o result
+  complete_at kind outcome o middle first before now p q result w cause (inl s) =
+      let quietly : (IsCounted kind first now → ⊥) → is_fault outcome ≡ true → ⊥ = λ quiet fault. quiet (subst (IsCounted kind first) (sym s.kept) (cause.failed fault)) in
+      record {
+        usage = λ quiet none. absurd (no_name none);
+        refused = λ quiet others text e read refused.
+            refused_ends outcome o middle result w s.ends (quietly quiet) text (subst (λ (n : Names). o n.input ≡ Some text) (same_names others e) read) refused;
+        built = λ quiet others text xs e read program.
+            built_ends outcome o middle result w s.ends (quietly quiet) text xs (subst (λ (n : Names). o n.input ≡ Some text) (same_names others e) read) program;
+      }
+  complete_at kind outcome o middle first before now p q result w cause (inr u) =
+      let no_three : (IsCounted kind first now → ⊥) → result ≡ 3 → ⊥ = λ quiet three. quiet (counted_later kind first before now cause.never_falls (u.failed three)) in
+      record {
+        usage = λ quiet none. absurd (no_name none);
+        refused = λ quiet others text e read refused. quiet_ends 1 result (no_three quiet) u.ends;
+        built = λ quiet others text xs e read program. quiet_ends 0 result (no_three quiet) u.ends;
+      }
+
+  pub build_complete : (kind later : Kind) (outcome : Outcome) (old middle : Option Contents) (first before now : ℕ) (p q : Option (List ℕ)) (result : ℕ)
+      → IfSome old (λ o. WorkedOn outcome names o middle) → HasOutcomeCause kind first before (is_fault outcome) → later ≡ kind
+      → Says later before now p q (line_of names outcome) (status_of outcome) result → IfSome old (λ o. IsComplete kind first now form o result)
+  build_complete kind later outcome None middle first before now p q result w cause alike says = tt
+  build_complete kind later outcome (Some o) middle first before now p q result w cause alike says =
+      complete_at kind outcome o middle first before now p q result w cause
+      (subst (λ (k : Kind). Says k before now p q (line_of names outcome) (status_of outcome) result) alike says)

@@ -1,11 +1,15 @@
+use Rattle.std.proofs.Common.{◌≡◌, ◌⊎◌, sym, ◌∙◌, subst}
+use Rattle.picc_cli.specs.declared.picc.Outcome.TheVariants.{NoMemory}
 use Rattle.picc_cli.specs.CommandView.{names_of}
+use Rattle.picc_cli.specs.Outcome.{TellsWhy}
 use Rattle.picc_cli.proofs.Files.{refused_files, broken_hex, broken_map, built_files}
 use Rattle.picc_cli.proofs.picc.run.Goals as goal
 
 pub returns-in-Ok-None-clause-files : goal.returns-in-Ok-None-clause-files
 returns-in-Ok-None-clause-files g c =
     let refused = rw c.in-Ok-None.field-0-is at c.in-Ok-None.ensures.refused in
-    refused_files _ _ _ (names_of c.args.files) _ _ c.in-Ok.ensures.bytes c.in-Ok.ensures.same_contents c.deref.ensures.value refused c.refused.ensures
+    let tells = subst (λ bytes. (c.refused.result ≡ NoMemory) ⊎ TellsWhy bytes c.refused.result) (c.deref-in-Ok-None.ensures.value ∙ sym c.deref.ensures.value) c.refused.ensures in
+    refused_files _ _ _ (names_of c.args.files) _ _ c.in-Ok.ensures.bytes c.in-Ok.ensures.same_contents c.deref.ensures.value refused tells
 
 pub returns-in-Err-Failed-write_whole-clause-files : goal.returns-in-Err-Failed-write_whole-clause-files
 returns-in-Err-Failed-write_whole-clause-files g c =
