@@ -32,6 +32,9 @@ enum Told {
 
 /// The typed tree of a text.
 pub fn typed(alloc: Global, text: &[u8]) -> Result<Typed, Fail> {
+    if text.len() > 262_144 {
+        return Err(Fail::new("too long"));
+    }
     let raw = raw(alloc, text)?;
     let toks = tokens(alloc, text, &raw)?;
     let unit = parse(alloc, text, &toks)?;
@@ -54,7 +57,7 @@ fn sizes(p: &Typed, copies: &Copies, placed: &Placed) -> Told {
     }
 }
 
-fn told(alloc: Global, text: &[u8]) -> Result<Told, Fail> {
+fn answer_to(alloc: Global, text: &[u8]) -> Result<Told, Fail> {
     let p = typed(alloc, text)?;
     if p.functions.len() > 1000 {
         return Ok(Told::NoMemory);
@@ -116,7 +119,7 @@ fn words_of_many_statements(rt: HostRuntime) -> Result<(), Fail> {
         146,
         "}void main(void){f();}",
     )?;
-    let found = told(alloc, exact.as_bytes())?;
+    let found = answer_to(alloc, exact.as_bytes())?;
     assert_eq!(rt;
         found,
         Told::Sizes {
@@ -133,7 +136,7 @@ fn words_of_many_statements(rt: HostRuntime) -> Result<(), Fail> {
         147,
         "}void main(void){f();}",
     )?;
-    let found = told(alloc, over.as_bytes())?;
+    let found = answer_to(alloc, over.as_bytes())?;
     assert_eq!(rt;
         found,
         Told::Sizes {
@@ -144,7 +147,7 @@ fn words_of_many_statements(rt: HostRuntime) -> Result<(), Fail> {
         }
     );
     let ones = repeated(alloc, "void main(void){PORTB=1", "+1", 4094, ";}")?;
-    let found = told(alloc, ones.as_bytes())?;
+    let found = answer_to(alloc, ones.as_bytes())?;
     assert_eq!(rt;
         found,
         Told::Sizes {
@@ -155,7 +158,7 @@ fn words_of_many_statements(rt: HostRuntime) -> Result<(), Fail> {
         }
     );
     let loops = repeated(alloc, "void main(void){", "for(;;)", 255, ";}")?;
-    let found = told(alloc, loops.as_bytes())?;
+    let found = answer_to(alloc, loops.as_bytes())?;
     assert_eq!(rt;
         found,
         Told::Sizes {
@@ -172,7 +175,7 @@ fn words_of_many_statements(rt: HostRuntime) -> Result<(), Fail> {
 fn generated_programs(rt: HostRuntime) -> Result<(), Fail> {
     let alloc = rt.alloc();
     let two = generated(alloc, 2)?;
-    let found = told(alloc, two.as_bytes())?;
+    let found = answer_to(alloc, two.as_bytes())?;
     assert_eq!(rt;
         found,
         Told::Sizes {
@@ -183,7 +186,7 @@ fn generated_programs(rt: HostRuntime) -> Result<(), Fail> {
         }
     );
     let many = generated(alloc, 64)?;
-    let found = told(alloc, many.as_bytes())?;
+    let found = answer_to(alloc, many.as_bytes())?;
     assert_eq!(rt;
         found,
         Told::Sizes {
@@ -199,15 +202,15 @@ fn generated_programs(rt: HostRuntime) -> Result<(), Fail> {
 #[test]
 fn refused(rt: HostRuntime) -> Result<(), Fail> {
     let alloc = rt.alloc();
-    let found = told(alloc, b"")?;
+    let found = answer_to(alloc, b"")?;
     assert_eq!(rt; found, Told::Roots(RootKind::None));
-    let found = told(
+    let found = answer_to(
         alloc,
         b"void g(void);void f(void){g();}void g(void){f();}void main(void){}",
     )?;
     let f = Vec::from_array(alloc, [b'f'])?;
     assert_eq!(rt; found, Told::Recursion(f));
-    let found = told(
+    let found = answer_to(
         alloc,
         b"unsigned char a[80],b[80],c[96],d[96];void main(void){}",
     )?;
@@ -220,13 +223,13 @@ fn refused(rt: HostRuntime) -> Result<(), Fail> {
             depth: 0
         }
     );
-    let found = told(
+    let found = answer_to(
         alloc,
         b"unsigned char a[80],b[80],c[96],d[96];unsigned char x;void main(void){}",
     )?;
     let x = Vec::from_array(alloc, [b'x'])?;
     assert_eq!(rt; found, Told::Ram(x));
-    let found = told(alloc, b"unsigned char a[97];void main(void){}")?;
+    let found = answer_to(alloc, b"unsigned char a[97];void main(void){}")?;
     let a = Vec::from_array(alloc, [b'a'])?;
     assert_eq!(rt; found, Told::Ram(a));
     Ok(())
@@ -253,7 +256,7 @@ fn chain(alloc: Global, k: usize, body: &str, back: &str) -> Result<String, Allo
 
 fn depth(alloc: Global, k: usize, body: &str, back: &str) -> Result<u32, Fail> {
     let text = chain(alloc, k, body, back)?;
-    match told(alloc, text.as_bytes())? {
+    match answer_to(alloc, text.as_bytes())? {
         Told::Sizes { depth, .. } => Ok(depth as u32),
         Told::Depth(depth) => Ok(depth.saturating_add(100)),
         _ => Ok(1000),
