@@ -72,53 +72,32 @@ fn each_refusal_has_its_line(rt: HostRuntime) -> Result<(), Fail> {
     Ok(())
 }
 
-// A chain of calls from main: f1, f2 and so on, each defined behind the one that it calls.
-fn chain(alloc: Global, count: usize, last: &str, before: &str) -> Result<String, AllocError> {
-    let names: [&str; 10] = ["f0", "f1", "f2", "f3", "f4", "f5", "f6", "f7", "f8", "f9"];
-    let mut text = String::from_str(alloc, before)?;
-    let mut calls = last;
-    for name in names
-        .iter()
-        .rev()
-        .skip(9usize.saturating_sub(count))
-        .take(count)
-    {
-        text.push_str("void ")?;
-        text.push_str(name)?;
-        text.push_str("(void){")?;
-        text.push_str(calls)?;
-        text.push_str("}")?;
-        calls = match *name {
-            "f9" => "f9();",
-            "f8" => "f8();",
-            "f7" => "f7();",
-            "f6" => "f6();",
-            "f5" => "f5();",
-            "f4" => "f4();",
-            "f3" => "f3();",
-            "f2" => "f2();",
-            _ => "f1();",
-        };
-    }
-    text.push_str("void main(void){f1();}")?;
-    Ok(text)
-}
+/// A chain of calls from main: it calls f1, f1 calls f2, and so on to f7.
+const CALLERS: &str =
+    "void f6(void){f7();}void f5(void){f6();}void f4(void){f5();}void f3(void){f4();}\
+    void f2(void){f3();}void f1(void){f2();}void main(void){f1();}";
 
+// The chain goes on to f8 or f9; the handler takes a word more, and a quotient of two ints is a call.
 #[test]
 fn calls_are_at_most_eight_deep(rt: HostRuntime) -> Result<(), Fail> {
     let alloc = rt.alloc();
-    let handler = "void interrupt h(void){}";
-    let quotient = "int a=1,b=1;a/b;";
     let deep = "a.c: error 8: depth 9\n";
-    let cases: [(usize, &str, &str, &str); 5] = [
-        (8, "", "", NOT_YET),
-        (9, "", "", deep),
-        (7, "", handler, NOT_YET),
-        (8, "", handler, deep),
-        (8, quotient, "", deep),
+    let cases: [(&str, &str); 5] = [
+        ("void f8(void){}void f7(void){f8();}", NOT_YET),
+        (
+            "void f9(void){}void f8(void){f9();}void f7(void){f8();}",
+            deep,
+        ),
+        ("void interrupt h(void){}void f7(void){}", NOT_YET),
+        (
+            "void interrupt h(void){}void f8(void){}void f7(void){f8();}",
+            deep,
+        ),
+        ("void f8(void){int a=1,b=1;a/b;}void f7(void){f8();}", deep),
     ];
-    for (count, last, before, printed) in &cases {
-        let text = chain(alloc, *count, last, before)?;
+    for (front, printed) in &cases {
+        let mut text = String::from_str(alloc, front)?;
+        text.push_str(CALLERS)?;
         check_refused(&rt, alloc, BUILD, Some(text.as_str()), 1, printed)?;
     }
     Ok(())
