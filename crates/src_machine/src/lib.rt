@@ -1,6 +1,22 @@
 // The source machine: what a typed program does, one step at a time, and which steps are undefined.
+//
+// In: a typed program, a map that tells where its objects stand, input bytes and arrivals of interrupt flags. Out: the
+// program's steps, each with the event that it makes.
+// The definitions of a step, of its kinds of undefined steps and of runs are in specs/.
 #![tactic(auto)]
 
+mod accesses;
+mod control;
+mod counting;
+mod expressions;
+mod giving;
+mod machine;
+mod memory;
 mod objects;
+mod pointers;
+mod statements;
+mod values;
+mod world;
 
-pub use objects::{Byte, Change, CopyOf, Datum, Object, Pointer, Reading, Spot, Undef};
+pub use machine::{Source, SrcEnd};
+pub use objects::Undef;
