@@ -67,9 +67,10 @@ is_postfix PostDecrement = true
 abbrev pub step_by : StepOp → Ty → ℕ → Ty → ℕ → Change
 step_by op operation size ty line = record { op = step_operator op; operation = operation; size = size; ty = ty; keeps_old = is_postfix op; line = line }
 
--- the int 1
-abbrev pub one : Datum
-one = datum.Number (cut_to int.Int (pos 1))
+-- what `++` and `--` count by: 1 in the type of the operation, or the int 1 where a pointer is moved
+abbrev pub one_in : Ty → Datum
+one_in (types.Int ty) = datum.Number (cut_to ty (pos 1))
+one_in _ = datum.Number (cut_to int.Int (pos 1))
 
 -- ---- arguments, from left to right, and then the call
 abbrev pub arguments : ℕ → List Datum → Expressions → ℕ → List Pending → CopyOf → Memory → World → Outcome
@@ -128,7 +129,7 @@ found s spot (AssignTo value line ∷ k) c m w = goes c (Eval value) (Assigns sp
 found s spot (StructTo from size line ∷ k) c m w = goes c (Find from) (StructFrom spot size line ∷ k) m w
 found s spot (StructFrom to size line ∷ k) c m w = goes c (CopyRead to spot size line) k m w
 found s spot (UpdateAt change value ∷ k) c m w = goes c (Eval value) (Updates change spot ∷ k) m w
-found s spot (StepAt change ∷ k) c m w = goes c (fetching spot change.ty change.line s.program.sizes) (Changes change spot one ∷ k) m w
+found s spot (StepAt change ∷ k) c m w = goes c (fetching spot change.ty change.line s.program.sizes) (Changes change spot (one_in change.operation) ∷ k) m w
 found s spot (Members offset line ∷ k) c m w = member s (address spot) offset line k c m w
 found s spot (ItemFrom to size line ∷ k) c m w = goes c (CopyRead to spot size line) k m w
 found s spot _ c m w = nowhere 0

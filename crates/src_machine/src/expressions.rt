@@ -3,7 +3,7 @@
 use crate::control::{Focus, Pending};
 use crate::machine::{SrcEnd, Source, nowhere, undefined};
 use crate::objects::{Change, Datum, Object, Pointer, Spot, Undef};
-use crate::values::one;
+use crate::values::one_in;
 use c_ints::BinOp;
 use c_typed::{Object as Name, StepOp, TExpr, TPlace, Ty, Typed};
 
@@ -291,7 +291,7 @@ impl<'a> Source<'a> {
             }
             Pending::StepAt(change) => {
                 let focus = self.fetching(spot, change.ty, change.line);
-                self.go_waiting(focus, Pending::Changes(change, spot, one()))
+                self.go_waiting(focus, Pending::Changes(change, spot, one_in(change.operation)))
             }
             Pending::Members(offset, line) => self.member(spot, offset, line),
             _ => nowhere(0),

@@ -215,9 +215,12 @@ pub(crate) fn compared(op: BinOp, a: u64, b: u64) -> bool {
     }
 }
 
-/// The int 1.
-pub(crate) fn one() -> Datum {
-    Datum::Number(Value::new(IntTy::Int, 1))
+/// What `++` and `--` count by: 1 in the type of the operation, or the int 1 where a pointer is moved.
+pub(crate) fn one_in(operation: Ty) -> Datum {
+    match operation {
+        Ty::Int(ty) => Datum::Number(Value::new(ty, 1)),
+        _ => Datum::Number(Value::new(IntTy::Int, 1)),
+    }
 }
 
 /// The lowest bit of a value.
