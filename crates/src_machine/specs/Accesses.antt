@@ -17,8 +17,8 @@ use Rattle.src_machine.specs.World.{Happening, ReadOf, WriteOf, World, noted, de
 use Rattle.src_machine.specs.declared.objects.Byte.{Byte}
 use Rattle.src_machine.specs.declared.objects.Byte.TheVariants as bytes
 use Rattle.src_machine.specs.declared.objects.CopyOf.{CopyOf}
-use Rattle.src_machine.specs.declared.objects.Datum.{Datum}
-use Rattle.src_machine.specs.declared.objects.Datum.TheVariants as datum
+use Rattle.src_machine.specs.Data.{Datum}
+use Rattle.src_machine.specs.Data as datum
 use Rattle.src_machine.specs.declared.objects.Object.{Object}
 use Rattle.src_machine.specs.declared.objects.Object.TheVariants.{Fixed, Variable}
 use Rattle.src_machine.specs.declared.objects.Pointer.{Pointer}
@@ -150,7 +150,7 @@ after_putting (Refuses kind) next c k line = Undefined kind line
 abbrev pub fetch : Setting → Spot → Reading → ℕ → List Pending → CopyOf → Memory → World → Outcome
 fetch s spot r line k c m w =
     if nat_lt r.bytes (bytes_of r.ty) then
-        after_taking (take_byte s (active c (Fetch spot r line) k) c.root is_number spot m w) (λ byte. Fetch (next_byte spot) (read_on r byte) line) c k m line
+    after_taking (take_byte s (active c (Fetch spot r line) k) c.root is_number spot m w) (λ byte. Fetch (next_byte spot) (read_on r byte) line) c k m line
     else goes c (Holds (number_of r.ty r.number)) k m w
 
 abbrev pub fetch_low : Setting → Spot → ℕ → List Pending → CopyOf → Memory → World → Outcome

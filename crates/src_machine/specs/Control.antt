@@ -11,7 +11,7 @@ use Rattle.src_machine.specs.World.{Happening, World}
 use Rattle.src_machine.specs.declared.objects.Byte.{Byte}
 use Rattle.src_machine.specs.declared.objects.Change.{Change}
 use Rattle.src_machine.specs.declared.objects.CopyOf.{CopyOf}
-use Rattle.src_machine.specs.declared.objects.Datum.{Datum}
+use Rattle.src_machine.specs.Data.{Datum}
 use Rattle.src_machine.specs.declared.objects.Object.{Object}
 use Rattle.src_machine.specs.declared.objects.Reading.{Reading}
 use Rattle.src_machine.specs.declared.objects.Spot.{Spot}

@@ -14,7 +14,7 @@ use Rattle.src_machine.specs.Giving.{decides}
 use Rattle.src_machine.specs.Objects.{function_at}
 use Rattle.src_machine.specs.Values.{byte_count, truth_of}
 use Rattle.src_machine.specs.declared.objects.CopyOf.{CopyOf}
-use Rattle.src_machine.specs.declared.objects.Datum.{Datum}
+use Rattle.src_machine.specs.Data.{Datum}
 
 abbrev pub counted_if : Bool → ℕ → Option ℕ
 counted_if true line = Some line

@@ -18,8 +18,8 @@ use Rattle.src_machine.specs.Objects.{Setting, Memory, spot_of, moved}
 use Rattle.src_machine.specs.World.{World}
 use Rattle.src_machine.specs.declared.objects.Change.{Change}
 use Rattle.src_machine.specs.declared.objects.CopyOf.{CopyOf}
-use Rattle.src_machine.specs.declared.objects.Datum.{Datum}
-use Rattle.src_machine.specs.declared.objects.Datum.TheVariants as datum
+use Rattle.src_machine.specs.Data.{Datum}
+use Rattle.src_machine.specs.Data as datum
 use Rattle.src_machine.specs.declared.objects.Pointer.{Pointer}
 use Rattle.src_machine.specs.declared.objects.Pointer.TheVariants.{Null, Into}
 use Rattle.src_machine.specs.declared.objects.Spot.{Spot}

@@ -16,8 +16,8 @@ use Rattle.src_machine.specs.Values.{Answer, converted, truth_of, truth_value, u
 use Rattle.src_machine.specs.World.{World}
 use Rattle.src_machine.specs.declared.objects.Change.{Change}
 use Rattle.src_machine.specs.declared.objects.CopyOf.{CopyOf}
-use Rattle.src_machine.specs.declared.objects.Datum.{Datum}
-use Rattle.src_machine.specs.declared.objects.Datum.TheVariants.{Number, Pointer, Missing}
+use Rattle.src_machine.specs.Data.{Datum}
+use Rattle.src_machine.specs.Data.{Number, Pointer, Missing}
 use Rattle.src_machine.specs.declared.objects.Spot.{Spot}
 use Rattle.src_machine.specs.declared.objects.Spot.TheVariants as spots
 use Rattle.src_machine.specs.declared.objects.Undef.TheVariants.{Unset}

@@ -1,4 +1,5 @@
 pub mod World
+pub mod Data
 pub mod Objects
 pub mod Values
 pub mod Control

@@ -10,8 +10,8 @@ use Rattle.src_machine.specs.Expressions.{nowhere}
 use Rattle.src_machine.specs.Objects.{Setting, Memory, object_bytes, local_of, cleared}
 use Rattle.src_machine.specs.World.{World, Ended, noted, left}
 use Rattle.src_machine.specs.declared.objects.CopyOf.{CopyOf}
-use Rattle.src_machine.specs.declared.objects.Datum.{Datum}
-use Rattle.src_machine.specs.declared.objects.Datum.TheVariants.{Missing}
+use Rattle.src_machine.specs.Data.{Datum}
+use Rattle.src_machine.specs.Data.{Missing}
 use Rattle.src_machine.specs.declared.objects.Object.{Object}
 use Rattle.src_machine.specs.declared.objects.Pointer.TheVariants.{Into}
 use Rattle.src_machine.specs.declared.objects.Spot.{Spot}

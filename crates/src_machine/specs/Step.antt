@@ -18,8 +18,8 @@ use Rattle.src_machine.specs.World.{Happening, World, arrived, is_due, entered, 
 use Rattle.src_machine.specs.declared.objects.Byte.{Byte}
 use Rattle.src_machine.specs.declared.objects.Byte.TheVariants as bytes
 use Rattle.src_machine.specs.declared.objects.CopyOf.{CopyOf}
-use Rattle.src_machine.specs.declared.objects.Datum.{Datum}
-use Rattle.src_machine.specs.declared.objects.Datum.TheVariants as datum
+use Rattle.src_machine.specs.Data.{Datum}
+use Rattle.src_machine.specs.Data as datum
 use Rattle.src_machine.specs.declared.objects.Object.{Object}
 use Rattle.src_machine.specs.declared.objects.Object.TheVariants.{Fixed, Variable}
 use Rattle.src_machine.specs.declared.objects.Undef.{Undef}

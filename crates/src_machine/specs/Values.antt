@@ -19,8 +19,8 @@ use Rattle.src_machine.specs.declared.objects.Byte.{Byte}
 use Rattle.src_machine.specs.declared.objects.Byte.TheVariants as bytes
 use Rattle.src_machine.specs.declared.objects.Change.{Change}
 use Rattle.src_machine.specs.declared.objects.CopyOf.{CopyOf}
-use Rattle.src_machine.specs.declared.objects.Datum.{Datum}
-use Rattle.src_machine.specs.declared.objects.Datum.TheVariants.{Number, Pointer, Missing}
+use Rattle.src_machine.specs.Data.{Datum}
+use Rattle.src_machine.specs.Data.{Number, Pointer, Missing}
 use Rattle.src_machine.specs.declared.objects.Object.{Object}
 use Rattle.src_machine.specs.declared.objects.Pointer.{Pointer as Place}
 use Rattle.src_machine.specs.declared.objects.Pointer.TheVariants.{Null, Into}

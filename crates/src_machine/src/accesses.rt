@@ -1,7 +1,7 @@
 //! Reads and writes of one byte, and the values that are made of them.
 
 use crate::control::{Focus, Listed, Pending};
-use crate::machine::{SrcEnd, Source, undefined};
+use crate::machine::{Source, SrcEnd, undefined};
 use crate::memory::Slot;
 use crate::objects::{Byte, CopyOf, Datum, Object, Pointer, Reading, Spot, Undef};
 use crate::values::{

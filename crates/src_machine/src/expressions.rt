@@ -1,8 +1,8 @@
 //! How expressions and places begin: the left operand first, and what waits for it.
 
 use crate::control::{Focus, Pending};
-use crate::machine::{SrcEnd, Source, nowhere, undefined};
-use crate::objects::{Change, Datum, Object, Pointer, Spot, Undef};
+use crate::machine::{Source, SrcEnd, nowhere, undefined};
+use crate::objects::{Change, Datum, Object, Pointer, Spot, Undef, number_from};
 use crate::values::one_in;
 use c_ints::BinOp;
 use c_typed::{Object as Name, StepOp, TExpr, TPlace, Ty, Typed};
@@ -46,9 +46,7 @@ impl<'a> Source<'a> {
     pub(crate) fn local_of(&self, number: u32) -> Object {
         Object::Variable {
             copy: self.copy,
-            number: self
-                .param_count(self.copy.function)
-                .saturating_add(number),
+            number: self.param_count(self.copy.function).saturating_add(number),
         }
     }
 
@@ -94,7 +92,9 @@ impl<'a> Source<'a> {
     /// An expression begins.
     pub(crate) fn eval(&mut self, expr: &'a TExpr) -> SrcEnd {
         match expr {
-            TExpr::Constant { value, .. } => self.go(Focus::Holds(Datum::Number(*value))),
+            TExpr::Constant { value, .. } => self.go(Focus::Holds(Datum::Number(number_from(
+                *value,
+            )))),
             TExpr::Read { place, ty, line } => {
                 self.go_waiting(Focus::Find(place), Pending::Reads(*ty, *line))
             }
@@ -291,7 +291,10 @@ impl<'a> Source<'a> {
             }
             Pending::StepAt(change) => {
                 let focus = self.fetching(spot, change.ty, change.line);
-                self.go_waiting(focus, Pending::Changes(change, spot, one_in(change.operation)))
+                self.go_waiting(
+                    focus,
+                    Pending::Changes(change, spot, one_in(change.operation)),
+                )
             }
             Pending::Members(offset, line) => self.member(spot, offset, line),
             _ => nowhere(0),

@@ -1,11 +1,10 @@
 //! Where a value goes: what waits for it takes it.
 
 use crate::control::{Focus, Labels, Pending, Stage};
-use crate::machine::{SrcEnd, Source, nowhere, undefined};
+use crate::machine::{Source, SrcEnd, nowhere, undefined};
 use crate::objects::{Change, Datum, Object, Pointer, Spot, Undef};
 use crate::pointers::difference;
 use crate::values::{converted, kept_in, truth_of, truth_value, unary_answer};
-use c_ints::Value;
 use c_typed::{LogicalOp, TCase, TExpr, TStmt};
 
 /// Whether the left operand of `&&` or `||` decides.
@@ -25,7 +24,7 @@ fn is_missing(value: Datum) -> bool {
 
 fn is_case(value: Datum, case: &TCase) -> bool {
     match value {
-        Datum::Number(number) => number.number() == case.value.number(),
+        Datum::Number(number) => number.value().number() == case.value.number(),
         Datum::Pointer(_) | Datum::Missing => false,
     }
 }
@@ -66,7 +65,13 @@ impl<'a> Source<'a> {
         }
     }
 
-    fn chooses(&mut self, value: Datum, first: &'a Box<TExpr>, second: &'a Box<TExpr>, line: u32) -> SrcEnd {
+    fn chooses(
+        &mut self,
+        value: Datum,
+        first: &'a Box<TExpr>,
+        second: &'a Box<TExpr>,
+        line: u32,
+    ) -> SrcEnd {
         match truth_of(value) {
             Some(true) => self.go(Focus::Eval(first)),
             Some(false) => self.go(Focus::Eval(second)),

@@ -82,7 +82,7 @@ impl<'a> Source<'a> {
     /// The run of a program before its first step, with all the room that it needs. The map tells the
     /// addresses of the statics, by their numbers, and those of the frames, by root and name. Its `main`
     /// and `halt` are not looked at.
-    pub fn new(alloc: Global, p: &'a Typed, map: &Map) -> Result<Source<'a>, AllocError> {
+    pub fn new(alloc: Global, p: &'a Typed, map: &'a Map) -> Result<Source<'a>, AllocError> {
         let memory = Memory::new(alloc, p, map)?;
         let room = room_of(p);
         let mut stack = Vec::new(alloc);
@@ -261,31 +261,32 @@ impl<'a> Source<'a> {
         }
         let caller = Pending::Returns(self.copy);
         self.enter_copy(self.copy.root, function, caller);
-        let mut number = 0u32;
-        while first < self.values.len() {
-            let Some(value) = self.values.get(first.saturating_add(number as usize)) else {
-                break;
-            };
-            let object = Object::Variable {
-                copy: self.copy,
-                number,
-            };
-            self.memory.put_value(object, *value);
-            number = number.saturating_add(1);
-        }
+        self.give_values(first);
         self.values.truncate(first);
         self.go(Focus::Past)
     }
 
+    // The parameters of the running copy get the values from this one on.
+    fn give_values(&mut self, first: usize) {
+        let mut number = 0u32;
+        for at in first..self.values.len() {
+            let object = Object::Variable {
+                copy: self.copy,
+                number,
+            };
+            let value = self.values[at];
+            self.memory.put_value(object, value);
+            number = number.saturating_add(1);
+        }
+    }
+
     // Whether a value from this one on is missing.
     fn has_missing(&self, first: usize) -> bool {
-        let mut at = first;
-        while let Some(value) = self.values.get(at) {
-            match value {
+        for at in first..self.values.len() {
+            match self.values[at] {
                 Datum::Missing => return true,
-                _ => {}
+                Datum::Number(_) | Datum::Pointer(_) => {}
             }
-            at = at.saturating_add(1);
         }
         false
     }

@@ -39,11 +39,33 @@ pub enum Byte {
     },
 }
 
+/// A number of an integer type, by its bits.
+#[derive(Clone, Copy, PartialEq, Eq, Debug)]
+pub struct Number {
+    pub ty: IntTy,
+    pub bits: u32,
+}
+
+impl Number {
+    /// The number as an integer value.
+    pub fn value(self) -> Value {
+        Value::new(self.ty, self.bits)
+    }
+}
+
+/// An integer value as a number.
+pub fn number_from(value: Value) -> Number {
+    Number {
+        ty: value.ty(),
+        bits: value.bits(),
+    }
+}
+
 /// The value of an expression. `Missing` is that of an expression of type void, of a structure, and of a
 /// call that ended without a value.
-#[derive(Clone, Copy)]
+#[derive(Clone, Copy, PartialEq, Eq, Debug)]
 pub enum Datum {
-    Number(Value),
+    Number(Number),
     Pointer(Pointer),
     Missing,
 }

@@ -1,15 +1,15 @@
 //! Operators on pointers, and on values of any kind.
 
 use crate::machine::Source;
-use crate::objects::{Change, Datum, Object, Pointer, Undef};
-use crate::values::{bad_right, compared, converted, on_numbers, truth_value};
-use c_ints::{BinOp, IntTy, Value};
+use crate::objects::{Change, Datum, Number, Object, Pointer, Undef};
+use crate::values::{bad_right, compared, converted, number, on_numbers, truth_value};
+use c_ints::{BinOp, IntTy};
 use c_typed::Ty;
 
 // So many elements: whether they are counted down, and how many bytes they have. `None` where there are
 // more than a number of 64 bits.
-fn distance(op: BinOp, size: u64, count: Value) -> (bool, Option<u64>) {
-    let count = count.number();
+fn distance(op: BinOp, size: u64, count: Number) -> (bool, Option<u64>) {
+    let count = count.value().number();
     let down = (count < 0) != (op == BinOp::Sub);
     (down, count.unsigned_abs().checked_mul(size))
 }
@@ -20,7 +20,7 @@ fn elements_between(f: u64, g: u64, size: u64) -> Datum {
     let count = if size == 0 { 0 } else { bytes / size };
     let bits = (count & 0xffff) as u32;
     let bits = if down { 0x1_0000 - bits } else { bits };
-    Datum::Number(Value::new(IntTy::Int, bits))
+    number(IntTy::Int, bits)
 }
 
 impl<'a> Source<'a> {
@@ -123,7 +123,7 @@ impl<'a> Source<'a> {
         op: BinOp,
         size: u64,
         pointer: Pointer,
-        count: Value,
+        count: Number,
     ) -> Result<Datum, Undef> {
         let (down, bytes) = distance(op, size, count);
         let moved = match bytes {

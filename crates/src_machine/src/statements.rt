@@ -1,7 +1,7 @@
 //! How statements begin, and what follows them.
 
 use crate::control::{Focus, Labels, Listed, Pending, Round, Stage};
-use crate::machine::{SrcEnd, Source, nowhere, undefined};
+use crate::machine::{Source, SrcEnd, nowhere, undefined};
 use crate::objects::{Datum, Object, Pointer, Spot, Undef};
 use crate::values::truth_of;
 use c_typed::{LoopForm, TArm, TExpr, TItem, TStmt};
@@ -21,7 +21,10 @@ impl<'a> Source<'a> {
     /// The condition before a turn. One that is left out holds.
     pub(crate) fn tests(&mut self, round: Round<'a>) -> SrcEnd {
         match round.condition {
-            Some(condition) => self.go_waiting(Focus::Eval(condition), Pending::Loops(Stage::Tests, round)),
+            Some(condition) => self.go_waiting(
+                Focus::Eval(condition),
+                Pending::Loops(Stage::Tests, round),
+            ),
             None => self.turns(round),
         }
     }
@@ -80,9 +83,9 @@ impl<'a> Source<'a> {
 
     // The nearest loop or switch is left.
     fn break_off(&mut self) -> SrcEnd {
-        while let Some(top) = self.stack.pop() {
-            match top {
-                Pending::Loops(Stage::Turns, _) | Pending::InSwitch => break,
+        for _ in 0..self.stack.len() {
+            match self.stack.pop() {
+                Some(Pending::Loops(Stage::Turns, _)) | Some(Pending::InSwitch) => break,
                 _ => {}
             }
         }
@@ -91,13 +94,12 @@ impl<'a> Source<'a> {
 
     // The nearest loop goes on.
     fn go_on(&mut self) -> SrcEnd {
-        while let Some(top) = self.stack.pop() {
-            match top {
-                Pending::Loops(Stage::Turns, round) => {
-                    self.wait(Pending::Loops(Stage::Turns, round));
-                    break;
+        for _ in 0..self.stack.len() {
+            match self.stack.last() {
+                Some(Pending::Loops(Stage::Turns, _)) => break,
+                _ => {
+                    let _ = self.stack.pop();
                 }
-                _ => {}
             }
         }
         self.go(Focus::Past)
@@ -105,9 +107,11 @@ impl<'a> Source<'a> {
 
     /// Takes off what waits in the function.
     pub(crate) fn unwind(&mut self) {
-        while let Some(top) = self.stack.last().copied() {
-            match top {
-                Pending::Before(_, _) | Pending::Loops(Stage::Turns, _) | Pending::InSwitch => {
+        for _ in 0..self.stack.len() {
+            match self.stack.last() {
+                Some(Pending::Before(_, _))
+                | Some(Pending::Loops(Stage::Turns, _))
+                | Some(Pending::InSwitch) => {
                     let _ = self.stack.pop();
                 }
                 _ => break,

@@ -1,18 +1,23 @@
 //! Values of expressions: their bytes, conversions, and what operators on integers give.
 
-use crate::objects::{Byte, Datum, Object, Pointer, Reading, Spot, Undef};
+use crate::objects::{Byte, Datum, Number, Object, Pointer, Reading, Spot, Undef, number_from};
 use c_ints::{BinOp, IntTy, UnOp, Value, apply, convert, promote, size, unary};
 use c_typed::Ty;
 
+/// The number of a type with these bits, cut to its width.
+pub(crate) fn number(ty: IntTy, bits: u32) -> Datum {
+    Datum::Number(number_from(Value::new(ty, bits)))
+}
+
 /// An int, 1 where it holds and 0 where it doesn't.
 pub(crate) fn truth_value(holds: bool) -> Datum {
-    Datum::Number(Value::new(IntTy::Int, if holds { 1 } else { 0 }))
+    number(IntTy::Int, if holds { 1 } else { 0 })
 }
 
 /// How many bytes the value has.
 pub(crate) fn byte_count(value: Datum) -> u8 {
     match value {
-        Datum::Number(number) => size(number.ty()),
+        Datum::Number(number) => size(number.ty),
         Datum::Pointer(_) => 2,
         Datum::Missing => 0,
     }
@@ -22,7 +27,7 @@ pub(crate) fn byte_count(value: Datum) -> u8 {
 pub(crate) fn byte_of(value: Datum, k: u8) -> Byte {
     match value {
         Datum::Number(number) => {
-            let bytes = number.bits().to_le_bytes();
+            let bytes = number.bits.to_le_bytes();
             Byte::Number(bytes[(k & 3) as usize])
         }
         Datum::Pointer(Pointer::Null) => Byte::Number(0),
@@ -37,7 +42,7 @@ pub(crate) fn byte_of(value: Datum, k: u8) -> Byte {
 
 /// The number that the bytes read so far make.
 pub(crate) fn number_of(reading: Reading) -> Datum {
-    Datum::Number(Value::new(reading.ty, reading.number))
+    number(reading.ty, reading.number)
 }
 
 /// The number that a byte holds.
@@ -94,7 +99,7 @@ pub(crate) fn joined(low: Byte, high: Byte) -> Option<Pointer> {
 
 fn as_integer(ty: IntTy, value: Datum) -> Result<Datum, Undef> {
     match value {
-        Datum::Number(number) => Ok(Datum::Number(convert(number, ty))),
+        Datum::Number(number) => Ok(Datum::Number(number_from(convert(number.value(), ty)))),
         Datum::Pointer(_) | Datum::Missing => Err(Undef::Unset),
     }
 }
@@ -128,7 +133,7 @@ fn is_null(pointer: Pointer) -> bool {
 /// Whether the value is one that isn't 0; `None` for a missing one.
 pub(crate) fn truth_of(value: Datum) -> Option<bool> {
     match value {
-        Datum::Number(number) => Some(number.number() != 0),
+        Datum::Number(number) => Some(number.value().number() != 0),
         Datum::Pointer(pointer) => Some(!is_null(pointer)),
         Datum::Missing => None,
     }
@@ -137,7 +142,7 @@ pub(crate) fn truth_of(value: Datum) -> Option<bool> {
 /// What a unary operator gives.
 pub(crate) fn unary_answer(op: UnOp, value: Datum) -> Result<Datum, Undef> {
     match value {
-        Datum::Number(number) => Ok(Datum::Number(unary(op, number))),
+        Datum::Number(number) => Ok(Datum::Number(number_from(unary(op, number.value())))),
         Datum::Pointer(pointer) => Ok(truth_value(is_null(pointer))),
         Datum::Missing => Err(Undef::Unset),
     }
@@ -145,7 +150,7 @@ pub(crate) fn unary_answer(op: UnOp, value: Datum) -> Result<Datum, Undef> {
 
 fn bad_divisor(value: Datum) -> Option<Undef> {
     match value {
-        Datum::Number(number) if number.number() == 0 => Some(Undef::Division),
+        Datum::Number(number) if number.value().number() == 0 => Some(Undef::Division),
         _ => None,
     }
 }
@@ -156,7 +161,7 @@ fn bad_count(ty: Ty, value: Datum) -> Option<Undef> {
     };
     match value {
         Datum::Number(count) => {
-            let count = count.number();
+            let count = count.value().number();
             if count < 0 || size(ty) as i64 * 8 <= count {
                 Some(Undef::Shift)
             } else {
@@ -184,20 +189,20 @@ fn is_shift(op: BinOp) -> bool {
 }
 
 // An operator whose operands have types that it takes.
-fn applied(op: BinOp, a: Value, b: Value) -> Option<Value> {
-    if promote(a.ty()) != a.ty() || promote(b.ty()) != b.ty() {
+fn applied(op: BinOp, a: Number, b: Number) -> Option<Value> {
+    if promote(a.ty) != a.ty || promote(b.ty) != b.ty {
         None
-    } else if is_shift(op) || a.ty() == b.ty() {
-        apply(op, a, b)
+    } else if is_shift(op) || a.ty == b.ty {
+        apply(op, a.value(), b.value())
     } else {
         None
     }
 }
 
 /// What an operator gives on integers, where the divisor isn't 0 and the count fits.
-pub(crate) fn on_numbers(op: BinOp, a: Value, b: Value) -> Result<Datum, Undef> {
+pub(crate) fn on_numbers(op: BinOp, a: Number, b: Number) -> Result<Datum, Undef> {
     match applied(op, a, b) {
-        Some(value) => Ok(Datum::Number(value)),
+        Some(value) => Ok(Datum::Number(number_from(value))),
         None => Err(Undef::Overflow),
     }
 }
@@ -218,15 +223,15 @@ pub(crate) fn compared(op: BinOp, a: u64, b: u64) -> bool {
 /// What `++` and `--` count by: 1 in the type of the operation, or the int 1 where a pointer is moved.
 pub(crate) fn one_in(operation: Ty) -> Datum {
     match operation {
-        Ty::Int(ty) => Datum::Number(Value::new(ty, 1)),
-        _ => Datum::Number(Value::new(IntTy::Int, 1)),
+        Ty::Int(ty) => number(ty, 1),
+        _ => number(IntTy::Int, 1),
     }
 }
 
 /// The lowest bit of a value.
 pub(crate) fn lowest_bit(value: Datum) -> u8 {
     match value {
-        Datum::Number(number) => (number.bits() & 1) as u8,
+        Datum::Number(number) => (number.bits & 1) as u8,
         Datum::Pointer(_) | Datum::Missing => 0,
     }
 }
@@ -234,7 +239,7 @@ pub(crate) fn lowest_bit(value: Datum) -> u8 {
 /// What a place holds after an assignment: a bit has the lowest bit alone.
 pub(crate) fn kept_in(spot: Spot, value: Datum) -> Datum {
     match spot {
-        Spot::Bit { .. } => Datum::Number(Value::new(IntTy::UChar, lowest_bit(value) as u32)),
+        Spot::Bit { .. } => number(IntTy::UChar, lowest_bit(value) as u32),
         Spot::Device(_) | Spot::Memory(_) => value,
     }
 }

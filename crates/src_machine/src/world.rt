@@ -44,16 +44,14 @@ impl World {
 
     /// Every arrival whose length of the trace is reached sets its flag, once.
     pub fn arrive(&mut self, arrivals: &[Arrival]) {
-        let mut at = self.used;
-        while at < arrivals.len() as u64 {
+        for at in self.used..arrivals.len() as u64 {
             let arrival = arrivals[at as usize];
             if self.events < arrival.t as u64 {
                 break;
             }
             self.intcon |= flag_bit(arrival.flag);
-            at += 1;
+            self.used = at + 1;
         }
-        self.used = at;
     }
 
     /// Whether the handler is to be entered: no handler runs, GIE is set, and an enabled flag is set.

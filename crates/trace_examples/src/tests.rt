@@ -14,6 +14,14 @@ struct Case {
     lines: &'static [u8],
 }
 
+/// A text, and the lines of its first so many steps.
+#[derive(Clone, Copy)]
+struct Counted {
+    text: &'static [u8],
+    steps: u32,
+    lines: &'static [u8],
+}
+
 /// How many of the cases have another answer.
 fn wrong(alloc: Global, cases: &[Case]) -> Result<usize, Fail> {
     let mut count: usize = 0;
@@ -161,5 +169,191 @@ fn runs_of_programs(rt: HostRuntime) -> Result<(), Fail> {
         },
     ];
     assert_eq!(rt; wrong(rt.alloc(), &cases)?, 0);
+    Ok(())
+}
+
+#[test]
+fn steps_are_counted(rt: HostRuntime) -> Result<(), Fail> {
+    let alloc = rt.alloc();
+    let cases: [Counted; 31] = [
+        // a statement begins, `=`, a byte is written, main ends
+        Counted {
+            text: b"void main(void){PORTB=5;}",
+            steps: 2,
+            lines: b"",
+        },
+        Counted {
+            text: b"void main(void){PORTB=5;}",
+            steps: 3,
+            lines: b"W PORTB 05\n",
+        },
+        Counted {
+            text: b"void main(void){PORTB=5;}",
+            steps: 4,
+            lines: b"W PORTB 05\nEnd\n",
+        },
+        // the operator stands between the read and `=`
+        Counted {
+            text: b"unsigned char x;void main(void){PORTB=x+1;}",
+            steps: 1,
+            lines: b"",
+        },
+        Counted {
+            text: b"unsigned char x;void main(void){PORTB=x+1;}",
+            steps: 2,
+            lines: b"R x.0 00\n",
+        },
+        Counted {
+            text: b"unsigned char x;void main(void){PORTB=x+1;}",
+            steps: 4,
+            lines: b"R x.0 00\n",
+        },
+        Counted {
+            text: b"unsigned char x;void main(void){PORTB=x+1;}",
+            steps: 5,
+            lines: b"R x.0 00\nW PORTB 01\n",
+        },
+        // an element is `+` and `*`
+        Counted {
+            text: b"unsigned char a[2];void main(void){PORTB=a[1];}",
+            steps: 3,
+            lines: b"",
+        },
+        Counted {
+            text: b"unsigned char a[2];void main(void){PORTB=a[1];}",
+            steps: 4,
+            lines: b"R a.1 00\n",
+        },
+        Counted {
+            text: b"unsigned char a[2];void main(void){PORTB=a[1];}",
+            steps: 5,
+            lines: b"R a.1 00\n",
+        },
+        Counted {
+            text: b"unsigned char a[2];void main(void){PORTB=a[1];}",
+            steps: 6,
+            lines: b"R a.1 00\nW PORTB 00\n",
+        },
+        // an `if` and its statement
+        Counted {
+            text: b"void main(void){if(1)PORTB=1;}",
+            steps: 3,
+            lines: b"",
+        },
+        Counted {
+            text: b"void main(void){if(1)PORTB=1;}",
+            steps: 4,
+            lines: b"W PORTB 01\n",
+        },
+        // a call, and the end of its body
+        Counted {
+            text: b"void f(void){PORTB=1;}void main(void){f();}",
+            steps: 4,
+            lines: b"",
+        },
+        Counted {
+            text: b"void f(void){PORTB=1;}void main(void){f();}",
+            steps: 5,
+            lines: b"W PORTB 01\n",
+        },
+        Counted {
+            text: b"void f(void){PORTB=1;}void main(void){f();}",
+            steps: 6,
+            lines: b"W PORTB 01\n",
+        },
+        Counted {
+            text: b"void f(void){PORTB=1;}void main(void){f();}",
+            steps: 7,
+            lines: b"W PORTB 01\nEnd\n",
+        },
+        // a function leaves with a value in no step of its own
+        Counted {
+            text: b"unsigned char f(void){return 7;}void main(void){PORTB=f();}",
+            steps: 4,
+            lines: b"",
+        },
+        Counted {
+            text: b"unsigned char f(void){return 7;}void main(void){PORTB=f();}",
+            steps: 5,
+            lines: b"W PORTB 07\n",
+        },
+        // labels are compared up to the match
+        Counted {
+            text: b"void main(void){switch(2){case 1:case 2:PORTB=1;}}",
+            steps: 5,
+            lines: b"",
+        },
+        Counted {
+            text: b"void main(void){switch(2){case 1:case 2:PORTB=1;}}",
+            steps: 6,
+            lines: b"W PORTB 01\n",
+        },
+        // a bit is read and written
+        Counted {
+            text: b"void main(void){RB0=1;}",
+            steps: 2,
+            lines: b"",
+        },
+        Counted {
+            text: b"void main(void){RB0=1;}",
+            steps: 3,
+            lines: b"R PORTB 00\n",
+        },
+        Counted {
+            text: b"void main(void){RB0=1;}",
+            steps: 4,
+            lines: b"R PORTB 00\nW PORTB 01\n",
+        },
+        // && counts at its end
+        Counted {
+            text: b"void main(void){PORTB=1&&0;}",
+            steps: 3,
+            lines: b"",
+        },
+        Counted {
+            text: b"void main(void){PORTB=1&&0;}",
+            steps: 4,
+            lines: b"W PORTB 00\n",
+        },
+        // a structure is copied byte by byte
+        Counted {
+            text: b"struct s{unsigned char a;};struct s x,y;void main(void){x=y;}",
+            steps: 2,
+            lines: b"",
+        },
+        Counted {
+            text: b"struct s{unsigned char a;};struct s x,y;void main(void){x=y;}",
+            steps: 3,
+            lines: b"R y.0 00\n",
+        },
+        Counted {
+            text: b"struct s{unsigned char a;};struct s x,y;void main(void){x=y;}",
+            steps: 4,
+            lines: b"R y.0 00\nW x.0 00\n",
+        },
+        // an address and what it points to
+        Counted {
+            text: b"unsigned char x;void main(void){PORTB=*&x;}",
+            steps: 3,
+            lines: b"",
+        },
+        Counted {
+            text: b"unsigned char x;void main(void){PORTB=*&x;}",
+            steps: 4,
+            lines: b"R x.0 00\n",
+        },
+    ];
+    let script = Script {
+        input: Vec::new(alloc),
+        arrivals: Vec::new(alloc),
+    };
+    let mut count: usize = 0;
+    for case in cases {
+        let lines = traced(alloc, case.text, &script, case.steps)?;
+        if lines.as_slice() != case.lines {
+            count = count.wrapping_add(1);
+        }
+    }
+    assert_eq!(rt; count, 0);
     Ok(())
 }
