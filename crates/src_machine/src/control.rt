@@ -39,6 +39,29 @@ pub(crate) struct Listed<'a> {
     pub line: u32,
 }
 
+/// Where a statement stands: in a list, by its number; behind an `else` or in a loop; or in an arm of an `if`,
+/// by the arm's number.
+#[derive(Clone, Copy)]
+pub(crate) enum Code<'a> {
+    Listed(&'a Vec<TStmt>, usize),
+    Boxed(&'a Box<TStmt>),
+    InArm(&'a Vec<TArm>, usize),
+}
+
+impl<'a> Code<'a> {
+    /// The statement.
+    pub fn statement(self) -> Option<&'a TStmt> {
+        match self {
+            Code::Listed(statements, at) => statements.get(at),
+            Code::Boxed(statement) => Some(statement),
+            Code::InArm(arms, at) => {
+                let arm = arms.get(at)?;
+                Some(&arm.then)
+            }
+        }
+    }
+}
+
 /// What a step is about.
 #[derive(Clone, Copy)]
 pub(crate) enum Focus<'a> {
@@ -49,7 +72,7 @@ pub(crate) enum Focus<'a> {
     Holds(Datum),
     Found(Spot),
     /// A statement begins, and one is done.
-    Run(&'a TStmt),
+    Run(Code<'a>),
     Past,
     /// The bytes of a number are read.
     Fetch {

@@ -88,7 +88,7 @@ impl<'a> Source<'a> {
             Focus::Eval(_) | Focus::Find(_) | Focus::Leaves(_) => None,
             Focus::Holds(value) => value_counts(value, self.stack.last()?),
             Focus::Found(_) => found_counts(self.stack.last()?),
-            Focus::Run(statement) => statement_counts(statement),
+            Focus::Run(code) => statement_counts(code.statement()?),
             Focus::Past => self.past_counts(),
             Focus::Fetch { reading, line, .. } => {
                 counted_if(reading.bytes < size(reading.ty), line)

@@ -174,7 +174,7 @@ impl<'a> Source<'a> {
             Focus::Find(place) => self.find(place),
             Focus::Holds(value) => self.give(value),
             Focus::Found(spot) => self.found(spot),
-            Focus::Run(statement) => self.begin(statement),
+            Focus::Run(code) => self.begin(code),
             Focus::Past => self.proceed(),
             Focus::Fetch {
                 spot,

@@ -1,6 +1,6 @@
 //! How statements begin, and what follows them.
 
-use crate::control::{Focus, Labels, Listed, Pending, Round, Stage};
+use crate::control::{Code, Focus, Labels, Listed, Pending, Round, Stage};
 use crate::machine::{Source, SrcEnd, nowhere, undefined};
 use crate::objects::{Datum, Object, Pointer, Spot, Undef};
 use crate::values::truth_of;
@@ -15,7 +15,10 @@ fn behind(object: Object, offset: u64) -> Spot {
 impl<'a> Source<'a> {
     /// A turn of a loop.
     pub(crate) fn turns(&mut self, round: Round<'a>) -> SrcEnd {
-        self.go_waiting(Focus::Run(round.body), Pending::Loops(Stage::Turns, round))
+        self.go_waiting(
+            Focus::Run(Code::Boxed(round.body)),
+            Pending::Loops(Stage::Turns, round),
+        )
     }
 
     /// The condition before a turn. One that is left out holds.
@@ -57,7 +60,7 @@ impl<'a> Source<'a> {
                 Pending::Picks(arms, at, otherwise),
             ),
             None => match otherwise {
-                Some(last) => self.go(Focus::Run(last)),
+                Some(last) => self.go(Focus::Run(Code::Boxed(last))),
                 None => self.go(Focus::Past),
             },
         }
@@ -75,7 +78,7 @@ impl<'a> Source<'a> {
             return nowhere(0);
         };
         match truth_of(value) {
-            Some(true) => self.go(Focus::Run(&arm.then)),
+            Some(true) => self.go(Focus::Run(Code::InArm(arms, at))),
             Some(false) => self.arms(arms, at.saturating_add(1), otherwise),
             None => undefined(Undef::Unset, arm.line),
         }
@@ -165,12 +168,13 @@ impl<'a> Source<'a> {
 
     // The statement of this number of some, and then those behind it.
     fn statements(&mut self, statements: &'a Vec<TStmt>, at: usize) -> SrcEnd {
-        match statements.get(at) {
-            None => self.go(Focus::Past),
-            Some(statement) => self.go_waiting(
-                Focus::Run(statement),
+        if at < statements.len() {
+            self.go_waiting(
+                Focus::Run(Code::Listed(statements, at)),
                 Pending::Before(statements, at.saturating_add(1)),
-            ),
+            )
+        } else {
+            self.go(Focus::Past)
         }
     }
 
@@ -226,7 +230,14 @@ impl<'a> Source<'a> {
     }
 
     /// A statement begins.
-    pub(crate) fn begin(&mut self, statement: &'a TStmt) -> SrcEnd {
+    pub(crate) fn begin(&mut self, code: Code<'a>) -> SrcEnd {
+        match code.statement() {
+            Some(statement) => self.begin_statement(statement),
+            None => nowhere(0),
+        }
+    }
+
+    fn begin_statement(&mut self, statement: &'a TStmt) -> SrcEnd {
         match statement {
             TStmt::Block { statements, .. } => {
                 self.go_waiting(Focus::Past, Pending::Before(statements, 0))
