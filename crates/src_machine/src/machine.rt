@@ -274,8 +274,9 @@ impl<'a> Source<'a> {
                 copy: self.copy,
                 number,
             };
-            let value = self.values[at];
-            self.memory.put_value(object, value);
+            if let Some(value) = self.values.get(at).copied() {
+                self.memory.put_value(object, value);
+            }
             number = number.saturating_add(1);
         }
     }
@@ -283,9 +284,9 @@ impl<'a> Source<'a> {
     // Whether a value from this one on is missing.
     fn has_missing(&self, first: usize) -> bool {
         for at in first..self.values.len() {
-            match self.values[at] {
-                Datum::Missing => return true,
-                Datum::Number(_) | Datum::Pointer(_) => {}
+            match self.values.get(at) {
+                Some(Datum::Missing) => return true,
+                _ => {}
             }
         }
         false

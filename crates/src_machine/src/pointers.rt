@@ -19,7 +19,11 @@ fn elements_between(f: u64, g: u64, size: u64) -> Datum {
     let (down, bytes) = if f < g { (true, g - f) } else { (false, f - g) };
     let count = if size == 0 { 0 } else { bytes / size };
     let bits = (count & 0xffff) as u32;
-    let bits = if down { 0x1_0000 - bits } else { bits };
+    let bits = if down {
+        0x1_0000u32.wrapping_sub(bits)
+    } else {
+        bits
+    };
     number(IntTy::Int, bits)
 }
 

@@ -1,5 +1,8 @@
 //! Values of expressions: their bytes, conversions, and what operators on integers give.
 
+ghost use Rattle.std.specs.Prelude.{◌≡◌};
+ghost use Rattle.c_ints.specs.Operators.{shifts};
+
 use crate::objects::{Byte, Datum, Number, Object, Pointer, Reading, Spot, Undef, number_from};
 use c_ints::{BinOp, IntTy, UnOp, Value, apply, convert, promote, size, unary};
 use c_typed::Ty;
@@ -181,7 +184,9 @@ pub(crate) fn bad_right(op: BinOp, ty: Ty, right: Datum) -> Option<Undef> {
     }
 }
 
-fn is_shift(op: BinOp) -> bool {
+fn is_shift(op: BinOp) -> bool
+    ensures { result ≡ shifts op }
+{
     match op {
         BinOp::Shl | BinOp::Shr => true,
         _ => false,
@@ -189,11 +194,11 @@ fn is_shift(op: BinOp) -> bool {
 }
 
 // An operator whose operands have types that it takes.
-fn applied(op: BinOp, a: Number, b: Number) -> Option<Value> {
-    if promote(a.ty) != a.ty || promote(b.ty) != b.ty {
+fn applied(op: BinOp, a: Value, b: Value) -> Option<Value> {
+    if promote(a.ty()) != a.ty() || promote(b.ty()) != b.ty() {
         None
-    } else if is_shift(op) || a.ty == b.ty {
-        apply(op, a.value(), b.value())
+    } else if is_shift(op) || a.ty() == b.ty() {
+        apply(op, a, b)
     } else {
         None
     }
@@ -201,7 +206,7 @@ fn applied(op: BinOp, a: Number, b: Number) -> Option<Value> {
 
 /// What an operator gives on integers, where the divisor isn't 0 and the count fits.
 pub(crate) fn on_numbers(op: BinOp, a: Number, b: Number) -> Result<Datum, Undef> {
-    match applied(op, a, b) {
+    match applied(op, a.value(), b.value()) {
         Some(value) => Ok(Datum::Number(number_from(value))),
         None => Err(Undef::Overflow),
     }

@@ -150,12 +150,7 @@ fn put_undefined(
 }
 
 /// The lines of a run of so many steps.
-pub fn traced(
-    alloc: Global,
-    text: &[u8],
-    script: &Script,
-    steps: u32,
-) -> Result<Vec<u8>, Failed> {
+pub fn traced(alloc: Global, text: &[u8], script: &Script, steps: u32) -> Result<Vec<u8>, Failed> {
     let typed = typed(alloc, text)?;
     let copies = copies(alloc, &typed)?;
     let placed = place(alloc, &typed, &copies)?;

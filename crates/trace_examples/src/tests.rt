@@ -80,14 +80,26 @@ fn runs_of_programs(rt: HostRuntime) -> Result<(), Fail> {
         Case {
             text: b"unsigned int t=0x00FF;void interrupt h(void){t++;INTF=0;}void main(void){unsigned int v;INTCON=0x90;v=t;PORTB=v>>8;PORTC=v;}",
             input: &[],
-            arrivals: &[Arrival { t: 2, flag: Flag::Intf }],
+            arrivals: &[Arrival {
+                t: 2,
+                flag: Flag::Intf,
+            }],
             lines: b"W INTCON 90\nR t.0 FF\nR t.0 FF\nR t.1 00\nW t.0 00\nW t.1 01\nR INTCON 12\nW INTCON 10\nR t.1 01\nW PORTB 01\nW PORTC FF\nEnd\n",
         },
         // one handler run for two arrivals
         Case {
             text: b"void interrupt h(void){PORTB=1;INTF=0;}void main(void){INTCON=0x90;for(;;);}",
             input: &[],
-            arrivals: &[Arrival { t: 1, flag: Flag::Intf }, Arrival { t: 1, flag: Flag::Intf }],
+            arrivals: &[
+                Arrival {
+                    t: 1,
+                    flag: Flag::Intf,
+                },
+                Arrival {
+                    t: 1,
+                    flag: Flag::Intf,
+                },
+            ],
             lines: b"W INTCON 90\nW PORTB 01\nR INTCON 12\nW INTCON 10\n",
         },
         // overlay
@@ -101,28 +113,40 @@ fn runs_of_programs(rt: HostRuntime) -> Result<(), Fail> {
         Case {
             text: b"unsigned char add(unsigned char a){unsigned char b;b=a;return b+1;}void interrupt h(void){PORTC=add(9);INTF=0;}void main(void){INTCON=0x90;PORTB=add(1);}",
             input: &[],
-            arrivals: &[Arrival { t: 1, flag: Flag::Intf }],
+            arrivals: &[Arrival {
+                t: 1,
+                flag: Flag::Intf,
+            }],
             lines: b"W INTCON 90\nW PORTC 0A\nR INTCON 12\nW INTCON 10\nW PORTB 02\nEnd\n",
         },
         // pending before the handler is enabled
         Case {
             text: b"void interrupt h(void){PORTB=1;INTF=0;}void main(void){INTE=1;GIE=1;PORTA=2;}",
             input: &[],
-            arrivals: &[Arrival { t: 0, flag: Flag::Intf }],
+            arrivals: &[Arrival {
+                t: 0,
+                flag: Flag::Intf,
+            }],
             lines: b"R INTCON 02\nW INTCON 12\nR INTCON 12\nW INTCON 92\nW PORTB 01\nR INTCON 12\nW INTCON 10\nW PORTA 02\nEnd\n",
         },
         // a lost flag
         Case {
             text: b"void main(void){INTCON=0x10;INTCON&=0xFD;PORTB=INTCON;}",
             input: &[],
-            arrivals: &[Arrival { t: 2, flag: Flag::Intf }],
+            arrivals: &[Arrival {
+                t: 2,
+                flag: Flag::Intf,
+            }],
             lines: b"W INTCON 10\nR INTCON 10\nW INTCON 10\nR INTCON 10\nW PORTB 10\nEnd\n",
         },
         // a flag that is seen and cleared
         Case {
             text: b"void main(void){INTCON=0x10;INTCON&=0xFD;PORTB=INTCON;}",
             input: &[],
-            arrivals: &[Arrival { t: 1, flag: Flag::Intf }],
+            arrivals: &[Arrival {
+                t: 1,
+                flag: Flag::Intf,
+            }],
             lines: b"W INTCON 10\nR INTCON 12\nW INTCON 10\nR INTCON 10\nW PORTB 10\nEnd\n",
         },
         // a pointer through an array
