@@ -40,12 +40,10 @@ fn address_plus(address: u16, offset: u64) -> u16 {
 
 // The address of the frame of a root and a name.
 fn frame_of(frames: &[FrameLine], root: Root, name: &[u8]) -> Option<u16> {
-    let mut rest = frames;
-    while let [line, others @ ..] = rest {
+    for line in frames {
         if line.root == root && line.name.as_slice() == name {
             return Some(line.address);
         }
-        rest = others;
     }
     None
 }
