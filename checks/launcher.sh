@@ -29,7 +29,9 @@ end
 MAP
 : >wanted.none
 printf '%s\n' 'usage: picc build IN OUT MAP | trace IN SCRIPT M | sim HEX MAP SCRIPT N | agree IN SCRIPT N | gen K' >wanted.usage
-printf '%s\n' 'no program.c: error 0: not yet' >wanted.refusal
+printf '%s\n' 'no program.c: error 7: roots none' >wanted.refusal
+printf '%s\n' 'deep.c: error 8: depth 9' >wanted.depth
+printf '%s\n' 'two_copies.c: error 0: not yet' >wanted.later
 
 # the status of the launcher with these words, whose output is left in `printed`
 run() {
@@ -47,7 +49,7 @@ expect() {
     cmp -s printed "$wanted" || fail "$*: printed $(cat printed)"
 }
 
-cp "$top/examples/led.c" . || exit 1
+cp "$top/examples/led.c" "$top/examples/deep.c" "$top/examples/two_copies.c" . || exit 1
 expect 0 wanted.none build led.c led.hex led.map
 cmp led.hex wanted.hex || fail 'the HEX is another one'
 cmp led.map wanted.map || fail 'the map is another one'
@@ -55,6 +57,8 @@ cmp led.map wanted.map || fail 'the map is another one'
 # words are handed on as they are, blanks included
 printf 'int x;\n' >'no program.c'
 expect 1 wanted.refusal build 'no program.c' out.hex out.map
+expect 1 wanted.depth build deep.c out.hex out.map
+expect 1 wanted.later build two_copies.c out.hex out.map
 [ ! -e out.hex ] || fail 'a refused program has a HEX'
 expect 2 wanted.usage
 exit $failed

@@ -1,13 +1,13 @@
 //! Declarations in the file and in blocks (ISO/IEC 9899:1990, 6.5 and 6.7).
 
-use crate::checker::{Checker, Signature};
-use crate::declarator::{Context, outline, specified};
-use crate::error::{CheckError, Kind, number, refused};
-use crate::initializer::visit;
-use crate::objects::object_type;
-use crate::outline::{Declared, Outline, ParamShape, line_of};
-use crate::scope::Binding;
-use crate::specifiers::{Site, Specified, Storage};
+use c_declare::declarator::{Context, outline, specified};
+use c_declare::outline::{Declared, Outline, ParamShape, line_of};
+use c_declare::specifiers::{Site, Specified, Storage};
+use c_initialize::initializer::visit;
+use c_initialize::objects::{block_static, local_object, object_type, static_object};
+use c_scope::checker::Checker;
+use c_scope::error::{CheckError, Kind, refused};
+use c_scope::scope::Binding;
 use c_tree::statement::{Declaration, EqualsInit, Init, InitDeclarator};
 use c_typed::{Qualified, TStmt, Ty};
 use std::alloc::{AllocError, Global};
@@ -38,215 +38,119 @@ fn types_of(alloc: Global, params: &[ParamShape]) -> Result<Vec<Ty>, AllocError>
     Ok(types)
 }
 
-fn is_same(signature: &Signature, returns: Qualified, params: &[Ty]) -> bool {
-    signature.result == returns && signature.params.as_slice() == params
+// Puts a function that isn't declared yet behind those that are.
+fn add_function(
+    checker: &mut Checker,
+    name: &[u8],
+    returns: Qualified,
+    params: Vec<Ty>,
+) -> Result<u32, CheckError> {
+    let function = checker.functions.add(name, returns, params)?;
+    checker.scopes.bind(name, Binding::Function(function))?;
+    Ok(function)
 }
 
-impl Checker {
-    // Refuses a second declaration of a function with other types, or a second body.
-    fn refuse_other(
-        &self,
-        function: u32,
-        returns: Qualified,
-        params: &[Ty],
-        defines: bool,
-        line: u32,
-    ) -> Result<(), CheckError> {
-        match self.signatures.get(function as usize) {
-            Some(signature) => {
-                if is_same(signature, returns, params) && !(defines && signature.defined) {
-                    Ok(())
-                } else {
-                    refused(Kind::Again, line)
-                }
-            }
-            None => refused(Kind::Again, line),
-        }
-    }
-
-    fn definition_of(&self, name: &[u8]) -> Result<Option<u32>, CheckError> {
-        match self.definitions.get_index_of(name) {
-            Some(index) => Ok(Some(number(index)?)),
-            None => Ok(None),
-        }
-    }
-
-    fn set_defined(&mut self, function: u32, defines: bool) {
-        if let Some(signature) = self.signatures.get_mut(function as usize) {
-            if defines {
-                signature.defined = true;
-            }
-        }
-    }
-
-    fn add_function(
-        &mut self,
-        name: &[u8],
-        returns: Qualified,
-        params: Vec<Ty>,
-    ) -> Result<u32, CheckError> {
-        let function = number(self.signatures.len())?;
-        let definition = self.definition_of(name)?;
-        self.signatures.push(Signature {
-            result: returns,
-            params,
-            definition,
-            defined: false,
-        })?;
-        self.scopes.bind(name, Binding::Function(function))?;
-        Ok(function)
-    }
-
-    /// A declaration of a function; `defines` says that its body follows, and `bad` that no function has such
-    /// a type.
-    pub fn declare_function(
-        &mut self,
-        name: &[u8],
-        returns: Qualified,
-        params: &[ParamShape],
-        bad: bool,
-        defines: bool,
-        line: u32,
-    ) -> Result<(), CheckError> {
-        let types = types_of(self.alloc, params)?;
-        let function = match self.scopes.innermost(name) {
-            Some(Binding::Function(function)) => {
-                self.refuse_other(function, returns, &types, defines, line)?;
-                if bad {
-                    return refused(Kind::Declare, line);
-                }
-                function
-            }
-            Some(_) => return refused(Kind::Again, line),
-            None => {
-                if bad {
-                    return refused(Kind::Declare, line);
-                }
-                self.add_function(name, returns, types)?
-            }
-        };
-        self.set_defined(function, defines);
+// Refuses a function of a type that no function has.
+fn refuse_bad(bad: bool, line: u32) -> Result<(), CheckError> {
+    if bad {
+        refused(Kind::Declare, line)
+    } else {
         Ok(())
     }
+}
 
-    fn declared_function(
-        &mut self,
-        name: &[u8],
-        outline: Outline,
-        line: u32,
-    ) -> Result<(), CheckError> {
-        let bad = outline.bad;
-        match outline.declared {
-            Declared::Function { result, params } => {
-                self.declare_function(name, result, &params, bad, false, line)
-            }
-            Declared::Object(_) => refused(Kind::Declare, line),
+/// A declaration of a function; `defines` says that its body follows, and `bad` that no function has such
+/// a type.
+pub(crate) fn declare_function(
+    checker: &mut Checker,
+    name: &[u8],
+    returns: Qualified,
+    params: &[ParamShape],
+    bad: bool,
+    defines: bool,
+    line: u32,
+) -> Result<(), CheckError> {
+    let types = types_of(checker.alloc, params)?;
+    let function = match checker.scopes.innermost(name) {
+        Some(Binding::Function(function)) => {
+            let functions = &checker.functions;
+            functions.refuse_other(function, returns, &types, defines, line)?;
+            refuse_bad(bad, line)?;
+            function
         }
-    }
-
-    fn file_object(
-        &mut self,
-        specified: Specified,
-        outline: Outline,
-        name: &[u8],
-        init: Option<&Init>,
-        line: u32,
-    ) -> Result<(), CheckError> {
-        self.scopes.refuse_again(name, line)?;
-        let ty = object_type(&self.types, specified, outline, init.is_some(), line)?;
-        let map_name = name.to_vec(self.alloc)?;
-        self.static_object(map_name, name, ty, init, line)
-    }
-
-    fn file_declarator(
-        &mut self,
-        specified: Specified,
-        declared: &InitDeclarator,
-    ) -> Result<(), CheckError> {
-        let outline = outline(&declared.declarator, self, specified, true)?;
-        let line = line_of(&declared.declarator);
-        let name = &declared.declarator.name.bytes;
-        let init = value_given(&declared.init);
-        if is_function(&outline) {
-            self.declared_function(name, outline, line)?;
-            refuse_value(self, init, line)
-        } else {
-            self.file_object(specified, outline, name, init, line)
+        Some(_) => return refused(Kind::Again, line),
+        None => {
+            refuse_bad(bad, line)?;
+            add_function(checker, name, returns, types)?
         }
+    };
+    if defines {
+        checker.functions.set_defined(function);
     }
+    Ok(())
+}
 
-    /// A declaration outside functions.
-    pub fn file_declaration(&mut self, declaration: &Declaration) -> Result<(), CheckError> {
-        let specified = specified(&declaration.specs, self, FILE)?;
-        let Some(list) = &declaration.declared else {
-            return refuse_interrupt(specified);
-        };
-        self.file_declarator(specified, &list.first)?;
-        for next in &list.others {
-            self.file_declarator(specified, &next.declarator)?;
+fn declared_function(
+    checker: &mut Checker,
+    name: &[u8],
+    outline: Outline,
+    line: u32,
+) -> Result<(), CheckError> {
+    let bad = outline.bad;
+    match outline.declared {
+        Declared::Function { result, params } => {
+            declare_function(checker, name, result, &params, bad, false, line)
         }
-        Ok(())
+        Declared::Object(_) => refused(Kind::Declare, line),
     }
+}
 
-    fn block_object(
-        &mut self,
-        specified: Specified,
-        outline: Outline,
-        name: &[u8],
-        init: Option<&Init>,
-        line: u32,
-    ) -> Result<Option<TStmt>, CheckError> {
-        let ty = object_type(&self.types, specified, outline, init.is_some(), line)?;
-        let declarator = self.current.declarators;
-        self.current.declarators = declarator.saturating_add(1);
-        if specified.storage == Storage::Static {
-            self.block_static(declarator, name, ty, init, line)?;
-            Ok(None)
-        } else {
-            let statement = self.local_object(specified, name, ty, init, line)?;
-            Ok(Some(statement))
-        }
-    }
-
-    fn block_declarator(
-        &mut self,
-        specified: Specified,
-        declared: &InitDeclarator,
-        statements: &mut Vec<TStmt>,
-    ) -> Result<(), CheckError> {
-        let outline = outline(&declared.declarator, self, specified, false)?;
-        let line = line_of(&declared.declarator);
-        let name = &declared.declarator.name.bytes;
-        let init = value_given(&declared.init);
-        self.scopes.refuse_again(name, line)?;
-        if let Some(statement) = self.block_object(specified, outline, name, init, line)? {
-            statements.push(statement)?;
-        }
-        Ok(())
-    }
-
-    /// A declaration of a block: what its declarators do comes behind the statements.
-    pub fn block_declaration(
-        &mut self,
-        declaration: &Declaration,
-        statements: &mut Vec<TStmt>,
-    ) -> Result<(), CheckError> {
-        let specified = specified(&declaration.specs, self, BLOCK)?;
-        let Some(list) = &declaration.declared else {
-            return refuse_interrupt(specified);
-        };
-        self.block_declarator(specified, &list.first, statements)?;
-        for next in &list.others {
-            self.block_declarator(specified, &next.declarator, statements)?;
-        }
-        Ok(())
-    }
+fn file_object(
+    init: Option<&Init>,
+    checker: &mut Checker,
+    specified: Specified,
+    outline: Outline,
+    name: &[u8],
+    line: u32,
+) -> Result<(), CheckError> {
+    checker.scopes.refuse_again(name, line)?;
+    let ty = object_type(&checker.types, specified, outline, init.is_some(), line)?;
+    let map_name = name.to_vec(checker.alloc)?;
+    static_object(init, checker, map_name, name, ty, line)
 }
 
 fn is_function(outline: &Outline) -> bool {
     match &outline.declared {
         Declared::Function { .. } => true,
         Declared::Object(_) => false,
+    }
+}
+
+// A function can't be given a value.
+fn refuse_value(init: Option<&Init>, checker: &mut Checker, line: u32) -> Result<(), CheckError> {
+    match init {
+        Some(init) => {
+            visit(init, checker)?;
+            refused(Kind::Convert, line)
+        }
+        None => Ok(()),
+    }
+}
+
+fn file_declarator(
+    declared: &InitDeclarator,
+    checker: &mut Checker,
+    specified: Specified,
+) -> Result<(), CheckError> {
+    let outline = outline(&declared.declarator, checker, specified, true)?;
+    let line = line_of(&declared.declarator);
+    let name = &declared.declarator.name.bytes;
+    let init = value_given(&declared.init);
+    if is_function(&outline) {
+        declared_function(checker, name, outline, line)?;
+        refuse_value(init, checker, line)
+    } else {
+        file_object(init, checker, specified, outline, name, line)
     }
 }
 
@@ -259,13 +163,71 @@ fn refuse_interrupt(specified: Specified) -> Result<(), CheckError> {
     }
 }
 
-// A function can't be given a value.
-fn refuse_value(checker: &mut Checker, init: Option<&Init>, line: u32) -> Result<(), CheckError> {
-    match init {
-        Some(init) => {
-            visit(init, checker)?;
-            refused(Kind::Convert, line)
-        }
-        None => Ok(()),
+/// A declaration outside functions.
+pub(crate) fn file_declaration(
+    declaration: &Declaration,
+    checker: &mut Checker,
+) -> Result<(), CheckError> {
+    let specified = specified(&declaration.specs, checker, FILE)?;
+    let Some(list) = &declaration.declared else {
+        return refuse_interrupt(specified);
+    };
+    file_declarator(&list.first, checker, specified)?;
+    for next in &list.others {
+        file_declarator(&next.declarator, checker, specified)?;
     }
+    Ok(())
+}
+
+fn block_object(
+    init: Option<&Init>,
+    checker: &mut Checker,
+    specified: Specified,
+    outline: Outline,
+    name: &[u8],
+    line: u32,
+) -> Result<Option<TStmt>, CheckError> {
+    let ty = object_type(&checker.types, specified, outline, init.is_some(), line)?;
+    let declarator = checker.body.next_declarator();
+    if specified.storage == Storage::Static {
+        block_static(init, checker, declarator, name, ty, line)?;
+        Ok(None)
+    } else {
+        let statement = local_object(init, checker, specified, name, ty, line)?;
+        Ok(Some(statement))
+    }
+}
+
+fn block_declarator(
+    declared: &InitDeclarator,
+    checker: &mut Checker,
+    specified: Specified,
+    statements: &mut Vec<TStmt>,
+) -> Result<(), CheckError> {
+    let outline = outline(&declared.declarator, checker, specified, false)?;
+    let line = line_of(&declared.declarator);
+    let name = &declared.declarator.name.bytes;
+    let init = value_given(&declared.init);
+    checker.scopes.refuse_again(name, line)?;
+    if let Some(statement) = block_object(init, checker, specified, outline, name, line)? {
+        statements.push(statement)?;
+    }
+    Ok(())
+}
+
+/// A declaration of a block: what its declarators do comes behind the statements.
+pub(crate) fn block_declaration(
+    declaration: &Declaration,
+    checker: &mut Checker,
+    statements: &mut Vec<TStmt>,
+) -> Result<(), CheckError> {
+    let specified = specified(&declaration.specs, checker, BLOCK)?;
+    let Some(list) = &declaration.declared else {
+        return refuse_interrupt(specified);
+    };
+    block_declarator(&list.first, checker, specified, statements)?;
+    for next in &list.others {
+        block_declarator(&next.declarator, checker, specified, statements)?;
+    }
+    Ok(())
 }

@@ -5,36 +5,17 @@
 // owed.
 #![tactic(auto)]
 
-mod calls;
-mod checker;
-mod constants;
-mod conversion;
 mod declaration;
-mod declarator;
-mod error;
-mod expression;
-mod initializer;
-mod objects;
-mod operation;
-mod operators;
-mod outline;
-mod places;
-mod prefixes;
-mod primary;
-mod scope;
-mod slots;
-mod specifiers;
+mod flow;
 mod statement;
-mod term;
-mod text;
-mod types;
+mod switch;
 mod unit;
-mod writes;
+mod values;
 
+pub use c_scope::error::{CheckError, Kind};
 pub use c_typed::{
     Folded, Function, Initial, InitialByte, LogicalOp, LoopForm, Member, Object, Qualified,
     RootKind, Static, StepOp, Structure, TArm, TCase, TExpr, TItem, TPlace, TStmt, Ty, Typed,
     Variable, bytes_of,
 };
-pub use error::{CheckError, Kind};
 pub use unit::check;

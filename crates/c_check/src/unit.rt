@@ -1,18 +1,19 @@
 //! Functions, and the whole unit (ISO/IEC 9899:1990, 6.7).
 
-use crate::checker::{Checker, Current};
-use crate::declaration::FILE;
-use crate::declarator::{outline, specified};
-use crate::error::{CheckError, Kind, number, refused};
-use crate::outline::{Declared, ParamShape, line_of};
-use crate::scope::Binding;
-use crate::specifiers;
-use crate::statement::{Flow, block};
+use crate::declaration::{FILE, declare_function, file_declaration};
+use crate::flow::Flow;
+use crate::statement::block;
+use c_declare::declarator::{outline, specified};
+use c_declare::outline::{Declared, ParamShape, line_of};
+use c_declare::specifiers;
+use c_scope::body::Body;
+use c_scope::checker::Checker;
+use c_scope::error::{CheckError, Kind, number, refused};
+use c_scope::scope::Binding;
 use c_tree::statement::{Function, Item, Unit};
 use c_typed::{Object, TStmt, Ty, Typed, Variable};
 use indexmap::IndexSet;
 use std::alloc::Global;
-use std::mem;
 
 // The names of the functions that a unit defines, in order.
 fn definitions(alloc: Global, unit: &Unit) -> Result<IndexSet<Vec<u8>>, CheckError> {
@@ -29,74 +30,88 @@ fn definitions(alloc: Global, unit: &Unit) -> Result<IndexSet<Vec<u8>>, CheckErr
     Ok(names)
 }
 
-impl Checker {
-    // Puts the parameters into the innermost scope.
-    fn bind_params(&mut self, params: Vec<ParamShape>) -> Result<Vec<Variable>, CheckError> {
-        let mut variables = Vec::new(self.alloc);
-        for param in params {
-            let ParamShape {
-                name,
-                ty,
-                fixed,
-                line,
-            } = param;
-            let object = Object::Param(number(variables.len())?);
-            if !name.is_empty() {
-                self.scopes
-                    .bind(&name, Binding::Object { object, ty, fixed })?;
-            }
-            variables.push(Variable { name, ty, line })?;
+// Puts the parameters into the innermost scope.
+fn bind_params(
+    checker: &mut Checker,
+    params: Vec<ParamShape>,
+) -> Result<Vec<Variable>, CheckError> {
+    let mut variables = Vec::new(checker.alloc);
+    for param in params {
+        let ParamShape {
+            name,
+            ty,
+            fixed,
+            line,
+        } = param;
+        let object = Object::Param(number(variables.len())?);
+        if !name.is_empty() {
+            let binding = Binding::Object { object, ty, fixed };
+            checker.scopes.bind(&name, binding)?;
         }
-        Ok(variables)
+        variables.push(Variable { name, ty, line })?;
     }
+    Ok(variables)
+}
 
-    fn begin_function(&mut self, name: &[u8], returns: Ty) -> Result<(), CheckError> {
-        self.current = Current {
-            name: name.to_vec(self.alloc)?,
-            result: returns,
-            locals: Vec::new(self.alloc),
-            declarators: 0,
-        };
-        Ok(())
-    }
+// The parameters, the locals and the statements of a function.
+#[derive(Drop)]
+struct Checked {
+    params: Vec<Variable>,
+    locals: Vec<Variable>,
+    statements: Vec<TStmt>,
+}
 
-    // The parameters, the locals and the statements of a function.
-    fn body_of(
-        &mut self,
-        function: &Function,
-        returns: Ty,
-        params: Vec<ParamShape>,
-    ) -> Result<(Vec<Variable>, Vec<Variable>, Vec<TStmt>), CheckError> {
-        self.begin_function(&function.declarator.name.bytes, returns)?;
-        self.scopes.enter()?;
-        let params = self.bind_params(params)?;
-        let body = block(&function.body, self, Flow::outside())?;
-        self.scopes.leave();
-        let locals = mem::replace(&mut self.current.locals, Vec::new(self.alloc));
-        Ok((params, locals, body))
-    }
+fn body_of(
+    function: &Function,
+    checker: &mut Checker,
+    returns: Ty,
+    params: Vec<ParamShape>,
+) -> Result<Checked, CheckError> {
+    let name = &function.declarator.name.bytes;
+    checker.body = Body::begin(checker.alloc, name, returns)?;
+    checker.scopes.enter()?;
+    let params = bind_params(checker, params)?;
+    let statements = block(&function.body, checker, Flow::outside())?;
+    checker.scopes.leave();
+    let locals = checker.body.take_locals();
+    Ok(Checked {
+        params,
+        locals,
+        statements,
+    })
+}
 
-    fn function(&mut self, function: &Function) -> Result<c_typed::Function, CheckError> {
-        let specified = specified(&function.specs, self, FILE)?;
-        let outline = outline(&function.declarator, self, specified, true)?;
-        let line = line_of(&function.declarator);
-        let name = &function.declarator.name.bytes;
-        let bad = outline.bad;
-        let Declared::Function { result, params } = outline.declared else {
-            self.scopes.refuse_again(name, line)?;
-            return refused(Kind::Declare, line);
-        };
-        self.declare_function(name, result, &params, bad, true, line)?;
-        let (params, locals, body) = self.body_of(function, result.ty, params)?;
-        Ok(c_typed::Function {
-            name: name.as_slice().to_vec(self.alloc)?,
-            result: result.ty,
-            params,
-            locals,
-            body,
-            interrupt: specified.interrupt,
-            line: specifiers::line_of(&function.specs),
-        })
+fn function(function: &Function, checker: &mut Checker) -> Result<c_typed::Function, CheckError> {
+    let specified = specified(&function.specs, checker, FILE)?;
+    let outline = outline(&function.declarator, checker, specified, true)?;
+    let line = line_of(&function.declarator);
+    let name = &function.declarator.name.bytes;
+    let bad = outline.bad;
+    let Declared::Function { result, params } = outline.declared else {
+        checker.scopes.refuse_again(name, line)?;
+        return refused(Kind::Declare, line);
+    };
+    declare_function(checker, name, result, &params, bad, true, line)?;
+    let body = body_of(function, checker, result.ty, params)?;
+    Ok(c_typed::Function {
+        name: name.as_slice().to_vec(checker.alloc)?,
+        result: result.ty,
+        params: body.params,
+        locals: body.locals,
+        body: body.statements,
+        interrupt: specified.interrupt,
+        line: specifiers::line_of(&function.specs),
+    })
+}
+
+// The typed tree of a unit whose functions and declarations are all checked. A tree in which something
+// doesn't fit would be a fault of the checker's own, for which there is no refusal.
+fn typed(checker: Checker, functions: Vec<c_typed::Function>) -> Result<Typed, CheckError> {
+    let Checker { types, statics, .. } = checker;
+    let (targets, structures) = types.into_tables()?;
+    match Typed::new(targets, structures, statics.into_entries(), functions) {
+        Some(typed) => Ok(typed),
+        None => Err(CheckError::NoMemory),
     }
 }
 
@@ -108,16 +123,9 @@ pub fn check(alloc: Global, unit: &Unit) -> Result<Typed, CheckError> {
     let mut functions = Vec::new(alloc);
     for item in &unit.items {
         match item {
-            Item::Function(function) => functions.push(checker.function(function)?)?,
-            Item::Declaration(declaration) => checker.file_declaration(declaration)?,
+            Item::Function(inner) => functions.push(function(inner, &mut checker)?)?,
+            Item::Declaration(declaration) => file_declaration(declaration, &mut checker)?,
         }
     }
-    let Checker { types, statics, .. } = checker;
-    let (targets, structures) = types.into_tables()?;
-    Ok(Typed {
-        targets,
-        structures,
-        statics,
-        functions,
-    })
+    typed(checker, functions)
 }

@@ -1,8 +1,13 @@
 -- The loop that replaces the names of the tokens outside directives.
-use Rattle.std.proofs.Common.{ℕ, zero, suc, ◌+◌, ◌-◌, ◌<◌, ◌≤◌, ◌≡◌, Bool, true, false, Option, Some, None, Result, Ok, Err, List, [], ◌∷◌, ◌++◌, length, take, drop, get_or, map, replicate, min, arith, ap, ap₂, sym, ◌∙◌, subst, refl, append_assoc, append-nil, drop-cons, add-one}
+use Rattle.std.proofs.Common.{ℕ, zero, suc, ◌+◌, ◌<◌, ◌≤◌, ◌≡◌, Bool, false, Option, Some, None, Result, Ok, Err, List, [], ◌∷◌, ◌++◌, length, take, drop, get_or, replicate, arith, ap, ap₂, sym, ◌∙◌, refl, append-nil, drop-cons, add-one}
 use Rattle.std.specs.Prelude.{All}
 use Rattle.std.specs.List.{flat_map}
 use Rattle.std.proofs.lemmas.List.{drop_all, length-map, length-take}
+use Rattle.std.specs.declared.vec.Vec.{Vec}
+use Rattle.std.specs.declared.alloc.Global.{Global}
+use Rattle.c_pre.specs.declared.names.Named.{Named}
+use Rattle.c_pre.specs.LookedUp.{named, looked_up, lists_of, replace_list}
+use Rattle.c_pre.proofs.LookingUp.{lists_count, same_item}
 use Rattle.c_token.specs.declared.token.Tok.{Tok}
 use Rattle.c_pre.specs.declared.PreError.{PreError}
 use Rattle.c_pre.specs.declared.PreError.TheVariants as error
@@ -10,12 +15,9 @@ use Rattle.c_pre.specs.declared.program.Free.{Free}
 use Rattle.c_pre.specs.declared.replace.Output.{Output}
 use Rattle.c_pre.specs.declared.directive.Definition.{Definition}
 use Rattle.c_pre.specs.Directive.{Table, table_of, entry_of}
-use Rattle.c_pre.specs.Replace.{Event, events_of, replace, limited, with_tokens, total, Passes, Unless}
-use Rattle.c_pre.specs.Items.{Item, items, first_word, first_bad, free_tokens, free_view, or_else, judged, program_of, Walks, IsFree, IsWordOf, IsError, Gives}
+use Rattle.c_pre.specs.Replace.{Event, events_of, replace, limited, with_tokens, total, Unless}
+use Rattle.c_pre.specs.Items.{items, first_word, first_bad, free_tokens, free_view, or_else, judged, program_of, Walks, IsFree, IsWordOf, IsError, events}
 use Rattle.c_pre.proofs.Walking.{map_front}
-
-abbrev pub events : List ℕ → Table → List Free → List Event
-events text table fs = flat_map (events_of text) (free_view table fs)
 
 -- what is left of the tokens outside directives, after the first `i` of them
 abbrev pub Finishes : List ℕ → List Definition → List Free → Output → ℕ → Type 0
@@ -97,8 +99,45 @@ stopped text ds fs old i d made x k h m p =
     ∙ ap (λ xs. total old (xs ++ events text (table_of ds) (drop (i + 1) fs))) (one_item text ds (get_or fs i d) (k.0 i d h).1 ∙ sym m)
     ∙ p (events text (table_of ds) (drop (i + 1) fs))
 
-pub finishes_stop : (text : List ℕ) (raw : List Tok) (ds : List Definition) (fs : List Free) (old : Output) (i : ℕ) (d : Free) (made : List Event) (x : PreError) → program_of text raw ≡ limited 262144 (events text (table_of ds) fs) → Finishes text ds fs old i → i < length fs → made ≡ replace (length (take (get_or fs i d).known ds)) text (table_of (take (get_or fs i d).known ds)) (get_or fs i d).line (replicate (length (take (get_or fs i d).known ds)) false) (get_or fs i d).token.now → Unless x ((es : List Event) → total old (made ++ es) ≡ Err x) → IsError x (program_of text raw)
-finishes_stop text raw ds fs old i d made error.NoMemory e k h m p = tt
-finishes_stop text raw ds fs old i d made (error.Word l) e k h m p = e ∙ stopped text ds fs old i d made (error.Word l) k h m p
-finishes_stop text raw ds fs old i d made (error.Directive l) e k h m p = e ∙ stopped text ds fs old i d made (error.Directive l) k h m p
-finishes_stop text raw ds fs old i d made (error.Tokens l) e k h m p = e ∙ stopped text ds fs old i d made (error.Tokens l) k h m p
+pub finishes_stop : (text : List ℕ) (ds : List Definition) (fs : List Free) (old : Output) (i : ℕ) (d : Free) (made : List Event) (x : PreError) → Finishes text ds fs old i → i < length fs → made ≡ replace (length (take (get_or fs i d).known ds)) text (table_of (take (get_or fs i d).known ds)) (get_or fs i d).line (replicate (length (take (get_or fs i d).known ds)) false) (get_or fs i d).token.now → Unless x ((es : List Event) → total old (made ++ es) ≡ Err x) → IsError x (limited 262144 (events text (table_of ds) fs))
+finishes_stop text ds fs old i d made error.NoMemory k h m p = tt
+finishes_stop text ds fs old i d made (error.Word l) k h m p = stopped text ds fs old i d made (error.Word l) k h m p
+finishes_stop text ds fs old i d made (error.Directive l) k h m p = stopped text ds fs old i d made (error.Directive l) k h m p
+finishes_stop text ds fs old i d made (error.Tokens l) k h m p = stopped text ds fs old i d made (error.Tokens l) k h m p
+
+-- the token of an item, its name looked up
+
+alone : (xs : List Tok) (d : Tok) → length xs ≡ 1 → get_or xs 0 d ∷ [] ≡ xs
+alone [] d h = absurd (omega arith)
+alone (x ∷ []) d h = refl
+alone (x ∷ y ∷ xs) d h = absurd (omega arith)
+
+pub made_of_item : (text : List ℕ) (ds : List Definition) (fs : List Free) (i : ℕ) (f : Free) (vs held : List (Vec Named Global)) (w : Named) (d : Tok) → All (IsFree (length ds)) fs → i < length fs → lists_of vs ≡ looked_up text (table_of ds) (table_of ds) → held ≡ vs → w ≡ named text (table_of ds) (get_or (get_or fs i f).token.now 0 d) → replace_list (length (take (get_or fs i f).known held)) (lists_of (take (get_or fs i f).known held)) (get_or fs i f).line (replicate (length (take (get_or fs i f).known held)) false) (w ∷ []) ≡ replace (length (take (get_or fs i f).known ds)) text (table_of (take (get_or fs i f).known ds)) (get_or fs i f).line (replicate (length (take (get_or fs i f).known ds)) false) (get_or fs i f).token.now
+made_of_item text ds fs i f vs held w d a h e v n =
+    let g = get_or fs i f in
+    ap₂ (λ (xs : List (Vec Named Global)) (x : Named). replace_list (length (take g.known xs)) (lists_of (take g.known xs)) g.line (replicate (length (take g.known xs)) false) (x ∷ [])) v n
+    ∙ same_item text ds vs g.known g.line (get_or g.token.now 0 d) e
+    ∙ ap (replace (length (take g.known ds)) text (table_of (take g.known ds)) g.line (replicate (length (take g.known ds)) false)) (alone g.token.now d (a i f h).0)
+
+-- the marks of the definitions that are known at an item
+
+front_marks : {A : Type 0} (k n : ℕ) (vs : List A) → length vs ≡ n → take k (replicate n false) ≡ replicate (length (take k vs)) false
+front_marks zero n vs h = refl
+front_marks (suc k) zero [] h = refl
+front_marks (suc k) (suc n) [] h = absurd (omega arith)
+front_marks (suc k) zero (v ∷ vs) h = absurd (omega arith)
+front_marks (suc k) (suc n) (v ∷ vs) h = ap (λ bs. false ∷ bs) (front_marks k n vs (omega arith))
+
+pub marks_at_item : (text : List ℕ) (ds : List Definition) (vs held : List (Vec Named Global)) (k : ℕ) (busy marks : List Bool) → lists_of vs ≡ looked_up text (table_of ds) (table_of ds) → held ≡ vs → busy ≡ replicate (length ds) false → marks ≡ busy → take k marks ≡ replicate (length (take k held)) false
+marks_at_item text ds vs held k busy marks e v b m =
+    ap (take k) (m ∙ b) ∙ front_marks k (length ds) vs (lists_count text ds vs e) ∙ ap (λ (xs : List (Vec Named Global)). replicate (length (take k xs)) false) (sym v)
+
+filled : (k n : ℕ) → k ≤ n → replicate k false ++ drop k (replicate n false) ≡ replicate n false
+filled zero n h = refl
+filled (suc k) zero h = absurd (omega arith)
+filled (suc k) (suc n) h = ap (λ bs. false ∷ bs) (filled k n (omega arith))
+
+pub marks_after_item : (text : List ℕ) (ds : List Definition) (vs held : List (Vec Named Global)) (k : ℕ) (busy given : List Bool) → lists_of vs ≡ looked_up text (table_of ds) (table_of ds) → held ≡ vs → busy ≡ replicate (length ds) false → k ≤ length ds → given ≡ replicate (length (take k held)) false → given ++ drop k busy ≡ replicate (length ds) false
+marks_after_item text ds vs held k busy given e v b h g =
+    let count : length (take k held) ≡ k = omega (arith, length-take k held, ap length v, lists_count text ds vs e, h) in
+    ap₂ (λ (xs ys : List Bool). xs ++ drop k ys) (g ∙ ap (λ j. replicate j false) count) b ∙ filled k (length ds) h

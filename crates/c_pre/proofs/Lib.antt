@@ -8,4 +8,5 @@ pub mod Looping
 pub mod Frees
 pub mod Defining
 pub mod Walking
+pub mod LookingUp
 pub mod Finishing

@@ -1,13 +1,16 @@
 -- Lists that wait for their replacement: what the three steps of the loop do to them.
 use Rattle.std.proofs.Common.{ℕ, zero, suc, ◌+◌, ◌-◌, ◌<◌, ◌≤◌, ◌≡◌, Bool, true, false, Option, Some, None, List, [], ◌∷◌, ◌++◌, length, get_or, set, replicate, arith, ap, ap₂, sym, ◌∙◌, subst, refl, append_assoc, length-append, reverse}
 use Rattle.std.proofs.lemmas.List.{reverse-append, get_or-map, length-set, length-map}
-use Rattle.c_token.specs.declared.token.Tok.{Tok}
 use Rattle.c_pre.specs.declared.replace.Frame.{Frame}
 use Rattle.c_pre.specs.declared.directive.Definition.{Definition}
-use Rattle.c_pre.specs.Directive.{Table, table_of, entry_of}
+use Rattle.c_pre.specs.Directive.{table_of, entry_of}
 use Rattle.std.specs.Prelude.{All}
 use Rattle.std.proofs.lemmas.List.Elements.{All-push}
-use Rattle.c_pre.specs.Replace.{Left, Replaced, at_line, open_definition, list_at, replace_one, replace, pending, waiting, unmarked, free_count, IsInStep, IsMark}
+use Rattle.c_pre.specs.Replace.{Left, Replaced, at_line, list_at, unmarked, free_count, IsInStep, IsMark}
+use Rattle.c_pre.specs.LookedUp.{Lists, lists_of, open_at, tokens_at, replace_named, replace_list, pending, waiting, cleared}
+use Rattle.c_pre.specs.declared.names.Named.{Named}
+use Rattle.std.specs.declared.vec.Vec.{Vec}
+use Rattle.std.specs.declared.alloc.Global.{Global}
 
 -- marks
 
@@ -32,73 +35,73 @@ pub all_free : (n : ℕ) → free_count (replicate n false) ≡ n
 all_free zero = refl
 all_free (suc n) = let r = all_free n in omega arith
 
-module _ (text : List ℕ) (table : Table) (line : ℕ) where
-  pub nothing_left : (depth : ℕ) (busy : List Bool) → replace depth text table line busy [] ≡ []
-  unfolding replace
+module _ (lists : Lists) (line : ℕ) where
+  pub nothing_left : (depth : ℕ) (busy : List Bool) → replace_list depth lists line busy [] ≡ []
+  unfolding replace_list
   nothing_left zero busy = refl
   nothing_left (suc depth) busy = refl
 
-  pub one_left : (depth : ℕ) (busy : List Bool) (t : Tok) (ts : List Tok) → open_definition text table busy t ≡ None → replace depth text table line busy (t ∷ ts) ≡ Left (at_line line t) ∷ replace depth text table line busy ts
-  unfolding replace
+  pub one_left : (depth : ℕ) (busy : List Bool) (t : Named) (ts : List Named) → open_at busy t.definition ≡ None → replace_list depth lists line busy (t ∷ ts) ≡ Left (at_line line t.token) ∷ replace_list depth lists line busy ts
+  unfolding replace_list
   one_left zero busy t ts e = refl
-  one_left (suc depth) busy t ts e = ap (λ o. replace_one (replace depth text table line) table busy line t o ++ replace (suc depth) text table line busy ts) e
+  one_left (suc depth) busy t ts e = ap (λ o. replace_named (replace_list depth lists line) lists busy line t o ++ replace_list (suc depth) lists line busy ts) e
 
-  pub one_replaced : (depth : ℕ) (busy : List Bool) (t : Tok) (ts : List Tok) (k : ℕ) → open_definition text table busy t ≡ Some k → replace (suc depth) text table line busy (t ∷ ts) ≡ (Replaced line ∷ replace depth text table line (set busy k true) (list_at table k)) ++ replace (suc depth) text table line busy ts
-  unfolding replace
-  one_replaced depth busy t ts k e = ap (λ o. replace_one (replace depth text table line) table busy line t o ++ replace (suc depth) text table line busy ts) e
+  pub one_replaced : (depth : ℕ) (busy : List Bool) (t : Named) (ts : List Named) (k : ℕ) → open_at busy t.definition ≡ Some k → replace_list (suc depth) lists line busy (t ∷ ts) ≡ (Replaced line ∷ replace_list depth lists line (set busy k true) (tokens_at lists k)) ++ replace_list (suc depth) lists line busy ts
+  unfolding replace_list
+  one_replaced depth busy t ts k e = ap (λ o. replace_named (replace_list depth lists line) lists busy line t o ++ replace_list (suc depth) lists line busy ts) e
 
-  pub pending_done : (depth : ℕ) (busy : List Bool) (f : Frame) (below : List Frame) → f.rest.now ≡ [] → pending depth text table line busy (f ∷ below) ≡ pending (suc depth) text table line (unmarked busy f.definition) below
+  pub pending_done : (depth : ℕ) (busy : List Bool) (f : Frame) (below : List Frame) → f.rest.now ≡ [] → pending depth lists line busy (f ∷ below) ≡ pending (suc depth) lists line (unmarked busy f.definition) below
   unfolding pending
   pending_done depth busy f below e =
-      ap (λ ts. replace depth text table line busy ts ++ pending (suc depth) text table line (unmarked busy f.definition) below) e
-      ∙ ap (λ es. es ++ pending (suc depth) text table line (unmarked busy f.definition) below) (nothing_left depth busy)
+      ap (λ ts. replace_list depth lists line busy ts ++ pending (suc depth) lists line (unmarked busy f.definition) below) e
+      ∙ ap (λ es. es ++ pending (suc depth) lists line (unmarked busy f.definition) below) (nothing_left depth busy)
 
-  pub pending_left : (depth : ℕ) (busy : List Bool) (f g : Frame) (below : List Frame) (t : Tok) (ts : List Tok) → f.rest.now ≡ t ∷ ts → g.rest.now ≡ ts → g.definition ≡ f.definition → open_definition text table busy t ≡ None → pending depth text table line busy (f ∷ below) ≡ Left (at_line line t) ∷ pending depth text table line busy (g ∷ below)
+  pub pending_left : (depth : ℕ) (busy : List Bool) (f g : Frame) (below : List Frame) (t : Named) (ts : List Named) → f.rest.now ≡ t ∷ ts → g.rest.now ≡ ts → g.definition ≡ f.definition → open_at busy t.definition ≡ None → pending depth lists line busy (f ∷ below) ≡ Left (at_line line t.token) ∷ pending depth lists line busy (g ∷ below)
   unfolding pending
   pending_left depth busy f g below t ts e r d o =
-      ap (λ xs. replace depth text table line busy xs ++ pending (suc depth) text table line (unmarked busy f.definition) below) e
-      ∙ ap (λ xs. xs ++ pending (suc depth) text table line (unmarked busy f.definition) below) (one_left depth busy t ts o)
-      ∙ ap₂ (λ xs k. Left (at_line line t) ∷ (replace depth text table line busy xs ++ pending (suc depth) text table line (unmarked busy k) below)) (sym r) (sym d)
+      ap (λ xs. replace_list depth lists line busy xs ++ pending (suc depth) lists line (unmarked busy f.definition) below) e
+      ∙ ap (λ xs. xs ++ pending (suc depth) lists line (unmarked busy f.definition) below) (one_left depth busy t ts o)
+      ∙ ap₂ (λ xs k. Left (at_line line t.token) ∷ (replace_list depth lists line busy xs ++ pending (suc depth) lists line (unmarked busy k) below)) (sym r) (sym d)
 
-  pub pending_replaced : (depth : ℕ) (busy : List Bool) (f g n : Frame) (below : List Frame) (t : Tok) (ts : List Tok) (k : ℕ) → f.rest.now ≡ t ∷ ts → g.rest.now ≡ ts → g.definition ≡ f.definition → open_definition text table busy t ≡ Some k → get_or busy k false ≡ false → n.rest.now ≡ list_at table k → n.definition ≡ Some k → pending (suc depth) text table line busy (f ∷ below) ≡ Replaced line ∷ pending depth text table line (set busy k true) (n ∷ g ∷ below)
+  pub pending_replaced : (depth : ℕ) (busy : List Bool) (f g n : Frame) (below : List Frame) (t : Named) (ts : List Named) (k : ℕ) → f.rest.now ≡ t ∷ ts → g.rest.now ≡ ts → g.definition ≡ f.definition → open_at busy t.definition ≡ Some k → get_or busy k false ≡ false → n.rest.now ≡ tokens_at lists k → n.definition ≡ Some k → pending (suc depth) lists line busy (f ∷ below) ≡ Replaced line ∷ pending depth lists line (set busy k true) (n ∷ g ∷ below)
   unfolding pending
   pending_replaced depth busy f g n below t ts k e r d o free list mark =
-      let tail = λ (b : List Bool) (m : Option ℕ). pending (suc (suc depth)) text table line (unmarked b m) below in
+      let tail = λ (b : List Bool) (m : Option ℕ). pending (suc (suc depth)) lists line (unmarked b m) below in
       let back : unmarked (set busy k true) n.definition ≡ busy = ap (unmarked (set busy k true)) mark ∙ set_back busy k free in
-      ap (λ xs. replace (suc depth) text table line busy xs ++ tail busy f.definition) e
+      ap (λ xs. replace_list (suc depth) lists line busy xs ++ tail busy f.definition) e
       ∙ ap (λ xs. xs ++ tail busy f.definition) (one_replaced depth busy t ts k o)
-      ∙ append_assoc (Replaced line ∷ replace depth text table line (set busy k true) (list_at table k)) (replace (suc depth) text table line busy ts) (tail busy f.definition)
-      ∙ ap₂ (λ xs m. (Replaced line ∷ replace depth text table line (set busy k true) (list_at table k)) ++ (replace (suc depth) text table line busy xs ++ tail busy m)) (sym r) (sym d)
-      ∙ ap₂ (λ xs b. (Replaced line ∷ replace depth text table line (set busy k true) xs) ++ (replace (suc depth) text table line b g.rest.now ++ tail b g.definition)) (sym list) (sym back)
+      ∙ append_assoc (Replaced line ∷ replace_list depth lists line (set busy k true) (tokens_at lists k)) (replace_list (suc depth) lists line busy ts) (tail busy f.definition)
+      ∙ ap₂ (λ xs m. (Replaced line ∷ replace_list depth lists line (set busy k true) (tokens_at lists k)) ++ (replace_list (suc depth) lists line busy xs ++ tail busy m)) (sym r) (sym d)
+      ∙ ap₂ (λ xs b. (Replaced line ∷ replace_list depth lists line (set busy k true) xs) ++ (replace_list (suc depth) lists line b g.rest.now ++ tail b g.definition)) (sym list) (sym back)
 
-  deep : (stack : List Frame) (f : Frame) → length stack ≤ length table → length table + 1 - length (stack ++ f ∷ []) ≡ length table - length stack
+  deep : (stack : List Frame) (f : Frame) → length stack ≤ length lists → length lists + 1 - length (stack ++ f ∷ []) ≡ length lists - length stack
   deep stack f h = omega (arith, length-append stack (f ∷ []))
 
-  turned : (stack : List Frame) (f : Frame) (busy : List Bool) → length stack ≤ length table → waiting text table line busy (stack ++ f ∷ []) ≡ pending (length table - length stack) text table line busy (f ∷ reverse stack)
-  turned stack f busy h = ap₂ (λ d xs. pending d text table line busy xs) (deep stack f h) (reverse-append stack (f ∷ []))
+  turned : (stack : List Frame) (f : Frame) (busy : List Bool) → length stack ≤ length lists → waiting lists line busy (stack ++ f ∷ []) ≡ pending (length lists - length stack) lists line busy (f ∷ reverse stack)
+  turned stack f busy h = ap₂ (λ d xs. pending d lists line busy xs) (deep stack f h) (reverse-append stack (f ∷ []))
 
-  pub waiting_done : (stack : List Frame) (f : Frame) (busy : List Bool) → length stack ≤ length table → f.rest.now ≡ [] → waiting text table line busy (stack ++ f ∷ []) ≡ waiting text table line (unmarked busy f.definition) stack
+  pub waiting_done : (stack : List Frame) (f : Frame) (busy : List Bool) → length stack ≤ length lists → f.rest.now ≡ [] → waiting lists line busy (stack ++ f ∷ []) ≡ waiting lists line (unmarked busy f.definition) stack
   waiting_done stack f busy h e =
-      turned stack f busy h ∙ pending_done (length table - length stack) busy f (reverse stack) e
-      ∙ ap (λ d. pending d text table line (unmarked busy f.definition) (reverse stack)) (let s : suc (length table - length stack) ≡ length table + 1 - length stack = omega arith in s)
+      turned stack f busy h ∙ pending_done (length lists - length stack) busy f (reverse stack) e
+      ∙ ap (λ d. pending d lists line (unmarked busy f.definition) (reverse stack)) (let s : suc (length lists - length stack) ≡ length lists + 1 - length stack = omega arith in s)
 
-  pub waiting_left : (stack : List Frame) (f g : Frame) (busy : List Bool) (t : Tok) (ts : List Tok) → length stack ≤ length table → f.rest.now ≡ t ∷ ts → g.rest.now ≡ ts → g.definition ≡ f.definition → open_definition text table busy t ≡ None → waiting text table line busy (stack ++ f ∷ []) ≡ Left (at_line line t) ∷ waiting text table line busy (stack ++ g ∷ [])
+  pub waiting_left : (stack : List Frame) (f g : Frame) (busy : List Bool) (t : Named) (ts : List Named) → length stack ≤ length lists → f.rest.now ≡ t ∷ ts → g.rest.now ≡ ts → g.definition ≡ f.definition → open_at busy t.definition ≡ None → waiting lists line busy (stack ++ f ∷ []) ≡ Left (at_line line t.token) ∷ waiting lists line busy (stack ++ g ∷ [])
   waiting_left stack f g busy t ts h e r d o =
-      turned stack f busy h ∙ pending_left (length table - length stack) busy f g (reverse stack) t ts e r d o
-      ∙ ap (λ es. Left (at_line line t) ∷ es) (sym (turned stack g busy h))
+      turned stack f busy h ∙ pending_left (length lists - length stack) busy f g (reverse stack) t ts e r d o
+      ∙ ap (λ es. Left (at_line line t.token) ∷ es) (sym (turned stack g busy h))
 
-  deeper : (stack : List Frame) (g n : Frame) (busy : List Bool) (depth : ℕ) → length table - length stack ≡ suc depth → waiting text table line busy ((stack ++ g ∷ []) ++ n ∷ []) ≡ pending depth text table line busy (n ∷ g ∷ reverse stack)
+  deeper : (stack : List Frame) (g n : Frame) (busy : List Bool) (depth : ℕ) → length lists - length stack ≡ suc depth → waiting lists line busy ((stack ++ g ∷ []) ++ n ∷ []) ≡ pending depth lists line busy (n ∷ g ∷ reverse stack)
   deeper stack g n busy depth e =
-      ap₂ (λ d xs. pending d text table line busy xs)
-      (let s : length table + 1 - length ((stack ++ g ∷ []) ++ n ∷ []) ≡ depth = omega (arith, length-append (stack ++ g ∷ []) (n ∷ []), length-append stack (g ∷ [])) in s)
+      ap₂ (λ d xs. pending d lists line busy xs)
+      (let s : length lists + 1 - length ((stack ++ g ∷ []) ++ n ∷ []) ≡ depth = omega (arith, length-append (stack ++ g ∷ []) (n ∷ []), length-append stack (g ∷ [])) in s)
       (reverse-append (stack ++ g ∷ []) (n ∷ []) ∙ ap (λ xs. n ∷ xs) (reverse-append stack (g ∷ [])))
 
-  pub waiting_replaced : (stack : List Frame) (f g n : Frame) (busy : List Bool) (t : Tok) (ts : List Tok) (k : ℕ) → free_count busy + length stack ≤ length table → k < length busy → f.rest.now ≡ t ∷ ts → g.rest.now ≡ ts → g.definition ≡ f.definition → open_definition text table busy t ≡ Some k → get_or busy k false ≡ false → n.rest.now ≡ list_at table k → n.definition ≡ Some k → waiting text table line busy (stack ++ f ∷ []) ≡ Replaced line ∷ waiting text table line (set busy k true) ((stack ++ g ∷ []) ++ n ∷ [])
+  pub waiting_replaced : (stack : List Frame) (f g n : Frame) (busy : List Bool) (t : Named) (ts : List Named) (k : ℕ) → free_count busy + length stack ≤ length lists → k < length busy → f.rest.now ≡ t ∷ ts → g.rest.now ≡ ts → g.definition ≡ f.definition → open_at busy t.definition ≡ Some k → get_or busy k false ≡ false → n.rest.now ≡ tokens_at lists k → n.definition ≡ Some k → waiting lists line busy (stack ++ f ∷ []) ≡ Replaced line ∷ waiting lists line (set busy k true) ((stack ++ g ∷ []) ++ n ∷ [])
   waiting_replaced stack f g n busy t ts k h i e r d o free list mark =
       let less = one_less busy k i free in
-      let depth : ℕ = length table - length stack - 1 in
-      let s : length table - length stack ≡ suc depth = omega (arith, less) in
-      turned stack f busy (omega arith) ∙ ap (λ m. pending m text table line busy (f ∷ reverse stack)) s
+      let depth : ℕ = length lists - length stack - 1 in
+      let s : length lists - length stack ≡ suc depth = omega (arith, less) in
+      turned stack f busy (omega arith) ∙ ap (λ m. pending m lists line busy (f ∷ reverse stack)) s
       ∙ pending_replaced depth busy f g n (reverse stack) t ts k e r d o free list mark
       ∙ ap (λ es. Replaced line ∷ es) (sym (deeper stack g n (set busy k true) depth s))
 
@@ -122,5 +125,25 @@ marks_two size stack g n a x y = All-push (IsMark size) (stack ++ g ∷ []) n (A
 pub list_of_definition : (ds : List Definition) (k : ℕ) (d : Definition) → k < length ds → (get_or ds k d).list.now ≡ list_at (table_of ds) k
 list_of_definition ds k d h = sym (ap (λ e. e.1) (get_or-map entry_of ds k d ([], []) h))
 
-pub table_length : (ds : List Definition) → length (table_of ds) ≡ length ds
-table_length ds = length-map ds entry_of
+pub list_of_code : (vs : List (Vec Named Global)) (k : ℕ) (d : Vec Named Global) → k < length vs → (get_or vs k d).items ≡ tokens_at (lists_of vs) k
+list_of_code vs k d h = sym (get_or-map (λ (v : Vec Named Global). v.items) vs k d [] h)
+
+pub lists_length : (vs : List (Vec Named Global)) → length (lists_of vs) ≡ length vs
+lists_length vs = length-map vs (λ (v : Vec Named Global). v.items)
+
+-- no mark is left
+
+pub cleared_done : (stack : List Frame) (f : Frame) (busy new : List Bool) → new ≡ unmarked busy f.definition → cleared new (reverse stack) ≡ cleared busy (reverse (stack ++ f ∷ []))
+cleared_done stack f busy new e = ap (λ b. cleared b (reverse stack)) e ∙ sym (ap (cleared busy) (reverse-append stack (f ∷ [])))
+
+pub cleared_left : (stack : List Frame) (f g : Frame) (busy : List Bool) → g.definition ≡ f.definition → cleared busy (reverse (stack ++ g ∷ [])) ≡ cleared busy (reverse (stack ++ f ∷ []))
+cleared_left stack f g busy d =
+    ap (cleared busy) (reverse-append stack (g ∷ []))
+    ∙ ap (λ m. cleared (unmarked busy m) (reverse stack)) d
+    ∙ sym (ap (cleared busy) (reverse-append stack (f ∷ [])))
+
+pub cleared_replaced : (stack : List Frame) (f g n : Frame) (busy : List Bool) (k : ℕ) → get_or busy k false ≡ false → g.definition ≡ f.definition → n.definition ≡ Some k → cleared (set busy k true) (reverse ((stack ++ g ∷ []) ++ n ∷ [])) ≡ cleared busy (reverse (stack ++ f ∷ []))
+cleared_replaced stack f g n busy k free d mark =
+    ap (cleared (set busy k true)) (reverse-append (stack ++ g ∷ []) (n ∷ []))
+    ∙ ap (λ b. cleared b (reverse (stack ++ g ∷ []))) (ap (unmarked (set busy k true)) mark ∙ set_back busy k free)
+    ∙ cleared_left stack f g busy d

@@ -1,5 +1,5 @@
 -- The walk over a text's tokens: what stands at a place, and what the code keeps.
-use Rattle.std.proofs.Common.{ℕ, zero, suc, ◌+◌, ◌-◌, ◌<◌, ◌≤◌, ◌≡◌, Bool, true, false, cond, Option, Some, None, Result, Ok, Err, List, [], ◌∷◌, ◌++◌, length, take, drop, get_or, map, min, arith, ap, ap₂, sym, ◌∙◌, subst, refl, append_assoc, append-nil, drop-cons, add-one, length-drop}
+use Rattle.std.proofs.Common.{ℕ, zero, suc, ◌+◌, ◌-◌, ◌<◌, ◌≤◌, ◌≡◌, Bool, true, false, cond, Option, Some, None, Result, Ok, Err, List, [], ◌∷◌, ◌++◌, length, take, drop, get_or, arith, ap, ap₂, sym, ◌∙◌, subst, refl, append_assoc, drop-cons, add-one, length-drop}
 use Rattle.std.specs.Prelude.{All}
 use Rattle.std.proofs.lemmas.List.{drop_all, drop-drop, take_all, map-append, length-map}
 use Rattle.c_token.specs.declared.token.Tok.{Tok}
@@ -8,8 +8,8 @@ use Rattle.c_pre.specs.declared.PreError.TheVariants as error
 use Rattle.c_pre.specs.declared.program.Free.{Free}
 use Rattle.c_pre.specs.declared.directive.Definition.{Definition}
 use Rattle.c_pre.specs.Words.{is_hash}
-use Rattle.c_pre.specs.Directive.{Table, Said, table_of, entry_of, line_of}
-use Rattle.c_pre.specs.Items.{Item, Outside, List_of, Bad, after_line, line_length, items, first_excluded, or_else, first_word, first_bad, free_tokens, free_view, Takes, Walks, IsWordOf, IsFree}
+use Rattle.c_pre.specs.Directive.{Table, table_of, entry_of, line_of}
+use Rattle.c_pre.specs.Items.{Item, Outside, Bad, after_line, line_length, items, first_excluded, or_else, first_word, first_bad, free_tokens, free_view, Takes, Walks, IsWordOf, IsFree}
 
 -- a front of a longer front
 take_shorter : {A : Type 0} (k n : ℕ) (xs : List A) → k ≤ n → take k (take n xs) ≡ take k xs

@@ -9,7 +9,7 @@ use Rattle.c_pre.specs.declared.PreError.{PreError}
 use Rattle.c_pre.specs.declared.PreError.TheVariants as error
 use Rattle.c_pre.specs.Words.{is_excluded, is_hash, same_words}
 use Rattle.c_pre.specs.Directive.{Table, Said, Nothing, Defines, Wrong, position_of, line_of}
-use Rattle.c_pre.specs.Replace.{events_of, limited, list_at}
+use Rattle.c_pre.specs.Replace.{Event, events_of, limited, list_at}
 
 -- A token outside directives with the definitions before it, the list of a good definition, or a line
 -- with a bad directive.
@@ -90,6 +90,10 @@ program_of text raw =
 -- the tokens outside directives so far, each with how many definitions stand before it
 abbrev pub free_view : Table → List Free → List (Table × ℕ × List Tok)
 free_view table fs = map (λ f. (take f.known table, f.line, f.token.now)) fs
+
+-- what becomes of them
+abbrev pub events : List ℕ → Table → List Free → List Event
+events text table fs = flat_map (events_of text) (free_view table fs)
 
 -- What adding a definition does to the table.
 abbrev pub Adds : List ℕ → List ℕ → List Tok → Table → Table → Result Bool PreError → Type 0

@@ -1,4 +1,5 @@
 pub mod Words
 pub mod Directive
 pub mod Replace
+pub mod LookedUp
 pub mod Items

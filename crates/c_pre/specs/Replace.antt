@@ -1,5 +1,5 @@
 -- Names and what they stand for (ISO/IEC 9899:1990, 6.8.3, for names without parameters).
-use Rattle.std.specs.Prelude.{ℕ, zero, suc, ◌+◌, ◌-◌, Bool, true, false, if◌then◌else◌, List, [], ◌∷◌, ◌++◌, length, map, replicate, Option, Some, None, Result, Ok, Err, slice_index_or, slice_set, reverse, IfSome, ◌≡◌, ◌<◌, ◌≤◌}
+use Rattle.std.specs.Prelude.{ℕ, zero, suc, ◌+◌, Bool, true, false, if◌then◌else◌, List, [], ◌∷◌, ◌++◌, length, map, replicate, Option, Some, None, Result, Ok, Err, slice_index_or, slice_set, IfSome, ◌≡◌, ◌<◌, ◌≤◌}
 use Rattle.std.specs.List.{flat_map}
 use Rattle.c_token.specs.declared.token.Tok.{Tok}
 use Rattle.c_pre.specs.declared.PreError.{PreError}
@@ -18,13 +18,13 @@ pub data Event : Type 0 where
 abbrev pub at_line : ℕ → Tok → Tok
 at_line line t = record t { line = line }
 
+abbrev pub if_open : List Bool → Option ℕ → Option ℕ
+if_open busy None = None
+if_open busy (Some k) = if slice_index_or busy k false then None else Some k
+
 -- which definition a token's name has, if its replacement isn't under way
 unfoldable pub open_definition : List ℕ → Table → List Bool → Tok → Option ℕ
-open_definition text table busy t = if is_name t.kind then if_open (position_of table (word_of text t)) else None
-  where
-    if_open : Option ℕ → Option ℕ
-    if_open None = None
-    if_open (Some k) = if slice_index_or busy k false then None else Some k
+open_definition text table busy t = if is_name t.kind then if_open busy (position_of table (word_of text t)) else None
 
 abbrev pub list_at : Table → ℕ → List Tok
 list_at table k = (slice_index_or table k ([], [])).1
@@ -84,20 +84,10 @@ abbrev pub unmarked : List Bool → Option ℕ → List Bool
 unmarked busy None = busy
 unmarked busy (Some k) = slice_set busy k false
 
--- what lists that wait, the innermost first, still become
-unfoldable pub pending : ℕ → List ℕ → Table → ℕ → List Bool → List Frame → List Event
-pending depth text table line busy [] = []
-pending depth text table line busy (f ∷ below) =
-    replace depth text table line busy f.rest.now ++ pending (suc depth) text table line (unmarked busy f.definition) below
-
 -- how many definitions aren't under way
 abbrev pub free_count : List Bool → ℕ
 free_count [] = 0
 free_count (b ∷ bs) = (if b then 0 else 1) + free_count bs
-
--- What waits, the outermost list first: the lists, and the marks of what is under way.
-abbrev pub waiting : List ℕ → Table → ℕ → List Bool → List Frame → List Event
-waiting text table line busy stack = pending (length table + 1 - length stack) text table line busy (reverse stack)
 
 -- as many definitions are free as may still be entered, and each list that waits has its definition
 abbrev pub IsInStep : ℕ → List Bool → List Frame → Type 0

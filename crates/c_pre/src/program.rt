@@ -1,12 +1,16 @@
 //! A text's tokens, line by line, and the program that they are.
 
-ghost use Rattle.std.specs.Prelude.{◌≡◌, ◌≤◌, ◌++◌, ◌∷◌, [], None, Some, length, take, OnOk, IfOk, IfErr, All, if◌then◌else◌};
-ghost use Rattle.c_pre.specs.Items.{line_length, first_excluded, first_word, items, or_else, Adds, Takes, Walks, IsWordOf, IsFree, Gives, program_of};
+ghost use Rattle.std.specs.Prelude.{◌≡◌, ◌≤◌, ◌++◌, ◌∷◌, [], None, Some, length, take, OnOk, IfOk, IfErr, All, if◌then◌else◌, replicate, false};
+ghost use Rattle.c_pre.specs.Items.{line_length, first_excluded, first_word, items, or_else, Adds, Takes, Walks, IsWordOf, IsFree, Gives, events, program_of};
+ghost use Rattle.c_pre.specs.Replace.{limited};
 ghost use Rattle.c_pre.specs.Directive.{Defines, table_of, line_of};
+ghost use Rattle.c_pre.specs.LookedUp.{IsIndexed};
+ghost use Rattle.c_pre.specs.declared.PreError.TheVariants.{NoMemory};
 
 use crate::PreError;
 use crate::directive::{Definition, Line, line_of};
-use crate::replace::{Output, position_of, replace};
+use crate::names::{Definitions, no_definitions};
+use crate::replace::{Output, replace};
 use crate::words::{is_excluded, is_hash, same_words};
 use c_token::Tok;
 use std::alloc::Global;
@@ -52,20 +56,20 @@ fn first_excluded(text: &[u8], tokens: &[Tok]) -> Option<u32>
 #[tactic(auto, using(crate::proofs::Defining::adds_new, crate::proofs::Defining::same_name, crate::proofs::Defining::other_name, crate::proofs::Waiting::list_of_definition))]
 fn add<'a>(
     text: &[u8],
-    definitions: &mut Vec<Definition<'a>>,
+    definitions: &mut Definitions<'a>,
     definition: Definition<'a>,
 ) -> Result<bool, PreError>
-    ensures grows { length definitions.old.items ≤ length definitions.new.items }
-    ensures keeps { take (length definitions.old.items) definitions.new.items ≡ definitions.old.items }
+    requires { IsIndexed definitions.old }
+    ensures indexed { OnOk result (IsIndexed definitions.new) }
+    ensures grows { length definitions.old.list.items ≤ length definitions.new.list.items }
+    ensures keeps { take (length definitions.old.list.items) definitions.new.list.items ≡ definitions.old.list.items }
     ensures adds { Adds text.now definition.entry.name.now definition.entry.list.now
-        (table_of definitions.old.items) (table_of definitions.new.items) result }
+        (table_of definitions.old.list.items) (table_of definitions.new.list.items) result }
 {
-    match position_of(definitions, definition.name) {
-        Some(k) => Ok(same_words(text, definitions[k].list, definition.list)),
+    match definitions.place(definition.name) {
+        Some(k) => Ok(same_words(text, definitions.list[k].list, definition.list)),
         None => {
-            if definitions.push(definition).is_err() {
-                return Err(PreError::NoMemory);
-            }
+            definitions.push(definition)?;
             Ok(true)
         }
     }
@@ -75,13 +79,15 @@ fn add<'a>(
 #[tactic(auto, using(crate::proofs::Defining::takes_good, crate::proofs::Defining::takes_word, crate::proofs::Defining::takes_bad))]
 fn define<'a>(
     text: &[u8],
-    definitions: &mut Vec<Definition<'a>>,
+    definitions: &mut Definitions<'a>,
     definition: Definition<'a>,
 ) -> Result<bool, PreError>
-    ensures grows { length definitions.old.items ≤ length definitions.new.items }
-    ensures keeps { take (length definitions.old.items) definitions.new.items ≡ definitions.old.items }
+    requires { IsIndexed definitions.old }
+    ensures indexed { OnOk result (IsIndexed definitions.new) }
+    ensures grows { length definitions.old.list.items ≤ length definitions.new.list.items }
+    ensures keeps { take (length definitions.old.list.items) definitions.new.list.items ≡ definitions.old.list.items }
     ensures takes { Takes text.now (Defines definition.entry.name.now definition.entry.list.now)
-        (table_of definitions.old.items) (table_of definitions.new.items) result }
+        (table_of definitions.old.list.items) (table_of definitions.new.list.items) result }
 {
     let is_good = add(text, definitions, definition)?;
     if !is_good {
@@ -97,13 +103,15 @@ fn define<'a>(
 #[tactic(auto, using(crate::proofs::Defining::takes_nothing, crate::proofs::Defining::takes_wrong))]
 fn take_line<'a>(
     text: &'a [u8],
-    definitions: &mut Vec<Definition<'a>>,
+    definitions: &mut Definitions<'a>,
     tokens: &'a [Tok],
 ) -> Result<bool, PreError>
-    ensures grows { length definitions.old.items ≤ length definitions.new.items }
-    ensures keeps { take (length definitions.old.items) definitions.new.items ≡ definitions.old.items }
+    requires { IsIndexed definitions.old }
+    ensures indexed { OnOk result (IsIndexed definitions.new) }
+    ensures grows { length definitions.old.list.items ≤ length definitions.new.list.items }
+    ensures keeps { take (length definitions.old.list.items) definitions.new.list.items ≡ definitions.old.list.items }
     ensures takes { Takes text.now (line_of text.now tokens.now)
-        (table_of definitions.old.items) (table_of definitions.new.items) result }
+        (table_of definitions.old.list.items) (table_of definitions.new.list.items) result }
 {
     match line_of(text, tokens) {
         Line::Nothing => Ok(true),
@@ -136,7 +144,7 @@ fn take_token<'a>(
 /// A text's definitions, its tokens outside directives, and the first line that has a bad directive.
 #[derive(Drop)]
 pub struct Walked<'a> {
-    pub definitions: Vec<Definition<'a>>,
+    pub definitions: Definitions<'a>,
     pub free: Vec<Free<'a>>,
     pub wrong: Option<u32>,
 }
@@ -153,11 +161,12 @@ fn first_wrong(wrong: Option<u32>, is_good: bool, line: u32) -> Option<u32>
 
 // Goes over a text's tokens, line by line.
 fn walk<'a>(alloc: Global, text: &'a [u8], raw: &'a [Tok]) -> Result<Walked<'a>, PreError>
-    ensures walks { IfOk result (λ w. Walks text.now (items text.now raw.now 0 []) (table_of w.definitions.items) w.free.items w.wrong []) }
-    ensures free { IfOk result (λ w. All (IsFree (length w.definitions.items)) w.free.items) }
+    ensures walks { IfOk result (λ w. Walks text.now (items text.now raw.now 0 []) (table_of w.definitions.list.items) w.free.items w.wrong []) }
+    ensures indexed { IfOk result (λ w. IsIndexed w.definitions) }
+    ensures free { IfOk result (λ w. All (IsFree (length w.definitions.list.items)) w.free.items) }
     ensures word { IfErr result (λ e. IsWordOf e (first_word text.now (items text.now raw.now 0 []))) }
 {
-    let mut definitions: Vec<Definition<'_>> = Vec::new(alloc);
+    let mut definitions = no_definitions(alloc);
     let mut free: Vec<Free<'_>> = Vec::new(alloc);
     let mut wrong = None;
     let mut at = 0;
@@ -174,7 +183,7 @@ fn walk<'a>(alloc: Global, text: &'a [u8], raw: &'a [Tok]) -> Result<Walked<'a>,
                 &mut free,
                 &raw[at..at + 1],
                 token.line,
-                definitions.len(),
+                definitions.list.len(),
             )?;
             at += 1;
         }
@@ -184,6 +193,49 @@ fn walk<'a>(alloc: Global, text: &'a [u8], raw: &'a [Tok]) -> Result<Walked<'a>,
         free,
         wrong,
     })
+}
+
+// As many marks as there are definitions, none of which is under way.
+fn no_marks(alloc: Global, count: usize) -> Result<Vec<bool>, PreError>
+    ensures ok { IfOk result (λ v. v.items ≡ replicate count false) }
+    ensures err { IfErr result (λ e. e ≡ NoMemory) }
+{
+    match vec![in alloc; false; count] {
+        Ok(marks) => Ok(marks),
+        Err(_) => Err(PreError::NoMemory),
+    }
+}
+
+// Replaces the names of the tokens outside directives.
+fn replace_all<'a>(
+    alloc: Global,
+    text: &'a [u8],
+    definitions: &Definitions<'a>,
+    free: &[Free<'a>],
+) -> Result<Vec<Tok>, PreError>
+    requires indexed { IsIndexed definitions.now }
+    requires free { All (IsFree (length definitions.now.list.items)) free.now }
+    ensures { Gives result (limited 262144 (events text.now (table_of definitions.now.list.items) free.now)) }
+{
+    let lists = definitions.lists(alloc, text)?;
+    let mut marks = no_marks(alloc, lists.len())?;
+    let busy: &mut [bool] = &mut marks;
+    let mut output = Output {
+        tokens: Vec::new(alloc),
+        room: LIMIT,
+    };
+    for item in free {
+        let named = [definitions.look_up(text, item.token[0])];
+        replace(
+            alloc,
+            &lists[..item.known],
+            item.line,
+            &named,
+            &mut busy[..item.known],
+            &mut output,
+        )?;
+    }
+    Ok(output.tokens)
 }
 
 /// The tokens of a program (ISO/IEC 9899:1990, 6.8): those of the text outside directive lines, where
@@ -200,19 +252,5 @@ pub fn tokens(alloc: Global, text: &[u8], raw: &[Tok]) -> Result<Vec<Tok>, PreEr
     if let Some(line) = wrong {
         return Err(PreError::Directive { line });
     }
-    let mut output = Output {
-        tokens: Vec::new(alloc),
-        room: LIMIT,
-    };
-    for item in &free {
-        replace(
-            alloc,
-            text,
-            &definitions[..item.known],
-            item.line,
-            item.token,
-            &mut output,
-        )?;
-    }
-    Ok(output.tokens)
+    replace_all(alloc, text, &definitions, &free)
 }

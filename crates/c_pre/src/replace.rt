@@ -1,13 +1,12 @@
 //! The replacement of names by what they stand for.
 
-ghost use Rattle.std.specs.Prelude.{◌≡◌, ◌<◌, ◌≤◌, [], ◌∷◌, false, length, replicate, IfSome, OnOk, IfErr, ◌+◌, ◌++◌, ◌*◌, vec_len, All, MatchOption, slice_index_or};
-ghost use Rattle.c_pre.specs.Directive.{position_of, table_of};
+ghost use Rattle.std.specs.Prelude.{◌≡◌, ◌<◌, ◌≤◌, [], ◌∷◌, false, length, replicate, reverse, IfSome, OnOk, IfErr, ◌+◌, ◌++◌, ◌*◌, All, MatchOption, slice_index_or};
 ghost use Rattle.c_pre.specs.declared.PreError.TheVariants.{NoMemory};
-ghost use Rattle.c_pre.specs.Replace.{Left, Replaced, Passes, open_definition, replace, unmarked, waiting, IsInStep, IsMark, Moves};
+ghost use Rattle.c_pre.specs.Replace.{Left, Replaced, Passes, unmarked, IsInStep, IsMark, Moves};
+ghost use Rattle.c_pre.specs.LookedUp.{lists_of, open_at, replace_list, waiting, cleared};
 
 use crate::PreError;
-use crate::directive::Definition;
-use crate::words::{is_name, spells, word_of};
+use crate::names::Named;
 use c_token::Tok;
 use std::alloc::Global;
 
@@ -21,7 +20,7 @@ pub struct Output {
 /// The tokens of a list that are still to be read, and the definition whose list it is.
 #[derive(Clone, Copy)]
 pub struct Frame<'a> {
-    pub rest: &'a [Tok],
+    pub rest: &'a [Named],
     pub definition: Option<usize>,
 }
 
@@ -54,37 +53,16 @@ fn count_name(output: &mut Output, line: u32) -> Result<(), PreError>
     Ok(())
 }
 
-// Which definition a word has.
-#[tactic(auto, using(crate::proofs::Tables::looks_first, crate::proofs::Tables::looks_found, crate::proofs::Tables::looks_on, crate::proofs::Tables::looks_nowhere))]
-pub fn position_of(definitions: &[Definition<'_>], word: &[u8]) -> Option<usize>
-    ensures value { result ≡ position_of (table_of definitions.now) word.now }
-    ensures bound { IfSome result (λ k. k < length definitions.now) }
-{
-    for (i, definition) in definitions.iter().enumerate() {
-        if spells(definition.name, word) {
-            return Some(i);
-        }
-    }
-    None
-}
-
-// Which definition a token's name has, if its replacement isn't under way.
-#[tactic(auto, unfolding(crate::specs::Replace::open_definition))]
-fn open_definition(
-    text: &[u8],
-    definitions: &[Definition<'_>],
-    busy: &[bool],
-    token: Tok,
-) -> Option<usize>
-    requires { length busy.now ≡ length definitions.now }
-    ensures value { result ≡ open_definition text.now (table_of definitions.now) busy.now token }
+// Which definition a token's name has, if it is known at the place and its replacement isn't under way.
+fn open_definition(busy: &[bool], named: Named) -> Option<usize>
+    ensures value { result ≡ open_at busy.now named.definition }
     ensures is_free { IfSome result (λ k. slice_index_or busy.now k false ≡ false) }
-    ensures bound { IfSome result (λ k. k < length definitions.now) }
+    ensures bound { IfSome result (λ k. k < length busy.now) }
 {
-    if !is_name(token.kind) {
+    let k = named.definition?;
+    if k >= busy.len() {
         return None;
     }
-    let k = position_of(definitions, word_of(text, token))?;
     if busy[k] { None } else { Some(k) }
 }
 
@@ -100,9 +78,9 @@ fn push<'a>(stack: &mut Vec<Frame<'a>>, frame: Frame<'a>) -> Result<(), PreError
 }
 
 // The definition isn't under way any more.
-fn unmark(busy: &mut Vec<bool>, definition: Option<usize>)
-    requires { IfSome definition (λ k. k < vec_len busy.old) }
-    ensures { busy.new.items ≡ unmarked busy.old.items definition }
+fn unmark(busy: &mut [bool], definition: Option<usize>)
+    requires { IfSome definition (λ k. k < length busy.old) }
+    ensures { busy.new ≡ unmarked busy.old definition }
 {
     if let Some(k) = definition {
         busy[k] = false;
@@ -110,33 +88,34 @@ fn unmark(busy: &mut Vec<bool>, definition: Option<usize>)
 }
 
 // The first token of a list, and the others.
-fn front(list: &[Tok]) -> Option<(Tok, &[Tok])>
+fn front(list: &[Named]) -> Option<(Named, &[Named])>
     ensures { MatchOption result (list.now ≡ []) (λ x. list.now ≡ x.0 ∷ x.1.now) }
 {
     match list {
         [] => None,
-        [token, rest @ ..] => Some((*token, rest)),
+        [named, rest @ ..] => Some((*named, rest)),
     }
 }
 
 // Takes a step at the innermost list, which was taken from the stack.
 fn step<'a>(
-    text: &[u8],
-    definitions: &[Definition<'a>],
+    lists: &'a [Vec<Named>],
     line: u32,
     frame: Frame<'a>,
-    busy: &mut Vec<bool>,
+    busy: &mut [bool],
     stack: &mut Vec<Frame<'a>>,
     output: &mut Output,
 ) -> Result<(), PreError>
-    requires in_step { IsInStep (length definitions.now) busy.old.items (frame ∷ stack.old.items) }
-    requires mark { IsMark (length definitions.now) frame }
-    requires marks { All (IsMark (length definitions.now)) stack.old.items }
+    requires in_step { IsInStep (length lists.now) busy.old (frame ∷ stack.old.items) }
+    requires mark { IsMark (length lists.now) frame }
+    requires marks { All (IsMark (length lists.now)) stack.old.items }
     ensures moves { Moves output.old output.new result
-        (waiting text.now (table_of definitions.now) line busy.old.items (stack.old.items ++ frame.entry ∷ []))
-        (waiting text.now (table_of definitions.now) line busy.new.items stack.new.items) }
-    ensures in_step { OnOk result (IsInStep (length definitions.now) busy.new.items stack.new.items) }
-    ensures marks { OnOk result (All (IsMark (length definitions.now)) stack.new.items) }
+        (waiting (lists_of lists.now) line busy.old (stack.old.items ++ frame.entry ∷ []))
+        (waiting (lists_of lists.now) line busy.new stack.new.items) }
+    ensures in_step { OnOk result (IsInStep (length lists.now) busy.new stack.new.items) }
+    ensures marks { OnOk result (All (IsMark (length lists.now)) stack.new.items) }
+    ensures cleared { OnOk result (cleared busy.new (reverse stack.new.items)
+        ≡ cleared busy.old (reverse (stack.old.items ++ frame.entry ∷ []))) }
     ensures falls { OnOk result
         (2 * output.new.room + length stack.new.items < 2 * output.old.room + length stack.old.items + 1) }
 {
@@ -145,13 +124,14 @@ fn step<'a>(
             unmark(busy, frame.definition);
             Ok(())
         }
-        Some((token, rest)) => {
+        Some((named, rest)) => {
             let behind_it = Frame {
                 rest,
                 definition: frame.definition,
             };
-            match open_definition(text, definitions, busy, token) {
+            match open_definition(busy, named) {
                 None => {
+                    let token = named.token;
                     leave(output, Tok { line, ..token })?;
                     push(stack, behind_it)?;
                     Ok(())
@@ -163,7 +143,7 @@ fn step<'a>(
                     push(
                         stack,
                         Frame {
-                            rest: definitions[k].list,
+                            rest: &lists[k],
                             definition: Some(k),
                         },
                     )?;
@@ -174,22 +154,22 @@ fn step<'a>(
     }
 }
 
-/// Replaces the names of a list that stands on a line, from left to right, by the definitions before
-/// it, and puts what is left behind the output.
+/// Replaces the names of tokens that stand on a line, from left to right, by the lists of the
+/// definitions before it, and puts what is left behind the output. No definition is marked as under
+/// way, before and afterwards.
 pub fn replace<'a>(
     alloc: Global,
-    text: &[u8],
-    definitions: &[Definition<'a>],
+    lists: &'a [Vec<Named>],
     line: u32,
-    tokens: &'a [Tok],
+    tokens: &'a [Named],
+    busy: &mut [bool],
     output: &mut Output,
 ) -> Result<(), PreError>
-    ensures { Passes output.old output.new result
-        (replace (length definitions.now) text.now (table_of definitions.now) line (replicate (length definitions.now) false) tokens.now) }
+    requires { busy.old ≡ replicate (length lists.now) false }
+    ensures passes { Passes output.old output.new result
+        (replace_list (length lists.now) (lists_of lists.now) line (replicate (length lists.now) false) tokens.now) }
+    ensures unmarked { OnOk result (busy.new ≡ replicate (length lists.now) false) }
 {
-    let Ok(mut busy) = vec![in alloc; false; definitions.len()] else {
-        return Err(PreError::NoMemory);
-    };
     let mut stack = Vec::new(alloc);
     push(
         &mut stack,
@@ -199,15 +179,7 @@ pub fn replace<'a>(
         },
     )?;
     while let Some(frame) = stack.pop() {
-        step(
-            text,
-            definitions,
-            line,
-            frame,
-            &mut busy,
-            &mut stack,
-            output,
-        )?;
+        step(lists, line, frame, busy, &mut stack, output)?;
     }
     Ok(())
 }

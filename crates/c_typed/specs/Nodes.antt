@@ -13,7 +13,7 @@ use Rattle.c_typed.specs.declared.statement.TArm.{TArm}
 use Rattle.c_typed.specs.declared.statement.TStmt.TheOpen as OpenStmt
 use Rattle.c_typed.specs.declared.statement.TStmt.TheFolds.{fold-TStmt, fold-TArm}
 use Rattle.c_typed.specs.declared.program.Function.{Function}
-use Rattle.c_typed.specs.declared.program.Typed.{Typed}
+use Rattle.c_typed.specs.declared.program.Static.{Static}
 
 -- a count as far as a number of 64 bits holds it
 abbrev pub capped : ℕ → ℕ
@@ -100,5 +100,14 @@ last_nodes (Some last) = statement_nodes last.value
 abbrev pub function_nodes : Function → ℕ
 function_nodes f = 1 + total (map statement_nodes f.body.items)
 
-abbrev pub program_nodes : Typed → ℕ
-program_nodes p = total (map function_nodes p.functions.items)
+-- the nodes of a program with these functions
+abbrev pub program_nodes : List Function → ℕ
+program_nodes functions = total (map function_nodes functions)
+
+-- the parameters and locals of a function
+abbrev pub variables : Function → ℕ
+variables f = length f.params.items + length f.locals.items
+
+-- Nodes, static objects, parameters and locals together.
+abbrev pub program_size : List Static → List Function → ℕ
+program_size statics functions = program_nodes functions + length statics + total (map variables functions)

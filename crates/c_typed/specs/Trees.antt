@@ -106,8 +106,21 @@ pub record FunctionTree : Type 0 where
   pub interrupt : Bool
   pub line : ℕ
 
--- a program; of each structure how many bytes it has
+-- a member of a structure, and how many bytes stand before it
+pub record MemberTree : Type 0 where
+  pub ty : Qualified
+  pub offset : ℕ
+
+-- A structure: its members in order, and how many bytes it has. One that never got a body has no members.
+pub record StructureTree : Type 0 where
+  pub members : List MemberTree
+  pub size : ℕ
+
+-- A program: what pointers point to and arrays have elements of, the structures, of each structure how many bytes it
+-- has once more, the static objects and the functions.
 pub record Program : Type 0 where
+  pub targets : List Qualified
+  pub structures : List StructureTree
   pub sizes : List ℕ
   pub statics : List StaticTree
   pub functions : List FunctionTree

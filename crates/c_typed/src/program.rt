@@ -1,8 +1,10 @@
 //! A typed program.
 
-ghost use Rattle.std.specs.Prelude.{◌≡◌, map};
+ghost use Rattle.std.specs.Prelude.{◌≡◌, ◌≤◌, ◌^◌, true, map};
+ghost use Rattle.c_typed.specs.Nodes.{program_size};
+ghost use Rattle.c_typed.specs.Shown.{program_from, size_of};
+ghost use Rattle.c_typed.specs.Sound.{is_sound};
 ghost use Rattle.c_typed.specs.Types.{type_bytes};
-ghost use Rattle.c_typed.specs.Views.{size_of};
 
 use crate::statement::TStmt;
 use crate::types::{Qualified, Structure, Ty, bytes_of};
@@ -55,12 +57,17 @@ pub struct Function {
 
 /// A typed program: the types that are pointed to and that arrays have elements of, the structures, the
 /// static objects in order of declaration, and the functions in order of definition.
+///
+/// What each node names is there with its declared type, and at each node the typing rules hold (ISO/IEC
+/// 9899:1990, 6.3 and 6.6). Nodes, static objects, parameters and locals are together at most 2 to the 28.
 #[derive(Drop)]
 pub struct Typed {
     pub targets: Vec<Qualified>,
     pub structures: Vec<Structure>,
     pub statics: Vec<Static>,
     pub functions: Vec<Function>,
+    pub ghost sound: { is_sound (program_from targets.items structures.items statics.items functions.items) ≡ true },
+    pub ghost small: { program_size statics.items functions.items ≤ 2 ^ 28 },
 }
 
 /// What breaks the rules on main and on the interrupt handler: no function main; a main that isn't void

@@ -1,3 +1,12 @@
+pub mod Additions
 pub mod Appends
 pub mod CallLists
+pub mod Callers
+pub mod Marking
+pub mod Pigeons
+pub mod Reaching
+pub mod Results
+pub mod Rising
 pub mod Searches
+pub mod Turns
+pub mod Ways

@@ -1,5 +1,6 @@
 -- Loops that look for an element of a list that passes a test.
-use Rattle.std.proofs.Common.{◌≡◌, ℕ, ◌+◌, ◌<◌, ◌≤◌, Bool, true, false, ◌||◌, if◌then◌else◌, List, length, get_or, map, drop, sym, ap, ◌∙◌, arith, ◌&&◌}
+use Rattle.std.proofs.Common.{◌≡◌, ℕ, ◌+◌, ◌<◌, ◌≤◌, Bool, true, false, ◌||◌, if◌then◌else◌, List, [], ◌∷◌, Option, Some, None, length, get_or, map, drop, sym, ap, ◌∙◌, arith, ◌&&◌}
+use Rattle.call_graph.specs.Copies.{first_from}
 use Rattle.call_graph.specs.Rows.{rows_of}
 use Rattle.std.specs.Global.{Global}
 use Rattle.std.specs.declared.vec.Vec.{Vec}
@@ -57,3 +58,28 @@ either b r left whole is holds so_far = sym (is ∙ ap (λ v. v || r) holds) ∙
 
 pub other : (b r left whole : Bool) → left ≡ (b || r) → b ≡ false → left ≡ whole → r ≡ whole
 other b r left whole is fails so_far = sym (is ∙ ap (λ v. v || r) fails) ∙ so_far
+
+-- the first function that passes a test
+abbrev pub first_in : (FunctionTree → Bool) → List Function → ℕ → Option ℕ
+first_in test fs number = first_from test (map function_of fs) number
+
+first_of : (test : FunctionTree → Bool) (fs : List Function) (i : ℕ) (f : Function) → i < length fs → f ≡ get_or fs i f → first_in test (drop i fs) i ≡ (if test (function_of f) then Some i else first_in test (drop (i + 1) fs) (i + 1))
+first_of test fs i f lt is = at_drop_more (λ gs. first_in test gs i) fs i f lt ∙ ap (λ g. if test (function_of g) then Some i else first_in test (drop (i + 1) fs) (i + 1)) (sym is)
+
+pub first_found : (test : FunctionTree → Bool) (fs : List Function) (i : ℕ) (f : Function) (whole : Option ℕ) → i < length fs → f ≡ get_or fs i f → test (function_of f) ≡ true → first_in test (drop i fs) i ≡ whole → Some i ≡ whole
+first_found test fs i f whole lt is passes so_far = sym (first_of test fs i f lt is ∙ ap (λ (b : Bool). if b then Some i else first_in test (drop (i + 1) fs) (i + 1)) passes) ∙ so_far
+
+pub first_on : (test : FunctionTree → Bool) (fs : List Function) (i : ℕ) (f : Function) (whole : Option ℕ) → i < length fs → f ≡ get_or fs i f → test (function_of f) ≡ false → first_in test (drop i fs) i ≡ whole → first_in test (drop (i + 1) fs) (i + 1) ≡ whole
+first_on test fs i f whole lt is fails so_far = sym (first_of test fs i f lt is ∙ ap (λ (b : Bool). if b then Some i else first_in test (drop (i + 1) fs) (i + 1)) fails) ∙ so_far
+
+pub first_nowhere : (test : FunctionTree → Bool) (fs : List Function) (i : ℕ) (whole : Option ℕ) → length fs ≤ i → first_in test (drop i fs) i ≡ whole → None ≡ whole
+first_nowhere test fs i whole past so_far = sym (ap (λ gs. first_in test gs i) (drop_all i fs past)) ∙ so_far
+
+first_cases : (f : FunctionTree) (fs : List FunctionTree) (i m : ℕ) (rest : Option ℕ) (b : Bool) → (rest ≡ Some m → m < i + 1 + length fs) → (if b then Some i else rest) ≡ Some m → m < i + length (f ∷ fs)
+first_cases f fs i m rest true later e = let same : i ≡ m = cc in omega arith
+first_cases f fs i m rest false later e = let lt = later e in omega (arith, lt)
+
+-- the first that passes is one of them
+pub first_within : (test : FunctionTree → Bool) (fs : List FunctionTree) (i m : ℕ) → first_from test fs i ≡ Some m → m < i + length fs
+first_within test [] i m is = absurd cc
+first_within test (f ∷ fs) i m is = first_cases f fs i m (first_from test fs (i + 1)) (test f) (λ e. first_within test fs (i + 1) m e) is

@@ -1,101 +1,89 @@
 //! The copies of functions.
 
-ghost use Rattle.std.specs.Prelude.{◌≤◌, ◌<◌, ◌^◌, length};
+ghost use Rattle.std.specs.Prelude.{◌≡◌, ◌≤◌, ◌^◌, length, Some, None, IfOk};
+ghost use Rattle.c_typed.specs.Chains.{graph_of};
 ghost use Rattle.c_typed.specs.Roots.{broken_root};
 ghost use Rattle.c_typed.specs.Views.{program_of};
-ghost use Rattle.call_graph.specs.Answers.{TellsRoots};
+ghost use Rattle.call_graph.specs.Answers.{TellsRoots, TellsRecursion, TellsDepth};
+ghost use Rattle.call_graph.specs.Copies.{AreCopies, root_of, name_at};
+ghost use Rattle.call_graph.specs.Levels.{IsAcyclic};
+ghost use Rattle.call_graph.specs.Rows.{rows_of};
+ghost use Rattle.pic_chip.specs.declared.Root.TheVariants as entry;
 
-use crate::graph::{graph_of, id_of};
-use crate::levels::{greatest, levels, recursive};
-use crate::roots::find_roots;
-use crate::types::{Copies, FnCopy, GraphError};
+use crate::graph::graph_of;
+use crate::levels::{levels_from, recursive};
+use crate::listing::{depth_of, handler_levels, list_of};
+use crate::roots::{Roots, find_roots};
+use crate::types::{Copies, GraphError};
 use c_typed::Typed;
-use pic_chip::Root;
 use std::alloc::{AllocError, Global};
 
 /// The deepest chain of calls that the chip's return stack of eight words has room for.
 pub const DEEPEST: u32 = 8;
 
-// How many words of the return stack the calls of a root take.
-fn depth_of(levels: &[u32]) -> u32 {
-    greatest(levels).saturating_sub(1)
-}
-
-fn put_level(
-    list: &mut Vec<FnCopy>,
-    functions: u32,
-    root: Root,
-    levels: &[u32],
-    level: u8,
-) -> Result<(), AllocError>
-    requires { length levels.now < 2 ^ 32 }
+fn name_of(alloc: Global, p: &Typed, number: u32) -> Result<Vec<u8>, AllocError>
+    ensures { IfOk result (λ name. name.items ≡ name_at (program_of p.now) number) }
 {
-    for (number, found) in levels.iter().enumerate() {
-        if *found == level as u32 + 1 {
-            list.push(FnCopy {
-                root,
-                function: id_of(functions, number as u32),
-                level,
-            })?;
-        }
+    let at = number as usize;
+    if at >= p.functions.len() {
+        return Ok(Vec::new(alloc));
     }
-    Ok(())
+    let name = Vec::from_slice(alloc, &p.functions[at].name)?;
+    Ok(name)
 }
 
-fn put_root(
-    list: &mut Vec<FnCopy>,
-    functions: u32,
-    root: Root,
-    levels: &[u32],
-) -> Result<(), AllocError>
-    requires { length levels.now < 2 ^ 32 }
-{
-    for level in 0u8..9 {
-        put_level(list, functions, root, levels, level)?;
-    }
-    Ok(())
-}
-
-fn name_of(alloc: Global, p: &Typed, number: u32) -> Result<Vec<u8>, AllocError> {
-    match p.functions.get(number as usize) {
-        Some(function) => function.name.clone(),
-        None => Ok(Vec::new(alloc)),
-    }
-}
-
-/// The copies of a program. A recursion is refused whether a root reaches it or not. The depth is the
-/// longest chain of calls from main, and, where there is a handler, 1 and the longest chain from it.
-pub fn copies(alloc: Global, p: &Typed) -> Result<Copies, GraphError>
-    requires { length p.now.functions.items ≤ 2 ^ 28 }
+// The copies under the roots, where no rule on them is broken and nothing reaches itself.
+fn copies_under(
+    alloc: Global,
+    p: &Typed,
+    rows: &[Vec<u32>],
+    roots: Roots,
+) -> Result<Copies, GraphError>
+    requires small { length p.now.functions.items ≤ 2 ^ 28 }
+    requires graph { rows_of rows.now ≡ graph_of (program_of p.now) }
+    requires sound { broken_root (program_of p.now) ≡ None }
+    requires acyclic { IsAcyclic (rows_of rows.now) }
+    requires main { root_of (program_of p.now) entry.Main ≡ Some roots.main }
+    requires handler { root_of (program_of p.now) entry.Isr ≡ roots.handler }
     ensures roots { TellsRoots result (broken_root (program_of p.now)) }
+    ensures recursion { TellsRecursion (program_of p.now) result }
+    ensures depth { TellsDepth (program_of p.now) result }
+    ensures list { IfOk result (λ copies. AreCopies (program_of p.now) copies.list.items) }
 {
-    let rows = graph_of(alloc, p)?;
-    let found = match find_roots(p, &rows) {
-        Ok(found) => found,
-        Err(kind) => return Err(GraphError::Roots { kind }),
-    };
-    if let Some(number) = recursive(alloc, &rows)? {
-        return Err(GraphError::Recursion {
-            function: name_of(alloc, p, number)?,
-        });
-    }
-    let functions = p.functions.len() as u32;
-    let mut list = Vec::new(alloc);
-    let from_main = levels(alloc, &rows, found.main)?;
-    put_root(&mut list, functions, Root::Main, &from_main)?;
-    let mut depth = depth_of(&from_main);
-    if let Some(handler) = found.handler {
-        let from_handler = levels(alloc, &rows, handler)?;
-        put_root(&mut list, functions, Root::Isr, &from_handler)?;
-        depth = depth
-            .saturating_add(1)
-            .saturating_add(depth_of(&from_handler));
-    }
+    let main = levels_from(alloc, rows, roots.main)?;
+    let handler = handler_levels(alloc, rows, roots.handler)?;
+    let depth = depth_of(&main, &handler);
     if depth > DEEPEST {
         return Err(GraphError::Depth { depth });
     }
+    let list = list_of(alloc, p.functions.len() as u32, &main, &handler)?;
     Ok(Copies {
         list,
         depth: depth as u8,
     })
+}
+
+/// The copies of a program, in the order in which their frames are placed, or the first reason why it has
+/// none: a broken rule on the roots, then a recursion, whether a root reaches it or not, then a depth over
+/// the eight words of the return stack.
+pub fn copies(alloc: Global, p: &Typed) -> Result<Copies, GraphError>
+    requires { length p.now.functions.items ≤ 2 ^ 28 }
+    ensures roots { TellsRoots result (broken_root (program_of p.now)) }
+    ensures recursion { TellsRecursion (program_of p.now) result }
+    ensures depth { TellsDepth (program_of p.now) result }
+    ensures list { IfOk result (λ copies. AreCopies (program_of p.now) copies.list.items) }
+{
+    let rows = graph_of(alloc, p)?;
+    let graph = rows.as_slice();
+    let found = match find_roots(p, graph) {
+        Ok(found) => found,
+        Err(kind) => return Err(GraphError::Roots { kind }),
+    };
+    match recursive(alloc, graph)? {
+        Some(number) => {
+            let function = name_of(alloc, p, number)?;
+            Err(GraphError::Recursion { function })
+        }
+        None => copies_under(alloc, p, graph, found),
+    }
 }

@@ -3,6 +3,7 @@
 ghost use Rattle.std.specs.Prelude.{◌≡◌, ◌+◌, ◌<◌, ◌≤◌, ◌^◌, ◌++◌, [], map, replicate, length, IfOk};
 ghost use Rattle.c_typed.specs.Chains as stated;
 ghost use Rattle.c_typed.specs.Views.{program_of, function_of};
+ghost use Rattle.call_graph.specs.Copies.{IsOne};
 ghost use Rattle.call_graph.specs.Rows.{rows_of};
 
 use crate::calls::put_statements_calls;
@@ -72,7 +73,8 @@ pub fn number_of(functions: u32, id: FnId) -> u32
 
 /// What has that number.
 pub fn id_of(functions: u32, number: u32) -> FnId
-    ensures { number < functions + 16 → stated.number_of functions result ≡ number }
+    ensures number { number < functions + 16 → stated.number_of functions result ≡ number }
+    ensures one { IsOne functions result }
 {
     if number < functions {
         FnId::User(number)
@@ -123,33 +125,4 @@ fn put_helpers(alloc: Global, rows: &mut Vec<Vec<u32>>) -> Result<(), AllocError
         rows.push(Vec::new(alloc))?;
     }
     Ok(())
-}
-
-// Puts a number into each row that a row names.
-fn put_caller(callers: &mut [Vec<u32>], number: u32, row: &[u32]) -> Result<(), AllocError> {
-    for callee in row {
-        if let Some(found) = callers.get_mut(*callee as usize) {
-            found.push(number)?;
-        }
-    }
-    Ok(())
-}
-
-fn no_rows(alloc: Global, count: usize) -> Result<Vec<Vec<u32>>, AllocError> {
-    let mut rows = Vec::new(alloc);
-    for _row in 0..count {
-        rows.push(Vec::new(alloc))?;
-    }
-    Ok(rows)
-}
-
-/// The numbers that call each number.
-pub fn reversed(alloc: Global, rows: &[Vec<u32>]) -> Result<Vec<Vec<u32>>, AllocError>
-    requires { length rows.now < 2 ^ 32 }
-{
-    let mut callers = no_rows(alloc, rows.len())?;
-    for (number, row) in rows.iter().enumerate() {
-        put_caller(&mut callers, number as u32, row)?;
-    }
-    Ok(callers)
 }

@@ -1,52 +1,26 @@
-//! What is reached from where, and how deep: over a graph by numbers.
+//! Recursion, and how deep the calls of a root go: over a graph by numbers.
 
-ghost use Rattle.std.specs.Prelude.{◌≡◌, ◌<◌, ◌≤◌, ◌^◌, length, IfOk};
+ghost use Rattle.std.specs.Prelude.{◌≡◌, ◌+◌, ◌<◌, ◌≤◌, ◌^◌, ◌∷◌, [], None, Some, set, replicate, length, IfOk, MatchOption, MatchBool};
+ghost use Rattle.call_graph.specs.Adding.{Measures};
+ghost use Rattle.call_graph.specs.Levels.{IsAcyclic, IsFirstRecursive};
+ghost use Rattle.call_graph.specs.Rows.{rows_of};
+ghost use Rattle.call_graph.specs.Waves.{AreAtLevel, Raised, callees};
 
+use crate::reach::{reached, row_at};
 use std::alloc::{AllocError, Global};
 
-fn no_marks(alloc: Global, count: usize) -> Result<Vec<bool>, AllocError>
-    ensures { IfOk result (λ marks. length marks.items ≡ count) }
-{
-    let marks = vec![in alloc; false; count]?;
-    Ok(marks)
-}
-
-// Marks what a row names and is not marked yet, and puts it on the stack.
-fn mark_row(marks: &mut [bool], stack: &mut Vec<u32>, row: &[u32]) -> Result<(), AllocError> {
-    for number in row {
-        if let Some(mark) = marks.get_mut(*number as usize) {
-            if !*mark {
-                *mark = true;
-                stack.push(*number)?;
-            }
-        }
-    }
-    Ok(())
-}
-
-/// For each number whether one call or more lead to it from `from`.
-pub fn reached(alloc: Global, rows: &[Vec<u32>], from: u32) -> Result<Vec<bool>, AllocError>
-    ensures { IfOk result (λ marks. length marks.items ≡ length rows.now) }
-{
-    let mut marks = no_marks(alloc, rows.len())?;
-    let mut stack = Vec::new(alloc);
-    if let Some(row) = rows.get(from as usize) {
-        mark_row(&mut marks, &mut stack, row)?;
-    }
-    for _ in 0..rows.len() {
-        let Some(number) = stack.pop() else {
-            return Ok(marks);
-        };
-        if let Some(row) = rows.get(number as usize) {
-            mark_row(&mut marks, &mut stack, row)?;
-        }
-    }
-    Ok(marks)
+/// For each number the calls of the longest chain that leads to it from a root, or nothing where none
+/// does; and the calls of the longest chain of all.
+#[derive(Drop)]
+pub struct Levels {
+    pub levels: Vec<Option<u32>>,
+    pub longest: u32,
 }
 
 /// The first number that one call or more lead back to.
 pub fn recursive(alloc: Global, rows: &[Vec<u32>]) -> Result<Option<u32>, AllocError>
     requires { length rows.now < 2 ^ 32 }
+    ensures { IfOk result (λ found. MatchOption found (IsAcyclic (rows_of rows.now)) (λ number. IsFirstRecursive (rows_of rows.now) number)) }
 {
     for number in 0..rows.len() {
         let marks = reached(alloc, rows, number as u32)?;
@@ -57,65 +31,82 @@ pub fn recursive(alloc: Global, rows: &[Vec<u32>]) -> Result<Option<u32>, AllocE
     Ok(None)
 }
 
-fn no_levels(alloc: Global, count: usize) -> Result<Vec<u32>, AllocError>
-    ensures { IfOk result (λ levels. length levels.items ≡ count) }
+fn no_levels(alloc: Global, count: usize) -> Result<Vec<Option<u32>>, AllocError>
+    ensures { IfOk result (λ levels. levels.items ≡ replicate count None) }
 {
-    let levels = vec![in alloc; 0u32; count]?;
+    let levels = vec![in alloc; None; count]?;
     Ok(levels)
 }
 
-// Raises what a row names to that level at least, and tells whether a level rose.
-fn raise_row(levels: &mut [u32], level: u32, row: &[u32]) -> bool {
-    let mut changed = false;
+pub fn is_level(found: Option<u32>, level: u32) -> bool
+    ensures { MatchBool result (found ≡ Some level) (found ≡ Some level → ⊥) }
+{
+    match found {
+        Some(found) => found == level,
+        None => false,
+    }
+}
+
+// The numbers that have this level.
+fn numbers_at(alloc: Global, levels: &[Option<u32>], level: u32) -> Result<Vec<u32>, AllocError>
+    requires { length levels.now < 2 ^ 32 }
+    ensures { IfOk result (λ numbers. AreAtLevel levels.now level numbers.items) }
+{
+    let mut numbers = Vec::new(alloc);
+    for (number, found) in levels.iter().enumerate() {
+        if is_level(*found, level) {
+            numbers.push(number as u32)?;
+        }
+    }
+    Ok(numbers)
+}
+
+fn raise(levels: &mut [Option<u32>], level: u32, number: u32)
+    ensures { Raised level (number ∷ []) levels.old levels.new }
+{
+    let at = number as usize;
+    if at < levels.len() {
+        levels[at] = Some(level);
+    }
+}
+
+// Raises what a row names to that level.
+fn raise_row(levels: &mut [Option<u32>], level: u32, row: &[u32])
+    ensures { Raised level row.now levels.old levels.new }
+{
     for number in row {
-        if let Some(found) = levels.get_mut(*number as usize) {
-            if *found < level {
-                *found = level;
-                changed = true;
-            }
-        }
+        raise(levels, level, *number);
     }
-    changed
 }
 
-fn raise_all(levels: &mut [u32], rows: &[Vec<u32>]) -> bool {
-    let mut changed = false;
-    for (number, row) in rows.iter().enumerate() {
-        let level = match levels.get(number) {
-            Some(level) => *level,
-            None => 0,
-        };
-        if level > 0 && raise_row(levels, level.saturating_add(1), row) {
-            changed = true;
-        }
+// Raises what some numbers call to that level.
+fn raise_callees(levels: &mut [Option<u32>], level: u32, rows: &[Vec<u32>], numbers: &[u32])
+    ensures { Raised level (callees (rows_of rows.now) numbers.now) levels.old levels.new }
+{
+    for number in numbers {
+        raise_row(levels, level, row_at(rows, *number));
     }
-    changed
 }
 
-/// For each number 0 where no chain of calls leads to it from the root, and otherwise one more than the
-/// calls of the longest chain.
-pub fn levels(alloc: Global, rows: &[Vec<u32>], root: u32) -> Result<Vec<u32>, AllocError>
-    ensures { IfOk result (λ levels. length levels.items ≡ length rows.now) }
+/// The levels under a root, where nothing reaches itself. Chains of one call more are looked at in each
+/// turn, until there are none.
+pub fn levels_from(alloc: Global, rows: &[Vec<u32>], root: u32) -> Result<Levels, AllocError>
+    requires small { length rows.now < 2 ^ 31 }
+    requires acyclic { IsAcyclic (rows_of rows.now) }
+    requires within { root < length rows.now }
+    ensures { IfOk result (λ found. Measures (rows_of rows.now) root found) }
 {
     let mut levels = no_levels(alloc, rows.len())?;
-    if let Some(level) = levels.get_mut(root as usize) {
-        *level = 1;
-    }
-    for _ in 0..rows.len() {
-        if !raise_all(&mut levels, rows) {
-            return Ok(levels);
+    raise(&mut levels, 0, root);
+    let mut longest = 0;
+    let mut wave = numbers_at(alloc, &levels, 0)?;
+    'waves: loop {
+        let next = longest + 1;
+        raise_callees(&mut levels, next, rows, &wave);
+        wave = numbers_at(alloc, &levels, next)?;
+        if wave.is_empty() {
+            return Ok(Levels { levels, longest });
         }
+        longest = next;
     }
-    Ok(levels)
-}
-
-/// The greatest of some levels.
-pub fn greatest(levels: &[u32]) -> u32 {
-    let mut greatest = 0;
-    for level in levels {
-        if greatest < *level {
-            greatest = *level;
-        }
-    }
-    greatest
 }

@@ -8,11 +8,13 @@ mod calls;
 mod finding;
 mod graph;
 mod levels;
+mod listing;
+mod reach;
 mod roots;
 mod types;
 
 pub use c_typed::{FnId, Helper};
 pub use finding::copies;
-pub use graph::{graph_of, number_of, reversed};
-pub use levels::reached;
+pub use graph::{graph_of, number_of};
+pub use reach::{reached, reversed};
 pub use types::{Copies, FnCopy, GraphError};

@@ -1,10 +1,12 @@
 //! The roots: main, and the interrupt handler.
 
-ghost use Rattle.std.specs.Prelude.{◌≡◌, ◌<◌, ◌≤◌, ◌^◌, ◌&&◌, length, map, IfNone, IfSome, MatchResult, false, Some, None};
+ghost use Rattle.std.specs.Prelude.{◌≡◌, ◌<◌, ◌≤◌, ◌^◌, ◌&&◌, length, map, IfNone, IfOk, MatchResult, false, Some, None};
 ghost use Rattle.c_typed.specs.Chains.{graph_of};
+ghost use Rattle.call_graph.specs.Copies.{first_from, root_of};
 ghost use Rattle.call_graph.specs.Rows.{rows_of};
 ghost use Rattle.c_typed.specs.Roots as stated;
 ghost use Rattle.c_typed.specs.Views.{function_of, variable_of, program_of};
+ghost use Rattle.pic_chip.specs.declared.Root.TheVariants as entry;
 
 use c_typed::{Function, RootKind, Ty, Typed, Variable};
 
@@ -108,7 +110,7 @@ fn has_bad_handler(functions: &[Function]) -> bool
 
 fn main_of(functions: &[Function]) -> Option<u32>
     requires { length functions.now ≤ 2 ^ 28 }
-    ensures within { IfSome result (λ number. number < length functions.now) }
+    ensures first { result ≡ first_from stated.is_main (map function_of functions.now) 0 }
     ensures none { IfNone result (stated.has stated.is_main (map function_of functions.now) ≡ false) }
 {
     for (number, function) in functions.iter().enumerate() {
@@ -121,6 +123,7 @@ fn main_of(functions: &[Function]) -> Option<u32>
 
 fn handler_of(functions: &[Function]) -> Option<u32>
     requires { length functions.now ≤ 2 ^ 28 }
+    ensures { result ≡ first_from stated.is_handler (map function_of functions.now) 0 }
 {
     for (number, function) in functions.iter().enumerate() {
         if function.interrupt {
@@ -189,7 +192,9 @@ pub fn find_roots(p: &Typed, rows: &[Vec<u32>]) -> Result<Roots, RootKind>
     requires small { length p.now.functions.items ≤ 2 ^ 28 }
     requires graph { rows_of rows.now ≡ graph_of (program_of p.now) }
     // A kind is told exactly where it is the first rule that is broken.
-    ensures exact { MatchResult result (λ _. stated.broken_root (program_of p.now) ≡ None) (λ kind. stated.broken_root (program_of p.now) ≡ Some kind) }
+    ensures rules { MatchResult result (λ _. stated.broken_root (program_of p.now) ≡ None) (λ kind. stated.broken_root (program_of p.now) ≡ Some kind) }
+    ensures main { IfOk result (λ found. root_of (program_of p.now) entry.Main ≡ Some found.main) }
+    ensures handler { IfOk result (λ found. root_of (program_of p.now) entry.Isr ≡ found.handler) }
 {
     if !has_main(&p.functions) {
         return Err(RootKind::None);

@@ -4,4 +4,14 @@
 #![tactic(auto)]
 
 #[cfg(test)]
-mod tests;
+mod answers;
+#[cfg(test)]
+mod declarations;
+#[cfg(test)]
+mod expressions;
+#[cfg(test)]
+mod initial_values;
+#[cfg(test)]
+mod statements;
+#[cfg(test)]
+mod trees;

@@ -2,6 +2,7 @@
 use Rattle.std.proofs.Common.{◌≡◌, ℕ, ◌+◌, Option, Some, None, Result, Ok, Err, List, [], ◌∷◌, ◌++◌, length, refl, sym, ap, ◌∙◌, subst, arith}
 use Rattle.std.specs.Prelude.{codes}
 use Rattle.pic_chip.specs.Text.{lines_of, bytes_of}
+use Rattle.text_lines.specs.Front.{after}
 use Rattle.pic_map.specs.declared.Map.{Map}
 use Rattle.pic_map.specs.declared.read.MapError.{MapError}
 use Rattle.pic_map.specs.declared.read.MapError.TheVariants.{NoMemory, BadLine}
@@ -10,7 +11,7 @@ use Rattle.pic_map.specs.declared.read.Stage.TheVariants.{Heading, MainPoint, Ha
 use Rattle.pic_map.specs.Answers.{GivesMap, reading_of, TellsBadLine}
 use Rattle.pic_map.specs.MapContent.{MapContent}
 use Rattle.pic_map.specs.MapFile.{next_of, IsFirstBadLine}
-use Rattle.pic_map.specs.Reading.{after, point_of, object_of, frame_of, after_line, go_on, at_end, read_on, nothing}
+use Rattle.pic_map.specs.Reading.{point_of, object_of, frame_of, after_line, go_on, at_end, read_on, nothing}
 use Rattle.pic_map.proofs.FileLaws.{lines_are, lines_again}
 
 -- no file goes on so from this stage

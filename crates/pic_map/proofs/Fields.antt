@@ -10,24 +10,11 @@ use Rattle.std.proofs.lemmas.List.Sums.{AllPass-from_list_all, list_all-from_All
 use Rattle.std.proofs.lemmas.Option.{cond_some}
 use Rattle.std.proofs.lemmas.Slice.Eq.{bytes_eq-Decides}
 use Rattle.pic_chip.specs.Text.{digit_value, bytes_of, pair_onto}
+use Rattle.text_lines.specs.Front.{after}
+use Rattle.text_lines.proofs.Words.{after_is, after_again}
 use Rattle.pic_map.specs.Decimal.{number_text}
 use Rattle.pic_map.specs.MapFile.{IsAddress, IsName, HasPlace, IsPointLine, is_name_byte}
-use Rattle.pic_map.specs.Reading.{after, below, number_of, address_of, is_digit, size_of, both, place_of, name_length, Placed, placed_of, point_of}
-
--- ---- a word
-pub after_is : (word line rest : List ℕ) → after word line ≡ Some rest → line ≡ word ++ rest
-unfolding after
-after_is word line rest h =
-    let parts = cond_some (pointwise nat_eq (take (length word) line) word) (drop (length word) line) rest h in
-    let front : take (length word) line ≡ word = (bytes_eq-Decides (take (length word) line) word).0 parts.0 in
-    sym (take-append-drop (length word) line) ∙ ap (λ t. t ++ drop (length word) line) front ∙ ap (λ t. word ++ t) parts.1
-
-pub after_again : (word rest : List ℕ) → after word (word ++ rest) ≡ Some rest
-unfolding after
-after_again word rest =
-    let front : take (length word) (word ++ rest) ≡ word = take_at word rest (length word) refl in
-    let behind : drop (length word) (word ++ rest) ≡ rest = drop_at word rest (length word) refl in
-    rw ((bytes_eq-Decides (take (length word) (word ++ rest)) word).1 front, behind) refl
+use Rattle.pic_map.specs.Reading.{below, number_of, address_of, is_digit, size_of, both, place_of, name_length, Placed, placed_of, point_of}
 
 -- ---- numbers below a limit
 pub below_is : (limit : ℕ) (o : Option ℕ) (n : ℕ) → below limit o ≡ Some n → (o ≡ Some n) × (n < limit)

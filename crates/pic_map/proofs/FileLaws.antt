@@ -7,13 +7,15 @@ use Rattle.std.proofs.lemmas.Slice.Eq.{bytes_eq-Decides}
 use Rattle.pic_chip.specs.Text.{lines_of}
 use Rattle.pic_chip.specs.declared.Root.{Root}
 use Rattle.pic_chip.specs.declared.Root.TheVariants.{Main, Isr}
+use Rattle.text_lines.specs.Front.{after}
+use Rattle.text_lines.proofs.Words.{after_is, after_again}
 use Rattle.pic_map.specs.MapContent.{ObjectLine, FrameLine, MapContent}
 use Rattle.pic_map.specs.MapFile.{IsMapFile, AreMapLines, IsObjectLine, IsFrameLine, AreObjectLines, AreFrameLines, IsPointLine, object_word, root_word}
 use Rattle.pic_map.specs.MapText.{AreObjects, AreFrames, AreInRange}
 use Rattle.pic_map.specs.declared.read.Stage.{Stage}
 use Rattle.pic_map.specs.declared.read.Stage.TheVariants.{Heading, MainPoint, HaltPoint, Objects, Frames, Ended}
-use Rattle.pic_map.specs.Reading.{after, placed_of, point_of, object_with, object_behind, object_of, frame_with, frame_behind, frame_of, end_next, frame_next, object_next, after_line, go_on, read_on, nothing}
-use Rattle.pic_map.proofs.Fields.{after_is, after_again, mapped, placed_is, placed_again, point_is, point_again}
+use Rattle.pic_map.specs.Reading.{placed_of, point_of, object_with, object_behind, object_of, frame_with, frame_behind, frame_of, end_next, frame_next, object_next, after_line, go_on, read_on, nothing}
+use Rattle.pic_map.proofs.Fields.{mapped, placed_is, placed_again, point_is, point_again}
 
 -- ---- object lines and frame lines
 object_fields : (line text : List ℕ) (constant : Bool) (o : ObjectLine) → line ≡ object_word constant ++ text → object_with constant (placed_of text) ≡ Some o → IsObjectLine line o

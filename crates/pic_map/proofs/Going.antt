@@ -1,10 +1,11 @@
 -- Reading from one line to the next.
 use Rattle.std.proofs.Common.{◌≡◌, ◌≢◌, ℕ, ◌+◌, ◌≤◌, ◌&&◌, Bool, true, false, Option, Some, None, Ok, Err, List, [], ◌∷◌, length, refl, sym, ap, ◌∙◌, arith, nat_eq}
 use Rattle.std.specs.Prelude.{if◌then◌else◌}
+use Rattle.text_lines.specs.Front.{after}
 use Rattle.pic_map.specs.MapContent.{MapContent}
 use Rattle.pic_map.specs.declared.read.Stage.{Stage}
 use Rattle.pic_map.specs.declared.read.Stage.TheVariants.{Heading, MainPoint, HaltPoint, Objects, Frames, Ended}
-use Rattle.pic_map.specs.Reading.{after_line, go_on, read_on, after, point_of, object_of, frame_of}
+use Rattle.pic_map.specs.Reading.{after_line, go_on, read_on, point_of, object_of, frame_of}
 
 pub step_some : (k : ℕ) (s next : Stage) (m n : MapContent) (lines : List (List ℕ)) (line : List ℕ) (rest : List (List ℕ))
     → lines ≡ line ∷ rest → after_line s m line ≡ Some (next, n) → read_on k s m lines ≡ read_on (k + 1) next n rest

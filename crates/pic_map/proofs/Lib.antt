@@ -1,6 +1,5 @@
 pub mod Decimals
 pub mod Written
-pub mod Cutting
 pub mod Going
 pub mod Fields
 pub mod FileLaws

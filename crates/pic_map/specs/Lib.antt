@@ -1,3 +1,4 @@
+pub mod EventText
 pub mod Decimal
 pub mod MapContent
 pub mod MapFile

@@ -5,21 +5,13 @@ use Rattle.std.specs.Cmp.Lexicographic.{pointwise}
 use Rattle.pic_chip.specs.declared.Root.{Root}
 use Rattle.pic_chip.specs.declared.Root.TheVariants.{Main, Isr}
 use Rattle.pic_chip.specs.Text.{bytes_of}
+use Rattle.text_lines.specs.Front.{after}
 use Rattle.pic_map.specs.MapContent.{ObjectLine, FrameLine, MapContent}
 use Rattle.pic_map.specs.MapFile.{is_name_byte}
 use Rattle.pic_map.specs.declared.read.Stage.{Stage}
 use Rattle.pic_map.specs.declared.read.Stage.TheVariants.{Heading, MainPoint, HaltPoint, Objects, Frames, Ended}
 
--- how many bytes stand before the first LF
-unfoldable pub line_length : List ℕ → ℕ
-line_length [] = 0
-line_length (c ∷ text) = if nat_eq c 10 then 0 else line_length text + 1
-
 -- ---- the fields of a line
--- what stands behind a word
-unfoldable pub after : List ℕ → List ℕ → Option (List ℕ)
-after word line = if pointwise nat_eq (take (length word) line) word then Some (drop (length word) line) else None
-
 abbrev pub below : ℕ → Option ℕ → Option ℕ
 below limit None = None
 below limit (Some n) = if nat_lt n limit then Some n else None

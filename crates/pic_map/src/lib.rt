@@ -1,8 +1,9 @@
 // Map files: where a program's main begins and ends, and where its objects and frames stand.
 //
-// In: a map, or the text of a map file. Out: the text of the map's file, or the map.
+// In: a map, or the text of a map file; an event of a run. Out: the text of the map's file, or the map; the line that is
+// printed for the event.
 // The promise: the text is the one fixed form of that map and a map file of it; a text is read exactly
-// where it is a map file, and what is read is its content.
+// where it is a map file, and what is read is its content; an event's line has the map's names.
 #![tactic(auto)]
 
 ghost use Rattle.std.specs.Prelude.{◌≡◌, ℕ, List};
@@ -10,9 +11,11 @@ ghost use Rattle.pic_map.specs.MapContent.{MapContent};
 ghost use Rattle.pic_map.specs.MapFile.{IsMapFile};
 ghost use Rattle.pic_map.specs.MapExample.{example_text, example_map};
 
+mod events;
 mod read;
 mod write;
 
+pub use events::event_line;
 use pic_chip::Root;
 pub use read::{MapError, read_map};
 pub use write::write_map;

@@ -12,6 +12,7 @@ ghost use Rattle.pic_chip.specs.Text.{lines_of, digit_value as value_of, bytes_o
 use crate::{FrameLine, Map, ObjLine};
 use pic_chip::Root;
 use std::alloc::{AllocError, Global};
+use text_lines::{digit_value, next_line};
 use thiserror::Error;
 
 /// Which line a map file may have next. The object lines come before the frame lines, and `end` behind
@@ -94,52 +95,6 @@ fn read_lines(alloc: Global, bytes: &[u8]) -> Result<Map, MapError>
     }
 }
 
-/// The first line, without its end, and what stands behind it.
-#[tactic(auto, using(crate::proofs::Cutting::first_of, crate::proofs::Cutting::rest_whole))]
-fn next_line(bytes: &[u8]) -> Option<(&[u8], &[u8])>
-    ensures none { IfNone result (bytes.now ≡ []) }
-    ensures some { IfSome result (λ cut. lines_of bytes.now ≡ cut.0.now ∷ lines_of cut.1.now) }
-    ensures shorter { IfSome result (λ cut. (length cut.0.now + length cut.1.now ≤ length bytes.now) × (length cut.1.now < length bytes.now)) }
-{
-    if bytes.is_empty() {
-        return None;
-    }
-    let (line, tail) = bytes.split_at(line_length(bytes));
-    match tail {
-        [_, rest @ ..] => Some((without_cr(line), rest)),
-        [] => Some((without_cr(line), tail)),
-    }
-}
-
-/// How many bytes stand before the first LF.
-#[tactic(auto, unfolding(crate::specs::Reading::line_length))]
-fn line_length(text: &[u8]) -> usize
-    ensures value { result ≡ reading.line_length text.now }
-    ensures within { result ≤ length text.now }
-{
-    let mut count = 0;
-    let mut left = text;
-    while let [first, rest @ ..] = left {
-        if *first == b'\n' {
-            return count;
-        }
-        count += 1;
-        left = rest;
-    }
-    count
-}
-
-#[tactic(auto, using(crate::proofs::Cutting::cr_at_end))]
-fn without_cr(line: &[u8]) -> &[u8]
-    ensures value { result.now ≡ without_cr line.now }
-    ensures shorter { length result.now ≤ length line.now }
-{
-    match line.strip_suffix(b"\r") {
-        Some(front) => front,
-        None => line,
-    }
-}
-
 /// Reads a line into the map, and answers which stage comes behind it.
 #[tactic(auto, unfolding(crate::specs::Reading::after_line))]
 pub fn take_line(
@@ -200,7 +155,7 @@ fn take_frame(alloc: Global, map: &mut Map, line: &[u8]) -> Result<Option<Stage>
     Ok(Some(Stage::Frames))
 }
 
-#[tactic(auto, unfolding(crate::specs::Reading::object_of, crate::specs::Reading::after))]
+#[tactic(auto, unfolding(crate::specs::Reading::object_of, text_lines::specs::Front::after))]
 fn object_line(alloc: Global, line: &[u8]) -> Result<Option<ObjLine>, AllocError>
     ensures { IfOk result (λ object. reading.object_of line.now ≡ option_map object_of object) }
 {
@@ -234,7 +189,7 @@ fn object(alloc: Global, fixed: bool, text: &[u8]) -> Result<Option<ObjLine>, Al
     }))
 }
 
-#[tactic(auto, unfolding(crate::specs::Reading::frame_of, crate::specs::Reading::after))]
+#[tactic(auto, unfolding(crate::specs::Reading::frame_of, text_lines::specs::Front::after))]
 fn frame_line(alloc: Global, line: &[u8]) -> Result<Option<FrameLine>, AllocError>
     ensures { IfOk result (λ frame. reading.frame_of line.now ≡ option_map frame_of frame) }
 {
@@ -269,7 +224,7 @@ fn frame(alloc: Global, root: Root, text: &[u8]) -> Result<Option<FrameLine>, Al
 }
 
 /// The address behind a word, below 2000h.
-#[tactic(auto, unfolding(crate::specs::Reading::point_of, crate::specs::Reading::after))]
+#[tactic(auto, unfolding(crate::specs::Reading::point_of, text_lines::specs::Front::after))]
 fn point(word: &[u8], line: &[u8]) -> Option<u16>
     ensures { result ≡ reading.point_of word.now line.now }
 {
@@ -343,19 +298,6 @@ fn address(limit: u16, a: u8, b: u8, c: u8, d: u8) -> Option<u16>
     let low = 16 * digit_value(c)? + digit_value(d)?;
     let number = 256 * high + low;
     if number < limit { Some(number) } else { None }
-}
-
-/// The number of a hexadecimal digit of either case.
-fn digit_value(byte: u8) -> Option<u16>
-    ensures value { result ≡ value_of byte }
-    ensures small { IfSome result (λ n. n < 16) }
-{
-    match byte {
-        b'0'..=b'9' => Some((byte - b'0') as u16),
-        b'A'..=b'F' => Some((byte - b'A') as u16 + 10),
-        b'a'..=b'f' => Some((byte - b'a') as u16 + 10),
-        _ => None,
-    }
 }
 
 /// A number of one to three digits without leading zeros, 0 to 352.

@@ -1,6 +1,10 @@
 // Texts worked out by hand: what is written, what is read, and at which line reading stops.
+ghost use Rattle.std.specs.Prelude.{IsTrue};
+ghost use Rattle.pic_map.specs.EventText.{CanBeShown, HasName};
+ghost use Rattle.pic_map.specs.MapView.{content_of};
+
 use super::*;
-use pic_chip::Root;
+use pic_chip::{Cell, Event, Root};
 use std::alloc::Global;
 use std::test::Fail;
 
@@ -76,4 +80,77 @@ fn the_first_bad_line_is_told(rt: HostRuntime) -> Result<(), Fail> {
         }
     }
     Ok(())
+}
+
+/// Events by the names of the map above, and their lines.
+const EVENTS: [(Event, &str); 5] = [
+    (
+        Event::Read {
+            cell: Cell::Device { address: 0x05 },
+            value: 0x5a,
+        },
+        "R PORTA 5A\n",
+    ),
+    (
+        Event::Write {
+            cell: Cell::Device { address: 0x81 },
+            value: 0x07,
+        },
+        "W OPTION_REG 07\n",
+    ),
+    (
+        Event::Read {
+            cell: Cell::Static {
+                object: 0,
+                offset: 1,
+            },
+            value: 0xf0,
+        },
+        "R t.0.lo.1 F0\n",
+    ),
+    (
+        Event::Write {
+            cell: Cell::Static {
+                object: 1,
+                offset: 351,
+            },
+            value: 0,
+        },
+        "W k.351 00\n",
+    ),
+    (Event::End, "End\n"),
+];
+
+#[test]
+fn events_are_shown_by_name(rt: HostRuntime) -> Result<(), Fail> {
+    let alloc = rt.alloc();
+    let map = read_map(alloc, WRITTEN.as_bytes())?;
+    for (event, wanted) in EVENTS {
+        if is_named(&map, event) {
+            let line = event_line(alloc, &map, event)?;
+            assert!(rt; line.as_slice() == wanted.as_bytes());
+        } else {
+            return Err(Fail::new("no name"));
+        }
+    }
+    Ok(())
+}
+
+/// Whether the event's cell has a name, by which it can be shown.
+fn is_named(map: &Map, event: Event) -> bool
+    ensures { IsTrue result → CanBeShown (content_of map.now) event }
+{
+    match event {
+        Event::Read { cell, .. } | Event::Write { cell, .. } => has_name(map, cell),
+        Event::End => true,
+    }
+}
+
+fn has_name(map: &Map, cell: Cell) -> bool
+    ensures { IsTrue result → HasName (content_of map.now) cell }
+{
+    match cell {
+        Cell::Device { address } => pic_chip::register_name(address).is_some(),
+        Cell::Static { object, .. } => (object as usize) < map.objects.len(),
+    }
 }

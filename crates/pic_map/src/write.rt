@@ -120,7 +120,7 @@ fn push_address(text: &mut Vec<u8>, address: u16) -> Result<(), AllocError>
     ])
 }
 
-fn hex_digit(value: u16) -> u8
+pub fn hex_digit(value: u16) -> u8
     requires { value < 16 }
     ensures { result ≡ digit_of value }
 {

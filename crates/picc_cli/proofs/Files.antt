@@ -1,5 +1,5 @@
 -- What the calls on files come to, one behind the other.
-use Rattle.std.proofs.Common.{◌≡◌, ℕ, zero, suc, ◌+◌, ◌*◌, ◌<◌, ◌≤◌, inl, inr, ⊎_elim, Option, Some, None, IfSome, List, [], ◌∷◌, ◌++◌, length, take, refl, sym, ap, ◌∙◌, subst, arith, append_assoc, option_map, min, Result, Ok, Err, OnErr}
+use Rattle.std.proofs.Common.{◌≡◌, ℕ, zero, suc, ◌+◌, ◌*◌, ◌<◌, ◌≤◌, ◌⊎◌, inl, inr, ⊎_elim, Option, Some, None, IfSome, List, [], ◌∷◌, ◌++◌, length, take, refl, sym, ap, ◌∙◌, subst, arith, append_assoc, option_map, min, Result, Ok, Err, OnErr}
 use Rattle.std.proofs.lemmas.Bool.{cases_lt, lt-ltb, le-ltb}
 use Rattle.std.proofs.Math.Seq.{take-append-add}
 use Rattle.std.proofs.lemmas.List.{length-append, length-take, take-append-le}
@@ -7,10 +7,12 @@ use Rattle.host_io.specs.Host.{Contents, put, PrintsPrefix, IsRead, PutsPrefix}
 use Rattle.picc_cli.specs.declared.program.Assignment.{Assignment}
 use Rattle.picc_cli.specs.declared.program.Side.{Side}
 use Rattle.picc_cli.specs.declared.program.Side.TheVariants.{Port, Tris}
-use Rattle.picc_cli.specs.declared.picc.Outcome.TheVariants.{Built, Refused}
+use Rattle.picc_cli.specs.declared.picc.Outcome.TheVariants.{Built, NotYet, Refused, CannotRead, CannotWriteHex, CannotWriteMap, NoMemory}
 use Rattle.picc_cli.specs.Built.{IsBuilt, IsRefused}
 use Rattle.picc_cli.specs.Command.{Names}
-use Rattle.picc_cli.specs.Outcome.{BreaksOff, WorkedOn}
+use Rattle.picc_cli.specs.declared.picc.Outcome.{Outcome}
+use Rattle.picc_cli.specs.Outcome.{TellsWhy, Refuses, BreaksOff, WorkedOn}
+use Rattle.picc_cli.proofs.Whole.{why_whole}
 use Rattle.picc_cli.specs.PortProgram.{side_text, number_text, assignment_text, assignments_text, beginning, IsProgram}
 
 -- ---- printing
@@ -88,12 +90,34 @@ built_whole text bytes hex map e built =
     subst (λ t. IsBuilt t hex map) (sym (whole text bytes e (short_program bytes built.assignments built.program))) built
 
 -- ---- the calls of a build, one behind the other
-refused_files_at : (old new : Option Contents) (names : Names) (bytes : List ℕ) → IfSome old (IsRead names.input 262145 bytes) → new ≡ old → IsRefused bytes
-    → IfSome old (λ o. WorkedOn Refused names o new)
-refused_files_at None new names bytes read same refused = tt
-refused_files_at (Some o) new names bytes read same refused =
+refused_at : (why : Outcome) (o : Contents) (new : Option Contents) (names : Names) (bytes : List ℕ) → IsRead names.input 262145 bytes o → new ≡ Some o → IsRefused bytes
+    → TellsWhy bytes why → Refuses why names o new
+refused_at why o new names bytes read same refused tells =
     let text = content_of (o names.input) bytes read in
-    record { text = text.0; read = text.1; refused = refused_whole text.0 bytes text.2 refused; files = same }
+    record {
+      text = text.0;
+      read = text.1;
+      refused = refused_whole text.0 bytes text.2 refused;
+      tells = why_whole text.0 bytes why (λ l. sym text.2 ∙ take_all text.0 262145 l) text.2 tells;
+      files = same;
+    }
+
+-- a text for which there is a reason, or no memory to find it
+refused_for : (why : Outcome) (o : Contents) (new : Option Contents) (names : Names) (bytes : List ℕ) → IsRead names.input 262145 bytes o → new ≡ Some o → IsRefused bytes
+    → TellsWhy bytes why → WorkedOn why names o new
+refused_for NotYet o new names bytes read same refused tells = refused_at NotYet o new names bytes read same refused tells
+refused_for (Refused refusal) o new names bytes read same refused tells = refused_at (Refused refusal) o new names bytes read same refused tells
+refused_for Built o new names bytes read same refused tells = absurd tells
+refused_for CannotRead o new names bytes read same refused tells = absurd tells
+refused_for CannotWriteHex o new names bytes read same refused tells = absurd tells
+refused_for CannotWriteMap o new names bytes read same refused tells = absurd tells
+refused_for NoMemory o new names bytes read same refused tells = absurd tells
+
+refused_files_at : (why : Outcome) (old new : Option Contents) (names : Names) (bytes : List ℕ) → IfSome old (IsRead names.input 262145 bytes) → new ≡ old → IsRefused bytes
+    → (why ≡ NoMemory) ⊎ TellsWhy bytes why → IfSome old (λ o. WorkedOn why names o new)
+refused_files_at why None new names bytes read same refused tells = tt
+refused_files_at why (Some o) new names bytes read same refused (inl none) = subst (λ w. WorkedOn w names o new) (sym none) (inl same)
+refused_files_at why (Some o) new names bytes read same refused (inr tells) = refused_for why o new names bytes read same refused tells
 
 broken_hex_at : (old middle new : Option Contents) (names : Names) (bytes hex map : List ℕ) → IfSome old (IsRead names.input 262145 bytes) → middle ≡ old → IsBuilt bytes hex map
     → PutsPrefix names.output hex middle new → IfSome old (λ o. BreaksOff names o new)
@@ -149,9 +173,10 @@ built_files_at (Some o) middle half new names bytes hex map read same built firs
     }
 
 -- the same, where the calls were handed the bytes as slices
-pub refused_files : (old new : Option Contents) (names : Names) (bytes text : List ℕ) → IfSome old (IsRead names.input 262145 bytes) → new ≡ old → text ≡ bytes → IsRefused text
-    → IfSome old (λ o. WorkedOn Refused names o new)
-refused_files old new names bytes text read same e refused = refused_files_at old new names bytes read same (subst IsRefused e refused)
+pub refused_files : (why : Outcome) (old new : Option Contents) (names : Names) (bytes text : List ℕ) → IfSome old (IsRead names.input 262145 bytes) → new ≡ old → text ≡ bytes
+    → IsRefused text → (why ≡ NoMemory) ⊎ TellsWhy text why → IfSome old (λ o. WorkedOn why names o new)
+refused_files why old new names bytes text read same e refused tells =
+    refused_files_at why old new names bytes read same (subst IsRefused e refused) (subst (λ t. (why ≡ NoMemory) ⊎ TellsWhy t why) e tells)
 
 pub broken_hex : (old middle new : Option Contents) (names : Names) (bytes text hex map first : List ℕ) → IfSome old (IsRead names.input 262145 bytes) → middle ≡ old
     → text ≡ bytes → IsBuilt text hex map → first ≡ hex → PutsPrefix names.output first middle new → IfSome old (λ o. BreaksOff names o new)

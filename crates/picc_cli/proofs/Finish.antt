@@ -4,10 +4,10 @@ use Rattle.std.specs.Prelude.{IsSomeAnd, MatchOption}
 use Rattle.std.proofs.Math.Seq.{take-length}
 use Rattle.host_io.specs.Host.{Kind, Contents, put, PrintsPrefix}
 use Rattle.picc_cli.specs.declared.picc.Outcome.{Outcome}
-use Rattle.picc_cli.specs.declared.picc.Outcome.TheVariants.{Built, Refused, CannotRead, CannotWriteHex, CannotWriteMap, NoMemory}
+use Rattle.picc_cli.specs.declared.picc.Outcome.TheVariants.{Built, NotYet, Refused, CannotRead, CannotWriteHex, CannotWriteMap, NoMemory}
 use Rattle.picc_cli.specs.Command.{Names}
 use Rattle.picc_cli.specs.Outcome.{Builds, Refuses, BreaksOff, WorkedOn, is_fault, FailsWithoutInput, usage_line, line_of, status_of, Says}
-use Rattle.picc_cli.specs.Finished.{GivesUp, HasFiles, HasStatus, HasPrinted}
+use Rattle.picc_cli.specs.Finished.{GivesUp, HasFiles, HasStatus, HasPrinted, IsTold, HasTold}
 
 -- ---- statuses
 pub number_apart : {P : Type 0} (m n result : ℕ) → m < n → result ≡ m → result ≡ n → P
@@ -51,11 +51,21 @@ module _ (names : Names) (form : Option Names) (is : form ≡ Some names) where
         built = w.built;
         files = inr (length w.map, omega arith, w.files ∙ ap (λ t. Some (put names.map t (put names.output w.hex o))) (sym (take-length w.map)));
       })
-  breaks Refused o new w = inl w.files
+  breaks NotYet o new w = inl w.files
+  breaks (Refused refusal) o new w = inl w.files
   breaks CannotRead o new w = inl w
   breaks CannotWriteHex o new w = w
   breaks CannotWriteMap o new w = w
   breaks NoMemory o new w = w
+
+  refused_files : (why : Outcome) (o : Contents) (new : Option Contents) (result : ℕ) → Refuses why names o new → result ≡ 1 → HasFiles form o new result
+  refused_files why o new result w e =
+      record {
+        built = λ f. number_apart 0 1 result (omega arith) f e;
+        refused = λ _. at_some (λ names. (why : Outcome) × Refuses why names o new) (why, w);
+        usage = λ f. number_apart 1 2 result (omega arith) e f;
+        broken = λ up. up_apart 1 result (omega arith) e up;
+      }
 
   said_files : (outcome : Outcome) (o : Contents) (new : Option Contents) (result : ℕ) → WorkedOn outcome names o new → result ≡ status_of outcome → HasFiles form o new result
   said_files Built o new result w e =
@@ -65,13 +75,8 @@ module _ (names : Names) (form : Option Names) (is : form ≡ Some names) where
         usage = λ f. number_apart 0 2 result (omega arith) e f;
         broken = λ up. up_apart 0 result (omega arith) e up;
       }
-  said_files Refused o new result w e =
-      record {
-        built = λ f. number_apart 0 1 result (omega arith) f e;
-        refused = λ _. at_some (λ names. Refuses names o new) w;
-        usage = λ f. number_apart 1 2 result (omega arith) e f;
-        broken = λ up. up_apart 1 result (omega arith) e up;
-      }
+  said_files NotYet o new result w e = refused_files NotYet o new result w e
+  said_files (Refused refusal) o new result w e = refused_files (Refused refusal) o new result w e
   said_files CannotRead o new result w e =
       record {
         built = λ f. number_apart 0 3 result (omega arith) f e;
@@ -117,11 +122,15 @@ module _ (names : Names) (form : Option Names) (is : form ≡ Some names) where
   build_files outcome (Some o) middle new kind before now p q result w same (inr u) = unsaid_files outcome o new result (subst (WorkedOn outcome names o) (sym same) w) u.ends
 
   -- ---- the status
+  refused_status : (result : ℕ) → result ≡ 1 → HasStatus form result
+  refused_status result e =
+      record { known = inr (inl e); usage = λ f. number_apart 1 2 result (omega arith) e f; no_form = λ none. absurd (no_name none) }
+
   said_status : (outcome : Outcome) (result : ℕ) → result ≡ status_of outcome → HasStatus form result
   said_status Built result e =
       record { known = inl e; usage = λ f. number_apart 0 2 result (omega arith) e f; no_form = λ none. absurd (no_name none) }
-  said_status Refused result e =
-      record { known = inr (inl e); usage = λ f. number_apart 1 2 result (omega arith) e f; no_form = λ none. absurd (no_name none) }
+  said_status NotYet result e = refused_status result e
+  said_status (Refused refusal) result e = refused_status result e
   said_status CannotRead result e = up_status result (inl e)
   said_status CannotWriteHex result e = up_status result (inl e)
   said_status CannotWriteMap result e = up_status result (inl e)
@@ -154,6 +163,17 @@ module _ (names : Names) (form : Option Names) (is : form ≡ Some names) where
       → q ≡ option_map (λ text. text ++ line_of names outcome) p → IsTrue kind.is_sound → q ≡ option_map (λ text. text ++ line_of names CannotRead) p
   only_read kind old outcome p q fails fault e sound = subst (λ o. q ≡ option_map (λ text. text ++ line_of names o) p) (fails.only sound fault).0 e
 
+  refused_printed : (kind : Kind) (why : Outcome) (p q : Option (List ℕ)) (result : ℕ) → status_of why ≡ 1 → q ≡ option_map (λ text. text ++ line_of names why) p
+      → result ≡ 1 → HasPrinted kind form p q result
+  refused_printed kind why p q result one e st =
+      record {
+        nothing = λ f. number_apart 0 1 result (omega arith) f st;
+        error = λ _. at_some (λ names. (why : Outcome) × (status_of why ≡ 1) × (q ≡ option_map (λ text. text ++ line_of names why) p)) (why, one, e);
+        usage = λ f. number_apart 1 2 result (omega arith) st f;
+        prefix = λ up. up_apart 1 result (omega arith) st up;
+        sound = λ is f. number_apart 1 3 result (omega arith) st f;
+      }
+
   said_printed : (kind : Kind) (old : Option Contents) (outcome : Outcome) (p q : Option (List ℕ)) (result : ℕ) → FailsWithoutInput kind old names.input outcome
       → q ≡ option_map (λ text. text ++ line_of names outcome) p → result ≡ status_of outcome → HasPrinted kind form p q result
   said_printed kind old Built p q result fails e st =
@@ -164,14 +184,8 @@ module _ (names : Names) (form : Option Names) (is : form ≡ Some names) where
         prefix = λ up. up_apart 0 result (omega arith) st up;
         sound = λ is f. number_apart 0 3 result (omega arith) st f;
       }
-  said_printed kind old Refused p q result fails e st =
-      record {
-        nothing = λ f. number_apart 0 1 result (omega arith) f st;
-        error = λ _. at_some (λ names. q ≡ option_map (λ text. text ++ line_of names Refused) p) e;
-        usage = λ f. number_apart 1 2 result (omega arith) st f;
-        prefix = λ up. up_apart 1 result (omega arith) st up;
-        sound = λ is f. number_apart 1 3 result (omega arith) st f;
-      }
+  said_printed kind old NotYet p q result fails e st = refused_printed kind NotYet p q result refl e st
+  said_printed kind old (Refused refusal) p q result fails e st = refused_printed kind (Refused refusal) p q result refl e st
   said_printed kind old CannotRead p q result fails e st = gives_up kind CannotRead p q result e (inl st) (λ is three. e)
   said_printed kind old CannotWriteHex p q result fails e st = gives_up kind CannotWriteHex p q result e (inl st) (λ is three. only_read kind old CannotWriteHex p q fails refl e is)
   said_printed kind old CannotWriteMap p q result fails e st = gives_up kind CannotWriteMap p q result e (inl st) (λ is three. only_read kind old CannotWriteMap p q fails refl e is)
@@ -185,3 +199,26 @@ module _ (names : Names) (form : Option Names) (is : form ≡ Some names) where
   build_printed kind later old outcome before now p middle q result fails alike same (inr u) =
       prefix_printed kind outcome p q result (subst (λ o. PrintsPrefix o q (line_of names outcome)) same u.printed) u.ends
       (λ is three. number_apart 3 9 result (omega arith) three (u.unsound (subst (λ (k : Kind). IsTrue k.is_sound) (sym alike) is)))
+
+  -- ---- the line of a refusal, where the files are told too
+  told_at : (why : Outcome) (o : Contents) (new : Option Contents) (p q : Option (List ℕ)) (result : ℕ) → Refuses why names o new
+      → q ≡ option_map (λ text. text ++ line_of names why) p → HasTold form o new p q result
+  told_at why o new p q result w e st = at_some (λ names. IsTold names o new p q) (record { why = why; refuses = w; printed = e })
+
+  said_told : (outcome : Outcome) (o : Contents) (new : Option Contents) (p q : Option (List ℕ)) (result : ℕ) → WorkedOn outcome names o new
+      → q ≡ option_map (λ text. text ++ line_of names outcome) p → result ≡ status_of outcome → HasTold form o new p q result
+  said_told Built o new p q result w e st = λ one. number_apart 0 1 result (omega arith) st one
+  said_told NotYet o new p q result w e st = told_at NotYet o new p q result w e
+  said_told (Refused refusal) o new p q result w e st = told_at (Refused refusal) o new p q result w e
+  said_told CannotRead o new p q result w e st = λ one. number_apart 1 3 result (omega arith) one st
+  said_told CannotWriteHex o new p q result w e st = λ one. number_apart 1 3 result (omega arith) one st
+  said_told CannotWriteMap o new p q result w e st = λ one. number_apart 1 3 result (omega arith) one st
+  said_told NoMemory o new p q result w e st = λ one. number_apart 1 9 result (omega arith) one st
+
+  pub build_told : (outcome : Outcome) (old middle new : Option Contents) (kind : Kind) (before now : ℕ) (p still q : Option (List ℕ)) (result : ℕ)
+      → IfSome old (λ o. WorkedOn outcome names o middle) → new ≡ middle → still ≡ p
+      → Says kind before now still q (line_of names outcome) (status_of outcome) result → IfSome old (λ o. HasTold form o new p q result)
+  build_told outcome None middle new kind before now p still q result w same quiet says = tt
+  build_told outcome (Some o) middle new kind before now p still q result w same quiet (inl s) =
+      said_told outcome o new p q result (subst (WorkedOn outcome names o) (sym same) w) (s.printed ∙ ap (option_map (λ text. text ++ line_of names outcome)) quiet) s.ends
+  build_told outcome (Some o) middle new kind before now p still q result w same quiet (inr u) = λ one. up_apart 1 result (omega arith) one u.ends

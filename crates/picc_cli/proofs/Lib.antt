@@ -3,6 +3,7 @@ pub mod Stages
 pub mod Faithful
 pub mod Placing
 pub mod Spelling
+pub mod Whole
 pub mod Files
 pub mod Finish
 pub mod MapRanges

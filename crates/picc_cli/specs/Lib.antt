@@ -4,5 +4,6 @@ pub mod PortCode
 pub mod Built
 pub mod Command
 pub mod CommandView
+pub mod Refusals
 pub mod Outcome
 pub mod Finished

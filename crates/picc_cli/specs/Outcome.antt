@@ -2,9 +2,12 @@
 use Rattle.std.specs.Prelude.{ℕ, ◌≡◌, ◌≤◌, ◌⊎◌, Bool, true, false, IsTrue, Option, Some, List, [], ◌∷◌, ◌++◌, length, take, codes, option_map}
 use Rattle.host_io.specs.Host.{Kind, Contents, put, Lacks, PrintsPrefix, IsCounted}
 use Rattle.picc_cli.specs.declared.picc.Outcome.{Outcome}
-use Rattle.picc_cli.specs.declared.picc.Outcome.TheVariants.{Built, Refused, CannotRead, CannotWriteHex, CannotWriteMap, NoMemory}
+use Rattle.picc_cli.specs.declared.picc.Outcome.TheVariants.{Built, NotYet, Refused, CannotRead, CannotWriteHex, CannotWriteMap, NoMemory}
+use Rattle.picc_core.specs.Answers.{Tells}
+use Rattle.picc_core.specs.Texts.{HasTree}
 use Rattle.picc_cli.specs.Built.{IsBuilt, IsRefused}
 use Rattle.picc_cli.specs.Command.{Names}
+use Rattle.picc_cli.specs.Refusals.{refusal_line}
 
 -- ---- the files
 -- the input is a program, and the two outputs have its files; all other names are as before
@@ -16,11 +19,19 @@ pub record Builds (names : Names) (old : Contents) (new : Option Contents) : Typ
   pub built : IsBuilt text hex map
   pub files : new ≡ Some (put names.map map (put names.output hex old))
 
--- the input is no program, and every file is as before
-pub record Refuses (names : Names) (old : Contents) (new : Option Contents) : Type 0 where
+-- Why a text isn't built: it isn't of the form of today, though the language takes it; or it is refused, and the refusal
+-- tells this of the text.
+abbrev pub TellsWhy : List ℕ → Outcome → Type 0
+TellsWhy text NotYet = HasTree text
+TellsWhy text (Refused refusal) = Tells text refusal
+TellsWhy text _ = ⊥
+
+-- the input is no program of the form of today, for this reason, and every file is as before
+pub record Refuses (why : Outcome) (names : Names) (old : Contents) (new : Option Contents) : Type 0 where
   pub text : List ℕ
   pub read : old names.input ≡ Some text
   pub refused : IsRefused text
+  pub tells : TellsWhy text why
   pub files : new ≡ Some old
 
 -- the HEX has a prefix of its bytes, or all of them and the map a prefix
@@ -39,7 +50,8 @@ BreaksOff names old new = (new ≡ Some old) ⊎ BuildsPartly names old new
 
 abbrev pub WorkedOn : Outcome → Names → Contents → Option Contents → Type 0
 WorkedOn Built names old new = Builds names old new
-WorkedOn Refused names old new = Refuses names old new
+WorkedOn NotYet names old new = Refuses NotYet names old new
+WorkedOn (Refused refusal) names old new = Refuses (Refused refusal) names old new
 WorkedOn CannotRead names old new = new ≡ Some old
 WorkedOn CannotWriteHex names old new = BreaksOff names old new
 WorkedOn CannotWriteMap names old new = BreaksOff names old new
@@ -48,7 +60,8 @@ WorkedOn NoMemory names old new = BreaksOff names old new
 -- ---- faults
 abbrev pub is_fault : Outcome → Bool
 is_fault Built = false
-is_fault Refused = false
+is_fault NotYet = false
+is_fault (Refused refusal) = false
 is_fault NoMemory = false
 is_fault CannotRead = true
 is_fault CannotWriteHex = true
@@ -73,14 +86,16 @@ usage_line = codes "usage: picc build IN OUT MAP | trace IN SCRIPT M | sim HEX M
 abbrev pub line_of : Names → Outcome → List ℕ
 line_of names Built = []
 line_of names NoMemory = []
-line_of names Refused = names.input ++ (codes ": error 0: not yet" ++ 10 ∷ [])
+line_of names NotYet = names.input ++ (codes ": error 0: not yet" ++ 10 ∷ [])
+line_of names (Refused refusal) = refusal_line names.input refusal
 line_of names CannotRead = codes "cannot read " ++ (names.input ++ 10 ∷ [])
 line_of names CannotWriteHex = codes "cannot write " ++ (names.output ++ 10 ∷ [])
 line_of names CannotWriteMap = codes "cannot write " ++ (names.map ++ 10 ∷ [])
 
 abbrev pub status_of : Outcome → ℕ
 status_of Built = 0
-status_of Refused = 1
+status_of NotYet = 1
+status_of (Refused refusal) = 1
 status_of CannotRead = 3
 status_of CannotWriteHex = 3
 status_of CannotWriteMap = 3

@@ -10,6 +10,9 @@ mod code;
 mod command;
 mod picc;
 mod program;
+mod refusal;
+#[cfg(test)]
+mod refusal_tests;
 #[cfg(test)]
 mod tests;
 

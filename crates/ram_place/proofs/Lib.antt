@@ -1,7 +1,11 @@
 pub mod Arguments
+pub mod Connected
 pub mod Digits
 pub mod FreeRuns
+pub mod Lawful
 pub mod Loops
+pub mod Standing
 pub mod Statements
+pub mod Told
 pub mod Variables
 pub mod WordLists

@@ -1,5 +1,5 @@
--- The frame bytes and stated words of what a program's copies are copies of.
-use Rattle.std.specs.Prelude.{ℕ, Option, Some, None, slice_get}
+-- The names, frame bytes and stated words of what a program's copies are copies of.
+use Rattle.std.specs.Prelude.{ℕ, List, [], Option, Some, None, slice_get}
 use Rattle.c_typed.specs.Room.{frame_size}
 use Rattle.c_typed.specs.Trees.{FunctionTree, Program}
 use Rattle.c_typed.specs.Words.{block_size}
@@ -18,3 +18,11 @@ frame_bytes p (Helper helper) = helpers.frame_bytes helper
 abbrev pub block_words : Program → FnId → ℕ
 block_words p (User number) = size_or_none (block_size p.sizes) (slice_get p.functions number)
 block_words p (Helper helper) = helpers.words helper
+
+abbrev pub name_or_none : Option FunctionTree → List ℕ
+name_or_none None = []
+name_or_none (Some f) = f.name
+
+abbrev pub name_of : Program → FnId → List ℕ
+name_of p (User number) = name_or_none (slice_get p.functions number)
+name_of p (Helper helper) = helpers.name helper

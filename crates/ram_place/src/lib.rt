@@ -6,7 +6,9 @@
 
 mod amount;
 mod frame;
+mod live;
 mod memory;
+mod naming;
 mod placing;
 mod room;
 mod words;

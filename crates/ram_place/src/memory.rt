@@ -1,10 +1,14 @@
 //! The chip's data memory: which bytes of it are taken.
 
-ghost use Rattle.std.specs.Prelude.{◌≡◌, ℕ, ◌+◌, ◌<◌, ◌≤◌, ◌↔◌, ◌⊎◌, true, false, IsTrue, MatchOption};
+ghost use Rattle.std.specs.Prelude.{◌≡◌, ℕ, ◌+◌, ◌<◌, ◌≤◌, ◌↔◌, ◌||◌, true, false, IsTrue, MatchOption};
+ghost use Rattle.ram_place.specs.Memory as stated;
 ghost use Rattle.ram_place.specs.Memory.{is_taken, IsFree, IsLowestIn, IsFull, IsLowest, AreFull, regions};
 
 /// How many addresses data memory has.
-pub const ADDRESSES: usize = 512;
+const ADDRESSES: usize = 512;
+
+// The bytes of the largest region.
+const LARGEST: u64 = 96;
 
 /// A run of bytes.
 #[derive(Clone, Copy)]
@@ -44,7 +48,7 @@ pub struct Taken {
 impl Taken {
     /// None is.
     pub fn none() -> Taken
-        ensures { (a : ℕ) → is_taken result.marks a ≡ false }
+        ensures { (x : ℕ) → is_taken result.marks x ≡ false }
     {
         Taken {
             marks: [false; 512],
@@ -53,33 +57,38 @@ impl Taken {
 
     fn mark(&mut self, address: usize)
         ensures here { address < 512 → is_taken self.new.marks address ≡ true }
-        ensures others { (a : ℕ) → (a ≡ address → ⊥) → is_taken self.new.marks a ≡ is_taken self.old.marks a }
+        ensures others { (x : ℕ) → (x ≡ address → ⊥) → is_taken self.new.marks x ≡ is_taken self.old.marks x }
     {
         if address < ADDRESSES {
             self.marks[address] = true;
         }
     }
 
-    /// Takes a run of bytes.
+    /// Takes a run of bytes, as far as data memory goes.
     pub fn take(&mut self, span: Span)
-        ensures taken { (a : ℕ) → a < 512 → span.address ≤ a → a < span.address + span.size → is_taken self.new.marks a ≡ true }
-        ensures left { (a : ℕ) → (a < span.address) ⊎ (span.address + span.size ≤ a) → is_taken self.new.marks a ≡ is_taken self.old.marks a }
+        ensures { (x : ℕ) → x < 512 → is_taken self.new.marks x ≡ (stated.covers span.address span.size x || is_taken self.old.marks x) }
     {
         for k in 0..span.size {
             self.mark(span.address as usize + k as usize);
         }
     }
 
+    fn is_taken(&self, address: usize) -> bool
+        ensures { result ≡ is_taken self.now.marks address }
+    {
+        match self.marks.get(address) {
+            Some(mark) => *mark,
+            None => false,
+        }
+    }
+
     // Whether no byte of a run is taken.
     fn is_free(&self, span: Span) -> bool
-        ensures { IsTrue result ↔ IsFree self.now.marks span.address span.size }
+        ensures { IsTrue result ↔ IsFree (λ x. is_taken self.now.marks x ≡ true) span.address span.size }
     {
         for k in 0..span.size {
-            let address = span.address as usize + k as usize;
-            if let Some(mark) = self.marks.get(address) {
-                if *mark {
-                    return false;
-                }
+            if self.is_taken(span.address as usize + k as usize) {
+                return false;
             }
         }
         true
@@ -88,7 +97,7 @@ impl Taken {
     // The lowest address of a region at which so many bytes are free.
     fn lowest_in(&self, region: Span, size: u16) -> Option<u16>
         requires { region.address + region.size ≤ 512 }
-        ensures { MatchOption result (IsFull self.now.marks region size) (λ address. IsLowestIn self.now.marks region size address) }
+        ensures { MatchOption result (IsFull (λ x. is_taken self.now.marks x ≡ true) region size) (λ address. IsLowestIn (λ x. is_taken self.now.marks x ≡ true) region size address) }
     {
         if size > region.size {
             return None;
@@ -105,10 +114,10 @@ impl Taken {
         None
     }
 
-    /// The lowest address at which so many bytes are free within one region, in the first region that
-    /// has such an address.
-    pub fn lowest(&self, size: u16) -> Option<u16>
-        ensures { MatchOption result (AreFull self.now.marks regions size) (λ address. IsLowest self.now.marks regions size address) }
+    // The lowest address at which so many bytes are free within one region, in the first region that
+    // has such an address.
+    fn lowest(&self, size: u16) -> Option<u16>
+        ensures { MatchOption result (AreFull (λ x. is_taken self.now.marks x ≡ true) regions size) (λ address. IsLowest (λ x. is_taken self.now.marks x ≡ true) regions size address) }
     {
         if let Some(address) = self.lowest_in(FIRST, size) {
             return Some(address);
@@ -122,14 +131,40 @@ impl Taken {
         self.lowest_in(FOURTH, size)
     }
 
+    /// Where something of so many bytes stands.
+    pub fn find(&self, size: u64) -> Option<Span>
+        ensures { MatchOption result (stated.HasNoPlace (λ x. is_taken self.now.marks x ≡ true) size) (λ span. stated.Stands (λ x. is_taken self.now.marks x ≡ true) size span.address × (span.size ≡ size) × (span.size ≤ 96)) }
+    {
+        if size > LARGEST {
+            return None;
+        }
+        let size = size as u16;
+        if size == 0 {
+            return Some(Span {
+                address: FIRST.address,
+                size,
+            });
+        }
+        match self.lowest(size) {
+            Some(address) => Some(Span { address, size }),
+            None => None,
+        }
+    }
+
     /// How many addresses are taken.
-    pub fn count(&self) -> u16 {
-        let mut count = 0u16;
-        for mark in &self.marks {
-            if *mark {
-                count = count.saturating_add(1);
-            }
+    pub fn count(&self) -> u16
+        ensures { result ≡ stated.count_below (is_taken self.now.marks) 512 }
+    {
+        let mut count = 0;
+        for address in 0..ADDRESSES {
+            count += self.counted(address);
         }
         count
+    }
+
+    fn counted(&self, address: usize) -> u16
+        ensures { result ≡ stated.counted (is_taken self.now.marks) address }
+    {
+        if self.is_taken(address) { 1 } else { 0 }
     }
 }

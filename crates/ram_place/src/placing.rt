@@ -1,12 +1,21 @@
 //! Where the static objects and the frames stand.
 
-ghost use Rattle.std.specs.Prelude.{◌≡◌, ◌≤◌, ◌^◌, length};
+ghost use Rattle.std.specs.Prelude.{◌≡◌, ℕ, ◌+◌, ◌<◌, ◌≤◌, ◌^◌, ◌||◌, ◌⊎◌, ◌++◌, ◌∷◌, [], true, false, length, map, slice_get, IfOk};
+ghost use Rattle.c_typed.specs.Views.{program_of, static_of};
+ghost use Rattle.pic_map.specs.MapView.{object_of, frame_of};
+ghost use Rattle.call_graph.specs.Copies.{AreCopies};
+ghost use Rattle.ram_place.specs.Answers as answers;
+ghost use Rattle.ram_place.specs.Live.{IsGraphOf, IsSound, IsIn};
+ghost use Rattle.ram_place.specs.Memory.{is_taken};
+ghost use Rattle.ram_place.specs.Placement as stated;
 ghost use Rattle.ram_place.specs.declared.placing.PlaceError.TheVariants.{NoMemory};
 
 use crate::frame::frame_bytes;
+use crate::live::Graph;
 use crate::memory::{Span, Taken};
-use c_typed::{FnId, Helper, Static, Typed, bytes_of};
-use call_graph::{Copies, FnCopy, graph_of, number_of, reached, reversed};
+use crate::naming::{copied, name_of};
+use c_typed::{Static, Typed, bytes_of};
+use call_graph::{Copies, FnCopy};
 use pic_map::{FrameLine, ObjLine};
 use std::alloc::{AllocError, Global};
 
@@ -35,196 +44,131 @@ impl From<AllocError> for PlaceError {
     }
 }
 
-// The size as a number of 16 bits, where a region may hold so much.
-fn small(size: u64) -> Option<u16> {
-    if size <= 96 { Some(size as u16) } else { None }
-}
-
-// The lowest free run of so many bytes. A run of none stands at 20h.
-fn find(taken: &Taken, size: u64) -> Option<Span> {
-    let size = small(size)?;
-    if size == 0 {
-        return Some(Span {
-            address: 0x20,
-            size: 0,
-        });
-    }
-    let address = taken.lowest(size)?;
-    Some(Span { address, size })
-}
-
-fn helper_name(helper: Helper) -> &'static [u8] {
-    match helper {
-        Helper::Mul2 => b"$mul2",
-        Helper::Mul4 => b"$mul4",
-        Helper::Divu2 => b"$divu2",
-        Helper::Divs2 => b"$divs2",
-        Helper::Remu2 => b"$remu2",
-        Helper::Rems2 => b"$rems2",
-        Helper::Divu4 => b"$divu4",
-        Helper::Divs4 => b"$divs4",
-        Helper::Remu4 => b"$remu4",
-        Helper::Rems4 => b"$rems4",
-        Helper::Shl2 => b"$shl2",
-        Helper::Shru2 => b"$shru2",
-        Helper::Shrs2 => b"$shrs2",
-        Helper::Shl4 => b"$shl4",
-        Helper::Shru4 => b"$shru4",
-        Helper::Shrs4 => b"$shrs4",
-    }
-}
-
-fn copied(alloc: Global, bytes: &[u8]) -> Result<Vec<u8>, AllocError> {
-    bytes.iter().copied().collect(alloc)
-}
-
-/// The name that a function or helper has in the map.
-pub fn name_of(alloc: Global, p: &Typed, function: FnId) -> Result<Vec<u8>, AllocError> {
-    match function {
-        FnId::Helper(helper) => copied(alloc, helper_name(helper)),
-        FnId::User(number) => match p.functions.get(number as usize) {
-            Some(function) => copied(alloc, &function.name),
-            None => Ok(Vec::new(alloc)),
-        },
-    }
-}
-
-fn place_static(
+// The line of a static object, where these bytes are taken.
+fn object_line(
     alloc: Global,
     p: &Typed,
     object: &Static,
-    taken: &mut Taken,
-) -> Result<ObjLine, PlaceError> {
+    taken: &Taken,
+) -> Result<ObjLine, PlaceError>
+    ensures { answers.TellsObject (program_of p.now) (λ x. is_taken taken.now.marks x ≡ true) (static_of object.now) result }
+{
     let name = copied(alloc, &object.name)?;
-    let Some(span) = find(taken, bytes_of(&p.structures, object.ty.ty)) else {
-        return Err(PlaceError::Ram { object: name });
-    };
-    taken.take(span);
-    Ok(ObjLine {
-        fixed: object.ty.constant,
-        name,
-        address: span.address,
-        size: span.size,
-    })
-}
-
-// The call graph, both ways.
-#[derive(Drop)]
-struct Graph {
-    rows: Vec<Vec<u32>>,
-    callers: Vec<Vec<u32>>,
-}
-
-// What a copy reaches, and what reaches it.
-#[derive(Drop)]
-struct Reach {
-    forward: Vec<bool>,
-    backward: Vec<bool>,
-}
-
-fn is_marked(marks: &[bool], number: u32) -> bool {
-    match marks.get(number as usize) {
-        Some(mark) => *mark,
-        None => false,
+    match taken.find(bytes_of(&p.structures, object.ty.ty)) {
+        Some(span) => Ok(ObjLine {
+            fixed: object.ty.constant,
+            name,
+            address: span.address,
+            size: span.size,
+        }),
+        None => Err(PlaceError::Ram { object: name }),
     }
 }
 
-fn reach_of(alloc: Global, graph: &Graph, number: u32) -> Result<Reach, AllocError> {
-    let forward = reached(alloc, &graph.rows, number)?;
-    let backward = reached(alloc, &graph.callers, number)?;
-    Ok(Reach { forward, backward })
-}
-
-// Whether two copies may be live together: their roots differ, or one reaches the other.
-fn may_be_live(functions: u32, reach: &Reach, copy: FnCopy, other: FnCopy) -> bool
-    requires { functions ≤ 2 ^ 28 }
-{
-    let number = number_of(functions, other.function);
-    copy.root != other.root
-        || is_marked(&reach.forward, number)
-        || is_marked(&reach.backward, number)
-}
-
-// Takes the frames before a copy's that may be live together with it.
-fn take_frames(
-    taken: &mut Taken,
-    functions: u32,
-    reach: &Reach,
-    copy: FnCopy,
-    others: &[FnCopy],
-    frames: &[FrameLine],
-)
-    requires { functions ≤ 2 ^ 28 }
-{
-    for (frame, other) in frames.iter().zip(others) {
-        if may_be_live(functions, reach, copy, *other) {
-            taken.take(Span {
-                address: frame.address,
-                size: frame.size,
-            });
-        }
-    }
-}
-
-fn place_frame(
+// The line of a copy's frame, where these bytes are taken.
+fn frame_line(
     alloc: Global,
     p: &Typed,
     copy: FnCopy,
     taken: &Taken,
-) -> Result<FrameLine, PlaceError> {
+) -> Result<FrameLine, PlaceError>
+    ensures { answers.TellsFrame (program_of p.now) (λ x. is_taken taken.now.marks x ≡ true) copy result }
+{
     let name = name_of(alloc, p, copy.function)?;
-    let Some(span) = find(taken, frame_bytes(p, copy.function)) else {
-        return Err(PlaceError::Ram { object: name });
-    };
-    Ok(FrameLine {
-        root: copy.root,
-        name,
-        address: span.address,
-        size: span.size,
-    })
+    match taken.find(frame_bytes(p, copy.function)) {
+        Some(span) => Ok(FrameLine {
+            root: copy.root,
+            name,
+            address: span.address,
+            size: span.size,
+        }),
+        None => Err(PlaceError::Ram { object: name }),
+    }
 }
 
-fn put_object(objects: &mut Vec<ObjLine>, line: ObjLine) -> Result<(), AllocError> {
+fn put_object(objects: &mut Vec<ObjLine>, line: ObjLine) -> Result<(), AllocError>
+    ensures { IfOk result (λ _. objects.new.items ≡ objects.old.items ++ (line ∷ [])) }
+{
     objects.push(line)?;
     Ok(())
 }
 
-fn put_frame(frames: &mut Vec<FrameLine>, line: FrameLine) -> Result<(), AllocError> {
+fn put_frame(frames: &mut Vec<FrameLine>, line: FrameLine) -> Result<(), AllocError>
+    ensures { IfOk result (λ _. frames.new.items ≡ frames.old.items ++ (line ∷ [])) }
+{
     frames.push(line)?;
     Ok(())
 }
 
-fn place_statics(alloc: Global, p: &Typed, taken: &mut Taken) -> Result<Vec<ObjLine>, PlaceError> {
-    let mut objects = Vec::new(alloc);
+// The static objects that are placed, and the bytes that they take.
+#[derive(Drop)]
+struct Objects {
+    lines: Vec<ObjLine>,
+    taken: Taken,
+}
+
+fn place_objects(alloc: Global, p: &Typed) -> Result<Objects, PlaceError>
+    ensures { answers.TellsObjects (program_of p.now) result }
+{
+    let mut lines = Vec::new(alloc);
+    let mut taken = Taken::none();
     for object in &p.statics {
-        let line = place_static(alloc, p, object, taken)?;
-        put_object(&mut objects, line)?;
+        let line = object_line(alloc, p, object, &taken)?;
+        taken.take(Span {
+            address: line.address,
+            size: line.size,
+        });
+        put_object(&mut lines, line)?;
     }
-    Ok(objects)
+    Ok(Objects { lines, taken })
+}
+
+// The line of a copy's frame behind those of the first of the copies.
+fn next_frame(
+    alloc: Global,
+    p: &Typed,
+    graph: &Graph,
+    objects: &Objects,
+    list: &[FnCopy],
+    copy: FnCopy,
+    frames: &[FrameLine],
+) -> Result<FrameLine, PlaceError>
+    requires graph { IsGraphOf (program_of p.now) graph.now }
+    requires sound { IsSound graph.now }
+    requires next { IsIn graph.now copy }
+    requires list { (k : ℕ) → (copy : FnCopy) → slice_get list.now k ≡ Some copy → IsIn graph.now copy }
+    requires objects { answers.AreMarked objects.now }
+    ensures { answers.TellsFrame (program_of p.now) (stated.IsTakenFor (program_of p.now) (map object_of objects.now.lines.items) list.now (map frame_of frames.now) copy) copy result }
+{
+    let mut taken = objects.taken;
+    graph.take_live(alloc, &mut taken, copy, list, frames)?;
+    frame_line(alloc, p, copy, &taken)
 }
 
 fn place_frames(
     alloc: Global,
     p: &Typed,
     graph: &Graph,
+    objects: &Objects,
     list: &[FnCopy],
-    statics: &Taken,
 ) -> Result<Vec<FrameLine>, PlaceError>
-    requires { length p.now.functions.items ≤ 2 ^ 28 }
+    requires graph { IsGraphOf (program_of p.now) graph.now }
+    requires sound { IsSound graph.now }
+    requires list { (k : ℕ) → (copy : FnCopy) → slice_get list.now k ≡ Some copy → IsIn graph.now copy }
+    requires objects { answers.AreMarked objects.now }
+    ensures { answers.TellsFrames (program_of p.now) (map object_of objects.now.lines.items) list.now result }
 {
-    let functions = p.functions.len() as u32;
     let mut frames = Vec::new(alloc);
     for copy in list {
-        let reach = reach_of(alloc, graph, number_of(functions, copy.function))?;
-        let mut taken = *statics;
-        take_frames(&mut taken, functions, &reach, *copy, list, &frames);
-        let line = place_frame(alloc, p, *copy, &taken)?;
+        let line = next_frame(alloc, p, graph, objects, list, *copy, &frames)?;
         put_frame(&mut frames, line)?;
     }
     Ok(frames)
 }
 
-fn take_all(taken: &mut Taken, frames: &[FrameLine]) {
+fn take_all(taken: &mut Taken, frames: &[FrameLine])
+    ensures { (x : ℕ) → x < 512 → is_taken taken.new.marks x ≡ (is_taken taken.old.marks x || stated.frames_have (map frame_of frames.now) x) }
+{
     for frame in frames {
         taken.take(Span {
             address: frame.address,
@@ -233,23 +177,42 @@ fn take_all(taken: &mut Taken, frames: &[FrameLine]) {
     }
 }
 
+// How many addresses objects and frames cover.
+fn covered(objects: &Objects, frames: &[FrameLine]) -> u16
+    requires { answers.AreMarked objects.now }
+    ensures { result ≡ stated.addresses_covered (map object_of objects.now.lines.items) (map frame_of frames.now) }
+{
+    let mut taken = objects.taken;
+    take_all(&mut taken, frames);
+    taken.count()
+}
+
 /// The addresses of a program with these copies. The static objects are placed in order of declaration,
 /// and then the frames in the order of the copies; each goes whole into one region, at the lowest address
 /// where it overlaps no static object and no earlier frame that may be live together with it. What has no
 /// bytes stands at 20h and overlaps nothing.
 pub fn place(alloc: Global, p: &Typed, copies: &Copies) -> Result<Placed, PlaceError>
-    requires { length p.now.functions.items ≤ 2 ^ 28 }
+    requires small { length p.now.functions.items ≤ 2 ^ 28 }
+    // The copies are those of the program.
+    requires known { AreCopies (program_of p.now) copies.now.list.items }
+    // The answer is that of the placing.
+    ensures exact { answers.TellsPlacing (program_of p.now) copies.now.list.items result }
+    // Frames that may be live together are disjoint,
+    ensures apart { IfOk result (λ placed. stated.LiveFramesAreDisjoint (program_of p.now) copies.now.list.items (map frame_of placed.frames.items)) }
+    // and no frame overlaps a static object,
+    ensures clear { IfOk result (λ placed. stated.FramesAreClear (map object_of placed.objects.items) (map frame_of placed.frames.items)) }
+    // nor does another static object.
+    ensures objects { IfOk result (λ placed. stated.ObjectsAreDisjoint (map object_of placed.objects.items)) }
+    // Each address that is covered is counted once.
+    ensures ram { IfOk result (λ placed. placed.ram ≡ stated.addresses_covered (map object_of placed.objects.items) (map frame_of placed.frames.items)) }
 {
-    let mut taken = Taken::none();
-    let objects = place_statics(alloc, p, &mut taken)?;
-    let rows = graph_of(alloc, p)?;
-    let callers = reversed(alloc, &rows)?;
-    let graph = Graph { rows, callers };
-    let frames = place_frames(alloc, p, &graph, &copies.list, &taken)?;
-    take_all(&mut taken, &frames);
+    let objects = place_objects(alloc, p)?;
+    let graph = Graph::new(alloc, p)?;
+    let frames = place_frames(alloc, p, &graph, &objects, &copies.list)?;
+    let ram = covered(&objects, &frames);
     Ok(Placed {
-        objects,
+        objects: objects.lines,
         frames,
-        ram: taken.count(),
+        ram,
     })
 }

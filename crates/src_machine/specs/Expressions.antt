@@ -81,7 +81,7 @@ arguments f values (tree.AndExpression e es) line k c m w = goes c (Eval e) (Arg
 abbrev pub eval : Setting → Expression → List Pending → CopyOf → Memory → World → Outcome
 eval s (tree.Constant value line) k c m w = goes c (Holds (datum.Number value)) k m w
 eval s (tree.Read place ty line) k c m w = goes c (Find place) (Reads ty line ∷ k) m w
-eval s (tree.Address place ty line) k c m w = goes c (Find place) (Takes (is_operator s.targets (place_type place).ty ty) line ∷ k) m w
+eval s (tree.Address place ty line) k c m w = goes c (Find place) (Takes (is_operator s.program.targets (place_type place).ty ty) line ∷ k) m w
 eval s (tree.Convert operand ty line) k c m w = goes c (Eval operand) (Converts ty line ∷ k) m w
 eval s (tree.Cast operand ty line) k c m w = goes c (Eval operand) (Casts ty line ∷ k) m w
 eval s (tree.Unary op operand ty line) k c m w = goes c (Eval operand) (Unaries op line ∷ k) m w

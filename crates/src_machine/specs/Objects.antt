@@ -9,7 +9,6 @@ use Rattle.c_typed.specs.Trees.{FunctionTree, Program, Statements, StaticTree, V
 use Rattle.c_typed.specs.Types.{type_bytes}
 use Rattle.c_typed.specs.declared.expression.Object.TheVariants as names
 use Rattle.c_typed.specs.declared.expression.Object.{Object as Name}
-use Rattle.c_typed.specs.declared.types.Qualified.{Qualified}
 use Rattle.c_typed.specs.declared.types.Ty.{Ty}
 use Rattle.src_machine.specs.declared.objects.Byte.{Byte}
 use Rattle.src_machine.specs.declared.objects.Byte.TheVariants as bytes
@@ -22,10 +21,9 @@ use Rattle.src_machine.specs.declared.objects.Spot.{Spot}
 use Rattle.src_machine.specs.declared.objects.Spot.TheVariants as spots
 use Rattle.src_machine.specs.World.{Outside}
 
--- what a run goes by: the program, what its pointers point to, and what comes from outside
+-- what a run goes by: the program, and what comes from outside
 pub record Setting : Type 0 where
   pub program : Program
-  pub targets : List Qualified
   pub outside : Outside
 
 -- ---- the parts of a program by their numbers

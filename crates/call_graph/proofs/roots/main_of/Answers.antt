@@ -1,10 +1,13 @@
 use Rattle.std.proofs.Common.{sym, ◌∙◌}
 use Rattle.c_typed.specs.Roots.{is_main}
-use Rattle.call_graph.proofs.Searches.{goes_on, nowhere}
+use Rattle.call_graph.proofs.Searches.{goes_on, nowhere, first_found, first_on, first_nowhere}
 use Rattle.call_graph.proofs.roots.main_of.Goals as goal
 
 pub loop-number-preserved : goal.loop-number-preserved
-loop-number-preserved c = goes_on is_main _ _ c.index-functions-number.result _ c.loop-number-test.true c.index-functions-number.is (sym c.is_main.ensures ∙ c.if-is_main.false) c.loop-number.invariant
+loop-number-preserved c = (goes_on is_main _ _ c.index-functions-number.result _ c.loop-number-test.true c.index-functions-number.is (sym c.is_main.ensures ∙ c.if-is_main.false) c.loop-number.invariant.0, first_on is_main _ _ c.index-functions-number.result _ c.loop-number-test.true c.index-functions-number.is (sym c.is_main.ensures ∙ c.if-is_main.false) c.loop-number.invariant.1)
+
+pub returns-then-is_main : goal.returns-then-is_main
+returns-then-is_main c = record { first = first_found is_main _ _ c.index-functions-number.result _ c.loop-number-test.true c.index-functions-number.is (sym c.is_main.ensures ∙ c.if-is_main.true) c.loop-number.invariant.1; none = tt }
 
 pub returns : goal.returns
-returns c = record { within = tt; none = sym (nowhere is_main _ _ _ c.loop-number-test.false c.loop-number.invariant) }
+returns c = record { first = first_nowhere is_main _ _ _ c.loop-number-test.false c.loop-number.invariant.1; none = sym (nowhere is_main _ _ _ c.loop-number-test.false c.loop-number.invariant.0) }

@@ -5,7 +5,7 @@ use Rattle.picc_cli.proofs.picc.run.Goals as goal
 pub returns-in-Ok-None-clause-files : goal.returns-in-Ok-None-clause-files
 returns-in-Ok-None-clause-files g c =
     let refused = rw c.in-Ok-None.field-0-is at c.in-Ok-None.ensures.refused in
-    refused_files _ _ (names_of c.args.files) _ _ c.in-Ok.ensures.bytes c.in-Ok.ensures.same_contents c.deref.ensures.value refused
+    refused_files _ _ _ (names_of c.args.files) _ _ c.in-Ok.ensures.bytes c.in-Ok.ensures.same_contents c.deref.ensures.value refused c.refused.ensures
 
 pub returns-in-Err-Failed-write_whole-clause-files : goal.returns-in-Err-Failed-write_whole-clause-files
 returns-in-Err-Failed-write_whole-clause-files g c =

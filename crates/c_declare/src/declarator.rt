@@ -1,0 +1,230 @@
+//! Specifiers, structures, declarators and parameters, from the tree's root down (ISO/IEC 9899:1990, 6.5).
+
+use crate::constants::array_length;
+use crate::outline::{Made, Outline, ParamList, add_field, add_param, line_of, outlined};
+use crate::specifiers::{self, Site, Specified, Words};
+use crate::type_name;
+use c_scope::checker::Checker;
+use c_scope::error::{CheckError, Kind, refused};
+use c_scope::types::{Progress, Types};
+use c_tree::expression::{Declarator, Member, NextParam, Param, Spec, Specs, StructBody, Suffix};
+use c_tree::word::Name;
+
+/// Where a declaration stands, and whether a structure may get its body there.
+#[derive(Clone, Copy)]
+pub struct Context {
+    pub site: Site,
+    pub bodies: bool,
+}
+
+const MEMBER: Context = Context {
+    site: Site::Member,
+    bodies: false,
+};
+
+fn param_context(bodies: bool) -> Context {
+    Context {
+        site: Site::Param,
+        bodies,
+    }
+}
+
+// The structure of a tag, which is declared here where the place may do so.
+fn structure_of(
+    tag: &Name,
+    types: &mut Types,
+    context: Context,
+    line: u32,
+) -> Result<u32, CheckError> {
+    match types.tagged(&tag.bytes) {
+        Some(structure) => Ok(structure),
+        None => match context.site {
+            Site::File | Site::Member => types.declare_tag(&tag.bytes),
+            _ => refused(Kind::Name, line),
+        },
+    }
+}
+
+// The structure whose body begins here.
+fn opened(body: &StructBody, types: &mut Types, context: Context) -> Result<u32, CheckError> {
+    let line = body.keyword;
+    let structure = match &body.tag {
+        Some(tag) => structure_of(tag, types, context, line)?,
+        None => types.untagged()?,
+    };
+    if types.progress(structure) != Progress::Absent {
+        return refused(Kind::Again, line);
+    }
+    if !context.bodies {
+        return refused(Kind::Declare, line);
+    }
+    types.set_progress(structure, Progress::Open);
+    Ok(structure)
+}
+
+/// What specifiers say.
+#[cycle(declarator)]
+pub fn specified(
+    specs: &Specs,
+    checker: &mut Checker,
+    context: Context,
+) -> Result<Specified, CheckError> {
+    let mut words = specifier(&specs.first, checker, context, Words::none())?;
+    for spec in &specs.others {
+        words = specifier(spec, checker, context, words)?;
+    }
+    let in_file = checker.scopes.is_file();
+    words.finished(context.site, in_file, specifiers::line_of(specs))
+}
+
+#[cycle(declarator)]
+fn specifier(
+    spec: &Spec,
+    checker: &mut Checker,
+    context: Context,
+    words: Words,
+) -> Result<Words, CheckError> {
+    match spec {
+        Spec::Word(word) => Ok(words.with_word(word.keyword)),
+        Spec::Reference { keyword, tag } => {
+            let structure = structure_of(tag, &mut checker.types, context, *keyword)?;
+            Ok(words.with_structure(structure))
+        }
+        Spec::Body(body) => {
+            let structure = opened(body, &mut checker.types, context)?;
+            structure_body(body, checker, structure)?;
+            Ok(words.with_structure(structure))
+        }
+    }
+}
+
+#[cycle(declarator)]
+fn structure_body(
+    body: &StructBody,
+    checker: &mut Checker,
+    structure: u32,
+) -> Result<(), CheckError> {
+    members(&body.first, checker, structure)?;
+    for member in &body.others {
+        members(member, checker, structure)?;
+    }
+    checker.types.set_progress(structure, Progress::Closed);
+    Ok(())
+}
+
+#[cycle(declarator)]
+fn members(member: &Member, checker: &mut Checker, structure: u32) -> Result<(), CheckError> {
+    let specified = specified(&member.specs, checker, MEMBER)?;
+    field(&member.first, checker, structure, specified)?;
+    for next in &member.others {
+        field(&next.declarator, checker, structure, specified)?;
+    }
+    Ok(())
+}
+
+#[cycle(declarator)]
+fn field(
+    declarator: &Declarator,
+    checker: &mut Checker,
+    structure: u32,
+    specified: Specified,
+) -> Result<(), CheckError> {
+    let outline = outline(declarator, checker, specified, false)?;
+    let line = line_of(declarator);
+    let name = &declarator.name.bytes;
+    add_field(&mut checker.types, structure, outline, name, line)
+}
+
+/// What a declarator makes of the type that its specifiers say. `bodies` says whether a structure may get
+/// its body among the parameters.
+#[cycle(declarator)]
+pub fn outline(
+    declarator: &Declarator,
+    checker: &mut Checker,
+    specified: Specified,
+    bodies: bool,
+) -> Result<Outline, CheckError> {
+    let base = type_name::pointers(&declarator.pointers, checker, specified.ty)?;
+    let made = suffixes(&declarator.suffixes, checker, bodies)?;
+    outlined(&mut checker.types, base, made)
+}
+
+#[cycle(declarator)]
+fn suffixes(
+    suffixes: &[Suffix],
+    checker: &mut Checker,
+    bodies: bool,
+) -> Result<Vec<Made>, CheckError> {
+    let mut made = Vec::new(checker.alloc);
+    for suffix in suffixes {
+        made.push(self::suffix(suffix, checker, bodies)?)?;
+    }
+    Ok(made)
+}
+
+#[cycle(declarator)]
+fn suffix(suffix: &Suffix, checker: &mut Checker, bodies: bool) -> Result<Made, CheckError> {
+    match suffix {
+        Suffix::Array { length, .. } => match length {
+            Some(length) => Ok(Made::Array(array_length(length, checker)?)),
+            None => Ok(Made::Array(0)),
+        },
+        Suffix::Empty { .. } | Suffix::Void { .. } => {
+            Ok(Made::Function(ParamList::new(checker.alloc)))
+        }
+        Suffix::Params { first, others, .. } => {
+            let mut list = ParamList::new(checker.alloc);
+            param(first, checker, bodies, &mut list)?;
+            params(others, checker, bodies, &mut list)?;
+            Ok(Made::Function(list))
+        }
+    }
+}
+
+#[cycle(declarator)]
+fn params(
+    others: &[NextParam],
+    checker: &mut Checker,
+    bodies: bool,
+    list: &mut ParamList,
+) -> Result<(), CheckError> {
+    for next in others {
+        param(&next.param, checker, bodies, list)?;
+    }
+    Ok(())
+}
+
+#[cycle(declarator)]
+fn param(
+    param: &Param,
+    checker: &mut Checker,
+    bodies: bool,
+    list: &mut ParamList,
+) -> Result<(), CheckError> {
+    match param {
+        Param::Named { specs, declarator } => {
+            let specified = specified(specs, checker, param_context(bodies))?;
+            let outline = outline(declarator, checker, specified, bodies)?;
+            let line = line_of(declarator);
+            add_param(
+                checker,
+                list,
+                specified,
+                outline,
+                Some(&declarator.name),
+                line,
+            )
+        }
+        Param::Unnamed {
+            specs,
+            pointers,
+            suffixes,
+        } => {
+            let specified = specified(specs, checker, param_context(bodies))?;
+            let base = type_name::pointers(pointers, checker, specified.ty)?;
+            let made = self::suffixes(suffixes, checker, bodies)?;
+            let outline = outlined(&mut checker.types, base, made)?;
+            add_param(checker, list, specified, outline, None, specified.line)
+        }
+    }
+}

@@ -1,0 +1,55 @@
+//! Calls of functions (ISO/IEC 9899:1990, 6.3.2.2).
+
+use crate::conversion::assigned;
+use crate::term::{Form, Operand, Term, refuse_table, value_term};
+use c_scope::checker::Checker;
+use c_scope::error::{CheckError, Kind, refused};
+use c_typed::TExpr;
+
+// The number of the function that a term names without brackets.
+fn function_of(term: &Term) -> Option<u32> {
+    match &term.form {
+        Form::Function { number, bare } if *bare => Some(*number),
+        _ => None,
+    }
+}
+
+/// Refuses the call of a function that is nowhere defined.
+pub fn refuse_undefined(checker: &Checker, term: &Term) -> Result<(), CheckError> {
+    refuse_table(term)?;
+    let Some(number) = function_of(term) else {
+        return Ok(());
+    };
+    match checker.functions.signature(number) {
+        Some(signature) if signature.definition.is_some() => Ok(()),
+        _ => refused(Kind::Name, term.line),
+    }
+}
+
+/// The call of what a term names, with arguments.
+pub fn call(checker: &Checker, term: Term, arguments: Vec<Operand>) -> Result<Term, CheckError> {
+    let line = term.start;
+    let Some(number) = function_of(&term) else {
+        return refused(Kind::Call, line);
+    };
+    let Some(signature) = checker.functions.signature(number) else {
+        return refused(Kind::Call, line);
+    };
+    let Some(function) = signature.definition else {
+        return refused(Kind::Name, line);
+    };
+    if signature.params.len() != arguments.len() {
+        return refused(Kind::Call, line);
+    }
+    let mut passed = Vec::new(checker.alloc);
+    for (argument, ty) in arguments.into_iter().zip(signature.params.iter()) {
+        passed.push(assigned(checker.alloc, &checker.types, argument, *ty, line)?)?;
+    }
+    let value = TExpr::Call {
+        function,
+        arguments: passed,
+        ty: signature.result.ty,
+        line,
+    };
+    Ok(value_term(value, line))
+}

@@ -1,0 +1,270 @@
+//! Operators on places: `& * [] . ->` and `sizeof` (ISO/IEC 9899:1990, 6.3.2 and 6.3.3).
+
+use crate::conversion::converted;
+use crate::operation::operation_of;
+use crate::term::{
+    Form, Operand, Place, Term, array_start, constant, into_place, place_term, refuse_table,
+    used_value, value_term,
+};
+use c_ints::{BinOp, IntTy};
+use c_scope::error::{CheckError, Kind, number, refused};
+use c_scope::types::Types;
+use c_typed::{TExpr, TPlace, Ty};
+use std::alloc::Global;
+
+/// What a pointer points to; `line` is that of the node's first token.
+pub fn pointed(
+    alloc: Global,
+    types: &Types,
+    operand: Operand,
+    line: u32,
+) -> Result<Term, CheckError> {
+    let Some(row) = operand.value.ty().target() else {
+        return refused(Kind::Operand, line);
+    };
+    let ty = types.target(row);
+    if !types.is_complete(ty.ty) {
+        return refused(Kind::Operand, line);
+    }
+    let place = TPlace::Deref {
+        pointer: Box::new(alloc, operand.value)?,
+        ty,
+        line,
+    };
+    let place = Place {
+        place,
+        through: true,
+        fixed: false,
+    };
+    Ok(place_term(place, line))
+}
+
+/// `&` of a term.
+pub fn address(
+    alloc: Global,
+    types: &mut Types,
+    term: Term,
+    line: u32,
+) -> Result<Term, CheckError> {
+    refuse_table(&term)?;
+    let Some(place) = into_place(term) else {
+        return refused(Kind::Address, line);
+    };
+    if !place.is_addressable() {
+        return refused(Kind::Address, line);
+    }
+    let ty = types.pointer_to(place.ty())?;
+    let value = TExpr::Address {
+        place: Box::new(alloc, place.place)?,
+        ty,
+        line,
+    };
+    Ok(value_term(value, line))
+}
+
+// The rest of a number modulo that of the unsigned ints.
+fn as_unsigned_int(size: u64) -> u32 {
+    (size & 0xffff) as u32
+}
+
+/// The size of a type as a constant.
+pub fn size_of_type(types: &Types, ty: Ty, line: u32) -> Result<Term, CheckError> {
+    if !types.is_complete(ty) {
+        return refused(Kind::Incomplete, line);
+    }
+    let value = constant(IntTy::UInt, as_unsigned_int(types.bytes_of(ty)), line);
+    Ok(value_term(value, line))
+}
+
+/// `sizeof` of a term, which is no bit and no function.
+pub fn size_of_term(types: &Types, term: Term, line: u32) -> Result<Term, CheckError> {
+    let ty = match &term.form {
+        Form::Value(value) => value.ty(),
+        Form::Place(place) => match &place.place {
+            TPlace::Bit { .. } => return refused(Kind::Operand, line),
+            _ => place.ty().ty,
+        },
+        Form::Function { .. } => return refused(Kind::Operand, line),
+    };
+    size_of_type(types, ty, line)
+}
+
+/// What stands before `[`: an array stays a place, so that its elements count as parts of it.
+pub fn indexable(alloc: Global, types: &mut Types, term: Term) -> Result<Term, CheckError> {
+    let is_array = match &term.form {
+        Form::Place(place) => place.ty().ty.is_array(),
+        _ => false,
+    };
+    if is_array {
+        return Ok(term);
+    }
+    let found = used_value(alloc, types, term)?;
+    Ok(Term {
+        form: Form::Value(found.value),
+        null: found.null,
+        line: found.line,
+        start: found.start,
+    })
+}
+
+// Where an element of a term lies: whether it is reached through a pointer, and whether its address
+// can't be taken.
+#[derive(Clone, Copy)]
+struct Reach {
+    through: bool,
+    fixed: bool,
+}
+
+// The pointer or integer that a term is in `e[i]`, and how what an array has is reached.
+fn side(
+    alloc: Global,
+    types: &mut Types,
+    term: Term,
+) -> Result<(Operand, Option<Reach>), CheckError> {
+    let Term {
+        form,
+        null,
+        line,
+        start,
+    } = term;
+    let (value, reach) = match form {
+        Form::Value(value) => (value, None),
+        Form::Place(place) => in_array(alloc, types, place)?,
+        Form::Function { .. } => return refused(Kind::Operand, line),
+    };
+    let found = Operand {
+        value,
+        null,
+        line,
+        start,
+    };
+    Ok((found, reach))
+}
+
+fn in_array(
+    alloc: Global,
+    types: &mut Types,
+    place: Place,
+) -> Result<(TExpr, Option<Reach>), CheckError> {
+    let line = place.place.line();
+    match place.ty().ty {
+        Ty::Array { element, .. } => {
+            let reach = Reach {
+                through: place.through,
+                fixed: place.fixed,
+            };
+            let value = array_start(alloc, types, place.place, element)?;
+            Ok((value, Some(reach)))
+        }
+        ty => {
+            let place = Box::new(alloc, place.place)?;
+            Ok((TExpr::Read { place, ty, line }, None))
+        }
+    }
+}
+
+/// `e[i]`, which is `*(e + i)`. An element of an array that isn't reached through a pointer is a part of
+/// that array.
+pub fn element(
+    alloc: Global,
+    types: &mut Types,
+    whole: Term,
+    index: Term,
+) -> Result<Term, CheckError> {
+    let line = whole.start;
+    let (left, left_reach) = side(alloc, types, whole)?;
+    let (right, right_reach) = side(alloc, types, index)?;
+    let Some(found) = operation_of(types, BinOp::Add, left.side(), right.side()) else {
+        return refused(Kind::Operand, line);
+    };
+    let Ty::Pointer(row) = found.ty else {
+        return refused(Kind::Operand, line);
+    };
+    let left = converted(alloc, left.value, found.left)?;
+    let right = converted(alloc, right.value, found.right)?;
+    let pointer = TExpr::Offset {
+        op: BinOp::Add,
+        left: Box::new(alloc, left)?,
+        right: Box::new(alloc, right)?,
+        size: found.size,
+        ty: found.ty,
+        line,
+    };
+    let place = TPlace::Deref {
+        pointer: Box::new(alloc, pointer)?,
+        ty: types.target(row),
+        line,
+    };
+    let reach = reached(left_reach, right_reach);
+    let place = Place {
+        place,
+        through: reach.through,
+        fixed: reach.fixed,
+    };
+    Ok(place_term(place, line))
+}
+
+fn reached(left: Option<Reach>, right: Option<Reach>) -> Reach {
+    match left {
+        Some(reach) => reach,
+        None => match right {
+            Some(reach) => reach,
+            None => Reach {
+                through: true,
+                fixed: false,
+            },
+        },
+    }
+}
+
+/// The member of a name of a structure that is a place; `line` is that of the node's first token.
+pub fn member(
+    alloc: Global,
+    types: &Types,
+    whole: Term,
+    name: &[u8],
+    line: u32,
+) -> Result<Term, CheckError> {
+    refuse_table(&whole)?;
+    let Some(whole) = into_place(whole) else {
+        return refused(Kind::Member, line);
+    };
+    let Ty::Struct(structure) = whole.ty().ty else {
+        return refused(Kind::Member, line);
+    };
+    let Some((index, field)) = types.member(structure, name) else {
+        return refused(Kind::Member, line);
+    };
+    let ty = field.ty.qualified_as(whole.ty());
+    let place = TPlace::Member {
+        whole: Box::new(alloc, whole.place)?,
+        member: number(index)?,
+        offset: field.offset,
+        ty,
+        line,
+    };
+    let place = Place {
+        place,
+        through: whole.through,
+        fixed: whole.fixed,
+    };
+    Ok(place_term(place, line))
+}
+
+/// The member of a name of the structure that a pointer points to.
+pub fn pointed_member(
+    alloc: Global,
+    types: &Types,
+    pointer: Operand,
+    name: &[u8],
+    line: u32,
+) -> Result<Term, CheckError> {
+    let Some(row) = pointer.value.ty().target() else {
+        return refused(Kind::Member, line);
+    };
+    if !types.is_complete(types.target(row).ty) {
+        return refused(Kind::Member, line);
+    }
+    let whole = pointed(alloc, types, pointer, line)?;
+    member(alloc, types, whole, name, line)
+}

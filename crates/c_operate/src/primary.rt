@@ -1,0 +1,91 @@
+//! Names, constants and brackets (ISO/IEC 9899:1990, 6.3.1).
+
+use crate::term::{Form, Place, Term, constant, place_term, value_term};
+use c_ints::IntTy;
+use c_scope::error::{CheckError, Kind, refused};
+use c_scope::scope::{Binding, Scopes};
+use c_tree::word::{Constant, Name};
+use c_typed::TPlace;
+
+/// A name as an expression.
+pub fn named(scopes: &Scopes, name: &Name) -> Result<Term, CheckError> {
+    let line = name.line;
+    let Some(binding) = scopes.find(&name.bytes) else {
+        return refused(Kind::Name, line);
+    };
+    let term = match binding {
+        Binding::Object { object, ty, fixed } => {
+            let place = Place {
+                place: TPlace::Name { object, ty, line },
+                through: false,
+                fixed,
+            };
+            place_term(place, line)
+        }
+        Binding::Bit { register, bit } => {
+            let place = Place {
+                place: TPlace::Bit {
+                    register,
+                    bit,
+                    line,
+                },
+                through: false,
+                fixed: true,
+            };
+            place_term(place, line)
+        }
+        Binding::Function(number) => Term {
+            form: Form::Function { number, bare: true },
+            null: false,
+            line,
+            start: line,
+        },
+    };
+    Ok(term)
+}
+
+/// A constant as an expression.
+pub fn constant_term(token: Constant) -> Term {
+    match token {
+        Constant::Int {
+            value,
+            base,
+            unsigned_suffix,
+            long_suffix,
+            line,
+        } => {
+            let ty = c_ints::constant(value, base, unsigned_suffix, long_suffix);
+            let mut term = value_term(constant(ty, value, line), line);
+            term.null = value == 0;
+            term
+        }
+        Constant::Char { value, line } => {
+            let mut term = value_term(constant(IntTy::Int, value as u32, line), line);
+            term.null = value == 0;
+            term
+        }
+    }
+}
+
+/// An expression with brackets round it, the opening one on this line.
+pub fn grouped(term: Term, opening: u32) -> Term {
+    let Term {
+        form,
+        null,
+        line,
+        ..
+    } = term;
+    let form = match form {
+        Form::Function { number, .. } => Form::Function {
+            number,
+            bare: false,
+        },
+        other => other,
+    };
+    Term {
+        form,
+        null,
+        line,
+        start: opening,
+    }
+}

@@ -1,0 +1,215 @@
+//! Expressions that are checked already, and their values.
+
+use c_ints::{IntTy, Value};
+use c_scope::checker::Checker;
+use c_scope::error::{CheckError, Kind, refused};
+use c_scope::types::Types;
+use c_typed::{Qualified, TExpr, TPlace, Ty};
+use std::alloc::Global;
+
+/// A place. `through` says that it is reached through a pointer; `fixed` that it isn't, and is part of
+/// what no address can be taken of: a register or bit of the device, or a `register` object.
+#[derive(Drop)]
+pub(crate) struct Place {
+    pub place: TPlace,
+    pub through: bool,
+    pub fixed: bool,
+}
+
+impl Place {
+    pub fn ty(&self) -> Qualified {
+        self.place.ty()
+    }
+
+    /// Whether `&` may stand before it: it is reached through a pointer, or is part of an object that is
+    /// neither const nor declared `register`.
+    pub fn is_addressable(&self) -> bool {
+        self.through || !(self.fixed || self.ty().constant)
+    }
+
+    /// Whether it is a const array, which may only be indexed or measured.
+    pub fn is_table(&self) -> bool {
+        let ty = self.ty();
+        ty.ty.is_array() && ty.constant && !self.through
+    }
+}
+
+/// What an expression is.
+#[derive(Drop)]
+pub(crate) enum Form {
+    Value(TExpr),
+    Place(Place),
+    /// The name of the function of this number among those declared; `bare` where no brackets stand
+    /// round it.
+    Function { number: u32, bare: bool },
+}
+
+/// An expression that is checked: what it is, whether it is a null constant, the line of its first
+/// token, and that of its first token with the brackets round it.
+#[derive(Drop)]
+pub struct Term {
+    pub(crate) form: Form,
+    pub(crate) null: bool,
+    pub(crate) line: u32,
+    pub start: u32,
+}
+
+/// An expression whose value is used.
+#[derive(Drop)]
+pub struct Operand {
+    pub value: TExpr,
+    pub null: bool,
+    pub line: u32,
+    pub start: u32,
+}
+
+impl Operand {
+    /// The type of the value, and whether it is a null constant.
+    pub fn side(&self) -> Side {
+        Side {
+            ty: self.value.ty(),
+            null: self.null,
+        }
+    }
+}
+
+/// The type of an operand, and whether it is a null constant.
+#[derive(Clone, Copy)]
+pub struct Side {
+    pub ty: Ty,
+    pub null: bool,
+}
+
+/// A value at this line.
+pub(crate) fn value_term(value: TExpr, line: u32) -> Term {
+    Term {
+        form: Form::Value(value),
+        null: false,
+        line,
+        start: line,
+    }
+}
+
+/// A place at this line.
+pub(crate) fn place_term(place: Place, line: u32) -> Term {
+    Term {
+        form: Form::Place(place),
+        null: false,
+        line,
+        start: line,
+    }
+}
+
+/// The value of the constant 0 or 1, or of a size.
+pub(crate) fn constant(ty: IntTy, bits: u32, line: u32) -> TExpr {
+    TExpr::Constant {
+        value: Value::new(ty, bits),
+        line,
+    }
+}
+
+/// The pointer to the first element of an array.
+pub(crate) fn array_start(
+    alloc: Global,
+    types: &mut Types,
+    place: TPlace,
+    element: u32,
+) -> Result<TExpr, CheckError> {
+    let line = place.line();
+    let target = place.ty().of(types.target(element).ty);
+    let ty = types.pointer_to(target)?;
+    Ok(TExpr::Address {
+        place: Box::new(alloc, place)?,
+        ty,
+        line,
+    })
+}
+
+// The value of a place: an array is the pointer to its first element, which a const array can't be.
+fn place_value(alloc: Global, types: &mut Types, place: Place) -> Result<TExpr, CheckError> {
+    let line = place.place.line();
+    if place.is_table() {
+        return refused(Kind::Address, line);
+    }
+    match place.ty().ty {
+        Ty::Array { element, .. } => array_start(alloc, types, place.place, element),
+        ty => Ok(TExpr::Read {
+            place: Box::new(alloc, place.place)?,
+            ty,
+            line,
+        }),
+    }
+}
+
+// The value of an expression. A function has none.
+pub(crate) fn used_value(
+    alloc: Global,
+    types: &mut Types,
+    term: Term,
+) -> Result<Operand, CheckError> {
+    let Term {
+        form,
+        null,
+        line,
+        start,
+    } = term;
+    let value = match form {
+        Form::Value(value) => value,
+        Form::Place(place) => place_value(alloc, types, place)?,
+        Form::Function { .. } => return refused(Kind::Operand, line),
+    };
+    Ok(Operand {
+        value,
+        null,
+        line,
+        start,
+    })
+}
+
+/// The value of an expression. A function has none.
+pub fn used(term: Term, checker: &mut Checker) -> Result<Operand, CheckError> {
+    used_value(checker.alloc, &mut checker.types, term)
+}
+
+/// Refuses a const array that is neither indexed nor measured.
+pub fn refuse_table(term: &Term) -> Result<(), CheckError> {
+    match &term.form {
+        Form::Place(place) => {
+            if place.is_table() {
+                refused(Kind::Address, term.line)
+            } else {
+                Ok(())
+            }
+        }
+        _ => Ok(()),
+    }
+}
+
+/// The place that a term is, if it is one.
+pub(crate) fn into_place(term: Term) -> Option<Place> {
+    match term.form {
+        Form::Place(place) => Some(place),
+        _ => None,
+    }
+}
+
+/// The place whose structure a value is read from.
+pub fn read_from(value: TExpr) -> Option<TPlace> {
+    match value {
+        TExpr::Read { place, .. } => Some(Box::into_inner(place)),
+        _ => None,
+    }
+}
+
+/// The place that is written by an assignment, `++` or `--` at this line.
+pub(crate) fn written(term: Term, line: u32) -> Result<TPlace, CheckError> {
+    let Some(place) = into_place(term) else {
+        return refused(Kind::Assign, line);
+    };
+    let ty = place.ty();
+    if ty.constant || ty.ty.is_array() {
+        refused(Kind::Assign, line)
+    } else {
+        Ok(place.place)
+    }
+}

@@ -1,0 +1,47 @@
+//! The objects of a unit that last as long as the program (ISO/IEC 9899:1990, 6.1.2.4).
+
+use crate::error::{CheckError, number};
+use c_typed::{Initial, Qualified, Static};
+use std::alloc::Global;
+
+/// The static objects of a unit, in the order of their declarators.
+#[derive(Drop)]
+pub struct Statics {
+    alloc: Global,
+    entries: Vec<Static>,
+}
+
+impl Statics {
+    /// No objects.
+    pub fn new(alloc: Global) -> Statics {
+        Statics {
+            alloc,
+            entries: Vec::new(alloc),
+        }
+    }
+
+    /// Puts an object that begins as 0 behind the others, and gives its number.
+    pub fn add(&mut self, name: Vec<u8>, ty: Qualified, line: u32) -> Result<u32, CheckError> {
+        let object = number(self.entries.len())?;
+        self.entries.push(Static {
+            name,
+            ty,
+            initial: Vec::new(self.alloc),
+            line,
+        })?;
+        Ok(object)
+    }
+
+    /// Gives an object the type that its initializer completed, and the bytes that it begins with.
+    pub fn complete(&mut self, object: u32, ty: Qualified, initial: Vec<Initial>) {
+        if let Some(entry) = self.entries.get_mut(object as usize) {
+            entry.ty = ty;
+            entry.initial = initial;
+        }
+    }
+
+    /// The objects in order.
+    pub fn into_entries(self) -> Vec<Static> {
+        self.entries
+    }
+}

@@ -1,0 +1,238 @@
+//! The types that a unit has so far.
+
+use crate::error::{CheckError, Kind, number};
+use c_typed::{Member, Qualified, Structure, Ty};
+use indexmap::{IndexMap, IndexSet};
+use std::alloc::Global;
+
+/// A member of a structure, and how many bytes stand before it.
+#[derive(Clone, Copy)]
+pub struct Field {
+    pub ty: Qualified,
+    pub offset: u64,
+}
+
+/// A structure: its members in order, its bytes so far, and how far its body is.
+#[derive(Drop)]
+struct Shape {
+    fields: IndexMap<Vec<u8>, Field>,
+    size: u64,
+    body: Progress,
+}
+
+/// How far the body of a structure is.
+#[derive(Clone, Copy, PartialEq, Eq)]
+pub enum Progress {
+    Absent,
+    Open,
+    Closed,
+}
+
+/// The types of a unit: what pointers point to and arrays are made of, the structures, and their
+/// tags.
+#[derive(Drop)]
+pub struct Types {
+    alloc: Global,
+    targets: IndexSet<Qualified>,
+    shapes: Vec<Shape>,
+    tags: IndexMap<Vec<u8>, u32>,
+}
+
+/// The greatest number of bytes that an object has.
+pub const MOST_BYTES: u64 = 65_535;
+
+// A number of bytes is exact up to 2 ^ 40. Beyond it only its rest modulo 65,536 is kept, which is what
+// `sizeof` shows of it.
+fn kept(size: u64) -> u64 {
+    const EXACT: u64 = 0x100_0000_0000;
+    if size < EXACT {
+        size
+    } else {
+        (size & 0xffff) | EXACT
+    }
+}
+
+impl Types {
+    pub fn new(alloc: Global) -> Types {
+        Types {
+            alloc,
+            targets: IndexSet::new(alloc),
+            shapes: Vec::new(alloc),
+            tags: IndexMap::new(alloc),
+        }
+    }
+
+    /// The row of a type that is pointed to.
+    fn row(&mut self, target: Qualified) -> Result<u32, CheckError> {
+        let (index, _) = self.targets.insert_full(target)?;
+        number(index)
+    }
+
+    /// The type of a row.
+    pub fn target(&self, row: u32) -> Qualified {
+        match self.targets.get_index(row as usize) {
+            Some(target) => *target,
+            None => Qualified::plain(Ty::Void),
+        }
+    }
+
+    /// The pointer to a type.
+    pub fn pointer_to(&mut self, target: Qualified) -> Result<Ty, CheckError> {
+        Ok(Ty::Pointer(self.row(target)?))
+    }
+
+    /// The array of this many elements, or of a number not known yet, which is 0.
+    pub fn array_of(&mut self, element: Qualified, length: u32) -> Result<Qualified, CheckError> {
+        let size = kept(self.bytes_of(element.ty).wrapping_mul(length as u64));
+        let row = self.row(Qualified::plain(element.ty))?;
+        Ok(element.of(Ty::Array {
+            element: row,
+            length,
+            size,
+        }))
+    }
+
+    /// How many bytes a value or an object of the type has so far.
+    pub fn bytes_of(&self, ty: Ty) -> u64 {
+        match ty {
+            Ty::Struct(number) => match self.shapes.get(number as usize) {
+                Some(shape) => shape.size,
+                None => 0,
+            },
+            other => c_typed::bytes_of(&[], other),
+        }
+    }
+
+    /// Whether an object can have the type: it is no void, no structure without a whole body, and no
+    /// array without a length.
+    pub fn is_complete(&self, ty: Ty) -> bool {
+        match ty {
+            Ty::Void => false,
+            Ty::Int(_) | Ty::Pointer(_) => true,
+            Ty::Array { length, .. } => length != 0,
+            Ty::Struct(number) => self.progress(number) == Progress::Closed,
+        }
+    }
+
+    /// How far the body of a structure is.
+    pub fn progress(&self, number: u32) -> Progress {
+        match self.shapes.get(number as usize) {
+            Some(shape) => shape.body,
+            None => Progress::Absent,
+        }
+    }
+
+    /// Why a body of a structure can't stand where no body may: it is a second one, or one too many.
+    pub fn second_body(&self, number: u32) -> Kind {
+        if self.progress(number) == Progress::Absent {
+            Kind::Declare
+        } else {
+            Kind::Again
+        }
+    }
+
+    /// A structure without a body so far.
+    fn add_structure(&mut self) -> Result<u32, CheckError> {
+        let index = number(self.shapes.len())?;
+        let shape = Shape {
+            fields: IndexMap::new(self.alloc),
+            size: 0,
+            body: Progress::Absent,
+        };
+        self.shapes.push(shape)?;
+        Ok(index)
+    }
+
+    /// The structure of a tag.
+    pub fn tagged(&self, tag: &[u8]) -> Option<u32> {
+        self.tags.get(tag).copied()
+    }
+
+    /// A structure without a tag.
+    pub fn untagged(&mut self) -> Result<u32, CheckError> {
+        self.add_structure()
+    }
+
+    /// The structure of a tag that isn't declared yet.
+    pub fn declare_tag(&mut self, tag: &[u8]) -> Result<u32, CheckError> {
+        let structure = self.add_structure()?;
+        self.tags.insert(tag.to_vec(self.alloc)?, structure)?;
+        Ok(structure)
+    }
+
+    /// Says how far the body of a structure is.
+    pub fn set_progress(&mut self, number: u32, body: Progress) {
+        if let Some(shape) = self.shapes.get_mut(number as usize) {
+            shape.body = body;
+        }
+    }
+
+    /// Whether a structure has a member of the name.
+    pub fn has_member(&self, number: u32, name: &[u8]) -> bool {
+        match self.shapes.get(number as usize) {
+            Some(shape) => shape.fields.contains_key(name),
+            None => false,
+        }
+    }
+
+    /// Puts a member behind those that a structure has.
+    pub fn add_member(
+        &mut self,
+        number: u32,
+        name: &[u8],
+        ty: Qualified,
+    ) -> Result<(), CheckError> {
+        let bytes = self.bytes_of(ty.ty);
+        let name = name.to_vec(self.alloc)?;
+        if let Some(shape) = self.shapes.get_mut(number as usize) {
+            let offset = shape.size;
+            shape.fields.insert(name, Field { ty, offset })?;
+            shape.size = kept(offset.wrapping_add(bytes));
+        }
+        Ok(())
+    }
+
+    /// The member of a name, and its number.
+    pub fn member(&self, number: u32, name: &[u8]) -> Option<(usize, Field)> {
+        let shape = self.shapes.get(number as usize)?;
+        let (index, _, field) = shape.fields.get_full(name)?;
+        Some((index, *field))
+    }
+
+    /// The member of a number.
+    pub fn member_at(&self, number: u32, index: usize) -> Option<Field> {
+        let shape = self.shapes.get(number as usize)?;
+        let (_, field) = shape.fields.get_index(index)?;
+        Some(*field)
+    }
+}
+
+fn structure_of(alloc: Global, shape: Shape) -> Result<Structure, CheckError> {
+    let mut members = Vec::new(alloc);
+    for (name, field) in shape.fields {
+        members.push(Member {
+            name,
+            ty: field.ty,
+            offset: field.offset,
+        })?;
+    }
+    Ok(Structure {
+        members,
+        size: shape.size,
+    })
+}
+
+impl Types {
+    /// The rows of what is pointed to, and the structures.
+    pub fn into_tables(self) -> Result<(Vec<Qualified>, Vec<Structure>), CheckError> {
+        let mut targets = Vec::new(self.alloc);
+        for target in self.targets {
+            targets.push(target)?;
+        }
+        let mut structures = Vec::new(self.alloc);
+        for shape in self.shapes {
+            structures.push(structure_of(self.alloc, shape)?)?;
+        }
+        Ok((targets, structures))
+    }
+}

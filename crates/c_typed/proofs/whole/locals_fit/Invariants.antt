@@ -1,0 +1,11 @@
+use Rattle.std.proofs.Common.{◌≡◌, length, map}
+use Rattle.std.specs.List.{list_all}
+use Rattle.c_typed.proofs.whole.locals_fit.Given as goal
+use Rattle.c_typed.specs.Sound.{local_fits}
+use Rattle.c_typed.specs.Views.{tables_of, variable_of}
+
+abbrev pub invariant-loop-rest : goal.invariant-loop-rest
+invariant-loop-rest l = list_all (local_fits (tables_of l.p)) (map variable_of l.rest) ≡ list_all (local_fits (tables_of l.p)) (map variable_of l.locals)
+
+abbrev pub decreases-loop-rest : goal.decreases-loop-rest
+decreases-loop-rest l = length l.rest

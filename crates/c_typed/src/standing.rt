@@ -1,0 +1,14 @@
+//! Where an expression stands.
+
+/// Where an expression stands, as far as the typing rules ask.
+#[derive(Clone, Copy, PartialEq, Eq, Debug)]
+pub enum Standing {
+    /// Where its value is used.
+    Used,
+    /// Behind `*`, or as the address that an index makes.
+    Pointed,
+    /// As an operand of a sum behind `*`: where an index counts from.
+    Indexed,
+    /// As a statement.
+    Alone,
+}

@@ -1,0 +1,62 @@
+-- What holds of the front of a text that was read holds of the whole text: the rest shows only that the text is too long.
+use Rattle.std.proofs.Common.{◌≡◌, ℕ, ◌<◌, ◌≤◌, inl, inr, ⊎_elim, List, length, take, refl, sym, ap, ◌∙◌, subst, arith, min, Result, Ok, Err}
+use Rattle.std.proofs.lemmas.Bool.{cases_lt, lt-ltb}
+use Rattle.std.proofs.lemmas.List.{length-take}
+use Rattle.picc_core.specs.Answers.{Tells}
+use Rattle.picc_core.specs.Texts.{tokens_left, within_limits, program_tokens, HasTree, HasNoTree}
+use Rattle.picc_core.specs.declared.refusal.CompileError.TheVariants.{Refused}
+use Rattle.picc_core.specs.declared.refusal.LimitKind.TheVariants as kinds
+use Rattle.picc_core.specs.declared.refusal.Refusal.{Refusal}
+use Rattle.picc_core.specs.declared.refusal.Refusal.TheVariants.{Lex, Word, Directive, Syntax, Typing, Recursion, Roots, Depth, Ram, Code, Page, Limit}
+use Rattle.picc_cli.specs.declared.picc.Outcome.{Outcome}
+use Rattle.picc_cli.specs.declared.picc.Outcome.TheVariants as outcomes
+use Rattle.picc_cli.specs.Outcome.{TellsWhy}
+
+too_long : (text : List ℕ) → 262144 < length text → tokens_left text ≡ Err (Refused (Limit kinds.Text 0))
+unfolding tokens_left
+too_long text h = let e = lt-ltb 262144 (length text) h in rw e refl
+
+long_tokens : (text : List ℕ) → 262144 < length text → program_tokens text ≡ Err (Refused (Limit kinds.Text 0))
+long_tokens text h = ap within_limits (too_long text h)
+
+no_tree : (text : List ℕ) → 262144 < length text → HasTree text → ⊥
+no_tree text h t = let both = sym (long_tokens text h) ∙ t.tokens in cc
+
+some_tokens : {P : Type 0} (text : List ℕ) → 262144 < length text → HasNoTree text → P
+some_tokens text h t = let both = sym (long_tokens text h) ∙ t.tokens in absurd (cc)
+
+-- both are too long
+module _ (text bytes : List ℕ) (h : 262144 < length text) (k : 262144 < length bytes) where
+  same : program_tokens text ≡ program_tokens bytes
+  same = long_tokens text h ∙ sym (long_tokens bytes k)
+
+  long_tells : (refusal : Refusal) → Tells bytes refusal → Tells text refusal
+  long_tells (Lex line) t = same ∙ t
+  long_tells (Word line) t = same ∙ t
+  long_tells (Directive line) t = same ∙ t
+  long_tells (Limit kind line) t = same ∙ t
+  long_tells (Syntax line) t = some_tokens bytes k t
+  long_tells (Typing kind line) t = absurd (no_tree bytes k t)
+  long_tells (Roots kind) t = absurd (no_tree bytes k t)
+  long_tells (Recursion function) t = absurd (no_tree bytes k t)
+  long_tells (Depth depth) t = absurd (no_tree bytes k t)
+  long_tells (Ram object) t = absurd (no_tree bytes k t)
+  long_tells (Page function words) t = absurd (no_tree bytes k t)
+  long_tells (Code words) t = absurd (no_tree bytes k t)
+
+  long_why : (why : Outcome) → TellsWhy bytes why → TellsWhy text why
+  long_why outcomes.NotYet t = absurd (no_tree bytes k t)
+  long_why (outcomes.Refused refusal) t = long_tells refusal t
+  long_why outcomes.Built t = t
+  long_why outcomes.CannotRead t = t
+  long_why outcomes.CannotWriteHex t = t
+  long_why outcomes.CannotWriteMap t = t
+  long_why outcomes.NoMemory t = t
+
+pub why_whole : (text bytes : List ℕ) (why : Outcome) → (length text ≤ 262145 → bytes ≡ text) → take 262145 text ≡ bytes → TellsWhy bytes why → TellsWhy text why
+why_whole text bytes why short e t =
+    ⊎_elim
+    (λ h. let long : length bytes ≡ min 262145 (length text) = ap (length {A = ℕ}) (sym e) ∙ length-take 262145 text in
+    long_why text bytes (omega arith) (omega arith) why t)
+    (λ l. subst (λ b. TellsWhy b why) (short l) t)
+    (cases_lt 262145 (length text))

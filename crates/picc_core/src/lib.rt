@@ -1,0 +1,15 @@
+// All passes of the compiler, one behind the other.
+//
+// In: the bytes of a C text. Out: its typed tree, the copies of its functions, where objects, frames and blocks of code
+// stand, and how many words they are stated to have; or the first of all refusals that hold of the text.
+#![tactic(auto)]
+
+mod code_order;
+mod known;
+mod refusal;
+mod stages;
+
+pub use c_check::{Kind, RootKind};
+pub use known::Front;
+pub use refusal::{CompileError, LimitKind, Refusal};
+pub use stages::front;

@@ -1,0 +1,109 @@
+-- Where the static objects and the frames of a program stand (compiled stack as in the HI-TECH PICC manual; one copy of a
+-- function for each root, and the order of placing, are the project's own).
+use Rattle.std.specs.Prelude.{◌≡◌, ℕ, ◌+◌, ◌<◌, Bool, true, false, ◌||◌, ◌⊎◌, List, [], ◌∷◌, length, take, Some, slice_get}
+use Rattle.c_typed.specs.Chains.{number_of, graph_of, Reaches}
+use Rattle.c_typed.specs.Trees.{StaticTree, Program}
+use Rattle.c_typed.specs.Types.{type_bytes}
+use Rattle.call_graph.specs.declared.types.FnCopy.{FnCopy}
+use Rattle.pic_map.specs.MapContent.{ObjectLine, FrameLine}
+use Rattle.ram_place.specs.Memory.{covers, AreDisjoint, Stands, HasNoPlace, count_below}
+use Rattle.ram_place.specs.Sizes as sizes
+
+-- Two copies may be live together where their roots differ, or one reaches the other.
+abbrev pub MayBeLive : List (List ℕ) → ℕ → FnCopy → FnCopy → Type 0
+MayBeLive graph functions a b = (a.root ≡ b.root → ⊥) ⊎ (Reaches graph (number_of functions a.function) (number_of functions b.function) ⊎ Reaches graph (number_of functions b.function) (number_of functions a.function))
+
+-- the line of a static object, and that of a copy's frame, at an address
+abbrev pub object_line : Program → StaticTree → ℕ → ObjectLine
+object_line p s address = record { constant = s.ty.constant; name = s.name; address = address; size = type_bytes p.sizes s.ty.ty }
+
+abbrev pub frame_line : Program → FnCopy → ℕ → FrameLine
+frame_line p copy address = record { root = copy.root; name = sizes.name_of p copy.function; address = address; size = sizes.frame_bytes p copy.function }
+
+-- whether one of the objects, or of the frames, has the byte at x
+abbrev pub objects_have : List ObjectLine → ℕ → Bool
+objects_have [] x = false
+objects_have (line ∷ lines) x = covers line.address line.size x || objects_have lines x
+
+abbrev pub frames_have : List FrameLine → ℕ → Bool
+frames_have [] x = false
+frames_have (line ∷ lines) x = covers line.address line.size x || frames_have lines x
+
+-- One of the frames that may be live together with that of the copy has the byte at x. The frames are those of the first of the
+-- copies.
+abbrev pub LiveFramesHave : List (List ℕ) → ℕ → FnCopy → List FnCopy → List FrameLine → ℕ → Type 0
+LiveFramesHave graph functions copy [] lines x = ⊥
+LiveFramesHave graph functions copy (other ∷ others) [] x = ⊥
+LiveFramesHave graph functions copy (other ∷ others) (line ∷ lines) x = (MayBeLive graph functions other copy × (covers line.address line.size x ≡ true)) ⊎ LiveFramesHave graph functions copy others lines x
+
+-- An object overlaps no earlier one.
+abbrev pub IsTaken : List ObjectLine → ℕ → Type 0
+IsTaken objects x = objects_have objects x ≡ true
+
+-- A frame overlaps no object, and no earlier frame that may be live together with it.
+abbrev pub IsTakenFor : Program → List ObjectLine → List FnCopy → List FrameLine → FnCopy → ℕ → Type 0
+IsTakenFor p objects copies frames copy x = IsTaken objects x ⊎ LiveFramesHave (graph_of p) (length p.functions) copy copies frames x
+
+-- the line is that of the object, which stands behind these others
+abbrev pub IsObject : Program → List ObjectLine → StaticTree → ObjectLine → Type 0
+IsObject p others s line = (line ≡ object_line p s line.address) × Stands (IsTaken others) line.size line.address
+
+-- the line is that of the copy's frame, which stands behind the objects and these other frames
+abbrev pub IsFrame : Program → List ObjectLine → List FnCopy → List FrameLine → FnCopy → FrameLine → Type 0
+IsFrame p objects copies others copy line = (line ≡ frame_line p copy line.address) × Stands (IsTakenFor p objects copies others copy) line.size line.address
+
+-- The lines are those of the first objects in order of declaration, each behind those before it.
+abbrev pub AreObjects : Program → List ObjectLine → Type 0
+AreObjects p lines = (k : ℕ) (s : StaticTree) (line : ObjectLine) → slice_get p.statics k ≡ Some s → slice_get lines k ≡ Some line → IsObject p (take k lines) s line
+
+-- The lines are those of the frames of the first copies in their order, each behind those before it.
+abbrev pub AreFrames : Program → List ObjectLine → List FnCopy → List FrameLine → Type 0
+AreFrames p objects copies lines = (k : ℕ) (copy : FnCopy) (line : FrameLine) → slice_get copies k ≡ Some copy → slice_get lines k ≡ Some line → IsFrame p objects copies (take k lines) copy line
+
+-- The placing of a program with these copies.
+pub record IsPlacing (p : Program) (copies : List FnCopy) (objects : List ObjectLine) (frames : List FrameLine) : Type 0 where
+  pub each_object : length objects ≡ length p.statics
+  pub objects_stand : AreObjects p objects
+  pub each_frame : length frames ≡ length copies
+  pub frames_stand : AreFrames p objects copies frames
+
+-- The objects before one of that name have addresses, and it has none.
+pub record LacksObject (p : Program) (name : List ℕ) : Type 0 where
+  pub objects : List ObjectLine
+  pub objects_stand : AreObjects p objects
+  pub object : StaticTree
+  pub is_next : slice_get p.statics (length objects) ≡ Some object
+  pub has_none : HasNoPlace (IsTaken objects) (type_bytes p.sizes object.ty.ty)
+  pub named : name ≡ object.name
+
+-- Behind these objects the frames before one of that name have addresses, and it has none.
+pub record LacksFrameBehind (p : Program) (objects : List ObjectLine) (copies : List FnCopy) (name : List ℕ) : Type 0 where
+  pub frames : List FrameLine
+  pub frames_stand : AreFrames p objects copies frames
+  pub copy : FnCopy
+  pub is_next : slice_get copies (length frames) ≡ Some copy
+  pub has_none : HasNoPlace (IsTakenFor p objects copies frames copy) (sizes.frame_bytes p copy.function)
+  pub named : name ≡ sizes.name_of p copy.function
+
+-- All objects and the frames before one of that name have addresses, and it has none.
+pub record LacksFrame (p : Program) (copies : List FnCopy) (name : List ℕ) : Type 0 where
+  pub objects : List ObjectLine
+  pub each_object : length objects ≡ length p.statics
+  pub objects_stand : AreObjects p objects
+  pub frame : LacksFrameBehind p objects copies name
+
+-- how many addresses objects and frames cover, each counted once
+abbrev pub addresses_covered : List ObjectLine → List FrameLine → ℕ
+addresses_covered objects frames = count_below (λ x. objects_have objects x || frames_have frames x) 512
+
+-- Frames of two copies that may be live together have no byte in common.
+abbrev pub LiveFramesAreDisjoint : Program → List FnCopy → List FrameLine → Type 0
+LiveFramesAreDisjoint p copies frames = (j k : ℕ) (a b : FnCopy) (f g : FrameLine) → (j ≡ k → ⊥) → slice_get copies j ≡ Some a → slice_get copies k ≡ Some b → slice_get frames j ≡ Some f → slice_get frames k ≡ Some g → MayBeLive (graph_of p) (length p.functions) a b → AreDisjoint f.address f.size g.address g.size
+
+-- No frame has a byte in common with an object.
+abbrev pub FramesAreClear : List ObjectLine → List FrameLine → Type 0
+FramesAreClear objects frames = (j k : ℕ) (o : ObjectLine) (f : FrameLine) → slice_get objects j ≡ Some o → slice_get frames k ≡ Some f → AreDisjoint o.address o.size f.address f.size
+
+-- Two objects have no byte in common.
+abbrev pub ObjectsAreDisjoint : List ObjectLine → Type 0
+ObjectsAreDisjoint objects = (j k : ℕ) (o q : ObjectLine) → (j ≡ k → ⊥) → slice_get objects j ≡ Some o → slice_get objects k ≡ Some q → AreDisjoint o.address o.size q.address q.size

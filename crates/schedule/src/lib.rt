@@ -1,0 +1,26 @@
+// Scripts: what reaches a run from outside.
+//
+// In: the text of a script file. Out: its input bytes and its arrivals, or the first line that no script has.
+// The promise: a text is read exactly where it is a script file, and what is read is its content.
+#![tactic(auto)]
+
+ghost use Rattle.std.specs.Prelude.{◌≡◌, ℕ, List};
+ghost use Rattle.schedule.specs.ScriptFile.{ScriptContent, IsScriptFile};
+ghost use Rattle.schedule.specs.ScriptExample.{example_text, example_script};
+
+mod read;
+
+pub use read::{ScriptError, read_script};
+
+/// Each text has one content at most.
+pub fn one_content()
+    ensures { (text : List ℕ) (a b : ScriptContent) → IsScriptFile text a → IsScriptFile text b → a ≡ b }
+{}
+
+/// The definition of script files at an example that was worked out by hand.
+pub fn worked_example()
+    ensures { IsScriptFile example_text example_script }
+{}
+
+#[cfg(test)]
+mod tests;

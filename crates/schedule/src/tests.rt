@@ -1,0 +1,57 @@
+// Texts worked out by hand: what is read, and at which line reading stops.
+use super::*;
+use pic_chip::Flag;
+use std::test::Fail;
+
+/// Input over two lines, an empty line, CR, leading zeros, equal times, and no last LF.
+const GOOD: &str =
+    "input 5A 0f\r\n\nat 0000000005 INTF\ninput\ninput ff\nat 5 RBIF\nat 4294967295 TMR0IF";
+
+/// Texts that are no script files, and the first line that doesn't fit.
+const BAD: [(&str, u32); 16] = [
+    ("at 5 INTF\nat 4 INTF\n", 2),
+    ("at 4294967296 INTF\n", 1),
+    ("at 00000000001 INTF\n", 1),
+    ("at  1 INTF\n", 1),
+    ("at 1  INTF\n", 1),
+    ("at INTF\n", 1),
+    ("at -1 INTF\n", 1),
+    ("at 1 GIE\n", 1),
+    ("at 1 intf\n", 1),
+    ("at 1 INTF \n", 1),
+    ("input 5\n", 1),
+    ("input 5A5B\n", 1),
+    ("input 5G\n", 1),
+    ("input 5A \n", 1),
+    ("\n\ninput 00\n Input 00\n", 4),
+    ("input 00\nat 1 INTF\nend", 3),
+];
+
+#[test]
+fn a_script_is_read(rt: HostRuntime) -> Result<(), Fail> {
+    let script = read_script(rt.alloc(), GOOD.as_bytes())?;
+    assert!(rt; script.input.as_slice() == [0x5a, 0x0f, 0xff].as_slice());
+    assert!(rt; script.arrivals.len() == 3);
+    let first = script.arrivals[0];
+    assert!(rt; first.t == 5 && first.flag == Flag::Intf);
+    let second = script.arrivals[1];
+    assert!(rt; second.t == 5 && second.flag == Flag::Rbif);
+    let third = script.arrivals[2];
+    assert!(rt; third.t == 4294967295 && third.flag == Flag::Tmr0if);
+    let nothing = read_script(rt.alloc(), b"input")?;
+    assert!(rt; nothing.input.is_empty() && nothing.arrivals.is_empty());
+    one_content();
+    worked_example();
+    Ok(())
+}
+
+#[test]
+fn the_first_bad_line_is_told(rt: HostRuntime) -> Result<(), Fail> {
+    for (text, wanted) in BAD {
+        match read_script(rt.alloc(), text.as_bytes()) {
+            Err(ScriptError::BadLine { line }) => assert_eq!(rt; line, wanted),
+            _ => return Err(Fail::new("no bad line")),
+        }
+    }
+    Ok(())
+}
