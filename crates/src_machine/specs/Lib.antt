@@ -10,3 +10,4 @@ pub mod Giving
 pub mod Counting
 pub mod Step
 pub mod Shown
+pub mod Progress

@@ -1,7 +1,7 @@
 //! Reads and writes of one byte, and the values that are made of them.
 
 use crate::control::{Focus, Listed, Pending};
-use crate::machine::{Source, SrcEnd, undefined};
+use crate::machine::{Machine, SrcEnd, undefined};
 use crate::memory::Slot;
 use crate::objects::{Byte, CopyOf, Datum, Object, Pointer, Reading, Spot, Undef};
 use crate::values::{
@@ -53,7 +53,7 @@ fn bit_of(value: u8, bit: u8) -> u8 {
     value >> (bit & 7) as u32 & 1
 }
 
-impl<'a> Source<'a> {
+impl<'a> Machine<'a> {
     // Whether a copy waits for a call or for the handler.
     fn is_waiting(&self, copy: CopyOf) -> bool {
         for pending in &self.stack {

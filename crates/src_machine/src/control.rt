@@ -207,6 +207,6 @@ pub(crate) enum Pending<'a> {
     Before(&'a Vec<TStmt>, usize),
     Gives(u32),
     Returns(CopyOf),
-    /// What the handler interrupted: `Source` has its focus.
+    /// What the handler interrupted: `Machine` has its focus.
     Resumes(CopyOf),
 }

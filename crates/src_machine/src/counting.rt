@@ -3,7 +3,7 @@
 
 use crate::control::{Focus, Labels, Pending};
 use crate::giving::decides;
-use crate::machine::Source;
+use crate::machine::Machine;
 use crate::objects::Datum;
 use crate::values::{byte_count, truth_of};
 use c_ints::size;
@@ -70,7 +70,7 @@ fn label_counts(labels: &Labels) -> Option<u32> {
     Some(case.line)
 }
 
-impl<'a> Source<'a> {
+impl<'a> Machine<'a> {
     // The end of a statement: that of a function's body counts, at the line of the function.
     fn past_counts(&self) -> Option<u32> {
         match self.stack.last() {

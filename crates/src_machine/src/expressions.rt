@@ -1,7 +1,7 @@
 //! How expressions and places begin: the left operand first, and what waits for it.
 
 use crate::control::{Focus, Pending};
-use crate::machine::{Source, SrcEnd, nowhere, undefined};
+use crate::machine::{Machine, SrcEnd, nowhere, undefined};
 use crate::objects::{Change, Datum, Object, Pointer, Spot, Undef, number_from};
 use crate::values::one_in;
 use c_ints::BinOp;
@@ -41,7 +41,7 @@ fn start_of(object: Object) -> Spot {
     Spot::Memory(Pointer::Into { object, offset: 0 })
 }
 
-impl<'a> Source<'a> {
+impl<'a> Machine<'a> {
     /// The local of this number of the running copy.
     pub(crate) fn local_of(&self, number: u32) -> Object {
         Object::Variable {

@@ -1,7 +1,7 @@
 //! Where a value goes: what waits for it takes it.
 
 use crate::control::{Focus, Labels, Pending, Stage};
-use crate::machine::{Source, SrcEnd, nowhere, undefined};
+use crate::machine::{Machine, SrcEnd, nowhere, undefined};
 use crate::objects::{Change, Datum, Object, Pointer, Spot, Undef};
 use crate::pointers::difference;
 use crate::values::{converted, kept_in, truth_of, truth_value, unary_answer};
@@ -29,7 +29,7 @@ fn is_case(value: Datum, case: &TCase) -> bool {
     }
 }
 
-impl<'a> Source<'a> {
+impl<'a> Machine<'a> {
     // The value of an operator, or why it is undefined.
     fn answered(&mut self, answer: Result<Datum, Undef>, line: u32) -> SrcEnd {
         match answer {

@@ -1,4 +1,4 @@
-//! The source machine: its state, and its steps.
+//! The source machine: its state, and its micro-steps.
 
 use crate::control::{Focus, Pending};
 use crate::memory::Memory;
@@ -19,30 +19,29 @@ pub enum SrcEnd {
     Idle,
 }
 
-/// Why a run goes no further.
-#[derive(Clone, Copy)]
-struct Stop {
-    kind: Undef,
-    line: u32,
+/// What takes a step: main or a function that it calls, the handler or a function that it calls, or the
+/// interrupt by which the handler is entered.
+#[derive(Clone, Copy, PartialEq, Eq, Debug)]
+pub(crate) enum Taker {
+    Main,
+    Handler,
+    Interrupt,
 }
 
-/// A run of a typed program. What is to be done is a focus and a stack of what waits for it, the
+/// A program and where its run stands. What is to be done is a focus and a stack of what waits for it, the
 /// innermost at the end. The values of arguments that wait for a call stand on a stack of their own.
 #[derive(Drop)]
-pub struct Source<'a> {
-    pub(crate) program: &'a Typed,
-    pub(crate) copy: CopyOf,
-    pub(crate) focus: Focus<'a>,
+pub(crate) struct Machine<'a> {
+    pub program: &'a Typed,
+    pub copy: CopyOf,
+    pub focus: Focus<'a>,
     // the focus that the handler interrupted
-    pub(crate) interrupted: Focus<'a>,
-    pub(crate) stack: Vec<Pending<'a>>,
-    pub(crate) values: Vec<Datum>,
-    pub(crate) memory: Memory,
-    pub(crate) world: World,
+    pub interrupted: Focus<'a>,
+    pub stack: Vec<Pending<'a>>,
+    pub values: Vec<Datum>,
+    pub memory: Memory,
+    pub world: World,
     handler: Option<u32>,
-    main_steps: u64,
-    runs: u64,
-    stop: Option<Stop>,
 }
 
 // The number of the first function that is main, or of the first that is the handler.
@@ -68,33 +67,37 @@ fn handler_in(functions: &[Function]) -> Option<u32> {
     None
 }
 
-// A node has at most one thing waiting above it, but for a switch and a list, whose values' leaves have
-// none; each function is active once for each root.
+// What can wait at a time. A function is active at most once for each root, where a program has no recursion. In
+// one activation the nodes from its body down to where it stands have one entry each: a list of statements, a part of
+// an expression, a call that goes on. Two kinds of nodes have more. A switch whose body runs has two, but then
+// its value's nodes have none. A list that a local begins with has three at most, and stands inside no other one.
+// So an activation has two entries more than nodes at most, and what the handler interrupts is one. A value that
+// waits for a call has a node of its own, its argument.
 fn room_of(program: &Typed) -> usize {
+    let more = (program.functions.len() as u64).saturating_mul(2);
     program
         .nodes()
-        .min(0x1000_0000)
+        .saturating_add(more)
+        .min(0x3000_0000)
         .saturating_mul(2)
         .saturating_add(8) as usize
 }
 
-impl<'a> Source<'a> {
-    /// The run of a program before its first step, with all the room that it needs. The map tells the
-    /// addresses of the statics, by their numbers, and those of the frames, by root and name. Its `main`
-    /// and `halt` are not looked at.
-    pub fn new(alloc: Global, p: &'a Typed, map: &'a Map) -> Result<Source<'a>, AllocError> {
-        let memory = Memory::new(alloc, p, map)?;
-        let room = room_of(p);
+impl<'a> Machine<'a> {
+    /// A program before its first step, with all the room that its run needs.
+    pub fn new(alloc: Global, program: &'a Typed, map: &'a Map) -> Result<Machine<'a>, AllocError> {
+        let memory = Memory::new(alloc, program, map)?;
+        let room = room_of(program);
         let mut stack = Vec::new(alloc);
         stack.try_reserve(room)?;
         let mut values = Vec::new(alloc);
         values.try_reserve(room)?;
-        let main = match main_in(&p.functions) {
+        let main = match main_in(&program.functions) {
             Some(main) => main,
             None => 0,
         };
-        let mut source = Source {
-            program: p,
+        let mut machine = Machine {
+            program,
             copy: CopyOf {
                 root: Root::Main,
                 function: main,
@@ -105,67 +108,38 @@ impl<'a> Source<'a> {
             values,
             memory,
             world: World::new(),
-            handler: handler_in(&p.functions),
-            main_steps: 0,
-            runs: 0,
-            stop: None,
+            handler: handler_in(&program.functions),
         };
-        source.begin_body(main);
-        Ok(source)
+        machine.begin_body(main);
+        Ok(machine)
     }
 
-    /// How many steps main has taken.
-    pub fn main_steps(&self) -> u64 {
-        self.main_steps
-    }
-
-    /// How many runs of the handler have begun.
-    pub fn runs(&self) -> u64 {
-        self.runs
-    }
-
-    /// Takes the next step. Arrivals that the length of the trace has reached come first; then the
-    /// handler is entered if it is due. A run that met an undefined step stays there.
-    pub fn step(&mut self, script: &Script) -> SrcEnd {
+    /// Micro-steps up to one that counts as a step, and what took it.
+    pub fn step(&mut self, script: &Script) -> (Taker, SrcEnd) {
         for _ in 0..u64::MAX {
-            if let Some(stop) = self.stop {
-                return SrcEnd::Undefined {
-                    kind: stop.kind,
-                    line: stop.line,
-                };
-            }
-            let (counts, end) = self.micro_step(script);
-            match end {
-                SrcEnd::Went(_) => {
-                    if counts {
-                        return end;
-                    }
-                }
-                SrcEnd::Undefined { kind, line } => self.stop = Some(Stop { kind, line }),
-                SrcEnd::Idle => return SrcEnd::Idle,
+            let (taker, counts, end) = self.micro_step(script);
+            if counts || !is_taken(end) {
+                return (taker, end);
             }
         }
-        SrcEnd::Idle
+        (Taker::Main, SrcEnd::Idle)
     }
 
-    // A micro-step, and whether it counts as a step.
-    fn micro_step(&mut self, script: &Script) -> (bool, SrcEnd) {
+    // A micro-step, what took it, and whether it counts as a step. Arrivals come first, then the handler if
+    // it is due.
+    fn micro_step(&mut self, script: &Script) -> (Taker, bool, SrcEnd) {
         self.world.arrive(&script.arrivals);
-        if self.world.is_due() {
+        let due = self.world.is_due();
+        if due {
             if let Some(handler) = self.handler {
-                return (true, self.enter(handler));
+                return (Taker::Interrupt, true, self.enter(handler));
             }
         }
+        let taker = taker_in(self.copy.root);
         let line = self.counted_line();
-        let root = self.copy.root;
-        let due = self.world.is_due();
         let end = self.act(script);
         let end = if due { refused(line, end) } else { end };
-        let counts = line.is_some();
-        if counts && root == Root::Main && is_taken(end) {
-            self.main_steps = self.main_steps.saturating_add(1);
-        }
-        (counts, end)
+        (taker, line.is_some(), end)
     }
 
     fn act(&mut self, script: &Script) -> SrcEnd {
@@ -230,7 +204,6 @@ impl<'a> Source<'a> {
 
     // The handler is called whole: what it interrupts waits below it.
     fn enter(&mut self, handler: u32) -> SrcEnd {
-        self.runs = self.runs.saturating_add(1);
         self.world.enter();
         self.interrupted = self.focus;
         self.enter_copy(Root::Isr, handler, Pending::Resumes(self.copy));
@@ -334,6 +307,13 @@ pub(crate) fn undefined(kind: Undef, line: u32) -> SrcEnd {
 /// No program comes here.
 pub(crate) fn nowhere(line: u32) -> SrcEnd {
     undefined(Undef::Unset, line)
+}
+
+fn taker_in(root: Root) -> Taker {
+    match root {
+        Root::Main => Taker::Main,
+        Root::Isr => Taker::Handler,
+    }
 }
 
 fn is_taken(end: SrcEnd) -> bool {

@@ -1,6 +1,6 @@
 //! Operators on pointers, and on values of any kind.
 
-use crate::machine::Source;
+use crate::machine::Machine;
 use crate::objects::{Change, Datum, Number, Object, Pointer, Undef};
 use crate::values::{bad_right, compared, converted, number, on_numbers, truth_value};
 use c_ints::{BinOp, IntTy};
@@ -27,7 +27,7 @@ fn elements_between(f: u64, g: u64, size: u64) -> Datum {
     number(IntTy::Int, bits)
 }
 
-impl<'a> Source<'a> {
+impl<'a> Machine<'a> {
     /// A pointer moved up or down by so many bytes; none where it comes out of its object and isn't the
     /// byte just past the end. Null moves by 0 alone.
     pub(crate) fn moved(&self, pointer: Pointer, down: bool, by: u64) -> Option<Pointer> {

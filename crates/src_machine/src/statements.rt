@@ -1,7 +1,7 @@
 //! How statements begin, and what follows them.
 
 use crate::control::{Code, Focus, Labels, Listed, Pending, Round, Stage};
-use crate::machine::{Source, SrcEnd, nowhere, undefined};
+use crate::machine::{Machine, SrcEnd, nowhere, undefined};
 use crate::objects::{Datum, Object, Pointer, Spot, Undef};
 use crate::values::truth_of;
 use c_typed::{LoopForm, TArm, TExpr, TItem, TStmt};
@@ -12,7 +12,7 @@ fn behind(object: Object, offset: u64) -> Spot {
     Spot::Memory(Pointer::Into { object, offset })
 }
 
-impl<'a> Source<'a> {
+impl<'a> Machine<'a> {
     /// A turn of a loop.
     pub(crate) fn turns(&mut self, round: Round<'a>) -> SrcEnd {
         self.go_waiting(
