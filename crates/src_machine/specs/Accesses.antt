@@ -12,7 +12,7 @@ use Rattle.pic_chip.specs.declared.Cell.TheVariants.{Device, Static}
 use Rattle.pic_chip.specs.declared.Root.{Root}
 use Rattle.src_machine.specs.Control.{Focus, Holds, Fetch, FetchLow, FetchHigh, Skim, Write, PutBit, CopyRead, CopyWrite, Spell, Blank, Pending, State, Outcome, Went, Undefined, active}
 use Rattle.src_machine.specs.Objects.{Setting, Memory, object_bytes, is_watched, is_alive, breaks_isolation, with_byte, next_byte}
-use Rattle.src_machine.specs.Values.{byte_count, byte_of, number_of, joined, lowest_bit, kept_in}
+use Rattle.src_machine.specs.Values.{byte_count, byte_of, number_of, joined, lowest_bit}
 use Rattle.src_machine.specs.World.{Happening, ReadOf, WriteOf, World, noted, device_value, after_device_read, after_device_write, sets_gie}
 use Rattle.src_machine.specs.declared.objects.Byte.{Byte}
 use Rattle.src_machine.specs.declared.objects.Byte.TheVariants as bytes

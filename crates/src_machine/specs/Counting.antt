@@ -1,7 +1,7 @@
 -- Which micro-steps count as steps of the source, and at which line: an operator applied, a byte accessed, a switch
 -- label compared, a statement begun, a function called, the end of a function's body. The others only lead from one
 -- part of the tree to the next.
-use Rattle.std.specs.Prelude.{ℕ, zero, suc, ◌+◌, Bool, true, false, nat_lt, if◌then◌else◌, List, [], ◌∷◌, Option, Some, None}
+use Rattle.std.specs.Prelude.{ℕ, zero, suc, Bool, true, false, nat_lt, if◌then◌else◌, List, [], ◌∷◌, Option, Some, None}
 use Rattle.c_ints.specs.Range.{bytes_of}
 use Rattle.c_typed.specs.Trees as tree
 use Rattle.c_typed.specs.Trees.{Program, Statement, Item}

@@ -1,5 +1,5 @@
 -- How expressions and places begin (ISO/IEC 9899:1990, 6.3): the left operand first, and what waits for it.
-use Rattle.std.specs.Prelude.{ℕ, pos, Bool, true, false, not, ◌&&◌, nat_eq, List, [], ◌∷◌, Option, Some, None, slice_get}
+use Rattle.std.specs.Prelude.{ℕ, pos, Bool, true, false, ◌&&◌, nat_eq, List, [], ◌∷◌, Option, Some, None, slice_get}
 use Rattle.c_ints.specs.Operators.{cut_to}
 use Rattle.c_ints.specs.declared.operators.BinOp.{BinOp}
 use Rattle.c_ints.specs.declared.operators.BinOp.TheVariants as ops
@@ -12,8 +12,8 @@ use Rattle.c_typed.specs.declared.expression.StepOp.TheVariants.{PreIncrement, P
 use Rattle.c_typed.specs.declared.types.Qualified.{Qualified}
 use Rattle.c_typed.specs.declared.types.Ty.{Ty}
 use Rattle.c_typed.specs.declared.types.Ty.TheVariants as types
-use Rattle.src_machine.specs.Accesses.{goes, fetching, writing}
-use Rattle.src_machine.specs.Control.{Focus, Eval, Find, Holds, Found, Fetch, CopyRead, Calls, Pending, Reads, Takes, Converts, Casts, Unaries, Left, OffsetLeft, DifferenceLeft, LogicalLeft, Chooses, Commas, AssignTo, Assigns, StructTo, StructFrom, UpdateAt, Updates, StepAt, Changes, Members, Derefs, Arguments, ItemFrom, Outcome, Undefined}
+use Rattle.src_machine.specs.Accesses.{goes, fetching}
+use Rattle.src_machine.specs.Control.{Eval, Find, Holds, Found, CopyRead, Calls, Pending, Reads, Takes, Converts, Casts, Unaries, Left, OffsetLeft, DifferenceLeft, LogicalLeft, Chooses, Commas, AssignTo, Assigns, StructTo, StructFrom, UpdateAt, Updates, StepAt, Changes, Members, Derefs, Arguments, ItemFrom, Outcome, Undefined}
 use Rattle.src_machine.specs.Objects.{Setting, Memory, spot_of, moved}
 use Rattle.src_machine.specs.World.{World}
 use Rattle.src_machine.specs.declared.objects.Change.{Change}
@@ -21,7 +21,6 @@ use Rattle.src_machine.specs.declared.objects.CopyOf.{CopyOf}
 use Rattle.src_machine.specs.Data.{Datum}
 use Rattle.src_machine.specs.Data as datum
 use Rattle.src_machine.specs.declared.objects.Pointer.{Pointer}
-use Rattle.src_machine.specs.declared.objects.Pointer.TheVariants.{Null, Into}
 use Rattle.src_machine.specs.declared.objects.Spot.{Spot}
 use Rattle.src_machine.specs.declared.objects.Spot.TheVariants as spots
 use Rattle.src_machine.specs.declared.objects.Undef.TheVariants.{Unset, Outside}

@@ -7,7 +7,7 @@ use Rattle.c_typed.specs.declared.expression.LogicalOp.{LogicalOp}
 use Rattle.c_typed.specs.declared.expression.LogicalOp.TheVariants.{And, Or}
 use Rattle.c_typed.specs.declared.statement.TCase.{TCase}
 use Rattle.src_machine.specs.Accesses.{goes, fetching, writing}
-use Rattle.src_machine.specs.Control.{Focus, Eval, Holds, Found, Run, Past, Leaves, Compares, Round, Pending, Converts, Casts, Unaries, Left, Right, OffsetLeft, OffsetRight, DifferenceLeft, DifferenceRight, LogicalLeft, LogicalRight, Chooses, Commas, Assigns, Updates, Changes, Derefs, Arguments, Drops, Initializes, ItemValue, Picks, Begins, Tests, Switches, InSwitch, Before, Gives, Outcome, Undefined, active}
+use Rattle.src_machine.specs.Control.{Eval, Holds, Found, Run, Past, Leaves, Compares, Pending, Converts, Casts, Unaries, Left, Right, OffsetLeft, OffsetRight, DifferenceLeft, DifferenceRight, LogicalLeft, LogicalRight, Chooses, Commas, Assigns, Updates, Changes, Derefs, Arguments, Drops, Initializes, ItemValue, Picks, Begins, Tests, Switches, InSwitch, Before, Gives, Outcome, Undefined, active}
 use Rattle.src_machine.specs.Expressions.{arguments, nowhere}
 use Rattle.src_machine.specs.Objects.{Setting, Memory}
 use Rattle.src_machine.specs.Statements.{arms, behind, tests, turns, unwound}

@@ -1,7 +1,7 @@
 -- How events are shown: a byte of a pointer as that byte of the address that the map gives its object, plus the offset.
-use Rattle.std.specs.Prelude.{ℕ, ◌+◌, ◌/◌, ◌%◌, Bool, true, false, ◌&&◌, nat_eq, if◌then◌else◌, List, [], ◌∷◌, Option, Some, None, slice_get, take, map}
+use Rattle.std.specs.Prelude.{ℕ, ◌+◌, ◌/◌, ◌%◌, Bool, true, false, ◌&&◌, if◌then◌else◌, List, [], ◌∷◌, Option, Some, None, slice_get, take, map}
 use Rattle.c_typed.specs.Roots.{same_bytes}
-use Rattle.c_typed.specs.Trees.{Program, FunctionTree, VariableTree}
+use Rattle.c_typed.specs.Trees.{Program, VariableTree}
 use Rattle.c_typed.specs.Types.{type_bytes}
 use Rattle.pic_chip.specs.declared.Event.{Event}
 use Rattle.pic_chip.specs.declared.Event.TheVariants as events

@@ -1,11 +1,11 @@
 -- How statements begin, and what follows them (ISO/IEC 9899:1990, 6.6).
-use Rattle.std.specs.Prelude.{ℕ, zero, suc, Bool, true, false, ◌&&◌, ◌||◌, not, nat_eq, nat_lt, if◌then◌else◌, List, [], ◌∷◌, Option, Some, None, slice_get}
+use Rattle.std.specs.Prelude.{ℕ, List, [], ◌∷◌, Option, Some, None}
 use Rattle.c_typed.specs.Trees as tree
 use Rattle.c_typed.specs.Trees.{Expression, Item, Statement, Statements, Arm, Arms, LastArm}
 use Rattle.c_typed.specs.declared.statement.LoopForm.{LoopForm}
 use Rattle.c_typed.specs.declared.statement.LoopForm.TheVariants.{While, Do, For}
 use Rattle.src_machine.specs.Accesses.{state, goes}
-use Rattle.src_machine.specs.Control.{Focus, Eval, Find, Holds, Run, Past, Spell, Blank, Leaves, Over, Round, Pending, Drops, Initializes, ItemValue, ItemFrom, Lists, Picks, Begins, Tests, Turns, Switches, InSwitch, Before, Gives, Returns, Resumes, Outcome, Went}
+use Rattle.src_machine.specs.Control.{Eval, Find, Holds, Run, Past, Spell, Blank, Leaves, Over, Round, Pending, Drops, Initializes, ItemValue, ItemFrom, Lists, Picks, Begins, Tests, Turns, Switches, InSwitch, Before, Gives, Returns, Resumes, Outcome, Went}
 use Rattle.src_machine.specs.Expressions.{nowhere}
 use Rattle.src_machine.specs.Objects.{Setting, Memory, object_bytes, local_of, cleared}
 use Rattle.src_machine.specs.World.{World, Ended, noted, left}

@@ -1,5 +1,5 @@
 -- The steps of the source, and its runs under a schedule of arrivals.
-use Rattle.std.specs.Prelude.{◌≡◌, ℕ, zero, suc, ◌+◌, ◌<◌, Bool, true, false, ◌&&◌, nat_eq, nat_lt, if◌then◌else◌, List, [], ◌∷◌, length, Option, Some, None, slice_get, map}
+use Rattle.std.specs.Prelude.{ℕ, zero, suc, ◌+◌, Bool, true, false, ◌&&◌, nat_eq, nat_lt, if◌then◌else◌, List, [], ◌∷◌, Option, Some, None, slice_get}
 use Rattle.c_typed.specs.Trees.{Program, StaticTree}
 use Rattle.c_typed.specs.declared.program.Initial.{Initial}
 use Rattle.c_typed.specs.declared.program.InitialByte.{InitialByte}
@@ -9,12 +9,12 @@ use Rattle.pic_chip.specs.declared.Root.TheVariants.{Main, Isr}
 use Rattle.src_machine.specs.Accesses.{state, goes, fetch, fetch_low, fetch_high, skim, write, write_register, copy_read, copy_write, spell, blank}
 use Rattle.src_machine.specs.Control.{Focus, Eval, Find, Holds, Found, Run, Past, Fetch, FetchLow, FetchHigh, Skim, Write, PutBit, CopyRead, CopyWrite, Spell, Blank, Calls, Leaves, Compares, Over, Pending, Before, Returns, Resumes, State, Outcome, Went, Undefined, Idle}
 use Rattle.src_machine.specs.Counting.{counted_line}
-use Rattle.src_machine.specs.Expressions.{eval, find, found, nowhere}
+use Rattle.src_machine.specs.Expressions.{eval, find, found}
 use Rattle.src_machine.specs.Giving.{give, compares}
-use Rattle.src_machine.specs.Objects.{Setting, Memory, function_at, handler_in, main_of, object_bytes, same_object, same_copy, no_function}
+use Rattle.src_machine.specs.Objects.{Setting, Memory, function_at, handler_in, main_of, same_object, same_copy}
 use Rattle.src_machine.specs.Statements.{begin, leave, proceed}
 use Rattle.src_machine.specs.Values.{byte_count, byte_of}
-use Rattle.src_machine.specs.World.{Happening, World, arrived, is_due, entered, world_at_start}
+use Rattle.src_machine.specs.World.{World, arrived, is_due, entered, world_at_start}
 use Rattle.src_machine.specs.declared.objects.Byte.{Byte}
 use Rattle.src_machine.specs.declared.objects.Byte.TheVariants as bytes
 use Rattle.src_machine.specs.declared.objects.CopyOf.{CopyOf}
@@ -22,7 +22,6 @@ use Rattle.src_machine.specs.Data.{Datum}
 use Rattle.src_machine.specs.Data as datum
 use Rattle.src_machine.specs.declared.objects.Object.{Object}
 use Rattle.src_machine.specs.declared.objects.Object.TheVariants.{Fixed, Variable}
-use Rattle.src_machine.specs.declared.objects.Undef.{Undef}
 use Rattle.src_machine.specs.declared.objects.Undef.TheVariants.{Unset, Handler}
 
 -- ---- calls

@@ -1,10 +1,10 @@
 -- Values of expressions, what operators and conversions give, and when they are undefined (ISO/IEC 9899:1990, 6.2 and
 -- 6.3; the kinds of undefined steps are the project's own).
-use Rattle.std.specs.Prelude.{ℕ, ◌+◌, ◌*◌, ◌/◌, ◌%◌, ◌^◌, Bool, true, false, not, ◌&&◌, ◌||◌, nat_eq, nat_lt, if◌then◌else◌, ℤ, pos, neg_ℤ, ◌+ℤ◌, ◌-ℤ◌, ◌*ℤ◌, int_div, int_lt, List, Option, Some, None}
+use Rattle.std.specs.Prelude.{ℕ, ◌/◌, ◌%◌, ◌^◌, Bool, true, false, not, ◌&&◌, ◌||◌, nat_eq, nat_lt, if◌then◌else◌, ℤ, pos, neg_ℤ, ◌-ℤ◌, ◌*ℤ◌, int_div, List, Option, Some, None}
 use Rattle.std.specs.Ordering.{int_eq}
 use Rattle.c_ints.specs.Operators.{cut_to, truth, comparison, shifts_badly, outcome, unary_type, exact_unary}
 use Rattle.c_ints.specs.Quantity.{Quantity}
-use Rattle.c_ints.specs.Range.{bytes_of, cut, pattern}
+use Rattle.c_ints.specs.Range.{bytes_of, pattern}
 use Rattle.c_ints.specs.declared.operators.BinOp.{BinOp}
 use Rattle.c_ints.specs.declared.operators.BinOp.TheVariants as ops
 use Rattle.c_ints.specs.declared.operators.UnOp.{UnOp}
@@ -13,7 +13,6 @@ use Rattle.c_ints.specs.declared.types.IntTy.TheVariants as int
 use Rattle.c_typed.specs.Trees.{Program}
 use Rattle.c_typed.specs.declared.types.Ty.{Ty}
 use Rattle.c_typed.specs.declared.types.Ty.TheVariants as types
-use Rattle.pic_chip.specs.Instructions.{bit}
 use Rattle.src_machine.specs.Objects.{same_object, is_alive, object_bytes, moved}
 use Rattle.src_machine.specs.declared.objects.Byte.{Byte}
 use Rattle.src_machine.specs.declared.objects.Byte.TheVariants as bytes
@@ -27,7 +26,7 @@ use Rattle.src_machine.specs.declared.objects.Pointer.TheVariants.{Null, Into}
 use Rattle.src_machine.specs.declared.objects.Spot.{Spot}
 use Rattle.src_machine.specs.declared.objects.Spot.TheVariants as spots
 use Rattle.src_machine.specs.declared.objects.Undef.{Undef}
-use Rattle.src_machine.specs.declared.objects.Undef.TheVariants.{Division, Overflow, Shift, Unset, Outside, Inactive, Order, Past, Bytes}
+use Rattle.src_machine.specs.declared.objects.Undef.TheVariants.{Division, Overflow, Shift, Unset, Outside, Inactive, Order, Past}
 
 -- what an operator gives, or why it is undefined
 pub data Answer : Type 0 where
