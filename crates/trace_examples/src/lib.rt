@@ -1,11 +1,9 @@
-// Runs of the source machine, from texts.
+// Runs of the source machine, from texts. What is wanted was worked out by hand.
 //
-// In: a text of C, input bytes, arrivals and a number of steps. Out: the events as printed lines.
+// In: texts of C, input bytes, arrivals and numbers of steps. Out: nothing; these are tests.
 #![tactic(auto)]
 
+#[cfg(test)]
 mod running;
-
-pub use running::{Failed, traced};
-
 #[cfg(test)]
 mod tests;
