@@ -1,0 +1,13 @@
+pub mod World
+pub mod Data
+pub mod Objects
+pub mod Values
+pub mod Control
+pub mod Accesses
+pub mod Expressions
+pub mod Statements
+pub mod Giving
+pub mod Counting
+pub mod Step
+pub mod Shown
+pub mod Progress

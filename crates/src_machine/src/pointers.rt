@@ -1,0 +1,219 @@
+//! Operators on pointers, and on values of any kind.
+
+use crate::machine::Machine;
+use crate::objects::{Change, Datum, Number, Object, Pointer, Undef};
+use crate::values::{bad_right, compared, converted, number, on_numbers, truth_value};
+use c_ints::{BinOp, IntTy};
+use c_typed::Ty;
+
+// So many elements: whether they are counted down, and how many bytes they have. `None` where there are
+// more than a number of 64 bits.
+fn distance(op: BinOp, size: u64, count: Number) -> (bool, Option<u64>) {
+    let count = count.value().number();
+    let down = (count < 0) != (op == BinOp::Sub);
+    (down, count.unsigned_abs().checked_mul(size))
+}
+
+// The elements between two places of an object, cut to an int.
+fn elements_between(f: u64, g: u64, size: u64) -> Datum {
+    let (down, bytes) = if f < g { (true, g - f) } else { (false, f - g) };
+    let count = if size == 0 { 0 } else { bytes / size };
+    let bits = (count & 0xffff) as u32;
+    let bits = if down {
+        0x1_0000u32.wrapping_sub(bits)
+    } else {
+        bits
+    };
+    number(IntTy::Int, bits)
+}
+
+impl<'a> Machine<'a> {
+    /// A pointer moved up or down by so many bytes; none where it comes out of its object and isn't the
+    /// byte just past the end. Null moves by 0 alone.
+    pub(crate) fn moved(&self, pointer: Pointer, down: bool, by: u64) -> Option<Pointer> {
+        match pointer {
+            Pointer::Null => { if by == 0 { Some(pointer) } else { None } }
+            Pointer::Into { object, offset } => {
+                let offset = if down {
+                    offset.checked_sub(by)?
+                } else {
+                    offset.checked_add(by)?
+                };
+                if offset <= self.memory.size(object) {
+                    Some(Pointer::Into { object, offset })
+                } else {
+                    None
+                }
+            }
+        }
+    }
+
+    // == on pointers to two objects.
+    fn apart(&self, a: Object, f: u64, b: Object, g: u64) -> Option<Undef> {
+        if !(self.is_alive(a) && self.is_alive(b)) {
+            return Some(Undef::Inactive);
+        }
+        let m = self.memory.size(a);
+        let n = self.memory.size(b);
+        if (f == m && g < n) || (f < m && g == n) {
+            Some(Undef::Past)
+        } else {
+            None
+        }
+    }
+
+    // Whether two pointers are equal.
+    fn same(&self, x: Pointer, y: Pointer) -> Result<bool, Undef> {
+        match x {
+            Pointer::Null => match y {
+                Pointer::Null => Ok(true),
+                Pointer::Into { .. } => Ok(false),
+            },
+            Pointer::Into {
+                object: a,
+                offset: f,
+            } => match y {
+                Pointer::Null => Ok(false),
+                Pointer::Into {
+                    object: b,
+                    offset: g,
+                } => {
+                    if a == b {
+                        return Ok(f == g);
+                    }
+                    match self.apart(a, f, b, g) {
+                        Some(kind) => Err(kind),
+                        None => Ok(false),
+                    }
+                }
+            },
+        }
+    }
+
+    fn on_pointers(&self, op: BinOp, x: Pointer, y: Pointer) -> Result<Datum, Undef> {
+        match op {
+            BinOp::Eq => Ok(truth_value(self.same(x, y)?)),
+            BinOp::Ne => Ok(truth_value(!self.same(x, y)?)),
+            _ => ordered(op, x, y),
+        }
+    }
+
+    /// What a binary operator gives. `ty` is the type of the operation.
+    pub(crate) fn binary(
+        &self,
+        op: BinOp,
+        ty: Ty,
+        left: Datum,
+        right: Datum,
+    ) -> Result<Datum, Undef> {
+        if let Some(kind) = bad_right(op, ty, right) {
+            return Err(kind);
+        }
+        match left {
+            Datum::Number(a) => match right {
+                Datum::Number(b) => on_numbers(op, a, b),
+                _ => Err(Undef::Unset),
+            },
+            Datum::Pointer(x) => match right {
+                Datum::Pointer(y) => self.on_pointers(op, x, y),
+                _ => Err(Undef::Unset),
+            },
+            Datum::Missing => Err(Undef::Unset),
+        }
+    }
+
+    fn moved_by(
+        &self,
+        op: BinOp,
+        size: u64,
+        pointer: Pointer,
+        count: Number,
+    ) -> Result<Datum, Undef> {
+        let (down, bytes) = distance(op, size, count);
+        let moved = match bytes {
+            Some(bytes) => self.moved(pointer, down, bytes),
+            None => None,
+        };
+        match moved {
+            Some(pointer) => Ok(Datum::Pointer(pointer)),
+            None => Err(Undef::Outside),
+        }
+    }
+
+    /// A pointer moved by an integer's number of elements; the integer may stand first.
+    pub(crate) fn offset(
+        &self,
+        op: BinOp,
+        size: u64,
+        left: Datum,
+        right: Datum,
+    ) -> Result<Datum, Undef> {
+        match left {
+            Datum::Pointer(pointer) => match right {
+                Datum::Number(count) => self.moved_by(op, size, pointer, count),
+                _ => Err(Undef::Unset),
+            },
+            Datum::Number(count) => match right {
+                Datum::Pointer(pointer) => self.moved_by(op, size, pointer, count),
+                _ => Err(Undef::Unset),
+            },
+            Datum::Missing => Err(Undef::Unset),
+        }
+    }
+
+    /// The new value of a place.
+    pub(crate) fn changed(&self, change: Change, old: Datum, right: Datum) -> Result<Datum, Undef> {
+        let value = match change.operation {
+            Ty::Pointer(_) => self.offset(change.op, change.size, old, right)?,
+            operation => {
+                let left = converted(operation, old)?;
+                self.binary(change.op, operation, left, right)?
+            }
+        };
+        converted(change.ty, value)
+    }
+}
+
+// < and its like on pointers, by their places in one object.
+fn ordered(op: BinOp, x: Pointer, y: Pointer) -> Result<Datum, Undef> {
+    match x {
+        Pointer::Into {
+            object: a,
+            offset: f,
+        } => match y {
+            Pointer::Into {
+                object: b,
+                offset: g,
+            } if a == b => Ok(truth_value(compared(op, f, g))),
+            _ => Err(Undef::Order),
+        },
+        Pointer::Null => Err(Undef::Order),
+    }
+}
+
+/// How many elements lie between two pointers.
+pub(crate) fn difference(size: u64, left: Datum, right: Datum) -> Result<Datum, Undef> {
+    match left {
+        Datum::Pointer(x) => match right {
+            Datum::Pointer(y) => between(size, x, y),
+            _ => Err(Undef::Unset),
+        },
+        _ => Err(Undef::Unset),
+    }
+}
+
+fn between(size: u64, x: Pointer, y: Pointer) -> Result<Datum, Undef> {
+    match x {
+        Pointer::Into {
+            object: a,
+            offset: f,
+        } => match y {
+            Pointer::Into {
+                object: b,
+                offset: g,
+            } if a == b => Ok(elements_between(f, g, size)),
+            _ => Err(Undef::Order),
+        },
+        Pointer::Null => Err(Undef::Order),
+    }
+}

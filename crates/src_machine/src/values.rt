@@ -1,0 +1,261 @@
+//! Values of expressions: their bytes, conversions, and what operators on integers give.
+
+ghost use Rattle.std.specs.Prelude.{◌≡◌};
+ghost use Rattle.c_ints.specs.Operators.{shifts};
+
+use crate::objects::{Byte, Datum, Number, Object, Pointer, Reading, Spot, Undef, number_from};
+use c_ints::{BinOp, IntTy, UnOp, Value, apply, convert, promote, size, unary};
+use c_typed::Ty;
+
+/// The number of a type with these bits, cut to its width.
+pub(crate) fn number(ty: IntTy, bits: u32) -> Datum {
+    Datum::Number(number_from(Value::new(ty, bits)))
+}
+
+/// An int, 1 where it holds and 0 where it doesn't.
+pub(crate) fn truth_value(holds: bool) -> Datum {
+    number(IntTy::Int, if holds { 1 } else { 0 })
+}
+
+/// How many bytes the value has.
+pub(crate) fn byte_count(value: Datum) -> u8 {
+    match value {
+        Datum::Number(number) => size(number.ty),
+        Datum::Pointer(_) => 2,
+        Datum::Missing => 0,
+    }
+}
+
+/// The byte of this number, the lowest first. Those of null are the number 0.
+pub(crate) fn byte_of(value: Datum, k: u8) -> Byte {
+    match value {
+        Datum::Number(number) => {
+            let bytes = number.bits.to_le_bytes();
+            Byte::Number(bytes[(k & 3) as usize])
+        }
+        Datum::Pointer(Pointer::Null) => Byte::Number(0),
+        Datum::Pointer(Pointer::Into { object, offset }) => Byte::Part {
+            object,
+            offset,
+            high: k == 1,
+        },
+        Datum::Missing => Byte::Unset,
+    }
+}
+
+/// The number that the bytes read so far make.
+pub(crate) fn number_of(reading: Reading) -> Datum {
+    number(reading.ty, reading.number)
+}
+
+/// The number that a byte holds.
+pub(crate) fn number_in(byte: Byte) -> u8 {
+    match byte {
+        Byte::Number(number) => number,
+        Byte::Unset | Byte::Part { .. } => 0,
+    }
+}
+
+/// One byte more of a number that is read.
+pub(crate) fn read_on(reading: Reading, byte: Byte) -> Reading {
+    let shift = (reading.bytes & 3) as u32 * 8;
+    Reading {
+        ty: reading.ty,
+        bytes: reading.bytes.saturating_add(1),
+        number: reading.number | (number_in(byte) as u32) << shift,
+    }
+}
+
+fn same_part(a: Object, f: u64, b: Object, g: u64) -> Option<Pointer> {
+    if a == b && f == g {
+        Some(Pointer::Into {
+            object: a,
+            offset: f,
+        })
+    } else {
+        None
+    }
+}
+
+/// The pointer that two bytes make: two numbers 0 make null, and the bytes of one pointer that pointer.
+pub(crate) fn joined(low: Byte, high: Byte) -> Option<Pointer> {
+    match low {
+        Byte::Number(a) => match high {
+            Byte::Number(b) if a == 0 && b == 0 => Some(Pointer::Null),
+            _ => None,
+        },
+        Byte::Part {
+            object: a,
+            offset: f,
+            high: false,
+        } => match high {
+            Byte::Part {
+                object: b,
+                offset: g,
+                high: true,
+            } => same_part(a, f, b, g),
+            _ => None,
+        },
+        _ => None,
+    }
+}
+
+fn as_integer(ty: IntTy, value: Datum) -> Result<Datum, Undef> {
+    match value {
+        Datum::Number(number) => Ok(Datum::Number(number_from(convert(number.value(), ty)))),
+        Datum::Pointer(_) | Datum::Missing => Err(Undef::Unset),
+    }
+}
+
+// The only integer that becomes a pointer is the constant 0.
+fn as_pointer(value: Datum) -> Result<Datum, Undef> {
+    match value {
+        Datum::Number(_) => Ok(Datum::Pointer(Pointer::Null)),
+        Datum::Pointer(pointer) => Ok(Datum::Pointer(pointer)),
+        Datum::Missing => Err(Undef::Unset),
+    }
+}
+
+/// The value in this type. A missing value has no other type than void.
+pub(crate) fn converted(ty: Ty, value: Datum) -> Result<Datum, Undef> {
+    match ty {
+        Ty::Void => Ok(Datum::Missing),
+        Ty::Int(ty) => as_integer(ty, value),
+        Ty::Pointer(_) => as_pointer(value),
+        Ty::Array { .. } | Ty::Struct(_) => Err(Undef::Unset),
+    }
+}
+
+fn is_null(pointer: Pointer) -> bool {
+    match pointer {
+        Pointer::Null => true,
+        Pointer::Into { .. } => false,
+    }
+}
+
+/// Whether the value is one that isn't 0; `None` for a missing one.
+pub(crate) fn truth_of(value: Datum) -> Option<bool> {
+    match value {
+        Datum::Number(number) => Some(number.value().number() != 0),
+        Datum::Pointer(pointer) => Some(!is_null(pointer)),
+        Datum::Missing => None,
+    }
+}
+
+/// What a unary operator gives.
+pub(crate) fn unary_answer(op: UnOp, value: Datum) -> Result<Datum, Undef> {
+    match value {
+        Datum::Number(number) => Ok(Datum::Number(number_from(unary(op, number.value())))),
+        Datum::Pointer(pointer) => Ok(truth_value(is_null(pointer))),
+        Datum::Missing => Err(Undef::Unset),
+    }
+}
+
+fn bad_divisor(value: Datum) -> Option<Undef> {
+    match value {
+        Datum::Number(number) if number.value().number() == 0 => Some(Undef::Division),
+        _ => None,
+    }
+}
+
+fn bad_count(ty: Ty, value: Datum) -> Option<Undef> {
+    let Ty::Int(ty) = ty else {
+        return None;
+    };
+    match value {
+        Datum::Number(count) => {
+            let count = count.value().number();
+            if count < 0 || size(ty) as i64 * 8 <= count {
+                Some(Undef::Shift)
+            } else {
+                None
+            }
+        }
+        Datum::Pointer(_) | Datum::Missing => None,
+    }
+}
+
+/// What the right operand alone makes undefined.
+pub(crate) fn bad_right(op: BinOp, ty: Ty, right: Datum) -> Option<Undef> {
+    match op {
+        BinOp::Div | BinOp::Rem => bad_divisor(right),
+        BinOp::Shl | BinOp::Shr => bad_count(ty, right),
+        _ => None,
+    }
+}
+
+fn is_shift(op: BinOp) -> bool
+    ensures { result ≡ shifts op }
+{
+    match op {
+        BinOp::Shl | BinOp::Shr => true,
+        _ => false,
+    }
+}
+
+// An operator whose operands have types that it takes.
+fn applied(op: BinOp, a: Value, b: Value) -> Option<Value> {
+    if promote(a.ty()) != a.ty() || promote(b.ty()) != b.ty() {
+        None
+    } else if is_shift(op) || a.ty() == b.ty() {
+        apply(op, a, b)
+    } else {
+        None
+    }
+}
+
+/// What an operator gives on integers, where the divisor isn't 0 and the count fits.
+pub(crate) fn on_numbers(op: BinOp, a: Number, b: Number) -> Result<Datum, Undef> {
+    match applied(op, a.value(), b.value()) {
+        Some(value) => Ok(Datum::Number(number_from(value))),
+        None => Err(Undef::Overflow),
+    }
+}
+
+/// What a comparison says of two places in one object.
+pub(crate) fn compared(op: BinOp, a: u64, b: u64) -> bool {
+    match op {
+        BinOp::Lt => a < b,
+        BinOp::Gt => a > b,
+        BinOp::Le => a <= b,
+        BinOp::Ge => a >= b,
+        BinOp::Eq => a == b,
+        BinOp::Ne => a != b,
+        _ => false,
+    }
+}
+
+/// What `++` and `--` count by: 1 in the type of the operation, or the int 1 where a pointer is moved.
+pub(crate) fn one_in(operation: Ty) -> Datum {
+    match operation {
+        Ty::Int(ty) => number(ty, 1),
+        _ => number(IntTy::Int, 1),
+    }
+}
+
+/// The lowest bit of a value.
+pub(crate) fn lowest_bit(value: Datum) -> u8 {
+    match value {
+        Datum::Number(number) => (number.bits & 1) as u8,
+        Datum::Pointer(_) | Datum::Missing => 0,
+    }
+}
+
+/// What a place holds after an assignment: a bit has the lowest bit alone.
+pub(crate) fn kept_in(spot: Spot, value: Datum) -> Datum {
+    match spot {
+        Spot::Bit { .. } => number(IntTy::UChar, lowest_bit(value) as u32),
+        Spot::Device(_) | Spot::Memory(_) => value,
+    }
+}
+
+/// The following byte, which need not be there.
+pub(crate) fn next_byte(spot: Spot) -> Spot {
+    match spot {
+        Spot::Memory(Pointer::Into { object, offset }) => Spot::Memory(Pointer::Into {
+            object,
+            offset: offset.saturating_add(1),
+        }),
+        other => other,
+    }
+}
