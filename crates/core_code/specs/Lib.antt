@@ -1,0 +1,10 @@
+pub mod Tree
+pub mod View
+pub mod World
+pub mod Bytes
+pub mod Values
+pub mod Machine
+pub mod Programs
+pub mod Cost
+pub mod Correct
+pub mod Framed

@@ -1,0 +1,7 @@
+pub mod Bytes
+pub mod Folding
+pub mod Layout
+pub mod Lowering
+pub mod Puts
+pub mod Rows
+pub mod Spots

@@ -1,0 +1,9 @@
+pub mod Bodies
+pub mod Declarators
+pub mod FirstBytes
+pub mod Frames
+pub mod Ground
+pub mod Jumps
+pub mod Labels
+pub mod Statements
+pub mod Switches

@@ -1,0 +1,69 @@
+//! Where `break` and `continue` lead to from a statement.
+
+ghost use Rattle.std.specs.Prelude.{◌≡◌, IfOk};
+ghost use Rattle.lower_stmt.specs.Jumps as jumps;
+
+use std::alloc::AllocError;
+
+/// How many loops of the code stand between a statement and the loop that `break` leaves, 0 for the innermost (ISO/IEC
+/// 9899:1990, 6.6.6.3), and between it and the loop that `continue` is about (6.6.6.2). `continue` begins that loop
+/// again where `again` is set; otherwise it leaves it, since what stands behind it comes next.
+#[derive(Clone, Copy, PartialEq, Eq, Debug)]
+pub struct Jumps {
+    pub leave: usize,
+    pub turn: usize,
+    pub again: bool,
+}
+
+impl Jumps {
+    /// Those of the body of a function, in which neither stands.
+    pub fn outside() -> Jumps
+        ensures { result ≡ jumps.outside }
+    {
+        Jumps {
+            leave: 0,
+            turn: 0,
+            again: false,
+        }
+    }
+
+    /// Those of the body of a `while`, behind which the loop begins again.
+    pub fn in_while() -> Jumps
+        ensures { result ≡ jumps.in_while }
+    {
+        Jumps {
+            leave: 0,
+            turn: 0,
+            again: true,
+        }
+    }
+
+    /// Those of the body of a `do` or a `for`, which stands in a loop of its own that runs once.
+    pub fn in_body() -> Jumps
+        ensures { result ≡ jumps.in_body }
+    {
+        Jumps {
+            leave: 1,
+            turn: 0,
+            again: false,
+        }
+    }
+
+    /// Those of a segment of a switch with so many segments behind it: each of them is a loop round this one, and so is
+    /// the segment itself.
+    pub fn in_segment(self, behind: usize) -> Result<Jumps, AllocError>
+        ensures { IfOk result (λ inner. inner ≡ jumps.in_segment self behind) }
+    {
+        match behind.checked_add(1) {
+            Some(round) => match self.turn.checked_add(round) {
+                Some(turn) => Ok(Jumps {
+                    leave: behind,
+                    turn,
+                    again: self.again,
+                }),
+                None => Err(AllocError),
+            },
+            None => Err(AllocError),
+        }
+    }
+}
