@@ -1,0 +1,5 @@
+pub mod Layouts
+pub mod Pieces
+pub mod Routines
+pub mod Shape
+pub mod Wanted

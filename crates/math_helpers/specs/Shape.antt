@@ -1,0 +1,138 @@
+-- What can be read off the code of a routine: the words it takes, the labels it jumps to, and the bytes it names.
+use Rattle.std.specs.Prelude.{◌≡◌, ℕ, ◌+◌, ◌<◌, nat_eq, Bool, true, false, not, ◌&&◌, ◌||◌, if◌then◌else◌, List, [], ◌∷◌}
+use Rattle.c_typed.specs.declared.calls.Helper.{Helper}
+use Rattle.c_typed.specs.declared.calls.Helper.TheVariants.{Mul2, Mul4, Divu2, Divs2, Remu2, Rems2, Divu4, Divs4, Remu4, Rems4, Shl2, Shru2, Shrs2, Shl4, Shru4, Shrs4}
+use Rattle.core_code.specs.declared.code.Byte.{Byte}
+use Rattle.core_code.specs.declared.code.Byte.TheVariants as Byte
+use Rattle.pic_chip.specs.declared.Root.{Root}
+use Rattle.sym_code.specs.declared.code.Label.TheVariants as Label
+use Rattle.sym_code.specs.declared.code.Literal.TheVariants as Literal
+use Rattle.sym_code.specs.declared.code.LiteralOperation.TheVariants.{Movlw}
+use Rattle.sym_code.specs.declared.code.Operand.{Operand}
+use Rattle.sym_code.specs.declared.code.Operand.TheVariants as Operand
+use Rattle.sym_code.specs.declared.code.PlainOperation.TheVariants.{Return}
+use Rattle.sym_code.specs.declared.code.Register.TheVariants.{Status}
+use Rattle.sym_code.specs.declared.code.Sym.{Sym}
+use Rattle.sym_code.specs.declared.code.Sym.TheVariants as Sym
+use Rattle.sym_code.specs.declared.code.Target.TheVariants as Target
+
+-- ---- words
+abbrev pub is_in_frame : Operand → Bool
+is_in_frame (Operand.Byte (Byte.Frame copy offset)) = true
+is_in_frame _ = false
+
+abbrev pub accesses_frame : Sym → Bool
+accesses_frame (Sym.File op file into) = is_in_frame file
+accesses_frame (Sym.Movwf file) = is_in_frame file
+accesses_frame (Sym.Clrf file) = is_in_frame file
+accesses_frame (Sym.Bit op file bit) = is_in_frame file
+accesses_frame _ = false
+
+abbrev pub jumps : Sym → Bool
+jumps (Sym.Goto target) = true
+jumps _ = false
+
+-- a select takes two words, and is left out where the same was selected before
+abbrev pub select_words : Bool → Bool → ℕ
+select_words selected needed = if needed && not selected then 2 else 0
+
+-- the words of code behind which the frame's bank and the block's page are selected or not; nothing is known at a label
+abbrev pub words_from : Bool → Bool → List Sym → ℕ
+words_from bank page [] = 0
+words_from bank page (Sym.Label label ∷ rest) = words_from false false rest
+words_from bank page (sym ∷ rest) =
+    1 + select_words bank (accesses_frame sym) + select_words page (jumps sym)
+    + words_from (bank || accesses_frame sym) (page || jumps sym) rest
+
+-- the words of a block with all selects that it can need
+abbrev pub most_words : List Sym → ℕ
+most_words list = words_from false false list
+
+-- the words that are stated for a routine
+abbrev pub stated_words : Helper → ℕ
+stated_words Mul2 = 90
+stated_words Mul4 = 160
+stated_words Divu2 = 180
+stated_words Divs2 = 180
+stated_words Remu2 = 180
+stated_words Rems2 = 180
+stated_words Divu4 = 320
+stated_words Divs4 = 320
+stated_words Remu4 = 320
+stated_words Rems4 = 320
+stated_words Shl2 = 50
+stated_words Shru2 = 50
+stated_words Shrs2 = 50
+stated_words Shl4 = 70
+stated_words Shru4 = 70
+stated_words Shrs4 = 70
+
+-- ---- labels
+abbrev pub marks : List Sym → List ℕ
+marks [] = []
+marks (Sym.Label (Label.Inner n) ∷ rest) = n ∷ marks rest
+marks (_ ∷ rest) = marks rest
+
+abbrev pub is_among : List ℕ → ℕ → Bool
+is_among [] n = false
+is_among (m ∷ ms) n = nat_eq m n || is_among ms n
+
+abbrev pub are_distinct : List ℕ → Bool
+are_distinct [] = true
+are_distinct (n ∷ ns) = not (is_among ns n) && are_distinct ns
+
+-- each jump goes to one of these labels
+abbrev pub jump_to : List ℕ → List Sym → Bool
+jump_to labels [] = true
+jump_to labels (Sym.Goto (Target.Label (Label.Inner n)) ∷ rest) = is_among labels n && jump_to labels rest
+jump_to labels (Sym.Goto target ∷ rest) = false
+jump_to labels (Sym.Call target ∷ rest) = false
+jump_to labels (_ ∷ rest) = jump_to labels rest
+
+-- no label stands twice, and each jump goes to one that stands there
+abbrev pub is_closed : List Sym → Bool
+is_closed list = are_distinct (marks list) && jump_to (marks list) list
+
+-- ---- bytes
+-- how many bytes the frame of a routine has
+abbrev pub frame_size : Helper → ℕ
+frame_size Mul2 = 8
+frame_size Mul4 = 16
+frame_size Divu2 = 8
+frame_size Divs2 = 8
+frame_size Remu2 = 8
+frame_size Rems2 = 8
+frame_size Divu4 = 16
+frame_size Divs4 = 16
+frame_size Remu4 = 16
+frame_size Rems4 = 16
+frame_size Shl2 = 4
+frame_size Shru2 = 4
+frame_size Shrs2 = 4
+frame_size Shl4 = 8
+frame_size Shru4 = 8
+frame_size Shrs4 = 8
+
+-- a byte of the copy's frame of so many bytes, or one of the root's four result bytes
+abbrev pub IsOwnByte : Root → ℕ → ℕ → Byte → Type 0
+IsOwnByte root copy size (Byte.Frame c offset) = (c ≡ copy) × (offset < size)
+IsOwnByte root copy size (Byte.Result r k) = (r ≡ root) × (k < 4)
+IsOwnByte root copy size _ = ⊥
+
+abbrev pub IsOwnOperand : Root → ℕ → ℕ → Operand → Type 0
+IsOwnOperand root copy size (Operand.Byte byte) = IsOwnByte root copy size byte
+IsOwnOperand root copy size _ = ⊥
+
+-- An instruction that names no other byte, and of the chip's registers at most a flag of STATUS; one that returns, or
+-- jumps within the block; or a label.
+abbrev pub IsOwn : Root → ℕ → ℕ → Sym → Type 0
+IsOwn root copy size (Sym.File op file into) = IsOwnOperand root copy size file
+IsOwn root copy size (Sym.Movwf file) = IsOwnOperand root copy size file
+IsOwn root copy size (Sym.Clrf file) = IsOwnOperand root copy size file
+IsOwn root copy size (Sym.Bit op (Operand.Register register) bit) = (register ≡ Status) × (bit < 3)
+IsOwn root copy size (Sym.Bit op file bit) = IsOwnOperand root copy size file
+IsOwn root copy size (Sym.Literal op (Literal.Number n)) = op ≡ Movlw
+IsOwn root copy size (Sym.Plain op) = op ≡ Return
+IsOwn root copy size (Sym.Goto (Target.Label (Label.Inner n))) = Unit {0}
+IsOwn root copy size (Sym.Label (Label.Inner n)) = Unit {0}
+IsOwn root copy size _ = ⊥

@@ -1,0 +1,10 @@
+pub mod Pieces
+pub mod Sums
+pub mod Comparisons
+pub mod Single
+pub mod Pointers
+pub mod Moves
+pub mod Shifts
+pub mod Calls
+pub mod Selection
+pub mod Blocks

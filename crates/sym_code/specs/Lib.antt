@@ -1,0 +1,6 @@
+pub mod WellFormed
+pub mod Registers
+pub mod Layout
+pub mod Machine
+pub mod Cost
+pub mod Correct
