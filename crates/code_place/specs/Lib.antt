@@ -1,2 +1,8 @@
+pub mod Addresses
 pub mod Answers
+pub mod Image
+pub mod Instructions
+pub mod Marks
 pub mod Pages
+pub mod Rows
+pub mod Sizes

@@ -1,7 +1,9 @@
-// Where blocks of code stand: in the pages of program memory, in order, each whole in one page.
+// Where blocks of code stand: in the pages of program memory, in order, each whole in one page; and the image of a program
+// whose blocks stand there.
 //
 // In: how many words each block is stated to have. Out: the address of each, or why they have no room.
 // The promise: the addresses are those of the placing, and each error comes exactly where its cause holds.
+// In: symbolic code, and where its blocks, static objects and frames stand. Out: the image of program memory.
 #![tactic(auto)]
 
 ghost use Rattle.std.specs.Prelude.{◌≡◌, ℕ, ◌+◌, ◌%◌, ◌<◌, ◌≤◌, ◌^◌, length, slice_index, sum, IfOk, MatchOption};
@@ -9,6 +11,15 @@ ghost use Rattle.code_place.specs.Pages as stated;
 ghost use Rattle.code_place.specs.Answers.{TellsPages};
 ghost use Rattle.code_place.specs.declared.PageError.TheVariants.{NoMemory};
 
+mod address;
+mod assembly;
+mod fitting;
+mod marks;
+mod words;
+
+pub use address::address_of;
+pub use assembly::{Assembled, assemble};
+pub use fitting::real_words;
 use std::alloc::{AllocError, Global};
 
 // A call and a jump reach within a page of program memory (Microchip data sheet DS39582, PCL and PCLATH).
@@ -107,3 +118,6 @@ pub fn pages(alloc: Global, blocks: &[u64]) -> Result<Vec<u16>, PageError>
         }),
     }
 }
+
+#[cfg(test)]
+mod tests;

@@ -1,0 +1,4 @@
+pub mod Chains
+pub mod Programs
+pub mod Sizes
+pub mod Steps

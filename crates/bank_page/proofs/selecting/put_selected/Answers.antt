@@ -1,0 +1,5 @@
+use Rattle.bank_page.proofs.Steps.{turn}
+use Rattle.bank_page.proofs.selecting.put_selected.Goals as goal
+
+pub loop-rest-preserved : goal.loop-rest-preserved
+loop-rest-preserved c = turn c.args.placed.now c.args.out.now.name c.loop-rest.out.name c.put_next.new.out.name c.args.list.now c.loop-rest.out.list.items c.put_next.new.out.list.items c.loop-rest.state c.in_ok-state.state c.loop-rest.rest.now _ c.in-len1-up.len_at_least c.loop-rest.invariant c.in_ok-state.ensures.next c.put_next.ensures.name

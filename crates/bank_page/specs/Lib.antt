@@ -1,0 +1,5 @@
+pub mod Kinds
+pub mod Known
+pub mod Needs
+pub mod Selected
+pub mod Step

@@ -1,0 +1,13 @@
+// Selects: the bank of each access, and the page of each jump and call.
+//
+// In: symbolic code without selects, and where objects and frames stand. Out: the same code with the selects that it needs.
+#![tactic(auto)]
+
+mod known;
+mod needs;
+mod selecting;
+
+pub use selecting::selects;
+
+#[cfg(test)]
+mod tests;

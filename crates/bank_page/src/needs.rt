@@ -1,0 +1,276 @@
+//! What instructions need to be selected.
+
+ghost use Rattle.std.specs.Prelude.{◌≡◌, IsTrue};
+ghost use Rattle.bank_page.specs.Kinds as kinds;
+ghost use Rattle.bank_page.specs.Needs as stated;
+ghost use Rattle.code_place.specs.Addresses as addresses;
+
+use crate::known::{changes_bank, changes_page};
+use code_place::address_of;
+use core_code::Byte;
+use ram_place::Placed;
+use sym_code::{BitOperation, FileOperation, Operand, Sym, Target};
+
+/// A byte, and the bank that it stands in.
+#[derive(Clone, Copy, PartialEq, Eq, Debug)]
+pub struct Banked {
+    pub byte: Byte,
+    pub bank: u16,
+}
+
+/// What must be selected before an instruction: the bank of a byte, and the page of a target.
+#[derive(Clone, Copy, PartialEq, Eq, Debug)]
+pub struct Needs {
+    pub bank: Option<Banked>,
+    pub page: Option<Target>,
+}
+
+pub fn is_select(sym: Sym) -> bool
+    ensures { result ≡ kinds.is_select sym }
+{
+    match sym {
+        Sym::SelectBank(_) => true,
+        Sym::SelectPage(_) => true,
+        Sym::File { .. } => false,
+        Sym::Movwf(_) => false,
+        Sym::Clrf(_) => false,
+        Sym::Bit { .. } => false,
+        Sym::Literal { .. } => false,
+        Sym::Plain(_) => false,
+        Sym::Call(_) => false,
+        Sym::Goto(_) => false,
+        Sym::Label(_) => false,
+    }
+}
+
+pub fn is_label(sym: Sym) -> bool
+    ensures { result ≡ kinds.is_label sym }
+{
+    match sym {
+        Sym::Label(_) => true,
+        Sym::SelectBank(_) => false,
+        Sym::SelectPage(_) => false,
+        Sym::File { .. } => false,
+        Sym::Movwf(_) => false,
+        Sym::Clrf(_) => false,
+        Sym::Bit { .. } => false,
+        Sym::Literal { .. } => false,
+        Sym::Plain(_) => false,
+        Sym::Call(_) => false,
+        Sym::Goto(_) => false,
+    }
+}
+
+fn skips_by_file(op: FileOperation) -> bool
+    ensures { result ≡ kinds.skips_by_file op }
+{
+    match op {
+        FileOperation::Decfsz => true,
+        FileOperation::Incfsz => true,
+        FileOperation::Addwf => false,
+        FileOperation::Andwf => false,
+        FileOperation::Comf => false,
+        FileOperation::Decf => false,
+        FileOperation::Incf => false,
+        FileOperation::Iorwf => false,
+        FileOperation::Movf => false,
+        FileOperation::Rlf => false,
+        FileOperation::Rrf => false,
+        FileOperation::Subwf => false,
+        FileOperation::Swapf => false,
+        FileOperation::Xorwf => false,
+    }
+}
+
+fn skips_by_bit(op: BitOperation) -> bool
+    ensures { result ≡ kinds.skips_by_bit op }
+{
+    match op {
+        BitOperation::Btfsc => true,
+        BitOperation::Btfss => true,
+        BitOperation::Bcf => false,
+        BitOperation::Bsf => false,
+    }
+}
+
+/// Whether the instruction may skip the one behind it.
+pub fn is_skip(sym: Sym) -> bool
+    ensures { result ≡ kinds.is_skip sym }
+{
+    match sym {
+        Sym::File { op, .. } => skips_by_file(op),
+        Sym::Bit { op, .. } => skips_by_bit(op),
+        Sym::SelectBank(_) => false,
+        Sym::SelectPage(_) => false,
+        Sym::Movwf(_) => false,
+        Sym::Clrf(_) => false,
+        Sym::Literal { .. } => false,
+        Sym::Plain(_) => false,
+        Sym::Call(_) => false,
+        Sym::Goto(_) => false,
+        Sym::Label(_) => false,
+    }
+}
+
+// Whether the byte is in every bank (Microchip data sheet DS39582, register file map): the results, INTCON, and the registers
+// of the core.
+fn is_common(byte: Byte) -> bool
+    ensures { result ≡ addresses.is_common byte }
+{
+    match byte {
+        Byte::Static { .. } => false,
+        Byte::Frame { .. } => false,
+        Byte::Result { .. } => true,
+        Byte::Device { address } => {
+            address == 0x02
+                || address == 0x03
+                || address == 0x04
+                || address == 0x0a
+                || address == 0x0b
+        }
+    }
+}
+
+// The byte whose bank a file operand needs. The registers of the core and the saved cells are in every bank.
+fn byte_named(file: Operand) -> Option<Byte>
+    ensures { result ≡ kinds.byte_named file }
+{
+    match file {
+        Operand::Byte(byte) => if is_common(byte) { None } else { Some(byte) },
+        Operand::Register(_) => None,
+        Operand::Saved(_) => None,
+    }
+}
+
+// The byte whose bank an instruction needs.
+fn byte_of(sym: Sym) -> Option<Byte>
+    ensures { result ≡ kinds.byte_of sym }
+{
+    match sym {
+        Sym::File { file, .. } => byte_named(file),
+        Sym::Movwf(file) => byte_named(file),
+        Sym::Clrf(file) => byte_named(file),
+        Sym::Bit { file, .. } => byte_named(file),
+        Sym::SelectBank(_) => None,
+        Sym::SelectPage(_) => None,
+        Sym::Literal { .. } => None,
+        Sym::Plain(_) => None,
+        Sym::Call(_) => None,
+        Sym::Goto(_) => None,
+        Sym::Label(_) => None,
+    }
+}
+
+// The target whose page an instruction needs.
+fn target_of(sym: Sym) -> Option<Target>
+    ensures { result ≡ kinds.target_of sym }
+{
+    match sym {
+        Sym::Call(target) => Some(target),
+        Sym::Goto(target) => Some(target),
+        Sym::File { .. } => None,
+        Sym::Movwf(_) => None,
+        Sym::Clrf(_) => None,
+        Sym::Bit { .. } => None,
+        Sym::SelectBank(_) => None,
+        Sym::SelectPage(_) => None,
+        Sym::Literal { .. } => None,
+        Sym::Plain(_) => None,
+        Sym::Label(_) => None,
+    }
+}
+
+// Both needs as one, where no two banks are among them.
+fn both_banks(first: Option<Banked>, second: Option<Banked>) -> Option<Option<Banked>>
+    ensures { result ≡ stated.both_banks first second }
+{
+    match first {
+        None => Some(second),
+        Some(one) => match second {
+            None => Some(first),
+            Some(other) => if one.bank == other.bank {
+                Some(first)
+            } else {
+                None
+            },
+        },
+    }
+}
+
+// The bank that a byte needs. There is no answer where it has no address.
+fn find_bank(placed: &Placed, byte: Option<Byte>) -> Option<Option<Banked>>
+    ensures { result ≡ stated.banked placed.now byte }
+{
+    match byte {
+        None => Some(None),
+        Some(byte) => match address_of(placed, byte) {
+            None => None,
+            Some(at) => Some(Some(Banked {
+                byte,
+                bank: at / 128,
+            })),
+        },
+    }
+}
+
+fn needs_one(sym: Sym, bank: Option<Option<Banked>>) -> Option<Needs>
+    ensures { result ≡ stated.needs_one sym bank }
+{
+    match bank {
+        None => None,
+        Some(bank) => Some(Needs {
+            bank,
+            page: target_of(sym),
+        }),
+    }
+}
+
+fn with_bank(bank: Option<Option<Banked>>, rest: Needs) -> Option<Needs>
+    ensures { result ≡ stated.with_bank bank rest }
+{
+    match bank {
+        None => None,
+        Some(bank) => Some(Needs {
+            bank,
+            page: rest.page,
+        }),
+    }
+}
+
+fn both(bank: Option<Option<Banked>>, rest: Option<Needs>) -> Option<Needs>
+    ensures { result ≡ stated.both bank rest }
+{
+    match bank {
+        None => None,
+        Some(bank) => match rest {
+            None => None,
+            Some(rest) => with_bank(both_banks(bank, rest.bank), rest),
+        },
+    }
+}
+
+/// What must be selected before a list's first instruction so that it and, where it is a skip, those behind it up to the first
+/// that is none can run with no select between them. There is no answer where they need two banks, where a byte has no
+/// address, where a skip itself changes what is selected, and where a label or nothing stands behind a skip.
+pub fn needs_in(placed: &Placed, list: &[Sym]) -> Option<Needs>
+    ensures { result ≡ stated.needs_in placed.now list.now }
+{
+    match list {
+        [] => None,
+        [first, rest @ ..] => {
+            if is_select(*first) {
+                needs_in(placed, rest)
+            } else if is_label(*first) {
+                None
+            } else if is_skip(*first) {
+                if changes_bank(*first) || changes_page(*first) {
+                    None
+                } else {
+                    both(find_bank(placed, byte_of(*first)), needs_in(placed, rest))
+                }
+            } else {
+                needs_one(*first, find_bank(placed, byte_of(*first)))
+            }
+        }
+    }
+}

@@ -1,0 +1,6 @@
+use Rattle.std.proofs.Common.{◌≡◌, ◌+◌, take}
+use Rattle.code_place.specs.Sizes.{words_in}
+use Rattle.code_place.proofs.marks.inner_labels.Given as goal
+
+abbrev pub invariant-loop-sym : goal.invariant-loop-sym
+invariant-loop-sym l = l.pc ≡ l.at + words_in (take l.sym-index l.block.list.items)
