@@ -5,3 +5,4 @@ pub mod Fields
 pub mod FileLaws
 pub mod Given
 pub mod BadLine
+pub mod Lowest

@@ -7,3 +7,4 @@ pub mod MapView
 pub mod Reading
 pub mod MapExample
 pub mod Answers
+pub mod Tracing

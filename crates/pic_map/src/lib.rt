@@ -1,9 +1,10 @@
 // Map files: where a program's main begins and ends, and where its objects and frames stand.
 //
-// In: a map, or the text of a map file; an event of a run. Out: the text of the map's file, or the map; the line that is
-// printed for the event.
+// In: a map, or the text of a map file; the program counters and the accesses of a run; an event of it. Out: the
+// text of the map's file, or the map; the events that the run makes; the line that is printed for an event.
 // The promise: the text is the one fixed form of that map and a map file of it; a text is read exactly
-// where it is a map file, and what is read is its content; an event's line has the map's names.
+// where it is a map file, and what is read is its content; the events are those of the run's definition; an
+// event's line has the map's names.
 #![tactic(auto)]
 
 ghost use Rattle.std.specs.Prelude.{◌≡◌, ℕ, List};
@@ -11,13 +12,16 @@ ghost use Rattle.pic_map.specs.MapContent.{MapContent};
 ghost use Rattle.pic_map.specs.MapFile.{IsMapFile};
 ghost use Rattle.pic_map.specs.MapExample.{example_text, example_map};
 
+mod cells;
 mod events;
 mod read;
+mod tracer;
 mod write;
 
 pub use events::event_line;
 use pic_chip::Root;
 pub use read::{MapError, read_map};
+pub use tracer::Tracer;
 pub use write::write_map;
 
 /// Where a static object stands. `fixed` for one that is const; the address is one of data memory,

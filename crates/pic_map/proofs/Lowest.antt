@@ -1,0 +1,49 @@
+-- At the lowest address of a register, and at no other, there is a name; and it is below 256.
+use Rattle.std.proofs.Common.{◌≡◌, ℕ, ◌≤◌, Bool, true, false, ◌||◌, Some, None, List, [], ◌∷◌, map, refl, sym, ap, ◌∙◌, arith, nat_eq, nat_lt}
+use Rattle.std.proofs.lemmas.Bool.{eqb-true, ltb-true, eq-eqb}
+use Rattle.std.specs.Prelude.{if◌then◌else◌, is_some}
+use Rattle.pic_chip.specs.Registers.{Register, registers, register_at, name_in, name_at, is_among, is_register, lowest, or_itself}
+
+-- what stands at its own address has a name there, and what has a name there is a register
+own : (rs : List Register) (address : ℕ) → or_itself address (register_at rs address) ≡ address → is_some (name_in rs address) ≡ is_some (register_at rs address)
+own [] address e = refl
+own (r ∷ rs) address e = by_test (nat_eq r.1 address) (is_among r.2 address) refl (own rs address) e
+  where
+    by_test : (b t : Bool) → nat_eq r.1 address ≡ b
+        → (or_itself address (register_at rs address) ≡ address → is_some (name_in rs address) ≡ is_some (register_at rs address))
+        → or_itself address (if b || t then Some r.1 else register_at rs address) ≡ address
+        → is_some (if b then Some r.0 else name_in rs address) ≡ is_some (if b || t then Some r.1 else register_at rs address)
+    by_test true t is later h = refl
+    by_test false true is later h = absurd (cc (is, eq-eqb r.1 address h))
+    by_test false false is later h = later h
+
+pub named_is_register : (address : ℕ) → lowest address ≡ address → is_some (name_at address) ≡ is_register address
+named_is_register address = own registers address
+
+first_or : Bool → List Bool → Bool
+first_or x [] = x
+first_or x (y ∷ ys) = y
+
+rest : List Bool → List Bool
+rest [] = []
+rest (y ∷ ys) = ys
+
+small_row : (rs : List Register) → map (λ r. nat_lt r.1 256) rs ≡ map (λ r. true) rs → (address : ℕ) → 256 ≤ address → name_in rs address ≡ None
+unfolding first_or rest
+small_row [] e address h = refl
+small_row (r ∷ rs) e address h = by_test (nat_eq r.1 address) refl (small_row rs (ap rest e) address h)
+  where
+    by_test : (b : Bool) → nat_eq r.1 address ≡ b → name_in rs address ≡ None → (if b then Some r.0 else name_in rs address) ≡ None
+    by_test true is later =
+        let small = ltb-true r.1 256 (ap (first_or true) e) in
+        let same = eqb-true r.1 address is in
+        absurd (omega (arith, small, same, h))
+    by_test false is later = later
+
+-- no register's lowest address is above 255
+high_has_no_name : (address : ℕ) → 256 ≤ address → name_at address ≡ None
+high_has_no_name = small_row registers refl
+
+-- and so no register is above 255 that stands at its own address
+pub high_is_none : (address : ℕ) → 256 ≤ address → lowest address ≡ address → is_register address ≡ false
+high_is_none address h low = sym (named_is_register address low) ∙ ap is_some (high_has_no_name address h)

@@ -1,0 +1,51 @@
+//! What stands at an address, by a map.
+
+ghost use Rattle.std.specs.Prelude.{◌≡◌, ◌≤◌, Some, None, if◌then◌else◌, length, map};
+ghost use Rattle.pic_chip.specs.declared.Cell.TheVariants.{Device};
+ghost use Rattle.pic_chip.specs.Registers.{is_register, lowest};
+ghost use Rattle.pic_chip.specs.Run.{cell_at as cell_of, object_at as object_of_run};
+ghost use Rattle.pic_map.specs.MapContent.{range_of};
+ghost use Rattle.pic_map.specs.MapView.{object_of};
+
+use crate::ObjLine;
+use pic_chip::{Cell, register_name};
+
+/// What an access to this address is about. The address is the lowest of its register.
+pub fn cell_at(lines: &[ObjLine], address: u16) -> Option<Cell>
+    requires { length lines.now ≤ 65536 }
+    ensures { lowest address ≡ address → result ≡ cell_of (map range_of (map object_of lines.now)) address }
+{
+    match device_at(address) {
+        None => object_at(lines, address),
+        device => device,
+    }
+}
+
+#[tactic(auto, using(crate::proofs::Lowest::named_is_register, crate::proofs::Lowest::high_is_none))]
+fn device_at(address: u16) -> Option<Cell>
+    ensures { lowest address ≡ address → result ≡ (if is_register address then Some (Device address) else None) }
+{
+    match u8::try_from(address) {
+        Ok(address) if register_name(address).is_some() => Some(Cell::Device { address }),
+        _ => None,
+    }
+}
+
+/// The first object, not const, that covers the address.
+fn object_at(mut lines: &[ObjLine], address: u16) -> Option<Cell>
+    requires { length lines.now ≤ 65536 }
+    ensures { result ≡ object_of_run (map range_of (map object_of lines.entry.now)) 0 address }
+{
+    let mut number: u32 = 0;
+    while let [line, rest @ ..] = lines {
+        if !line.fixed && line.address <= address && address - line.address < line.size {
+            return Some(Cell::Static {
+                object: number as u16,
+                offset: address - line.address,
+            });
+        }
+        lines = rest;
+        number += 1;
+    }
+    None
+}
