@@ -1,4 +1,7 @@
 //! Expressions, from the tree's root down (ISO/IEC 9899:1990, 6.3).
+//!
+//! Each function of the recursion has a frame of its own, hence `inline(never)`: a frame holds
+//! what one function needs, and a tree of thousands of levels stays within the call stack.
 
 use crate::prefixes::{Applied, apply_prefix, listed};
 use crate::type_name::size_of_name;
@@ -12,8 +15,8 @@ use c_scope::checker::Checker;
 use c_scope::error::CheckError;
 use c_token::Punct;
 use c_tree::expression::{
-    Assign, Binary, Cast, Choice, Cond, Expr, NextOperand, Operand as TreeOperand, Postfix,
-    PostfixSuffix, Primary,
+    Assign, Binary, Cast, Choice, Cond, Expr, NextAssign, NextOperand, Operand as TreeOperand,
+    Postfix, PostfixSuffix, Primary, Target as TreeTarget,
 };
 use c_tree::word::Sign;
 use c_typed::StepOp;
@@ -21,8 +24,15 @@ use c_typed::StepOp;
 /// Assignments between commas.
 #[cycle(expression)]
 pub fn expression(expr: &Expr, checker: &mut Checker) -> Result<Term, CheckError> {
-    let mut left = assign(&expr.first, checker)?;
-    for next in &expr.others {
+    let first = assign(&expr.first, checker)?;
+    sequence(&expr.others, checker, first)
+}
+
+#[cycle(expression)]
+#[inline(never)]
+fn sequence(others: &[NextAssign], checker: &mut Checker, first: Term) -> Result<Term, CheckError> {
+    let mut left = first;
+    for next in others {
         let dropped = used(left, checker)?;
         let right = assign(&next.assign, checker)?;
         let right = used(right, checker)?;
@@ -41,19 +51,27 @@ struct Target {
 /// A value, and what it is assigned to.
 #[cycle(expression)]
 pub fn assign(assign: &Assign, checker: &mut Checker) -> Result<Term, CheckError> {
-    let mut targets = Vec::new(checker.alloc);
-    for target in &assign.targets {
-        let term = cast(&target.place, checker)?;
-        refuse_table(&term)?;
-        targets.push(Target {
-            term,
-            sign: target.operator,
-        })?;
-    }
+    let targets = places(&assign.targets, checker)?;
     let value = conditional(&assign.value, checker)?;
     assign_all(checker, targets, value)
 }
 
+#[cycle(expression)]
+#[inline(never)]
+fn places(targets: &[TreeTarget], checker: &mut Checker) -> Result<Vec<Target>, CheckError> {
+    let mut places = Vec::new(checker.alloc);
+    for target in targets {
+        let term = cast(&target.place, checker)?;
+        refuse_table(&term)?;
+        places.push(Target {
+            term,
+            sign: target.operator,
+        })?;
+    }
+    Ok(places)
+}
+
+#[inline(never)]
 fn assign_all(
     checker: &mut Checker,
     targets: Vec<Target>,
@@ -87,6 +105,7 @@ pub(crate) fn conditional(cond: &Cond, checker: &mut Checker) -> Result<Term, Ch
 }
 
 #[cycle(expression)]
+#[inline(never)]
 fn choice(choice: &Choice, checker: &mut Checker) -> Result<Chosen, CheckError> {
     let condition = operands(&choice.condition, checker)?;
     let condition = used(condition, checker)?;
@@ -95,6 +114,7 @@ fn choice(choice: &Choice, checker: &mut Checker) -> Result<Chosen, CheckError> 
     Ok(Chosen { condition, then })
 }
 
+#[inline(never)]
 fn choose_all(checker: &mut Checker, choices: Vec<Chosen>, last: Term) -> Result<Term, CheckError> {
     let mut value = last;
     for choice in choices.into_iter().rev() {
@@ -106,6 +126,7 @@ fn choose_all(checker: &mut Checker, choices: Vec<Chosen>, last: Term) -> Result
 }
 
 #[cycle(expression)]
+#[inline(never)]
 fn operands(binary: &Binary, checker: &mut Checker) -> Result<Term, CheckError> {
     match binary {
         Binary::Operand(operand) => cast(operand, checker),
@@ -117,6 +138,7 @@ fn operands(binary: &Binary, checker: &mut Checker) -> Result<Term, CheckError> 
 }
 
 #[cycle(expression)]
+#[inline(never)]
 fn chain(others: &[NextOperand], checker: &mut Checker, first: Term) -> Result<Term, CheckError> {
     let mut left = first;
     for next in others {
@@ -129,6 +151,7 @@ fn chain(others: &[NextOperand], checker: &mut Checker, first: Term) -> Result<T
 }
 
 #[cycle(expression)]
+#[inline(never)]
 fn cast(cast: &Cast, checker: &mut Checker) -> Result<Term, CheckError> {
     let prefixes = listed(&cast.prefixes, checker)?;
     let term = match &cast.operand {
@@ -142,6 +165,7 @@ fn cast(cast: &Cast, checker: &mut Checker) -> Result<Term, CheckError> {
     apply_all(checker, prefixes, term)
 }
 
+#[inline(never)]
 fn apply_all(
     checker: &mut Checker,
     prefixes: Vec<Applied>,
@@ -155,6 +179,7 @@ fn apply_all(
 }
 
 #[cycle(expression)]
+#[inline(never)]
 fn postfix(postfix: &Postfix, checker: &mut Checker) -> Result<Term, CheckError> {
     let mut term = primary(&postfix.primary, checker)?;
     for suffix in &postfix.suffixes {
@@ -164,6 +189,7 @@ fn postfix(postfix: &Postfix, checker: &mut Checker) -> Result<Term, CheckError>
 }
 
 #[cycle(expression)]
+#[inline(never)]
 fn suffix(suffix: &PostfixSuffix, checker: &mut Checker, term: Term) -> Result<Term, CheckError> {
     match suffix {
         PostfixSuffix::Index { index, .. } => {
@@ -202,6 +228,7 @@ fn step_behind(punct: Punct) -> StepOp {
     }
 }
 
+#[inline(never)]
 fn selected(
     checker: &mut Checker,
     punct: Punct,
@@ -219,6 +246,7 @@ fn selected(
 }
 
 #[cycle(expression)]
+#[inline(never)]
 fn arguments(list: &Expr, checker: &mut Checker) -> Result<Vec<Operand>, CheckError> {
     let mut arguments = Vec::new(checker.alloc);
     let first = assign(&list.first, checker)?;
@@ -231,6 +259,7 @@ fn arguments(list: &Expr, checker: &mut Checker) -> Result<Vec<Operand>, CheckEr
 }
 
 #[cycle(expression)]
+#[inline(never)]
 fn primary(primary: &Primary, checker: &mut Checker) -> Result<Term, CheckError> {
     match primary {
         Primary::Name(name) => named(&checker.scopes, name),

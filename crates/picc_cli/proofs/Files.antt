@@ -7,12 +7,12 @@ use Rattle.host_io.specs.Host.{Contents, put, PrintsPrefix, IsRead, PutsPrefix}
 use Rattle.picc_cli.specs.declared.program.Assignment.{Assignment}
 use Rattle.picc_cli.specs.declared.program.Side.{Side}
 use Rattle.picc_cli.specs.declared.program.Side.TheVariants.{Port, Tris}
-use Rattle.picc_cli.specs.declared.picc.Outcome.TheVariants.{Built, NotYet, Refused, CannotRead, CannotWriteHex, CannotWriteMap, NoMemory}
-use Rattle.picc_cli.specs.Built.{IsBuilt, IsRefused}
+use Rattle.picc_cli.specs.declared.building.Outcome.TheVariants.{Built, Refused, CannotRead, CannotWriteHex, CannotWriteMap, NoMemory}
+use Rattle.picc_cli.specs.Built.{IsBuilt, IsRefused, IsCompiled, IsMade}
 use Rattle.picc_cli.specs.Command.{Names}
-use Rattle.picc_cli.specs.declared.picc.Outcome.{Outcome}
+use Rattle.picc_cli.specs.declared.building.Outcome.{Outcome}
 use Rattle.picc_cli.specs.Outcome.{TellsWhy, Refuses, BreaksOff, WorkedOn}
-use Rattle.picc_cli.proofs.Whole.{why_whole}
+use Rattle.picc_cli.proofs.Whole.{why_whole, tree_whole}
 use Rattle.picc_cli.specs.PortProgram.{side_text, number_text, assignment_text, assignments_text, beginning, IsProgram}
 
 -- ---- printing
@@ -64,7 +64,7 @@ short_program text xs program =
     let last : length end ≤ 2 = ⊎_elim (λ i. let l = ap (length {A = ℕ}) i in omega arith) (λ i. let l = ap (length {A = ℕ}) i in omega arith) program.spelled.1 in
     omega arith
 
-take_all : (xs : List ℕ) (n : ℕ) → length xs ≤ n → take n xs ≡ xs
+pub take_all : (xs : List ℕ) (n : ℕ) → length xs ≤ n → take n xs ≡ xs
 take_all [] zero h = refl
 take_all [] (suc n) h = refl
 take_all (x ∷ xs) zero h = absurd (omega arith)
@@ -76,10 +76,21 @@ whole text bytes e short =
     let l : length bytes ≡ min 262145 (length text) = ap (length {A = ℕ}) (sym e) ∙ length-take 262145 text in
     sym (take_all text 262145 (omega arith)) ∙ e
 
--- the content of a name that was read
-content_of : (o : Option (List ℕ)) (bytes : List ℕ) → option_map (take 262145) o ≡ Some bytes → (text : List ℕ) × (o ≡ Some text) × (take 262145 text ≡ bytes)
-content_of None bytes e = absurd (cc)
-content_of (Some text) bytes e = (text, refl, cc)
+-- the content of a name of which so many bytes were read
+pub content_of : (n : ℕ) (o : Option (List ℕ)) (bytes : List ℕ) → option_map (take n) o ≡ Some bytes → (text : List ℕ) × (o ≡ Some text) × (take n text ≡ bytes)
+content_of n None bytes e = absurd (cc)
+content_of n (Some text) bytes e = (text, refl, cc)
+
+-- it was read whole, where it isn't too long
+pub read_whole : (most : ℕ) (text bytes : List ℕ) → take (most + 1) text ≡ bytes → length bytes ≤ most → text ≡ bytes
+read_whole most text bytes e short =
+    let l : length bytes ≡ min (most + 1) (length text) = ap (length {A = ℕ}) (sym e) ∙ length-take (most + 1) text in
+    sym (take_all text (most + 1) (omega arith)) ∙ e
+
+pub read_long : (most : ℕ) (text bytes : List ℕ) → take (most + 1) text ≡ bytes → most < length bytes → most < length text
+read_long most text bytes e long =
+    let l : length bytes ≡ min (most + 1) (length text) = ap (length {A = ℕ}) (sym e) ∙ length-take (most + 1) text in
+    omega arith
 
 refused_whole : (text bytes : List ℕ) → take 262145 text ≡ bytes → IsRefused bytes → IsRefused text
 refused_whole text bytes e refused xs program =
@@ -89,11 +100,17 @@ built_whole : (text bytes hex map : List ℕ) → take 262145 text ≡ bytes →
 built_whole text bytes hex map e built =
     subst (λ t. IsBuilt t hex map) (sym (whole text bytes e (short_program bytes built.assignments built.program))) built
 
+made_whole : (text bytes hex map : List ℕ) → take 262145 text ≡ bytes → IsMade bytes hex map → IsMade text hex map
+made_whole text bytes hex map e (inl built) = inl (built_whole text bytes hex map e built)
+made_whole text bytes hex map e (inr (refused, compiled)) =
+    let same = tree_whole text bytes e compiled.tree in
+    inr (subst IsRefused same refused, subst (λ t. IsCompiled t hex map) same compiled)
+
 -- ---- the calls of a build, one behind the other
 refused_at : (why : Outcome) (o : Contents) (new : Option Contents) (names : Names) (bytes : List ℕ) → IsRead names.input 262145 bytes o → new ≡ Some o → IsRefused bytes
     → TellsWhy bytes why → Refuses why names o new
 refused_at why o new names bytes read same refused tells =
-    let text = content_of (o names.input) bytes read in
+    let text = content_of 262145 (o names.input) bytes read in
     record {
       text = text.0;
       read = text.1;
@@ -105,7 +122,6 @@ refused_at why o new names bytes read same refused tells =
 -- a text for which there is a reason, or no memory to find it
 refused_for : (why : Outcome) (o : Contents) (new : Option Contents) (names : Names) (bytes : List ℕ) → IsRead names.input 262145 bytes o → new ≡ Some o → IsRefused bytes
     → TellsWhy bytes why → WorkedOn why names o new
-refused_for NotYet o new names bytes read same refused tells = refused_at NotYet o new names bytes read same refused tells
 refused_for (Refused refusal) o new names bytes read same refused tells = refused_at (Refused refusal) o new names bytes read same refused tells
 refused_for Built o new names bytes read same refused tells = absurd tells
 refused_for CannotRead o new names bytes read same refused tells = absurd tells
@@ -113,88 +129,88 @@ refused_for CannotWriteHex o new names bytes read same refused tells = absurd te
 refused_for CannotWriteMap o new names bytes read same refused tells = absurd tells
 refused_for NoMemory o new names bytes read same refused tells = absurd tells
 
-refused_files_at : (why : Outcome) (old new : Option Contents) (names : Names) (bytes : List ℕ) → IfSome old (IsRead names.input 262145 bytes) → new ≡ old → IsRefused bytes
-    → (why ≡ NoMemory) ⊎ TellsWhy bytes why → IfSome old (λ o. WorkedOn why names o new)
-refused_files_at why None new names bytes read same refused tells = tt
-refused_files_at why (Some o) new names bytes read same refused (inl none) = subst (λ w. WorkedOn w names o new) (sym none) (inl same)
-refused_files_at why (Some o) new names bytes read same refused (inr tells) = refused_for why o new names bytes read same refused tells
-
-broken_hex_at : (old middle new : Option Contents) (names : Names) (bytes hex map : List ℕ) → IfSome old (IsRead names.input 262145 bytes) → middle ≡ old → IsBuilt bytes hex map
+broken_hex_at : (old middle new : Option Contents) (names : Names) (bytes hex map : List ℕ) → IfSome old (IsRead names.input 262145 bytes) → middle ≡ old → IsMade bytes hex map
     → PutsPrefix names.output hex middle new → IfSome old (λ o. BreaksOff names o new)
 broken_hex_at None middle new names bytes hex map read same built puts = tt
 broken_hex_at (Some o) middle new names bytes hex map read same built (inl e) = inl (e ∙ same)
 broken_hex_at (Some o) middle new names bytes hex map read same built (inr (n, short, e)) =
-    let text = content_of (o names.input) bytes read in
+    let text = content_of 262145 (o names.input) bytes read in
     inr (record {
       text = text.0;
       hex = hex;
       map = map;
       read = text.1;
-      built = built_whole text.0 bytes hex map text.2 built;
+      built = made_whole text.0 bytes hex map text.2 built;
       files = inl (n, short, e ∙ ap (option_map (put names.output (take n hex))) same);
     })
 
-broken_map_at : (old middle half new : Option Contents) (names : Names) (bytes hex map : List ℕ) → IfSome old (IsRead names.input 262145 bytes) → middle ≡ old → IsBuilt bytes hex map
+broken_map_at : (old middle half new : Option Contents) (names : Names) (bytes hex map : List ℕ) → IfSome old (IsRead names.input 262145 bytes) → middle ≡ old → IsMade bytes hex map
     → half ≡ option_map (put names.output hex) middle → PutsPrefix names.map map half new → IfSome old (λ o. BreaksOff names o new)
 broken_map_at None middle half new names bytes hex map read same built first puts = tt
 broken_map_at (Some o) middle half new names bytes hex map read same built first (inl e) =
-    let text = content_of (o names.input) bytes read in
+    let text = content_of 262145 (o names.input) bytes read in
     inr (record {
       text = text.0;
       hex = hex;
       map = map;
       read = text.1;
-      built = built_whole text.0 bytes hex map text.2 built;
+      built = made_whole text.0 bytes hex map text.2 built;
       files = inl (length hex, omega arith, e ∙ first ∙ ap (option_map (put names.output hex)) same ∙ ap (λ h. Some (put names.output h o)) (sym (take_all hex (length hex) (omega arith))));
     })
 broken_map_at (Some o) middle half new names bytes hex map read same built first (inr (n, short, e)) =
-    let text = content_of (o names.input) bytes read in
+    let text = content_of 262145 (o names.input) bytes read in
     inr (record {
       text = text.0;
       hex = hex;
       map = map;
       read = text.1;
-      built = built_whole text.0 bytes hex map text.2 built;
+      built = made_whole text.0 bytes hex map text.2 built;
       files = inr (n, short, e ∙ ap (option_map (put names.map (take n map))) (first ∙ ap (option_map (put names.output hex)) same));
     })
 
-built_files_at : (old middle half new : Option Contents) (names : Names) (bytes hex map : List ℕ) → IfSome old (IsRead names.input 262145 bytes) → middle ≡ old → IsBuilt bytes hex map
+built_files_at : (old middle half new : Option Contents) (names : Names) (bytes hex map : List ℕ) → IfSome old (IsRead names.input 262145 bytes) → middle ≡ old → IsMade bytes hex map
     → half ≡ option_map (put names.output hex) middle → new ≡ option_map (put names.map map) half → IfSome old (λ o. WorkedOn Built names o new)
 built_files_at None middle half new names bytes hex map read same built first second = tt
 built_files_at (Some o) middle half new names bytes hex map read same built first second =
-    let text = content_of (o names.input) bytes read in
+    let text = content_of 262145 (o names.input) bytes read in
     record {
       text = text.0;
       hex = hex;
       map = map;
       read = text.1;
-      built = built_whole text.0 bytes hex map text.2 built;
+      built = made_whole text.0 bytes hex map text.2 built;
       files = second ∙ ap (option_map (put names.map map)) (first ∙ ap (option_map (put names.output hex)) same);
     }
 
 -- the same, where the calls were handed the bytes as slices
-pub refused_files : (why : Outcome) (old new : Option Contents) (names : Names) (bytes text : List ℕ) → IfSome old (IsRead names.input 262145 bytes) → new ≡ old → text ≡ bytes
-    → IsRefused text → (why ≡ NoMemory) ⊎ TellsWhy text why → IfSome old (λ o. WorkedOn why names o new)
-refused_files why old new names bytes text read same e refused tells =
-    refused_files_at why old new names bytes read same (subst IsRefused e refused) (subst (λ t. (why ≡ NoMemory) ⊎ TellsWhy t why) e tells)
+unmade_at : (why : Outcome) (old new : Option Contents) (names : Names) (bytes : List ℕ) → IfSome old (IsRead names.input 262145 bytes) → new ≡ old
+    → (why ≡ NoMemory) ⊎ (IsRefused bytes × TellsWhy bytes why) → IfSome old (λ o. WorkedOn why names o new)
+unmade_at why None new names bytes read same told = tt
+unmade_at why (Some o) new names bytes read same (inl none) = subst (λ w. WorkedOn w names o new) (sym none) (inl same)
+unmade_at why (Some o) new names bytes read same (inr (refused, tells)) = refused_for why o new names bytes read same refused tells
+
+pub unmade_files : (why : Outcome) (old new : Option Contents) (names : Names) (bytes text : List ℕ) → IfSome old (IsRead names.input 262145 bytes) → new ≡ old → text ≡ bytes
+    → (why ≡ NoMemory) ⊎ (IsRefused text × TellsWhy text why) → IfSome old (λ o. WorkedOn why names o new)
+unmade_files why old new names bytes text read same e told =
+    unmade_at why old new names bytes read same (subst (λ t. (why ≡ NoMemory) ⊎ (IsRefused t × TellsWhy t why)) e told)
 
 pub broken_hex : (old middle new : Option Contents) (names : Names) (bytes text hex map first : List ℕ) → IfSome old (IsRead names.input 262145 bytes) → middle ≡ old
-    → text ≡ bytes → IsBuilt text hex map → first ≡ hex → PutsPrefix names.output first middle new → IfSome old (λ o. BreaksOff names o new)
+    → text ≡ bytes → IsMade text hex map → first ≡ hex → PutsPrefix names.output first middle new → IfSome old (λ o. BreaksOff names o new)
 broken_hex old middle new names bytes text hex map first read same e built f puts =
-    broken_hex_at old middle new names bytes hex map read same (subst (λ t. IsBuilt t hex map) e built) (subst (λ t. PutsPrefix names.output t middle new) f puts)
+    broken_hex_at old middle new names bytes hex map read same (subst (λ t. IsMade t hex map) e built) (subst (λ t. PutsPrefix names.output t middle new) f puts)
 
 pub broken_map : (old middle half new : Option Contents) (names : Names) (bytes text hex map first second : List ℕ) → IfSome old (IsRead names.input 262145 bytes) → middle ≡ old
-    → text ≡ bytes → IsBuilt text hex map → first ≡ hex → half ≡ option_map (put names.output first) middle → second ≡ map → PutsPrefix names.map second half new
+    → text ≡ bytes → IsMade text hex map → first ≡ hex → half ≡ option_map (put names.output first) middle → second ≡ map → PutsPrefix names.map second half new
     → IfSome old (λ o. BreaksOff names o new)
 broken_map old middle half new names bytes text hex map first second read same e built f one s puts =
-    broken_map_at old middle half new names bytes hex map read same (subst (λ t. IsBuilt t hex map) e built)
+    broken_map_at old middle half new names bytes hex map read same (subst (λ t. IsMade t hex map) e built)
     (one ∙ ap (λ t. option_map (put names.output t) middle) f) (subst (λ t. PutsPrefix names.map t half new) s puts)
 
 pub built_files : (old middle half new : Option Contents) (names : Names) (bytes text hex map first second : List ℕ) → IfSome old (IsRead names.input 262145 bytes) → middle ≡ old
-    → text ≡ bytes → IsBuilt text hex map → first ≡ hex → half ≡ option_map (put names.output first) middle → second ≡ map → new ≡ option_map (put names.map second) half
+    → text ≡ bytes → IsMade text hex map → first ≡ hex → half ≡ option_map (put names.output first) middle → second ≡ map → new ≡ option_map (put names.map second) half
     → IfSome old (λ o. WorkedOn Built names o new)
 built_files old middle half new names bytes text hex map first second read same e built f one s two =
-    built_files_at old middle half new names bytes hex map read same (subst (λ t. IsBuilt t hex map) e built)
+    built_files_at old middle half new names bytes hex map read same (subst (λ t. IsMade t hex map) e built)
     (one ∙ ap (λ t. option_map (put names.output t) middle) f) (two ∙ ap (λ t. option_map (put names.map t) half) s)
 
 -- ---- the parts of a line

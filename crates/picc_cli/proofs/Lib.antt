@@ -5,5 +5,10 @@ pub mod Placing
 pub mod Spelling
 pub mod Whole
 pub mod Files
-pub mod Finish
+pub mod Endings
+pub mod BuildEnds
+pub mod TraceFiles
+pub mod TraceRun
+pub mod TraceEnds
+pub mod Forms
 pub mod MapRanges

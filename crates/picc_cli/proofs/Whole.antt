@@ -1,15 +1,15 @@
 -- What holds of the front of a text that was read holds of the whole text: the rest shows only that the text is too long.
-use Rattle.std.proofs.Common.{◌≡◌, ℕ, ◌<◌, ◌≤◌, inl, inr, ⊎_elim, List, length, take, refl, sym, ap, ◌∙◌, subst, arith, min, Result, Ok, Err}
+use Rattle.std.proofs.Common.{◌≡◌, ℕ, ◌<◌, ◌≤◌, ⊎_elim, List, length, take, refl, sym, ap, ◌∙◌, subst, arith, min, Err}
 use Rattle.std.proofs.lemmas.Bool.{cases_lt, lt-ltb}
-use Rattle.std.proofs.lemmas.List.{length-take}
+use Rattle.std.proofs.lemmas.List.{length-take, take_all}
 use Rattle.picc_core.specs.Answers.{Tells}
 use Rattle.picc_core.specs.Texts.{tokens_left, within_limits, program_tokens, HasTree, HasNoTree}
 use Rattle.picc_core.specs.declared.refusal.CompileError.TheVariants.{Refused}
 use Rattle.picc_core.specs.declared.refusal.LimitKind.TheVariants as kinds
 use Rattle.picc_core.specs.declared.refusal.Refusal.{Refusal}
 use Rattle.picc_core.specs.declared.refusal.Refusal.TheVariants.{Lex, Word, Directive, Syntax, Typing, Recursion, Roots, Depth, Ram, Code, Page, Limit}
-use Rattle.picc_cli.specs.declared.picc.Outcome.{Outcome}
-use Rattle.picc_cli.specs.declared.picc.Outcome.TheVariants as outcomes
+use Rattle.picc_cli.specs.declared.building.Outcome.{Outcome}
+use Rattle.picc_cli.specs.declared.building.Outcome.TheVariants as outcomes
 use Rattle.picc_cli.specs.Outcome.{TellsWhy}
 
 too_long : (text : List ℕ) → 262144 < length text → tokens_left text ≡ Err (Refused (Limit kinds.Text 0))
@@ -45,13 +45,20 @@ module _ (text bytes : List ℕ) (h : 262144 < length text) (k : 262144 < length
   long_tells (Code words) t = absurd (no_tree bytes k t)
 
   long_why : (why : Outcome) → TellsWhy bytes why → TellsWhy text why
-  long_why outcomes.NotYet t = absurd (no_tree bytes k t)
   long_why (outcomes.Refused refusal) t = long_tells refusal t
   long_why outcomes.Built t = t
   long_why outcomes.CannotRead t = t
   long_why outcomes.CannotWriteHex t = t
   long_why outcomes.CannotWriteMap t = t
   long_why outcomes.NoMemory t = t
+
+pub tree_whole : (text bytes : List ℕ) → take 262145 text ≡ bytes → HasTree bytes → bytes ≡ text
+tree_whole text bytes e t =
+    let long : length bytes ≡ min 262145 (length text) = ap (length {A = ℕ}) (sym e) ∙ length-take 262145 text in
+    ⊎_elim
+    (λ h. absurd (no_tree bytes h t))
+    (λ l. sym e ∙ take_all 262145 text (omega arith))
+    (cases_lt 262144 (length bytes))
 
 pub why_whole : (text bytes : List ℕ) (why : Outcome) → (length text ≤ 262145 → bytes ≡ text) → take 262145 text ≡ bytes → TellsWhy bytes why → TellsWhy text why
 why_whole text bytes why short e t =

@@ -1,63 +1,129 @@
 -- What the exit status of a command says.
-use Rattle.std.specs.Prelude.{ℕ, ◌≡◌, ◌<◌, ◌≤◌, ◌⊎◌, IsTrue, Option, Some, None, IfSome, IsSomeAnd, MatchOption, List, ◌++◌, option_map}
+use Rattle.std.specs.Prelude.{ℕ, ◌≡◌, ◌<◌, ◌≤◌, ◌⊎◌, IsTrue, Option, Some, None, List, ◌++◌, option_map, Err}
 use Rattle.host_io.specs.Host.{Kind, Contents, Lacks, PrintsPrefix, IsCounted}
+use Rattle.picc_core.specs.Texts.{program_tokens, HasNoTree}
+use Rattle.picc_core.specs.declared.refusal.CompileError.TheVariants as errors
+use Rattle.picc_core.specs.declared.refusal.Refusal.{Refusal}
+use Rattle.picc_cli.specs.declared.building.Outcome.{Outcome}
 use Rattle.picc_cli.specs.declared.program.Assignment.{Assignment}
-use Rattle.picc_cli.specs.declared.picc.Outcome.{Outcome}
-use Rattle.picc_cli.specs.declared.picc.Outcome.TheVariants.{CannotRead}
+use Rattle.picc_cli.specs.declared.tracing.Ended.{Ended}
 use Rattle.picc_cli.specs.Built.{IsRefused}
+use Rattle.picc_cli.specs.Command.{Names, Asked, Form, Build, Trace}
+use Rattle.picc_cli.specs.Lines.{usage_line, cannot_read}
+use Rattle.picc_cli.specs.Outcome as build
+use Rattle.picc_cli.specs.Outcome.{Builds, Refuses, BreaksOff}
 use Rattle.picc_cli.specs.PortProgram.{IsProgram}
-use Rattle.picc_cli.specs.Command.{Names}
-use Rattle.picc_cli.specs.Outcome.{Builds, Refuses, BreaksOff, usage_line, line_of, status_of}
+use Rattle.picc_cli.specs.Said.{GivesUp}
+use Rattle.picc_cli.specs.Trace as trace
+use Rattle.picc_cli.specs.Trace.{IsScript, Knows, IsTraceText}
 
--- 3 for a fault of the outside, or 9 for want of memory
-abbrev pub GivesUp : ℕ → Type 0
-GivesUp result = (result ≡ 3) ⊎ (result ≡ 9)
+-- ---- the files, where the host tells what they held before
+pub record BuildHasFiles (names : Names) (old : Contents) (new : Option Contents) (result : ℕ) : Type 0 where
+  pub built : result ≡ 0 → Builds names old new
+  pub refused : result ≡ 1 → (why : Outcome) × Refuses why names old new
+  pub broken : GivesUp result → BreaksOff names old new
 
--- the files, where the host tells what they held before
-pub record HasFiles (form : Option Names) (old : Contents) (new : Option Contents) (result : ℕ) : Type 0 where
-  pub built : result ≡ 0 → IsSomeAnd form (λ names. Builds names old new)
-  pub refused : result ≡ 1 → IsSomeAnd form (λ names. (why : Outcome) × Refuses why names old new)
-  pub usage : result ≡ 2 → (form ≡ None) × (new ≡ Some old)
-  pub broken : GivesUp result → MatchOption form (new ≡ Some old) (λ names. BreaksOff names old new)
+-- Only a build writes files.
+abbrev pub HasFiles : Option Form → Contents → Option Contents → ℕ → Type 0
+HasFiles None old new result = new ≡ Some old
+HasFiles (Some (Build names)) old new result = BuildHasFiles names old new result
+HasFiles (Some (Trace asked)) old new result = new ≡ Some old
 
--- the faults of the outside: 3 is answered only for one, and each of them is
-pub record HasFaults (kind : Kind) (before now : ℕ) (form : Option Names) (old : Option Contents) (result : ℕ) : Type 0 where
+-- ---- the faults of the outside
+-- a file that the command is to read has no content
+abbrev pub LacksFile : Option Form → Option Contents → Type 0
+LacksFile None old = ⊥
+LacksFile (Some (Build names)) old = Lacks old names.input
+LacksFile (Some (Trace asked)) old = Lacks old asked.input ⊎ Lacks old asked.script
+
+-- 3 is answered only for a fault, and each of them is answered
+pub record HasFaults (kind : Kind) (before now : ℕ) (form : Option Form) (old : Option Contents) (result : ℕ) : Type 0 where
   pub never_falls : before ≤ now
   pub only : result ≡ 3 → IsCounted kind before now
   pub each : before < now → GivesUp result
-  -- over a sound host 3 is answered exactly where the input has no content
-  pub sound : IsTrue kind.is_sound → result ≡ 3 → IsSomeAnd form (λ names. Lacks old names.input)
-  pub missing : IsTrue kind.is_sound → IfSome form (λ names. Lacks old names.input → GivesUp result)
+  -- over a sound host 3 is answered exactly where a file has no content
+  pub sound : IsTrue kind.is_sound → result ≡ 3 → LacksFile form old
+  pub missing : IsTrue kind.is_sound → LacksFile form old → GivesUp result
 
--- which statuses there are, and when 2 is answered, whatever the host tells
-pub record HasStatus (form : Option Names) (result : ℕ) : Type 0 where
-  pub known : (result ≡ 0) ⊎ ((result ≡ 1) ⊎ ((result ≡ 2) ⊎ GivesUp result))
+-- ---- which statuses there are, whatever the host tells
+abbrev pub IsStatus : Option Form → ℕ → Type 0
+IsStatus None result = (result ≡ 2) ⊎ GivesUp result
+IsStatus (Some (Build names)) result = (result ≡ 0) ⊎ ((result ≡ 1) ⊎ GivesUp result)
+IsStatus (Some (Trace asked)) result = (result ≡ 0) ⊎ ((result ≡ 1) ⊎ ((result ≡ 4) ⊎ ((result ≡ 5) ⊎ GivesUp result)))
+
+pub record HasStatus (form : Option Form) (result : ℕ) : Type 0 where
+  pub known : IsStatus form result
+  -- 2 is answered exactly where the words are of no form
   pub usage : result ≡ 2 → form ≡ None
   pub no_form : form ≡ None → (result ≡ 2) ⊎ GivesUp result
 
--- the printed text
-pub record HasPrinted (kind : Kind) (form : Option Names) (old new : Option (List ℕ)) (result : ℕ) : Type 0 where
-  pub nothing : result ≡ 0 → new ≡ old
-  -- the line of a refusal, or that the text isn't of the form of today
-  pub error : result ≡ 1 → IsSomeAnd form (λ names. (why : Outcome) × (status_of why ≡ 1) × (new ≡ option_map (λ text. text ++ line_of names why) old))
-  pub usage : result ≡ 2 → new ≡ option_map (λ text. text ++ usage_line) old
-  -- the whole line that is due, or a prefix of it where the printing failed
-  pub prefix : GivesUp result → MatchOption form (PrintsPrefix old new usage_line) (λ names. (outcome : Outcome) × PrintsPrefix old new (line_of names outcome))
-  -- over a sound host, where only the input can be missing, the line says so
-  pub sound : IsTrue kind.is_sound → result ≡ 3 → IsSomeAnd form (λ names. new ≡ option_map (λ text. text ++ line_of names CannotRead) old)
+-- ---- the printed text
+-- this line, or a prefix of it where the printing failed
+pub record UsagePrints (old new : Option (List ℕ)) (result : ℕ) : Type 0 where
+  pub whole : result ≡ 2 → new ≡ option_map (λ text. text ++ usage_line) old
+  pub prefix : GivesUp result → PrintsPrefix old new usage_line
 
--- Where the host tells both, the line that is printed with status 1 is that of a refusal that holds of the text.
-pub record IsTold (names : Names) (old : Contents) (new : Option Contents) (before after : Option (List ℕ)) : Type 0 where
+pub record BuildPrints (kind : Kind) (names : Names) (old new : Option (List ℕ)) (result : ℕ) : Type 0 where
+  pub nothing : result ≡ 0 → new ≡ old
+  -- the line of a refusal
+  pub error : result ≡ 1 → (why : Outcome) × (build.status_of why ≡ 1) × (new ≡ option_map (λ text. text ++ build.line_of names why) old)
+  -- the whole line that is due, or a prefix of it where the printing failed
+  pub prefix : GivesUp result → (outcome : Outcome) × PrintsPrefix old new (build.line_of names outcome)
+  -- over a sound host, where only the input can be missing, the line says so
+  pub sound : IsTrue kind.is_sound → result ≡ 3 → new ≡ option_map (λ text. text ++ cannot_read names.input) old
+
+pub record TracePrints (kind : Kind) (asked : Asked) (old new : Option (List ℕ)) (result : ℕ) : Type 0 where
+  -- the lines of events and the last line, of a trace that ends with this status
+  pub whole : GivesUp result ⊎ ((ended : Ended) × (text : List ℕ) × (trace.status_of ended ≡ result) × IsTraceText asked ended text × (new ≡ option_map (λ t. t ++ text) old))
+  -- or a prefix of them
+  pub prefix : GivesUp result → (ended : Ended) × (text : List ℕ) × IsTraceText asked ended text × PrintsPrefix old new text
+  -- over a sound host, where only files can be missing, the line says which
+  pub sound : IsTrue kind.is_sound → result ≡ 3 → (new ≡ option_map (λ text. text ++ cannot_read asked.input) old) ⊎ (new ≡ option_map (λ text. text ++ cannot_read asked.script) old)
+
+abbrev pub HasPrinted : Kind → Option Form → Option (List ℕ) → Option (List ℕ) → ℕ → Type 0
+HasPrinted kind None old new result = UsagePrints old new result
+HasPrinted kind (Some (Build names)) old new result = BuildPrints kind names old new result
+HasPrinted kind (Some (Trace asked)) old new result = TracePrints kind asked old new result
+
+-- ---- where the host tells both
+-- the line that is printed is that of a refusal that holds of the text
+pub record BuildTells (names : Names) (old : Contents) (new : Option Contents) (before after : Option (List ℕ)) : Type 0 where
   pub why : Outcome
   pub refuses : Refuses why names old new
-  pub printed : after ≡ option_map (λ text. text ++ line_of names why) before
+  pub printed : after ≡ option_map (λ text. text ++ build.line_of names why) before
 
-abbrev pub HasTold : Option Names → Contents → Option Contents → Option (List ℕ) → Option (List ℕ) → ℕ → Type 0
-HasTold form old new before after result = result ≡ 1 → IsSomeAnd form (λ names. IsTold names old new before after)
+-- what is printed holds of the text and of the script
+pub record TraceTells (asked : Asked) (old : Contents) (before after : Option (List ℕ)) (result : ℕ) : Type 0 where
+  pub ended : Ended
+  pub text : List ℕ
+  pub status : trace.status_of ended ≡ result
+  pub knows : Knows asked old ended
+  pub whole : IsTraceText asked ended text
+  pub printed : after ≡ option_map (λ t. t ++ text) before
 
--- without a fault and with memory enough, each command ends as it is to end
-pub record IsComplete (kind : Kind) (before now : ℕ) (form : Option Names) (old : Contents) (result : ℕ) : Type 0 where
-  pub usage : (IsCounted kind before now → ⊥) → form ≡ None → (result ≡ 2) ⊎ (result ≡ 9)
-  pub refused : (IsCounted kind before now → ⊥) → (names : Names) (text : List ℕ) → form ≡ Some names → old names.input ≡ Some text → IsRefused text → (result ≡ 1) ⊎ (result ≡ 9)
-  pub built : (IsCounted kind before now → ⊥) → (names : Names) (text : List ℕ) (assignments : List Assignment) → form ≡ Some names → old names.input ≡ Some text → IsProgram text assignments
-      → (result ≡ 0) ⊎ (result ≡ 9)
+abbrev pub HasTold : Option Form → Contents → Option Contents → Option (List ℕ) → Option (List ℕ) → ℕ → Type 0
+HasTold None old new before after result = Unit {0}
+HasTold (Some (Build names)) old new before after result = result ≡ 1 → BuildTells names old new before after
+HasTold (Some (Trace asked)) old new before after result = GivesUp result ⊎ TraceTells asked old before after result
+
+-- ---- without a fault and with memory enough, each command ends as it is to end
+pub record BuildCompletes (names : Names) (old : Contents) (result : ℕ) : Type 0 where
+  -- A text without a tree is refused. That a program of constants to ports has a tree isn't shown here.
+  pub no_tokens : (text : List ℕ) (refusal : Refusal) → old names.input ≡ Some text → IsRefused text
+      → program_tokens text ≡ Err (errors.Refused refusal) → (result ≡ 1) ⊎ (result ≡ 9)
+  pub no_tree : (text : List ℕ) → old names.input ≡ Some text → IsRefused text → HasNoTree text → (result ≡ 1) ⊎ (result ≡ 9)
+  pub built : (text : List ℕ) (assignments : List Assignment) → old names.input ≡ Some text → IsProgram text assignments → (result ≡ 0) ⊎ (result ≡ 9)
+
+pub record TraceCompletes (asked : Asked) (old : Contents) (result : ℕ) : Type 0 where
+  pub no_script : (text script : List ℕ) → old asked.input ≡ Some text → old asked.script ≡ Some script → (IsScript script → ⊥) → (result ≡ 5) ⊎ (result ≡ 9)
+  pub no_tokens : (text script : List ℕ) (refusal : Refusal) → old asked.input ≡ Some text → old asked.script ≡ Some script → IsScript script
+      → program_tokens text ≡ Err (errors.Refused refusal) → (result ≡ 1) ⊎ (result ≡ 9)
+  pub no_tree : (text script : List ℕ) → old asked.input ≡ Some text → old asked.script ≡ Some script → IsScript script → HasNoTree text → (result ≡ 1) ⊎ (result ≡ 9)
+
+abbrev pub Completes : Option Form → Contents → ℕ → Type 0
+Completes None old result = (result ≡ 2) ⊎ (result ≡ 9)
+Completes (Some (Build names)) old result = BuildCompletes names old result
+Completes (Some (Trace asked)) old result = TraceCompletes asked old result
+
+abbrev pub IsComplete : Kind → ℕ → ℕ → Option Form → Contents → ℕ → Type 0
+IsComplete kind before now form old result = (IsCounted kind before now → ⊥) → Completes form old result

@@ -5,5 +5,8 @@ pub mod Built
 pub mod Command
 pub mod CommandView
 pub mod Refusals
+pub mod Lines
+pub mod Said
 pub mod Outcome
+pub mod Trace
 pub mod Finished

@@ -6,6 +6,7 @@
 #![tactic(auto)]
 
 mod build;
+mod building;
 mod code;
 mod command;
 mod picc;
@@ -13,8 +14,13 @@ mod program;
 mod refusal;
 #[cfg(test)]
 mod refusal_tests;
+mod running;
+mod say;
 #[cfg(test)]
 mod tests;
+#[cfg(test)]
+mod trace_tests;
+mod tracing;
 
 use host_io::RealHost;
 use std::process::ExitCode;

@@ -20,10 +20,14 @@ const LED_HEX: &str = ":020000040000FA\n\
 
 const LED_MAP: &str = "picc map 1\nmain 0005\nhalt 0008\nframe main main 0020 3\nend\n";
 
-const USAGE: &str =
+pub const USAGE: &str =
     "usage: picc build IN OUT MAP | trace IN SCRIPT M | sim HEX MAP SCRIPT N | agree IN SCRIPT N | gen K\n";
 
-fn host_with(alloc: Global, text: Option<&str>, fails: Vec<Fail>) -> Result<MemoryHost, AllocError>
+pub fn host_with(
+    alloc: Global,
+    text: Option<&str>,
+    fails: Vec<Fail>,
+) -> Result<MemoryHost, AllocError>
     ensures { IfOk result (λ host. open_of host.current ≡ Closed) }
 {
     let mut files = BTreeMap::new(alloc);
@@ -36,7 +40,7 @@ fn host_with(alloc: Global, text: Option<&str>, fails: Vec<Fail>) -> Result<Memo
     Ok(MemoryHost::new(files, fails))
 }
 
-fn words_of(alloc: Global, line: &str) -> Result<Vec<String>, AllocError> {
+pub fn words_of(alloc: Global, line: &str) -> Result<Vec<String>, AllocError> {
     let mut words = Vec::new(alloc);
     for word in line.split_whitespace() {
         words.push(String::from_str(alloc, word)?)?;
@@ -90,6 +94,16 @@ fn programs_are_built(rt: HostRuntime) -> Result<(), Failure> {
     Ok(())
 }
 
+// A text that is built: both files are there, and nothing is printed.
+pub fn check_built(rt: &impl Abort, alloc: Global, text: &str) -> Result<(), AllocError> {
+    let mut host = host_with(alloc, Some(text), Vec::new(alloc))?;
+    let words = words_of(alloc, "build a.c a.hex a.map")?;
+    assert_eq!(rt; picc(alloc, &words, &mut host), 0, "the status of {text}");
+    assert_eq!(rt; host.printed.len(), 0);
+    assert_eq!(rt; host.files.len(), 3);
+    Ok(())
+}
+
 // A command that creates no file: its words, the text of a.c if there is one, the status and what is printed.
 pub fn check_refused(
     rt: &impl Abort,
@@ -122,14 +136,13 @@ pub fn check_refused(
 fn refusals_are_printed(rt: HostRuntime) -> Result<(), Failure> {
     let alloc = rt.alloc();
     let build = "build a.c a.hex a.map";
-    let not_yet = "a.c: error 0: not yet\n";
     for text in [
         "void main(void){PORTB=256;}",
         "void main(void){PORTB=05;}",
         "void main(void){PORTB=5;}\n\n",
         " void main(void){}",
     ] {
-        check_refused(&rt, alloc, build, Some(text), 1, not_yet)?;
+        check_built(&rt, alloc, text)?;
     }
     check_refused(&rt, alloc, build, None, 3, "cannot read a.c\n")?;
     for line in [

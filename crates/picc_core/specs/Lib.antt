@@ -2,3 +2,4 @@ pub mod Errors
 pub mod Texts
 pub mod Answers
 pub mod Blocks
+pub mod Compiled

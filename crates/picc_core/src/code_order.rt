@@ -40,3 +40,20 @@ pub fn code_order(alloc: Global, copies: &Copies) -> Result<Vec<FnCopy>, AllocEr
     order.sort_by_key(|copy| rank_of(*copy))?;
     Ok(order)
 }
+
+fn rank_at(copies: &Copies, number: u16) -> Option<Rank> {
+    copies.list.get(number as usize).map(|copy| rank_of(*copy))
+}
+
+/// The numbers of the copies in the order of code. A copy whose number is over 65,535 has none.
+pub fn code_numbers(alloc: Global, copies: &Copies) -> Result<Vec<u16>, AllocError> {
+    let mut numbers = Vec::new(alloc);
+    for number in 0..=u16::MAX {
+        if copies.list.len() <= number as usize {
+            break;
+        }
+        numbers.push(number)?;
+    }
+    numbers.sort_by_key(|number| rank_at(copies, *number))?;
+    Ok(numbers)
+}

@@ -5,11 +5,14 @@
 #![tactic(auto)]
 
 mod code_order;
+mod compiling;
 mod known;
+mod map_range;
 mod refusal;
 mod stages;
 
 pub use c_check::{Kind, RootKind};
-pub use known::Front;
+pub use compiling::compile;
+pub use known::{Built, Front};
 pub use refusal::{CompileError, LimitKind, Refusal};
 pub use stages::front;

@@ -1,9 +1,7 @@
-use Rattle.std.proofs.Common.{◌≡◌, subst, sym, ap, ◌∙◌}
+use Rattle.std.proofs.Common.{subst, ap, ◌∙◌}
 use Rattle.pic_map.specs.MapFile.{IsMapFile}
-use Rattle.pic_map.specs.MapText.{AreInRange}
 use Rattle.picc_cli.specs.PortProgram.{IsProgram}
 use Rattle.picc_cli.specs.PortCode.{HasCode, map_of}
-use Rattle.picc_cli.proofs.MapRanges.{in_range}
 use Rattle.picc_cli.proofs.Faithful.{faithful}
 use Rattle.picc_cli.proofs.Spelling.{one_program}
 use Rattle.picc_cli.proofs.build.build.Goals as goal

@@ -1,62 +1,32 @@
--- A command's status, by how the build went and by what was printed.
-use Rattle.std.proofs.Common.{◌≡◌, ℕ, ◌<◌, ◌≤◌, ◌⊎◌, inl, inr, ⊎_elim, true, IsTrue, Option, Some, None, IfSome, List, [], ◌++◌, length, refl, sym, ap, ◌∙◌, subst, arith, option_map, append-nil}
-use Rattle.std.specs.Prelude.{IsSomeAnd, MatchOption}
-use Rattle.std.proofs.lemmas.Bool.{cases_lt}
+-- How a build ends, by its outcome and by what was printed.
+use Rattle.std.proofs.Common.{◌≡◌, ℕ, ◌<◌, ◌≤◌, ◌⊎◌, inl, inr, true, IsTrue, Option, Some, None, IfSome, List, ◌++◌, length, refl, sym, ap, ◌∙◌, subst, arith, option_map, Err}
 use Rattle.std.proofs.Math.Seq.{take-length}
 use Rattle.host_io.specs.Host.{Kind, Contents, put, PrintsPrefix, IsCounted}
+use Rattle.picc_cli.specs.declared.building.Outcome.{Outcome}
+use Rattle.picc_cli.specs.declared.building.Outcome.TheVariants.{Built, Refused, CannotRead, CannotWriteHex, CannotWriteMap, NoMemory}
 use Rattle.picc_cli.specs.declared.program.Assignment.{Assignment}
-use Rattle.picc_cli.specs.declared.picc.Outcome.{Outcome}
-use Rattle.picc_cli.specs.declared.picc.Outcome.TheVariants.{Built, NotYet, Refused, CannotRead, CannotWriteHex, CannotWriteMap, NoMemory}
-use Rattle.picc_cli.specs.Built.{IsRefused}
-use Rattle.picc_cli.specs.Command.{Names}
+use Rattle.picc_core.specs.Texts.{program_tokens, HasTree}
+use Rattle.picc_core.specs.declared.refusal.CompileError.TheVariants as errors
+use Rattle.picc_core.specs.declared.refusal.Refusal.{Refusal}
+use Rattle.picc_cli.specs.Built.{IsRefused, IsMade}
+use Rattle.picc_cli.specs.Command.{Names, Form, Build}
+use Rattle.picc_cli.specs.Finished.{HasStatus, BuildHasFiles, BuildPrints, HasTold, IsComplete}
+use Rattle.picc_cli.specs.Lines.{cannot_read}
+use Rattle.picc_cli.specs.Outcome.{Refuses, BreaksOff, WorkedOn, is_fault, FailsWithoutInput, line_of, status_of}
 use Rattle.picc_cli.specs.PortProgram.{IsProgram}
-use Rattle.picc_cli.specs.Outcome.{Builds, Refuses, BreaksOff, WorkedOn, is_fault, HasOutcomeCause, FailsWithoutInput, usage_line, line_of, status_of, Says}
-use Rattle.picc_cli.specs.Finished.{GivesUp, HasFiles, HasStatus, HasPrinted, IsTold, HasTold, IsComplete}
+use Rattle.picc_cli.specs.Said.{GivesUp, HasOutcomeCause, Says}
+use Rattle.picc_cli.proofs.Endings.{number_apart, up_apart, add_nothing, whole_line, counted_later, quiet_ends}
 
--- ---- statuses
-pub number_apart : {P : Type 0} (m n result : ℕ) → m < n → result ≡ m → result ≡ n → P
-number_apart m n result h a b = absurd (omega arith)
-
-up_apart : {P : Type 0} (n result : ℕ) → n < 3 → result ≡ n → GivesUp result → P
-up_apart n result h e (inl three) = absurd (omega arith)
-up_apart n result h e (inr nine) = absurd (omega arith)
-
-add_nothing : (o : Option (List ℕ)) → option_map (λ text. text ++ []) o ≡ o
-add_nothing None = refl
-add_nothing (Some text) = ap Some (append-nil text)
-
-whole_line : (o : Option (List ℕ)) (line : List ℕ) → PrintsPrefix o (option_map (λ text. text ++ line) o) line
-whole_line o line = (length line, omega arith, ap (λ l. option_map (λ text. text ++ l) o) (sym (take-length line)))
-
--- ---- faults
--- one that was counted late was counted
-counted_later : (kind : Kind) (first before now : ℕ) → first ≤ before → IsCounted kind before now → IsCounted kind first now
-counted_later kind first before now low (inl more) = inl (omega arith)
-counted_later kind first before now low (inr (last, same)) =
-    ⊎_elim
-    (λ h. inl (omega arith))
-    (λ h. let e : before ≡ first = omega arith in inr (subst (λ n. kind.last ≡ Some n) e last, same ∙ e))
-    (cases_lt first before)
-
-quiet_ends : (n result : ℕ) → (result ≡ 3 → ⊥) → GivesUp result → (result ≡ n) ⊎ (result ≡ 9)
-quiet_ends n result never (inl three) = absurd (never three)
-quiet_ends n result never (inr nine) = inr nine
-
--- ---- a build
--- what the status is, where the line was printed
-module _ (names : Names) (form : Option Names) (is : form ≡ Some names) where
-  at_some : (P : Names → Type 0) → P names → IsSomeAnd form P
-  at_some P p = subst (λ f. IsSomeAnd f P) (sym is) p
-
-  at_match : (Q : Type 0) (P : Names → Type 0) → P names → MatchOption form Q P
-  at_match Q P p = subst (λ f. MatchOption f Q P) (sym is) p
+module _ (names : Names) where
+  abbrev form : Option Form
+  form = Some (Build names)
 
   no_name : form ≡ None → ⊥
-  no_name none = let both : None ≡ Some names = sym none ∙ is in cc
+  no_name none = cc
 
   up_status : (result : ℕ) → GivesUp result → HasStatus form result
   up_status result up =
-      record { known = inr (inr (inr up)); usage = λ f. up_apart 2 result (omega arith) f up; no_form = λ none. inr up }
+      record { known = inr (inr up); usage = λ f. up_apart 2 result (omega arith) f up; no_form = λ none. inr up }
 
   -- whatever the outcome was, an output that isn't whole has a prefix
   breaks : (outcome : Outcome) (o : Contents) (new : Option Contents) → WorkedOn outcome names o new → BreaksOff names o new
@@ -69,72 +39,63 @@ module _ (names : Names) (form : Option Names) (is : form ≡ Some names) where
         built = w.built;
         files = inr (length w.map, omega arith, w.files ∙ ap (λ t. Some (put names.map t (put names.output w.hex o))) (sym (take-length w.map)));
       })
-  breaks NotYet o new w = inl w.files
   breaks (Refused refusal) o new w = inl w.files
   breaks CannotRead o new w = inl w
   breaks CannotWriteHex o new w = w
   breaks CannotWriteMap o new w = w
   breaks NoMemory o new w = w
 
-  refused_files : (why : Outcome) (o : Contents) (new : Option Contents) (result : ℕ) → Refuses why names o new → result ≡ 1 → HasFiles form o new result
+  refused_files : (why : Outcome) (o : Contents) (new : Option Contents) (result : ℕ) → Refuses why names o new → result ≡ 1 → BuildHasFiles names o new result
   refused_files why o new result w e =
       record {
         built = λ f. number_apart 0 1 result (omega arith) f e;
-        refused = λ _. at_some (λ names. (why : Outcome) × Refuses why names o new) (why, w);
-        usage = λ f. number_apart 1 2 result (omega arith) e f;
+        refused = λ _. (why, w);
         broken = λ up. up_apart 1 result (omega arith) e up;
       }
 
-  said_files : (outcome : Outcome) (o : Contents) (new : Option Contents) (result : ℕ) → WorkedOn outcome names o new → result ≡ status_of outcome → HasFiles form o new result
+  said_files : (outcome : Outcome) (o : Contents) (new : Option Contents) (result : ℕ) → WorkedOn outcome names o new → result ≡ status_of outcome → BuildHasFiles names o new result
   said_files Built o new result w e =
       record {
-        built = λ _. at_some (λ names. Builds names o new) w;
+        built = λ _. w;
         refused = λ f. number_apart 0 1 result (omega arith) e f;
-        usage = λ f. number_apart 0 2 result (omega arith) e f;
         broken = λ up. up_apart 0 result (omega arith) e up;
       }
-  said_files NotYet o new result w e = refused_files NotYet o new result w e
   said_files (Refused refusal) o new result w e = refused_files (Refused refusal) o new result w e
   said_files CannotRead o new result w e =
       record {
         built = λ f. number_apart 0 3 result (omega arith) f e;
         refused = λ f. number_apart 1 3 result (omega arith) f e;
-        usage = λ f. number_apart 2 3 result (omega arith) f e;
-        broken = λ up. at_match (new ≡ Some o) (λ names. BreaksOff names o new) (inl w);
+        broken = λ up. inl w;
       }
   said_files CannotWriteHex o new result w e =
       record {
         built = λ f. number_apart 0 3 result (omega arith) f e;
         refused = λ f. number_apart 1 3 result (omega arith) f e;
-        usage = λ f. number_apart 2 3 result (omega arith) f e;
-        broken = λ up. at_match (new ≡ Some o) (λ names. BreaksOff names o new) w;
+        broken = λ up. w;
       }
   said_files CannotWriteMap o new result w e =
       record {
         built = λ f. number_apart 0 3 result (omega arith) f e;
         refused = λ f. number_apart 1 3 result (omega arith) f e;
-        usage = λ f. number_apart 2 3 result (omega arith) f e;
-        broken = λ up. at_match (new ≡ Some o) (λ names. BreaksOff names o new) w;
+        broken = λ up. w;
       }
   said_files NoMemory o new result w e =
       record {
         built = λ f. number_apart 0 9 result (omega arith) f e;
         refused = λ f. number_apart 1 9 result (omega arith) f e;
-        usage = λ f. number_apart 2 9 result (omega arith) f e;
-        broken = λ up. at_match (new ≡ Some o) (λ names. BreaksOff names o new) w;
+        broken = λ up. w;
       }
 
-  unsaid_files : (outcome : Outcome) (o : Contents) (new : Option Contents) (result : ℕ) → WorkedOn outcome names o new → GivesUp result → HasFiles form o new result
+  unsaid_files : (outcome : Outcome) (o : Contents) (new : Option Contents) (result : ℕ) → WorkedOn outcome names o new → GivesUp result → BuildHasFiles names o new result
   unsaid_files outcome o new result w up =
       record {
         built = λ e. up_apart 0 result (omega arith) e up;
         refused = λ e. up_apart 1 result (omega arith) e up;
-        usage = λ e. up_apart 2 result (omega arith) e up;
-        broken = λ _. at_match (new ≡ Some o) (λ names. BreaksOff names o new) (breaks outcome o new w);
+        broken = λ _. breaks outcome o new w;
       }
 
   pub build_files : (outcome : Outcome) (old middle new : Option Contents) (kind : Kind) (before now : ℕ) (p q : Option (List ℕ)) (result : ℕ) → IfSome old (λ o. WorkedOn outcome names o middle)
-      → new ≡ middle → Says kind before now p q (line_of names outcome) (status_of outcome) result → IfSome old (λ o. HasFiles form o new result)
+      → new ≡ middle → Says kind before now p q (line_of names outcome) (status_of outcome) result → IfSome old (λ o. BuildHasFiles names o new result)
   build_files outcome None middle new kind before now p q result w same says = tt
   build_files outcome (Some o) middle new kind before now p q result w same (inl s) = said_files outcome o new result (subst (WorkedOn outcome names o) (sym same) w) s.ends
   build_files outcome (Some o) middle new kind before now p q result w same (inr u) = unsaid_files outcome o new result (subst (WorkedOn outcome names o) (sym same) w) u.ends
@@ -147,7 +108,6 @@ module _ (names : Names) (form : Option Names) (is : form ≡ Some names) where
   said_status : (outcome : Outcome) (result : ℕ) → result ≡ status_of outcome → HasStatus form result
   said_status Built result e =
       record { known = inl e; usage = λ f. number_apart 0 2 result (omega arith) e f; no_form = λ none. absurd (no_name none) }
-  said_status NotYet result e = refused_status result e
   said_status (Refused refusal) result e = refused_status result e
   said_status CannotRead result e = up_status result (inl e)
   said_status CannotWriteHex result e = up_status result (inl e)
@@ -161,48 +121,44 @@ module _ (names : Names) (form : Option Names) (is : form ≡ Some names) where
 
   -- ---- the printed text
   prefix_printed : (kind : Kind) (outcome : Outcome) (p q : Option (List ℕ)) (result : ℕ) → PrintsPrefix p q (line_of names outcome) → GivesUp result
-      → (IsTrue kind.is_sound → result ≡ 3 → q ≡ option_map (λ text. text ++ line_of names CannotRead) p) → HasPrinted kind form p q result
+      → (IsTrue kind.is_sound → result ≡ 3 → q ≡ option_map (λ text. text ++ cannot_read names.input) p) → BuildPrints kind names p q result
   prefix_printed kind outcome p q result prints up sound =
       record {
         nothing = λ f. up_apart 0 result (omega arith) f up;
         error = λ f. up_apart 1 result (omega arith) f up;
-        usage = λ f. up_apart 2 result (omega arith) f up;
-        prefix = λ _. at_match (PrintsPrefix p q usage_line) (λ names. (outcome : Outcome) × PrintsPrefix p q (line_of names outcome)) (outcome, prints);
-        sound = λ is three. at_some (λ names. q ≡ option_map (λ text. text ++ line_of names CannotRead) p) (sound is three);
+        prefix = λ _. (outcome, prints);
+        sound = sound;
       }
 
   gives_up : (kind : Kind) (outcome : Outcome) (p q : Option (List ℕ)) (result : ℕ) → q ≡ option_map (λ text. text ++ line_of names outcome) p → GivesUp result
-      → (IsTrue kind.is_sound → result ≡ 3 → q ≡ option_map (λ text. text ++ line_of names CannotRead) p) → HasPrinted kind form p q result
+      → (IsTrue kind.is_sound → result ≡ 3 → q ≡ option_map (λ text. text ++ cannot_read names.input) p) → BuildPrints kind names p q result
   gives_up kind outcome p q result e up sound =
       prefix_printed kind outcome p q result (subst (λ r. PrintsPrefix p r (line_of names outcome)) (sym e) (whole_line p (line_of names outcome))) up sound
 
   -- over a sound host the one fault is that there is no input
   only_read : (kind : Kind) (old : Option Contents) (outcome : Outcome) (p q : Option (List ℕ)) → FailsWithoutInput kind old names.input outcome → is_fault outcome ≡ true
-      → q ≡ option_map (λ text. text ++ line_of names outcome) p → IsTrue kind.is_sound → q ≡ option_map (λ text. text ++ line_of names CannotRead) p
+      → q ≡ option_map (λ text. text ++ line_of names outcome) p → IsTrue kind.is_sound → q ≡ option_map (λ text. text ++ cannot_read names.input) p
   only_read kind old outcome p q fails fault e sound = subst (λ o. q ≡ option_map (λ text. text ++ line_of names o) p) (fails.only sound fault).0 e
 
   refused_printed : (kind : Kind) (why : Outcome) (p q : Option (List ℕ)) (result : ℕ) → status_of why ≡ 1 → q ≡ option_map (λ text. text ++ line_of names why) p
-      → result ≡ 1 → HasPrinted kind form p q result
+      → result ≡ 1 → BuildPrints kind names p q result
   refused_printed kind why p q result one e st =
       record {
         nothing = λ f. number_apart 0 1 result (omega arith) f st;
-        error = λ _. at_some (λ names. (why : Outcome) × (status_of why ≡ 1) × (q ≡ option_map (λ text. text ++ line_of names why) p)) (why, one, e);
-        usage = λ f. number_apart 1 2 result (omega arith) st f;
+        error = λ _. (why, one, e);
         prefix = λ up. up_apart 1 result (omega arith) st up;
         sound = λ is f. number_apart 1 3 result (omega arith) st f;
       }
 
   said_printed : (kind : Kind) (old : Option Contents) (outcome : Outcome) (p q : Option (List ℕ)) (result : ℕ) → FailsWithoutInput kind old names.input outcome
-      → q ≡ option_map (λ text. text ++ line_of names outcome) p → result ≡ status_of outcome → HasPrinted kind form p q result
+      → q ≡ option_map (λ text. text ++ line_of names outcome) p → result ≡ status_of outcome → BuildPrints kind names p q result
   said_printed kind old Built p q result fails e st =
       record {
         nothing = λ _. e ∙ add_nothing p;
         error = λ f. number_apart 0 1 result (omega arith) st f;
-        usage = λ f. number_apart 0 2 result (omega arith) st f;
         prefix = λ up. up_apart 0 result (omega arith) st up;
         sound = λ is f. number_apart 0 3 result (omega arith) st f;
       }
-  said_printed kind old NotYet p q result fails e st = refused_printed kind NotYet p q result refl e st
   said_printed kind old (Refused refusal) p q result fails e st = refused_printed kind (Refused refusal) p q result refl e st
   said_printed kind old CannotRead p q result fails e st = gives_up kind CannotRead p q result e (inl st) (λ is three. e)
   said_printed kind old CannotWriteHex p q result fails e st = gives_up kind CannotWriteHex p q result e (inl st) (λ is three. only_read kind old CannotWriteHex p q fails refl e is)
@@ -211,7 +167,7 @@ module _ (names : Names) (form : Option Names) (is : form ≡ Some names) where
 
   pub build_printed : (kind later : Kind) (old : Option Contents) (outcome : Outcome) (before now : ℕ) (p middle q : Option (List ℕ)) (result : ℕ)
       → FailsWithoutInput kind old names.input outcome → later ≡ kind → middle ≡ p
-      → Says later before now middle q (line_of names outcome) (status_of outcome) result → HasPrinted kind form p q result
+      → Says later before now middle q (line_of names outcome) (status_of outcome) result → BuildPrints kind names p q result
   build_printed kind later old outcome before now p middle q result fails alike same (inl s) =
       said_printed kind old outcome p q result fails (s.printed ∙ ap (option_map (λ text. text ++ line_of names outcome)) same) s.ends
   build_printed kind later old outcome before now p middle q result fails alike same (inr u) =
@@ -221,12 +177,11 @@ module _ (names : Names) (form : Option Names) (is : form ≡ Some names) where
   -- ---- the line of a refusal, where the files are told too
   told_at : (why : Outcome) (o : Contents) (new : Option Contents) (p q : Option (List ℕ)) (result : ℕ) → Refuses why names o new
       → q ≡ option_map (λ text. text ++ line_of names why) p → HasTold form o new p q result
-  told_at why o new p q result w e st = at_some (λ names. IsTold names o new p q) (record { why = why; refuses = w; printed = e })
+  told_at why o new p q result w e st = record { why = why; refuses = w; printed = e }
 
   said_told : (outcome : Outcome) (o : Contents) (new : Option Contents) (p q : Option (List ℕ)) (result : ℕ) → WorkedOn outcome names o new
       → q ≡ option_map (λ text. text ++ line_of names outcome) p → result ≡ status_of outcome → HasTold form o new p q result
   said_told Built o new p q result w e st = λ one. number_apart 0 1 result (omega arith) st one
-  said_told NotYet o new p q result w e st = told_at NotYet o new p q result w e
   said_told (Refused refusal) o new p q result w e st = told_at (Refused refusal) o new p q result w e
   said_told CannotRead o new p q result w e st = λ one. number_apart 1 3 result (omega arith) one st
   said_told CannotWriteHex o new p q result w e st = λ one. number_apart 1 3 result (omega arith) one st
@@ -242,22 +197,25 @@ module _ (names : Names) (form : Option Names) (is : form ≡ Some names) where
   build_told outcome (Some o) middle new kind before now p still q result w same quiet (inr u) = λ one. up_apart 1 result (omega arith) one u.ends
 
   -- ---- without a fault
-  same_names : (others : Names) → form ≡ Some others → others ≡ names
-  same_names others e = let both : Some others ≡ Some names = sym e ∙ is in cc
-
   same_text : (o : Contents) (text other : List ℕ) → o names.input ≡ Some text → o names.input ≡ Some other → other ≡ text
   same_text o text other a b = let both : Some text ≡ Some other = sym a ∙ b in cc
 
+  not_made : (text hex map : List ℕ) → IsRefused text → (HasTree text → ⊥) → IsMade text hex map → ⊥
+  not_made text hex map refused no_tree (inl built) = refused built.assignments built.program
+  not_made text hex map refused no_tree (inr (other, compiled)) = no_tree compiled.tree
+
+  no_tokens_tree : (text : List ℕ) (refusal : Refusal) → program_tokens text ≡ Err (errors.Refused refusal) → HasTree text → ⊥
+  no_tokens_tree text refusal e t = let both = sym e ∙ t.tokens in cc
+
   refused_ends : (outcome : Outcome) (o : Contents) (new : Option Contents) (result : ℕ) → WorkedOn outcome names o new → result ≡ status_of outcome
-      → (is_fault outcome ≡ true → ⊥) → (text : List ℕ) → o names.input ≡ Some text → IsRefused text → (result ≡ 1) ⊎ (result ≡ 9)
-  refused_ends Built o new result w e quiet text read refused =
-      absurd (refused w.built.assignments (subst (λ t. IsProgram t w.built.assignments) (same_text o text w.text read w.read) w.built.program))
-  refused_ends NotYet o new result w e quiet text read refused = inl e
-  refused_ends (Refused refusal) o new result w e quiet text read refused = inl e
-  refused_ends CannotRead o new result w e quiet text read refused = absurd (quiet refl)
-  refused_ends CannotWriteHex o new result w e quiet text read refused = absurd (quiet refl)
-  refused_ends CannotWriteMap o new result w e quiet text read refused = absurd (quiet refl)
-  refused_ends NoMemory o new result w e quiet text read refused = inr e
+      → (is_fault outcome ≡ true → ⊥) → (text : List ℕ) → o names.input ≡ Some text → IsRefused text → (HasTree text → ⊥) → (result ≡ 1) ⊎ (result ≡ 9)
+  refused_ends Built o new result w e quiet text read refused no_tree =
+      absurd (not_made text w.hex w.map refused no_tree (subst (λ t. IsMade t w.hex w.map) (same_text o text w.text read w.read) w.built))
+  refused_ends (Refused refusal) o new result w e quiet text read refused no_tree = inl e
+  refused_ends CannotRead o new result w e quiet text read refused no_tree = absurd (quiet refl)
+  refused_ends CannotWriteHex o new result w e quiet text read refused no_tree = absurd (quiet refl)
+  refused_ends CannotWriteMap o new result w e quiet text read refused no_tree = absurd (quiet refl)
+  refused_ends NoMemory o new result w e quiet text read refused no_tree = inr e
 
   no_refusal : {P : Type 0} (why : Outcome) (o : Contents) (new : Option Contents) (text : List ℕ) (xs : List Assignment) → Refuses why names o new
       → o names.input ≡ Some text → IsProgram text xs → P
@@ -266,7 +224,6 @@ module _ (names : Names) (form : Option Names) (is : form ≡ Some names) where
   built_ends : (outcome : Outcome) (o : Contents) (new : Option Contents) (result : ℕ) → WorkedOn outcome names o new → result ≡ status_of outcome
       → (is_fault outcome ≡ true → ⊥) → (text : List ℕ) (xs : List Assignment) → o names.input ≡ Some text → IsProgram text xs → (result ≡ 0) ⊎ (result ≡ 9)
   built_ends Built o new result w e quiet text xs read program = inl e
-  built_ends NotYet o new result w e quiet text xs read program = no_refusal NotYet o new text xs w read program
   built_ends (Refused refusal) o new result w e quiet text xs read program = no_refusal (Refused refusal) o new text xs w read program
   built_ends CannotRead o new result w e quiet text xs read program = absurd (quiet refl)
   built_ends CannotWriteHex o new result w e quiet text xs read program = absurd (quiet refl)
@@ -276,21 +233,19 @@ module _ (names : Names) (form : Option Names) (is : form ≡ Some names) where
   complete_at : (kind : Kind) (outcome : Outcome) (o : Contents) (middle : Option Contents) (first before now : ℕ) (p q : Option (List ℕ)) (result : ℕ)
       → WorkedOn outcome names o middle → HasOutcomeCause kind first before (is_fault outcome)
       → Says kind before now p q (line_of names outcome) (status_of outcome) result → IsComplete kind first now form o result
-  complete_at kind outcome o middle first before now p q result w cause (inl s) =
-      let quietly : (IsCounted kind first now → ⊥) → is_fault outcome ≡ true → ⊥ = λ quiet fault. quiet (subst (IsCounted kind first) (sym s.kept) (cause.failed fault)) in
+  complete_at kind outcome o middle first before now p q result w cause (inl s) = λ quiet.
+      let no_fault : is_fault outcome ≡ true → ⊥ = λ fault. quiet (subst (IsCounted kind first) (sym s.kept) (cause.failed fault)) in
       record {
-        usage = λ quiet none. absurd (no_name none);
-        refused = λ quiet others text e read refused.
-            refused_ends outcome o middle result w s.ends (quietly quiet) text (subst (λ (n : Names). o n.input ≡ Some text) (same_names others e) read) refused;
-        built = λ quiet others text xs e read program.
-            built_ends outcome o middle result w s.ends (quietly quiet) text xs (subst (λ (n : Names). o n.input ≡ Some text) (same_names others e) read) program;
+        no_tokens = λ text refusal read refused tokens. refused_ends outcome o middle result w s.ends no_fault text read refused (no_tokens_tree text refusal tokens);
+        no_tree = λ text read refused n. refused_ends outcome o middle result w s.ends no_fault text read refused n.none;
+        built = λ text xs read program. built_ends outcome o middle result w s.ends no_fault text xs read program;
       }
-  complete_at kind outcome o middle first before now p q result w cause (inr u) =
-      let no_three : (IsCounted kind first now → ⊥) → result ≡ 3 → ⊥ = λ quiet three. quiet (counted_later kind first before now cause.never_falls (u.failed three)) in
+  complete_at kind outcome o middle first before now p q result w cause (inr u) = λ quiet.
+      let no_three : result ≡ 3 → ⊥ = λ three. quiet (counted_later kind first before now cause.never_falls (u.failed three)) in
       record {
-        usage = λ quiet none. absurd (no_name none);
-        refused = λ quiet others text e read refused. quiet_ends 1 result (no_three quiet) u.ends;
-        built = λ quiet others text xs e read program. quiet_ends 0 result (no_three quiet) u.ends;
+        no_tokens = λ text refusal read refused tokens. quiet_ends 1 result no_three u.ends;
+        no_tree = λ text read refused n. quiet_ends 1 result no_three u.ends;
+        built = λ text xs read program. quiet_ends 0 result no_three u.ends;
       }
 
   pub build_complete : (kind later : Kind) (outcome : Outcome) (old middle : Option Contents) (first before now : ℕ) (p q : Option (List ℕ)) (result : ℕ)

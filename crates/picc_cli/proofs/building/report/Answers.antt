@@ -1,7 +1,7 @@
-use Rattle.picc_cli.proofs.picc.report.Goals as goal
+use Rattle.picc_cli.proofs.building.report.Goals as goal
 
 pub returns-in-CannotRead-clause-said : goal.returns-in-CannotRead-clause-said
-returns-in-CannotRead-clause-said g c = rw c.in-CannotRead.is c.say-in-CannotRead.ensures.said
+returns-in-CannotRead-clause-said g c = rw c.in-CannotRead.is c.say.ensures.said
 
 pub returns-in-CannotWriteHex-clause-said : goal.returns-in-CannotWriteHex-clause-said
 returns-in-CannotWriteHex-clause-said g c = rw c.in-CannotWriteHex.is c.say-in-CannotWriteHex.ensures.said

@@ -1,0 +1,287 @@
+-- How a trace ends, by what was printed.
+use Rattle.std.proofs.Common.{◌≡◌, ℕ, ◌<◌, ◌⊎◌, inl, inr, ⊎_elim, true, false, Bool, IsTrue, Option, Some, None, IfSome, List, [], ◌++◌, length, refl, sym, ap, ◌∙◌, subst, arith, append_assoc, option_map, Err}
+use Rattle.host_io.specs.Host.{Kind, Contents, PrintsPrefix, IsCounted}
+use Rattle.picc_core.specs.Texts.{program_tokens, HasTree, HasNoTree}
+use Rattle.picc_core.specs.declared.refusal.CompileError.TheVariants as errors
+use Rattle.picc_core.specs.declared.refusal.Refusal.{Refusal}
+use Rattle.schedule.specs.ScriptFile.{IsScriptFile}
+use Rattle.picc_cli.specs.declared.tracing.Ended.{Ended}
+use Rattle.picc_cli.specs.declared.tracing.Ended.TheVariants.{Done, Undefined, Refused, LongScript, BadScript, CannotReadText, CannotReadScript, CannotPrint, NoMemory}
+use Rattle.picc_cli.specs.Command.{Asked, Form, Trace}
+use Rattle.picc_cli.specs.Finished.{LacksFile, HasFaults, IsStatus, HasStatus, TracePrints, TraceTells, HasTold, IsComplete}
+use Rattle.picc_cli.specs.Lines.{cannot_read}
+use Rattle.picc_cli.specs.Said.{GivesUp, HasOutcomeCause, Says}
+use Rattle.picc_cli.specs.Trace.{IsScript, Knows, is_fault, FailsWithoutFiles, AreEventLines, last_line, Leads, IsTraceText, status_of}
+use Rattle.picc_cli.proofs.Endings.{number_apart, add_nothing, counted_later, quiet_ends, said_prefix}
+use Rattle.picc_cli.proofs.Files.{longer, later, take_all}
+
+-- ---- faults and statuses
+pub three_fails : (ended : Ended) → status_of ended ≡ 3 → is_fault ended ≡ true
+three_fails Done e = absurd (omega arith)
+three_fails (Undefined kind line) e = absurd (omega arith)
+three_fails (Refused refusal) e = absurd (omega arith)
+three_fails LongScript e = absurd (omega arith)
+three_fails (BadScript line) e = absurd (omega arith)
+three_fails CannotReadText e = refl
+three_fails CannotReadScript e = refl
+three_fails CannotPrint e = refl
+three_fails NoMemory e = absurd (omega arith)
+
+fails_three : (ended : Ended) → is_fault ended ≡ true → status_of ended ≡ 3
+fails_three Done e = absurd (cc)
+fails_three (Undefined kind line) e = absurd (cc)
+fails_three (Refused refusal) e = absurd (cc)
+fails_three LongScript e = absurd (cc)
+fails_three (BadScript line) e = absurd (cc)
+fails_three CannotReadText e = refl
+fails_three CannotReadScript e = refl
+fails_three CannotPrint e = refl
+fails_three NoMemory e = absurd (cc)
+
+-- what is counted comes from a failure
+counted_fails : (kind : Kind) (before now : ℕ) (fails : Bool) → HasOutcomeCause kind before now fails → before < now → fails ≡ true
+counted_fails kind before now true cause more = refl
+counted_fails kind before now false cause more = let same = cause.kept refl in absurd (omega arith)
+
+-- ---- printing
+then_more : (p middle q : Option (List ℕ)) (a b : List ℕ) → middle ≡ option_map (λ t. t ++ a) p → q ≡ option_map (λ t. t ++ b) middle → q ≡ option_map (λ t. t ++ (a ++ b)) p
+then_more None middle q a b e f = f ∙ ap (option_map (λ t. t ++ b)) e
+then_more (Some t) middle q a b e f = f ∙ ap (option_map (λ t. t ++ b)) e ∙ ap Some (append_assoc t a b)
+
+prefix_of_nothing : (p q : Option (List ℕ)) → PrintsPrefix p q [] → q ≡ p
+prefix_of_nothing p q (n, short, e) = e ∙ ap (λ l. option_map (λ t. t ++ l) p) (take_all [] n (omega arith)) ∙ add_nothing p
+
+module _ (asked : Asked) where
+  abbrev form : Option Form
+  form = Some (Trace asked)
+
+  no_form : form ≡ None → ⊥
+  no_form none = cc
+
+  -- ---- the status
+  status_known : (ended : Ended) (result : ℕ) → result ≡ status_of ended → IsStatus form result
+  status_known Done result e = inl e
+  status_known (Undefined kind line) result e = inr (inr (inl e))
+  status_known (Refused refusal) result e = inr (inl e)
+  status_known LongScript result e = inr (inr (inr (inl e)))
+  status_known (BadScript line) result e = inr (inr (inr (inl e)))
+  status_known CannotReadText result e = inr (inr (inr (inr (inl e))))
+  status_known CannotReadScript result e = inr (inr (inr (inr (inl e))))
+  status_known CannotPrint result e = inr (inr (inr (inr (inl e))))
+  status_known NoMemory result e = inr (inr (inr (inr (inr e))))
+
+  not_two : (result : ℕ) → IsStatus form result → result ≡ 2 → form ≡ None
+  not_two result (inl e) two = absurd (omega arith)
+  not_two result (inr (inl e)) two = absurd (omega arith)
+  not_two result (inr (inr (inl e))) two = absurd (omega arith)
+  not_two result (inr (inr (inr (inl e)))) two = absurd (omega arith)
+  not_two result (inr (inr (inr (inr (inl e))))) two = absurd (omega arith)
+  not_two result (inr (inr (inr (inr (inr e))))) two = absurd (omega arith)
+
+  has_status : (result : ℕ) → IsStatus form result → HasStatus form result
+  has_status result known = record { known = known; usage = not_two result known; no_form = λ none. absurd (no_form none) }
+
+  pub trace_status : (ended : Ended) (kind : Kind) (before now : ℕ) (p q : Option (List ℕ)) (result : ℕ)
+      → Says kind before now p q (last_line asked ended) (status_of ended) result → HasStatus form result
+  trace_status ended kind before now p q result (inl s) = has_status result (status_known ended result s.ends)
+  trace_status ended kind before now p q result (inr u) = has_status result (inr (inr (inr (inr u.ends))))
+
+  -- ---- the whole text, or a prefix of one
+
+  whole_text : (ended : Ended) (p middle q : Option (List ℕ)) → Leads asked.steps ended p middle → q ≡ option_map (λ t. t ++ last_line asked ended) middle
+      → GivesUp (status_of ended) ⊎ ((text : List ℕ) × IsTraceText asked ended text × (q ≡ option_map (λ t. t ++ text) p))
+  whole_text Done p middle q (text, lines, e) f = inr (text ++ [], record { events = text; has_events = lines; whole = refl }, then_more p middle q text [] e f)
+  whole_text (Undefined kind line) p middle q (text, lines, e) f =
+      inr (text ++ last_line asked (Undefined kind line), record { events = text; has_events = lines; whole = refl }, then_more p middle q text (last_line asked (Undefined kind line)) e f)
+  whole_text (Refused refusal) p middle q same f =
+      inr (last_line asked (Refused refusal), record { events = []; has_events = refl; whole = refl }, f ∙ ap (option_map (λ t. t ++ last_line asked (Refused refusal))) same)
+  whole_text LongScript p middle q same f =
+      inr (last_line asked LongScript, record { events = []; has_events = refl; whole = refl }, f ∙ ap (option_map (λ t. t ++ last_line asked LongScript)) same)
+  whole_text (BadScript line) p middle q same f =
+      inr (last_line asked (BadScript line), record { events = []; has_events = refl; whole = refl }, f ∙ ap (option_map (λ t. t ++ last_line asked (BadScript line))) same)
+  whole_text CannotReadText p middle q same f = inl (inl refl)
+  whole_text CannotReadScript p middle q same f = inl (inl refl)
+  whole_text CannotPrint p middle q leads f = inl (inl refl)
+  whole_text NoMemory p middle q leads f = inl (inr refl)
+
+  abbrev HasPrefix : Option (List ℕ) → Option (List ℕ) → Type 0
+  HasPrefix p q = (ended : Ended) × (text : List ℕ) × IsTraceText asked ended text × PrintsPrefix p q text
+
+  broken_lines : (p middle q : Option (List ℕ)) (text : List ℕ) → AreEventLines asked.steps text → PrintsPrefix p middle text → PrintsPrefix middle q [] → HasPrefix p q
+  broken_lines p middle q text lines first second =
+      (Done, text ++ [], record { events = text; has_events = lines; whole = refl }, longer p q text [] (subst (λ o. PrintsPrefix p o text) (sym (prefix_of_nothing middle q second)) first))
+
+  at_last : (ended : Ended) (p middle q : Option (List ℕ)) → IsTraceText asked ended (last_line asked ended) → middle ≡ p → PrintsPrefix middle q (last_line asked ended) → HasPrefix p q
+  at_last ended p middle q is same prefix = (ended, last_line asked ended, is, subst (λ o. PrintsPrefix o q (last_line asked ended)) same prefix)
+
+  prefix_text : (ended : Ended) (p middle q : Option (List ℕ)) → Leads asked.steps ended p middle → PrintsPrefix middle q (last_line asked ended) → HasPrefix p q
+  prefix_text Done p middle q (text, lines, e) prefix = (Done, text ++ [], record { events = text; has_events = lines; whole = refl }, later p middle q text [] e prefix)
+  prefix_text (Undefined kind line) p middle q (text, lines, e) prefix = (
+    Undefined kind line,
+    text ++ last_line asked (Undefined kind line),
+    record { events = text; has_events = lines; whole = refl },
+    later p middle q text (last_line asked (Undefined kind line)) e prefix,
+  )
+  prefix_text (Refused refusal) p middle q same prefix = at_last (Refused refusal) p middle q (record { events = []; has_events = refl; whole = refl }) same prefix
+  prefix_text LongScript p middle q same prefix = at_last LongScript p middle q (record { events = []; has_events = refl; whole = refl }) same prefix
+  prefix_text (BadScript line) p middle q same prefix = at_last (BadScript line) p middle q (record { events = []; has_events = refl; whole = refl }) same prefix
+  prefix_text CannotReadText p middle q same prefix = at_last CannotReadText p middle q (record { events = []; has_events = refl; whole = refl }) same prefix
+  prefix_text CannotReadScript p middle q same prefix = at_last CannotReadScript p middle q (record { events = []; has_events = refl; whole = refl }) same prefix
+  prefix_text CannotPrint p middle q (text, lines, first) prefix = broken_lines p middle q text lines first prefix
+  prefix_text NoMemory p middle q (inl same) prefix = at_last NoMemory p middle q (record { events = []; has_events = refl; whole = refl }) same prefix
+  prefix_text NoMemory p middle q (inr (text, lines, first)) prefix = broken_lines p middle q text lines first prefix
+
+  -- ---- the printed text
+  abbrev TellsMissing : Option (List ℕ) → Option (List ℕ) → Type 0
+  TellsMissing p q = (q ≡ option_map (λ text. text ++ cannot_read asked.input) p) ⊎ (q ≡ option_map (λ text. text ++ cannot_read asked.script) p)
+
+  missing_text : (ended : Ended) (p middle q : Option (List ℕ)) → ended ≡ CannotReadText → Leads asked.steps ended p middle → q ≡ option_map (λ t. t ++ last_line asked ended) middle
+      → q ≡ option_map (λ text. text ++ cannot_read asked.input) p
+  missing_text ended p middle q is leads e =
+      let same : middle ≡ p = subst (λ x. Leads asked.steps x p middle) is leads in
+      let said : q ≡ option_map (λ t. t ++ cannot_read asked.input) middle = subst (λ x. q ≡ option_map (λ t. t ++ last_line asked x) middle) is e in
+      said ∙ ap (option_map (λ text. text ++ cannot_read asked.input)) same
+
+  missing_script : (ended : Ended) (p middle q : Option (List ℕ)) → ended ≡ CannotReadScript → Leads asked.steps ended p middle → q ≡ option_map (λ t. t ++ last_line asked ended) middle
+      → q ≡ option_map (λ text. text ++ cannot_read asked.script) p
+  missing_script ended p middle q is leads e =
+      let same : middle ≡ p = subst (λ x. Leads asked.steps x p middle) is leads in
+      let said : q ≡ option_map (λ t. t ++ cannot_read asked.script) middle = subst (λ x. q ≡ option_map (λ t. t ++ last_line asked x) middle) is e in
+      said ∙ ap (option_map (λ text. text ++ cannot_read asked.script)) same
+
+  told_missing : (kind : Kind) (old : Option Contents) (ended : Ended) (p middle q : Option (List ℕ)) → FailsWithoutFiles kind old asked ended → IsTrue kind.is_sound → is_fault ended ≡ true
+      → Leads asked.steps ended p middle → q ≡ option_map (λ t. t ++ last_line asked ended) middle → TellsMissing p q
+  told_missing kind old ended p middle q fails sound fault leads e =
+      ⊎_elim
+      (λ (is, lacks). inl (missing_text ended p middle q is leads e))
+      (λ (is, lacks). inr (missing_script ended p middle q is leads e))
+      (fails.only sound fault)
+
+  pub trace_printed : (kind later : Kind) (old : Option Contents) (ended : Ended) (before now : ℕ) (p middle q : Option (List ℕ)) (result : ℕ)
+      → FailsWithoutFiles kind old asked ended → later ≡ kind → Leads asked.steps ended p middle
+      → Says later before now middle q (last_line asked ended) (status_of ended) result → TracePrints kind asked p q result
+  trace_printed kind later old ended before now p middle q result fails alike leads (inl s) =
+      record {
+        whole = ⊎_elim
+            (λ up. inl (subst GivesUp (sym s.ends) up))
+            (λ (text, is, e). inr (ended, text, sym s.ends, is, e))
+            (whole_text ended p middle q leads s.printed);
+        prefix = λ _. prefix_text ended p middle q leads (said_prefix later before now middle q (last_line asked ended) (status_of ended) result (inl s));
+        sound = λ is three. told_missing kind old ended p middle q fails is (three_fails ended (sym s.ends ∙ three)) leads s.printed;
+      }
+  trace_printed kind later old ended before now p middle q result fails alike leads (inr u) =
+      record {
+        whole = inl u.ends;
+        prefix = λ _. prefix_text ended p middle q leads u.printed;
+        sound = λ is three. number_apart 3 9 result (omega arith) three (u.unsound (subst (λ (k : Kind). IsTrue k.is_sound) (sym alike) is));
+      }
+
+  -- ---- where the files are told too
+  told_at : (ended : Ended) (o : Contents) (kind : Kind) (before now : ℕ) (p middle q : Option (List ℕ)) (result : ℕ) → Knows asked o ended → Leads asked.steps ended p middle
+      → Says kind before now middle q (last_line asked ended) (status_of ended) result → GivesUp result ⊎ TraceTells asked o p q result
+  told_at ended o kind before now p middle q result knows leads (inl s) =
+      ⊎_elim
+      (λ up. inl (subst GivesUp (sym s.ends) up))
+      (λ (text, is, e). inr (record { ended = ended; text = text; status = sym s.ends; knows = knows; whole = is; printed = e }))
+      (whole_text ended p middle q leads s.printed)
+  told_at ended o kind before now p middle q result knows leads (inr u) = inl u.ends
+
+  pub trace_told : (ended : Ended) (old new : Option Contents) (kind : Kind) (before now : ℕ) (p middle q : Option (List ℕ)) (result : ℕ) → IfSome old (λ o. Knows asked o ended)
+      → Leads asked.steps ended p middle → Says kind before now middle q (last_line asked ended) (status_of ended) result → IfSome old (λ o. HasTold form o new p q result)
+  trace_told ended None new kind before now p middle q result knows leads says = tt
+  trace_told ended (Some o) new kind before now p middle q result knows leads says = told_at ended o kind before now p middle q result knows leads says
+
+  -- ---- faults
+  pub trace_faults : (kind alike : Kind) (old : Option Contents) (ended : Ended) (first before now : ℕ) (p q : Option (List ℕ)) (result : ℕ) → HasOutcomeCause kind first before (is_fault ended)
+      → FailsWithoutFiles kind old asked ended → alike ≡ kind → Says alike before now p q (last_line asked ended) (status_of ended) result → HasFaults kind first now form old result
+  trace_faults kind alike old ended first before now p q result cause fails same (inl s) =
+      let e = s.ends in let kept = s.kept in let low = cause.never_falls in
+      record {
+        never_falls = omega arith;
+        only = λ three. subst (IsCounted kind first) (sym s.kept) (cause.failed (three_fails ended (sym s.ends ∙ three)));
+        each = λ more. inl (s.ends ∙ fails_three ended (counted_fails kind first before (is_fault ended) cause (omega arith)));
+        sound = λ is three. ⊎_elim (λ (x, lacks). inl lacks) (λ (x, lacks). inr lacks) (fails.only is (three_fails ended (sym s.ends ∙ three)));
+        missing = λ is lacks. subst GivesUp (sym s.ends) (gives_up is lacks);
+      }
+    where
+      at_script : (ended ≡ CannotReadText) ⊎ ((ended ≡ CannotReadScript) ⊎ (ended ≡ NoMemory)) → GivesUp (status_of ended)
+      at_script (inl x) = inl (ap status_of x)
+      at_script (inr (inl x)) = inl (ap status_of x)
+      at_script (inr (inr x)) = inr (ap status_of x)
+
+      gives_up : IsTrue kind.is_sound → LacksFile form old → GivesUp (status_of ended)
+      gives_up is (inl lacks) = inl (ap status_of (fails.text is lacks))
+      gives_up is (inr lacks) = at_script (fails.script is lacks)
+  trace_faults kind alike old ended first before now p q result cause fails same (inr u) =
+      let low = cause.never_falls in let more = u.never_falls in
+      record {
+        never_falls = omega arith;
+        only = λ three. counted_later kind first before now cause.never_falls (subst (λ (k : Kind). IsCounted k before now) same (u.failed three));
+        each = λ _. u.ends;
+        sound = λ is three. number_apart 3 9 result (omega arith) three (u.unsound (subst (λ (k : Kind). IsTrue k.is_sound) (sym same) is));
+        missing = λ is lacks. u.ends;
+      }
+
+  -- ---- without a fault
+  same_bytes : (o : Contents) (name bytes other : List ℕ) → o name ≡ Some bytes → o name ≡ Some other → bytes ≡ other
+  same_bytes o name bytes other a b = let both : Some bytes ≡ Some other = sym a ∙ b in cc
+
+  no_script_ends : (ended : Ended) (o : Contents) (result : ℕ) → Knows asked o ended → result ≡ status_of ended → (is_fault ended ≡ true → ⊥) → (script : List ℕ) → o asked.script ≡ Some script
+      → (IsScript script → ⊥) → (result ≡ 5) ⊎ (result ≡ 9)
+  no_script_ends Done o result k e quiet script has none = absurd (none (subst IsScript (same_bytes o asked.script k.script script k.has_script has) k.of_script))
+  no_script_ends (Undefined kind line) o result k e quiet script has none = absurd (none (subst IsScript (same_bytes o asked.script k.script script k.has_script has) k.of_script))
+  no_script_ends (Refused refusal) o result k e quiet script has none = absurd (none (subst IsScript (same_bytes o asked.script k.script script k.has_script has) k.of_script))
+  no_script_ends LongScript o result k e quiet script has none = inl e
+  no_script_ends (BadScript line) o result k e quiet script has none = inl e
+  no_script_ends CannotReadText o result k e quiet script has none = absurd (quiet refl)
+  no_script_ends CannotReadScript o result k e quiet script has none = absurd (quiet refl)
+  no_script_ends CannotPrint o result k e quiet script has none = absurd (quiet refl)
+  no_script_ends NoMemory o result k e quiet script has none = inr e
+
+  -- a text without a tree is refused, where there is a script
+  refused_ends : (ended : Ended) (o : Contents) (result : ℕ) → Knows asked o ended → result ≡ status_of ended → (is_fault ended ≡ true → ⊥) → (text script : List ℕ) → o asked.input ≡ Some text
+      → o asked.script ≡ Some script → IsScript script → (HasTree text → ⊥) → (result ≡ 1) ⊎ (result ≡ 9)
+  refused_ends Done o result k e quiet text script reads has is no_tree = absurd (no_tree (subst HasTree (same_bytes o asked.input k.text text k.has_text reads) k.of_text))
+  refused_ends (Undefined kind line) o result k e quiet text script reads has is no_tree = absurd (no_tree (subst HasTree (same_bytes o asked.input k.text text k.has_text reads) k.of_text))
+  refused_ends (Refused refusal) o result k e quiet text script reads has is no_tree = inl e
+  refused_ends LongScript o result k e quiet text script reads has is no_tree =
+      let same = same_bytes o asked.script k.script script k.has_script has in
+      let long = k.of_script in let short = is.short in let l = ap (length {A = ℕ}) same in absurd (omega arith)
+  refused_ends (BadScript line) o result k e quiet text script reads has is no_tree =
+      absurd (k.of_script.none is.content (subst (λ b. IsScriptFile b is.content) (sym (same_bytes o asked.script k.script script k.has_script has)) is.file))
+  refused_ends CannotReadText o result k e quiet text script reads has is no_tree = absurd (quiet refl)
+  refused_ends CannotReadScript o result k e quiet text script reads has is no_tree = absurd (quiet refl)
+  refused_ends CannotPrint o result k e quiet text script reads has is no_tree = absurd (quiet refl)
+  refused_ends NoMemory o result k e quiet text script reads has is no_tree = inr e
+
+  tokens_refused : (text : List ℕ) (refusal : Refusal) → program_tokens text ≡ Err (errors.Refused refusal) → HasTree text → ⊥
+  tokens_refused text refusal e tree = let both = sym e ∙ tree.tokens in cc
+
+  tree_refused : (text : List ℕ) → HasNoTree text → HasTree text → ⊥
+  tree_refused text n tree = n.none tree
+
+  complete_at : (kind : Kind) (ended : Ended) (o : Contents) (first before now : ℕ) (p q : Option (List ℕ)) (result : ℕ)
+      → Knows asked o ended → HasOutcomeCause kind first before (is_fault ended)
+      → Says kind before now p q (last_line asked ended) (status_of ended) result → IsComplete kind first now form o result
+  complete_at kind ended o first before now p q result knows cause (inl s) = λ quiet.
+      let no_fault : is_fault ended ≡ true → ⊥ = λ fault. quiet (subst (IsCounted kind first) (sym s.kept) (cause.failed fault)) in
+      record {
+        no_script = λ text script reads has none. no_script_ends ended o result knows s.ends no_fault script has none;
+        no_tokens = λ text script refusal reads has is e. refused_ends ended o result knows s.ends no_fault text script reads has is (tokens_refused text refusal e);
+        no_tree = λ text script reads has is n. refused_ends ended o result knows s.ends no_fault text script reads has is (tree_refused text n);
+      }
+  complete_at kind ended o first before now p q result knows cause (inr u) = λ quiet.
+      let no_three : result ≡ 3 → ⊥ = λ three. quiet (counted_later kind first before now cause.never_falls (u.failed three)) in
+      record {
+        no_script = λ text script reads has none. quiet_ends 5 result no_three u.ends;
+        no_tokens = λ text script refusal reads has is e. quiet_ends 1 result no_three u.ends;
+        no_tree = λ text script reads has is n. quiet_ends 1 result no_three u.ends;
+      }
+
+  pub trace_complete : (kind alike : Kind) (ended : Ended) (old : Option Contents) (first before now : ℕ) (p q : Option (List ℕ)) (result : ℕ)
+      → IfSome old (λ o. Knows asked o ended) → HasOutcomeCause kind first before (is_fault ended) → alike ≡ kind
+      → Says alike before now p q (last_line asked ended) (status_of ended) result → IfSome old (λ o. IsComplete kind first now form o result)
+  trace_complete kind alike ended None first before now p q result knows cause same says = tt
+  trace_complete kind alike ended (Some o) first before now p q result knows cause same says =
+      complete_at kind ended o first before now p q result knows cause
+      (subst (λ (k : Kind). Says k before now p q (last_line asked ended) (status_of ended) result) same says)

@@ -1,0 +1,25 @@
+use Rattle.std.proofs.Common.{◌∙◌, arith}
+use Rattle.picc_cli.proofs.TraceRun.{took, stopped, all_taken}
+use Rattle.picc_cli.proofs.running.run_steps.Goals as goal
+
+pub loop-taken-preserved : goal.loop-taken-preserved
+loop-taken-preserved g c =
+    let so_far = c.loop-taken.invariant in
+    record {
+      within = omega arith;
+      lines = took _ _ _ _ _ so_far.lines c.in-None.ensures.goes_on;
+      same_file = c.take_step.ensures.same_file ∙ so_far.same_file;
+      same_contents = c.take_step.ensures.same_contents ∙ so_far.same_contents;
+      same_kind = c.take_step.ensures.same_kind ∙ so_far.same_kind;
+      same_faults = c.in-None.ensures.kept ∙ so_far.same_faults;
+    }
+
+pub returns-in-Some-clause-leads : goal.returns-in-Some-clause-leads
+returns-in-Some-clause-leads g c =
+    let so_far = c.loop-taken.invariant in
+    stopped _ _ _ _ _ _ _ c.requires (omega arith) so_far.lines c.in-Some.ensures.stops
+
+pub returns-clause-leads : goal.returns-clause-leads
+returns-clause-leads g c =
+    let so_far = c.loop-taken.invariant in
+    all_taken _ _ _ _ _ c.requires so_far.within so_far.lines

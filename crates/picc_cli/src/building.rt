@@ -1,0 +1,143 @@
+// The form `build`: from the files' names to an exit status.
+ghost use Rattle.std.specs.Prelude.{◌≡◌, ◌⊎◌, IfOk, IfErr, IfSome, Some};
+ghost use Rattle.hex_image.specs.HexFile.{IsHexFile};
+ghost use Rattle.hex_image.specs.HexText.{hex_text};
+ghost use Rattle.host_io.specs.Host.{Closed};
+ghost use Rattle.pic_map.specs.MapFile.{IsMapFile};
+ghost use Rattle.pic_map.specs.MapText.{AreInRange};
+ghost use Rattle.pic_map.specs.MapView.{content_of};
+ghost use Rattle.picc_cli.specs.Built.{IsCompiled, IsMade, IsRefused};
+ghost use Rattle.picc_cli.specs.Command.{Build};
+ghost use Rattle.picc_cli.specs.CommandView.{names_of};
+ghost use Rattle.picc_cli.specs.Finished.{HasFiles, HasFaults, HasStatus, HasPrinted, HasTold, IsComplete};
+ghost use Rattle.picc_cli.specs.declared.building.Outcome.TheVariants as outcomes;
+ghost use Rattle.picc_cli.specs.Outcome.{TellsWhy, WorkedOn, FailsWithoutInput, is_fault, line_of, status_of};
+ghost use Rattle.picc_cli.specs.Said.{Says, HasOutcomeCause};
+
+use crate::build::{Built as Texts, build};
+use crate::command::Files;
+use crate::say::{say, say_refusal};
+use hex_image::write_hex;
+use host_io::{Host, HostError, read_whole, write_whole};
+use pic_map::write_map;
+use picc_core::{Built as Program, CompileError, Refusal, compile};
+use std::alloc::{AllocError, Global};
+
+/// The longest C text, in bytes.
+pub const TEXT_LIMIT: usize = 262_144;
+
+/// How a build went.
+#[derive(Drop)]
+pub enum Outcome {
+    Built,
+    Refused(Refusal),
+    CannotRead,
+    CannotWriteHex,
+    CannotWriteMap,
+    NoMemory,
+}
+
+/// Builds the text, and writes the two files. The answer is the exit status.
+pub fn build_files<H: Host>(alloc: Global, host: &mut H, files: Files<'_>) -> u8
+    requires { H.open_file host.old ≡ Closed }
+    ensures closed { H.open_file host.new ≡ Closed }
+    ensures same_kind { H.kind host.new ≡ H.kind host.old }
+    ensures files { IfSome (H.contents host.old) (λ old. HasFiles (Some (Build (names_of files.entry))) old (H.contents host.new) result) }
+    ensures faults { HasFaults (H.kind host.old) (H.faults host.old) (H.faults host.new) (Some (Build (names_of files.entry))) (H.contents host.old) result }
+    ensures status { HasStatus (Some (Build (names_of files.entry))) result }
+    ensures printed { HasPrinted (H.kind host.old) (Some (Build (names_of files.entry))) (H.printed host.old) (H.printed host.new) result }
+    ensures told { IfSome (H.contents host.old) (λ old. HasTold (Some (Build (names_of files.entry))) old (H.contents host.new) (H.printed host.old) (H.printed host.new) result) }
+    ensures complete { IfSome (H.contents host.old) (λ old. IsComplete (H.kind host.old) (H.faults host.old) (H.faults host.new) (Some (Build (names_of files.entry))) old result) }
+{
+    let outcome = run(alloc, host, files);
+    report(alloc, host, files, outcome)
+}
+
+/// Prints what is to be said of an outcome, and answers its status.
+fn report<H: Host>(alloc: Global, host: &mut H, files: Files<'_>, outcome: Outcome) -> u8
+    ensures same_file { H.open_file host.new ≡ H.open_file host.old }
+    ensures same_contents { H.contents host.new ≡ H.contents host.old }
+    ensures same_kind { H.kind host.new ≡ H.kind host.old }
+    ensures said { Says (H.kind host.old) (H.faults host.old) (H.faults host.new) (H.printed host.old) (H.printed host.new)
+        (line_of (names_of files.entry) outcome) (status_of outcome) result }
+{
+    match outcome {
+        Outcome::Built => 0,
+        Outcome::NoMemory => 9,
+        Outcome::Refused(refusal) => say_refusal(alloc, host, files.input, &refusal),
+        Outcome::CannotRead => say(host, 3, "cannot read ", files.input, "\n"),
+        Outcome::CannotWriteHex => say(host, 3, "cannot write ", files.output, "\n"),
+        Outcome::CannotWriteMap => say(host, 3, "cannot write ", files.map, "\n"),
+    }
+}
+
+/// The files of a program that is compiled.
+fn texts_of(alloc: Global, program: &Program) -> Result<Texts, AllocError>
+    requires { AreInRange (content_of program.now.map) }
+    ensures hex { IfOk result (λ texts. texts.hex.items ≡ hex_text program.now.image) }
+    ensures hex_file { IfOk result (λ texts. IsHexFile texts.hex.items program.now.image) }
+    ensures map_file { IfOk result (λ texts. IsMapFile texts.map.items (content_of program.now.map)) }
+{
+    let hex = write_hex(alloc, &program.image)?;
+    let map = write_map(alloc, &program.map)?;
+    Ok(Texts { hex, map })
+}
+
+/// The files of any text, or why there are none.
+fn compiled(alloc: Global, text: &[u8]) -> Result<Texts, Outcome>
+    ensures made { IfOk result (λ texts. IsCompiled text.now texts.hex.items texts.map.items) }
+    ensures why { IfErr result (λ why. (why ≡ outcomes.NoMemory) ⊎ TellsWhy text.now why) }
+{
+    let program = match compile(alloc, text) {
+        Ok(program) => program,
+        Err(CompileError::NoMemory) => return Err(Outcome::NoMemory),
+        Err(CompileError::Refused(refusal)) => return Err(Outcome::Refused(refusal)),
+    };
+    match texts_of(alloc, &program) {
+        Ok(texts) => Ok(texts),
+        Err(_) => Err(Outcome::NoMemory),
+    }
+}
+
+/// The files of a text by the proved path, where it has the form of that path, and else by all passes; or why there are none.
+fn made(alloc: Global, text: &[u8]) -> Result<Texts, Outcome>
+    ensures made { IfOk result (λ texts. IsMade text.now texts.hex.items texts.map.items) }
+    ensures why { IfErr result (λ why. (why ≡ outcomes.NoMemory) ⊎ (IsRefused text.now × TellsWhy text.now why)) }
+{
+    match build(alloc, text) {
+        Ok(Some(texts)) => Ok(texts),
+        Ok(None) => compiled(alloc, text),
+        Err(_) => Err(Outcome::NoMemory),
+    }
+}
+
+/// Reads the text, builds it, and writes the two files.
+fn run<H: Host>(alloc: Global, host: &mut H, files: Files<'_>) -> Outcome
+    requires { H.open_file host.old ≡ Closed }
+    ensures closed { H.open_file host.new ≡ Closed }
+    ensures same_kind { H.kind host.new ≡ H.kind host.old }
+    ensures same_printed { H.printed host.new ≡ H.printed host.old }
+    ensures files { IfSome (H.contents host.old) (λ old. WorkedOn result (names_of files.entry) old (H.contents host.new)) }
+    ensures cause { HasOutcomeCause (H.kind host.old) (H.faults host.old) (H.faults host.new) (is_fault result) }
+    ensures sound { FailsWithoutInput (H.kind host.old) (H.contents host.old) files.entry.input.now result }
+{
+    let text = match read_whole(alloc, host, files.input, TEXT_LIMIT) {
+        Ok(text) => text,
+        Err(HostError::Failed) => return Outcome::CannotRead,
+        Err(HostError::NoMemory) => return Outcome::NoMemory,
+    };
+    let built = match made(alloc, &text) {
+        Ok(built) => built,
+        Err(outcome) => return outcome,
+    };
+    match write_whole(host, files.output, &built.hex) {
+        Ok(()) => {}
+        Err(HostError::Failed) => return Outcome::CannotWriteHex,
+        Err(HostError::NoMemory) => return Outcome::NoMemory,
+    }
+    match write_whole(host, files.map, &built.map) {
+        Ok(()) => Outcome::Built,
+        Err(HostError::Failed) => Outcome::CannotWriteMap,
+        Err(HostError::NoMemory) => Outcome::NoMemory,
+    }
+}

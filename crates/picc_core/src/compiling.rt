@@ -1,0 +1,173 @@
+//! From a text to the image of its program and the map of its memory.
+
+ghost use Rattle.std.specs.Prelude.{◌≡◌, ◌<◌, length, map, None, Err, IfOk, IfErr};
+ghost use Rattle.c_typed.specs.Chains.{graph_of};
+ghost use Rattle.c_typed.specs.Roots.{broken_root};
+ghost use Rattle.c_typed.specs.Views.{program_of};
+ghost use Rattle.call_graph.specs.Levels.{IsAcyclic};
+ghost use Rattle.pic_map.specs.MapText.{AreInRange};
+ghost use Rattle.pic_map.specs.MapView.{content_of, object_of, frame_of};
+ghost use Rattle.ram_place.specs.Placement.{addresses_covered};
+ghost use Rattle.picc_core.specs.Answers.{IsRefusedUnless, TellsError};
+ghost use Rattle.picc_core.specs.Compiled.{IsPlaced, IsWithinDepth};
+ghost use Rattle.picc_core.specs.Texts.{program_tokens, HasTree};
+ghost use Rattle.picc_core.specs.declared.refusal.CompileError.TheVariants.{NoMemory, Refused};
+ghost use Rattle.picc_core.specs.declared.refusal.LimitKind.TheVariants as kinds;
+ghost use Rattle.picc_core.specs.declared.refusal.Refusal.{Refusal};
+ghost use Rattle.picc_core.specs.declared.refusal.Refusal.TheVariants as refusals;
+
+use crate::code_order::code_numbers;
+use crate::known::{Built, Front};
+use crate::map_range::can_be_written;
+use crate::refusal::CompileError;
+use crate::stages::front;
+use bank_page::selects;
+use call_graph::{Copies, FnId};
+use code_place::assemble;
+use core_code::CoreProgram;
+use isr_save::start_block;
+use lower_stmt::lower;
+use math_helpers::helper;
+use pic_chip::Root;
+use pic_map::Map;
+use ram_place::Placed;
+use select_wide::select;
+use std::alloc::{AllocError, Global};
+use std::collections::BTreeMap;
+use sym_code::{BlockName, SymBlock, SymProgram};
+
+/// The blocks of the copies, by number.
+type Blocks = BTreeMap<u16, SymBlock>;
+
+/// The number of the handler's copy, if there is a handler: it is the first of its root.
+fn handler_of(copies: &Copies) -> Option<u16> {
+    let place = copies.list.iter().position(|copy| copy.root == Root::Isr)?;
+    u16::try_from(place).ok()
+}
+
+fn put_functions(blocks: &mut Blocks, program: SymProgram) -> Result<(), AllocError> {
+    for block in program.blocks {
+        if let BlockName::Copy(number) = block.name {
+            blocks.insert(number, block)?;
+        }
+    }
+    Ok(())
+}
+
+fn put_helpers(alloc: Global, blocks: &mut Blocks, copies: &Copies) -> Result<(), AllocError> {
+    for number in 0..=u16::MAX {
+        let Some(copy) = copies.list.get(number as usize) else {
+            return Ok(());
+        };
+        if let FnId::Helper(routine) = copy.function {
+            blocks.insert(number, helper(alloc, routine, copy.root, number)?)?;
+        }
+    }
+    Ok(())
+}
+
+/// The start block, and behind it the blocks of the copies in the order of code.
+fn in_code_order(
+    alloc: Global,
+    start: SymBlock,
+    mut blocks: Blocks,
+    copies: &Copies,
+) -> Result<SymProgram, AllocError> {
+    let mut list = Vec::new(alloc);
+    list.push(start)?;
+    for number in code_numbers(alloc, copies)? {
+        if let Some(block) = blocks.remove(&number) {
+            list.push(block)?;
+        }
+    }
+    Ok(SymProgram { blocks: list })
+}
+
+/// The symbolic code of a program, with its selects.
+fn symbolic(
+    alloc: Global,
+    core: &CoreProgram,
+    copies: &Copies,
+    placed: &Placed,
+) -> Result<SymProgram, AllocError> {
+    let mut blocks = BTreeMap::new(alloc);
+    put_functions(&mut blocks, select(alloc, core, copies)?)?;
+    put_helpers(alloc, &mut blocks, copies)?;
+    let start = start_block(alloc, placed, core, handler_of(copies))?;
+    let program = in_code_order(alloc, start, blocks, copies)?;
+    selects(alloc, &program, placed)
+}
+
+/// The image and the map of what is known of a text.
+fn built(alloc: Global, front: Front) -> Result<Built, AllocError>
+    ensures typed { IfOk result (λ built. built.typed ≡ front.typed) }
+    ensures objects { IfOk result (λ built. built.map.objects ≡ front.placed.objects) }
+    ensures frames { IfOk result (λ built. built.map.frames ≡ front.placed.frames) }
+    ensures sizes { IfOk result (λ built. (built.ram ≡ front.placed.ram) × ((built.words ≡ front.words) × (built.depth ≡ front.copies.depth))) }
+{
+    let Front {
+        typed,
+        copies,
+        placed,
+        at,
+        words,
+    } = front;
+    let core = lower(alloc, &typed, &copies)?;
+    let program = symbolic(alloc, &core, &copies, &placed)?;
+    let assembled = assemble(alloc, &program, &at, &placed)?;
+    let ram = placed.ram;
+    Ok(Built {
+        typed,
+        image: assembled.image,
+        map: Map {
+            main: assembled.main,
+            halt: assembled.halt,
+            objects: placed.objects,
+            frames: placed.frames,
+        },
+        words,
+        ram,
+        depth: copies.depth,
+    })
+}
+
+/// The same, if its map is one that a map file can tell. Names are those of the text, and addresses and sizes those of
+/// memory, so every map is.
+fn checked(built: Built) -> Result<Built, CompileError>
+    ensures same { IfOk result (λ checked. checked ≡ built) }
+    ensures written { IfOk result (λ checked. AreInRange (content_of checked.map)) }
+    ensures told { IfErr result (λ error. error ≡ NoMemory) }
+{
+    if can_be_written(&built.map) {
+        Ok(built)
+    } else {
+        Err(CompileError::NoMemory)
+    }
+}
+
+/// What a text is compiled to, or the first refusal that holds of it, as `front` tells it.
+pub fn compile(alloc: Global, text: &[u8]) -> Result<Built, CompileError>
+    // A text over 262,144 bytes is refused so.
+    ensures text_limit { 262144 < length text.now → result ≡ Err (Refused (refusals.Limit kinds.Text 0)) }
+    // What is compiled has a tree.
+    ensures tree { IfOk result (λ _. HasTree text.now) }
+    // A refusal tells what it says of the text.
+    ensures refused { IfErr result (TellsError text.now) }
+    // The first refusal of the text's tokens is told, unless memory runs out.
+    ensures tokens { (r : Refusal) → program_tokens text.now ≡ Err (Refused r) → IsRefusedUnless result r }
+    // What is compiled breaks no rule on main and the interrupt handler.
+    ensures roots { IfOk result (λ built. broken_root (program_of built.typed) ≡ None) }
+    // No function of it reaches itself.
+    ensures recursion { IfOk result (λ built. IsAcyclic (graph_of (program_of built.typed))) }
+    // Its calls fit the return stack.
+    ensures depth { IfOk result (λ built. IsWithinDepth (program_of built.typed) built.depth) }
+    // The map's lines are those of its objects and of the frames of its copies, where they are to stand.
+    ensures map { IfOk result (λ built. IsPlaced (program_of built.typed) (map object_of built.map.objects.items) (map frame_of built.map.frames.items)) }
+    // A map file can tell that map.
+    ensures written { IfOk result (λ built. AreInRange (content_of built.map)) }
+    // Each address that is covered is counted once.
+    ensures ram { IfOk result (λ built. built.ram ≡ addresses_covered (map object_of built.map.objects.items) (map frame_of built.map.frames.items)) }
+{
+    let front = front(alloc, text)?;
+    checked(built(alloc, front)?)
+}

@@ -1,0 +1,71 @@
+//! Whether a map is one that a map file can tell.
+
+ghost use Rattle.std.specs.Prelude.{◌≡◌, IsTrue, map};
+ghost use Rattle.std.specs.List.{AllPass};
+ghost use Rattle.pic_map.specs.MapFile.{is_name_byte};
+ghost use Rattle.pic_map.specs.MapText.{AreInRange, AreObjects, AreFrames, IsPlaced};
+ghost use Rattle.pic_map.specs.MapView.{content_of, object_of, frame_of};
+
+use pic_map::{FrameLine, Map, ObjLine};
+
+/// The addresses of data memory are below this one.
+const DATA_MEMORY: u16 = 0x200;
+
+/// The addresses of program memory are below this one.
+const PROGRAM_MEMORY: u16 = 0x2000;
+
+/// The most bytes that an object or a frame has.
+const MOST_BYTES: u16 = 352;
+
+fn is_name_byte(byte: u8) -> bool
+    ensures { result ≡ is_name_byte byte }
+{
+    byte.is_ascii_alphanumeric() || byte == b'_' || byte == b'.' || byte == b'$'
+}
+
+fn are_name_bytes(bytes: &[u8]) -> bool
+    ensures { IsTrue result → AllPass is_name_byte bytes.now }
+{
+    match bytes {
+        [] => true,
+        [first, rest @ ..] => is_name_byte(*first) && are_name_bytes(rest),
+    }
+}
+
+fn is_placed(name: &[u8], address: u16, size: u16) -> bool
+    ensures { IsTrue result → IsPlaced name.now address size }
+{
+    !name.is_empty() && are_name_bytes(name) && address < DATA_MEMORY && size <= MOST_BYTES
+}
+
+fn are_objects(objects: &[ObjLine]) -> bool
+    ensures { IsTrue result → AreObjects (map object_of objects.now) }
+{
+    match objects {
+        [] => true,
+        [first, rest @ ..] => {
+            is_placed(&first.name, first.address, first.size) && are_objects(rest)
+        }
+    }
+}
+
+fn are_frames(frames: &[FrameLine]) -> bool
+    ensures { IsTrue result → AreFrames (map frame_of frames.now) }
+{
+    match frames {
+        [] => true,
+        [first, rest @ ..] => {
+            is_placed(&first.name, first.address, first.size) && are_frames(rest)
+        }
+    }
+}
+
+/// Whether addresses, sizes and names are such as a map file can have.
+pub(crate) fn can_be_written(map: &Map) -> bool
+    ensures { IsTrue result → AreInRange (content_of map.now) }
+{
+    map.main < PROGRAM_MEMORY
+        && map.halt < PROGRAM_MEMORY
+        && are_objects(&map.objects)
+        && are_frames(&map.frames)
+}
