@@ -1,4 +1,5 @@
-// Worked examples of the definitions of the chip and of HEX files, computed by the checker.
+// Worked examples of the definitions of the chip and of HEX files, computed by the checker, and of the chip's steps, run as
+// tests.
 //
 // In: nothing. Out: nothing. The promise: the definitions give the values that the data sheet's rules give by hand.
 #![tactic(auto)]
@@ -10,3 +11,6 @@ ghost use Rattle.chip_examples.specs.Examples.{WorkedExamples};
 pub fn worked_examples()
     ensures { WorkedExamples }
 {}
+
+#[cfg(test)]
+mod tests;

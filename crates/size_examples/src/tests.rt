@@ -9,6 +9,7 @@ use c_token::raw;
 use call_graph::{Copies, FnCopy, FnId, GraphError, copies};
 use code_place::{PageError, pages};
 use pic_chip::Root;
+use picc_core::front;
 use ram_place::{PlaceError, Placed, block_words, place, start_words};
 use std::alloc::{AllocError, Global};
 use std::test::Fail;
@@ -458,5 +459,21 @@ fn places(rt: HostRuntime) -> Result<(), Fail> {
         lines(alloc, full)?.as_str(),
         "static a 0020 80\nstatic b 00A0 80\nconst c 0110 96\nstatic d 0190 96\nmain main 0020 0\n"
     );
+    Ok(())
+}
+
+// The start block has 104 words, each of the two functions 62, and main 88.
+#[test]
+fn all_that_is_known_of_a_program(rt: HostRuntime) -> Result<(), Fail> {
+    let alloc = rt.alloc();
+    let text = generated(alloc, 2)?;
+    let Ok(known) = front(alloc, text.as_bytes()) else {
+        return Err(Fail::new("refused"));
+    };
+    assert_eq!(rt; known.at.as_slice(), [0, 104, 166, 228].as_slice());
+    assert_eq!(rt; known.words, 316);
+    assert_eq!(rt; known.placed.ram, 14);
+    assert_eq!(rt; known.copies.depth, 1);
+    assert_eq!(rt; known.typed.functions.len(), 3);
     Ok(())
 }

@@ -1,0 +1,152 @@
+//! Arrivals between any two instructions.
+
+use crate::comparing::{agrees, built, goes_as};
+use pic_chip::{Arrival, Flag, Script};
+use picc_core::Built;
+use std::alloc::Global;
+use std::test::Fail;
+
+// A function that both roots call.
+const TWO_COPIES: &str =
+    "unsigned char add(unsigned char a){unsigned char b;b=a;return b+1;}void interrupt h(void){PORTC=add(9);INTF=0;}void main(void){INTCON=0x90;PORTB=add(1);}";
+
+// A value of two bytes that the handler changes while main reads it.
+const TORN: &str =
+    "unsigned int t=0x00FF;void interrupt h(void){t++;INTF=0;}void main(void){unsigned int v;INTCON=0x90;v=t;PORTB=v>>8;PORTC=v;}";
+
+// Both roots divide, go through pointers, and change what the other reads.
+const BUSY: &str =
+    "unsigned int ticks;unsigned char a[4]={1,2,3,4},k;int d=1000;int over(int x,int y){return x/y;}unsigned char*at(unsigned char i){return&a[i&3];}void interrupt h(void){ticks++;*at(ticks)+=3;d=over(d,7)+ticks*3;INTF=0;TMR0IF=0;}void main(void){INTCON=0xB0;for(k=0;k<6;k++){*at(k)=over(d,3);d+=a[(k+1)&3]<<(k&3);PORTB=d>>k;}INTCON=0;}";
+
+// An interrupt is enabled while its flag is set, and the handler is entered directly after that write.
+const AT_ONCE: &str =
+    "void interrupt h(void){PORTB=1;INTF=0;}void main(void){INTCON=0x92;PORTA=2;}";
+
+// A flag is set before the interrupt is enabled.
+const PENDING: &str =
+    "void interrupt h(void){PORTB=1;INTF=0;}void main(void){INTE=1;GIE=1;PORTA=2;}";
+
+// A flag that comes between the read and the write of INTCON is lost.
+const LOST: &str = "void main(void){INTCON=0x10;INTCON&=0xFD;PORTB=INTCON;}";
+
+// Main does nothing but wait.
+const IDLE: &str = "void interrupt h(void){PORTB=1;INTF=0;}void main(void){INTCON=0x90;for(;;);}";
+
+// A key with a lamp, and a timer's ticks in a structure.
+const KEY: &str = "#include <htc.h>
+#define LED RB1
+#define KEY RB0
+struct counts { unsigned int ticks; unsigned char presses; };
+struct counts n;
+unsigned char stable;
+void interrupt tick(void)
+{
+    if (TMR0IF) { TMR0IF = 0; n.ticks++; }
+}
+void pause(unsigned char k)
+{
+    volatile unsigned char i;
+    for (i = 0; i < k; i++)
+        ;
+}
+void main(void)
+{
+    unsigned char last = 1;
+    TRISB = 0x01;
+    OPTION_REG = 0x07;
+    TMR0IE = 1;
+    GIE = 1;
+    for (;;) {
+        unsigned char now = KEY;
+        pause(20);
+        if (now == KEY && now != last) {
+            last = now;
+            if (!now) { n.presses++; LED = !LED; }
+        }
+        stable = last;
+    }
+}
+";
+
+/// In front of how many instructions an arrival makes a difference: so many are tried, each `stride`th.
+fn wrong_moments(
+    alloc: Global,
+    program: &Built,
+    tried: u32,
+    stride: u32,
+    instructions: u32,
+) -> Result<usize, Fail> {
+    let mut wrong: usize = 0;
+    for number in 0..tried {
+        let t = number.saturating_mul(stride);
+        let mut arrivals = Vec::new(alloc);
+        arrivals.push(Arrival {
+            t,
+            flag: Flag::Intf,
+        })?;
+        let script = Script {
+            input: Vec::new(alloc),
+            arrivals,
+        };
+        if !agrees(alloc, program, &script, instructions, 0x3C)? {
+            wrong = wrong.wrapping_add(1);
+        }
+    }
+    Ok(wrong)
+}
+
+#[test]
+fn before_each_instruction(rt: HostRuntime) -> Result<(), Fail> {
+    let alloc = rt.alloc();
+    let two_copies = built(alloc, TWO_COPIES)?;
+    assert_eq!(rt; wrong_moments(alloc, &two_copies, 401, 1, 2000)?, 0);
+    let torn = built(alloc, TORN)?;
+    assert_eq!(rt; wrong_moments(alloc, &torn, 200, 1, 2000)?, 0);
+    let at_once = built(alloc, AT_ONCE)?;
+    assert_eq!(rt; wrong_moments(alloc, &at_once, 60, 1, 300)?, 0);
+    let pending = built(alloc, PENDING)?;
+    assert_eq!(rt; wrong_moments(alloc, &pending, 80, 1, 400)?, 0);
+    let lost = built(alloc, LOST)?;
+    assert_eq!(rt; wrong_moments(alloc, &lost, 60, 1, 300)?, 0);
+    Ok(())
+}
+
+// Whether a program under a flag at each multiple of a number of instructions, forty times, goes as its source.
+fn under_ticks(
+    alloc: Global,
+    text: &str,
+    flag: Flag,
+    period: u32,
+    least: usize,
+) -> Result<bool, Fail> {
+    let mut arrivals = Vec::new(alloc);
+    for number in 1..=40u32 {
+        arrivals.push(Arrival {
+            t: period.saturating_mul(number),
+            flag,
+        })?;
+    }
+    let script = Script {
+        input: Vec::from_slice(alloc, &[1, 0, 0, 0, 0, 1, 1, 1])?,
+        arrivals,
+    };
+    let program = built(alloc, text)?;
+    Ok(goes_as(alloc, &program, &script, 20_000, least)?)
+}
+
+#[test]
+fn from_time_to_time(rt: HostRuntime) -> Result<(), Fail> {
+    let alloc = rt.alloc();
+    // the write that enables the interrupt, and forty runs of the handler with three accesses each
+    assert!(rt; under_ticks(alloc, IDLE, Flag::Intf, 450, 121)?);
+    assert!(rt; under_ticks(alloc, KEY, Flag::Tmr0if, 500, 200)?);
+    Ok(())
+}
+
+#[test]
+fn while_both_roots_work(rt: HostRuntime) -> Result<(), Fail> {
+    let alloc = rt.alloc();
+    let busy = built(alloc, BUSY)?;
+    assert_eq!(rt; wrong_moments(alloc, &busy, 220, 7, 8000)?, 0);
+    Ok(())
+}
