@@ -31,7 +31,13 @@ MAP
 printf '%s\n' 'usage: picc build IN OUT MAP | trace IN SCRIPT M | sim HEX MAP SCRIPT N | agree IN SCRIPT N | gen K' >wanted.usage
 printf '%s\n' 'no program.c: error 7: roots none' >wanted.refusal
 printf '%s\n' 'deep.c: error 8: depth 9' >wanted.depth
-printf '%s\n' 'two_copies.c: error 0: not yet' >wanted.later
+# main and `add` for main; the handler and `add` for the handler. Where their code stands isn't fixed.
+cat >wanted.frames <<'MAP'
+frame main main 0020 3
+frame main add 0023 10
+frame isr h 002D 3
+frame isr add 0030 10
+MAP
 
 # the status of the launcher with these words, whose output is left in `printed`
 run() {
@@ -58,7 +64,8 @@ cmp led.map wanted.map || fail 'the map is another one'
 printf 'int x;\n' >'no program.c'
 expect 1 wanted.refusal build 'no program.c' out.hex out.map
 expect 1 wanted.depth build deep.c out.hex out.map
-expect 1 wanted.later build two_copies.c out.hex out.map
 [ ! -e out.hex ] || fail 'a refused program has a HEX'
+expect 0 wanted.none build two_copies.c two_copies.hex two_copies.map
+grep '^frame' two_copies.map | cmp -s - wanted.frames || fail 'the frames are others'
 expect 2 wanted.usage
 exit $failed
