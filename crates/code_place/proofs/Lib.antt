@@ -1,3 +1,10 @@
+pub mod Blocks
+pub mod Filled
+pub mod Maps
+pub mod Marked
+pub mod Named
+pub mod Places
 pub mod Placing
 pub mod Room
+pub mod Stands
 pub mod Written

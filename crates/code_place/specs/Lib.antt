@@ -4,5 +4,6 @@ pub mod Image
 pub mod Instructions
 pub mod Marks
 pub mod Pages
+pub mod Places
 pub mod Rows
 pub mod Sizes

@@ -1,15 +1,18 @@
 //! The image of a program.
 
-ghost use Rattle.std.specs.Prelude.{◌≡◌, ◌+◌, ◌≤◌, map, length, OnOk};
+ghost use Rattle.std.specs.Prelude.{◌≡◌, ◌+◌, ◌≤◌, Some, map, length, OnOk, IfOk};
 ghost use Rattle.pic_isa.specs.Table.{word_of};
 ghost use Rattle.code_place.specs.Image.{written};
 ghost use Rattle.code_place.specs.Instructions as stated;
-ghost use Rattle.code_place.specs.Marks.{target_in};
+ghost use Rattle.code_place.specs.Marks.{target_in, target_by};
+ghost use Rattle.code_place.specs.Places.{block_place, label_place, HaveAddresses, HoldsBlocks, IsErasedElsewhere, BlocksHaveAddresses, TargetsStand};
 ghost use Rattle.code_place.specs.Rows.{list_of, AreWellFormed};
-ghost use Rattle.code_place.specs.Sizes.{words_in};
+ghost use Rattle.code_place.specs.Sizes.{words_in, Fit};
+ghost use Rattle.sym_code.specs.declared.code.BlockName.TheVariants.{Copy};
+ghost use Rattle.sym_code.specs.declared.code.Label.TheVariants.{Halt};
 
 use crate::fitting::fit;
-use crate::marks::{inner_labels, marks_of};
+use crate::marks::{Marks, inner_labels, marks_of};
 use crate::words::{Rows, Scope};
 use pic_chip::Image;
 use pic_isa::encode;
@@ -53,7 +56,8 @@ fn put_block(
     at: u16,
 ) -> Result<(), AllocError>
     requires { at + words_in block.now.list.items ≤ 8192 }
-    ensures { OnOk result (image.new ≡ written image.old at (stated.words scope.entry.placed.now (target_in scope.entry.marks.now scope.entry.inner.now) block.now.list.items)) }
+    ensures image { OnOk result (image.new ≡ written image.old at (stated.words scope.entry.placed.now (target_in scope.entry.marks.now scope.entry.inner.now) block.now.list.items)) }
+    ensures named { OnOk result (HaveAddresses scope.entry.placed.now (target_in scope.entry.marks.now scope.entry.inner.now) block.now.list.items) }
 {
     let mut pc = at;
     for sym in &block.list {
@@ -65,6 +69,28 @@ fn put_block(
     Ok(())
 }
 
+// A block with its own labels.
+fn put_next(
+    alloc: Global,
+    image: &mut Image,
+    placed: &Placed,
+    marks: &Marks,
+    block: &SymBlock,
+    at: u16,
+) -> Result<(), AllocError>
+    requires { at + words_in block.now.list.items ≤ 8192 }
+    ensures image { OnOk result (image.new ≡ written image.old at (stated.words placed.now (target_by marks.now block.now at) block.now.list.items)) }
+    ensures named { OnOk result (HaveAddresses placed.now (target_by marks.now block.now at) block.now.list.items) }
+{
+    let inner = inner_labels(alloc, block, at)?;
+    let scope = Scope {
+        placed,
+        marks,
+        inner: &inner,
+    };
+    put_block(image, scope, block, at)
+}
+
 /// The image of a program whose block `k` stands at `at[k]`, with everything else erased; main is the block of copy 0.
 ///
 /// Want of memory is also the answer where a block doesn't fit before the next one or within its page, and where something
@@ -74,7 +100,22 @@ pub fn assemble(
     s: &SymProgram,
     at: &[u16],
     placed: &Placed,
-) -> Result<Assembled, AllocError> {
+) -> Result<Assembled, AllocError>
+    // Each block has an address, in pages 0 to 3, and ends before its page does and before the next block begins.
+    ensures fit { OnOk result (Fit s.now.blocks.items at.now) }
+    // The words of each block stand at its address, where a label is the address of what follows it,
+    ensures each { IfOk result (λ made. HoldsBlocks placed.now s.now.blocks.items at.now made.image) }
+    // and every other word is erased.
+    ensures erased { IfOk result (λ made. IsErasedElsewhere s.now.blocks.items at.now made.image) }
+    // All that is named has an address.
+    ensures named { OnOk result (BlocksHaveAddresses placed.now s.now.blocks.items at.now) }
+    // An address that a target has is that of a block or label of its name.
+    ensures targets { OnOk result (TargetsStand s.now.blocks.items at.now) }
+    // Main begins where the block of copy 0 stands,
+    ensures main { IfOk result (λ made. block_place s.now.blocks.items at.now (Copy 0) ≡ Some made.main) }
+    // and halts at the label for that.
+    ensures halt { IfOk result (λ made. label_place s.now.blocks.items at.now Halt ≡ Some made.halt) }
+{
     if !fit(s, at) {
         return Err(AllocError);
     }
@@ -84,13 +125,7 @@ pub fn assemble(
         let Some(start) = at.get(number) else {
             return Err(AllocError);
         };
-        let inner = inner_labels(alloc, block, *start)?;
-        let scope = Scope {
-            placed,
-            marks: &marks,
-            inner: &inner,
-        };
-        put_block(&mut image, scope, block, *start)?;
+        put_next(alloc, &mut image, placed, &marks, block, *start)?;
     }
     let Some(main) = marks.block(BlockName::Copy(0)) else {
         return Err(AllocError);

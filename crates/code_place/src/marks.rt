@@ -1,7 +1,14 @@
 //! Where the labels of a program stand.
 
-ghost use Rattle.std.specs.Prelude.{◌≡◌, ◌+◌, ◌≤◌};
-ghost use Rattle.code_place.specs.Marks.{block_in, target_in};
+ghost use Rattle.std.specs.Prelude.{◌≡◌, ℕ, ◌+◌, ◌≤◌, None, OnOk, IfOk};
+ghost use Rattle.std.specs.BTreeMap.{get};
+ghost use Rattle.std.specs.Option.{option_or};
+ghost use Rattle.std.specs.Ordering.{nat_cmp};
+ghost use Rattle.sym_code.specs.Machine.{same_name};
+ghost use Rattle.sym_code.specs.declared.code.Label.TheVariants.{Inner, Halt, Restore};
+ghost use Rattle.code_place.specs.Marks.{block_in, target_in, AreMarks, AreInner};
+ghost use Rattle.code_place.specs.Places as stated;
+ghost use Rattle.code_place.specs.Places.{is_label, at_if, label_at};
 ghost use Rattle.code_place.specs.Sizes.{words_in, Fit};
 
 use crate::fitting::words_of_one;
@@ -19,7 +26,11 @@ pub struct Marks {
 }
 
 impl Marks {
-    fn none(alloc: Global) -> Marks {
+    fn none(alloc: Global) -> Marks
+        ensures names { (asked : BlockName) → block_in result asked ≡ None }
+        ensures halt { result.halt ≡ None }
+        ensures restore { result.restore ≡ None }
+    {
         Marks {
             start: None,
             copies: BTreeMap::new(alloc),
@@ -28,7 +39,11 @@ impl Marks {
         }
     }
 
-    fn put_block(&mut self, name: BlockName, at: u16) -> Result<(), AllocError> {
+    fn put_block(&mut self, name: BlockName, at: u16) -> Result<(), AllocError>
+        ensures names { OnOk result ((asked : BlockName) → block_in self.new asked ≡ option_or (at_if (same_name name asked) at) (block_in self.old asked)) }
+        ensures halt { OnOk result (self.new.halt ≡ self.old.halt) }
+        ensures restore { OnOk result (self.new.restore ≡ self.old.restore) }
+    {
         match name {
             BlockName::Start => {
                 self.start = Some(at);
@@ -40,27 +55,33 @@ impl Marks {
         Ok(())
     }
 
-    fn put_label(&mut self, label: Label, at: u16) {
+    fn put_label(&mut self, label: Option<Label>, at: u16)
+        ensures names { (asked : BlockName) → block_in self.new asked ≡ block_in self.old asked }
+        ensures halt { self.new.halt ≡ option_or (at_if (is_label Halt label) at) self.old.halt }
+        ensures restore { self.new.restore ≡ option_or (at_if (is_label Restore label) at) self.old.restore }
+    {
         match label {
-            Label::Inner(_) => {}
-            Label::Halt => {
+            Some(Label::Halt) => {
                 self.halt = Some(at);
             }
-            Label::Restore => {
+            Some(Label::Restore) => {
                 self.restore = Some(at);
             }
+            Some(Label::Inner(_)) => {}
+            None => {}
         }
     }
 
     // The labels of a block that stands at an address.
     fn put_labels(&mut self, block: &SymBlock, at: u16)
         requires { at + words_in block.now.list.items ≤ 8192 }
+        ensures names { (asked : BlockName) → block_in self.new asked ≡ block_in self.old asked }
+        ensures halt { self.new.halt ≡ option_or (label_at Halt at block.now.list.items) self.old.halt }
+        ensures restore { self.new.restore ≡ option_or (label_at Restore at block.now.list.items) self.old.restore }
     {
         let mut pc = at as u64;
         for sym in &block.list {
-            if let Sym::Label(label) = *sym {
-                self.put_label(label, pc as u16);
-            }
+            self.put_label(label_of(*sym), pc as u16);
             pc += words_of_one(*sym);
         }
     }
@@ -90,9 +111,29 @@ impl Marks {
     }
 }
 
+// The label that an instruction is.
+fn label_of(sym: Sym) -> Option<Label>
+    ensures { result ≡ stated.label_of sym }
+{
+    match sym {
+        Sym::Label(label) => Some(label),
+        Sym::SelectBank(_) => None,
+        Sym::SelectPage(_) => None,
+        Sym::File { .. } => None,
+        Sym::Movwf(_) => None,
+        Sym::Clrf(_) => None,
+        Sym::Bit { .. } => None,
+        Sym::Literal { .. } => None,
+        Sym::Plain(_) => None,
+        Sym::Call(_) => None,
+        Sym::Goto(_) => None,
+    }
+}
+
 /// Where the blocks of a program and the labels of its start block stand.
 pub fn marks_of(alloc: Global, s: &SymProgram, at: &[u16]) -> Result<Marks, AllocError>
     requires { Fit s.now.blocks.items at.now }
+    ensures { IfOk result (AreMarks s.now.blocks.items at.now) }
 {
     let mut marks = Marks::none(alloc);
     for (number, block) in s.blocks.iter().enumerate() {
@@ -105,6 +146,24 @@ pub fn marks_of(alloc: Global, s: &SymProgram, at: &[u16]) -> Result<Marks, Allo
     Ok(marks)
 }
 
+fn put_inner(
+    labels: &mut BTreeMap<u32, u16>,
+    label: Option<Label>,
+    at: u16,
+) -> Result<(), AllocError>
+    ensures { OnOk result ((asked : ℕ) → get nat_cmp labels.new asked ≡ option_or (at_if (is_label (Inner asked) label) at) (get nat_cmp labels.old asked)) }
+{
+    match label {
+        Some(Label::Inner(number)) => {
+            labels.insert(number, at)?;
+        }
+        Some(Label::Halt) => {}
+        Some(Label::Restore) => {}
+        None => {}
+    }
+    Ok(())
+}
+
 /// Where the inner labels of a block stand that stands at an address.
 pub fn inner_labels(
     alloc: Global,
@@ -112,13 +171,12 @@ pub fn inner_labels(
     at: u16,
 ) -> Result<BTreeMap<u32, u16>, AllocError>
     requires { at + words_in block.now.list.items ≤ 8192 }
+    ensures { IfOk result (AreInner block.now at) }
 {
     let mut labels = BTreeMap::new(alloc);
     let mut pc = at as u64;
     for sym in &block.list {
-        if let Sym::Label(Label::Inner(number)) = *sym {
-            labels.insert(number, pc as u16)?;
-        }
+        put_inner(&mut labels, label_of(*sym), pc as u16)?;
         pc += words_of_one(*sym);
     }
     Ok(labels)

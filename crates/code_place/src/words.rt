@@ -1,11 +1,13 @@
 //! The instructions of the chip that symbolic ones stand for.
 
-ghost use Rattle.std.specs.Prelude.{◌≡◌, ◌<◌, ◌%◌, ℕ, true, length, map, Option, Some, None, IfSome};
+ghost use Rattle.std.specs.Prelude.{◌≡◌, ◌<◌, ◌%◌, ℕ, true, length, map, Option, Some, None, IsSome, IfSome, OnSome};
 ghost use Rattle.std.specs.BTreeMap.{get};
 ghost use Rattle.pic_isa.specs.Table.{IsWellFormed};
 ghost use Rattle.sym_code.specs.WellFormed.{is_well_formed};
+ghost use Rattle.code_place.specs.Addresses as placing;
 ghost use Rattle.code_place.specs.Instructions as stated;
 ghost use Rattle.code_place.specs.Marks.{target_in};
+ghost use Rattle.code_place.specs.Places.{HasAddress, HasLiteral};
 ghost use Rattle.code_place.specs.Rows.{list_of, AreWellFormed};
 ghost use Rattle.code_place.specs.Sizes.{words_of_one};
 
@@ -39,6 +41,7 @@ impl<'a> Scope<'a> {
     fn low(&self, file: Operand) -> Option<u8>
         ensures value { IfSome result (λ f. f ≡ stated.low self.now.placed.now file) }
         ensures range { IfSome result (λ f. f < 128) }
+        ensures named { OnSome result (IsSome (placing.file_address self.now.placed.now file)) }
     {
         match file_address(self.placed, file) {
             Some(at) => Some((at % 128) as u8),
@@ -55,6 +58,7 @@ impl<'a> Scope<'a> {
     fn literal(&self, value: Literal) -> Option<u16>
         ensures value { IfSome result (λ k. k ≡ stated.literal_of self.now.placed.now value) }
         ensures range { IfSome result (λ k. k < 256) }
+        ensures named { OnSome result (HasLiteral self.now.placed.now value) }
     {
         match value {
             Literal::Number(number) => Some(number as u16),
@@ -73,6 +77,7 @@ impl<'a> Scope<'a> {
     pub fn rows(&self, sym: Sym) -> Option<Rows>
         requires { is_well_formed sym ≡ true }
         ensures value { IfSome result (λ rows. list_of rows ≡ stated.rows self.now.placed.now (target_in self.now.marks.now self.now.inner.now) sym) }
+        ensures named { OnSome result (HasAddress self.now.placed.now (target_in self.now.marks.now self.now.inner.now) sym) }
         ensures fit { IfSome result AreWellFormed }
         ensures count { IfSome result (λ rows. length (list_of rows) ≡ words_of_one sym) }
     {

@@ -1,5 +1,6 @@
 use Rattle.code_place.specs.Marks.{target_in}
 use Rattle.code_place.specs.Rows.{list_of}
+use Rattle.code_place.proofs.Named.{named_turn}
 use Rattle.code_place.proofs.Written.{well_formed_in, block_more}
 use Rattle.code_place.proofs.assembly.put_block.Goals as goal
 
@@ -7,4 +8,7 @@ pub rows-requires : goal.rows-requires
 rows-requires c = well_formed_in _ _ _ _ c.deref-sym-items.ensures.value c.args.block.now.fits c.loop-sym-test.true
 
 pub loop-sym-preserved : goal.loop-sym-preserved
-loop-sym-preserved c = block_more c.args.scope.placed.now (target_in c.args.scope.marks.now c.args.scope.inner.now) _ _ _ _ _ _ _ _ _ _ (list_of c.in-Some.rows) c.deref-sym-items.ensures.value c.loop-sym-test.true c.in-Some.ensures.value c.loop-sym.invariant c.put_rows-pc.ensures.image c.put_rows-pc.ensures.behind
+loop-sym-preserved c = (
+  block_more c.args.scope.placed.now (target_in c.args.scope.marks.now c.args.scope.inner.now) _ _ _ _ _ _ _ _ _ _ (list_of c.in-Some.rows) c.deref-sym-items.ensures.value c.loop-sym-test.true c.in-Some.ensures.value c.loop-sym.invariant.0 c.put_rows-pc.ensures.image c.put_rows-pc.ensures.behind,
+  named_turn c.args.scope.placed.now (target_in c.args.scope.marks.now c.args.scope.inner.now) _ _ _ _ c.deref-sym-items.ensures.value c.loop-sym-test.true c.loop-sym.invariant.1 c.in-Some.ensures.named,
+)

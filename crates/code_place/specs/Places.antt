@@ -1,0 +1,123 @@
+-- Where the blocks and labels of a program stand whose block `k` is put at `at[k]`, and what its image then has. A label is no
+-- word: it stands where the next word does. Of two with one name the later one counts.
+use Rattle.std.specs.Prelude.{◌≡◌, ℕ, ◌+◌, ◌<◌, ◌≤◌, ◌⊎◌, Bool, false, List, [], ◌∷◌, Option, Some, None, IsSome, slice_get, slice_index, take, if◌then◌else◌}
+use Rattle.std.specs.Option.{option_or}
+use Rattle.ram_place.specs.declared.placing.Placed.{Placed}
+use Rattle.sym_code.specs.Machine.{same_name, same_label}
+use Rattle.sym_code.specs.declared.code.BlockName.{BlockName}
+use Rattle.sym_code.specs.declared.code.Label.{Label}
+use Rattle.sym_code.specs.declared.code.Label.TheVariants as labels
+use Rattle.sym_code.specs.declared.code.Literal.{Literal}
+use Rattle.sym_code.specs.declared.code.Literal.TheVariants as values
+use Rattle.sym_code.specs.declared.code.Sym.{Sym}
+use Rattle.sym_code.specs.declared.code.Sym.TheVariants as syms
+use Rattle.sym_code.specs.declared.code.SymBlock.{SymBlock}
+use Rattle.sym_code.specs.declared.code.Target.{Target}
+use Rattle.sym_code.specs.declared.code.Target.TheVariants as targets
+use Rattle.code_place.specs.Addresses.{address_of, file_address}
+use Rattle.code_place.specs.Image.{Holds}
+use Rattle.code_place.specs.Instructions.{words}
+use Rattle.code_place.specs.Sizes.{words_of_one, words_in}
+
+-- ---- labels and blocks
+abbrev pub label_of : Sym → Option Label
+label_of (syms.Label label) = Some label
+label_of _ = None
+
+abbrev pub is_label : Label → Option Label → Bool
+is_label label (Some here) = same_label here label
+is_label label None = false
+
+abbrev pub at_if : Bool → ℕ → Option ℕ
+at_if holds at = if holds then Some at else None
+
+-- a label of instructions that stand at an address
+abbrev pub label_at : Label → ℕ → List Sym → Option ℕ
+label_at label at [] = None
+label_at label at (s ∷ list) = option_or (label_at label (at + words_of_one s) list) (at_if (is_label label (label_of s)) at)
+
+-- the last place among those that blocks at addresses have
+abbrev pub last_place : (SymBlock → ℕ → Option ℕ) → List SymBlock → List ℕ → Option ℕ
+last_place place [] at = None
+last_place place (block ∷ blocks) [] = None
+last_place place (block ∷ blocks) (start ∷ at) = option_or (last_place place blocks at) (place block start)
+
+abbrev pub block_place : List SymBlock → List ℕ → BlockName → Option ℕ
+block_place blocks at name = last_place (λ block start. at_if (same_name block.name name) start) blocks at
+
+abbrev pub label_place : List SymBlock → List ℕ → Label → Option ℕ
+label_place blocks at label = last_place (λ block start. label_at label start block.list.items) blocks at
+
+-- Where a label stands for a block at an address: an inner one is one of its own.
+abbrev pub label_for : List SymBlock → List ℕ → SymBlock → ℕ → Label → Option ℕ
+label_for blocks at block start (labels.Inner number) = label_at (labels.Inner number) start block.list.items
+label_for blocks at block start labels.Halt = label_place blocks at labels.Halt
+label_for blocks at block start labels.Restore = label_place blocks at labels.Restore
+
+abbrev pub target_for : List SymBlock → List ℕ → SymBlock → ℕ → Target → Option ℕ
+target_for blocks at block start (targets.Block name) = block_place blocks at name
+target_for blocks at block start (targets.Label label) = label_for blocks at block start label
+
+-- ---- what the places are
+-- the label is one of these instructions, and the address that of the word behind it
+abbrev pub LabelStands : Label → ℕ → List Sym → ℕ → Type 0
+LabelStands label start list address = (i : ℕ) × (slice_get list i ≡ Some (syms.Label label)) × (address ≡ start + words_in (take i list))
+
+-- the label is one of some block
+abbrev pub LabelStandsIn : List SymBlock → List ℕ → Label → ℕ → Type 0
+LabelStandsIn blocks at label address = (k : ℕ) × (block : SymBlock) × (start : ℕ) × (slice_get blocks k ≡ Some block) × (slice_get at k ≡ Some start) × LabelStands label start block.list.items address
+
+-- a block of that name is put at the address
+abbrev pub BlockStands : List SymBlock → List ℕ → BlockName → ℕ → Type 0
+BlockStands blocks at name address = (k : ℕ) × (block : SymBlock) × (slice_get blocks k ≡ Some block) × (slice_get at k ≡ Some address) × (block.name ≡ name)
+
+abbrev pub TargetStands : List SymBlock → List ℕ → SymBlock → ℕ → Target → ℕ → Type 0
+TargetStands blocks at block start (targets.Block name) address = BlockStands blocks at name address
+TargetStands blocks at block start (targets.Label (labels.Inner number)) address = LabelStands (labels.Inner number) start block.list.items address
+TargetStands blocks at block start (targets.Label labels.Halt) address = LabelStandsIn blocks at labels.Halt address
+TargetStands blocks at block start (targets.Label labels.Restore) address = LabelStandsIn blocks at labels.Restore address
+
+-- a target that has an address stands there
+abbrev pub TargetsStand : List SymBlock → List ℕ → Type 0
+TargetsStand blocks at = (block : SymBlock) (start : ℕ) (target : Target) (address : ℕ) → target_for blocks at block start target ≡ Some address → TargetStands blocks at block start target address
+
+-- ---- the image
+-- each block's words stand at its address
+abbrev pub HoldsBlocks : Placed → List SymBlock → List ℕ → List ℕ → Type 0
+HoldsBlocks placed blocks at image = (k : ℕ) (block : SymBlock) (start : ℕ) → slice_get blocks k ≡ Some block → slice_get at k ≡ Some start → Holds image start (words placed (target_for blocks at block start) block.list.items)
+
+-- no block has a word at the address
+abbrev pub IsFree : List SymBlock → List ℕ → ℕ → Type 0
+IsFree blocks at address = (k : ℕ) (block : SymBlock) (start : ℕ) → slice_get blocks k ≡ Some block → slice_get at k ≡ Some start → (address < start) ⊎ (start + words_in block.list.items ≤ address)
+
+-- all other words of the memory are as after an erase: every bit is 1 (Microchip data sheet DS39582, program memory)
+abbrev pub IsErasedElsewhere : List SymBlock → List ℕ → List ℕ → Type 0
+IsErasedElsewhere blocks at image = (address : ℕ) → address < 8192 → IsFree blocks at address → slice_index image address ≡ 0x3fff
+
+-- ---- names
+abbrev pub HasLiteral : Placed → Literal → Type 0
+HasLiteral placed (values.Number number) = Unit {0}
+HasLiteral placed (values.Low byte) = IsSome (address_of placed byte)
+HasLiteral placed (values.High byte) = IsSome (address_of placed byte)
+
+-- what an instruction names has an address
+abbrev pub HasAddress : Placed → (Target → Option ℕ) → Sym → Type 0
+HasAddress placed target (syms.Label label) = Unit {0}
+HasAddress placed target (syms.SelectBank byte) = IsSome (address_of placed byte)
+HasAddress placed target (syms.SelectPage to) = IsSome (target to)
+HasAddress placed target (syms.File op file into) = IsSome (file_address placed file)
+HasAddress placed target (syms.Movwf file) = IsSome (file_address placed file)
+HasAddress placed target (syms.Clrf file) = IsSome (file_address placed file)
+HasAddress placed target (syms.Bit op file b) = IsSome (file_address placed file)
+HasAddress placed target (syms.Literal op value) = HasLiteral placed value
+HasAddress placed target (syms.Plain op) = Unit {0}
+HasAddress placed target (syms.Call to) = IsSome (target to)
+HasAddress placed target (syms.Goto to) = IsSome (target to)
+
+-- the same of each instruction of a list
+abbrev pub HaveAddresses : Placed → (Target → Option ℕ) → List Sym → Type 0
+HaveAddresses placed target [] = Unit {0}
+HaveAddresses placed target (s ∷ list) = HasAddress placed target s × HaveAddresses placed target list
+
+abbrev pub BlocksHaveAddresses : Placed → List SymBlock → List ℕ → Type 0
+BlocksHaveAddresses placed blocks at = (k : ℕ) (block : SymBlock) (start : ℕ) → slice_get blocks k ≡ Some block → slice_get at k ≡ Some start → HaveAddresses placed (target_for blocks at block start) block.list.items
