@@ -1,2 +1,3 @@
 pub mod HexFile
 pub mod HexText
+pub mod Marks

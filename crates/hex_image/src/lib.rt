@@ -1,8 +1,9 @@
 // Intel HEX files of program memory.
 //
-// In: an image. Out: the text of its HEX file.
-// The promise: the text is the one fixed form of that image, and by the rules of the format it
-// is a file of that image and of no other.
+// In: an image, or the text of a HEX file. Out: the text of the image's HEX file; the image of the file, or where the text
+// first breaks the format.
+// The promise: what is written is the one fixed form of that image, and by the rules of the format it is a file of that
+// image and of no other. A text is read exactly where it is a HEX file, and what is read is its image.
 #![tactic(auto)]
 
 ghost use Rattle.std.specs.Prelude.{◌≡◌, ◌<◌, ◌++◌, ◌∷◌, [], ℕ, List, OnOk, IfOk, length};
@@ -10,6 +11,13 @@ ghost use Rattle.hex_image.specs.HexFile.{IsHexFile};
 ghost use Rattle.hex_image.specs.HexText as spec;
 ghost use Rattle.pic_chip.specs.Text.{hex_pairs};
 ghost use Rattle.pic_chip.specs.Words.{AreWords};
+
+mod given;
+mod read;
+#[cfg(test)]
+mod read_tests;
+
+pub use read::{HexError, read_hex};
 
 use pic_chip::Image;
 use pic_chip::image::BLANK;
