@@ -18,7 +18,7 @@ pub data Told : Type 0 where
 -- an end has no data
 abbrev pub end_with : ℕ → List ℕ → Result Told HexError
 end_with k [] = Ok End
-end_with k (b ∷ data) = Err (BadRecord k)
+end_with k (b ∷ bytes) = Err (BadRecord k)
 
 -- upper bits are two bytes, the high one first
 abbrev pub upper_with : ℕ → List ℕ → Result Told HexError
@@ -53,6 +53,10 @@ pairs_in k None = Err (BadRecord k)
 abbrev pub line_bytes : ℕ → ℕ → List ℕ → Result (List ℕ) HexError
 line_bytes k first digits = if nat_eq first 58 then pairs_in k (bytes_of digits) else Err (BadRecord k)
 
+abbrev pub told_in : ℕ → Result (List ℕ) HexError → Result Told HexError
+told_in k (Ok bytes) = record_of k bytes
+told_in k (Err e) = Err e
+
 -- bytes from an address on, behind those that were given before: each below 4400h, and where none was given
 unfoldable pub placed : ℕ → List Given → ℕ → List ℕ → Result (List Given) HexError
 placed k given address [] = Ok given
@@ -75,13 +79,9 @@ after_record k upper given (Ok End) = Ok (None, given)
 after_record k upper given (Ok (Upper bits)) = Ok (Some bits, given)
 after_record k upper given (Err e) = Err e
 
-abbrev pub after_bytes : ℕ → ℕ → List Given → Result (List ℕ) HexError → Result Next HexError
-after_bytes k upper given (Ok bytes) = after_record k upper given (record_of k bytes)
-after_bytes k upper given (Err e) = Err e
-
 unfoldable pub after_line : ℕ → ℕ → List Given → List ℕ → Result Next HexError
 after_line k upper given [] = Ok (Some upper, given)
-after_line k upper given (first ∷ digits) = after_bytes k upper given (line_bytes k first digits)
+after_line k upper given (first ∷ digits) = after_record k upper given (told_in k (line_bytes k first digits))
 
 abbrev pub go_on : Result Next HexError → (ℕ → List Given → Result (List Given) HexError) → Result (List Given) HexError
 go_on (Ok (Some upper, given)) rest = rest upper given

@@ -1,6 +1,6 @@
 //! The bytes that the records of a file give.
 
-ghost use Rattle.std.specs.Prelude.{◌≡◌, ◌<◌, ◌++◌, ◌∷◌, [], nat_lt, replicate, IfOk, OnOk};
+ghost use Rattle.std.specs.Prelude.{◌≡◌, ◌<◌, ◌++◌, ◌∷◌, [], nat_lt, false, replicate, IfOk, OnOk};
 ghost use Rattle.hex_image.specs.HexFile.{times};
 
 use std::alloc::{AllocError, Global};
@@ -36,7 +36,7 @@ impl Given {
     pub fn nothing(alloc: Global) -> Result<Given, AllocError>
         ensures { IfOk result (λ given. given ≡ []) }
     {
-        let marks = unmarked(alloc)?;
+        let marks = unmarked(alloc, LIMIT as usize)?;
         Ok(Given {
             bytes: Vec::new(alloc),
             marks,
@@ -69,8 +69,9 @@ impl Given {
     }
 }
 
-fn unmarked(alloc: Global) -> Result<Vec<bool>, AllocError>
-    ensures { IfOk result (λ marks. marks.items ≡ replicate 0x4400 false) }
+fn unmarked(alloc: Global, count: usize) -> Result<Vec<bool>, AllocError>
+    ensures { IfOk result (λ marks. marks.items ≡ replicate count false) }
 {
-    vec![in alloc; false; LIMIT as usize]
+    let marks = vec![in alloc; false; count]?;
+    Ok(marks)
 }

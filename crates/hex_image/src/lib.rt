@@ -17,10 +17,9 @@ mod read;
 #[cfg(test)]
 mod read_tests;
 
-pub use read::{HexError, read_hex};
-
 use pic_chip::Image;
 use pic_chip::image::BLANK;
+pub use read::{HexError, read_hex};
 use std::alloc::{AllocError, Global};
 
 /// How many words a record holds.

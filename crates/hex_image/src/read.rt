@@ -1,10 +1,12 @@
 //! The image of a HEX file.
 
-ghost use Rattle.std.specs.Prelude.{◌≡◌, ◌<◌, ◌≤◌, ◌^◌, ℕ, List, length, Ok, IfOk};
+ghost use Rattle.std.specs.Prelude.{◌≡◌, ◌<◌, ◌≤◌, ◌^◌, ◌+◌, ◌*◌, ℕ, List, length, Ok, IfOk, IfErr};
 ghost use Rattle.hex_image.specs.declared.read.HexError.TheVariants.{NoMemory};
 ghost use Rattle.hex_image.specs.HexFile.{IsHexFile, times};
 ghost use Rattle.hex_image.specs.Reading as reading;
-ghost use Rattle.hex_image.specs.Answers.{GivesImage, IsImage, Finds, Leads, Places, Tells, Spells};
+ghost use Rattle.hex_image.specs.Answers.{Refuses, Gives, GivesImage, IsFilled, told_by, undecoded};
+ghost use Rattle.hex_image.specs.Filling.{with_byte};
+ghost use Rattle.pic_chip.specs.Words.{AreWords};
 
 use crate::checksum;
 use crate::given::{Given, LIMIT};
@@ -65,14 +67,31 @@ enum Record<'a> {
 /// The image of a HEX file (Intel, Hexadecimal Object File Format Specification; kinds 00, 01 and 04).
 /// Digits may be of either case, and a CR before a line's end is no part of the line. Bytes from 4000h on,
 /// which aren't program memory, are dropped.
+#[tactic(auto, using(crate::proofs::Found::found, crate::proofs::Found::only, crate::proofs::Found::refused))]
 pub fn read_hex(alloc: Global, bytes: &[u8]) -> Result<Image, HexError>
     requires { length bytes.now < 2 ^ 32 }
+    // What is read is a HEX file of the image.
+    ensures found { IfOk result (λ image. IsHexFile bytes.now image) }
+    // What is a HEX file is read, unless memory runs out.
+    ensures only { (image : List ℕ) → IsHexFile bytes.now image → Gives (λ i. i) result (Ok image) }
+    // An error tells the first record that breaks a check, and the first check that it breaks.
+    ensures refused { IfErr result (λ error. Refuses error (reading.reading_of bytes.now)) }
+{
+    read_image(alloc, bytes)
+}
+
+fn read_image(alloc: Global, bytes: &[u8]) -> Result<Image, HexError>
+    requires { length bytes.now < 2 ^ 32 }
+    ensures exact { GivesImage result (reading.reading_of bytes.now) }
 {
     let given = read_lines(alloc, bytes)?;
     Ok(filled(alloc, given.bytes())?)
 }
 
-fn read_lines(alloc: Global, bytes: &[u8]) -> Result<Given, HexError> {
+fn read_lines(alloc: Global, bytes: &[u8]) -> Result<Given, HexError>
+    requires { length bytes.now < 2 ^ 32 }
+    ensures exact { Gives (λ given. given) result (reading.reading_of bytes.now) }
+{
     let mut given = Given::nothing(alloc)?;
     let mut upper = 0u16;
     let mut before = 0u32;
@@ -95,7 +114,9 @@ fn take_line(
     upper: u16,
     number: u32,
     line: &[u8],
-) -> Result<Option<u16>, HexError> {
+) -> Result<Option<u16>, HexError>
+    ensures { Gives (λ next. (next, given.new)) result (reading.after_line number upper given.old line.now) }
+{
     let [first, digits @ ..] = line else {
         return Ok(Some(upper));
     };
@@ -111,24 +132,32 @@ fn take_line(
 }
 
 /// The bytes of a line: a colon, and pairs of digits.
-fn line_bytes(
-    alloc: Global,
-    number: u32,
-    first: u8,
-    digits: &[u8],
-) -> Result<Vec<u8>, HexError> {
+fn line_bytes(alloc: Global, number: u32, first: u8, digits: &[u8]) -> Result<Vec<u8>, HexError>
+    ensures { Gives (λ bytes. bytes.items) result (reading.line_bytes number first digits.now) }
+{
     if first != b':' {
         return Err(HexError::BadRecord { line: number });
     }
     match hex::decode(alloc, digits) {
         Ok(bytes) => Ok(bytes),
-        Err(FromHexError::OutOfMemory) => Err(HexError::NoMemory),
-        Err(_) => Err(HexError::BadRecord { line: number }),
+        Err(error) => Err(undecoded(number, error)),
+    }
+}
+
+fn undecoded(number: u32, error: FromHexError) -> HexError
+    ensures { result ≡ undecoded number error }
+{
+    match error {
+        FromHexError::OutOfMemory => HexError::NoMemory,
+        _ => HexError::BadRecord { line: number },
     }
 }
 
 /// What the bytes of a record tell, or the first check that they fail.
-fn record_of(number: u32, bytes: &[u8]) -> Result<Record, HexError> {
+#[tactic(auto, using(crate::proofs::Pairs::short))]
+fn record_of(number: u32, bytes: &[u8]) -> Result<Record, HexError>
+    ensures { Gives told_by result (reading.record_of number bytes.now) }
+{
     let [count, high, low, kind, rest @ ..] = bytes else {
         return Err(HexError::BadRecord { line: number });
     };
@@ -144,6 +173,7 @@ fn record_of(number: u32, bytes: &[u8]) -> Result<Record, HexError> {
 
 fn wrong_sum(number: u32, bytes: &[u8]) -> HexError
     requires { 0 < length bytes.now }
+    ensures { result ≡ reading.wrong_sum number bytes.now }
 {
     let last = bytes.len() - 1;
     HexError::Checksum {
@@ -154,7 +184,9 @@ fn wrong_sum(number: u32, bytes: &[u8]) -> HexError
 }
 
 /// What a kind with its address and data tells.
-fn told(number: u32, kind: u8, address: u16, bytes: &[u8]) -> Result<Record, HexError> {
+fn told(number: u32, kind: u8, address: u16, bytes: &[u8]) -> Result<Record, HexError>
+    ensures { Gives told_by result (reading.told number kind address bytes.now) }
+{
     match kind {
         0 => Ok(Record::Data { address, bytes }),
         1 => match bytes {
@@ -170,7 +202,10 @@ fn told(number: u32, kind: u8, address: u16, bytes: &[u8]) -> Result<Record, Hex
 }
 
 /// Gives bytes from an address on, each below 4400h and where none was given.
-fn place(given: &mut Given, number: u32, address: u32, bytes: &[u8]) -> Result<(), HexError> {
+#[tactic(auto, unfolding(crate::specs::Reading::placed))]
+fn place(given: &mut Given, number: u32, address: u32, bytes: &[u8]) -> Result<(), HexError>
+    ensures { Gives (λ _. given.new) result (reading.placed number given.old address bytes.now) }
+{
     let mut at = address;
     let mut left = bytes;
     while let [byte, rest @ ..] = left {
@@ -194,7 +229,11 @@ fn place(given: &mut Given, number: u32, address: u32, bytes: &[u8]) -> Result<(
 }
 
 /// The image of which each byte below 4000h is the given one, or erased.
-fn filled(alloc: Global, given: &[(u16, u8)]) -> Result<Image, AllocError> {
+#[tactic(auto, using(crate::proofs::Filled::blank_filled))]
+fn filled(alloc: Global, given: &[(u16, u8)]) -> Result<Image, AllocError>
+    requires once { (a : ℕ) → times given.now a ≤ 1 }
+    ensures { IfOk result (λ image. IsFilled given.now image) }
+{
     let mut image = Image::blank(alloc)?;
     for (address, byte) in given {
         if *address < MEMORY_BYTES {
@@ -207,6 +246,8 @@ fn filled(alloc: Global, given: &[(u16, u8)]) -> Result<Image, AllocError> {
 /// Puts the low byte of a word at an even address, and what it has of the high byte, six bits, at an odd one.
 fn put_byte(image: &mut Image, address: u16, byte: u8)
     requires { address < 0x4000 }
+    ensures value { image.new ≡ with_byte image.old address byte }
+    ensures words { AreWords image.new }
 {
     let at = address / 2;
     let word = image.word(at);

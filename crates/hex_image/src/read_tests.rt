@@ -106,7 +106,8 @@ const REFUSED: [(&str, HexError); 28] = [
 #[test]
 fn what_is_given_is_read(rt: HostRuntime) -> Result<(), Fail> {
     // GOTO 5 at 0, of the word at 1 its low byte, and of the word at 2 its high byte, whose two upper bits are dropped.
-    let text = ":020000040000fa\r\n:020000000528d1\r\n\r\n:01000200639A\n:01000500C139\n:00000001FF\n";
+    let text =
+        ":020000040000fa\r\n:020000000528d1\r\n\r\n:01000200639A\n:01000500C139\n:00000001FF\n";
     let image = read_hex(rt.alloc(), text.as_bytes())?;
     assert_eq!(rt; image.word(0), 0x2805);
     assert_eq!(rt; image.word(1), 0x3f63);
