@@ -42,66 +42,63 @@ byte_other given a b c d h =
     let one : byte_at ((a, b) ∷ []) c d ≡ d = rw other refl in
     byte-append given ((a, b) ∷ []) c d ∙ ap (byte_at given c) one
 
+-- the word at w of the image is made of the bytes that are given
+abbrev IsMade : List ℕ → List Given → ℕ → Type 0
+IsMade image given w = slice_index image w ≡ byte_at given (2 * w) 0xff + 256 * (byte_at given (2 * w + 1) 0xff % 64)
+
+-- the other words are as before
+others : (given : List Given) (image : List ℕ) (a b v w : ℕ) → IsMade image given w → w ≢ a / 2 → IsMade (slice_set image (a / 2) v) (given ++ (a, b) ∷ []) w
+others given image a b v w made n =
+    let first = byte_other given a b (2 * w) 0xff (λ e. n (omega (arith, e))) in
+    let second = byte_other given a b (2 * w + 1) 0xff (λ e. n (omega (arith, e))) in
+    get_or-set_other image (a / 2) w v 0 n ∙ made ∙ rw (first, second) refl
+
+set_here : (image : List ℕ) (at v w : ℕ) → at < length image → w ≡ at → slice_index (slice_set image at v) w ≡ v
+set_here image at v w h same = ap (slice_index (slice_set image at v)) same ∙ get_or-set_same image at v 0 h
+
+low_here : (given : List Given) (image : List ℕ) (a b w : ℕ) → a / 2 < length image → times given a ≡ 0 → a % 2 ≡ 0 → IsMade image given w → w ≡ a / 2
+    → IsMade (slice_set image (a / 2) (256 * (slice_index image (a / 2) / 256) + b)) (given ++ (a, b) ∷ []) w
+low_here given image a b w long free even made same =
+    let place : 2 * w ≡ a = omega (arith, same, even) in
+    let beside : a ≢ 2 * w + 1 = omega (arith, same, even) in
+    let first : byte_at (given ++ (a, b) ∷ []) (2 * w) 0xff ≡ b = ap (λ c. byte_at (given ++ (a, b) ∷ []) c 0xff) place ∙ byte_here given a b 0xff free in
+    let second : byte_at (given ++ (a, b) ∷ []) (2 * w + 1) 0xff ≡ byte_at given (2 * w + 1) 0xff = byte_other given a b (2 * w + 1) 0xff beside in
+    let before : byte_at given (2 * w) 0xff ≡ 0xff = ap (λ c. byte_at given c 0xff) place ∙ byte_free given a 0xff free in
+    let old : slice_index image (a / 2) ≡ slice_index image w = ap (slice_index image) (sym same) in
+    set_here image (a / 2) (256 * (slice_index image (a / 2) / 256) + b) w long same ∙ rw (first, second) (omega (arith, old, made, before))
+
+high_here : (given : List Given) (image : List ℕ) (a b w : ℕ) → a / 2 < length image → times given a ≡ 0 → a % 2 ≢ 0 → IsMade image given w → slice_index image w < 0x4000 → w ≡ a / 2
+    → IsMade (slice_set image (a / 2) (256 * (b % 64) + slice_index image (a / 2) % 256)) (given ++ (a, b) ∷ []) w
+high_here given image a b w long free odd made small same =
+    let place : 2 * w + 1 ≡ a = omega (arith, same, odd) in
+    let beside : a ≢ 2 * w = omega (arith, same, odd) in
+    let first : byte_at (given ++ (a, b) ∷ []) (2 * w) 0xff ≡ byte_at given (2 * w) 0xff = byte_other given a b (2 * w) 0xff beside in
+    let second : byte_at (given ++ (a, b) ∷ []) (2 * w + 1) 0xff ≡ b = ap (λ c. byte_at (given ++ (a, b) ∷ []) c 0xff) place ∙ byte_here given a b 0xff free in
+    let before : byte_at given (2 * w + 1) 0xff ≡ 0xff = ap (λ c. byte_at given c 0xff) place ∙ byte_free given a 0xff free in
+    let old : slice_index image (a / 2) ≡ slice_index image w = ap (slice_index image) (sym same) in
+    set_here image (a / 2) (256 * (b % 64) + slice_index image (a / 2) % 256) w long same ∙ rw (first, second) (omega (arith, old, made, before, small))
+
 one_more : (given : List Given) (image : List ℕ) (a b : ℕ) → IsFilled given image → times given a ≡ 0 → a < 0x4000 → AreWords (with_byte image a b) → IsFilled (given ++ (a, b) ∷ []) (with_byte image a b)
 one_more given image a b filled free low words = record {
   words = words;
   each = λ w h. by_test (nat_eq (a % 2) 0) refl w h;
 }
   where
-    at : ℕ
-    at = a / 2
-
-    long : length image ≡ 8192
-    long = filled.words.count
-
-    old : slice_index image at ≡ byte_at given (2 * at) 0xff + 256 * (byte_at given (2 * at + 1) 0xff % 64)
-    old = filled.each at (omega (arith, low))
-
-    small : slice_index image at < 0x4000
-    small = filled.words.each at
-
-    others : (v w : ℕ) → w < 8192 → w ≢ at → 2 * w ≢ a → 2 * w + 1 ≢ a
-        → slice_index (slice_set image at v) w ≡ byte_at (given ++ (a, b) ∷ []) (2 * w) 0xff + 256 * (byte_at (given ++ (a, b) ∷ []) (2 * w + 1) 0xff % 64)
-    others v w h n l m =
-        let first = byte_other given a b (2 * w) 0xff (λ e. l (sym e)) in
-        let second = byte_other given a b (2 * w + 1) 0xff (λ e. m (sym e)) in
-        get_or-set_other image at w v 0 n ∙ filled.each w h ∙ rw (first, second) refl
+    long : a / 2 < length image
+    long = let count = filled.words.count in omega (arith, low, count)
 
     by_test : (t : Bool) → nat_eq (a % 2) 0 ≡ t → (w : ℕ) → w < 8192
-        → slice_index (if t then slice_set image (a / 2) (256 * (slice_index image (a / 2) / 256) + b) else slice_set image (a / 2) (256 * (b % 64) + slice_index image (a / 2) % 256)) w
-        ≡ byte_at (given ++ (a, b) ∷ []) (2 * w) 0xff + 256 * (byte_at (given ++ (a, b) ∷ []) (2 * w + 1) 0xff % 64)
+        → IsMade (if t then slice_set image (a / 2) (256 * (slice_index image (a / 2) / 256) + b) else slice_set image (a / 2) (256 * (b % 64) + slice_index image (a / 2) % 256)) (given ++ (a, b) ∷ []) w
     by_test true t w h =
-        let even = eqb-true (a % 2) 0 t in
         ⊎_elim
-        (λ same.
-        let place : 2 * w ≡ a = omega (arith, same, even) in
-        let beside : a ≢ 2 * w + 1 = omega (arith, same, even) in
-        let first : byte_at (given ++ (a, b) ∷ []) (2 * w) 0xff ≡ b = ap (λ c. byte_at (given ++ (a, b) ∷ []) c 0xff) place ∙ byte_here given a b 0xff free in
-        let second = byte_other given a b (2 * w + 1) 0xff beside in
-        let before : byte_at given (2 * at) 0xff ≡ 0xff = ap (λ c. byte_at given c 0xff) (omega (arith, even)) ∙ byte_free given a 0xff free in
-        let place_at : 2 * w + 1 ≡ 2 * at + 1 = omega (arith, same) in
-        let high : byte_at given (2 * w + 1) 0xff ≡ byte_at given (2 * at + 1) 0xff = ap (λ c. byte_at given c 0xff) place_at in
-        let new : slice_index (slice_set image at (256 * (slice_index image at / 256) + b)) w ≡ 256 * (slice_index image at / 256) + b
-        = ap (slice_index (slice_set image at (256 * (slice_index image at / 256) + b))) same ∙ get_or-set_same image at (256 * (slice_index image at / 256) + b) 0 (omega (arith, long, low)) in
-        new ∙ rw (first, second, high) (omega (arith, old, before)))
-        (λ other. others (256 * (slice_index image at / 256) + b) w h other (λ e. other (omega (arith, e))) (λ e. other (omega (arith, e))))
-        (cases_eq w at)
+        (λ same. low_here given image a b w long free (eqb-true (a % 2) 0 t) (filled.each w h) same)
+        (λ other. others given image a b (256 * (slice_index image (a / 2) / 256) + b) w (filled.each w h) other)
+        (cases_eq w (a / 2))
     by_test false t w h =
-        let odd : a % 2 ≢ 0 = eqb-false (a % 2) 0 t in
         ⊎_elim
-        (λ same.
-        let place : 2 * w + 1 ≡ a = omega (arith, same, odd) in
-        let beside : a ≢ 2 * w = omega (arith, same, odd) in
-        let second : byte_at (given ++ (a, b) ∷ []) (2 * w + 1) 0xff ≡ b = ap (λ c. byte_at (given ++ (a, b) ∷ []) c 0xff) place ∙ byte_here given a b 0xff free in
-        let first = byte_other given a b (2 * w) 0xff beside in
-        let before : byte_at given (2 * at + 1) 0xff ≡ 0xff = ap (λ c. byte_at given c 0xff) (omega (arith, odd)) ∙ byte_free given a 0xff free in
-        let place_at : 2 * w ≡ 2 * at = omega (arith, same) in
-        let low_byte : byte_at given (2 * w) 0xff ≡ byte_at given (2 * at) 0xff = ap (λ c. byte_at given c 0xff) place_at in
-        let new : slice_index (slice_set image at (256 * (b % 64) + slice_index image at % 256)) w ≡ 256 * (b % 64) + slice_index image at % 256
-        = ap (slice_index (slice_set image at (256 * (b % 64) + slice_index image at % 256))) same ∙ get_or-set_same image at (256 * (b % 64) + slice_index image at % 256) 0 (omega (arith, long, low)) in
-        new ∙ rw (first, second, low_byte) (omega (arith, old, before, small)))
-        (λ other. others (256 * (b % 64) + slice_index image at % 256) w h other (λ e. other (omega (arith, e))) (λ e. other (omega (arith, e))))
-        (cases_eq w at)
+        (λ same. high_here given image a b w long free (eqb-false (a % 2) 0 t) (filled.each w h) (filled.words.each w) same)
+        (λ other. others given image a b (256 * (b % 64) + slice_index image (a / 2) % 256) w (filled.each w h) other)
+        (cases_eq w (a / 2))
 
 one_passed : (given : List Given) (image : List ℕ) (a b : ℕ) → IsFilled given image → 0x4000 ≤ a → IsFilled (given ++ (a, b) ∷ []) image
 one_passed given image a b filled high = record {

@@ -41,7 +41,11 @@ pub record IsFilled (given : List Given) (image : List ℕ) : Type 0 where
   pub words : AreWords image
   pub each : (w : ℕ) → w < 8192 → slice_index image w ≡ byte_at given (2 * w) 0xff + 256 * (byte_at given (2 * w + 1) 0xff % 64)
 
+-- the image is made of what is read of the text
+abbrev pub IsReadAs : List ℕ → List ℕ → Type 0
+IsReadAs text image = (given : List Given) × (reading.reading_of text ≡ Ok given) × IsFilled given image
+
 -- the image is made of what is read, or the error is that of the reading
-abbrev pub GivesImage : Result (List ℕ) HexError → Result (List Given) HexError → Type 0
-GivesImage (Ok image) read = (given : List Given) × (read ≡ Ok given) × IsFilled given image
-GivesImage (Err e) read = Refuses e read
+abbrev pub GivesImage : Result (List ℕ) HexError → List ℕ → Type 0
+GivesImage (Ok image) text = IsReadAs text image
+GivesImage (Err e) text = Refuses e (reading.reading_of text)

@@ -6,8 +6,9 @@
 // image and of no other. A text is read exactly where it is a HEX file, and what is read is its image.
 #![tactic(auto)]
 
-ghost use Rattle.std.specs.Prelude.{◌≡◌, ◌<◌, ◌++◌, ◌∷◌, [], ℕ, List, OnOk, IfOk, length};
+ghost use Rattle.std.specs.Prelude.{◌≡◌, ◌<◌, ◌↔◌, ◌++◌, ◌∷◌, [], ℕ, List, OnOk, IfOk, length};
 ghost use Rattle.hex_image.specs.HexFile.{IsHexFile};
+ghost use Rattle.hex_image.specs.Answers.{IsReadAs};
 ghost use Rattle.hex_image.specs.HexText as spec;
 ghost use Rattle.pic_chip.specs.Text.{hex_pairs};
 ghost use Rattle.pic_chip.specs.Words.{AreWords};
@@ -51,6 +52,12 @@ pub fn write_hex(alloc: Global, image: &Image) -> Result<Vec<u8>, AllocError>
 /// By the rules of the format each text has one content at most.
 pub fn one_content()
     ensures { (text : List ℕ) (a b : List ℕ) → IsHexFile text a → IsHexFile text b → a ≡ b }
+{}
+
+/// The reading by whose errors a text is refused finds exactly the HEX files, and the image of each.
+#[tactic(auto, using(crate::proofs::Found::is_file, crate::proofs::Found::is_read))]
+pub fn exact_reading()
+    ensures { (text image : List ℕ) → (IsReadAs text image) ↔ (IsHexFile text image) }
 {}
 
 fn block(image: &Image, k: u16) -> [u16; 8]

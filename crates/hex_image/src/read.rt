@@ -82,7 +82,7 @@ pub fn read_hex(alloc: Global, bytes: &[u8]) -> Result<Image, HexError>
 
 fn read_image(alloc: Global, bytes: &[u8]) -> Result<Image, HexError>
     requires { length bytes.now < 2 ^ 32 }
-    ensures exact { GivesImage result (reading.reading_of bytes.now) }
+    ensures exact { GivesImage result bytes.now }
 {
     let given = read_lines(alloc, bytes)?;
     Ok(filled(alloc, given.bytes())?)

@@ -147,9 +147,13 @@ fn what_is_written_is_read(rt: HostRuntime) -> Result<(), Fail> {
     image.set(2048, 0x0008);
     image.set(8191, 0x0000);
     let text = write_hex(rt.alloc(), &image)?;
+    if text.len() > 65536 {
+        return Err(Fail::new("too long"));
+    }
     let again = read_hex(rt.alloc(), &text)?;
     for at in 0..8192 {
         assert_eq!(rt; again.word(at), image.word(at));
     }
+    exact_reading();
     Ok(())
 }
