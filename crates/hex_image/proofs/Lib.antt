@@ -2,3 +2,9 @@ pub mod Digits
 pub mod Bytes
 pub mod Written
 pub mod File
+pub mod Marking
+pub mod ReadLaws
+pub mod Found
+pub mod Pairs
+pub mod Filled
+pub mod Leading

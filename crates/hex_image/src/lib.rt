@@ -1,18 +1,26 @@
 // Intel HEX files of program memory.
 //
-// In: an image. Out: the text of its HEX file.
-// The promise: the text is the one fixed form of that image, and by the rules of the format it
-// is a file of that image and of no other.
+// In: an image, or the text of a HEX file. Out: the text of the image's HEX file; the image of the file, or where the text
+// first breaks the format.
+// The promise: what is written is the one fixed form of that image, and by the rules of the format it is a file of that
+// image and of no other. A text is read exactly where it is a HEX file, and what is read is its image.
 #![tactic(auto)]
 
-ghost use Rattle.std.specs.Prelude.{◌≡◌, ◌<◌, ◌++◌, ◌∷◌, [], ℕ, List, OnOk, IfOk, length};
+ghost use Rattle.std.specs.Prelude.{◌≡◌, ◌<◌, ◌↔◌, ◌++◌, ◌∷◌, [], ℕ, List, OnOk, IfOk, length};
 ghost use Rattle.hex_image.specs.HexFile.{IsHexFile};
+ghost use Rattle.hex_image.specs.Answers.{IsReadAs};
 ghost use Rattle.hex_image.specs.HexText as spec;
 ghost use Rattle.pic_chip.specs.Text.{hex_pairs};
 ghost use Rattle.pic_chip.specs.Words.{AreWords};
 
+mod given;
+mod read;
+#[cfg(test)]
+mod read_tests;
+
 use pic_chip::Image;
 use pic_chip::image::BLANK;
+pub use read::{HexError, read_hex};
 use std::alloc::{AllocError, Global};
 
 /// How many words a record holds.
@@ -44,6 +52,12 @@ pub fn write_hex(alloc: Global, image: &Image) -> Result<Vec<u8>, AllocError>
 /// By the rules of the format each text has one content at most.
 pub fn one_content()
     ensures { (text : List ℕ) (a b : List ℕ) → IsHexFile text a → IsHexFile text b → a ≡ b }
+{}
+
+/// The reading by whose errors a text is refused finds exactly the HEX files, and the image of each.
+#[tactic(auto, using(crate::proofs::Found::is_file, crate::proofs::Found::is_read))]
+pub fn exact_reading()
+    ensures { (text image : List ℕ) → (IsReadAs text image) ↔ (IsHexFile text image) }
 {}
 
 fn block(image: &Image, k: u16) -> [u16; 8]
