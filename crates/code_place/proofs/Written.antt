@@ -55,7 +55,7 @@ words_more placed target xs i d below =
     ap (words placed target) (take_more xs i d below) ∙ (words-append placed target (take i xs) (get_or xs i d ∷ []) ∙ ap (λ rest. words placed target (take i xs) ++ rest) last)
 
 -- each instruction has as many words as it is counted with
-count_one : (placed : Placed) (target : Target → Option ℕ) (s : Sym) → length (map word_of (rows placed target s)) ≡ words_of_one s
+pub count_one : (placed : Placed) (target : Target → Option ℕ) (s : Sym) → length (map word_of (rows placed target s)) ≡ words_of_one s
 count_one placed target (syms.Label label) = refl
 count_one placed target (syms.SelectBank byte) = refl
 count_one placed target (syms.SelectPage name) = refl

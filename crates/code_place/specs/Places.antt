@@ -1,7 +1,8 @@
 -- Where the blocks and labels of a program stand whose block `k` is put at `at[k]`, and what its image then has. A label is no
 -- word: it stands where the next word does. Of two with one name the later one counts.
-use Rattle.std.specs.Prelude.{◌≡◌, ℕ, ◌+◌, ◌<◌, ◌≤◌, ◌⊎◌, Bool, false, List, [], ◌∷◌, Option, Some, None, IsSome, slice_get, slice_index, take, if◌then◌else◌}
+use Rattle.std.specs.Prelude.{◌≡◌, ℕ, ◌+◌, ◌<◌, ◌≤◌, ◌⊎◌, Bool, false, List, [], ◌∷◌, Option, Some, None, IsSome, slice_get, slice_index, take, map, if◌then◌else◌}
 use Rattle.std.specs.Option.{option_or}
+use Rattle.pic_isa.specs.Table.{word_of}
 use Rattle.ram_place.specs.declared.placing.Placed.{Placed}
 use Rattle.sym_code.specs.Machine.{same_name, same_label}
 use Rattle.sym_code.specs.declared.code.BlockName.{BlockName}
@@ -16,7 +17,7 @@ use Rattle.sym_code.specs.declared.code.Target.{Target}
 use Rattle.sym_code.specs.declared.code.Target.TheVariants as targets
 use Rattle.code_place.specs.Addresses.{address_of, file_address}
 use Rattle.code_place.specs.Image.{Holds}
-use Rattle.code_place.specs.Instructions.{words}
+use Rattle.code_place.specs.Instructions.{rows, words}
 use Rattle.code_place.specs.Sizes.{words_of_one, words_in}
 
 -- ---- labels and blocks
@@ -85,6 +86,10 @@ TargetsStand blocks at = (block : SymBlock) (start : ℕ) (target : Target) (add
 -- each block's words stand at its address
 abbrev pub HoldsBlocks : Placed → List SymBlock → List ℕ → List ℕ → Type 0
 HoldsBlocks placed blocks at image = (k : ℕ) (block : SymBlock) (start : ℕ) → slice_get blocks k ≡ Some block → slice_get at k ≡ Some start → Holds image start (words placed (target_for blocks at block start) block.list.items)
+
+-- the words of each instruction stand behind those of the ones before it
+abbrev pub HoldsInstructions : Placed → List SymBlock → List ℕ → List ℕ → Type 0
+HoldsInstructions placed blocks at image = (k : ℕ) (block : SymBlock) (start : ℕ) → slice_get blocks k ≡ Some block → slice_get at k ≡ Some start → (i : ℕ) (s : Sym) → slice_get block.list.items i ≡ Some s → Holds image (start + words_in (take i block.list.items)) (map word_of (rows placed (target_for blocks at block start) s))
 
 -- no block has a word at the address
 abbrev pub IsFree : List SymBlock → List ℕ → ℕ → Type 0

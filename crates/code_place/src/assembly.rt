@@ -5,7 +5,7 @@ ghost use Rattle.pic_isa.specs.Table.{word_of};
 ghost use Rattle.code_place.specs.Image.{written};
 ghost use Rattle.code_place.specs.Instructions as stated;
 ghost use Rattle.code_place.specs.Marks.{target_in, target_by};
-ghost use Rattle.code_place.specs.Places.{block_place, label_place, HaveAddresses, HoldsBlocks, IsErasedElsewhere, BlocksHaveAddresses, TargetsStand};
+ghost use Rattle.code_place.specs.Places.{block_place, label_place, HaveAddresses, HoldsBlocks, HoldsInstructions, IsErasedElsewhere, BlocksHaveAddresses, TargetsStand};
 ghost use Rattle.code_place.specs.Rows.{list_of, AreWellFormed};
 ghost use Rattle.code_place.specs.Sizes.{words_in, Fit};
 ghost use Rattle.sym_code.specs.declared.code.BlockName.TheVariants.{Copy};
@@ -105,6 +105,8 @@ pub fn assemble(
     ensures fit { OnOk result (Fit s.now.blocks.items at.now) }
     // The words of each block stand at its address, where a label is the address of what follows it,
     ensures each { IfOk result (λ made. HoldsBlocks placed.now s.now.blocks.items at.now made.image) }
+    // those of an instruction behind those of the ones before it,
+    ensures instructions { IfOk result (λ made. HoldsInstructions placed.now s.now.blocks.items at.now made.image) }
     // and every other word is erased.
     ensures erased { IfOk result (λ made. IsErasedElsewhere s.now.blocks.items at.now made.image) }
     // All that is named has an address.

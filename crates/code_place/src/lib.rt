@@ -4,6 +4,8 @@
 // In: how many words each block is stated to have. Out: the address of each, or why they have no room.
 // The promise: the addresses are those of the placing, and each error comes exactly where its cause holds.
 // In: symbolic code, and where its blocks, static objects and frames stand. Out: the image of program memory.
+// The promise: the words of each block are at its address, every other word is erased, and all that is named has the address
+// of what has that name.
 #![tactic(auto)]
 
 ghost use Rattle.std.specs.Prelude.{◌≡◌, ℕ, ◌+◌, ◌%◌, ◌<◌, ◌≤◌, ◌^◌, length, slice_index, sum, IfOk, MatchOption};

@@ -1,4 +1,5 @@
 use Rattle.std.proofs.Common.{refl, arith}
+use Rattle.code_place.proofs.Apart.{each_apart}
 use Rattle.code_place.proofs.Filled.{filled_start, filled_more, all_hold, all_named}
 use Rattle.code_place.proofs.Room.{room_at}
 use Rattle.code_place.proofs.Stands.{targets_stand}
@@ -21,3 +22,6 @@ returns-clause-named c = all_named c.args.placed.now _ c.args.s.now.blocks.items
 
 pub returns-clause-targets : goal.returns-clause-targets
 returns-clause-targets c = targets_stand c.args.s.now.blocks.items c.args.at.now
+
+pub returns-clause-instructions : goal.returns-clause-instructions
+returns-clause-instructions c = each_apart c.args.placed.now c.args.s.now.blocks.items c.args.at.now c.loop-number.image (all_hold c.args.placed.now _ c.args.s.now.blocks.items c.args.at.now c.loop-number.number c.loop-number.image c.deref-block-items.ensures.value (omega (arith, c.loop-number-test.false)) c.loop-number.invariant)
