@@ -1,9 +1,12 @@
 -- What the reader's answer says of the text.
-use Rattle.std.proofs.Common.{◌≡◌, ℕ, ◌+◌, ◌*◌, ◌%◌, ◌≤◌, ◌++◌, Option, Some, None, Result, Ok, Err, List, [], slice_index, refl, sym, ap, ◌∙◌, subst, arith}
+use Rattle.std.proofs.Common.{◌≡◌, ℕ, Option, Some, None, Result, Ok, Err, List, [], sym, ap, ◌∙◌, subst, arith}
 use Rattle.std.specs.Prelude.{IfOk, IfErr}
 use Rattle.std.proofs.lemmas.List.{ext_get_or}
 use Rattle.pic_chip.specs.Text.{lines_of}
-use Rattle.hex_image.specs.HexFile.{Given, given_by, times, byte_at, IsHexFile}
+use Rattle.hex_image.specs.HexFile.{Given, given_by, IsHexFile}
+use Rattle.pic_chip.specs.Words.{AreWords}
+use Rattle.hex_image.specs.HexText.{hex_text}
+use Rattle.hex_image.proofs.File.{hex_text-is_file}
 use Rattle.hex_image.specs.Reading.{reading_of}
 use Rattle.hex_image.specs.Answers.{Refuses, Gives, GivesImage, IsReadAs, IsFilled}
 use Rattle.hex_image.specs.declared.read.HexError.{HexError}
@@ -41,6 +44,9 @@ file_read text image h = given_again (given_by (lines_of text) 0) (reading_of te
 
 pub is_read : (text image : List ℕ) → IsHexFile text image → IsReadAs text image
 is_read text image h = (h.given, file_read text image h, record { words = h.words; each = h.each })
+
+pub written_read : (image : List ℕ) → AreWords image → IsReadAs (hex_text image) image
+written_read image are = is_read (hex_text image) image (hex_text-is_file image are)
 
 same_image : (given : List Given) (a b : List ℕ) → IsFilled given a → IsFilled given b → a ≡ b
 same_image given a b f g =

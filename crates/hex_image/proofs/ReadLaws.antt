@@ -1,15 +1,15 @@
 -- What is read of lines is what they give, where each address is below 4400h and given once.
-use Rattle.std.proofs.Common.{◌≡◌, ℕ, zero, suc, ◌+◌, ◌*◌, ◌%◌, ◌<◌, ◌≤◌, Bool, true, false, ◌&&◌, ◌||◌, Option, Some, None, Result, Ok, Err, List, [], ◌∷◌, ◌++◌, length, take, slice_index, refl, sym, ap, ◌∙◌, subst, arith, nat_eq, nat_lt, ⊎_elim, append_assoc, append-nil}
+use Rattle.std.proofs.Common.{◌≡◌, ℕ, zero, suc, ◌+◌, ◌*◌, ◌%◌, ◌<◌, ◌≤◌, Bool, true, false, ◌&&◌, Option, Some, None, Result, Ok, Err, List, [], ◌∷◌, ◌++◌, length, take, slice_index, refl, sym, ap, ◌∙◌, subst, arith, nat_eq, nat_lt, ⊎_elim, append_assoc, append-nil}
 use Rattle.std.specs.Prelude.{if◌then◌else◌}
 use Rattle.std.specs.List.{sum}
-use Rattle.std.proofs.lemmas.Bool.{cases_eq, cases_lt, eq-eqb, ne_eqb, eqb-true, lt-ltb, le-ltb, ltb-false, ltb-true}
+use Rattle.std.proofs.lemmas.Bool.{cases_eq, eq-eqb, ne_eqb, eqb-true, ltb-false, ltb-true}
 use Rattle.pic_chip.specs.Text.{bytes_of}
 use Rattle.hex_image.specs.HexFile.{HexRecord, has_kind, fields, fields_in, record_of, Given, from_address, in_front, with_record, given_by, times}
 use Rattle.hex_image.specs.Reading as reading
 use Rattle.hex_image.specs.Reading.{Told, Data, End, Upper, told, pairs_in, line_bytes, placed, Next, under, after_record, after_line, go_on, read_on}
 use Rattle.hex_image.specs.declared.read.HexError.{HexError}
 use Rattle.hex_image.specs.declared.read.HexError.TheVariants.{BadRecord, Twice, Outside}
-use Rattle.hex_image.proofs.Bytes.{times-append, times_below}
+use Rattle.hex_image.proofs.Bytes.{times-append}
 use Rattle.hex_image.proofs.Marking.{times_same}
 
 -- each address is below 4400h and given once at most

@@ -1,6 +1,6 @@
 -- Reading a HEX file, line by line. At each record the checks are made in one order: its bytes and their count, their sum,
 -- its kind, how many data bytes that kind has, and for each data byte in order its address.
-use Rattle.std.specs.Prelude.{ℕ, ◌+◌, ◌-◌, ◌*◌, ◌%◌, nat_eq, nat_lt, nat_le, Option, Some, None, Result, Ok, Err, List, [], ◌∷◌, ◌++◌, if◌then◌else◌, slice_index, length, take}
+use Rattle.std.specs.Prelude.{ℕ, ◌+◌, ◌-◌, ◌*◌, ◌%◌, nat_eq, nat_lt, Option, Some, None, Result, Ok, Err, List, [], ◌∷◌, ◌++◌, if◌then◌else◌, slice_index, length, take}
 use Rattle.std.specs.List.{sum}
 use Rattle.pic_chip.specs.Text.{lines_of, bytes_of}
 use Rattle.hex_image.specs.HexFile.{Given, times}

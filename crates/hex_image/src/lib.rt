@@ -54,10 +54,12 @@ pub fn one_content()
     ensures { (text : List ℕ) (a b : List ℕ) → IsHexFile text a → IsHexFile text b → a ≡ b }
 {}
 
-/// The reading by whose errors a text is refused finds exactly the HEX files, and the image of each.
-#[tactic(auto, using(crate::proofs::Found::is_file, crate::proofs::Found::is_read))]
+/// The reading by whose errors a text is refused finds exactly the HEX files, and the image of each. So it reads what is
+/// written as the image that was written.
+#[tactic(auto, using(crate::proofs::Found::is_file, crate::proofs::Found::is_read, crate::proofs::Found::written_read))]
 pub fn exact_reading()
-    ensures { (text image : List ℕ) → (IsReadAs text image) ↔ (IsHexFile text image) }
+    ensures files { (text image : List ℕ) → (IsReadAs text image) ↔ (IsHexFile text image) }
+    ensures written { (image : List ℕ) → AreWords image → IsReadAs (spec.hex_text image) image }
 {}
 
 fn block(image: &Image, k: u16) -> [u16; 8]

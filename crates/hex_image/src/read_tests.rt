@@ -103,6 +103,17 @@ const REFUSED: [(&str, HexError); 28] = [
     ),
 ];
 
+// Why a short text gives no image.
+fn error_of(alloc: Global, text: &[u8]) -> Option<HexError> {
+    if text.len() > 65536 {
+        return None;
+    }
+    match read_hex(alloc, text) {
+        Ok(_) => None,
+        Err(error) => Some(error),
+    }
+}
+
 #[test]
 fn what_is_given_is_read(rt: HostRuntime) -> Result<(), Fail> {
     // GOTO 5 at 0, of the word at 1 its low byte, and of the word at 2 its high byte, whose two upper bits are dropped.
@@ -131,9 +142,9 @@ fn nothing_else_is_kept(rt: HostRuntime) -> Result<(), Fail> {
 #[test]
 fn the_first_wrong_record_is_told(rt: HostRuntime) -> Result<(), Fail> {
     for (text, wanted) in REFUSED {
-        match read_hex(rt.alloc(), text.as_bytes()) {
-            Err(error) => assert_eq!(rt; error, wanted),
-            Ok(_) => return Err(Fail::new("an image")),
+        match error_of(rt.alloc(), text.as_bytes()) {
+            Some(error) => assert_eq!(rt; error, wanted),
+            None => return Err(Fail::new("an image")),
         }
     }
     Ok(())

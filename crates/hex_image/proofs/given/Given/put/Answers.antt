@@ -1,4 +1,4 @@
-use Rattle.std.proofs.Common.{◌++◌, ◌∷◌, [], slice_set, true, sym, subst}
+use Rattle.std.proofs.Common.{slice_set, true, sym, subst}
 use Rattle.hex_image.specs.Marks.{AreMarks}
 use Rattle.hex_image.proofs.Marking.{marked}
 use Rattle.hex_image.proofs.given.Given.put.Goals as goal
