@@ -1,2 +1,5 @@
 pub mod Board
 pub mod ScriptBoard
+pub mod Going
+pub mod Step
+pub mod FromReset

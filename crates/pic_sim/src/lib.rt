@@ -6,6 +6,8 @@
 // arrivals; and the board was asked just these.
 #![tactic(auto)]
 
+ghost use Rattle.pic_sim.specs.FromReset.{BeginsAtReset, GoesOn, GoesOnByScript};
+
 mod board;
 mod running;
 mod script_board;
@@ -13,3 +15,10 @@ mod script_board;
 pub use board::{Board, Exchange};
 pub use running::{SimEnd, simulate};
 pub use script_board::ScriptBoard;
+
+/// Runs over a board are runs from reset: what `simulate` does from a moment of such a run on leads to a later moment of it.
+pub fn runs_go_on()
+    ensures first { BeginsAtReset }
+    ensures goes_on { GoesOn }
+    ensures by_script { GoesOnByScript }
+{}

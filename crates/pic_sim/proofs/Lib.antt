@@ -1,0 +1,4 @@
+mod Accesses
+mod Going
+mod Stepping
+mod FromReset
