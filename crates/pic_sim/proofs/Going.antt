@@ -116,7 +116,7 @@ one_more image a m k xs ys p q r place done next =
         (subst (λ (i : ℕ). stop_at image (begun_at a i (after image a p.chip.index m k)) ≡ None) place next.modelled)
     by_test j below false e = let other = eqb-false j k e in done.modelled j (smaller j k below other)
 
-pub ran_on : (image : List ℕ) (k : ℕ) (p q r : Point) → Ran image k p q → Steps image q r → Ran image (suc k) p r
+ran_on : (image : List ℕ) (k : ℕ) (p q r : Point) → Ran image k p q → Steps image q r → Ran image (suc k) p r
 ran_on image k p q r done next = record {
   given = done.given ++ next.given;
   raised = done.raised ++ next.mask ∷ [];
@@ -141,6 +141,11 @@ ran_on image k p q r done next = record {
       (bytes_join script.input (length p.board.lists.given) done.given next.given before.0 (subst (λ (n : ℕ). HasBytes script.input n next.given) places now.1),
         masks_join (arriving script.arrivals) p.chip.index done.raised next.mask before.1 (ap (λ (n : ℕ). n % 8) (sym (now.0 ∙ ap (arriving script.arrivals) index))));
 }
+
+pub ran_next : (image : List ℕ) (k : ℕ) (p q r : Point) → Ran image k p q → Steps image q r → Ran image (k + 1) p r
+ran_next image k p q r done next =
+    let e : suc k ≡ k + 1 = omega arith in
+    subst (λ (n : ℕ). Ran image n p r) e (ran_on image k p q r done next)
 
 -- ---- room for events
 pub slack_few : (t : Tracing) → slack t ≤ 1

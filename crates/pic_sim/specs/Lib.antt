@@ -3,3 +3,4 @@ pub mod ScriptBoard
 pub mod Going
 pub mod Step
 pub mod FromReset
+pub mod Arrivals

@@ -8,6 +8,7 @@
 
 ghost use Rattle.pic_sim.specs.FromReset.{BeginsAtReset, GoesOn, GoesOnByScript};
 
+mod arrivals;
 mod board;
 mod running;
 mod script_board;
@@ -22,3 +23,6 @@ pub fn runs_go_on()
     ensures goes_on { GoesOn }
     ensures by_script { GoesOnByScript }
 {}
+
+#[cfg(test)]
+mod tests;

@@ -1,7 +1,6 @@
-use Rattle.std.proofs.Common.{◌≡◌, ◌+◌, suc, arith, ℕ, subst}
+use Rattle.std.proofs.Common.{arith}
 use Rattle.pic_map.specs.Tracing.{tracing_of}
-use Rattle.pic_sim.specs.Going.{Ran}
-use Rattle.pic_sim.proofs.Going.{ran_none, ran_on, slack_few}
+use Rattle.pic_sim.proofs.Going.{ran_none, ran_next, slack_few}
 use Rattle.pic_sim.proofs.running.simulate.Goals as goal
 
 pub loop-init : goal.loop-init
@@ -22,9 +21,8 @@ loop-preserved g c =
     let before = so_far.room in
     let trace_room = c.in_default.ensures.trace_room in
     let trace_before = so_far.trace_room in
-    let next : suc c.loop.counter ≡ c.loop.counter + 1 = omega arith in
     record {
-      ran = subst (λ (k : ℕ). Ran c.args.image.now k _ _) next (ran_on c.args.image.now c.loop.counter _ _ _ so_far.ran c.in_default.ensures.steps);
+      ran = ran_next c.args.image.now c.loop.counter _ _ _ so_far.ran c.in_default.ensures.steps;
       room = omega (arith, before, room);
       trace_room = omega (arith, further, trace_before, trace_room);
     }
