@@ -83,7 +83,7 @@ row_fits word =
     let jumps : AllFit word jump_rows = (tt, (tt, tt)) in
     let literals : AllFit word literal_rows = (tt, (tt, (tt, (tt, (tt, (tt, (tt, (tt, (tt, (tt, (tt, (tt, (tt, (tt, (tt, (tt, tt)))))))))))))))) in
     let all : AllFit word groups =
-        (fit_at word byte_rows bytes (word / 256), (fit_at word bit_rows bits (word / 1024 % 4), (fit_at word jump_rows jumps (word / 2048 % 2), (fit_at word literal_rows literals (word / 256 % 16), tt)))) in
+    (fit_at word byte_rows bytes (word / 256), (fit_at word bit_rows bits (word / 1024 % 4), (fit_at word jump_rows jumps (word / 2048 % 2), (fit_at word literal_rows literals (word / 256 % 16), tt)))) in
     fit_at word groups all (word / 4096)
 
 -- ---- addresses
@@ -116,8 +116,10 @@ row_holds g (r ∷ rs) h address first e =
   where
     own : (g r.1 r.1 ≡ true) × (mirrors_hold g r.1 r.2 ≡ true)
     own = both (g r.1 r.1) (mirrors_hold g r.1 r.2) (both (g r.1 r.1 && mirrors_hold g r.1 r.2) (rows_hold g rs) h).0
+
     some_inj : (x y : ℕ) → Some x ≡ Some y → x ≡ y
     some_inj x y e = cc
+
     by_test : (b t : Bool) → nat_eq r.1 address ≡ b → is_among r.2 address ≡ t → (if b || t then Some r.1 else register_at rs address) ≡ Some first
         → (register_at rs address ≡ Some first → g first address ≡ true) → g first address ≡ true
     by_test true t is in_it e later = ap (λ n. g n address) (sym (some_inj r.1 first e)) ∙ ap (λ n. g r.1 n) (sym (eqb-true r.1 address is)) ∙ own.0
@@ -191,6 +193,7 @@ device_fit bank low h other = by_case (register_at registers (0x80 * bank + low)
   where
     low_part : (0x80 * bank + low) % 128 ≡ low
     low_part = omega arith
+
     by_case : (o : Option ℕ) → register_at registers (0x80 * bank + low) ≡ o → IsFit (if is_some o then Device (or_itself (0x80 * bank + low) o) else Nothing)
     by_case None e = tt
     by_case (Some first) e = itself (0x80 * bank + low) first (ap (λ n. nat_eq n 0x0b) low_part ∙ other) e
@@ -347,8 +350,8 @@ module _ (inputs : List ℕ) (s : State) where
         writes = to AtPc (next x) ∷ (after_read p ++ result_to d p (result x) (flags x));
         notes = note false p x ++ write_note d p (result x);
       })) (λ p fits. let x = contents inputs s.pc p in
-        of_reads p (note false p x ++ write_note d p (result x)) (to AtPc (next x) ∷ (after_read p ++ result_to d p (result x) (flags x)))
-        (read_notes p fits d (result x)) (read_counts p (next x) (result_to d p (result x) (flags x)) (result_keeps d p (result x) (flags x) (keeps x))))
+      of_reads p (note false p x ++ write_note d p (result x)) (to AtPc (next x) ∷ (after_read p ++ result_to d p (result x) (flags x)))
+      (read_notes p fits d (result x)) (read_counts p (next x) (result_to d p (result x) (flags x)) (result_keeps d p (result x) (flags x) (keeps x))))
 
   test_plain : (f : ℕ) → f < 128 → (b v : ℕ) → IsPlain inputs s (effect (test_row inputs s.pc f b v) s)
   test_plain f hf b v =
@@ -356,9 +359,9 @@ module _ (inputs : List ℕ) (s : State) where
         writes = to AtPc (skipping s.pc (λ y. nat_eq (bit y b) v) x) ∷ after_read p;
         notes = note false p x;
       })) (λ p fits. let x = contents inputs s.pc p in let next = skipping s.pc (λ y. nat_eq (bit y b) v) x in
-        of_reads p (note false p x) (to AtPc next ∷ after_read p)
-        (subst (λ (ns : List Note). Reads inputs s ns (count_of p)) (append-nil (note false p x)) (read_notes p fits false x))
-        (ap (λ (ws : List Write). (apply (to AtPc next ∷ ws) s s).taken) (sym (append-nil (after_read p))) ∙ read_counts p next [] (λ before t. refl)))
+      of_reads p (note false p x) (to AtPc next ∷ after_read p)
+      (subst (λ (ns : List Note). Reads inputs s ns (count_of p)) (append-nil (note false p x)) (read_notes p fits false x))
+      (ap (λ (ws : List Write). (apply (to AtPc next ∷ ws) s s).taken) (sym (append-nil (after_read p))) ∙ read_counts p next [] (λ before t. refl)))
 
   write_notes : (p : Place) → IsFit p → (v : Derived) → Reads inputs s (note true p v) 0
   write_notes Pcl h v = record { reads = refl; counted = refl; low = (refl, tt) }
@@ -374,7 +377,7 @@ module _ (inputs : List ℕ) (s : State) where
   write_plain f hf v flags keeps =
       at_operand f hf (λ p. Do (record { writes = to AtPc (following s.pc) ∷ (store (is_empty flags) p v ++ flags); notes = note true p v }))
       (λ p fits. of_reads Nothing (note true p v) (to AtPc (following s.pc) ∷ (store (is_empty flags) p v ++ flags)) (write_notes p fits v)
-        (append_keeps (store (is_empty flags) p v) flags (store_keeps (is_empty flags) p v) keeps s (record s { pc = (s.pc + 1) % 8192 }) ∙ sym (add-zero s.taken)))
+      (append_keeps (store (is_empty flags) p v) flags (store_keeps (is_empty flags) p v) keeps s (record s { pc = (s.pc + 1) % 8192 }) ∙ sym (add-zero s.taken)))
 
   no_access : (writes : List Write) → (apply writes s s).taken ≡ s.taken → IsPlain inputs s (effect (plain_row writes) s)
   no_access writes h = record { reads = refl; counted = h ∙ sym (add-zero s.taken); low = tt }

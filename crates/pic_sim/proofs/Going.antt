@@ -109,6 +109,7 @@ one_more image a m k xs ys p q r place done next =
   where
     add_length : (n : ℕ) (xs ys : List Exchange) → n + length xs + length ys ≡ n + length (xs ++ ys)
     add_length n xs ys = let e = length-append xs ys in omega (arith, e)
+
     by_test : (j : ℕ) → j < suc k → (b : Bool) → nat_eq j k ≡ b → stop_at image (begun_at a (p.chip.index + j) (after image a p.chip.index m j)) ≡ None
     by_test j below true e =
         let same_j : k ≡ j = sym (eqb-true j k e) in
@@ -131,15 +132,16 @@ ran_on image k p q r done next = record {
       let place : p.chip.index + length done.raised ≡ q.chip.index = ap (λ (n : ℕ). p.chip.index + n) done.count ∙ sym done.index in
       one_more image a m k done.given next.given p q r done.index first
       (next.run a (after image a p.chip.index m k) (subst (λ (n : ℕ). HasBytes a.inputs n next.given) (sym first.place) b.1)
-        (subst (λ (n : ℕ). a.masks n % 8 ≡ next.mask % 8) place f.1) first.at);
+      (subst (λ (n : ℕ). a.masks n % 8 ≡ next.mask % 8) place f.1) first.at);
   follows = next.follows ∙ done.follows;
   by_script = λ script e.
       let before = done.by_script script e in
       let now = next.by_script script (done.follows ∙ e) in
       let places : length q.board.lists.given ≡ length p.board.lists.given + length done.given = ap length done.given_now ∙ length-append p.board.lists.given done.given in
-      let index : q.chip.index ≡ p.chip.index + length done.raised = done.index ∙ ap (λ (n : ℕ). p.chip.index + n) (sym done.count) in
-      (bytes_join script.input (length p.board.lists.given) done.given next.given before.0 (subst (λ (n : ℕ). HasBytes script.input n next.given) places now.1),
-        masks_join (arriving script.arrivals) p.chip.index done.raised next.mask before.1 (ap (λ (n : ℕ). n % 8) (sym (now.0 ∙ ap (arriving script.arrivals) index))));
+      let index : q.chip.index ≡ p.chip.index + length done.raised = done.index ∙ ap (λ (n : ℕ). p.chip.index + n) (sym done.count) in (
+        bytes_join script.input (length p.board.lists.given) done.given next.given before.0 (subst (λ (n : ℕ). HasBytes script.input n next.given) places now.1),
+        masks_join (arriving script.arrivals) p.chip.index done.raised next.mask before.1 (ap (λ (n : ℕ). n % 8) (sym (now.0 ∙ ap (arriving script.arrivals) index))),
+      );
 }
 
 pub ran_next : (image : List ℕ) (k : ℕ) (p q r : Point) → Ran image k p q → Steps image q r → Ran image (k + 1) p r

@@ -45,22 +45,22 @@ by_some P o x e h = subst (λ (y : Option _). IfSome y P) e h
 
 -- from the clauses of `tick`, `begin`, `wants`, `read`, `exec` and `write`
 module _ (image : List ℕ) (end : StepEnd) (old mid new : Machine) (L0 L1 L2 L3 : Lists) (F0 F1 F2 F3 : Option Followed) (t mask byte : ℕ) (o : Option ℕ) (told_list : List Exchange)
-  (ticked : L1 ≡ record L0 { raised = L0.raised ++ mask ∷ [] })
-  (asked : L2 ≡ record L1 { given = L1.given ++ given_of o byte })
-  (written : L3 ≡ record L2 { taken = L2.taken ++ told_list })
-  (f1 : F1 ≡ F0) (f2 : F2 ≡ F1) (f3 : F3 ≡ F2)
-  (index_is : t ≡ old.index)
-  (tick_script : IfSome F0 (λ script. mask ≡ arriving script.arrivals t))
-  (ask_script : IfSome F1 (λ script. HasBytes script.input (length L1.given) (given_of o byte)))
-  (begin_state : mid.state ≡ begun mask old.state)
-  (begin_index : mid.index ≡ old.index)
-  (wants : (inputs : List ℕ) → o ≡ wanted (accesses (execute image inputs) mid.state))
-  (exec_state : (inputs : List ℕ) → Feeds inputs mid.state.taken byte (wanted (accesses (execute image inputs) mid.state)) → new.state ≡ perform (execute image inputs) mid.state)
-  (exec_accesses : (inputs : List ℕ) → Feeds inputs mid.state.taken byte (wanted (accesses (execute image inputs) mid.state)) → accesses_in end ≡ accesses (execute image inputs) mid.state)
-  (exec_stopped : stopped_at end ≡ stop_at image mid.state)
-  (exec_index : new.index ≡ index_after image mid.state mid.index)
-  (exec_unchanged : IsSome (stopped_at end) → new ≡ mid)
-  (told_is : AreLowest (accesses_in end) → told_list ≡ writes_of (accesses_in end)) where
+    (ticked : L1 ≡ record L0 { raised = L0.raised ++ mask ∷ [] })
+    (asked : L2 ≡ record L1 { given = L1.given ++ given_of o byte })
+    (written : L3 ≡ record L2 { taken = L2.taken ++ told_list })
+    (f1 : F1 ≡ F0) (f2 : F2 ≡ F1) (f3 : F3 ≡ F2)
+    (index_is : t ≡ old.index)
+    (tick_script : IfSome F0 (λ script. mask ≡ arriving script.arrivals t))
+    (ask_script : IfSome F1 (λ script. HasBytes script.input (length L1.given) (given_of o byte)))
+    (begin_state : mid.state ≡ begun mask old.state)
+    (begin_index : mid.index ≡ old.index)
+    (wants : (inputs : List ℕ) → o ≡ wanted (accesses (execute image inputs) mid.state))
+    (exec_state : (inputs : List ℕ) → Feeds inputs mid.state.taken byte (wanted (accesses (execute image inputs) mid.state)) → new.state ≡ perform (execute image inputs) mid.state)
+    (exec_accesses : (inputs : List ℕ) → Feeds inputs mid.state.taken byte (wanted (accesses (execute image inputs) mid.state)) → accesses_in end ≡ accesses (execute image inputs) mid.state)
+    (exec_stopped : stopped_at end ≡ stop_at image mid.state)
+    (exec_index : new.index ≡ index_after image mid.state mid.index)
+    (exec_unchanged : IsSome (stopped_at end) → new ≡ mid)
+    (told_is : AreLowest (accesses_in end) → told_list ≡ writes_of (accesses_in end)) where
   count : mid.state.taken ≡ old.state.taken
   count = ap (λ (s : State). s.taken) begin_state ∙ begun_count mask old.state
 
@@ -90,19 +90,22 @@ module _ (image : List ℕ) (end : StepEnd) (old mid new : Machine) (L0 L1 L2 L3
     given_now = ap (λ (l : Lists). l.given) written ∙ ap (λ (l : Lists). l.given) asked ∙ ap (λ (l : Lists). l.given ++ given_of o byte) ticked;
     raised_now = ap (λ (l : Lists). l.raised) written ∙ ap (λ (l : Lists). l.raised) asked ∙ ap (λ (l : Lists). l.raised) ticked;
     follows = f3 ∙ f2 ∙ f1;
-    by_script = λ script e.
-        (by_some (λ (s : Followed). mask ≡ arriving s.arrivals t) F0 script e tick_script ∙ ap (arriving script.arrivals) index_is,
-          subst (λ (l : Lists). HasBytes script.input (length l.given) (given_of o byte)) ticked
-          (by_some (λ (s : Followed). HasBytes s.input (length L1.given) (given_of o byte)) F1 script (f1 ∙ e) ask_script));
+    by_script = λ script e. (
+      by_some (λ (s : Followed). mask ≡ arriving s.arrivals t) F0 script e tick_script ∙ ap (arriving script.arrivals) index_is,
+      subst (λ (l : Lists). HasBytes script.input (length l.given) (given_of o byte)) ticked
+          (by_some (λ (s : Followed). HasBytes s.input (length L1.given) (given_of o byte)) F1 script (f1 ∙ e) ask_script),
+    );
     stopped = exec_stopped ∙ ap (stop_at image) begin_state;
     index = exec_index ∙ ap (λ (s : State). index_after image s mid.index) begin_state ∙ ap (index_after image (begun mask old.state)) begin_index;
     unchanged = λ some.
         let quiet = stopped_quiet [] mid.state image (not_modelled image mid.state (stopped_at end) exec_stopped some) in
         let none : o ≡ None = wants [] ∙ ap wanted quiet in
         let nothing : accesses_in end ≡ [] = no_accesses_in end some in
-        let low_here : AreLowest (accesses_in end) = subst AreLowest (sym nothing) tt in
-        (exec_unchanged some ∙ (λ i. record { state = begin_state i; index = begin_index i }), ap (λ (w : Option ℕ). given_of w byte) none,
-          taken_is ∙ ap (λ (z : List Exchange). L0.taken ++ z) (told_is low_here ∙ ap writes_of nothing) ∙ append-nil L0.taken);
+        let low_here : AreLowest (accesses_in end) = subst AreLowest (sym nothing) tt in (
+          exec_unchanged some ∙ (λ i. record { state = begin_state i; index = begin_index i }),
+          ap (λ (w : Option ℕ). given_of w byte) none,
+          taken_is ∙ ap (λ (z : List Exchange). L0.taken ++ z) (told_is low_here ∙ ap writes_of nothing) ∙ append-nil L0.taken,
+        );
     state = λ inputs h. exec_state inputs (fed inputs h) ∙ ap (perform (execute image inputs)) begin_state;
     accesses = λ inputs h. exec_accesses inputs (fed inputs h) ∙ ap (accesses (execute image inputs)) begin_state;
     taken_now = λ inputs h. taken_is ∙ ap (λ (z : List Exchange). L0.taken ++ z) (told_is (low inputs h));
@@ -147,9 +150,9 @@ looks : (w : Watch) (m : Moment) (t : Tracing) → w ≡ t.watch → m.met ≡ t
 looks w m t ew em ee =
     let pc = m.state.pc in
     let form : observed w m ≡ see t.met (nat_eq pc t.watch.halt && not t.ended) (nat_eq pc t.watch.main) m =
-        ap (λ (b : Bool). see b (nat_eq pc w.halt && not m.ended) (nat_eq pc w.main) m) em
-        ∙ ap (λ (q : Bool). see t.met (nat_eq pc w.halt && not q) (nat_eq pc w.main) m) ee
-        ∙ ap (λ (v : Watch). see t.met (nat_eq pc v.halt && not t.ended) (nat_eq pc v.main) m) ew in
+    ap (λ (b : Bool). see b (nat_eq pc w.halt && not m.ended) (nat_eq pc w.main) m) em
+    ∙ ap (λ (q : Bool). see t.met (nat_eq pc w.halt && not q) (nat_eq pc w.main) m) ee
+    ∙ ap (λ (v : Watch). see t.met (nat_eq pc v.halt && not t.ended) (nat_eq pc v.main) m) ew in
     subst (λ (o : Moment). Looks m o (looked pc t) (told pc t)) (sym form)
     (by_tests t.met (nat_eq pc t.watch.halt && not t.ended) (nat_eq pc t.watch.main))
   where
@@ -183,8 +186,8 @@ one_on true pc index e = refl
 one_on false pc index e = absurd (cc)
 
 module _ (image : List ℕ) (done : Accesses) (old new : Point) (pc_now : ℕ) (pc_is : pc_now ≡ new.chip.state.pc) (act : Acted image (Done done) old.chip new.chip old.board new.board)
-  (events_now : AreLowest (seen done) → new.events ≡ old.events ++ shown_all (seen done) old.tracing ++ told pc_now old.tracing)
-  (tracing_now : new.tracing ≡ looked pc_now old.tracing) where
+    (events_now : AreLowest (seen done) → new.events ≡ old.events ++ shown_all (seen done) old.tracing ++ told pc_now old.tracing)
+    (tracing_now : new.tracing ≡ looked pc_now old.tracing) where
   follows_from : (a : Around) (m : Moment) → HasBytes a.inputs old.chip.state.taken act.given → a.masks old.chip.index % 8 ≡ act.mask % 8 → IsAt a m old → Follows image a m act.given old new
   follows_from a m bytes mask at =
       let t = old.tracing in

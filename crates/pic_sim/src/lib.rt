@@ -6,7 +6,7 @@
 // arrivals; and the board was asked just these.
 #![tactic(auto)]
 
-ghost use Rattle.pic_sim.specs.FromReset.{BeginsAtReset, GoesOn, GoesOnByScript};
+ghost use Rattle.pic_sim.specs.FromReset.{AnswersAreInput, MasksAreArrivals, BeginsAtReset, GoesOn, GoesOnByScript};
 
 mod arrivals;
 mod board;
@@ -18,7 +18,10 @@ pub use running::{SimEnd, simulate};
 pub use script_board::ScriptBoard;
 
 /// Runs over a board are runs from reset: what `simulate` does from a moment of such a run on leads to a later moment of it.
+/// The input list has the board's answers to `read` as its bytes, and the arrivals are its answers to `tick`.
 pub fn runs_go_on()
+    ensures input { AnswersAreInput }
+    ensures arrivals { MasksAreArrivals }
     ensures first { BeginsAtReset }
     ensures goes_on { GoesOn }
     ensures by_script { GoesOnByScript }

@@ -84,11 +84,7 @@ fn step_on(
 }
 
 // One instruction on the chip, with the board's answers.
-fn act_on(
-    chip: &mut Chip,
-    image: &Image,
-    board: &mut Box<dyn Board>,
-) -> Result<StepEnd, AllocError>
+fn act_on(chip: &mut Chip, image: &Image, board: &mut Box<dyn Board>) -> Result<StepEnd, AllocError>
     requires { chip.old.index < 2 ^ 40 }
     ensures acted { IfOk result (λ end. Acted image.now end chip.old chip.new (record { lists = lists board.old; follows = follows board.old }) (record { lists = lists board.new; follows = follows board.new })) }
     ensures raised { OnErr result (MayGrow (lists board.old).raised (lists board.new).raised) }

@@ -6,9 +6,9 @@ ghost use Rattle.pic_chip.specs.Interrupts.{arriving};
 ghost use Rattle.pic_sim.specs.Board.{followed, is_outside};
 ghost use Rattle.pic_sim.specs.ScriptBoard.{lists_of, script_of, space};
 
+use crate::arrivals::Timed;
 use crate::board::{Board, Exchange};
 use pic_chip::Script;
-use pic_chip::script::{input_at, mask_at};
 use std::alloc::{AllocError, Global};
 
 /// A board whose answers are those of a script: the input byte whose number is the count of bytes given so far, and 0
@@ -18,7 +18,7 @@ pub struct ScriptBoard {
     given: Vec<Exchange>,
     taken: Vec<Exchange>,
     raised: Vec<u16>,
-    script: Script,
+    timed: Timed,
 }
 
 impl ScriptBoard {
@@ -31,10 +31,7 @@ impl ScriptBoard {
             given: Vec::new(alloc),
             taken: Vec::new(alloc),
             raised: Vec::new(alloc),
-            script: Script {
-                input: Vec::new(alloc),
-                arrivals: Vec::new(alloc),
-            },
+            timed: Timed::empty(alloc),
         }
     }
 
@@ -83,10 +80,7 @@ impl Board for ScriptBoard {
         ensures same_lists { lists_of self.new ≡ lists_of self.old }
         ensures same_room { space self.new ≡ space self.old }
     {
-        let alloc = self.alloc();
-        let input = Vec::from_slice(alloc, &script.input)?;
-        let arrivals = Vec::from_slice(alloc, &script.arrivals)?;
-        self.script = Script { input, arrivals };
+        self.timed = Timed::copy(self.alloc(), script)?;
         Ok(())
     }
 
@@ -98,7 +92,7 @@ impl Board for ScriptBoard {
         ensures same_follows { script_of self.new ≡ script_of self.old }
         ensures room { space self.old ≤ space self.new + 1 }
     {
-        let mask = mask_at(&self.script.arrivals, t);
+        let mask = self.timed.mask(t);
         self.raised.push(mask)?;
         Ok(mask)
     }
@@ -112,7 +106,7 @@ impl Board for ScriptBoard {
         ensures same_follows { script_of self.new ≡ script_of self.old }
         ensures room { space self.old ≤ space self.new + 1 }
     {
-        let value = input_at(&self.script.input, self.given.len() as u64);
+        let value = self.timed.byte(self.given.len() as u64);
         self.given.push(Exchange { register, value })?;
         Ok(value)
     }

@@ -156,6 +156,7 @@ fn fed(
 }
 
 const PORTA: Cell = Cell::Device { address: 0x05 };
+
 const PORTB: Cell = Cell::Device { address: 0x06 };
 
 /// PORTA to PORTB, twice.
@@ -242,7 +243,10 @@ fn a_script_board_gives_bytes_and_flags(rt: HostRuntime) -> Result<(), Fail> {
         assert_eq!(rt; event(&ran.trace, number), Some(*wanted));
     }
     let ran = run(alloc, COPY, 0x0004, &mut board, 0)?;
-    assert_eq!(rt; (ran.end, ran.chip.index(), ran.trace.len()), (SimEnd::Done, 0, 0));
+    assert_eq!(rt;
+        (ran.end, ran.chip.index(), ran.trace.len()),
+        (SimEnd::Done, 0, 0)
+    );
     Ok(())
 }
 
@@ -251,14 +255,20 @@ fn a_due_interrupt_is_taken_before_a_stop(rt: HostRuntime) -> Result<(), Fail> {
     let alloc = rt.alloc();
     let mut board: Box<dyn Board> = Box::new(alloc, fed(alloc, &[], &[], 9)?)?;
     let ran = run(alloc, HANDLED, 0x1fff, &mut board, 9)?;
-    assert_eq!(rt; (ran.end, ran.chip.index()), (SimEnd::Unmodelled(0x0002), 2));
+    assert_eq!(rt;
+        (ran.end, ran.chip.index()),
+        (SimEnd::Unmodelled(0x0002), 2)
+    );
     let arrival = Arrival {
         t: 2,
         flag: Flag::Intf,
     };
     let mut board: Box<dyn Board> = Box::new(alloc, fed(alloc, &[0x77], &[arrival], 9)?)?;
     let ran = run(alloc, HANDLED, 0x1fff, &mut board, 9)?;
-    assert_eq!(rt; (ran.end, ran.chip.index()), (SimEnd::Unmodelled(0x0006), 4));
+    assert_eq!(rt;
+        (ran.end, ran.chip.index()),
+        (SimEnd::Unmodelled(0x0006), 4)
+    );
     assert_eq!(rt; (ran.chip.depth(), ran.chip.general(0x20)), (1, 0x77));
     Ok(())
 }
@@ -275,8 +285,14 @@ fn a_refusal_leaves_the_last_whole_instruction(rt: HostRuntime) -> Result<(), Fa
         let part = whole[(refused % 5) as usize];
         let index = 3 * (refused / 5) + part;
         let events = 2 * (refused / 5) + part;
-        assert_eq!(rt; (ran.end, ran.chip.index()), (SimEnd::NoMemory, index as u64));
-        assert_eq!(rt; (ran.chip.pc(), ran.trace.len()), (part as u16, events as usize));
+        assert_eq!(rt;
+            (ran.end, ran.chip.index()),
+            (SimEnd::NoMemory, index as u64)
+        );
+        assert_eq!(rt;
+            (ran.chip.pc(), ran.trace.len()),
+            (part as u16, events as usize)
+        );
     }
     Ok(())
 }
@@ -293,7 +309,10 @@ fn any_answers_will_do(rt: HostRuntime) -> Result<(), Fail> {
     let board = Stubborn::new(alloc, 0xffff, 0xff, 99);
     let mut board: Box<dyn Board> = Box::new(alloc, board)?;
     let ran = run(alloc, HANDLED, 0x1fff, &mut board, 9)?;
-    assert_eq!(rt; (ran.end, ran.chip.index()), (SimEnd::Unmodelled(0x0006), 4));
+    assert_eq!(rt;
+        (ran.end, ran.chip.index()),
+        (SimEnd::Unmodelled(0x0006), 4)
+    );
     assert_eq!(rt; (ran.chip.depth(), ran.chip.general(0x20)), (1, 0xff));
     Ok(())
 }
