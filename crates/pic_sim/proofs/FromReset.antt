@@ -1,0 +1,35 @@
+-- Runs over a board as runs from reset.
+use Rattle.std.proofs.Common.{◌≡◌, ℕ, zero, suc, ◌+◌, false, List, [], refl, sym, ap, ◌∙◌, subst, add-zero, length, Some, arith}
+use Rattle.pic_chip.specs.Interrupts.{arriving}
+use Rattle.pic_chip.specs.Machine.{Machine}
+use Rattle.pic_chip.specs.Run.{Setting, Moment, moment, observed, stepped}
+use Rattle.pic_map.specs.Tracing.{Tracing}
+use Rattle.pic_sim.specs.declared.board.Exchange.{Exchange}
+use Rattle.pic_sim.specs.Going.{Point, IsAt, Ran, HasBytes, HasMasks, after}
+use Rattle.pic_sim.specs.FromReset.{around, BeginsAtReset, GoesOn, GoesOnByScript}
+
+after_moment : (g : Setting) (k j : ℕ) → after g.image (around g) k (moment g k) j ≡ moment g (k + j)
+unfolding after moment
+after_moment g k zero = ap (moment g) (sym (add-zero k))
+after_moment g k (suc j) =
+    let e : suc (k + j) ≡ k + suc j = omega arith in
+    ap (λ (m : Moment). observed g.watch (stepped g.image g.inputs g.watch.ranges (arriving g.arrivals (k + j)) m)) (after_moment g k j) ∙ ap (moment g) e
+
+pub goes_on : GoesOn
+goes_on g k old new ran bytes masks at =
+    subst (λ (m : Moment). IsAt (around g) m new) (after_moment g old.chip.index k) (ran.run (around g) (moment g old.chip.index) bytes masks at).at
+
+pub goes_on_by_script : GoesOnByScript
+goes_on_by_script g k old new ran follows place at =
+    let all = ran.by_script (record { input = g.inputs; arrivals = g.arrivals }) follows in
+    goes_on g k old new ran (subst (λ (n : ℕ). HasBytes g.inputs n ran.given) place all.0) all.1 at
+
+pub begins : BeginsAtReset
+unfolding moment
+begins g p chip tracing events = record {
+  state = ap (λ (c : Machine). c.state) (sym chip);
+  met = ap (λ (t : Tracing). t.met) (sym tracing);
+  ended = ap (λ (t : Tracing). t.ended) (sym tracing);
+  trace = sym events;
+  watch = ap (λ (t : Tracing). t.watch) (sym tracing);
+}

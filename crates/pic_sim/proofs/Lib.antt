@@ -1,0 +1,6 @@
+mod Accesses
+mod Answering
+mod ArrivalMasks
+mod FromReset
+mod Going
+mod Stepping

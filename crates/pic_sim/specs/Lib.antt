@@ -1,0 +1,6 @@
+pub mod Board
+pub mod ScriptBoard
+pub mod Going
+pub mod Step
+pub mod FromReset
+pub mod Arrivals
