@@ -8,8 +8,10 @@ ghost use Rattle.std.specs.Prelude.{◌≡◌, ℕ, List};
 ghost use Rattle.schedule.specs.ScriptFile.{ScriptContent, IsScriptFile};
 ghost use Rattle.schedule.specs.ScriptExample.{example_text, example_script};
 
+mod off;
 mod read;
 
+pub use off::{Off, read_off};
 pub use read::{ScriptError, read_script};
 
 /// Each text has one content at most.
