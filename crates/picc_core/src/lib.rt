@@ -4,15 +4,19 @@
 // stand, and how many words they are stated to have; or the first of all refusals that hold of the text.
 #![tactic(auto)]
 
+mod agreeing;
 mod code_order;
 mod compiling;
 mod known;
 mod map_range;
 mod refusal;
+mod source_run;
 mod stages;
 
+pub use agreeing::{Agreed, agree};
 pub use c_check::{Kind, RootKind};
 pub use compiling::compile;
 pub use known::{Built, Front};
 pub use refusal::{CompileError, LimitKind, Refusal};
+pub use src_machine::Undef;
 pub use stages::front;
