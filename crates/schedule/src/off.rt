@@ -1,6 +1,6 @@
 //! What a run of the chip tells of its arrivals and of the runs of its handler.
 
-ghost use Rattle.std.specs.Prelude.{◌≡◌, ◌<◌, ◌≤◌, ◌+◌, ◌^◌, length, IfOk};
+ghost use Rattle.std.specs.Prelude.{◌≡◌, ◌<◌, ◌≤◌, ◌+◌, ◌*◌, ◌^◌, length, IfOk, OnOk};
 ghost use Rattle.pic_map.specs.Tracing.{list_of};
 ghost use Rattle.schedule.specs.Watching.{ahead};
 
@@ -93,6 +93,8 @@ pub fn read_off(
     requires moments { n < 2 ^ 31 }
     requires lines { length map.now.objects.items ≤ 65536 }
     ensures moment { IfOk result (λ off. off.moment ≤ n) }
+    // An instruction reads once and writes once at most, and main ends once.
+    ensures few { IfOk result (λ off. off.events ≤ 2 * off.moment + 1) }
 {
     let moment = last_free(image, script, n);
     read_at(alloc, image, map, script, moment)
@@ -194,6 +196,7 @@ fn read_at(
     requires moments { moment < 2 ^ 31 }
     requires lines { length map.now.objects.items ≤ 65536 }
     ensures moment { IfOk result (λ off. off.moment ≡ moment) }
+    ensures few { IfOk result (λ off. off.events ≤ 2 * moment + 1) }
 {
     let mut watched = Watched {
         run: Run::new(),
@@ -230,6 +233,7 @@ fn take_moment(
     ensures same { (watched.new.run ≡ watched.old.run) × (watched.new.runs ≡ watched.old.runs) }
     ensures events { watched.new.events + ahead watched.new.tracer ≤ watched.old.events + ahead watched.old.tracer }
     ensures moment { off.new.moment ≡ off.old.moment }
+    ensures taken { OnOk result (off.new.events ≡ watched.new.events) }
 {
     watched.look();
     put_arrivals(off, &script.arrivals, moment, watched.events)?;
