@@ -1,6 +1,7 @@
 //! Whether the source run beside a run of the chip is defined as far as the two are compared.
 
-ghost use Rattle.std.specs.Prelude.{◌<◌, ◌^◌};
+ghost use Rattle.std.specs.Prelude.{◌<◌, ◌≤◌, ◌+◌, ◌*◌, ◌^◌, IfOk};
+ghost use Rattle.picc_core.specs.Agreement.{events_in};
 
 use crate::known::Built;
 use crate::source_run::{Fault, Going, SourceRun, Stretch};
@@ -40,6 +41,8 @@ pub fn agree(
     n: u32,
 ) -> Result<Agreed, AllocError>
     requires { n < 2 ^ 31 }
+    // An instruction reads once and writes once at most, and main ends once.
+    ensures few { IfOk result (λ agreed. events_in agreed ≤ 2 * n + 1) }
 {
     if built.map.objects.len() > MOST_OBJECTS {
         return Err(AllocError);
