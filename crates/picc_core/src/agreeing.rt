@@ -34,12 +34,7 @@ const MOST_OBJECTS: usize = 65_536;
 /// run under the arrivals up to m has an undefined step among its first `(m + 1) * nodes` that begins while its trace is no
 /// longer than the chip's at m. The first one is told, by rising m, and the run itself last. Otherwise `Same` has the length
 /// of the chip's trace at the moment that counts.
-pub fn agree(
-    alloc: Global,
-    built: &Built,
-    script: &Script,
-    n: u32,
-) -> Result<Agreed, AllocError>
+pub fn agree(alloc: Global, built: &Built, script: &Script, n: u32) -> Result<Agreed, AllocError>
     requires { n < 2 ^ 31 }
     // An instruction reads once and writes once at most, and main ends once.
     ensures few { IfOk result (λ agreed. events_in agreed ≤ 2 * n + 1) }

@@ -12,8 +12,7 @@ use std::test::Fail;
 const MOST: u32 = 100_000;
 
 // A sum that has no room in a char.
-const WIDE: &str =
-    "void main(void){unsigned char a=200;unsigned char b=100;PORTB=(a+b)>>1;}";
+const WIDE: &str = "void main(void){unsigned char a=200;unsigned char b=100;PORTB=(a+b)>>1;}";
 
 // The handler makes main's divisor 0.
 const DIVIDES: &str = "unsigned char x=2;
@@ -28,7 +27,9 @@ PORTB=1/z;}";
 
 // Handlers that never give control back, or only for no time.
 const NEVER_ENDS: &str = "void interrupt h(void){for(;;);}void main(void){INTCON=0x90;for(;;);}";
+
 const NEVER_CLEARS: &str = "void interrupt h(void){PORTB=1;}void main(void){INTCON=0x90;for(;;);}";
+
 const DOES_NOTHING: &str = "void interrupt h(void){}void main(void){INTCON=0x90;for(;;);}";
 
 // An interrupt is enabled while its flag is set, and there is no handler.
@@ -155,7 +156,13 @@ fn a_timer_ticks(rt: HostRuntime) -> Result<(), Fail> {
 fn undefined_steps(rt: HostRuntime) -> Result<(), Fail> {
     let alloc = rt.alloc();
     assert!(rt; is_undefined(answer_at(alloc, DIVIDES, 2_000, 4_000)?, Undef::Division, 4));
-    assert!(rt; is_undefined(answer_at(alloc, DIVIDES_LATER, 200, 400)?, Undef::Division, 3));
+    assert!(rt;
+        is_undefined(
+            answer_at(alloc, DIVIDES_LATER, 200, 400)?,
+            Undef::Division,
+            3
+        )
+    );
     assert!(rt; is_undefined(answer_at(alloc, NO_HANDLER, 0, 2_000)?, Undef::Handler, 3));
     Ok(())
 }

@@ -30,7 +30,8 @@ const PENDING: &str =
 const LOST: &str = "void main(void){INTCON=0x10;INTCON&=0xFD;PORTB=INTCON;}";
 
 // Main does nothing but wait.
-pub const IDLE: &str = "void interrupt h(void){PORTB=1;INTF=0;}void main(void){INTCON=0x90;for(;;);}";
+pub const IDLE: &str =
+    "void interrupt h(void){PORTB=1;INTF=0;}void main(void){INTCON=0x90;for(;;);}";
 
 // A key with a lamp, and a timer's ticks in a structure.
 pub const KEY: &str = "#include <htc.h>
