@@ -3,3 +3,4 @@ pub mod Texts
 pub mod Answers
 pub mod Blocks
 pub mod Compiled
+pub mod Agreement

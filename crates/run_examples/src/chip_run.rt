@@ -142,9 +142,10 @@ pub fn chip_run(
         put_arrivals(&mut run, script, index)?;
         match chip.step(image, script) {
             StepEnd::Done(accesses) => put_accesses(&mut run, watch, map, accesses)?,
-            StepEnd::Unmodelled(_) => break,
+            StepEnd::Unmodelled(_) => return Ok(run),
         }
         run.depth = run.depth.max(chip.depth());
     }
+    look(&mut run, watch, map, chip.pc())?;
     Ok(run)
 }

@@ -7,7 +7,7 @@ use std::alloc::Global;
 use std::test::Fail;
 
 // A function that both roots call.
-const TWO_COPIES: &str =
+pub const TWO_COPIES: &str =
     "unsigned char add(unsigned char a){unsigned char b;b=a;return b+1;}void interrupt h(void){PORTC=add(9);INTF=0;}void main(void){INTCON=0x90;PORTB=add(1);}";
 
 // A value of two bytes that the handler changes while main reads it.
@@ -30,10 +30,11 @@ const PENDING: &str =
 const LOST: &str = "void main(void){INTCON=0x10;INTCON&=0xFD;PORTB=INTCON;}";
 
 // Main does nothing but wait.
-const IDLE: &str = "void interrupt h(void){PORTB=1;INTF=0;}void main(void){INTCON=0x90;for(;;);}";
+pub const IDLE: &str =
+    "void interrupt h(void){PORTB=1;INTF=0;}void main(void){INTCON=0x90;for(;;);}";
 
 // A key with a lamp, and a timer's ticks in a structure.
-const KEY: &str = "#include <htc.h>
+pub const KEY: &str = "#include <htc.h>
 #define LED RB1
 #define KEY RB0
 struct counts { unsigned int ticks; unsigned char presses; };

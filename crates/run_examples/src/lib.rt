@@ -5,6 +5,8 @@
 #![tactic(auto)]
 
 #[cfg(test)]
+mod agree_tests;
+#[cfg(test)]
 mod chip_run;
 #[cfg(test)]
 mod comparing;

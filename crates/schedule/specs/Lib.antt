@@ -2,3 +2,4 @@ pub mod Answers
 pub mod Reading
 pub mod ScriptExample
 pub mod ScriptFile
+pub mod Watching

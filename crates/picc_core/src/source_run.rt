@@ -1,0 +1,143 @@
+//! A run of the source whose steps and events are counted, and what is known of main between two of its events.
+
+use c_typed::Typed;
+use pic_chip::Script;
+use pic_map::Map;
+use src_machine::{Source, SrcEnd, Undef};
+use std::alloc::{AllocError, Global};
+
+/// A step of the source that is undefined: why, and the line.
+#[derive(Clone, Copy, PartialEq, Eq, Debug)]
+pub(crate) struct Fault {
+    pub kind: Undef,
+    pub line: u32,
+}
+
+/// How a run goes on.
+#[derive(Clone, Copy, PartialEq, Eq, Debug)]
+pub(crate) enum Going {
+    Went,
+    Idle,
+    Fault(Fault),
+}
+
+/// A stretch of main: its steps behind so many of its events, up to the next one. So many of them are known to be defined;
+/// none follows them where main has the next event there.
+#[derive(Clone, Copy, PartialEq, Eq, Debug)]
+pub(crate) struct Stretch {
+    pub behind: u64,
+    pub defined: u64,
+}
+
+/// A source run from its start.
+#[derive(Drop)]
+pub(crate) struct SourceRun<'a> {
+    source: Source<'a>,
+    /// The steps of main and the handler together, and the events.
+    pub steps: u64,
+    pub events: u64,
+    /// Main's events, and its steps since the last of them.
+    behind: u64,
+    since: u64,
+    /// The last step was main's, and made no event.
+    local: bool,
+}
+
+impl<'a> SourceRun<'a> {
+    pub fn new(
+        alloc: Global,
+        program: &'a Typed,
+        map: &'a Map,
+    ) -> Result<SourceRun<'a>, AllocError> {
+        Ok(SourceRun {
+            source: Source::new(alloc, program, map)?,
+            steps: 0,
+            events: 0,
+            behind: 0,
+            since: 0,
+            local: false,
+        })
+    }
+
+    /// How many steps main has taken.
+    pub fn main_steps(&self) -> u64 {
+        self.source.main_steps()
+    }
+
+    /// How many runs of the handler have begun.
+    pub fn runs(&self) -> u64 {
+        self.source.runs()
+    }
+
+    /// Takes the next step under a schedule, the same for the whole run.
+    pub fn step(&mut self, schedule: &Script) -> Going {
+        let before = self.source.main_steps();
+        match self.source.step(schedule) {
+            SrcEnd::Undefined { kind, line } => Going::Fault(Fault { kind, line }),
+            SrcEnd::Idle => Going::Idle,
+            SrcEnd::Went(event) => {
+                let by_main = self.source.main_steps() != before;
+                self.note(event.is_some(), by_main);
+                Going::Went
+            }
+        }
+    }
+
+    fn note(&mut self, event: bool, by_main: bool) {
+        self.steps = self.steps.saturating_add(1);
+        self.local = by_main && !event;
+        if event {
+            self.events = self.events.saturating_add(1);
+        }
+        if self.local {
+            self.since = self.since.saturating_add(1);
+        } else if by_main {
+            self.behind = self.behind.saturating_add(1);
+            self.since = 0;
+        }
+    }
+
+    /// Whether main is in this stretch, and so many steps more are known to be defined, or the stretch ends before.
+    ///
+    /// What main does from one of its events to the next depends on its own variables and on constants alone. The handler
+    /// changes neither: an access to a variable of main is undefined there. And what belongs to the handler lives no longer
+    /// when main goes on. So the stretch is the same in each run that is the same up to its first event, whatever runs of
+    /// the handler lie in between. While main makes no event no flag changes. So behind a step of main without an event
+    /// no run of the handler begins before main's next event.
+    pub fn is_known(&self, stretch: Stretch, more: u64) -> bool {
+        self.local
+            && self.behind == stretch.behind
+            && self.since.saturating_add(more) <= stretch.defined
+    }
+
+    /// Goes on in main's stretch for so many steps at most, and tells what is known of it then.
+    pub fn look_ahead(&mut self, schedule: &Script, most: u64) -> Option<Stretch> {
+        if !self.local {
+            return None;
+        }
+        let behind = self.behind;
+        for _ in 0..most {
+            match self.step(schedule) {
+                Going::Went => {
+                    if !self.local {
+                        return Some(whole(behind));
+                    }
+                }
+                Going::Idle => return Some(whole(behind)),
+                Going::Fault(_) => break,
+            }
+        }
+        Some(Stretch {
+            behind,
+            defined: self.since,
+        })
+    }
+}
+
+/// A stretch all of whose steps are defined.
+fn whole(behind: u64) -> Stretch {
+    Stretch {
+        behind,
+        defined: u64::MAX,
+    }
+}

@@ -1,0 +1,178 @@
+//! What `agree` answers of programs whose runs are known.
+
+use crate::chip_run::chip_run;
+use crate::comparing::built;
+use crate::interrupts::{IDLE, KEY, TWO_COPIES};
+use pic_chip::{Arrival, Flag, Script};
+use picc_core::{Agreed, Built, Undef, agree};
+use std::alloc::{AllocError, Global};
+use std::test::Fail;
+
+/// The most instructions of a test.
+const MOST: u32 = 100_000;
+
+// A sum that has no room in a char.
+const WIDE: &str = "void main(void){unsigned char a=200;unsigned char b=100;PORTB=(a+b)>>1;}";
+
+// The handler makes main's divisor 0.
+const DIVIDES: &str = "unsigned char x=2;
+void interrupt h(void){x=0;INTF=0;}
+void main(void){INTCON=0x90;for(;;)
+PORTB=10/x;}";
+
+// Main's own division by 0 stands far behind the event at which the handler is called.
+const DIVIDES_LATER: &str = "void interrupt h(void){PORTC=1;INTF=0;}
+void main(void){unsigned char i;unsigned char z=0;INTCON=0x90;for(i=0;i<100;i++);
+PORTB=1/z;}";
+
+// Handlers that never give control back, or only for no time.
+const NEVER_ENDS: &str = "void interrupt h(void){for(;;);}void main(void){INTCON=0x90;for(;;);}";
+
+const NEVER_CLEARS: &str = "void interrupt h(void){PORTB=1;}void main(void){INTCON=0x90;for(;;);}";
+
+const DOES_NOTHING: &str = "void interrupt h(void){}void main(void){INTCON=0x90;for(;;);}";
+
+// An interrupt is enabled while its flag is set, and there is no handler.
+const NO_HANDLER: &str = "void main(void){INTE=1;
+GIE=1;
+PORTA=2;}";
+
+fn script_of(alloc: Global, arrivals: &[Arrival]) -> Result<Script, AllocError> {
+    Ok(Script {
+        input: Vec::from_slice(alloc, &[1, 0, 0, 0, 0, 1, 1, 1])?,
+        arrivals: Vec::from_slice(alloc, arrivals)?,
+    })
+}
+
+fn answer(alloc: Global, program: &Built, script: &Script, n: u32) -> Result<Agreed, Fail> {
+    if n > MOST {
+        return Err(Fail::new("too many instructions"));
+    }
+    Ok(agree(alloc, program, script, n)?)
+}
+
+/// The answer for a text under one arrival of INTF.
+fn answer_at(alloc: Global, text: &str, t: u32, n: u32) -> Result<Agreed, Fail> {
+    let program = built(alloc, text)?;
+    let arrival = Arrival {
+        t,
+        flag: Flag::Intf,
+    };
+    answer(alloc, &program, &script_of(alloc, &[arrival])?, n)
+}
+
+fn is_same(answer: Agreed, wanted: u32) -> bool {
+    match answer {
+        Agreed::Same { events } => events == wanted,
+        Agreed::Undefined { .. } => false,
+    }
+}
+
+fn is_undefined(answer: Agreed, wanted: Undef, at: u32) -> bool {
+    match answer {
+        Agreed::Same { .. } => false,
+        Agreed::Undefined { kind, line } => kind == wanted && line == at,
+    }
+}
+
+/// For how many numbers of instructions, up to so many, the answer isn't the number of the chip's events.
+fn wrong_lengths(alloc: Global, text: &str, most: u32) -> Result<usize, Fail> {
+    let program = built(alloc, text)?;
+    let script = script_of(alloc, &[])?;
+    let mut wrong: usize = 0;
+    for n in 0..=most {
+        let run = chip_run(alloc, &program.image, &program.map, &script, n, 0)?;
+        let events = u32::try_from(run.events.len()).unwrap_or(u32::MAX);
+        if !is_same(answer(alloc, &program, &script, n)?, events) {
+            wrong = wrong.wrapping_add(1);
+        }
+    }
+    Ok(wrong)
+}
+
+#[test]
+fn without_arrivals_all_events_count(rt: HostRuntime) -> Result<(), Fail> {
+    let alloc = rt.alloc();
+    assert_eq!(rt; wrong_lengths(alloc, WIDE, 300)?, 0);
+    // the write to PORTB, and the end of main
+    let program = built(alloc, WIDE)?;
+    let all = answer(alloc, &program, &script_of(alloc, &[])?, 3_000)?;
+    assert!(rt; is_same(all, 2));
+    Ok(())
+}
+
+#[test]
+fn an_arrival_before_any_instruction(rt: HostRuntime) -> Result<(), Fail> {
+    let alloc = rt.alloc();
+    let program = built(alloc, TWO_COPIES)?;
+    let mut wrong: usize = 0;
+    for number in 0..=100u32 {
+        let arrival = Arrival {
+            t: number.saturating_mul(9).saturating_add(100),
+            flag: Flag::Intf,
+        };
+        let got = answer(alloc, &program, &script_of(alloc, &[arrival])?, 2_000)?;
+        if !is_same(got, 6) {
+            wrong = wrong.wrapping_add(1);
+        }
+    }
+    // main's two writes and its end, and the handler's three accesses
+    assert_eq!(rt; wrong, 0);
+    // a flag that is set before INTCON is written is lost
+    assert!(rt; is_same(answer_at(alloc, TWO_COPIES, 0, 2_000)?, 3));
+    Ok(())
+}
+
+#[test]
+fn main_waits(rt: HostRuntime) -> Result<(), Fail> {
+    let alloc = rt.alloc();
+    // the write to INTCON, and the handler's three accesses
+    assert!(rt; is_same(answer_at(alloc, IDLE, 5_000, 10_000)?, 4));
+    assert!(rt; is_same(answer_at(alloc, IDLE, 10_001, 10_000)?, 1));
+    Ok(())
+}
+
+#[test]
+fn a_timer_ticks(rt: HostRuntime) -> Result<(), Fail> {
+    let alloc = rt.alloc();
+    let mut arrivals = Vec::new(alloc);
+    for number in 1..=6u32 {
+        arrivals.push(Arrival {
+            t: number.saturating_mul(500),
+            flag: Flag::Tmr0if,
+        })?;
+    }
+    let program = built(alloc, KEY)?;
+    let script = script_of(alloc, &arrivals)?;
+    // the last arrival calls the handler at 3,000, so the moment before it counts
+    let run = chip_run(alloc, &program.image, &program.map, &script, 2_999, 0)?;
+    let events = u32::try_from(run.events.len()).unwrap_or(u32::MAX);
+    assert!(rt; events >= 30);
+    assert!(rt; is_same(answer(alloc, &program, &script, 3_000)?, events));
+    Ok(())
+}
+
+#[test]
+fn undefined_steps(rt: HostRuntime) -> Result<(), Fail> {
+    let alloc = rt.alloc();
+    assert!(rt; is_undefined(answer_at(alloc, DIVIDES, 2_000, 4_000)?, Undef::Division, 4));
+    assert!(rt;
+        is_undefined(
+            answer_at(alloc, DIVIDES_LATER, 200, 400)?,
+            Undef::Division,
+            3
+        )
+    );
+    assert!(rt; is_undefined(answer_at(alloc, NO_HANDLER, 0, 2_000)?, Undef::Handler, 3));
+    Ok(())
+}
+
+#[test]
+fn a_handler_that_keeps_control(rt: HostRuntime) -> Result<(), Fail> {
+    let alloc = rt.alloc();
+    // the write to INTCON alone comes before the handler
+    assert!(rt; is_same(answer_at(alloc, NEVER_ENDS, 1_000, 4_000)?, 1));
+    assert!(rt; is_same(answer_at(alloc, NEVER_CLEARS, 1_000, 4_000)?, 1));
+    assert!(rt; is_same(answer_at(alloc, DOES_NOTHING, 1_000, 4_000)?, 1));
+    Ok(())
+}
