@@ -1,18 +1,18 @@
 -- What the accesses of an instruction are: which of them take an input byte, and that each is named by the lowest
 -- address of its register.
-use Rattle.std.proofs.Common.{◌≡◌, ℕ, zero, suc, ◌+◌, ◌-◌, ◌*◌, ◌/◌, ◌%◌, ◌<◌, ◌≤◌, Bool, true, false, not, List, [], ◌∷◌, ◌++◌, refl, sym, ap, ◌∙◌, subst, add-zero, append-nil, length, arith, slice_index, map, Option, Some, None, IsTrue, nat_eq, nat_lt}
+use Rattle.std.proofs.Common.{◌≡◌, ℕ, zero, suc, ◌+◌, ◌-◌, ◌*◌, ◌/◌, ◌%◌, ◌<◌, ◌≤◌, Bool, true, false, not, List, [], ◌∷◌, ◌++◌, refl, sym, ap, ◌∙◌, subst, add-zero, append-nil, length, arith, slice_index, Option, Some, None, nat_eq, nat_lt}
 use Rattle.std.specs.Prelude.{if◌then◌else◌, ◌&&◌, ◌||◌, is_some, nat_le, slice_index_or, bit_and, bit_or, bit_xor}
 use Rattle.std.proofs.lemmas.Bool.{agree_below_at, eqb-true, ltb-true, ltb-false}
 use Rattle.pic_isa.specs.declared.Ins.{Ins}
 use Rattle.pic_isa.specs.declared.Ins.TheVariants.{Addwf, Andwf, Clrf, Clrw, Comf, Decf, Decfsz, Incf, Incfsz, Iorwf, Movf, Movwf, Nop, Rlf, Rrf, Subwf, Swapf, Xorwf, Bcf, Bsf, Btfsc, Btfss, Addlw, Andlw, Call, Clrwdt, Goto, Iorlw, Movlw, Retfie, Retlw, Return, Sleep, Sublw, Xorlw}
 use Rattle.pic_isa.specs.Lookup.{row_of, no_row, groups, byte_rows, bit_rows, jump_rows, literal_rows, control_row, clear_row, dest_bit}
-use Rattle.pic_chip.specs.State.{State, AtW, AtPc, AtBank, AtZ, AtDc, AtC, AtFsr, AtPclath, AtIntcon, AtPushes, AtPops, AtTaken, Ram, Level, put, get}
-use Rattle.pic_chip.specs.Registers.{Register, registers, register_at, is_among, is_register, lowest, or_itself, name_in, name_at}
+use Rattle.pic_chip.specs.State.{State, AtW, AtPc, AtBank, AtZ, AtC, AtFsr, AtIntcon, put}
+use Rattle.pic_chip.specs.Registers.{Register, registers, register_at, is_among, is_register, lowest, or_itself}
 use Rattle.pic_chip.specs.Act.{Derived, Write, Note, Effect, Made, made, accesses, Act, Ask, Do, value_in, apply, effect, perform}
 use Rattle.pic_chip.specs.Address.{Place, Pcl, Status, Fsr, Pclath, Intcon, General, Device, Nothing, place, indirect, operand, in_every_bank, address_of}
 use Rattle.pic_chip.specs.Instructions.{contents, after_read, store, result_to, byte_row, test_row, write_row, plain_row, is_empty, to, of, part, with_part, number, bit, set_bit, clear_bit, access, note, write_note, following, skipping, z_of, sum, sum_flags, difference, difference_flags, complement, increment, decrement, swap, is_zero, page, push, pop, row, act_of, execute, fetched, is_modelled}
 use Rattle.pic_chip.specs.Interrupts.{enter, raised, begun, is_due}
-use Rattle.pic_chip.specs.Machine.{wanted, takes_input, stop_at}
+use Rattle.pic_chip.specs.Machine.{wanted, takes_input}
 use Rattle.pic_sim.specs.declared.board.Exchange.{Exchange}
 use Rattle.pic_sim.specs.Board.{is_outside}
 use Rattle.pic_sim.specs.Going.{reads_of}

@@ -9,7 +9,6 @@ use Rattle.pic_chip.specs.declared.Flag.TheVariants.{Rbif, Intf, Tmr0if}
 use Rattle.pic_chip.specs.Instructions.{truth}
 use Rattle.pic_chip.specs.Interrupts.{arriving, flag_bit}
 use Rattle.pic_chip.proofs.Masks.{or_three, arriving_small}
-use Rattle.pic_sim.specs.declared.board.Exchange.{Exchange}
 use Rattle.pic_sim.specs.Going.{HasBytes, HasMasks}
 use Rattle.pic_sim.specs.FromReset.{bytes_of, arrival, flags_at, arrivals_of, AnswersAreInput, MasksAreArrivals}
 

@@ -1,11 +1,10 @@
 -- Runs over a board as runs from reset.
-use Rattle.std.proofs.Common.{◌≡◌, ℕ, zero, suc, ◌+◌, false, List, [], refl, sym, ap, ◌∙◌, subst, add-zero, length, Some, arith}
+use Rattle.std.proofs.Common.{◌≡◌, ℕ, zero, suc, ◌+◌, sym, ap, ◌∙◌, subst, add-zero, arith}
 use Rattle.pic_chip.specs.Interrupts.{arriving}
 use Rattle.pic_chip.specs.Machine.{Machine}
 use Rattle.pic_chip.specs.Run.{Setting, Moment, moment, observed, stepped}
 use Rattle.pic_map.specs.Tracing.{Tracing}
-use Rattle.pic_sim.specs.declared.board.Exchange.{Exchange}
-use Rattle.pic_sim.specs.Going.{Point, IsAt, Ran, HasBytes, HasMasks, after}
+use Rattle.pic_sim.specs.Going.{IsAt, HasBytes, after}
 use Rattle.pic_sim.specs.FromReset.{around, BeginsAtReset, GoesOn, GoesOnByScript}
 
 after_moment : (g : Setting) (k j : ℕ) → after g.image (around g) k (moment g k) j ≡ moment g (k + j)

@@ -1,18 +1,16 @@
 -- Runs over a board, instruction by instruction.
-use Rattle.std.proofs.Common.{◌≡◌, ℕ, zero, suc, ◌+◌, ◌-◌, ◌%◌, ◌<◌, ◌≤◌, Bool, true, false, not, List, [], ◌∷◌, ◌++◌, refl, sym, ap, ◌∙◌, subst, add-zero, append-nil, append_assoc, length-append, length, arith, slice_index, Option, Some, None, nat_eq}
+use Rattle.std.proofs.Common.{◌≡◌, ℕ, suc, ◌+◌, ◌%◌, ◌<◌, ◌≤◌, Bool, true, false, List, [], ◌∷◌, ◌++◌, refl, sym, ap, ◌∙◌, subst, add-zero, append-nil, append_assoc, length-append, length, arith, None, nat_eq}
 use Rattle.std.specs.Prelude.{if◌then◌else◌, ◌&&◌}
 use Rattle.std.proofs.lemmas.Bool.{eqb-true, eqb-false}
-use Rattle.pic_chip.specs.declared.Event.{Event}
-use Rattle.pic_chip.specs.declared.Event.TheVariants as events
-use Rattle.pic_chip.specs.Act.{Made, accesses, perform}
+use Rattle.pic_chip.specs.Act.{Made, accesses}
 use Rattle.pic_chip.specs.Instructions.{execute}
-use Rattle.pic_chip.specs.Interrupts.{arriving, begun}
+use Rattle.pic_chip.specs.Interrupts.{arriving}
 use Rattle.pic_chip.specs.Machine.{stop_at, takes_input}
-use Rattle.pic_chip.specs.Run.{Watch, Moment, Setting, observed, stepped, moment, events_of}
-use Rattle.pic_map.specs.Tracing.{Tracing, looked, told, ends_at}
+use Rattle.pic_chip.specs.Run.{Moment, observed, stepped}
+use Rattle.pic_map.specs.Tracing.{Tracing}
 use Rattle.pic_sim.specs.declared.board.Exchange.{Exchange}
-use Rattle.pic_sim.specs.Board.{Followed, is_outside}
-use Rattle.pic_sim.specs.Going.{Around, Known, Point, IsAt, Leads, Ran, after, made_in, begun_at, HasBytes, HasMasks, reads_of, writes_of}
+use Rattle.pic_sim.specs.Board.{is_outside}
+use Rattle.pic_sim.specs.Going.{Around, Point, IsAt, Leads, Ran, after, made_in, begun_at, HasBytes, HasMasks, reads_of, writes_of}
 use Rattle.pic_sim.specs.Step.{Steps, Follows, slack}
 
 -- ---- lists

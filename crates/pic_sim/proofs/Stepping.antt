@@ -1,5 +1,5 @@
 -- One instruction over a board, from its parts.
-use Rattle.std.proofs.Common.{◌≡◌, ℕ, ◌+◌, ◌%◌, ◌^◌, ◌<◌, Bool, true, false, not, List, [], ◌∷◌, ◌++◌, refl, sym, ap, ◌∙◌, subst, append-nil, append_assoc, length, slice_index, Option, Some, None, nat_eq, IsSome, IfSome, option_to_list}
+use Rattle.std.proofs.Common.{◌≡◌, ℕ, ◌+◌, ◌%◌, Bool, true, false, not, List, [], ◌∷◌, ◌++◌, refl, sym, ap, ◌∙◌, subst, append-nil, append_assoc, length, slice_index, Option, Some, None, nat_eq, IsSome, IfSome}
 use Rattle.std.specs.Prelude.{if◌then◌else◌, ◌&&◌}
 use Rattle.pic_chip.specs.declared.Event.{Event}
 use Rattle.pic_chip.specs.declared.Event.TheVariants as events
@@ -16,9 +16,9 @@ use Rattle.pic_chip.specs.Seen.{accesses_in, stopped_at, seen}
 use Rattle.pic_map.specs.Tracing.{Tracing, looked, told}
 use Rattle.pic_sim.specs.declared.board.Exchange.{Exchange}
 use Rattle.pic_sim.specs.Board.{Lists, Followed}
-use Rattle.pic_sim.specs.Going.{Around, Known, Point, IsAt, Stops, begun_at, HasBytes, reads_of, writes_of}
+use Rattle.pic_sim.specs.Going.{Around, Point, IsAt, Stops, begun_at, HasBytes, reads_of, writes_of}
 use Rattle.pic_sim.specs.Step.{Acted, Follows, Steps, AreLowest, given_of, shown_all}
-use Rattle.pic_sim.proofs.Accesses.{IsPlain, is_plain, begun_count, begun_same, stopped_quiet}
+use Rattle.pic_sim.proofs.Accesses.{is_plain, begun_count, begun_same, stopped_quiet}
 
 -- ---- what the chip does
 feeds_of : (inputs : List ℕ) (place byte : ℕ) (o : Option ℕ) → HasBytes inputs place (given_of o byte) → Feeds inputs place byte o

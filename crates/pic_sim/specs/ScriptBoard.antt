@@ -1,7 +1,6 @@
 -- What a board that follows a script keeps.
-use Rattle.std.specs.Prelude.{ℕ, ◌-◌, min, Vec}
+use Rattle.std.specs.Prelude.{ℕ, ◌-◌, min}
 use Rattle.std.specs.Vec.{vec_len, vec_capacity}
-use Rattle.std.specs.declared.alloc.Global.{Global}
 use Rattle.pic_sim.specs.Board.{Lists, Followed, followed}
 use Rattle.pic_sim.specs.declared.script_board.ScriptBoard.{ScriptBoard}
 

@@ -1,5 +1,5 @@
 -- One instruction over a board, in parts.
-use Rattle.std.specs.Prelude.{ℕ, ◌+◌, ◌%◌, ◌≡◌, Bool, true, false, if◌then◌else◌, List, [], ◌∷◌, ◌++◌, length, Option, Some, None, IsSome, IsTrue}
+use Rattle.std.specs.Prelude.{ℕ, ◌+◌, ◌%◌, ◌≡◌, if◌then◌else◌, List, [], ◌∷◌, ◌++◌, length, Option, Some, None, IsSome, IsTrue}
 use Rattle.pic_chip.specs.declared.Event.{Event}
 use Rattle.pic_chip.specs.declared.access.StepEnd.{StepEnd}
 use Rattle.pic_chip.specs.Act.{Made, accesses, perform}
@@ -14,7 +14,7 @@ use Rattle.pic_sim.specs.declared.board.Exchange.{Exchange}
 use Rattle.pic_sim.specs.declared.running.SimEnd.{SimEnd}
 use Rattle.pic_sim.specs.declared.running.SimEnd.TheVariants.{Done, Unmodelled, NoMemory}
 use Rattle.pic_sim.specs.Board.{Followed, is_outside}
-use Rattle.pic_sim.specs.Going.{Around, Known, Point, IsAt, HasBytes, MayGrow, Stops, Breaks, reads_of, writes_of, begun_at}
+use Rattle.pic_sim.specs.Going.{Around, Known, Point, IsAt, HasBytes, Stops, Breaks, reads_of, writes_of, begun_at}
 
 -- the answer to what an instruction wants
 abbrev pub given_of : Option ℕ → ℕ → List Exchange
