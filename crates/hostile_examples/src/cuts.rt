@@ -180,7 +180,7 @@ const SHORT_MAP: &str = "picc map 1\nmain 0005\nhalt 0006\nend\n";
 
 // A text whose map has objects and frames of several kinds.
 const KEYS: &str =
-    "const unsigned char t[12]={7};struct s{int a;char b;};struct s n[40];unsigned char last;void interrupt tick(void){if(TMR0IF){TMR0IF=0;n[0].a++;}}int half(int x){return x/2;}void main(void){GIE=1;for(;;){last=half(n[1].a);PORTB=last;}}";
+    "const unsigned char t[12]={7};struct s{int a;char b;};struct s n[20];unsigned char last;void interrupt tick(void){if(TMR0IF){TMR0IF=0;n[0].a++;}}int half(int x){return x/2;}void main(void){GIE=1;for(;;){last=half(n[1].a);PORTB=last;}}";
 
 // Forty arrivals.
 fn ticks(alloc: Global) -> Result<String, AllocError> {
