@@ -12,3 +12,14 @@ pub mod TraceRun
 pub mod TraceEnds
 pub mod Forms
 pub mod MapRanges
+pub mod FormEnds
+pub mod InputFiles
+pub mod Generated
+pub mod WordsFound
+pub mod FewObjects
+pub mod Limits
+pub mod EventLines
+pub mod FormPrints
+pub mod ChipEnds
+pub mod Sound
+pub mod NothingDone

@@ -8,12 +8,15 @@ use Rattle.picc_cli.specs.declared.building.Outcome.{Outcome}
 use Rattle.picc_cli.specs.declared.program.Assignment.{Assignment}
 use Rattle.picc_cli.specs.declared.tracing.Ended.{Ended}
 use Rattle.picc_cli.specs.Built.{IsRefused}
-use Rattle.picc_cli.specs.Command.{Names, Asked, Form, Build, Trace}
+use Rattle.picc_cli.specs.Agreement as agreement
+use Rattle.picc_cli.specs.Chip as chip
+use Rattle.picc_cli.specs.Command.{Names, Asked, Simulated, Compared, Form, Build, Trace, Simulate, Agree, Generate}
 use Rattle.picc_cli.specs.Lines.{usage_line, cannot_read}
 use Rattle.picc_cli.specs.Outcome as build
 use Rattle.picc_cli.specs.Outcome.{Builds, Refuses, BreaksOff}
 use Rattle.picc_cli.specs.PortProgram.{IsProgram}
-use Rattle.picc_cli.specs.Said.{GivesUp}
+use Rattle.picc_cli.specs.Said.{GivesUp, Prints}
+use Rattle.picc_cli.specs.Summary.{IsSummed}
 use Rattle.picc_cli.specs.Trace as trace
 use Rattle.picc_cli.specs.Trace.{IsScript, Knows, IsTraceText}
 
@@ -28,13 +31,19 @@ abbrev pub HasFiles : Option Form → Contents → Option Contents → ℕ → T
 HasFiles None old new result = new ≡ Some old
 HasFiles (Some (Build names)) old new result = BuildHasFiles names old new result
 HasFiles (Some (Trace asked)) old new result = new ≡ Some old
+HasFiles (Some (Simulate asked)) old new result = new ≡ Some old
+HasFiles (Some (Agree asked)) old new result = new ≡ Some old
+HasFiles (Some (Generate functions)) old new result = new ≡ Some old
 
 -- ---- the faults of the outside
--- a file that the command is to read has no content
+-- a file that the command comes to has no content
 abbrev pub LacksFile : Option Form → Option Contents → Type 0
 LacksFile None old = ⊥
 LacksFile (Some (Build names)) old = Lacks old names.input
 LacksFile (Some (Trace asked)) old = Lacks old asked.input ⊎ Lacks old asked.script
+LacksFile (Some (Simulate asked)) old = chip.LacksFile asked old
+LacksFile (Some (Agree asked)) old = agreement.LacksFile asked old
+LacksFile (Some (Generate functions)) old = ⊥
 
 -- 3 is answered only for a fault, and each of them is answered
 pub record HasFaults (kind : Kind) (before now : ℕ) (form : Option Form) (old : Option Contents) (result : ℕ) : Type 0 where
@@ -50,6 +59,9 @@ abbrev pub IsStatus : Option Form → ℕ → Type 0
 IsStatus None result = (result ≡ 2) ⊎ GivesUp result
 IsStatus (Some (Build names)) result = (result ≡ 0) ⊎ ((result ≡ 1) ⊎ GivesUp result)
 IsStatus (Some (Trace asked)) result = (result ≡ 0) ⊎ ((result ≡ 1) ⊎ ((result ≡ 4) ⊎ ((result ≡ 5) ⊎ GivesUp result)))
+IsStatus (Some (Simulate asked)) result = (result ≡ 0) ⊎ ((result ≡ 5) ⊎ ((result ≡ 6) ⊎ GivesUp result))
+IsStatus (Some (Agree asked)) result = (result ≡ 0) ⊎ ((result ≡ 1) ⊎ ((result ≡ 4) ⊎ ((result ≡ 5) ⊎ GivesUp result)))
+IsStatus (Some (Generate functions)) result = (result ≡ 0) ⊎ GivesUp result
 
 pub record HasStatus (form : Option Form) (result : ℕ) : Type 0 where
   pub known : IsStatus form result
@@ -80,10 +92,17 @@ pub record TracePrints (kind : Kind) (asked : Asked) (old new : Option (List ℕ
   -- over a sound host, where only files can be missing, the line says which
   pub sound : IsTrue kind.is_sound → result ≡ 3 → (new ≡ option_map (λ text. text ++ cannot_read asked.input) old) ⊎ (new ≡ option_map (λ text. text ++ cannot_read asked.script) old)
 
+-- a program that is generated is printed with status 0
+abbrev pub zero_of : Unit {0} → ℕ
+zero_of _ = 0
+
 abbrev pub HasPrinted : Kind → Option Form → Option (List ℕ) → Option (List ℕ) → ℕ → Type 0
 HasPrinted kind None old new result = UsagePrints old new result
 HasPrinted kind (Some (Build names)) old new result = BuildPrints kind names old new result
 HasPrinted kind (Some (Trace asked)) old new result = TracePrints kind asked old new result
+HasPrinted kind (Some (Simulate asked)) old new result = Prints chip.status_of (chip.IsChipText asked) old new result
+HasPrinted kind (Some (Agree asked)) old new result = Prints agreement.status_of (agreement.IsText asked) old new result
+HasPrinted kind (Some (Generate functions)) old new result = Prints zero_of (λ (_ : Unit {0}) text. IsSummed functions text) old new result
 
 -- ---- where the host tells both
 -- the line that is printed is that of a refusal that holds of the text
@@ -105,6 +124,10 @@ abbrev pub HasTold : Option Form → Contents → Option Contents → Option (Li
 HasTold None old new before after result = Unit {0}
 HasTold (Some (Build names)) old new before after result = result ≡ 1 → BuildTells names old new before after
 HasTold (Some (Trace asked)) old new before after result = GivesUp result ⊎ TraceTells asked old before after result
+-- of the other forms nothing is said here yet
+HasTold (Some (Simulate asked)) old new before after result = Unit {0}
+HasTold (Some (Agree asked)) old new before after result = Unit {0}
+HasTold (Some (Generate functions)) old new before after result = Unit {0}
 
 -- ---- without a fault and with memory enough, each command ends as it is to end
 pub record BuildCompletes (names : Names) (old : Contents) (result : ℕ) : Type 0 where
@@ -124,6 +147,9 @@ abbrev pub Completes : Option Form → Contents → ℕ → Type 0
 Completes None old result = (result ≡ 2) ⊎ (result ≡ 9)
 Completes (Some (Build names)) old result = BuildCompletes names old result
 Completes (Some (Trace asked)) old result = TraceCompletes asked old result
+Completes (Some (Simulate asked)) old result = (result ≡ 0) ⊎ ((result ≡ 5) ⊎ ((result ≡ 6) ⊎ (result ≡ 9)))
+Completes (Some (Agree asked)) old result = (result ≡ 0) ⊎ ((result ≡ 1) ⊎ ((result ≡ 4) ⊎ ((result ≡ 5) ⊎ (result ≡ 9))))
+Completes (Some (Generate functions)) old result = (result ≡ 0) ⊎ (result ≡ 9)
 
 abbrev pub IsComplete : Kind → ℕ → ℕ → Option Form → Contents → ℕ → Type 0
 IsComplete kind before now form old result = (IsCounted kind before now → ⊥) → Completes form old result

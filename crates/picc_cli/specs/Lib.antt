@@ -4,9 +4,16 @@ pub mod PortCode
 pub mod Built
 pub mod Command
 pub mod CommandView
+pub mod Clap
 pub mod Refusals
 pub mod Lines
 pub mod Said
 pub mod Outcome
 pub mod Trace
+pub mod HexReasons
+pub mod Inputs
+pub mod Chip
+pub mod Agreement
+pub mod Summary
 pub mod Finished
+pub mod Generated

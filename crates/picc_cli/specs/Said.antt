@@ -33,3 +33,10 @@ pub record IsUnsaid (kind : Kind) (before now : ℕ) (old new : Option (List ℕ
 
 abbrev pub Says : Kind → ℕ → ℕ → Option (List ℕ) → Option (List ℕ) → List ℕ → ℕ → ℕ → Type 0
 Says kind before now old new line status result = IsSaid before now old new line status result ⊎ IsUnsaid kind before now old new line result
+
+-- ---- what a command prints in all, by how it can end
+-- the whole text of an end with this status, where it gives up neither for a fault nor for want of memory; a prefix of one
+-- where it does
+pub record Prints {E : Type 0} (status_of : E → ℕ) (IsText : E → List ℕ → Type 0) (old new : Option (List ℕ)) (result : ℕ) : Type 0 where
+  pub whole : GivesUp result ⊎ ((ended : E) × (text : List ℕ) × (status_of ended ≡ result) × IsText ended text × (new ≡ option_map (λ t. t ++ text) old))
+  pub prefix : GivesUp result → (ended : E) × (text : List ℕ) × IsText ended text × PrintsPrefix old new text

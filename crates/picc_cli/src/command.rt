@@ -1,8 +1,13 @@
 // The words of the command line.
-ghost use Rattle.std.specs.Prelude.{◌≡◌, option_map};
+ghost use Rattle.std.specs.Prelude.{◌≡◌, ◌∷◌, map, option_map, IfOk};
 ghost use Rattle.picc_cli.specs.Command as stated;
-ghost use Rattle.picc_cli.specs.Command.{form_of, words_of};
+ghost use Rattle.picc_cli.specs.Command.{form_of, form_by_name, words_of};
 ghost use Rattle.picc_cli.specs.CommandView.{form_view};
+ghost use Rattle.picc_cli.specs.Clap.{words_found};
+
+use crate::parsing::{all_names, parsed};
+use clap::ArgMatches;
+use std::alloc::{AllocError, Global};
 
 /// The files of a build: the C text that is read, and the HEX and the map that are written.
 #[derive(Clone, Copy)]
@@ -20,85 +25,170 @@ pub struct Asked<'a> {
     pub steps: u32,
 }
 
-/// A command of one of the forms that there are so far.
+/// What is simulated: the HEX, its map and the script that are read, and how many instructions are run.
+#[derive(Clone, Copy)]
+pub struct Simulated<'a> {
+    pub hex: &'a str,
+    pub map: &'a str,
+    pub script: &'a str,
+    pub instructions: u32,
+}
+
+/// What is compared: the C text and the script that are read, and how many instructions of the chip are run at most.
+#[derive(Clone, Copy)]
+pub struct Compared<'a> {
+    pub input: &'a str,
+    pub script: &'a str,
+    pub instructions: u32,
+}
+
+/// A command of one of the five forms.
 #[derive(Clone, Copy)]
 pub enum Command<'a> {
     Build(Files<'a>),
     Trace(Asked<'a>),
+    Simulate(Simulated<'a>),
+    Agree(Compared<'a>),
+    /// The size of the program that is generated, 1 to 64.
+    Generate(u32),
 }
 
 /// The most steps that a trace can be asked for.
-const MOST_STEPS: u64 = 1_000_000;
+const MOST_STEPS: u32 = 1_000_000;
 
-/// The command `build IN OUT MAP` or `trace IN SCRIPT M`, or `None` where the words are of neither form. A name isn't
-/// empty and doesn't begin with `-`; the three names of a build differ; and M is a number of one to ten decimal
-/// digits, up to 1,000,000.
-pub fn command_of(words: &[String]) -> Option<Command<'_>>
-    ensures { option_map form_view result ≡ form_of (words_of words.now) }
+/// The most instructions that can be simulated.
+const MOST_SIMULATED: u32 = 1_000_000;
+
+/// The most instructions that can be compared with the source.
+const MOST_COMPARED: u32 = 100_000;
+
+/// The largest program that can be generated.
+const LARGEST: u32 = 64;
+
+/// The command `build IN OUT MAP`, `trace IN SCRIPT M`, `sim HEX MAP SCRIPT N`, `agree IN SCRIPT N` or `gen K`, or
+/// `None` where the words are of no form. No word is empty or begins with `-`, and the three names of a build differ. A
+/// number is one to ten decimal digits: M and the N of `sim` are at most 1,000,000, the N of `agree` is at most 100,000,
+/// and K is 1 to 64. `Err` is want of memory.
+pub fn command_of(alloc: Global, words: &[String]) -> Result<Option<Command<'_>>, AllocError>
+    ensures { IfOk result (λ command. option_map form_view command ≡ form_of (words_of words.now)) }
 {
-    let [command, first, second, third] = words else {
-        return None;
-    };
-    command_in(
-        command.as_str(),
-        first.as_str(),
-        second.as_str(),
-        third.as_str(),
-    )
+    if !all_names(words) {
+        return Ok(None);
+    }
+    match parsed(alloc, words)? {
+        Some(matches) => Ok(command_found(&matches)),
+        None => Ok(None),
+    }
 }
 
-#[tactic(auto, unfolding(crate::specs::Command::form_in))]
-fn command_in<'a>(
-    command: &str,
-    first: &'a str,
-    second: &'a str,
-    third: &'a str,
-) -> Option<Command<'a>>
-    ensures { option_map form_view result ≡ stated.form_in command.now first.now second.now third.now }
+/// The command of words that were parsed.
+fn command_found<'a>(matches: &ArgMatches<'a>) -> Option<Command<'a>>
+    ensures { option_map form_view result ≡ form_by_name (words_found matches.now) }
 {
-    let files = Files {
-        input: first,
-        output: second,
-        map: third,
-    };
-    if is_build(command, files) {
-        return Some(Command::Build(files));
-    }
-    if !is_trace(command, first, second) {
-        return None;
-    }
-    match steps_in(third) {
-        Some(steps) => Some(Command::Trace(Asked {
-            input: first,
-            script: second,
-            steps,
-        })),
+    match matches.subcommand() {
+        Some((name, inner)) => match inner.get_raw("words") {
+            Some(values) => command_in(name, values),
+            None => command_in(name, &[]),
+        },
         None => None,
     }
 }
 
-fn is_build(command: &str, files: Files<'_>) -> bool
-    ensures { result ≡ stated.is_build command.now files.entry.input.now files.entry.output.now files.entry.map.now }
+/// The command of this name with these words behind it.
+#[tactic(auto, unfolding(crate::specs::Command::form_by_name))]
+fn command_in<'a>(name: &str, values: &[&'a str]) -> Option<Command<'a>>
+    ensures { option_map form_view result ≡ form_by_name (name.now ∷ map (λ v. v.now) values.now) }
 {
-    command == "build"
-        && is_name(files.input)
-        && is_name(files.output)
-        && is_name(files.map)
-        && differ(files)
+    if name == "build" {
+        return build_in(values);
+    }
+    if name == "trace" {
+        return trace_in(values);
+    }
+    if name == "sim" {
+        return simulate_in(values);
+    }
+    if name == "agree" {
+        return agree_in(values);
+    }
+    if name == "gen" {
+        return generate_in(values);
+    }
+    None
 }
 
-fn is_trace(command: &str, input: &str, script: &str) -> bool
-    ensures { result ≡ stated.is_trace command.now input.now script.now }
+fn build_in<'a>(values: &[&'a str]) -> Option<Command<'a>>
+    ensures { option_map form_view result ≡ stated.build_of (map (λ v. v.now) values.now) }
 {
-    command == "trace" && is_name(input) && is_name(script)
+    let [input, output, map] = values else {
+        return None;
+    };
+    let files = Files {
+        input: *input,
+        output: *output,
+        map: *map,
+    };
+    if differ(files) {
+        Some(Command::Build(files))
+    } else {
+        None
+    }
 }
 
-fn is_name(word: &str) -> bool
-    ensures { result ≡ stated.is_name word.now }
+fn trace_in<'a>(values: &[&'a str]) -> Option<Command<'a>>
+    ensures { option_map form_view result ≡ stated.trace_of (map (λ v. v.now) values.now) }
 {
-    match word.as_bytes() {
-        [] => false,
-        [first, ..] => *first != b'-',
+    let [input, script, steps] = values else {
+        return None;
+    };
+    let steps = number_in(*steps, MOST_STEPS)?;
+    Some(Command::Trace(Asked {
+        input: *input,
+        script: *script,
+        steps,
+    }))
+}
+
+fn simulate_in<'a>(values: &[&'a str]) -> Option<Command<'a>>
+    ensures { option_map form_view result ≡ stated.simulate_of (map (λ v. v.now) values.now) }
+{
+    let [hex, map, script, instructions] = values else {
+        return None;
+    };
+    let instructions = number_in(*instructions, MOST_SIMULATED)?;
+    Some(Command::Simulate(Simulated {
+        hex: *hex,
+        map: *map,
+        script: *script,
+        instructions,
+    }))
+}
+
+fn agree_in<'a>(values: &[&'a str]) -> Option<Command<'a>>
+    ensures { option_map form_view result ≡ stated.agree_of (map (λ v. v.now) values.now) }
+{
+    let [input, script, instructions] = values else {
+        return None;
+    };
+    let instructions = number_in(*instructions, MOST_COMPARED)?;
+    Some(Command::Agree(Compared {
+        input: *input,
+        script: *script,
+        instructions,
+    }))
+}
+
+fn generate_in<'a>(values: &[&str]) -> Option<Command<'a>>
+    ensures { option_map form_view result ≡ stated.generate_of (map (λ v. v.now) values.now) }
+{
+    let [size] = values else {
+        return None;
+    };
+    let size = number_in(*size, LARGEST)?;
+    if size > 0 {
+        Some(Command::Generate(size))
+    } else {
+        None
     }
 }
 
@@ -108,15 +198,15 @@ fn differ(files: Files<'_>) -> bool
     files.input != files.output && files.input != files.map && files.output != files.map
 }
 
-/// The number of steps that a word tells.
-fn steps_in(word: &str) -> Option<u32>
-    ensures { result ≡ stated.steps_in word.now }
+/// The number that a word spells by one to ten decimal digits, where it is at most `most`.
+fn number_in(word: &str, most: u32) -> Option<u32>
+    ensures { result ≡ stated.number_in most word.now }
 {
     let digits = word.as_bytes();
     if digits.is_empty() || digits.len() > 10 || !all_digits(digits) {
         return None;
     }
-    number_in(digits)
+    number_of(digits, most)
 }
 
 fn all_digits(text: &[u8]) -> bool
@@ -125,16 +215,16 @@ fn all_digits(text: &[u8]) -> bool
     text.iter().all(|c| c.is_ascii_digit())
 }
 
-/// The number that decimal digits spell, where it isn't too large.
+/// The number that decimal digits spell, where it is at most `most`.
 #[tactic(auto, unfolding(crate::specs::Command::number_onto))]
-fn number_in(digits: &[u8]) -> Option<u32>
-    ensures { result ≡ stated.number_onto 0 digits.now }
+fn number_of(digits: &[u8], most: u32) -> Option<u32>
+    ensures { result ≡ stated.number_onto most 0 digits.now }
 {
     let mut number = 0u32;
     let mut left = digits;
     while let [first, rest @ ..] = left {
         let longer = 10 * number as u64 + first.saturating_sub(b'0') as u64;
-        if longer > MOST_STEPS {
+        if longer > most as u64 {
             return None;
         }
         number = longer as u32;

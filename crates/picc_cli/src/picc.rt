@@ -1,14 +1,19 @@
 // The top call: a command from its words to its exit status.
-ghost use Rattle.std.specs.Prelude.{◌≡◌, IfSome};
+ghost use Rattle.std.specs.Prelude.{◌≡◌, false, option_map, IfSome};
 ghost use Rattle.host_io.specs.Host.{Closed};
-ghost use Rattle.picc_cli.specs.Command.{form_of, words_of};
+ghost use Rattle.picc_cli.specs.Command.{form_of, is_simulation, words_of};
+ghost use Rattle.picc_cli.specs.CommandView.{IsWithin, form_view};
 ghost use Rattle.picc_cli.specs.Finished.{HasFiles, HasFaults, HasStatus, HasPrinted, HasTold, IsComplete};
 
 use crate::building::build_files;
 use crate::command::{Command, command_of};
+use crate::comparing::compare;
 use crate::say::say;
+use crate::simulating::simulate;
+use crate::summary::print_generated;
 use crate::tracing::trace;
 use host_io::Host;
+use pic_sim::Board;
 use std::alloc::Global;
 
 const USAGE: &str =
@@ -16,31 +21,72 @@ const USAGE: &str =
 
 /// Runs the command of these words, which are those behind the program's name, over a host on which no file is open.
 /// The answer is the exit status: 0 where the command did what its form says, 1 where the C text is refused, 2 where
-/// the words are of no form, 3 for a fault of the host, 4 where a step of a trace is undefined, 5 where a script is none,
-/// 9 for want of memory.
+/// the words are of no form, 3 for a fault of the host, 4 where a step of a trace or of a comparison is undefined, 5 where
+/// a HEX file, a map or a script is none, 6 where a simulation comes to SLEEP or to a word that is no instruction's, 9 for
+/// want of memory.
 ///
-/// The forms so far are two. `build IN OUT MAP` compiles the C text of IN, writes the HEX to OUT and then the map to
+/// The forms are five. `build IN OUT MAP` compiles the C text of IN, writes the HEX to OUT and then the map to
 /// MAP, and prints nothing. No file is created before all else has succeeded. `trace IN SCRIPT M` runs the C text of IN by
 /// the language's own rules, for at most M steps, with what the script of SCRIPT lets in from outside, and prints the line
-/// of each event. No file is created or changed.
-pub fn picc<H: Host>(alloc: Global, words: &[String], host: &mut H) -> u8
+/// of each event. `sim HEX MAP SCRIPT N` runs the HEX on the chip for N instructions over the board, which is fed the script,
+/// and prints the line of each event by the names of the map. `agree IN SCRIPT N` compares the runs of the chip and of the
+/// source, and prints on how many events they agree. `gen K` prints a program of K functions, and its sizes. But for
+/// `build`, no file is created or changed; but for `sim`, the board is left as it was.
+pub fn picc<H: Host>(
+    alloc: Global,
+    words: &[String],
+    host: &mut H,
+    board: &mut Box<dyn Board>,
+) -> u8
     requires { H.open_file host.old ≡ Closed }
     ensures closed { H.open_file host.new ≡ Closed }
     ensures same_kind { H.kind host.new ≡ H.kind host.old }
 
     // With status 0 of a build the HEX and the map are those of the text, and what the HEX does on the chip is what the
-    // text says. A trace leaves all files as they were.
+    // text says. All other commands leave all files as they were.
     ensures files { IfSome (H.contents host.old) (λ old. HasFiles (form_of (words_of words.now)) old (H.contents host.new) result) }
     ensures faults { HasFaults (H.kind host.old) (H.faults host.old) (H.faults host.new) (form_of (words_of words.now)) (H.contents host.old) result }
     ensures status { HasStatus (form_of (words_of words.now)) result }
     ensures printed { HasPrinted (H.kind host.old) (form_of (words_of words.now)) (H.printed host.old) (H.printed host.new) result }
-    // With statuses 1 and 5 the line that is printed holds of the file that it names.
+    // With status 1 of a build, and with statuses 1 and 5 of a trace, the line that is printed holds of the file that it names.
     ensures told { IfSome (H.contents host.old) (λ old. HasTold (form_of (words_of words.now)) old (H.contents host.new) (H.printed host.old) (H.printed host.new) result) }
     ensures complete { IfSome (H.contents host.old) (λ old. IsComplete (H.kind host.old) (H.faults host.old) (H.faults host.new) (form_of (words_of words.now)) old result) }
+    // The board is left as it was, but by a simulation whose files are such as they are to be.
+    ensures board { is_simulation (form_of (words_of words.now)) ≡ false → board.new ≡ board.old }
+    ensures refused { result ≡ 5 → board.new ≡ board.old }
 {
-    match command_of(words) {
+    match command_of(alloc, words) {
+        Ok(command) => run(alloc, host, board, command),
+        Err(_) => 9,
+    }
+}
+
+/// Runs a command, or prints how the words are to be where there is none.
+fn run<H: Host>(
+    alloc: Global,
+    host: &mut H,
+    board: &mut Box<dyn Board>,
+    command: Option<Command<'_>>,
+) -> u8
+    requires closed { H.open_file host.old ≡ Closed }
+    requires few { IsWithin command }
+    ensures closed { H.open_file host.new ≡ Closed }
+    ensures same_kind { H.kind host.new ≡ H.kind host.old }
+    ensures files { IfSome (H.contents host.old) (λ old. HasFiles (option_map form_view command.entry) old (H.contents host.new) result) }
+    ensures faults { HasFaults (H.kind host.old) (H.faults host.old) (H.faults host.new) (option_map form_view command.entry) (H.contents host.old) result }
+    ensures status { HasStatus (option_map form_view command.entry) result }
+    ensures printed { HasPrinted (H.kind host.old) (option_map form_view command.entry) (H.printed host.old) (H.printed host.new) result }
+    ensures told { IfSome (H.contents host.old) (λ old. HasTold (option_map form_view command.entry) old (H.contents host.new) (H.printed host.old) (H.printed host.new) result) }
+    ensures complete { IfSome (H.contents host.old) (λ old. IsComplete (H.kind host.old) (H.faults host.old) (H.faults host.new) (option_map form_view command.entry) old result) }
+    ensures board { is_simulation (option_map form_view command.entry) ≡ false → board.new ≡ board.old }
+    ensures refused { result ≡ 5 → board.new ≡ board.old }
+{
+    match command {
         None => say(host, 2, USAGE, "", ""),
         Some(Command::Build(files)) => build_files(alloc, host, files),
         Some(Command::Trace(asked)) => trace(alloc, host, asked),
+        Some(Command::Simulate(asked)) => simulate(alloc, host, board, asked),
+        Some(Command::Agree(asked)) => compare(alloc, host, asked),
+        Some(Command::Generate(functions)) => print_generated(alloc, host, functions),
     }
 }

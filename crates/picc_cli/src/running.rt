@@ -100,7 +100,7 @@ fn take_step<H: Host>(
 
 /// Prints the line of an event. A cell without a name has none, and gives up as if memory were wanting; no run of a
 /// program comes to one.
-fn print_event<H: Host>(
+pub fn print_event<H: Host>(
     alloc: Global,
     host: &mut H,
     map: &Map,
@@ -108,6 +108,7 @@ fn print_event<H: Host>(
 ) -> Result<(), HostError>
     ensures all { OnOk result (CanBeShown (content_of map.now) event × (H.printed host.new ≡ option_map (λ t. t ++ event_text (content_of map.now) event) (H.printed host.old))) }
     ensures broken { OnErr result (BreaksLine (content_of map.now) (H.printed host.old) (H.printed host.new)) }
+    ensures prefix { OnErr result (PrintsPrefix (H.printed host.old) (H.printed host.new) (event_text (content_of map.now) event)) }
     ensures same_file { H.open_file host.new ≡ H.open_file host.old }
     ensures same_contents { H.contents host.new ≡ H.contents host.old }
     ensures same_kind { H.kind host.new ≡ H.kind host.old }

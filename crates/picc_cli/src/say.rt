@@ -45,7 +45,7 @@ fn print_parts<H: Host>(
 }
 
 /// Prints a line, and answers the status: 3 where the printing fails, 9 without memory for it.
-fn say_line<H: Host>(host: &mut H, status: u8, line: &[u8]) -> u8
+pub fn say_line<H: Host>(host: &mut H, status: u8, line: &[u8]) -> u8
     ensures same_file { H.open_file host.new ≡ H.open_file host.old }
     ensures same_contents { H.contents host.new ≡ H.contents host.old }
     ensures same_kind { H.kind host.new ≡ H.kind host.old }

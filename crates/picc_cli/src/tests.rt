@@ -5,20 +5,21 @@ ghost use Rattle.host_io.specs.Memory.{open_of};
 
 use crate::picc::picc;
 use host_io::{Fail, MemoryHost};
+use pic_sim::{Board, ScriptBoard};
 use std::alloc::{AllocError, Global};
 use std::collections::BTreeMap;
 use std::process::Abort;
 use std::test::Fail as Failure;
 
-const LED: &str = "void main(void){PORTB=5;}";
+pub const LED: &str = "void main(void){PORTB=5;}";
 
 // 0000: GOTO 5; 0004: RETFIE; 0005: MOVLW 05; BCF STATUS,RP0; MOVWF PORTB; GOTO 8.
-const LED_HEX: &str = ":020000040000FA\n\
+pub const LED_HEX: &str = ":020000040000FA\n\
 :100000000528FF3FFF3FFF3F0900053083128600B0\n\
 :100010000828FF3FFF3FFF3FFF3FFF3FFF3FFF3FFE\n\
 :00000001FF\n";
 
-const LED_MAP: &str = "picc map 1\nmain 0005\nhalt 0008\nframe main main 0020 3\nend\n";
+pub const LED_MAP: &str = "picc map 1\nmain 0005\nhalt 0008\nframe main main 0020 3\nend\n";
 
 pub const USAGE: &str =
     "usage: picc build IN OUT MAP | trace IN SCRIPT M | sim HEX MAP SCRIPT N | agree IN SCRIPT N | gen K\n";
@@ -48,6 +49,15 @@ pub fn words_of(alloc: Global, line: &str) -> Result<Vec<String>, AllocError> {
     Ok(words)
 }
 
+/// The command's status, over a board that follows scripts.
+pub fn run(alloc: Global, words: &[String], host: &mut MemoryHost) -> Result<u8, AllocError>
+    requires { open_of host.old.current ≡ Closed }
+    ensures { open_of host.new.current ≡ Closed }
+{
+    let mut board: Box<dyn Board> = Box::new(alloc, ScriptBoard::new(alloc))?;
+    Ok(picc(alloc, words, host, &mut board))
+}
+
 fn is_file(host: &MemoryHost, name: &str, text: &str) -> bool {
     match host.files.get(name) {
         Some(content) => content.as_slice() == text.as_bytes(),
@@ -56,7 +66,7 @@ fn is_file(host: &MemoryHost, name: &str, text: &str) -> bool {
 }
 
 // The name has a prefix of the text, or no content.
-fn is_front(host: &MemoryHost, name: &str, text: &str) -> bool {
+pub fn is_front(host: &MemoryHost, name: &str, text: &str) -> bool {
     match host.files.get(name) {
         Some(content) => text.as_bytes().starts_with(content.as_slice()),
         None => true,
@@ -72,7 +82,7 @@ fn check_build(
 ) -> Result<(), AllocError> {
     let mut host = host_with(alloc, Some(text), Vec::new(alloc))?;
     let words = words_of(alloc, "build a.c a.hex a.map")?;
-    assert_eq!(rt; picc(alloc, &words, &mut host), 0);
+    assert_eq!(rt; run(alloc, &words, &mut host)?, 0);
     assert!(rt; is_file(&host, "a.hex", hex), "the HEX of {text}");
     assert!(rt; is_file(&host, "a.map", map), "the map of {text}");
     assert!(rt; is_file(&host, "a.c", text));
@@ -98,7 +108,7 @@ fn programs_are_built(rt: HostRuntime) -> Result<(), Failure> {
 pub fn check_built(rt: &impl Abort, alloc: Global, text: &str) -> Result<(), AllocError> {
     let mut host = host_with(alloc, Some(text), Vec::new(alloc))?;
     let words = words_of(alloc, "build a.c a.hex a.map")?;
-    assert_eq!(rt; picc(alloc, &words, &mut host), 0, "the status of {text}");
+    assert_eq!(rt; run(alloc, &words, &mut host)?, 0, "the status of {text}");
     assert_eq!(rt; host.printed.len(), 0);
     assert_eq!(rt; host.files.len(), 3);
     Ok(())
@@ -116,7 +126,7 @@ pub fn check_refused(
     let mut host = host_with(alloc, text, Vec::new(alloc))?;
     let words = words_of(alloc, line)?;
     assert_eq!(rt;
-        picc(alloc, &words, &mut host),
+        run(alloc, &words, &mut host)?,
         status,
         "the status of {line}"
     );
@@ -170,7 +180,7 @@ fn a_page_holds_146_assignments(rt: HostRuntime) -> Result<(), Failure> {
         text.push_str("}")?;
         let mut host = host_with(alloc, Some(text.as_str()), Vec::new(alloc))?;
         assert_eq!(rt;
-            picc(alloc, &words, &mut host),
+            run(alloc, &words, &mut host)?,
             status,
             "{count} assignments"
         );
@@ -187,12 +197,12 @@ fn each_fault_leaves_the_outputs_whole_or_begun(rt: HostRuntime) -> Result<(), F
         Some(LED),
         vec![in alloc; Fail::Create(String::from_str(alloc, "a.map")?)]?,
     )?;
-    assert_eq!(rt; picc(alloc, &words, &mut host), 3);
+    assert_eq!(rt; run(alloc, &words, &mut host)?, 3);
     assert!(rt; host.printed.as_slice() == "cannot write a.map\n".as_bytes());
     assert!(rt; is_file(&host, "a.hex", LED_HEX));
     for k in 0..100u64 {
         let mut host = host_with(alloc, Some(LED), vec![in alloc; Fail::Call(k)]?)?;
-        let status = picc(alloc, &words, &mut host);
+        let status = run(alloc, &words, &mut host)?;
         assert!(rt; is_front(&host, "a.hex", LED_HEX), "the HEX at call {k}");
         assert!(rt; is_front(&host, "a.map", LED_MAP), "the map at call {k}");
         if status == 0 {

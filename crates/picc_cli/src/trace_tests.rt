@@ -3,8 +3,7 @@ ghost use Rattle.std.specs.Prelude.{◌≡◌, IfOk};
 ghost use Rattle.host_io.specs.Host.{Closed};
 ghost use Rattle.host_io.specs.Memory.{open_of};
 
-use crate::picc::picc;
-use crate::tests::{USAGE, host_with, words_of};
+use crate::tests::{USAGE, host_with, run, words_of};
 use host_io::{Fail, MemoryHost};
 use std::alloc::{AllocError, Global};
 use std::process::Abort;
@@ -57,7 +56,7 @@ fn check(rt: &impl Abort, alloc: Global, case: Case) -> Result<(), AllocError> {
     let words = words_of(alloc, case.line)?;
     let line = case.line;
     assert_eq!(rt;
-        picc(alloc, &words, &mut host),
+        run(alloc, &words, &mut host)?,
         case.status,
         "the status of {line}"
     );
@@ -166,7 +165,7 @@ fn a_flag_that_stays_set(rt: HostRuntime) -> Result<(), Failure> {
     let alloc = rt.alloc();
     let text = "void interrupt h(void){PORTB=1;}void main(void){INTCON=0x90;for(;;);}";
     let mut host = host_of(alloc, Some(text), Some(b"at 1 INTF"), Vec::new(alloc))?;
-    assert_eq!(rt; picc(alloc, &words_of(alloc, TRACE)?, &mut host), 0);
+    assert_eq!(rt; run(alloc, &words_of(alloc, TRACE)?, &mut host)?, 0);
     let mut wanted = String::from_str(alloc, "W INTCON 90\n")?;
     for _ in 0..199 {
         wanted.push_str("W PORTB 01\n")?;
@@ -185,7 +184,7 @@ fn scripts_have_a_limit(rt: HostRuntime) -> Result<(), Failure> {
     ] {
         let script = vec![in alloc; b'\n'; length]?;
         let mut host = host_of(alloc, Some(LED), Some(&script), Vec::new(alloc))?;
-        assert_eq!(rt; picc(alloc, &words, &mut host), status, "{length} bytes");
+        assert_eq!(rt; run(alloc, &words, &mut host)?, status, "{length} bytes");
         assert!(rt;
             host.printed.as_slice() == printed.as_bytes(),
             "{length} bytes"
@@ -204,7 +203,7 @@ fn each_fault_ends_a_trace(rt: HostRuntime) -> Result<(), Failure> {
     for k in 0..100u64 {
         let fails = vec![in alloc; Fail::Call(k)]?;
         let mut host = host_of(alloc, Some(DIVIDES), Some(b"input 01"), fails)?;
-        let status = picc(alloc, &words, &mut host);
+        let status = run(alloc, &words, &mut host)?;
         if status == 4 {
             assert!(rt;
                 broken == 2,

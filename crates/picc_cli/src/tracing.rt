@@ -20,7 +20,7 @@ use src_machine::Undef;
 use std::alloc::Global;
 
 /// The longest script, in bytes.
-const SCRIPT_LIMIT: usize = 4_194_304;
+pub const SCRIPT_LIMIT: usize = 4_194_304;
 
 /// How a trace ended.
 #[derive(Drop)]
@@ -148,7 +148,7 @@ fn script_in<H: Host>(alloc: Global, host: &mut H, name: &str) -> Result<Script,
 }
 
 /// What is printed for a kind of undefined steps.
-fn undef_text(kind: Undef) -> &'static [u8]
+pub fn undef_text(kind: Undef) -> &'static [u8]
     ensures { result.now ≡ lines.undef_text kind }
 {
     match kind {

@@ -1,7 +1,23 @@
-use Rattle.picc_cli.proofs.Forms.{complete_by}
+use Rattle.picc_cli.specs.Command.{form_of, words_of}
+use Rattle.picc_cli.proofs.Limits.{command_within}
+use Rattle.picc_cli.proofs.NothingDone.{no_files, no_print, no_told, no_end}
 use Rattle.picc_cli.proofs.picc.picc.Goals as goal
 
-pub returns-in-Some-Trace-clause-complete : goal.returns-in-Some-Trace-clause-complete
-returns-in-Some-Trace-clause-complete g c =
-    let is = rw c.in-Some-Trace.field-0-is at c.in-Some-Trace.ensures in
-    complete_by _ _ is (g.H.Host.kind c.args.host.now) (g.H.Host.faults c.args.host.now) (g.H.Host.faults c.trace.new.host) _ c.trace.result c.trace.ensures.complete
+pub run-requires-clause-few : goal.run-requires-clause-few
+run-requires-clause-few g c = command_within c.in-Ok.command (words_of c.args.words.now) c.in-Ok.ensures
+
+pub returns-in-Err-clause-files : goal.returns-in-Err-clause-files
+returns-in-Err-clause-files g c = no_files (form_of (words_of c.args.words.now)) (g.H.Host.contents c.args.host.now)
+
+pub returns-in-Err-clause-printed : goal.returns-in-Err-clause-printed
+returns-in-Err-clause-printed g c = no_print (form_of (words_of c.args.words.now)) (g.H.Host.kind c.args.host.now) (g.H.Host.printed c.args.host.now)
+
+pub returns-in-Err-clause-told : goal.returns-in-Err-clause-told
+returns-in-Err-clause-told g c =
+    no_told (form_of (words_of c.args.words.now)) (g.H.Host.contents c.args.host.now) (g.H.Host.contents c.args.host.now) (g.H.Host.printed c.args.host.now)
+    (g.H.Host.printed c.args.host.now)
+
+pub returns-in-Err-clause-complete : goal.returns-in-Err-clause-complete
+returns-in-Err-clause-complete g c =
+    no_end (form_of (words_of c.args.words.now)) (g.H.Host.kind c.args.host.now) (g.H.Host.faults c.args.host.now) (g.H.Host.faults c.args.host.now)
+    (g.H.Host.contents c.args.host.now)

@@ -1,0 +1,95 @@
+-- A command that wants memory before it has begun.
+use Rattle.std.proofs.Common.{◌≡◌, ℕ, ◌<◌, ◌≤◌, ◌⊎◌, inl, inr, IsTrue, Option, Some, None, IfSome, List, [], ◌∷◌, ◌++◌, take, refl, sym, subst, arith, option_map}
+use Rattle.host_io.specs.Host.{Kind, Contents, PrintsPrefix}
+use Rattle.picc_cli.specs.declared.building.Outcome.TheVariants as outcomes
+use Rattle.picc_cli.specs.declared.comparing.Ended.TheVariants as agree
+use Rattle.picc_cli.specs.declared.simulating.Ended.TheVariants as chip
+use Rattle.picc_cli.specs.declared.tracing.Ended.TheVariants as trace
+use Rattle.picc_cli.specs.Command.{Form, Build, Trace, Simulate, Agree, Generate}
+use Rattle.picc_cli.specs.Finished.{LacksFile, HasFiles, HasFaults, IsStatus, HasStatus, HasPrinted, HasTold, IsComplete}
+use Rattle.picc_cli.specs.Generated.{generated}
+use Rattle.picc_cli.specs.Lines.{usage_line}
+use Rattle.picc_cli.specs.Summary.{summary_line}
+use Rattle.picc_cli.proofs.Endings.{add_nothing}
+
+nothing_of : (p : Option (List ℕ)) (text : List ℕ) → PrintsPrefix p p text
+nothing_of p [] = (0, omega arith, sym (add_nothing p))
+nothing_of p (c ∷ text) = (0, omega arith, sym (add_nothing p))
+
+pub no_files : (form : Option Form) (old : Option Contents) → IfSome old (λ o. HasFiles form o old 9)
+no_files form None = tt
+no_files None (Some o) = refl
+no_files (Some (Build names)) (Some o) = record { built = λ e. absurd (omega arith); refused = λ e. absurd (omega arith); broken = λ up. inl refl }
+no_files (Some (Trace asked)) (Some o) = refl
+no_files (Some (Simulate asked)) (Some o) = refl
+no_files (Some (Agree asked)) (Some o) = refl
+no_files (Some (Generate functions)) (Some o) = refl
+
+pub no_faults : (form : Option Form) (kind : Kind) (count : ℕ) (old : Option Contents) → HasFaults kind count count form old 9
+no_faults form kind count old =
+    record {
+      never_falls = omega arith;
+      only = λ three. absurd (omega arith);
+      each = λ more. absurd (omega arith);
+      sound = λ is three. absurd (omega arith);
+      missing = λ is lacks. inr refl;
+    }
+
+no_status_known : (form : Option Form) → IsStatus form 9
+no_status_known None = inr (inr refl)
+no_status_known (Some (Build names)) = inr (inr (inr refl))
+no_status_known (Some (Trace asked)) = inr (inr (inr (inr (inr refl))))
+no_status_known (Some (Simulate asked)) = inr (inr (inr (inr refl)))
+no_status_known (Some (Agree asked)) = inr (inr (inr (inr (inr refl))))
+no_status_known (Some (Generate functions)) = inr (inr refl)
+
+pub no_status : (form : Option Form) → HasStatus form 9
+no_status form = record { known = no_status_known form; usage = λ two. absurd (omega arith); no_form = λ none. inr (inr refl) }
+
+pub no_print : (form : Option Form) (kind : Kind) (p : Option (List ℕ)) → HasPrinted kind form p p 9
+no_print None kind p = record { whole = λ two. absurd (omega arith); prefix = λ up. nothing_of p usage_line }
+no_print (Some (Build names)) kind p =
+    record {
+      nothing = λ e. absurd (omega arith);
+      error = λ e. absurd (omega arith);
+      prefix = λ up. (outcomes.NoMemory, nothing_of p []);
+      sound = λ is e. absurd (omega arith);
+    }
+no_print (Some (Trace asked)) kind p =
+    record {
+      whole = inl (inr refl);
+      prefix = λ up. (trace.NoMemory, [], record { events = []; has_events = refl; whole = refl }, nothing_of p []);
+      sound = λ is e. absurd (omega arith);
+    }
+no_print (Some (Simulate asked)) kind p =
+    record {
+      whole = inl (inr refl);
+      prefix = λ up. (chip.NoMemory, [], ([], inr (record { main = 0; halt = 0; objects = []; frames = [] }, [], refl), refl), nothing_of p []);
+    }
+no_print (Some (Agree asked)) kind p = record { whole = inl (inr refl); prefix = λ up. (agree.NoMemory, [], refl, nothing_of p []) }
+no_print (Some (Generate functions)) kind p =
+    let text = generated functions ++ summary_line functions 0 0 0 in
+    record { whole = inl (inr refl); prefix = λ up. (tt, text, record { words = 0; ram = 0; depth = 0; whole = refl }, nothing_of p text) }
+
+pub no_told : (form : Option Form) (old new : Option Contents) (p q : Option (List ℕ)) → IfSome old (λ o. HasTold form o new p q 9)
+no_told form None new p q = tt
+no_told None (Some o) new p q = tt
+no_told (Some (Build names)) (Some o) new p q = λ e. absurd (omega arith)
+no_told (Some (Trace asked)) (Some o) new p q = inl (inr refl)
+no_told (Some (Simulate asked)) (Some o) new p q = tt
+no_told (Some (Agree asked)) (Some o) new p q = tt
+no_told (Some (Generate functions)) (Some o) new p q = tt
+
+pub no_end : (form : Option Form) (kind : Kind) (before now : ℕ) (old : Option Contents) → IfSome old (λ o. IsComplete kind before now form o 9)
+no_end form kind before now None = tt
+no_end None kind before now (Some o) = λ quiet. inr refl
+no_end (Some (Build names)) kind before now (Some o) = λ quiet. record { no_tokens = λ text refusal a b c. inr refl; no_tree = λ text a b c. inr refl; built = λ text xs a b. inr refl }
+no_end (Some (Trace asked)) kind before now (Some o) = λ quiet.
+    record {
+      no_script = λ text script a b c. inr refl;
+      no_tokens = λ text script refusal a b c d. inr refl;
+      no_tree = λ text script a b c d. inr refl;
+    }
+no_end (Some (Simulate asked)) kind before now (Some o) = λ quiet. inr (inr (inr refl))
+no_end (Some (Agree asked)) kind before now (Some o) = λ quiet. inr (inr (inr (inr refl)))
+no_end (Some (Generate functions)) kind before now (Some o) = λ quiet. inr refl

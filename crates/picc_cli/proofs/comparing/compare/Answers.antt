@@ -1,0 +1,21 @@
+use Rattle.std.proofs.Common.{refl}
+use Rattle.picc_cli.specs.Agreement as agreement
+use Rattle.picc_cli.specs.CommandView.{compared_of}
+use Rattle.picc_cli.proofs.ChipEnds.{agree_complete, agree_faults, agree_status}
+use Rattle.picc_cli.proofs.FormPrints.{prints_line}
+use Rattle.picc_cli.proofs.comparing.compare.Goals as goal
+
+pub returns-clause-faults : goal.returns-clause-faults
+returns-clause-faults g c =
+    agree_faults (compared_of c.args.asked) c.compared-ended.result _ _ _ _ _ _ _ _ _ _ c.compared-ended.ensures.cause c.compared-ended.ensures.sound c.compared-ended.ensures.same_kind
+    c.report.ensures.said
+
+pub returns-clause-status : goal.returns-clause-status
+returns-clause-status g c = agree_status (compared_of c.args.asked) c.compared-ended.result _ _ _ _ _ _ _ c.report.ensures.said
+
+pub returns-clause-printed : goal.returns-clause-printed
+returns-clause-printed g c =
+    prints_line agreement.status_of (agreement.IsText (compared_of c.args.asked)) c.compared-ended.result _ _ _ _ _ _ _ _ refl c.compared-ended.ensures.same_printed c.report.ensures.said
+
+pub returns-clause-complete : goal.returns-clause-complete
+returns-clause-complete g c = agree_complete (compared_of c.args.asked) (g.H.Host.kind c.args.host.now) (g.H.Host.faults c.args.host.now) _ (g.H.Host.contents c.args.host.now) c.report.result (returns-clause-faults g c) (returns-clause-status g c)

@@ -1,0 +1,6 @@
+use Rattle.std.proofs.Common.{◌≡◌, ◌++◌}
+use Rattle.picc_cli.specs.Generated.{calls_text}
+use Rattle.picc_cli.proofs.generating.push_calls.Given as goal
+
+abbrev pub invariant-loop-i : goal.invariant-loop-i
+invariant-loop-i l = l.text.items ≡ l.fn.text.items ++ calls_text l.i

@@ -1,0 +1,10 @@
+use Rattle.std.proofs.Common.{◌≡◌, Ok, Err}
+use Rattle.picc_cli.proofs.InputFiles.{script_bad}
+use Rattle.picc_cli.proofs.inputs.script_in.Goals as goal
+
+pub returns-in-Err-BadLine-clause-none : goal.returns-in-Err-BadLine-clause-none
+returns-in-Err-BadLine-clause-none g c =
+    let first = rw c.in-Err-BadLine.field-0-is at c.in-Err-BadLine.ensures.bad_line in
+    let only = rw c.in-Err-BadLine.field-0-is at c.in-Err-BadLine.ensures.only in
+    script_bad _ _ _ _ c.in-Err-BadLine.line c.in-Ok.ensures.found c.in-Ok.ensures.short c.deref.ensures.value first
+    (λ content file. let both : Ok content ≡ Err c.in-Err-BadLine.line = only content file in cc)

@@ -1,0 +1,11 @@
+use Rattle.picc_cli.specs.CommandView.{simulated_of}
+use Rattle.picc_cli.proofs.Sound.{no_hex_fails, no_map_fails}
+use Rattle.picc_cli.proofs.simulating.simulated.Goals as goal
+
+pub returns-in-Err-clause-sound : goal.returns-in-Err-clause-sound
+returns-in-Err-clause-sound g c = no_hex_fails _ _ (simulated_of c.args.asked) c.in-Err.end c.in-Err.ensures.sound c.in-Err.ensures.none
+
+pub returns-in-Err-map_in-clause-sound : goal.returns-in-Err-map_in-clause-sound
+returns-in-Err-map_in-clause-sound g c =
+    no_map_fails _ _ (simulated_of c.args.asked) _ _ c.in-Err-map_in.end _ _ c.in-Ok.ensures.sound c.in-Ok.ensures.found c.in-Ok.ensures.same_kind c.in-Ok.ensures.same_contents
+    c.in-Err-map_in.ensures.sound c.in-Err-map_in.ensures.none
