@@ -1,6 +1,8 @@
 #!/bin/sh
-# The HEX of examples/led.c runs on gpsim's model of the PIC16F877A, which nobody of this project wrote:
-# after 1,000 cycles PORTB's latch holds 05h, and the program counter stands at the halt address of the map.
+# HEX files of picc on gpsim's model of the PIC16F877A, which nobody of this project wrote. examples/led.c: after 1,000 cycles PORTB's
+# latch holds 05h, and the program counter stands at the halt address of the map. Then each of examples/: the bytes that it
+# writes to PORTB and PORTC, one behind the other, are those that `picc sim` prints of the same file without input bytes
+# and arrivals, as far as gpsim runs.
 set -u
 if ! command -v gpsim >/dev/null; then
     echo 'gpsim: skipped, since gpsim is not installed'
@@ -10,30 +12,55 @@ top=$(CDPATH='' cd -- "$(dirname -- "$0")/.." && pwd -P) || exit 1
 folder=$(mktemp -d) || exit 1
 trap 'rm -rf "$folder"' EXIT
 cd -- "$folder" || exit 1
-
-"$top/picc" build "$top/examples/led.c" led.hex led.map || exit 1
-halt=$(sed -n 's/^halt //p' led.map)
-
-cat >commands.stc <<'STC'
-break c 1000
-run
-pc
-portb
-quit
-STC
-gpsim -i -p p16f877a -c commands.stc led.hex </dev/null >printed 2>&1
+failed=0
 
 # the number that the line NAME = 0x.. tells, or nothing
 value() {
     sed -n "s/^.*$1 = 0x\([0-9a-fA-F]*\)[[:space:]]*\$/\1/p" printed | tail -n 1
 }
 
-latch=$(value portb)
-pc=$(value pc)
-if [ -n "$latch" ] && [ -n "$pc" ] && [ $((0x$latch)) -eq 5 ] && [ $((0x$pc)) -eq $((0x$halt)) ]; then
-    echo "gpsim: PORTB's latch holds 05h, and the program idles at $halt"
-    exit 0
-fi
-echo "gpsim: PORTB's latch is '$latch', wanted 5; the program counter is '$pc', wanted $halt"
-cat printed
-exit 1
+led() {
+    "$top/picc" build "$top/examples/led.c" led.hex led.map || return 1
+    halt=$(sed -n 's/^halt //p' led.map)
+    printf 'break c 1000\nrun\npc\nportb\nquit\n' >commands.stc
+    gpsim -i -p p16f877a -c commands.stc led.hex </dev/null >printed 2>&1
+    latch=$(value portb)
+    pc=$(value pc)
+    if [ -n "$latch" ] && [ -n "$pc" ] && [ $((0x$latch)) -eq 5 ] && [ $((0x$pc)) -eq $((0x$halt)) ]; then
+        echo "gpsim: PORTB's latch holds 05h, and the program idles at $halt"
+        return 0
+    fi
+    echo "gpsim: PORTB's latch is '$latch', wanted 5; the program counter is '$pc', wanted $halt"
+    cat printed
+    return 1
+}
+
+# Name, and how many writes there are to be at least. An instruction takes one cycle or two, so gpsim runs no more
+# instructions than cycles.
+writes() {
+    "$top/picc" build "$top/examples/$1.c" "$1.hex" "$1.map" || return 1
+    : >nothing
+    "$top/picc" sim "$1.hex" "$1.map" nothing 1000000 | sed -n 's/^W \(PORT[BC] ..\)$/\1/p' >wanted
+    printf 'log on written\nlog w 0x06\nlog w 0x07\nbreak c 1000000\nrun\nquit\n' >commands.stc
+    rm -f written
+    gpsim -i -p p16f877a -c commands.stc "$1.hex" </dev/null >printed 2>&1
+    sed -n 's/^ *Wrote: 0x00\([0-9A-F][0-9A-F]\) to port\([bc]\).*/\2 \1/p' written |
+        sed 's/^b/PORTB/; s/^c/PORTC/' >found
+    count=$(wc -l <found)
+    if [ "$count" -ge "$2" ] && head -n "$count" wanted | cmp -s - found; then
+        echo "gpsim: $1 writes the same $count bytes"
+        return 0
+    fi
+    echo "gpsim: $1 has $count writes, and these differences"
+    head -n "$count" wanted | diff - found | head -n 20
+    return 1
+}
+
+led || failed=1
+writes pins 1 || failed=1
+writes two_copies 1 || failed=1
+writes pump 100 || failed=1
+writes meter 1 || failed=1
+writes lock 1 || failed=1
+writes lights 71 || failed=1
+exit $failed

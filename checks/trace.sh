@@ -34,6 +34,8 @@ example pump 576
 example meter 276
 example lock 81816
 expect lock 1000000 lock.trace
+cp "$top/examples/lights.c" "$top/examples/lights.txt" "$top/examples/lights.trace" . || exit 1
+expect lights 1000000 lights.trace
 
 cases=${PICC_VECTORS:-$top/../shared/vectors}/trace.jsonl
 if [ ! -r "$cases" ]; then
