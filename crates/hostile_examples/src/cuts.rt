@@ -58,7 +58,7 @@ fn script_answer(alloc: Global, text: &[u8]) -> Answer {
 }
 
 // Texts are short here.
-fn answer(alloc: Global, kind: Kind, text: &[u8]) -> Answer {
+fn answer_to(alloc: Global, kind: Kind, text: &[u8]) -> Answer {
     if text.len() >= 1_000_000 {
         return Answer::Other;
     }
@@ -149,7 +149,7 @@ fn wrong_in_line(
             part,
             is_last: before.saturating_add(line.len()).saturating_add(1) == text.len(),
         };
-        if answer(alloc, kind, front) != wanted(kind, cut) {
+        if answer_to(alloc, kind, front) != wanted(kind, cut) {
             wrong = wrong.saturating_add(1);
         }
     }
@@ -168,7 +168,7 @@ fn wrong_cuts(alloc: Global, kind: Kind, text: &[u8]) -> usize {
         }
         before = before.saturating_add(line.len()).saturating_add(1);
     }
-    if answer(alloc, kind, text) != Answer::Read {
+    if answer_to(alloc, kind, text) != Answer::Read {
         wrong = wrong.saturating_add(1);
     }
     wrong
