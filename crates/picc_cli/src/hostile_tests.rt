@@ -89,16 +89,38 @@ fn filled(alloc: Global, text: &str, length: usize) -> Result<Vec<u8>, AllocErro
     Ok(bytes)
 }
 
-// The three files of a simulation, of which those of a name are filled up.
+// A file, filled up to a length.
+fn put_filled(
+    alloc: Global,
+    host: &mut MemoryHost,
+    name: &str,
+    text: &str,
+    length: usize,
+) -> Result<(), AllocError>
+    ensures { host.new.current ≡ host.old.current }
+{
+    let content = filled(alloc, text, length)?;
+    let name = String::from_str(alloc, name)?;
+    host.files.insert(name, content)?;
+    Ok(())
+}
+
+// The length for a file, where the one of that name is to be so long.
+fn length_for(own: &str, name: &str, length: usize) -> usize {
+    if own == name { length } else { 0 }
+}
+
+// The three files of a simulation, of which the one of a name is filled up.
 fn host_of_long(alloc: Global, name: &str, length: usize) -> Result<MemoryHost, AllocError>
     ensures { IfOk result (λ host. open_of host.current ≡ Closed) }
 {
     let mut host = host_with(alloc, None, Vec::new(alloc))?;
-    for (own, text) in [("a.hex", JUMP_HEX), ("a.map", JUMP_MAP), ("a.s", "")] {
-        let wanted = if own == name { length } else { 0 };
-        let content = filled(alloc, text, wanted)?;
-        host.files.insert(String::from_str(alloc, own)?, content)?;
-    }
+    let hex = length_for("a.hex", name, length);
+    put_filled(alloc, &mut host, "a.hex", JUMP_HEX, hex)?;
+    let map = length_for("a.map", name, length);
+    put_filled(alloc, &mut host, "a.map", JUMP_MAP, map)?;
+    let script = length_for("a.s", name, length);
+    put_filled(alloc, &mut host, "a.s", "", script)?;
     Ok(host)
 }
 

@@ -1,4 +1,5 @@
 use Rattle.picc_cli.specs.Command.{form_of, words_of}
+use Rattle.picc_cli.proofs.Forms.{complete_by}
 use Rattle.picc_cli.proofs.Limits.{command_within}
 use Rattle.picc_cli.proofs.NothingDone.{no_files, no_print, no_told, no_end}
 use Rattle.picc_cli.proofs.picc.picc.Goals as goal
@@ -21,3 +22,8 @@ pub returns-in-Err-clause-complete : goal.returns-in-Err-clause-complete
 returns-in-Err-clause-complete g c =
     no_end (form_of (words_of c.args.words.now)) (g.H.Host.kind c.args.host.now) (g.H.Host.faults c.args.host.now) (g.H.Host.faults c.args.host.now)
     (g.H.Host.contents c.args.host.now)
+
+pub returns-in-Ok-clause-complete : goal.returns-in-Ok-clause-complete
+returns-in-Ok-clause-complete g c =
+    complete_by (form_of (words_of c.args.words.now)) _ c.in-Ok.ensures (g.H.Host.kind c.args.host.now) (g.H.Host.faults c.args.host.now)
+    (g.H.Host.faults c.run.new.host) (g.H.Host.contents c.args.host.now) c.run.result c.run.ensures.complete
