@@ -7,6 +7,9 @@ use schedule::{ScriptError, read_script};
 use std::alloc::{AllocError, Global};
 use std::test::Fail;
 
+/// The texts here are short.
+const LONGEST: usize = 65_536;
+
 #[derive(Clone, Copy, PartialEq, Eq, Debug)]
 enum Kind {
     Hex,
@@ -33,6 +36,9 @@ struct Cut<'a> {
 }
 
 fn hex_answer(alloc: Global, text: &[u8]) -> Answer {
+    if text.len() > LONGEST {
+        return Answer::Other;
+    }
     match read_hex(alloc, text) {
         Ok(_) => Answer::Read,
         Err(HexError::BadRecord { line }) => Answer::BadLine(line),
@@ -42,6 +48,9 @@ fn hex_answer(alloc: Global, text: &[u8]) -> Answer {
 }
 
 fn map_answer(alloc: Global, text: &[u8]) -> Answer {
+    if text.len() > LONGEST {
+        return Answer::Other;
+    }
     match read_map(alloc, text) {
         Ok(_) => Answer::Read,
         Err(MapError::BadLine { line }) => Answer::BadLine(line),
@@ -50,6 +59,9 @@ fn map_answer(alloc: Global, text: &[u8]) -> Answer {
 }
 
 fn script_answer(alloc: Global, text: &[u8]) -> Answer {
+    if text.len() > LONGEST {
+        return Answer::Other;
+    }
     match read_script(alloc, text) {
         Ok(_) => Answer::Read,
         Err(ScriptError::BadLine { line }) => Answer::BadLine(line),
@@ -57,11 +69,7 @@ fn script_answer(alloc: Global, text: &[u8]) -> Answer {
     }
 }
 
-// Texts are short here.
 fn answer_to(alloc: Global, kind: Kind, text: &[u8]) -> Answer {
-    if text.len() >= 1_000_000 {
-        return Answer::Other;
-    }
     match kind {
         Kind::Hex => hex_answer(alloc, text),
         Kind::Map => map_answer(alloc, text),
