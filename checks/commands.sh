@@ -72,6 +72,73 @@ cmp -s printed "$top/examples/lock.trace" || wrong 'sim of lock to its end'
 run sim lights.hex lights.map inputs 1000000
 cmp -s printed "$top/examples/lights.trace" || wrong 'sim of lights to its end'
 
+# an interrupt before each of the first instructions of a program with two copies of a function: the flag is lost before INTCON is
+# written, and then the handler runs once
+cp "$top/examples/two_copies.c" . || exit 1
+time=0
+while [ "$time" -le 1000 ]; do
+    echo "at $time INTF" >flags
+    run agree two_copies.c flags 2000
+    case $(cat printed) in
+        'agree 3' | 'agree 6') ;;
+        *) wrong "agree on two copies, a flag at $time: $(cat printed)" ;;
+    esac
+    time=$((time + 1))
+done
+
+# a program that only waits
+echo 'void interrupt h(void){PORTB=1;INTF=0;}void main(void){INTCON=0x90;for(;;);}' >waits.c
+echo 'at 100000 INTF' >flags
+run build waits.c waits.hex waits.map
+run sim waits.hex waits.map flags 200000
+printf 'W INTCON 90\nW PORTB 01\nR INTCON 12\nW INTCON 10\n' | cmp -s - printed || wrong 'sim of a program that waits'
+run agree waits.c flags 100000
+
+# a key with a pause against its bouncing, and a timer, under forty ticks
+cat >key.c <<'C'
+#include <htc.h>
+#define LED RB1
+#define KEY RB0
+struct counts { unsigned int ticks; unsigned char presses; };
+struct counts n;
+unsigned char stable;
+void interrupt tick(void)
+{
+    if (TMR0IF) { TMR0IF = 0; n.ticks++; }
+}
+void pause(unsigned char k)
+{
+    volatile unsigned char i;
+    for (i = 0; i < k; i++)
+        ;
+}
+void main(void)
+{
+    unsigned char last = 1;
+    TRISB = 0x01;
+    OPTION_REG = 0x07;
+    TMR0IE = 1;
+    GIE = 1;
+    for (;;) {
+        unsigned char now = KEY;
+        pause(20);
+        if (now == KEY && now != last) {
+            last = now;
+            if (!now) { n.presses++; LED = !LED; }
+        }
+        stable = last;
+    }
+}
+C
+awk 'BEGIN { for (i = 1; i <= 40; i++) print "at " i * 500 " TMR0IF" }' >flags
+run build key.c key.hex key.map
+run agree key.c flags 20000
+[ "$(wc -l <printed)" -eq 1 ] || wrong 'agree on a key'
+agreed=$(sed -n 's/^agree //p' printed)
+run sim key.hex key.map flags 20000
+# the chip may be in the handler at the end
+[ -n "$agreed" ] && [ "$agreed" -gt 40 ] && [ "$agreed" -le "$(wc -l <printed)" ] || wrong "agree on a key: $agreed events"
+
 run gen 2
 cmp -s printed "$top/crates/picc_cli/stdout" || wrong 'gen 2'
 exit $failed
