@@ -3,7 +3,7 @@
 # were worked out apart from the compiler. Of each example: `build` prints nothing and writes two files. `trace` prints the kept
 # trace. `sim` of the two files, under the input bytes of its script alone, prints the trace of the source under these bytes, as far
 # as it comes: the kept one where the program ends. `agree` prints the number of lines that `sim` prints. `gen 2` prints the kept text
-# of crates/picc_cli.
+# of crates/picc.
 set -u
 top=$(CDPATH='' cd -- "$(dirname -- "$0")/.." && pwd -P) || exit 1
 folder=$(mktemp -d) || exit 1
@@ -141,5 +141,5 @@ run sim key.hex key.map flags 20000
 [ -n "$agreed" ] && [ "$agreed" -gt 40 ] && [ "$agreed" -le "$(wc -l <printed)" ] || wrong "agree on a key: $agreed events"
 
 run gen 2
-cmp -s printed "$top/crates/picc_cli/stdout" || wrong 'gen 2'
+cmp -s printed "$top/crates/picc/stdout" || wrong 'gen 2'
 exit $failed

@@ -4,8 +4,9 @@ ghost use Rattle.std.specs.Prelude.{◌≡◌, IfOk};
 ghost use Rattle.host_io.specs.Host.{Closed};
 ghost use Rattle.host_io.specs.Memory.{open_of};
 
-use crate::chip_tests::{Case, check, put};
-use crate::tests::{LED, LED_HEX, LED_MAP, host_with, is_front, run, words_of};
+use crate::commands::{
+    Case, LED, LED_HEX, LED_MAP, check, host_with, is_front, put, run, words_of,
+};
 use host_io::{Fail, MemoryHost};
 use std::alloc::{AllocError, Global};
 use std::process::Abort;

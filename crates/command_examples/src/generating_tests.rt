@@ -1,5 +1,5 @@
 // Generated programs, written out by hand.
-use crate::generating::generate;
+use picc_cli::generate;
 use std::test::Fail;
 
 const ONE: &str = "unsigned char s;\n\

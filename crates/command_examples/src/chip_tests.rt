@@ -1,16 +1,15 @@
-// The commands that run the chip, and the one that generates programs, over a host in memory. The texts were written out by
-// hand from the instruction table, the formats and the sizes that are stated.
-ghost use Rattle.std.specs.Prelude.{◌≡◌, [], None, IfOk};
-ghost use Rattle.host_io.specs.Host.{Closed};
-ghost use Rattle.host_io.specs.Memory.{open_of};
+// The commands that run the chip, and the one that generates programs. The texts were written out by hand from the
+// instruction table, the formats and the sizes that are stated.
+ghost use Rattle.std.specs.Prelude.{[], None};
 
-use crate::picc::picc;
-use crate::tests::{LED, LED_HEX, LED_MAP, host_with, run, words_of};
-use host_io::{Fail, MemoryHost};
+use crate::commands::{
+    Case, LED, LED_HEX, LED_MAP, USAGE, check, host_of, host_with, put, run, words_of,
+};
+use host_io::Fail;
 use pic_chip::Script;
 use pic_sim::Board;
-use std::alloc::{AllocError, Global};
-use std::process::Abort;
+use picc_cli::picc;
+use std::alloc::AllocError;
 use std::test::Fail as Failure;
 
 const SIM: &str = "sim a.hex a.map a.s 1000";
@@ -24,57 +23,6 @@ const SLEEP_HEX: &str = ":0200000063009B\n:00000001FF\n";
 const LED_SLEEP_HEX: &str = ":100000000528FF3FFF3FFF3F0900053083128600B0\n\
 :100010006300FF3FFF3FFF3FFF3FFF3FFF3FFF3FCB\n\
 :00000001FF\n";
-
-// A command with its files, its status and what is printed. No file is changed.
-#[derive(Clone, Copy)]
-pub struct Case {
-    pub line: &'static str,
-    pub hex: Option<&'static str>,
-    pub map: Option<&'static str>,
-    pub script: &'static str,
-    pub status: u8,
-    pub printed: &'static str,
-}
-
-pub fn put(
-    alloc: Global,
-    host: &mut MemoryHost,
-    name: &str,
-    text: Option<&str>,
-) -> Result<(), AllocError>
-    ensures { host.new.current ≡ host.old.current }
-{
-    if let Some(text) = text {
-        let name = String::from_str(alloc, name)?;
-        host.files.insert(name, text.as_bytes().to_vec(alloc)?)?;
-    }
-    Ok(())
-}
-
-fn host_of(alloc: Global, text: &str, case: &Case) -> Result<MemoryHost, AllocError>
-    ensures { IfOk result (λ host. open_of host.current ≡ Closed) }
-{
-    let mut host = host_with(alloc, Some(text), Vec::new(alloc))?;
-    put(alloc, &mut host, "a.hex", case.hex)?;
-    put(alloc, &mut host, "a.map", case.map)?;
-    put(alloc, &mut host, "a.s", Some(case.script))?;
-    Ok(host)
-}
-
-pub fn check(rt: &impl Abort, alloc: Global, text: &str, case: Case) -> Result<(), AllocError> {
-    let mut host = host_of(alloc, text, &case)?;
-    let files = host.files.len();
-    let words = words_of(alloc, case.line)?;
-    let line = case.line;
-    let status = run(alloc, &words, &mut host)?;
-    assert_eq!(rt; status, case.status, "the status of {line}");
-    assert!(rt;
-        host.printed.as_slice() == case.printed.as_bytes(),
-        "the text of {line}"
-    );
-    assert_eq!(rt; host.files.len(), files);
-    Ok(())
-}
 
 #[test]
 fn runs_of_the_chip(rt: HostRuntime) -> Result<(), Failure> {
@@ -93,12 +41,7 @@ fn runs_of_the_chip(rt: HostRuntime) -> Result<(), Failure> {
         // the jump from reset, and two instructions of main
         ran("sim a.hex a.map a.s 3", LED_HEX, 0, ""),
         ran("sim a.hex a.map a.s 4", LED_HEX, 0, "W PORTB 05\nEnd\n"),
-        ran(
-            "sim a.hex a.map a.s 1000001",
-            LED_HEX,
-            2,
-            crate::tests::USAGE,
-        ),
+        ran("sim a.hex a.map a.s 1000001", LED_HEX, 2, USAGE),
         ran(SIM, SLEEP_HEX, 6, "unmodelled 0000\n"),
         ran("sim a.hex a.map a.s 0", SLEEP_HEX, 0, ""),
         ran(SIM, LED_SLEEP_HEX, 6, "W PORTB 05\nEnd\nunmodelled 0008\n"),

@@ -3,7 +3,7 @@ ghost use Rattle.std.specs.Prelude.{◌≡◌, IfOk};
 ghost use Rattle.host_io.specs.Host.{Closed};
 ghost use Rattle.host_io.specs.Memory.{open_of};
 
-use crate::tests::{USAGE, host_with, run, words_of};
+use crate::commands::{USAGE, host_with, run, words_of};
 use host_io::{Fail, MemoryHost};
 use std::alloc::{AllocError, Global};
 use std::process::Abort;

@@ -2,7 +2,7 @@ use Rattle.picc_cli.specs.Command.{form_of, words_of}
 use Rattle.picc_cli.proofs.Forms.{complete_by}
 use Rattle.picc_cli.proofs.Limits.{command_within}
 use Rattle.picc_cli.proofs.NothingDone.{no_files, no_print, no_told, no_end}
-use Rattle.picc_cli.proofs.picc.picc.Goals as goal
+use Rattle.picc_cli.proofs.dispatch.picc.Goals as goal
 
 pub run-requires-clause-few : goal.run-requires-clause-few
 run-requires-clause-few g c = command_within c.in-Ok.command (words_of c.args.words.now) c.in-Ok.ensures

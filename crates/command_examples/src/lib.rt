@@ -1,0 +1,22 @@
+// The commands over a host in memory: worked programs with their files, traces, refusals and statuses, hostile files, and a
+// host of which each call fails in turn.
+//
+// In: words, texts and files written out by hand. Out: nothing; these are tests.
+#![tactic(auto)]
+
+#[cfg(test)]
+mod build_tests;
+#[cfg(test)]
+mod chip_tests;
+#[cfg(test)]
+mod commands;
+#[cfg(test)]
+mod generating_tests;
+#[cfg(test)]
+mod hostile_tests;
+#[cfg(test)]
+mod refusal_tests;
+#[cfg(test)]
+mod trace_tests;
+#[cfg(test)]
+mod words_tests;
