@@ -43,6 +43,7 @@ fn runs_of_the_chip(rt: HostRuntime) -> Result<(), Failure> {
         ran("sim a.hex a.map a.s 4", LED_HEX, 0, "W PORTB 05\nEnd\n"),
         ran("sim a.hex a.map a.s 1000001", LED_HEX, 2, USAGE),
         ran(SIM, SLEEP_HEX, 6, "unmodelled 0000\n"),
+        ran("sim a.hex a.map a.s 1", SLEEP_HEX, 6, "unmodelled 0000\n"),
         ran("sim a.hex a.map a.s 0", SLEEP_HEX, 0, ""),
         ran(SIM, LED_SLEEP_HEX, 6, "W PORTB 05\nEnd\nunmodelled 0008\n"),
         // each check of a HEX file

@@ -160,3 +160,21 @@ pub fn check(rt: &impl Abort, alloc: Global, text: &str, case: Case) -> Result<(
     assert_eq!(rt; host.files.len(), files);
     Ok(())
 }
+
+/// What is printed by `sim` of a built text, for so many instructions.
+pub fn simulated(
+    rt: &impl Abort,
+    alloc: Global,
+    text: &str,
+    script: &str,
+    instructions: u32,
+) -> Result<Vec<u8>, AllocError> {
+    let mut host = host_with(alloc, Some(text), Vec::new(alloc))?;
+    put(alloc, &mut host, "a.s", Some(script))?;
+    let build = words_of(alloc, "build a.c a.hex a.map")?;
+    assert_eq!(rt; run(alloc, &build, &mut host)?, 0, "{text}");
+    let line = format!(in alloc; "sim a.hex a.map a.s {instructions}")?;
+    let sim = words_of(alloc, &line)?;
+    assert_eq!(rt; run(alloc, &sim, &mut host)?, 0, "{text}");
+    host.printed.as_slice().to_vec(alloc)
+}

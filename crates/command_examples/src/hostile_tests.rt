@@ -5,7 +5,7 @@ ghost use Rattle.host_io.specs.Host.{Closed};
 ghost use Rattle.host_io.specs.Memory.{open_of};
 
 use crate::commands::{
-    Case, LED, LED_HEX, LED_MAP, check, host_with, is_front, put, run, words_of,
+    Case, LED, LED_HEX, LED_MAP, check, host_with, is_front, put, run, simulated, words_of,
 };
 use host_io::{Fail, MemoryHost};
 use std::alloc::{AllocError, Global};
@@ -253,23 +253,6 @@ PORTC=x;\n\
     Ok(())
 }
 
-// What is printed by `sim` of a built text, for so many instructions.
-fn simulated(
-    rt: &impl Abort,
-    alloc: Global,
-    text: &str,
-    instructions: u16,
-) -> Result<Vec<u8>, AllocError> {
-    let mut host = host_with(alloc, Some(text), Vec::new(alloc))?;
-    put(alloc, &mut host, "a.s", Some(""))?;
-    let build = words_of(alloc, "build a.c a.hex a.map")?;
-    assert_eq!(rt; run(alloc, &build, &mut host)?, 0, "{text}");
-    let line = format!(in alloc; "sim a.hex a.map a.s {instructions}")?;
-    let sim = words_of(alloc, &line)?;
-    assert_eq!(rt; run(alloc, &sim, &mut host)?, 0, "{text}");
-    host.printed.as_slice().to_vec(alloc)
-}
-
 // A program of constants to ports goes a way of its own; with one space more it goes through all passes.
 #[test]
 fn both_ways_to_a_hex_file(rt: HostRuntime) -> Result<(), Failure> {
@@ -279,7 +262,7 @@ fn both_ways_to_a_hex_file(rt: HostRuntime) -> Result<(), Failure> {
         "void main(void){TRISB=0;PORTB=5;PORTC=255;TRISE=128;}",
         "void main(void){TRISB=0;PORTB=5;PORTC=255;TRISE=128; }",
     ] {
-        let printed = simulated(&rt, alloc, text, 1000)?;
+        let printed = simulated(&rt, alloc, text, "", 1000)?;
         assert!(rt; printed.as_slice() == wanted, "{text}");
     }
     Ok(())
@@ -291,8 +274,8 @@ fn as_many_events_as_the_chip_makes(rt: HostRuntime) -> Result<(), Failure> {
     let alloc = rt.alloc();
     let text = "void main(void){unsigned char a=200;unsigned char b=100;PORTB=(a+b)>>1;}";
     let whole = b"W PORTB 96\nEnd\n".as_slice();
-    for instructions in 0..=300u16 {
-        let printed = simulated(&rt, alloc, text, instructions)?;
+    for instructions in 0..=300u32 {
+        let printed = simulated(&rt, alloc, text, "", instructions)?;
         assert!(rt; whole.starts_with(&printed), "{instructions} instructions");
         let lines = printed.iter().filter(|c| **c == b'\n').count();
         let mut host = host_with(alloc, Some(text), Vec::new(alloc))?;
@@ -305,7 +288,7 @@ fn as_many_events_as_the_chip_makes(rt: HostRuntime) -> Result<(), Failure> {
             "{instructions} instructions"
         );
     }
-    let printed = simulated(&rt, alloc, text, 300)?;
+    let printed = simulated(&rt, alloc, text, "", 300)?;
     assert!(rt; printed.as_slice() == whole);
     Ok(())
 }

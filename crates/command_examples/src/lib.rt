@@ -11,12 +11,18 @@ mod chip_tests;
 #[cfg(test)]
 mod commands;
 #[cfg(test)]
+mod cut_tests;
+#[cfg(test)]
 mod generating_tests;
 #[cfg(test)]
 mod hostile_tests;
 #[cfg(test)]
 mod refusal_tests;
 #[cfg(test)]
+mod step_tests;
+#[cfg(test)]
 mod trace_tests;
 #[cfg(test)]
 mod words_tests;
+#[cfg(test)]
+mod worked_programs;
