@@ -1,5 +1,5 @@
 # What the scripts of checks/ and bench/ share. A script sources this file first; `top` is then the top of the repository, `script`
-# the script's own name, which begins each of its lines, and `failed` its exit status so far.
+# the script's own name, which begins each line of a check, and `failed` its exit status so far.
 # shellcheck shell=sh disable=SC2034
 top=$(CDPATH='' cd -- "$(dirname -- "$0")/.." && pwd -P) || exit 1
 script=$(basename -- "$0" .sh)
