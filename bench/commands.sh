@@ -2,17 +2,13 @@
 # Time and memory of each command at its limits. It tests nothing. It wants GNU time.
 # A line each: the command, seconds, the most memory in KB, the status if it isn't 0, and what is printed: its last line.
 set -u
-top=$(CDPATH='' cd -- "$(dirname -- "$0")/.." && pwd -P) || exit 1
-folder=$(mktemp -d) || exit 1
-trap 'rm -rf "$folder"' EXIT
-cd -- "$folder" || exit 1
-
-printf 'void main(void){}' >a.c
-"$top/picc" build a.c a.hex a.map || exit 1
+. "$(dirname -- "$0")/../checks/lib/common.sh" || exit 1
+enter_folder
+first_build
 
 # the words of a command
 measure() {
-    figures=$(command time -f '%e s, %M KB' "$top/picc" "$@" 2>&1 >printed)
+    figures=$(measured "$@")
     printf 'picc %s: %s; %s\n' "$*" "$(printf '%s' "$figures" | tr '\n' ' ')" "$(tail -n 1 printed)"
 }
 

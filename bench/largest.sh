@@ -1,24 +1,15 @@
 #!/bin/sh
 # Time and memory of building and tracing the largest texts. It tests nothing. It wants GNU time.
-# A line each: what the text is, its bytes, the status, seconds, the most memory in KB.
+# A line each: what the text is, its bytes, the status if it isn't 0, seconds, the most memory in KB, and what is printed.
 set -u
-top=$(CDPATH='' cd -- "$(dirname -- "$0")/.." && pwd -P) || exit 1
-folder=$(mktemp -d) || exit 1
-trap 'rm -rf "$folder"' EXIT
-cd -- "$folder" || exit 1
-
-printf 'void main(void){}' >a.c
-"$top/picc" build a.c a.hex a.map || exit 1
-
-# a text, so many times
-repeated() {
-    awk -v text="$1" -v count="$2" 'BEGIN { for (i = 0; i < count; i++) printf "%s", text }'
-}
+. "$(dirname -- "$0")/../checks/lib/common.sh" || exit 1
+enter_folder
+first_build
 
 # what the text is, the text
 measure() {
     printf '%s' "$2" >a.c
-    figures=$(command time -f '%e s, %M KB' "$top/picc" build a.c a.hex a.map 2>&1 >printed)
+    figures=$(measured build a.c a.hex a.map)
     printf '%s: %s bytes, %s%s\n' "$1" "$(wc -c <a.c)" "$figures" "$(sed 's/^/, /' printed)"
 }
 
@@ -31,4 +22,4 @@ measure 'choices in one another, not called' "void f(int x){$(repeated 'x?' 2045
 for name in pump meter lock; do
     measure "examples/$name.c" "$(cat "$top/examples/$name.c")"
 done
-printf 'a trace of 1,000,000 steps: %s\n' "$({ command time -f '%e s, %M KB' "$top/picc" trace "$top/examples/meter.c" "$top/examples/meter.txt" 1000000 >trace; } 2>&1)"
+printf 'a trace of 1,000,000 steps: %s\n' "$(measured trace "$top/examples/meter.c" "$top/examples/meter.txt" 1000000)"

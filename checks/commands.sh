@@ -5,17 +5,8 @@
 # as it comes: the kept one where the program ends. `agree` prints the number of lines that `sim` prints. `gen 2` prints the kept text
 # of crates/picc.
 set -u
-top=$(CDPATH='' cd -- "$(dirname -- "$0")/.." && pwd -P) || exit 1
-folder=$(mktemp -d) || exit 1
-trap 'rm -rf "$folder"' EXIT
-cd -- "$folder" || exit 1
-failed=0
-
-# what is wrong, in words
-wrong() {
-    printf 'commands: %s\n' "$1"
-    failed=1
-}
+. "$(dirname -- "$0")/lib/common.sh" || exit 1
+enter_folder
 
 # the words of a command; its text goes to `printed`. Its status is to be 0.
 run() {

@@ -8,11 +8,8 @@ if ! command -v gpsim >/dev/null; then
     echo 'gpsim: skipped, since gpsim is not installed'
     exit 0
 fi
-top=$(CDPATH='' cd -- "$(dirname -- "$0")/.." && pwd -P) || exit 1
-folder=$(mktemp -d) || exit 1
-trap 'rm -rf "$folder"' EXIT
-cd -- "$folder" || exit 1
-failed=0
+. "$(dirname -- "$0")/lib/common.sh" || exit 1
+enter_folder
 
 # the number that the line NAME = 0x.. tells, or nothing
 value() {

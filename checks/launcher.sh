@@ -3,16 +3,8 @@
 # The expected text is worked out by hand: GOTO 5 is 2805h, RETFIE 0009h, MOVLW 5 3005h, BCF 3,5 1283h,
 # MOVWF 6 0086h, GOTO 8 2808h, and 3FFFh stands in each erased word.
 set -u
-top=$(CDPATH='' cd -- "$(dirname -- "$0")/.." && pwd -P) || exit 1
-folder=$(mktemp -d) || exit 1
-trap 'rm -rf "$folder"' EXIT
-cd -- "$folder" || exit 1
-failed=0
-
-fail() {
-    printf 'launcher: %s\n' "$1"
-    failed=1
-}
+. "$(dirname -- "$0")/lib/common.sh" || exit 1
+enter_folder
 
 cat >wanted.hex <<'HEX'
 :020000040000FA
@@ -51,21 +43,21 @@ expect() {
     wanted=$2
     shift 2
     status=$(run "$@")
-    [ "$status" = "$wanted_status" ] || fail "$*: status $status, wanted $wanted_status"
-    cmp -s printed "$wanted" || fail "$*: printed $(cat printed)"
+    [ "$status" = "$wanted_status" ] || wrong "$*: status $status, wanted $wanted_status"
+    cmp -s printed "$wanted" || wrong "$*: printed $(cat printed)"
 }
 
 cp "$top/examples/led.c" "$top/examples/deep.c" "$top/examples/two_copies.c" . || exit 1
 expect 0 wanted.none build led.c led.hex led.map
-cmp led.hex wanted.hex || fail 'the HEX is another one'
-cmp led.map wanted.map || fail 'the map is another one'
+cmp led.hex wanted.hex || wrong 'the HEX is another one'
+cmp led.map wanted.map || wrong 'the map is another one'
 
 # words are handed on as they are, blanks included
 printf 'int x;\n' >'no program.c'
 expect 1 wanted.refusal build 'no program.c' out.hex out.map
 expect 1 wanted.depth build deep.c out.hex out.map
-[ ! -e out.hex ] || fail 'a refused program has a HEX'
+[ ! -e out.hex ] || wrong 'a refused program has a HEX'
 expect 0 wanted.none build two_copies.c two_copies.hex two_copies.map
-grep '^frame' two_copies.map | cmp -s - wanted.frames || fail 'the frames are others'
+grep '^frame' two_copies.map | cmp -s - wanted.frames || wrong 'the frames are others'
 expect 2 wanted.usage
 exit $failed

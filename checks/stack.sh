@@ -2,30 +2,16 @@
 # Texts as deep as the limits allow are answered within a call stack of 8 MiB. What takes more code than there is room for
 # stands in a function that main doesn't call; what takes little stands in main, and is compiled.
 set -u
-top=$(CDPATH='' cd -- "$(dirname -- "$0")/.." && pwd -P) || exit 1
-folder=$(mktemp -d) || exit 1
-trap 'rm -rf "$folder"' EXIT
-cd -- "$folder" || exit 1
-failed=0
-
-printf '%s\n' 'void main(void){}' >a.c
-"$top/picc" build a.c a.hex a.map || exit 1
-rm -f a.hex a.map
-
-# a text, so many times
-repeated() {
-    awk -v text="$1" -v count="$2" 'BEGIN { for (i = 0; i < count; i++) printf "%s", text }'
-}
+. "$(dirname -- "$0")/lib/common.sh" || exit 1
+enter_folder
+first_build
 
 # what the text is, the wanted status and line, the text
 expect() {
     printf '%s\n' "$4" >a.c
     printed=$(ulimit -s 8192 && "$top/picc" build a.c a.hex a.map)
     status=$?
-    [ "$status $printed" = "$2 $3" ] || {
-        printf 'stack: %s: status %s, printed %s, wanted status %s, %s\n' "$1" "$status" "$printed" "$2" "$3"
-        failed=1
-    }
+    [ "$status $printed" = "$2 $3" ] || wrong "$1: status $status, printed $printed, wanted status $2, $3"
 }
 
 # what the expression is, the expression over `int x`, the statements round it

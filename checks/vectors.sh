@@ -4,39 +4,27 @@
 # What a case says beside `ok` of lines of the map and of bytes of a frame is compared with the map. Words of a block and depths
 # aren't printed, so such a case is skipped once its program was accepted.
 set -u
-top=$(CDPATH='' cd -- "$(dirname -- "$0")/.." && pwd -P) || exit 1
-cases=${PICC_VECTORS:-$top/../shared/vectors}/front.jsonl
-if [ ! -r "$cases" ]; then
-    echo 'vectors: skipped, since there is no folder of cases'
-    exit 0
-fi
-if ! command -v python3 >/dev/null; then
-    echo 'vectors: skipped, since python3 is not installed'
-    exit 0
-fi
-folder=$(mktemp -d) || exit 1
-trap 'rm -rf "$folder"' EXIT
-cd -- "$folder" || exit 1
+. "$(dirname -- "$0")/lib/common.sh" || exit 1
+. "$top/checks/lib/cases.sh" || exit 1
+have_cases front.jsonl skipped cases || exit 0
+enter_folder
+first_build
 
-printf '%s\n' 'void main(void){}' >a.c
-"$top/picc" build a.c a.hex a.map || exit 1
-
-python3 - "$top/picc" "$cases" <<'PY'
-import json
+run_cases <<'PY'
 import os
-import subprocess
 import sys
+from cases import judged, ran
 
 
-def answer(picc, text):
+def answer(text):
     """The status and the printed text of a build, and whether it left a file beside a.c."""
     for name in ('a.hex', 'a.map'):
         if os.path.exists(name):
             os.remove(name)
     with open('a.c', 'wb') as file:
         file.write(text)
-    run = subprocess.run([picc, 'build', 'a.c', 'a.hex', 'a.map'], stdout=subprocess.PIPE, timeout=120)
-    return run.returncode, run.stdout, sorted(os.listdir('.')) != ['a.c']
+    status, printed = ran('build', 'a.c', 'a.hex', 'a.map')
+    return status, printed, sorted(os.listdir('.')) != ['a.c']
 
 
 def mapped(want):
@@ -60,19 +48,13 @@ def verdict(want, status, printed, wrote):
     return 'passed' if (status, printed, wrote) == (1, want.encode() + b'\n', False) else 'differs'
 
 
-def main(picc, cases):
-    counts = {'passed': 0, 'skipped': 0, 'differs': 0}
-    with open(cases, encoding='utf-8') as file:
-        for number, line in enumerate(file, 1):
-            case = json.loads(line)
-            status, printed, wrote = answer(picc, case['text'].encode('latin-1'))
-            said = verdict(case['want'], status, printed, wrote)
-            counts[said] += 1
-            if said == 'differs':
-                print(f'vectors: case {number}: wanted {case["want"]!r}, got status {status}, {printed!r}')
-    print('vectors: ' + ', '.join(f'{counts[name]} {name}' for name in counts))
-    return 1 if counts['differs'] else 0
+def judge(number, case):
+    status, printed, wrote = answer(case['text'].encode('latin-1'))
+    said = verdict(case['want'], status, printed, wrote)
+    if said != 'differs':
+        return said, None
+    return said, f'case {number}: wanted {case["want"]!r}, got status {status}, {printed!r}'
 
 
-sys.exit(main(sys.argv[1], sys.argv[2]))
+sys.exit(judged(judge, ('passed', 'skipped', 'differs')))
 PY
