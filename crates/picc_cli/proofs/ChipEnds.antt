@@ -10,9 +10,13 @@ use Rattle.picc_cli.specs.declared.simulating.Ended.TheVariants as chip
 use Rattle.picc_cli.specs.Agreement as agreement
 use Rattle.picc_cli.specs.Chip as simulation
 use Rattle.picc_cli.specs.Command.{Simulated, Compared, Form, Simulate, Agree, Generate}
-use Rattle.picc_cli.specs.Finished.{HasFaults, IsStatus, HasStatus, IsComplete}
+use Rattle.picc_cli.specs.Finished.{HasFaults, IsStatus, HasStatus, HasTold, IsComplete}
 use Rattle.picc_cli.specs.Inputs as inputs
 use Rattle.picc_cli.specs.Said.{GivesUp, HasOutcomeCause, Says}
+use Rattle.picc_cli.specs.Simulation.{HasSimulated}
+use Rattle.pic_sim.specs.Going.{Known}
+use Rattle.picc_cli.proofs.AgreementWhole.{agreement_whole}
+use Rattle.picc_cli.proofs.SimulationWhole.{simulation_whole}
 use Rattle.picc_cli.proofs.FormEnds.{form_faults, said_status, with_status, up_not_two, NotTwo}
 use Rattle.picc_cli.proofs.InputFiles.{file_three, file_fault}
 
@@ -74,16 +78,18 @@ module _ (asked : Simulated) where
       form_faults sim kind alike old (simulation.is_fault ended) (simulation.status_of ended) (chip_three ended) (chip_fault ended) sound.only sound.missing
       first before now p q line result cause same says
 
-  pub chip_complete : (kind : Kind) (before now : ℕ) (old : Option Contents) (result : ℕ) → HasFaults kind before now sim old result → HasStatus sim result
-      → IfSome old (λ o. IsComplete kind before now sim o result)
-  chip_complete kind before now None result faults status = tt
-  chip_complete kind before now (Some o) result faults status = λ quiet. by_status status.known (λ three. quiet (faults.only three)) where
-    by_status : IsStatus sim result → (result ≡ 3 → ⊥) → (result ≡ 0) ⊎ ((result ≡ 5) ⊎ ((result ≡ 6) ⊎ (result ≡ 9)))
-    by_status (inl e) never = inl e
-    by_status (inr (inl e)) never = inr (inl e)
-    by_status (inr (inr (inl e))) never = inr (inr (inl e))
-    by_status (inr (inr (inr (inl e)))) never = absurd (never e)
-    by_status (inr (inr (inr (inr e)))) never = inr (inr (inr e))
+  pub chip_complete : (kind : Kind) (before now : ℕ) (old : Option Contents) (result : ℕ) (first last : Known) (p q : Option (List ℕ)) → HasFaults kind before now sim old result → HasStatus sim result
+      → IfSome old (λ o. HasSimulated sim o first last p q result) → IfSome old (λ o. IsComplete kind before now sim o result)
+  chip_complete kind before now None result first last p q faults status told = tt
+  chip_complete kind before now (Some o) result first last p q faults status told = λ quiet.
+      let never : result ≡ 3 → ⊥ = λ three. quiet (faults.only three) in simulation_whole asked o first last p q result never told (by_status status.known never)
+    where
+      by_status : IsStatus sim result → (result ≡ 3 → ⊥) → (result ≡ 0) ⊎ ((result ≡ 5) ⊎ ((result ≡ 6) ⊎ (result ≡ 9)))
+      by_status (inl e) never = inl e
+      by_status (inr (inl e)) never = inr (inl e)
+      by_status (inr (inr (inl e))) never = inr (inr (inl e))
+      by_status (inr (inr (inr (inl e)))) never = absurd (never e)
+      by_status (inr (inr (inr (inr e)))) never = inr (inr (inr e))
 
 -- a status 5 of a simulation is that of a file
 pub five_at_file : (ended : chip_ends.Ended) (kind : Kind) (before now : ℕ) (p q : Option (List ℕ)) (line : List ℕ) (result : ℕ)
@@ -160,17 +166,19 @@ module _ (asked : Compared) where
       form_faults comparison kind alike old (agreement.is_fault ended) (agreement.status_of ended) (agree_three ended) (agree_fault ended) sound.only sound.missing
       first before now p q line result cause same says
 
-  pub agree_complete : (kind : Kind) (before now : ℕ) (old : Option Contents) (result : ℕ) → HasFaults kind before now comparison old result → HasStatus comparison result
-      → IfSome old (λ o. IsComplete kind before now comparison o result)
-  agree_complete kind before now None result faults status = tt
-  agree_complete kind before now (Some o) result faults status = λ quiet. by_status status.known (λ three. quiet (faults.only three)) where
-    by_status : IsStatus comparison result → (result ≡ 3 → ⊥) → (result ≡ 0) ⊎ ((result ≡ 1) ⊎ ((result ≡ 4) ⊎ ((result ≡ 5) ⊎ (result ≡ 9))))
-    by_status (inl e) never = inl e
-    by_status (inr (inl e)) never = inr (inl e)
-    by_status (inr (inr (inl e))) never = inr (inr (inl e))
-    by_status (inr (inr (inr (inl e)))) never = inr (inr (inr (inl e)))
-    by_status (inr (inr (inr (inr (inl e))))) never = absurd (never e)
-    by_status (inr (inr (inr (inr (inr e))))) never = inr (inr (inr (inr e)))
+  pub agree_complete : (kind : Kind) (before now : ℕ) (old new : Option Contents) (result : ℕ) (p q : Option (List ℕ)) → HasFaults kind before now comparison old result → HasStatus comparison result
+      → IfSome old (λ o. HasTold comparison o new p q result) → IfSome old (λ o. IsComplete kind before now comparison o result)
+  agree_complete kind before now None new result p q faults status told = tt
+  agree_complete kind before now (Some o) new result p q faults status told = λ quiet.
+      let never : result ≡ 3 → ⊥ = λ three. quiet (faults.only three) in agreement_whole asked o result never p q told (by_status status.known never)
+    where
+      by_status : IsStatus comparison result → (result ≡ 3 → ⊥) → (result ≡ 0) ⊎ ((result ≡ 1) ⊎ ((result ≡ 4) ⊎ ((result ≡ 5) ⊎ (result ≡ 9))))
+      by_status (inl e) never = inl e
+      by_status (inr (inl e)) never = inr (inl e)
+      by_status (inr (inr (inl e))) never = inr (inr (inl e))
+      by_status (inr (inr (inr (inl e)))) never = inr (inr (inr (inl e)))
+      by_status (inr (inr (inr (inr (inl e))))) never = absurd (never e)
+      by_status (inr (inr (inr (inr (inr e))))) never = inr (inr (inr (inr e)))
 
 -- ---- generated programs
 module _ (functions : ℕ) where

@@ -23,3 +23,9 @@ pub mod FormPrints
 pub mod ChipEnds
 pub mod Sound
 pub mod NothingDone
+pub mod SimulationEnds
+pub mod AgreementEnds
+pub mod SizesTold
+pub mod FilesKept
+pub mod SimulationWhole
+pub mod AgreementWhole

@@ -7,7 +7,9 @@ use Rattle.picc_cli.specs.declared.simulating.Ended.TheVariants as chip
 use Rattle.picc_cli.specs.declared.tracing.Ended.TheVariants as trace
 use Rattle.picc_cli.specs.Command.{Form, Build, Trace, Simulate, Agree, Generate}
 use Rattle.picc_cli.specs.Finished.{LacksFile, HasFiles, HasFaults, IsStatus, HasStatus, HasPrinted, HasTold, IsComplete}
+use Rattle.pic_sim.specs.Going.{Known}
 use Rattle.picc_cli.specs.Generated.{generated}
+use Rattle.picc_cli.specs.Simulation.{HasSimulated}
 use Rattle.picc_cli.specs.Lines.{usage_line}
 use Rattle.picc_cli.specs.Summary.{summary_line}
 use Rattle.picc_cli.proofs.Endings.{add_nothing}
@@ -71,14 +73,24 @@ no_print (Some (Generate functions)) kind p =
     let text = generated functions ++ summary_line functions 0 0 0 in
     record { whole = inl (inr refl); prefix = λ up. (tt, text, record { words = 0; ram = 0; depth = 0; whole = refl }, nothing_of p text) }
 
-pub no_told : (form : Option Form) (old new : Option Contents) (p q : Option (List ℕ)) → IfSome old (λ o. HasTold form o new p q 9)
-no_told form None new p q = tt
-no_told None (Some o) new p q = tt
-no_told (Some (Build names)) (Some o) new p q = λ e. absurd (omega arith)
-no_told (Some (Trace asked)) (Some o) new p q = inl (inr refl)
-no_told (Some (Simulate asked)) (Some o) new p q = tt
-no_told (Some (Agree asked)) (Some o) new p q = tt
-no_told (Some (Generate functions)) (Some o) new p q = tt
+pub no_told : (form : Option Form) (old new : Option Contents) (p : Option (List ℕ)) → IfSome old (λ o. HasTold form o new p p 9)
+no_told form None new p = tt
+no_told None (Some o) new p = tt
+no_told (Some (Build names)) (Some o) new p = λ e. absurd (omega arith)
+no_told (Some (Trace asked)) (Some o) new p = inl (inr refl)
+no_told (Some (Simulate asked)) (Some o) new p = tt
+no_told (Some (Agree asked)) (Some o) new p = record { ended = agree.NoMemory; knows = tt; last = inr (inr refl, nothing_of p []) }
+no_told (Some (Generate functions)) (Some o) new p = λ e. absurd (omega arith)
+
+-- a board that wasn't asked
+pub not_simulated : (form : Option Form) (old : Option Contents) (board : Known) (p : Option (List ℕ)) → IfSome old (λ o. HasSimulated form o board board p p 9)
+not_simulated form None board p = tt
+not_simulated None (Some o) board p = tt
+not_simulated (Some (Build names)) (Some o) board p = tt
+not_simulated (Some (Trace asked)) (Some o) board p = tt
+not_simulated (Some (Simulate asked)) (Some o) board p = record { ended = chip.NoMemory; middle = p; knows = inl (refl, refl); last = inr (inr refl, nothing_of p []) }
+not_simulated (Some (Agree asked)) (Some o) board p = tt
+not_simulated (Some (Generate functions)) (Some o) board p = tt
 
 pub no_end : (form : Option Form) (kind : Kind) (before now : ℕ) (old : Option Contents) → IfSome old (λ o. IsComplete kind before now form o 9)
 no_end form kind before now None = tt
@@ -90,6 +102,22 @@ no_end (Some (Trace asked)) kind before now (Some o) = λ quiet.
       no_tokens = λ text script refusal a b c d. inr refl;
       no_tree = λ text script a b c d. inr refl;
     }
-no_end (Some (Simulate asked)) kind before now (Some o) = λ quiet. inr (inr (inr refl))
-no_end (Some (Agree asked)) kind before now (Some o) = λ quiet. inr (inr (inr (inr refl)))
+no_end (Some (Simulate asked)) kind before now (Some o) = λ quiet.
+    record {
+      ends = inr (inr (inr refl));
+      runs = λ image map script a b c. inr (inr refl);
+      no_hex = λ bytes a b. inr refl;
+      no_map = λ bytes a b. inr refl;
+      no_script = λ bytes a b. inr refl;
+    }
+no_end (Some (Agree asked)) kind before now (Some o) = λ quiet.
+    record {
+      ends = inr (inr (inr (inr refl)));
+      files =
+        record {
+          no_script = λ text script a b c. inr refl;
+          no_tokens = λ text script refusal a b c d. inr refl;
+          no_tree = λ text script a b c d. inr refl;
+        };
+    }
 no_end (Some (Generate functions)) kind before now (Some o) = λ quiet. inr refl

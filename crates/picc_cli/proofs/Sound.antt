@@ -18,36 +18,15 @@ use Rattle.picc_cli.specs.Inputs as inputs
 use Rattle.picc_cli.specs.Inputs.{IsHexInput, IsMapInput, HasNoHex, HasNoMap, FailsWithoutFile}
 use Rattle.picc_cli.specs.Said.{GivesUp}
 use Rattle.picc_cli.specs.Trace.{IsFile}
-
-same_bytes : (o : Contents) (name bytes other : List ℕ) → o name ≡ Some bytes → o name ≡ Some other → bytes ≡ other
-same_bytes o name bytes other a b = let both : Some bytes ≡ Some other = sym a ∙ b in cc
-
--- what has a HEX file isn't refused as one
-hex_up_at : (o : Contents) (name : List ℕ) (end : FileEnd) → simulation.HasHex (Some o) name → HasNoHex o name end → GivesUp (inputs.status_of end)
-hex_up_at o name CannotRead has none = inl refl
-hex_up_at o name NoMemory has none = inr refl
-hex_up_at o name TooLong (image, file) (other, there, long) =
-    let l = ap (length {A = ℕ}) (same_bytes o name file.0 other file.1 there) in let short = file.2.short in absurd (omega arith)
-hex_up_at o name (BadHex error) (image, file) (other, there, bad) =
-    absurd (bad.none image (subst (λ b. IsHexFile b image) (same_bytes o name file.0 other file.1 there) file.2.file))
-hex_up_at o name (BadLine line) has none = absurd none
-
-map_up_at : (o : Contents) (name : List ℕ) (end : FileEnd) → simulation.HasMap (Some o) name → HasNoMap o name end → GivesUp (inputs.status_of end)
-map_up_at o name CannotRead has none = inl refl
-map_up_at o name NoMemory has none = inr refl
-map_up_at o name TooLong (content, file) (other, there, long) =
-    let l = ap (length {A = ℕ}) (same_bytes o name file.0 other file.1 there) in let short = file.2.short in absurd (omega arith)
-map_up_at o name (BadLine line) (content, file) (other, there, bad) =
-    absurd (bad.none content (subst (λ b. IsMapFile b content) (same_bytes o name file.0 other file.1 there) file.2.file))
-map_up_at o name (BadHex error) has none = absurd none
+use Rattle.picc_cli.proofs.FilesKept.{hex_kept, map_kept}
 
 hex_up : (old : Option Contents) (name : List ℕ) (end : FileEnd) → simulation.HasHex old name → IfSome old (λ o. HasNoHex o name end) → GivesUp (inputs.status_of end)
 hex_up None name end has none = absurd has
-hex_up (Some o) name end has none = hex_up_at o name end has none
+hex_up (Some o) name end (image, file) none = hex_kept o name image end file none
 
 map_up : (old : Option Contents) (name : List ℕ) (end : FileEnd) → simulation.HasMap old name → IfSome old (λ o. HasNoMap o name end) → GivesUp (inputs.status_of end)
 map_up None name end has none = absurd has
-map_up (Some o) name end has none = map_up_at o name end has none
+map_up (Some o) name end (content, file) none = map_kept o name content end file none
 
 -- what was read is there
 has_hex : (old : Option Contents) (name image : List ℕ) (lacked : List ℕ) → IfSome old (λ o. IsFile o name (IsHexInput image)) → Lacks old lacked → simulation.HasHex old name

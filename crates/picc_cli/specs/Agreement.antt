@@ -1,13 +1,16 @@
 -- How a comparison ends: what is known of its files, what it prints, and its exit status.
 use Rattle.std.specs.Prelude.{ℕ, ◌≡◌, ◌⊎◌, Bool, true, false, IsTrue, Option, List, [], ◌∷◌, ◌++◌, codes, decimal}
 use Rattle.host_io.specs.Host.{Kind, Contents, Lacks}
+use Rattle.picc_core.specs.Answers.{Tells}
+use Rattle.picc_core.specs.Texts.{HasTree}
 use Rattle.picc_cli.specs.declared.comparing.Ended.{Ended}
 use Rattle.picc_cli.specs.declared.comparing.Ended.TheVariants.{Same, Undefined, Refused, CannotReadText, NoScript, NoMemory}
-use Rattle.picc_cli.specs.Command.{Compared}
+use Rattle.picc_cli.specs.Command.{Asked, Compared}
 use Rattle.picc_cli.specs.Inputs as inputs
 use Rattle.picc_cli.specs.Lines.{cannot_read, undefined_line}
 use Rattle.picc_cli.specs.Refusals.{refusal_line}
-use Rattle.picc_cli.specs.Said.{GivesUp}
+use Rattle.picc_cli.specs.Said.{GivesUp, IsLast}
+use Rattle.picc_cli.specs.Trace.{Reads, IsScript}
 
 -- ---- faults
 -- a file that is to be read has no content
@@ -30,6 +33,15 @@ IsRunEnd (Refused refusal) = Unit {0}
 IsRunEnd CannotReadText = ⊥
 IsRunEnd (NoScript end) = ⊥
 IsRunEnd NoMemory = Unit {0}
+
+-- what is known of the text where a comparison of its runs ended so
+abbrev pub RunKnows : List ℕ → Ended → Type 0
+RunKnows text (Same events) = HasTree text
+RunKnows text (Undefined kind line) = HasTree text
+RunKnows text (Refused refusal) = Tells text refusal
+RunKnows text CannotReadText = ⊥
+RunKnows text (NoScript end) = ⊥
+RunKnows text NoMemory = Unit {0}
 
 -- ---- the printed line and the status
 abbrev pub agree_line : ℕ → List ℕ
@@ -59,3 +71,22 @@ pub record FailsWithoutFiles (kind : Kind) (old : Option Contents) (asked : Comp
 -- the whole text of a comparison that ends so is its last line
 abbrev pub IsText : Compared → Ended → List ℕ → Type 0
 IsText asked ended text = text ≡ last_line asked ended
+
+-- ---- what is known of the files
+abbrev pub files_of : Compared → Asked
+files_of asked = record { input = asked.input; script = asked.script; steps = asked.instructions }
+
+-- What is known of the files of a comparison that ended so.
+abbrev pub Knows : Compared → Contents → Ended → Type 0
+Knows asked old (Same events) = Reads (files_of asked) old HasTree IsScript
+Knows asked old (Undefined kind line) = Reads (files_of asked) old HasTree IsScript
+Knows asked old (Refused refusal) = Reads (files_of asked) old (λ text. Tells text refusal) IsScript
+Knows asked old (NoScript end) = inputs.HasNoScript old asked.script end
+Knows asked old CannotReadText = Unit {0}
+Knows asked old NoMemory = Unit {0}
+
+-- With this status, and with these bytes printed, a comparison ended so.
+pub record AgreementTells (asked : Compared) (old : Contents) (before after : Option (List ℕ)) (result : ℕ) : Type 0 where
+  pub ended : Ended
+  pub knows : Knows asked old ended
+  pub last : IsLast (status_of ended) (last_line asked ended) before after result

@@ -16,7 +16,8 @@ use Rattle.picc_cli.specs.Outcome as build
 use Rattle.picc_cli.specs.Outcome.{Builds, Refuses, BreaksOff}
 use Rattle.picc_cli.specs.PortProgram.{IsProgram}
 use Rattle.picc_cli.specs.Said.{GivesUp, Prints}
-use Rattle.picc_cli.specs.Summary.{IsSummed}
+use Rattle.picc_cli.specs.Simulation.{SimulationCompletes}
+use Rattle.picc_cli.specs.Summary.{IsSummed, GeneratedTells}
 use Rattle.picc_cli.specs.Trace as trace
 use Rattle.picc_cli.specs.Trace.{IsScript, Knows, IsTraceText}
 
@@ -124,10 +125,10 @@ abbrev pub HasTold : Option Form → Contents → Option Contents → Option (Li
 HasTold None old new before after result = Unit {0}
 HasTold (Some (Build names)) old new before after result = result ≡ 1 → BuildTells names old new before after
 HasTold (Some (Trace asked)) old new before after result = GivesUp result ⊎ TraceTells asked old before after result
--- of the other forms nothing is said here yet
+HasTold (Some (Agree asked)) old new before after result = agreement.AgreementTells asked old before after result
+HasTold (Some (Generate functions)) old new before after result = result ≡ 0 → GeneratedTells functions before after
+-- what a simulation does is told with its board (HasSimulated)
 HasTold (Some (Simulate asked)) old new before after result = Unit {0}
-HasTold (Some (Agree asked)) old new before after result = Unit {0}
-HasTold (Some (Generate functions)) old new before after result = Unit {0}
 
 -- ---- without a fault and with memory enough, each command ends as it is to end
 pub record BuildCompletes (names : Names) (old : Contents) (result : ℕ) : Type 0 where
@@ -143,12 +144,17 @@ pub record TraceCompletes (asked : Asked) (old : Contents) (result : ℕ) : Type
       → program_tokens text ≡ Err (errors.Refused refusal) → (result ≡ 1) ⊎ (result ≡ 9)
   pub no_tree : (text script : List ℕ) → old asked.input ≡ Some text → old asked.script ≡ Some script → IsScript script → HasNoTree text → (result ≡ 1) ⊎ (result ≡ 9)
 
+-- as a trace of the same files, where they aren't such as they are to be
+pub record AgreementCompletes (asked : Compared) (old : Contents) (result : ℕ) : Type 0 where
+  pub ends : (result ≡ 0) ⊎ ((result ≡ 1) ⊎ ((result ≡ 4) ⊎ ((result ≡ 5) ⊎ (result ≡ 9))))
+  pub files : TraceCompletes (agreement.files_of asked) old result
+
 abbrev pub Completes : Option Form → Contents → ℕ → Type 0
 Completes None old result = (result ≡ 2) ⊎ (result ≡ 9)
 Completes (Some (Build names)) old result = BuildCompletes names old result
 Completes (Some (Trace asked)) old result = TraceCompletes asked old result
-Completes (Some (Simulate asked)) old result = (result ≡ 0) ⊎ ((result ≡ 5) ⊎ ((result ≡ 6) ⊎ (result ≡ 9)))
-Completes (Some (Agree asked)) old result = (result ≡ 0) ⊎ ((result ≡ 1) ⊎ ((result ≡ 4) ⊎ ((result ≡ 5) ⊎ (result ≡ 9))))
+Completes (Some (Simulate asked)) old result = SimulationCompletes asked old result
+Completes (Some (Agree asked)) old result = AgreementCompletes asked old result
 Completes (Some (Generate functions)) old result = (result ≡ 0) ⊎ (result ≡ 9)
 
 abbrev pub IsComplete : Kind → ℕ → ℕ → Option Form → Contents → ℕ → Type 0

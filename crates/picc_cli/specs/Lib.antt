@@ -14,6 +14,7 @@ pub mod HexReasons
 pub mod Inputs
 pub mod Chip
 pub mod Agreement
+pub mod Simulation
 pub mod Summary
 pub mod Finished
 pub mod Generated

@@ -34,6 +34,10 @@ pub record IsUnsaid (kind : Kind) (before now : ℕ) (old new : Option (List ℕ
 abbrev pub Says : Kind → ℕ → ℕ → Option (List ℕ) → Option (List ℕ) → List ℕ → ℕ → ℕ → Type 0
 Says kind before now old new line status result = IsSaid before now old new line status result ⊎ IsUnsaid kind before now old new line result
 
+-- The line comes last, with this status; or the printing of it failed, or memory for it was wanting, and a prefix of it is there.
+abbrev pub IsLast : ℕ → List ℕ → Option (List ℕ) → Option (List ℕ) → ℕ → Type 0
+IsLast status line old new result = ((result ≡ status) × (new ≡ option_map (λ text. text ++ line) old)) ⊎ (GivesUp result × PrintsPrefix old new line)
+
 -- ---- what a command prints in all, by how it can end
 -- the whole text of an end with this status, where it gives up neither for a fault nor for want of memory; a prefix of one
 -- where it does

@@ -1,10 +1,10 @@
 // The form `agree`: from the files' names to an exit status.
 ghost use Rattle.std.specs.Prelude.{◌≡◌, ◌<◌, ◌^◌, IfOk, IfSome, Some};
 ghost use Rattle.host_io.specs.Host.{Closed};
-ghost use Rattle.picc_cli.specs.Agreement.{FailsWithoutFiles, IsRunEnd, is_fault, last_line, status_of, agree_line as line_of_agreement};
+ghost use Rattle.picc_cli.specs.Agreement.{FailsWithoutFiles, IsRunEnd, Knows, RunKnows, is_fault, last_line, status_of, agree_line as line_of_agreement};
 ghost use Rattle.picc_cli.specs.Command.{Agree};
 ghost use Rattle.picc_cli.specs.CommandView.{compared_of};
-ghost use Rattle.picc_cli.specs.Finished.{HasFaults, HasPrinted, HasStatus, IsComplete};
+ghost use Rattle.picc_cli.specs.Finished.{HasFaults, HasPrinted, HasStatus, HasTold, IsComplete};
 ghost use Rattle.picc_cli.specs.Said.{Says, HasOutcomeCause};
 
 use crate::building::TEXT_LIMIT;
@@ -47,6 +47,7 @@ pub fn compare<H: Host>(alloc: Global, host: &mut H, asked: Compared<'_>) -> u8
     ensures faults { HasFaults (H.kind host.old) (H.faults host.old) (H.faults host.new) (Some (Agree (compared_of asked.entry))) (H.contents host.old) result }
     ensures status { HasStatus (Some (Agree (compared_of asked.entry))) result }
     ensures printed { HasPrinted (H.kind host.old) (Some (Agree (compared_of asked.entry))) (H.printed host.old) (H.printed host.new) result }
+    ensures told { IfSome (H.contents host.old) (λ old. HasTold (Some (Agree (compared_of asked.entry))) old (H.contents host.new) (H.printed host.old) (H.printed host.new) result) }
     ensures complete { IfSome (H.contents host.old) (λ old. IsComplete (H.kind host.old) (H.faults host.old) (H.faults host.new) (Some (Agree (compared_of asked.entry))) old result) }
 {
     let ended = compared(alloc, host, asked);
@@ -102,7 +103,7 @@ fn agree_line(alloc: Global, events: u32) -> Result<Vec<u8>, AllocError>
 }
 
 /// Reads the text and the script, and compares the runs.
-#[tactic(auto, using(crate::proofs::Sound::text_fails, crate::proofs::Sound::memory_fails, crate::proofs::Sound::compared_no_script, crate::proofs::Sound::compared_runs, crate::proofs::Sound::no_fault))]
+#[tactic(auto, using(crate::proofs::Sound::text_fails, crate::proofs::Sound::memory_fails, crate::proofs::Sound::compared_no_script, crate::proofs::Sound::compared_runs, crate::proofs::Sound::no_fault, crate::proofs::AgreementEnds::none_known, crate::proofs::AgreementEnds::runs_known))]
 fn compared<H: Host>(alloc: Global, host: &mut H, asked: Compared<'_>) -> Ended
     requires few { asked.instructions < 2 ^ 31 }
     requires closed { H.open_file host.old ≡ Closed }
@@ -110,6 +111,7 @@ fn compared<H: Host>(alloc: Global, host: &mut H, asked: Compared<'_>) -> Ended
     ensures same_kind { H.kind host.new ≡ H.kind host.old }
     ensures same_contents { H.contents host.new ≡ H.contents host.old }
     ensures same_printed { H.printed host.new ≡ H.printed host.old }
+    ensures knows { IfSome (H.contents host.old) (λ old. Knows (compared_of asked.entry) old result) }
     ensures cause { HasOutcomeCause (H.kind host.old) (H.faults host.old) (H.faults host.new) (is_fault result) }
     ensures sound { FailsWithoutFiles (H.kind host.old) (H.contents host.old) (compared_of asked.entry) result }
 {
@@ -129,6 +131,7 @@ fn compared<H: Host>(alloc: Global, host: &mut H, asked: Compared<'_>) -> Ended
 fn runs(alloc: Global, text: &[u8], script: &Script, instructions: u32) -> Ended
     requires { instructions < 2 ^ 31 }
     ensures end { IsRunEnd result }
+    ensures knows { RunKnows text.now result }
 {
     let built = match compile(alloc, text) {
         Ok(built) => built,

@@ -1,5 +1,5 @@
 // The form `sim`: from the files' names and a board to an exit status.
-ghost use Rattle.std.specs.Prelude.{◌≡◌, ◌≤◌, ◌++◌, true, false, length, option_map, IsTrue, IfOk, IfSome, OnOk, OnErr, Some};
+ghost use Rattle.std.specs.Prelude.{◌≡◌, ◌≤◌, ◌+◌, ◌*◌, ◌++◌, [], true, false, length, option_map, IsTrue, IfOk, IfSome, OnOk, OnErr, Some};
 ghost use Rattle.host_io.specs.Host.{Closed, HasCause, NoFailure, PrintsPrefix};
 ghost use Rattle.pic_map.specs.MapView.{content_of};
 ghost use Rattle.picc_cli.specs.Chip.{FailsWithoutFiles, IsRunEnd, Leads, RunPrints, ends_at_file, is_fault, last_line, status_of, unmodelled_text};
@@ -8,7 +8,9 @@ ghost use Rattle.picc_cli.specs.CommandView.{simulated_of};
 ghost use Rattle.picc_cli.specs.Finished.{HasFaults, HasPrinted, HasStatus, IsComplete};
 ghost use Rattle.picc_cli.specs.Lines.{event_lines};
 ghost use Rattle.picc_cli.specs.Said.{Says, HasOutcomeCause};
+ghost use Rattle.picc_cli.specs.Simulation.{HasSimulated, IsFed, IsPrinted, IsRun, Knows, Runs, board_of};
 ghost use Rattle.picc_cli.specs.Trace.{AllShown};
+ghost use Rattle.schedule.specs.ScriptFile as script_file;
 
 use crate::command::Simulated;
 use crate::digits::push_word;
@@ -65,6 +67,7 @@ pub fn simulate<H: Host>(
     ensures printed { HasPrinted (H.kind host.old) (Some (Simulate (simulated_of asked.entry))) (H.printed host.old) (H.printed host.new) result }
     ensures complete { IfSome (H.contents host.old) (λ old. IsComplete (H.kind host.old) (H.faults host.old) (H.faults host.new) (Some (Simulate (simulated_of asked.entry))) old result) }
     ensures refused { result ≡ 5 → board.new ≡ board.old }
+    ensures simulated { IfSome (H.contents host.old) (λ old. HasSimulated (Some (Simulate (simulated_of asked.entry))) old (board_of (lists board.old) (follows board.old)) (board_of (lists board.new) (follows board.new)) (H.printed host.old) (H.printed host.new) result) }
 {
     let ended = simulated(alloc, host, board, asked);
     report(alloc, host, asked, &ended)
@@ -127,6 +130,7 @@ fn simulated<H: Host>(
     ensures sound { FailsWithoutFiles (H.kind host.old) (H.contents host.old) (simulated_of asked.entry) result }
     ensures leads { Leads result (H.printed host.old) (H.printed host.new) }
     ensures same_board { ends_at_file result ≡ true → board.new ≡ board.old }
+    ensures knows { IfSome (H.contents host.old) (λ old. Knows (simulated_of asked.entry) old (board_of (lists board.old) (follows board.old)) (board_of (lists board.new) (follows board.new)) result (H.printed host.old) (H.printed host.new)) }
 {
     let image = match hex_in(alloc, host, asked.hex) {
         Ok(image) => image,
@@ -168,30 +172,81 @@ fn run<H: Host>(
     ensures same_kind { H.kind host.new ≡ H.kind host.old }
     ensures end { IsRunEnd result }
     ensures prints { RunPrints (content_of map.now) result (H.printed host.old) (H.printed host.new) }
+    ensures runs { Runs image.now (content_of map.now) (script_file.content_of script.now) instructions (board_of (lists board.old) (follows board.old)) (board_of (lists board.new) (follows board.new)) result (H.printed host.old) (H.printed host.new) }
     ensures cause { HasOutcomeCause (H.kind host.old) (H.faults host.old) (H.faults host.new) (is_fault result) }
     ensures sound { IsTrue (H.kind host.old).is_sound → is_fault result ≡ false }
 {
     let mut trace = Trace::new(alloc);
-    if board.feed(script).is_err() || trace.reserve(2 * instructions as usize + 1).is_err() {
+    if trace.reserve(2 * instructions as usize + 1).is_err() {
         return Ended::NoMemory;
     }
+    match run_over(board, image, map, script, instructions, &mut trace) {
+        Ok(end) => print_run(alloc, host, map, &trace, end),
+        Err(_) => Ended::NoMemory,
+    }
+}
+
+/// Feeds the script to the board, and runs the image from a reset for so many instructions. The trace is empty, has room for
+/// the events, and takes them.
+fn run_over(
+    board: &mut Box<dyn Board>,
+    image: &Image,
+    map: &Map,
+    script: &Script,
+    instructions: u32,
+    trace: &mut Trace,
+) -> Result<SimEnd, AllocError>
+    requires few { length map.now.objects.items ≤ 65536 }
+    requires empty { trace.old.events ≡ [] }
+    requires room { 2 * instructions + 1 ≤ trace.old.room }
+    ensures run { IfOk result (λ end. IsRun image.now (content_of map.now) (script_file.content_of script.now) instructions (board_of (lists board.old) (follows board.old)) (board_of (lists board.new) (follows board.new)) trace.new.events end) }
+    ensures refused { OnErr result (lists board.new ≡ lists board.old) }
+{
+    feed(board, script)?;
     let mut chip = Chip::reset(&UNKNOWN);
     let mut tracer = Tracer::new(map);
     let _ = tracer.at(chip.pc());
-    let end = run_on(
+    let instructions = instructions as u64;
+    Ok(run_on(
         &mut chip,
         image,
         &mut tracer,
         board,
-        instructions as u64,
-        &mut trace,
-    );
+        instructions,
+        trace,
+    ))
+}
+
+/// Hands the script over to the board.
+fn feed(board: &mut Box<dyn Board>, script: &Script) -> Result<(), AllocError>
+    ensures fed { OnOk result (IsFed (script_file.content_of script.now) (board_of (lists board.old) (follows board.old)) (board_of (lists board.new) (follows board.new))) }
+    ensures refused { OnErr result (lists board.new ≡ lists board.old) }
+{
+    board.feed(script)
+}
+
+/// Prints the line of each event of a run that ended so.
+fn print_run<H: Host>(
+    alloc: Global,
+    host: &mut H,
+    map: &Map,
+    trace: &Trace,
+    end: SimEnd,
+) -> Ended
+    ensures same_file { H.open_file host.new ≡ H.open_file host.old }
+    ensures same_contents { H.contents host.new ≡ H.contents host.old }
+    ensures same_kind { H.kind host.new ≡ H.kind host.old }
+    ensures end { IsRunEnd result }
+    ensures printed { IsPrinted (content_of map.now) trace.now.events end result (H.printed host.old) (H.printed host.new) }
+    ensures cause { HasOutcomeCause (H.kind host.old) (H.faults host.old) (H.faults host.new) (is_fault result) }
+    ensures sound { IsTrue (H.kind host.old).is_sound → is_fault result ≡ false }
+{
     let ended = match end {
         SimEnd::Done => Ended::Done,
         SimEnd::Unmodelled(at) => Ended::Unmodelled { at },
         SimEnd::NoMemory => return Ended::NoMemory,
     };
-    match print_events(alloc, host, map, &trace) {
+    match print_events(alloc, host, map, trace) {
         Ok(()) => ended,
         Err(HostError::Failed) => Ended::CannotPrint,
         Err(HostError::NoMemory) => Ended::NoMemory,

@@ -2,8 +2,8 @@
 ghost use Rattle.std.specs.Prelude.{◌≡◌, ◌≤◌, ◌++◌, IfOk, IfSome, OnOk, Some};
 ghost use Rattle.host_io.specs.Host.{Closed};
 ghost use Rattle.picc_cli.specs.Command.{Generate};
-ghost use Rattle.picc_cli.specs.Finished.{HasFaults, HasPrinted, HasStatus, IsComplete};
-ghost use Rattle.picc_cli.specs.Summary.{IsSummed, summary_line};
+ghost use Rattle.picc_cli.specs.Finished.{HasFaults, HasPrinted, HasStatus, HasTold, IsComplete};
+ghost use Rattle.picc_cli.specs.Summary.{AreSizes, IsSized, IsSummed, summary_line};
 
 use crate::generating::generate;
 use crate::refusal::push_counted;
@@ -31,6 +31,7 @@ pub fn print_generated<H: Host>(alloc: Global, host: &mut H, functions: u32) -> 
     ensures faults { HasFaults (H.kind host.old) (H.faults host.old) (H.faults host.new) (Some (Generate functions)) (H.contents host.old) result }
     ensures status { HasStatus (Some (Generate functions)) result }
     ensures printed { HasPrinted (H.kind host.old) (Some (Generate functions)) (H.printed host.old) (H.printed host.new) result }
+    ensures told { IfSome (H.contents host.old) (λ old. HasTold (Some (Generate functions)) old (H.contents host.new) (H.printed host.old) (H.printed host.new) result) }
     ensures complete { IfSome (H.contents host.old) (λ old. IsComplete (H.kind host.old) (H.faults host.old) (H.faults host.new) (Some (Generate functions)) old result) }
 {
     match summed(alloc, functions) {
@@ -41,7 +42,8 @@ pub fn print_generated<H: Host>(alloc: Global, host: &mut H, functions: u32) -> 
 
 /// The program and the comment.
 fn summed(alloc: Global, functions: u32) -> Result<Vec<u8>, AllocError>
-    ensures { IfOk result (λ text. IsSummed functions text.items) }
+    ensures summed { IfOk result (λ text. IsSummed functions text.items) }
+    ensures sized { IfOk result (λ text. IsSized functions text.items) }
 {
     let mut text = generate(alloc, functions)?;
     let sizes = sizes_of(alloc, &text)?;
@@ -50,7 +52,9 @@ fn summed(alloc: Global, functions: u32) -> Result<Vec<u8>, AllocError>
 }
 
 /// The sizes of a program. One that is refused has none, and gives up as if memory were wanting; none that is generated is.
-fn sizes_of(alloc: Global, text: &[u8]) -> Result<Sizes, AllocError> {
+fn sizes_of(alloc: Global, text: &[u8]) -> Result<Sizes, AllocError>
+    ensures sizes { IfOk result (λ sizes. AreSizes text.now sizes.words sizes.ram sizes.depth) }
+{
     match front(alloc, text) {
         Ok(known) => Ok(Sizes {
             words: known.words,

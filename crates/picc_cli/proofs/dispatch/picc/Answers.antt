@@ -1,7 +1,7 @@
 use Rattle.picc_cli.specs.Command.{form_of, words_of}
 use Rattle.picc_cli.proofs.Forms.{complete_by}
 use Rattle.picc_cli.proofs.Limits.{command_within}
-use Rattle.picc_cli.proofs.NothingDone.{no_files, no_print, no_told, no_end}
+use Rattle.picc_cli.proofs.NothingDone.{no_files, no_print, no_told, no_end, not_simulated}
 use Rattle.picc_cli.proofs.dispatch.picc.Goals as goal
 
 pub run-requires-clause-few : goal.run-requires-clause-few
@@ -16,7 +16,9 @@ returns-in-Err-clause-printed g c = no_print (form_of (words_of c.args.words.now
 pub returns-in-Err-clause-told : goal.returns-in-Err-clause-told
 returns-in-Err-clause-told g c =
     no_told (form_of (words_of c.args.words.now)) (g.H.Host.contents c.args.host.now) (g.H.Host.contents c.args.host.now) (g.H.Host.printed c.args.host.now)
-    (g.H.Host.printed c.args.host.now)
+
+pub returns-in-Err-clause-simulated : goal.returns-in-Err-clause-simulated
+returns-in-Err-clause-simulated g c = not_simulated (form_of (words_of c.args.words.now)) (g.H.Host.contents c.args.host.now) _ (g.H.Host.printed c.args.host.now)
 
 pub returns-in-Err-clause-complete : goal.returns-in-Err-clause-complete
 returns-in-Err-clause-complete g c =

@@ -1,6 +1,7 @@
 use Rattle.picc_cli.specs.CommandView.{simulated_of}
 use Rattle.picc_cli.proofs.ChipEnds.{chip_complete, chip_faults, chip_status, five_at_file}
 use Rattle.picc_cli.proofs.FormPrints.{chip_prints}
+use Rattle.picc_cli.proofs.SimulationEnds.{simulation_told}
 use Rattle.picc_cli.proofs.simulating.simulate.Goals as goal
 
 pub returns-clause-faults : goal.returns-clause-faults
@@ -17,5 +18,8 @@ returns-clause-printed g c = chip_prints (simulated_of c.args.asked) c.simulated
 pub returns-clause-refused : goal.returns-clause-refused
 returns-clause-refused g c = λ five. c.simulated-ended.ensures.same_board (five_at_file c.simulated-ended.result _ _ _ _ _ _ _ c.report.ensures.said five)
 
+pub returns-clause-simulated : goal.returns-clause-simulated
+returns-clause-simulated g c = simulation_told (simulated_of c.args.asked) c.simulated-ended.result _ _ _ _ _ _ _ _ _ _ c.simulated-ended.ensures.knows c.report.ensures.said
+
 pub returns-clause-complete : goal.returns-clause-complete
-returns-clause-complete g c = chip_complete (simulated_of c.args.asked) (g.H.Host.kind c.args.host.now) (g.H.Host.faults c.args.host.now) _ (g.H.Host.contents c.args.host.now) c.report.result (returns-clause-faults g c) (returns-clause-status g c)
+returns-clause-complete g c = chip_complete (simulated_of c.args.asked) (g.H.Host.kind c.args.host.now) (g.H.Host.faults c.args.host.now) _ (g.H.Host.contents c.args.host.now) c.report.result _ _ _ _ (returns-clause-faults g c) (returns-clause-status g c) (returns-clause-simulated g c)

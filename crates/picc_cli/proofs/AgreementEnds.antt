@@ -1,0 +1,58 @@
+-- What is known of a comparison by its end.
+use Rattle.std.proofs.Common.{◌≡◌, ℕ, ◌≤◌, Option, Some, None, IfSome, List, length, sym, ◌∙◌, subst}
+use Rattle.host_io.specs.Host.{Kind, Contents, IsRead}
+use Rattle.picc_core.specs.Texts.{HasTree}
+use Rattle.schedule.specs.ScriptFile.{ScriptContent}
+use Rattle.picc_cli.specs.declared.building.Outcome.TheVariants as outcomes
+use Rattle.picc_cli.specs.declared.comparing.Ended.{Ended}
+use Rattle.picc_cli.specs.declared.comparing.Ended.TheVariants.{Same, Undefined, Refused, CannotReadText, NoScript, NoMemory}
+use Rattle.picc_cli.specs.declared.inputs.FileEnd.{FileEnd}
+use Rattle.picc_cli.specs.Agreement.{Knows, RunKnows, files_of, last_line, status_of}
+use Rattle.picc_cli.specs.Command.{Compared, Agree}
+use Rattle.picc_cli.specs.Finished.{HasTold}
+use Rattle.picc_cli.specs.Inputs.{IsScriptInput, HasNoScript}
+use Rattle.picc_cli.specs.Said.{Says}
+use Rattle.picc_cli.specs.Trace.{IsFile, IsScript, Reads}
+use Rattle.picc_cli.proofs.Files.{content_of, take_all}
+use Rattle.picc_cli.proofs.SimulationEnds.{said_last}
+use Rattle.picc_cli.proofs.Whole.{why_whole, tree_whole}
+
+module _ (asked : Compared) where
+  reads : (o : Contents) (text script : List ℕ) (content : ScriptContent) (Of : List ℕ → Type 0) → o asked.input ≡ Some text → o asked.script ≡ Some script → IsScriptInput content script → Of text
+      → Reads (files_of asked) o Of IsScript
+  reads o text script content Of has_text has_script is of =
+      record { text = text; script = script; has_text = has_text; has_script = has_script; of_text = of; of_script = record { short = is.short; content = content; file = is.file } }
+
+  compared_at : (o : Contents) (ended : Ended) (bytes : List ℕ) (content : ScriptContent) → IsRead asked.input 262145 bytes o → IsFile o asked.script (IsScriptInput content) → RunKnows bytes ended
+      → Knows asked o ended
+  compared_at o (Same events) bytes content read (script, has, is) tree =
+      let text = content_of 262145 (o asked.input) bytes read in
+      reads o text.0 script content HasTree text.1 has is (subst HasTree (tree_whole text.0 bytes text.2 tree) tree)
+  compared_at o (Undefined kind line) bytes content read (script, has, is) tree =
+      let text = content_of 262145 (o asked.input) bytes read in
+      reads o text.0 script content HasTree text.1 has is (subst HasTree (tree_whole text.0 bytes text.2 tree) tree)
+  compared_at o (Refused refusal) bytes content read (script, has, is) tells =
+      let text = content_of 262145 (o asked.input) bytes read in
+      reads o text.0 script content _ text.1 has is (why_whole text.0 bytes (outcomes.Refused refusal) (λ l. sym text.2 ∙ take_all text.0 262145 l) text.2 tells)
+  compared_at o CannotReadText bytes content read file none = absurd none
+  compared_at o (NoScript end) bytes content read file none = absurd none
+  compared_at o NoMemory bytes content read file none = tt
+
+  -- the text and the script were read, and the runs compared
+  pub runs_known : (old middle : Option Contents) (ended : Ended) (bytes text : List ℕ) (content : ScriptContent) → IfSome old (IsRead asked.input 262145 bytes) → middle ≡ old
+      → IfSome middle (λ o. IsFile o asked.script (IsScriptInput content)) → text ≡ bytes → RunKnows text ended → IfSome old (λ o. Knows asked o ended)
+  runs_known None middle ended bytes text content read same file e knows = tt
+  runs_known (Some o) middle ended bytes text content read same file e knows =
+      compared_at o ended bytes content read (subst (λ c. IfSome c (λ o. IsFile o asked.script (IsScriptInput content))) same file) (subst (λ t. RunKnows t ended) e knows)
+
+  -- there was no script
+  pub none_known : (old middle : Option Contents) (end : FileEnd) → middle ≡ old → IfSome middle (λ o. HasNoScript o asked.script end) → IfSome old (λ o. Knows asked o (NoScript end))
+  none_known None middle end same none = tt
+  none_known (Some o) middle end same none = subst (λ c. IfSome c (λ o. HasNoScript o asked.script end)) same none
+
+  pub agreement_told : (ended : Ended) (old new : Option Contents) (kind : Kind) (first later : ℕ) (p middle q : Option (List ℕ)) (result : ℕ) → IfSome old (λ o. Knows asked o ended) → middle ≡ p
+      → Says kind first later middle q (last_line asked ended) (status_of ended) result → IfSome old (λ o. HasTold (Some (Agree asked)) o new p q result)
+  agreement_told ended None new kind first later p middle q result knows same says = tt
+  agreement_told ended (Some o) new kind first later p middle q result knows same says =
+      let alike = subst (λ x. Says kind first later x q (last_line asked ended) (status_of ended) result) same says in
+      record { ended = ended; knows = knows; last = said_last kind first later p q (last_line asked ended) (status_of ended) result alike }

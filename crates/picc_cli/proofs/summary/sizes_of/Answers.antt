@@ -1,0 +1,22 @@
+use Rattle.std.proofs.Common.{map}
+use Rattle.c_typed.specs.Views.{program_of}
+use Rattle.pic_map.specs.MapView.{object_of, frame_of}
+use Rattle.picc_cli.proofs.summary.sizes_of.Goals as goal
+
+pub returns-in-Ok-clause-sizes : goal.returns-in-Ok-clause-sizes
+returns-in-Ok-clause-sizes g c =
+    let known = c.in-Ok.known in
+    let says = c.in-Ok.ensures in
+    record {
+      tree = says.tree;
+      program = program_of known.typed;
+      copies = known.copies.list.items;
+      are_copies = says.list;
+      has_depth = says.depth.0;
+      objects = map object_of known.placed.objects.items;
+      frames = map frame_of known.placed.frames.items;
+      placed = says.exact;
+      covered = says.ram;
+      at = known.at.items;
+      blocks = says.blocks;
+    }

@@ -1,0 +1,151 @@
+-- What a simulation has done by its end: the files that it read, the run of the chip over the board, how the board's lists have
+-- grown, and what was printed of the run.
+use Rattle.std.specs.Prelude.{ℕ, ◌≡◌, ◌⊎◌, false, List, [], ◌∷◌, ◌++◌, replicate, Option, Some, None, IsSome, option_map}
+use Rattle.host_io.specs.Host.{Contents, PrintsPrefix}
+use Rattle.pic_chip.specs.declared.Event.{Event}
+use Rattle.pic_chip.specs.declared.Start.{Start}
+use Rattle.pic_chip.specs.Machine.{Machine}
+use Rattle.pic_chip.specs.State.{reset}
+use Rattle.pic_map.specs.MapContent.{MapContent, watch_of}
+use Rattle.pic_map.specs.Tracing.{Tracing, looked}
+use Rattle.pic_sim.specs.Board.{Lists, Followed}
+use Rattle.pic_sim.specs.Going.{Known, Point, Went}
+use Rattle.pic_sim.specs.declared.running.SimEnd.{SimEnd}
+use Rattle.pic_sim.specs.declared.running.SimEnd.TheVariants as sim
+use Rattle.schedule.specs.ScriptFile.{ScriptContent}
+use Rattle.picc_cli.specs.declared.simulating.Ended.{Ended}
+use Rattle.picc_cli.specs.declared.simulating.Ended.TheVariants.{Done, Unmodelled, NoHex, NoMap, NoScript, CannotPrint, NoMemory}
+use Rattle.picc_cli.specs.Chip.{last_line, status_of}
+use Rattle.picc_cli.specs.Command.{Simulated, Form, Build, Trace, Simulate, Agree, Generate}
+use Rattle.picc_cli.specs.Inputs.{IsHexInput, IsMapInput, IsScriptInput, HasNoHex, HasNoMap, HasNoScript}
+use Rattle.picc_cli.specs.Lines.{event_lines}
+use Rattle.picc_cli.specs.Said.{IsLast}
+use Rattle.picc_cli.specs.Trace.{IsFile, AllShown}
+
+-- ---- the run
+-- the chip after a reset, where all that is unknown then is 0
+abbrev pub zeros : Start
+zeros = record { w = 0; fsr = 0; flags = 0; ram = replicate 368 0 }
+
+abbrev pub first_chip : Machine
+first_chip = record { state = reset zeros; index = 0 }
+
+-- what is remembered at the first moment, at which the program counter is 0
+abbrev pub first_look : MapContent → Tracing
+first_look map = looked 0 (record { watch = watch_of map; met = false; ended = false })
+
+abbrev pub board_of : Lists → Option Followed → Known
+board_of lists follows = record { lists = lists; follows = follows }
+
+-- A board that was fed this script: one that follows scripts follows it.
+pub record IsFed (script : ScriptContent) (before fed : Known) : Type 0 where
+  pub same_lists : fed.lists ≡ before.lists
+  pub follows : IsSome before.follows → fed.follows ≡ Some (record { input = script.input; arrivals = script.arrivals })
+
+-- The run of so many instructions of this image, from a reset, over a board that was fed this script: the events by the map,
+-- the board as it was left, and how the run ended. What such a run is, pic_sim defines; a law there says that it is the run from
+-- reset of the chip's own definitions.
+pub record IsRun (image : List ℕ) (map : MapContent) (script : ScriptContent) (n : ℕ) (before now : Known) (events : List Event) (end : SimEnd) : Type 0 where
+  pub fed : Known
+  pub is_fed : IsFed script before fed
+  pub chip : Machine
+  pub tracing : Tracing
+  pub went : Went image n (record { chip = first_chip; tracing = first_look map; events = []; board = fed }) (record { chip = chip; tracing = tracing; events = events; board = now }) end
+
+-- ---- what was printed of it
+-- the lines of all its events
+pub record PrintsRun (image : List ℕ) (map : MapContent) (script : ScriptContent) (n : ℕ) (before now : Known) (end : SimEnd) (p q : Option (List ℕ)) : Type 0 where
+  pub events : List Event
+  pub run : IsRun image map script n before now events end
+  pub shown : AllShown map events
+  pub printed : q ≡ option_map (λ t. t ++ event_lines map events) p
+
+-- or a prefix of them
+pub record BreaksRun (image : List ℕ) (map : MapContent) (script : ScriptContent) (n : ℕ) (before now : Known) (p q : Option (List ℕ)) : Type 0 where
+  pub end : SimEnd
+  pub events : List Event
+  pub run : IsRun image map script n before now events end
+  pub printed : PrintsPrefix p q (event_lines map events)
+
+-- What was printed of a run with these events and this end, where the simulation ended so.
+abbrev pub IsPrinted : MapContent → List Event → SimEnd → Ended → Option (List ℕ) → Option (List ℕ) → Type 0
+IsPrinted map events end Done p q = (end ≡ sim.Done) × AllShown map events × (q ≡ option_map (λ t. t ++ event_lines map events) p)
+IsPrinted map events end (Unmodelled at) p q = (end ≡ sim.Unmodelled at) × AllShown map events × (q ≡ option_map (λ t. t ++ event_lines map events) p)
+IsPrinted map events end CannotPrint p q = PrintsPrefix p q (event_lines map events)
+IsPrinted map events end NoMemory p q = PrintsPrefix p q (event_lines map events)
+IsPrinted map events end (NoHex why) p q = ⊥
+IsPrinted map events end (NoMap why) p q = ⊥
+IsPrinted map events end (NoScript why) p q = ⊥
+
+-- the board's lists are as before, and nothing was printed
+abbrev pub NothingRan : Known → Known → Option (List ℕ) → Option (List ℕ) → Type 0
+NothingRan before now p q = (now.lists ≡ before.lists) × (q ≡ p)
+
+-- What a run that ended so has done and printed.
+abbrev pub Runs : List ℕ → MapContent → ScriptContent → ℕ → Known → Known → Ended → Option (List ℕ) → Option (List ℕ) → Type 0
+Runs image map script n before now Done p q = PrintsRun image map script n before now sim.Done p q
+Runs image map script n before now (Unmodelled at) p q = PrintsRun image map script n before now (sim.Unmodelled at) p q
+Runs image map script n before now CannotPrint p q = BreaksRun image map script n before now p q
+Runs image map script n before now NoMemory p q = NothingRan before now p q ⊎ BreaksRun image map script n before now p q
+Runs image map script n before now (NoHex end) p q = ⊥
+Runs image map script n before now (NoMap end) p q = ⊥
+Runs image map script n before now (NoScript end) p q = ⊥
+
+-- ---- the whole simulation
+-- all three files are such as they are to be, and this is the run of what they hold
+pub record Simulates (asked : Simulated) (old : Contents) (before now : Known) (ended : Ended) (p q : Option (List ℕ)) : Type 0 where
+  pub image : List ℕ
+  pub map : MapContent
+  pub script : ScriptContent
+  pub hex_file : IsFile old asked.hex (IsHexInput image)
+  pub map_file : IsFile old asked.map (IsMapInput map)
+  pub script_file : IsFile old asked.script (IsScriptInput script)
+  pub runs : Runs image map script asked.instructions before now ended p q
+
+pub record LacksMap (asked : Simulated) (old : Contents) (Of : Type 0) : Type 0 where
+  pub image : List ℕ
+  pub hex_file : IsFile old asked.hex (IsHexInput image)
+  pub of_map : Of
+
+pub record LacksScript (asked : Simulated) (old : Contents) (Of : Type 0) : Type 0 where
+  pub image : List ℕ
+  pub map : MapContent
+  pub hex_file : IsFile old asked.hex (IsHexInput image)
+  pub map_file : IsFile old asked.map (IsMapInput map)
+  pub of_script : Of
+
+-- What is known of a simulation that ended so: of its files, the first that isn't such as it is to be; where all are, the run.
+abbrev pub Knows : Simulated → Contents → Known → Known → Ended → Option (List ℕ) → Option (List ℕ) → Type 0
+Knows asked old before now Done p q = Simulates asked old before now Done p q
+Knows asked old before now (Unmodelled at) p q = Simulates asked old before now (Unmodelled at) p q
+Knows asked old before now CannotPrint p q = Simulates asked old before now CannotPrint p q
+Knows asked old before now NoMemory p q = NothingRan before now p q ⊎ Simulates asked old before now NoMemory p q
+Knows asked old before now (NoHex end) p q = HasNoHex old asked.hex end × NothingRan before now p q
+Knows asked old before now (NoMap end) p q = LacksMap asked old (HasNoMap old asked.map end) × NothingRan before now p q
+Knows asked old before now (NoScript end) p q = LacksScript asked old (HasNoScript old asked.script end) × NothingRan before now p q
+
+-- With this status, and with these bytes printed, a simulation ended so: `middle` is what was printed before its last line.
+pub record SimulationTells (asked : Simulated) (old : Contents) (before now : Known) (p q : Option (List ℕ)) (result : ℕ) : Type 0 where
+  pub ended : Ended
+  pub middle : Option (List ℕ)
+  pub knows : Knows asked old before now ended p middle
+  pub last : IsLast (status_of ended) (last_line asked ended) middle q result
+
+-- of the other forms this says nothing
+abbrev pub HasSimulated : Option Form → Contents → Known → Known → Option (List ℕ) → Option (List ℕ) → ℕ → Type 0
+HasSimulated None old before now p q result = Unit {0}
+HasSimulated (Some (Build names)) old before now p q result = Unit {0}
+HasSimulated (Some (Trace asked)) old before now p q result = Unit {0}
+HasSimulated (Some (Simulate asked)) old before now p q result = SimulationTells asked old before now p q result
+HasSimulated (Some (Agree asked)) old before now p q result = Unit {0}
+HasSimulated (Some (Generate functions)) old before now p q result = Unit {0}
+
+-- Without a fault, a simulation of three files that are such as they are to be runs the chip, and one of which a file isn't tells
+-- it, unless memory runs out.
+pub record SimulationCompletes (asked : Simulated) (old : Contents) (result : ℕ) : Type 0 where
+  pub ends : (result ≡ 0) ⊎ ((result ≡ 5) ⊎ ((result ≡ 6) ⊎ (result ≡ 9)))
+  pub runs : (image : List ℕ) (map : MapContent) (script : ScriptContent) → IsFile old asked.hex (IsHexInput image) → IsFile old asked.map (IsMapInput map) → IsFile old asked.script (IsScriptInput script)
+      → (result ≡ 0) ⊎ ((result ≡ 6) ⊎ (result ≡ 9))
+  pub no_hex : (bytes : List ℕ) → old asked.hex ≡ Some bytes → ((image : List ℕ) → IsHexInput image bytes → ⊥) → (result ≡ 5) ⊎ (result ≡ 9)
+  pub no_map : (bytes : List ℕ) → old asked.map ≡ Some bytes → ((map : MapContent) → IsMapInput map bytes → ⊥) → (result ≡ 5) ⊎ (result ≡ 9)
+  pub no_script : (bytes : List ℕ) → old asked.script ≡ Some bytes → ((script : ScriptContent) → IsScriptInput script bytes → ⊥) → (result ≡ 5) ⊎ (result ≡ 9)
