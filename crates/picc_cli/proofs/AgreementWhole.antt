@@ -45,10 +45,10 @@ module _ (asked : Compared) (o : Contents) (result : ℕ) (quiet : result ≡ 3 
       record {
         ends = ends;
         files =
-          record {
-            no_script = λ text script reads has none. ⊎_elim (λ said. no_script_ends t.ended t.knows said.0 script has none) (λ up. inr (nine up.0)) t.last;
-            no_tokens = λ text script refusal reads has is e.
-                ⊎_elim (λ said. refused_ends t.ended t.knows said.0 text script reads has is (tokens_refused text refusal e)) (λ up. inr (nine up.0)) t.last;
-            no_tree = λ text script reads has is n. ⊎_elim (λ said. refused_ends t.ended t.knows said.0 text script reads has is (λ tree. n.none tree)) (λ up. inr (nine up.0)) t.last;
-          };
+            record {
+              no_script = λ text script reads has none. ⊎_elim (λ said. no_script_ends t.ended t.knows said.0 script has none) (λ up. inr (nine up.0)) t.last;
+              no_tokens = λ text script refusal reads has is e.
+                  ⊎_elim (λ said. refused_ends t.ended t.knows said.0 text script reads has is (tokens_refused text refusal e)) (λ up. inr (nine up.0)) t.last;
+              no_tree = λ text script reads has is n. ⊎_elim (λ said. refused_ends t.ended t.knows said.0 text script reads has is (λ tree. n.none tree)) (λ up. inr (nine up.0)) t.last;
+            };
       }

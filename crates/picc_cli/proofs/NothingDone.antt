@@ -114,10 +114,10 @@ no_end (Some (Agree asked)) kind before now (Some o) = λ quiet.
     record {
       ends = inr (inr (inr (inr refl)));
       files =
-        record {
-          no_script = λ text script a b c. inr refl;
-          no_tokens = λ text script refusal a b c d. inr refl;
-          no_tree = λ text script a b c d. inr refl;
-        };
+          record {
+            no_script = λ text script a b c. inr refl;
+            no_tokens = λ text script refusal a b c d. inr refl;
+            no_tree = λ text script a b c d. inr refl;
+          };
     }
 no_end (Some (Generate functions)) kind before now (Some o) = λ quiet. inr refl

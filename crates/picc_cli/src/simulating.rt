@@ -207,14 +207,7 @@ fn run_over(
     let mut tracer = Tracer::new(map);
     let _ = tracer.at(chip.pc());
     let instructions = instructions as u64;
-    Ok(run_on(
-        &mut chip,
-        image,
-        &mut tracer,
-        board,
-        instructions,
-        trace,
-    ))
+    Ok(run_on(&mut chip, image, &mut tracer, board, instructions, trace))
 }
 
 /// Hands the script over to the board.
@@ -226,13 +219,7 @@ fn feed(board: &mut Box<dyn Board>, script: &Script) -> Result<(), AllocError>
 }
 
 /// Prints the line of each event of a run that ended so.
-fn print_run<H: Host>(
-    alloc: Global,
-    host: &mut H,
-    map: &Map,
-    trace: &Trace,
-    end: SimEnd,
-) -> Ended
+fn print_run<H: Host>(alloc: Global, host: &mut H, map: &Map, trace: &Trace, end: SimEnd) -> Ended
     ensures same_file { H.open_file host.new ≡ H.open_file host.old }
     ensures same_contents { H.contents host.new ≡ H.contents host.old }
     ensures same_kind { H.kind host.new ≡ H.kind host.old }
