@@ -12,7 +12,8 @@ use Rattle.picc_cli.specs.Command.{Compared, Agree}
 use Rattle.picc_cli.specs.Finished.{HasTold}
 use Rattle.picc_cli.specs.Inputs.{IsScriptInput, HasNoScript}
 use Rattle.picc_cli.specs.Said.{Says}
-use Rattle.picc_cli.specs.Trace.{IsFile, IsScript, Reads}
+use Rattle.picc_cli.specs.ScriptInput.{IsFile, IsScript}
+use Rattle.picc_cli.specs.Trace.{Reads}
 use Rattle.picc_cli.proofs.Files.{content_of, take_all}
 use Rattle.picc_cli.proofs.SimulationEnds.{said_last}
 use Rattle.picc_cli.proofs.Whole.{why_whole, tree_whole}

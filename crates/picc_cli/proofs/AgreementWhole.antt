@@ -10,7 +10,7 @@ use Rattle.picc_cli.specs.Agreement.{AgreementTells, Knows, status_of}
 use Rattle.picc_cli.specs.Command.{Compared}
 use Rattle.picc_cli.specs.Finished.{AgreementCompletes}
 use Rattle.picc_cli.specs.Said.{GivesUp}
-use Rattle.picc_cli.specs.Trace.{IsFile, IsScript}
+use Rattle.picc_cli.specs.ScriptInput.{IsFile, IsScript}
 use Rattle.picc_cli.proofs.FilesKept.{same_bytes, script_kept, file_ends}
 
 module _ (asked : Compared) (o : Contents) (result : ℕ) (quiet : result ≡ 3 → ⊥) where

@@ -10,7 +10,7 @@ use Rattle.picc_cli.specs.declared.inputs.FileEnd.TheVariants as files
 use Rattle.picc_cli.specs.Inputs as inputs
 use Rattle.picc_cli.specs.Inputs.{IsHexInput, IsMapInput, IsScriptInput, HasNoHex, HasNoMap, HasNoScript}
 use Rattle.picc_cli.specs.Said.{GivesUp}
-use Rattle.picc_cli.specs.Trace.{IsFile}
+use Rattle.picc_cli.specs.ScriptInput.{IsFile}
 
 pub same_bytes : (o : Contents) (name bytes other : List ℕ) → o name ≡ Some bytes → o name ≡ Some other → bytes ≡ other
 same_bytes o name bytes other a b = let both : Some bytes ≡ Some other = sym a ∙ b in cc

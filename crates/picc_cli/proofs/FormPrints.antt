@@ -11,11 +11,11 @@ use Rattle.picc_cli.specs.Said.{GivesUp, Says, Prints}
 use Rattle.picc_cli.proofs.Endings.{add_nothing, said_prefix}
 use Rattle.picc_cli.proofs.Files.{longer, later, take_all}
 
-then_more : (p middle q : Option (List ℕ)) (a b : List ℕ) → middle ≡ option_map (λ t. t ++ a) p → q ≡ option_map (λ t. t ++ b) middle → q ≡ option_map (λ t. t ++ (a ++ b)) p
+pub then_more : (p middle q : Option (List ℕ)) (a b : List ℕ) → middle ≡ option_map (λ t. t ++ a) p → q ≡ option_map (λ t. t ++ b) middle → q ≡ option_map (λ t. t ++ (a ++ b)) p
 then_more None middle q a b e f = f ∙ ap (option_map (λ t. t ++ b)) e
 then_more (Some t) middle q a b e f = f ∙ ap (option_map (λ t. t ++ b)) e ∙ ap Some (append_assoc t a b)
 
-prefix_of_nothing : (p q : Option (List ℕ)) → PrintsPrefix p q [] → q ≡ p
+pub prefix_of_nothing : (p q : Option (List ℕ)) → PrintsPrefix p q [] → q ≡ p
 prefix_of_nothing p q (n, short, e) = e ∙ ap (λ l. option_map (λ t. t ++ l) p) (take_all [] n (omega arith)) ∙ add_nothing p
 
 -- nothing is said behind it

@@ -17,7 +17,7 @@ use Rattle.picc_cli.specs.declared.inputs.FileEnd.{FileEnd}
 use Rattle.picc_cli.specs.declared.inputs.FileEnd.TheVariants.{CannotRead, TooLong, BadHex, BadLine, NoMemory}
 use Rattle.picc_cli.specs.Inputs.{IsHexInput, IsMapInput, IsScriptInput, HasBadRecord, HasBadMapLine, IsUnread, HasNoHex, HasNoMap, HasNoScript, FailsWithoutFile, hex_end, is_fault, is_no_memory, status_of}
 use Rattle.picc_cli.specs.Said.{HasOutcomeCause}
-use Rattle.picc_cli.specs.Trace.{IsFile, HasBadLine, IsLong}
+use Rattle.picc_cli.specs.ScriptInput.{IsFile, HasBadLine, IsLong}
 use Rattle.std.specs.Prelude.{if◌then◌else◌}
 use Rattle.picc_cli.proofs.FewObjects.{few_objects}
 use Rattle.picc_cli.proofs.Files.{content_of, read_whole, read_long}

@@ -17,7 +17,7 @@ use Rattle.picc_cli.specs.Command.{Simulated, Simulate}
 use Rattle.picc_cli.specs.Said.{IsLast, Says}
 use Rattle.picc_cli.specs.Inputs.{IsHexInput, IsMapInput, IsScriptInput}
 use Rattle.picc_cli.specs.Lines.{event_lines}
-use Rattle.picc_cli.specs.Trace.{IsFile}
+use Rattle.picc_cli.specs.ScriptInput.{IsFile}
 use Rattle.picc_cli.specs.Simulation.{HasSimulated, Knows, IsFed, IsRun, IsPrinted, Runs, Simulates, first_chip, first_look}
 use Rattle.picc_cli.proofs.Endings.{add_nothing}
 

@@ -11,7 +11,7 @@ use Rattle.picc_cli.specs.Command.{Simulated}
 use Rattle.picc_cli.specs.Inputs.{IsHexInput, IsMapInput, IsScriptInput}
 use Rattle.picc_cli.specs.Said.{GivesUp}
 use Rattle.picc_cli.specs.Simulation.{Knows, SimulationTells, SimulationCompletes}
-use Rattle.picc_cli.specs.Trace.{IsFile}
+use Rattle.picc_cli.specs.ScriptInput.{IsFile}
 use Rattle.picc_cli.proofs.FilesKept.{same_bytes, hex_kept, map_kept, script_kept, file_ends}
 
 module _ (asked : Simulated) (o : Contents) (before now : Known) (p q : Option (List ℕ)) (result : ℕ) (quiet : result ≡ 3 → ⊥) where

@@ -11,13 +11,15 @@ use Rattle.picc_cli.specs.declared.inputs.FileEnd.{FileEnd}
 use Rattle.picc_cli.specs.declared.inputs.FileEnd.TheVariants.{CannotRead, TooLong, BadHex, BadLine, NoMemory}
 use Rattle.picc_cli.specs.declared.simulating.Ended as chip_ends
 use Rattle.picc_cli.specs.declared.simulating.Ended.TheVariants as chip
+use Rattle.picc_cli.specs.declared.tracing.Ended.TheVariants as traced
 use Rattle.picc_cli.specs.Agreement as agreement
+use Rattle.picc_cli.specs.Trace as tracing
 use Rattle.picc_cli.specs.Chip as simulation
-use Rattle.picc_cli.specs.Command.{Simulated, Compared}
+use Rattle.picc_cli.specs.Command.{Asked, Simulated, Compared}
 use Rattle.picc_cli.specs.Inputs as inputs
 use Rattle.picc_cli.specs.Inputs.{IsHexInput, IsMapInput, HasNoHex, HasNoMap, FailsWithoutFile}
 use Rattle.picc_cli.specs.Said.{GivesUp}
-use Rattle.picc_cli.specs.Trace.{IsFile}
+use Rattle.picc_cli.specs.ScriptInput.{IsFile}
 use Rattle.picc_cli.proofs.FilesKept.{hex_kept, map_kept}
 
 hex_up : (old : Option Contents) (name : List ℕ) (end : FileEnd) → simulation.HasHex old name → IfSome old (λ o. HasNoHex o name end) → GivesUp (inputs.status_of end)
@@ -158,3 +160,20 @@ module _ {T U : Type 0} (kind : Kind) (old : Option Contents) (asked : Compared)
       missing : IsTrue kind.is_sound → agreement.LacksFile asked old → GivesUp (agreement.status_of ended)
       missing is (inl lacks) = absurd (text_there {T = T} kind old asked x text is lacks)
       missing is (inr lacks) = absurd (read_there {T = U} kind old asked.script z (moved {T = U} kind old asked.script other middle (Ok z) alike same later) is lacks)
+
+-- ---- traces
+module _ {T U : Type 0} (kind : Kind) (old : Option Contents) (asked : Asked) (x : T) (text : FailsAtMissing {T = T} kind old asked.input (Ok x)) where
+  pub traced_no_script : (end : FileEnd) (other : Kind) (middle : Option Contents) → other ≡ kind → middle ≡ old → FailsWithoutFile {T = U} other middle asked.script (Err end)
+      → tracing.FailsWithoutFiles kind old asked (traced.NoScript end)
+  traced_no_script end other middle alike same later =
+      record {
+        only = λ is fails. let both = sound.only is fails in inr (ap traced.NoScript (err_end both.0), both.1);
+        text = λ is lacks. let both = text.always is lacks in absurd (cc);
+        script = λ is lacks. inr (inl (ap traced.NoScript (err_end (sound.always is lacks))));
+      }
+    where
+      sound : FailsWithoutFile {T = U} kind old asked.script (Err end)
+      sound = moved {T = U} kind old asked.script other middle (Err end) alike same later
+
+      err_end : Err {T = U} end ≡ Err CannotRead → end ≡ CannotRead
+      err_end e = cc

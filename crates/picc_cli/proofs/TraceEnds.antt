@@ -5,25 +5,32 @@ use Rattle.picc_core.specs.Texts.{program_tokens, HasTree, HasNoTree}
 use Rattle.picc_core.specs.declared.refusal.CompileError.TheVariants as errors
 use Rattle.picc_core.specs.declared.refusal.Refusal.{Refusal}
 use Rattle.schedule.specs.ScriptFile.{IsScriptFile}
+use Rattle.picc_cli.specs.declared.inputs.FileEnd.{FileEnd}
+use Rattle.picc_cli.specs.declared.inputs.FileEnd.TheVariants as files
+use Rattle.picc_cli.specs.declared.inputs.FileEnd.TheVariants.{CannotRead}
 use Rattle.picc_cli.specs.declared.tracing.Ended.{Ended}
-use Rattle.picc_cli.specs.declared.tracing.Ended.TheVariants.{Done, Undefined, Refused, LongScript, BadScript, CannotReadText, CannotReadScript, CannotPrint, NoMemory}
+use Rattle.picc_cli.specs.declared.tracing.Ended.TheVariants.{Done, Undefined, Refused, CannotReadText, NoScript, CannotPrint, NoMemory}
 use Rattle.picc_cli.specs.Command.{Asked, Form, Trace}
 use Rattle.picc_cli.specs.Finished.{LacksFile, HasFaults, IsStatus, HasStatus, TracePrints, TraceTells, HasTold, IsComplete}
+use Rattle.picc_cli.specs.Inputs as inputs
 use Rattle.picc_cli.specs.Lines.{cannot_read}
 use Rattle.picc_cli.specs.Said.{GivesUp, HasOutcomeCause, Says}
-use Rattle.picc_cli.specs.Trace.{IsScript, Knows, is_fault, FailsWithoutFiles, AreEventLines, last_line, Leads, IsTraceText, status_of}
+use Rattle.picc_cli.specs.ScriptInput.{IsScript}
+use Rattle.picc_cli.specs.Trace.{Knows, is_fault, FailsWithoutFiles, AreEventLines, last_line, Leads, IsTraceText, status_of}
 use Rattle.picc_cli.proofs.Endings.{number_apart, add_nothing, counted_later, quiet_ends, said_prefix}
-use Rattle.picc_cli.proofs.Files.{longer, later, take_all}
+use Rattle.picc_cli.proofs.Files.{longer, later}
+use Rattle.picc_cli.proofs.FilesKept.{same_bytes, script_kept, file_ends}
+use Rattle.picc_cli.proofs.FormEnds.{form_faults}
+use Rattle.picc_cli.proofs.FormPrints.{then_more, prefix_of_nothing}
+use Rattle.picc_cli.proofs.InputFiles.{file_three, file_fault}
 
 -- ---- faults and statuses
 pub three_fails : (ended : Ended) → status_of ended ≡ 3 → is_fault ended ≡ true
 three_fails Done e = absurd (omega arith)
 three_fails (Undefined kind line) e = absurd (omega arith)
 three_fails (Refused refusal) e = absurd (omega arith)
-three_fails LongScript e = absurd (omega arith)
-three_fails (BadScript line) e = absurd (omega arith)
 three_fails CannotReadText e = refl
-three_fails CannotReadScript e = refl
+three_fails (NoScript end) e = file_three end e
 three_fails CannotPrint e = refl
 three_fails NoMemory e = absurd (omega arith)
 
@@ -31,25 +38,10 @@ fails_three : (ended : Ended) → is_fault ended ≡ true → status_of ended �
 fails_three Done e = absurd (cc)
 fails_three (Undefined kind line) e = absurd (cc)
 fails_three (Refused refusal) e = absurd (cc)
-fails_three LongScript e = absurd (cc)
-fails_three (BadScript line) e = absurd (cc)
 fails_three CannotReadText e = refl
-fails_three CannotReadScript e = refl
+fails_three (NoScript end) e = file_fault end e
 fails_three CannotPrint e = refl
 fails_three NoMemory e = absurd (cc)
-
--- what is counted comes from a failure
-counted_fails : (kind : Kind) (before now : ℕ) (fails : Bool) → HasOutcomeCause kind before now fails → before < now → fails ≡ true
-counted_fails kind before now true cause more = refl
-counted_fails kind before now false cause more = let same = cause.kept refl in absurd (omega arith)
-
--- ---- printing
-then_more : (p middle q : Option (List ℕ)) (a b : List ℕ) → middle ≡ option_map (λ t. t ++ a) p → q ≡ option_map (λ t. t ++ b) middle → q ≡ option_map (λ t. t ++ (a ++ b)) p
-then_more None middle q a b e f = f ∙ ap (option_map (λ t. t ++ b)) e
-then_more (Some t) middle q a b e f = f ∙ ap (option_map (λ t. t ++ b)) e ∙ ap Some (append_assoc t a b)
-
-prefix_of_nothing : (p q : Option (List ℕ)) → PrintsPrefix p q [] → q ≡ p
-prefix_of_nothing p q (n, short, e) = e ∙ ap (λ l. option_map (λ t. t ++ l) p) (take_all [] n (omega arith)) ∙ add_nothing p
 
 module _ (asked : Asked) where
   abbrev form : Option Form
@@ -59,14 +51,19 @@ module _ (asked : Asked) where
   no_form none = cc
 
   -- ---- the status
+  script_status : (end : FileEnd) (result : ℕ) → result ≡ inputs.status_of end → IsStatus form result
+  script_status CannotRead result e = inr (inr (inr (inr (inl e))))
+  script_status files.TooLong result e = inr (inr (inr (inl e)))
+  script_status (files.BadHex error) result e = inr (inr (inr (inl e)))
+  script_status (files.BadLine line) result e = inr (inr (inr (inl e)))
+  script_status files.NoMemory result e = inr (inr (inr (inr (inr e))))
+
   status_known : (ended : Ended) (result : ℕ) → result ≡ status_of ended → IsStatus form result
   status_known Done result e = inl e
   status_known (Undefined kind line) result e = inr (inr (inl e))
   status_known (Refused refusal) result e = inr (inl e)
-  status_known LongScript result e = inr (inr (inr (inl e)))
-  status_known (BadScript line) result e = inr (inr (inr (inl e)))
   status_known CannotReadText result e = inr (inr (inr (inr (inl e))))
-  status_known CannotReadScript result e = inr (inr (inr (inr (inl e))))
+  status_known (NoScript end) result e = script_status end result e
   status_known CannotPrint result e = inr (inr (inr (inr (inl e))))
   status_known NoMemory result e = inr (inr (inr (inr (inr e))))
 
@@ -95,12 +92,9 @@ module _ (asked : Asked) where
       inr (text ++ last_line asked (Undefined kind line), record { events = text; has_events = lines; whole = refl }, then_more p middle q text (last_line asked (Undefined kind line)) e f)
   whole_text (Refused refusal) p middle q same f =
       inr (last_line asked (Refused refusal), record { events = []; has_events = refl; whole = refl }, f ∙ ap (option_map (λ t. t ++ last_line asked (Refused refusal))) same)
-  whole_text LongScript p middle q same f =
-      inr (last_line asked LongScript, record { events = []; has_events = refl; whole = refl }, f ∙ ap (option_map (λ t. t ++ last_line asked LongScript)) same)
-  whole_text (BadScript line) p middle q same f =
-      inr (last_line asked (BadScript line), record { events = []; has_events = refl; whole = refl }, f ∙ ap (option_map (λ t. t ++ last_line asked (BadScript line))) same)
   whole_text CannotReadText p middle q same f = inl (inl refl)
-  whole_text CannotReadScript p middle q same f = inl (inl refl)
+  whole_text (NoScript end) p middle q same f =
+      inr (last_line asked (NoScript end), record { events = []; has_events = refl; whole = refl }, f ∙ ap (option_map (λ t. t ++ last_line asked (NoScript end))) same)
   whole_text CannotPrint p middle q leads f = inl (inl refl)
   whole_text NoMemory p middle q leads f = inl (inr refl)
 
@@ -123,10 +117,8 @@ module _ (asked : Asked) where
     later p middle q text (last_line asked (Undefined kind line)) e prefix,
   )
   prefix_text (Refused refusal) p middle q same prefix = at_last (Refused refusal) p middle q (record { events = []; has_events = refl; whole = refl }) same prefix
-  prefix_text LongScript p middle q same prefix = at_last LongScript p middle q (record { events = []; has_events = refl; whole = refl }) same prefix
-  prefix_text (BadScript line) p middle q same prefix = at_last (BadScript line) p middle q (record { events = []; has_events = refl; whole = refl }) same prefix
   prefix_text CannotReadText p middle q same prefix = at_last CannotReadText p middle q (record { events = []; has_events = refl; whole = refl }) same prefix
-  prefix_text CannotReadScript p middle q same prefix = at_last CannotReadScript p middle q (record { events = []; has_events = refl; whole = refl }) same prefix
+  prefix_text (NoScript end) p middle q same prefix = at_last (NoScript end) p middle q (record { events = []; has_events = refl; whole = refl }) same prefix
   prefix_text CannotPrint p middle q (text, lines, first) prefix = broken_lines p middle q text lines first prefix
   prefix_text NoMemory p middle q (inl same) prefix = at_last NoMemory p middle q (record { events = []; has_events = refl; whole = refl }) same prefix
   prefix_text NoMemory p middle q (inr (text, lines, first)) prefix = broken_lines p middle q text lines first prefix
@@ -142,7 +134,7 @@ module _ (asked : Asked) where
       let said : q ≡ option_map (λ t. t ++ cannot_read asked.input) middle = subst (λ x. q ≡ option_map (λ t. t ++ last_line asked x) middle) is e in
       said ∙ ap (option_map (λ text. text ++ cannot_read asked.input)) same
 
-  missing_script : (ended : Ended) (p middle q : Option (List ℕ)) → ended ≡ CannotReadScript → Leads asked.steps ended p middle → q ≡ option_map (λ t. t ++ last_line asked ended) middle
+  missing_script : (ended : Ended) (p middle q : Option (List ℕ)) → ended ≡ NoScript CannotRead → Leads asked.steps ended p middle → q ≡ option_map (λ t. t ++ last_line asked ended) middle
       → q ≡ option_map (λ text. text ++ cannot_read asked.script) p
   missing_script ended p middle q is leads e =
       let same : middle ≡ p = subst (λ x. Leads asked.steps x p middle) is leads in
@@ -194,17 +186,13 @@ module _ (asked : Asked) where
   -- ---- faults
   pub trace_faults : (kind alike : Kind) (old : Option Contents) (ended : Ended) (first before now : ℕ) (p q : Option (List ℕ)) (result : ℕ) → HasOutcomeCause kind first before (is_fault ended)
       → FailsWithoutFiles kind old asked ended → alike ≡ kind → Says alike before now p q (last_line asked ended) (status_of ended) result → HasFaults kind first now form old result
-  trace_faults kind alike old ended first before now p q result cause fails same (inl s) =
-      let e = s.ends in let kept = s.kept in let low = cause.never_falls in
-      record {
-        never_falls = omega arith;
-        only = λ three. subst (IsCounted kind first) (sym s.kept) (cause.failed (three_fails ended (sym s.ends ∙ three)));
-        each = λ more. inl (s.ends ∙ fails_three ended (counted_fails kind first before (is_fault ended) cause (omega arith)));
-        sound = λ is three. ⊎_elim (λ (x, lacks). inl lacks) (λ (x, lacks). inr lacks) (fails.only is (three_fails ended (sym s.ends ∙ three)));
-        missing = λ is lacks. subst GivesUp (sym s.ends) (gives_up is lacks);
-      }
+  trace_faults kind alike old ended first before now p q result cause fails same says =
+      form_faults form kind alike old (is_fault ended) (status_of ended) (three_fails ended) (fails_three ended) only gives_up first before now p q (last_line asked ended) result cause same says
     where
-      at_script : (ended ≡ CannotReadText) ⊎ ((ended ≡ CannotReadScript) ⊎ (ended ≡ NoMemory)) → GivesUp (status_of ended)
+      only : IsTrue kind.is_sound → is_fault ended ≡ true → LacksFile form old
+      only is at = ⊎_elim (λ (x, lacks). inl lacks) (λ (x, lacks). inr lacks) (fails.only is at)
+
+      at_script : (ended ≡ CannotReadText) ⊎ ((ended ≡ NoScript CannotRead) ⊎ (ended ≡ NoMemory)) → GivesUp (status_of ended)
       at_script (inl x) = inl (ap status_of x)
       at_script (inr (inl x)) = inl (ap status_of x)
       at_script (inr (inr x)) = inr (ap status_of x)
@@ -212,29 +200,15 @@ module _ (asked : Asked) where
       gives_up : IsTrue kind.is_sound → LacksFile form old → GivesUp (status_of ended)
       gives_up is (inl lacks) = inl (ap status_of (fails.text is lacks))
       gives_up is (inr lacks) = at_script (fails.script is lacks)
-  trace_faults kind alike old ended first before now p q result cause fails same (inr u) =
-      let low = cause.never_falls in let more = u.never_falls in
-      record {
-        never_falls = omega arith;
-        only = λ three. counted_later kind first before now cause.never_falls (subst (λ (k : Kind). IsCounted k before now) same (u.failed three));
-        each = λ _. u.ends;
-        sound = λ is three. number_apart 3 9 result (omega arith) three (u.unsound (subst (λ (k : Kind). IsTrue k.is_sound) (sym same) is));
-        missing = λ is lacks. u.ends;
-      }
 
   -- ---- without a fault
-  same_bytes : (o : Contents) (name bytes other : List ℕ) → o name ≡ Some bytes → o name ≡ Some other → bytes ≡ other
-  same_bytes o name bytes other a b = let both : Some bytes ≡ Some other = sym a ∙ b in cc
-
   no_script_ends : (ended : Ended) (o : Contents) (result : ℕ) → Knows asked o ended → result ≡ status_of ended → (is_fault ended ≡ true → ⊥) → (script : List ℕ) → o asked.script ≡ Some script
       → (IsScript script → ⊥) → (result ≡ 5) ⊎ (result ≡ 9)
   no_script_ends Done o result k e quiet script has none = absurd (none (subst IsScript (same_bytes o asked.script k.script script k.has_script has) k.of_script))
   no_script_ends (Undefined kind line) o result k e quiet script has none = absurd (none (subst IsScript (same_bytes o asked.script k.script script k.has_script has) k.of_script))
   no_script_ends (Refused refusal) o result k e quiet script has none = absurd (none (subst IsScript (same_bytes o asked.script k.script script k.has_script has) k.of_script))
-  no_script_ends LongScript o result k e quiet script has none = inl e
-  no_script_ends (BadScript line) o result k e quiet script has none = inl e
   no_script_ends CannotReadText o result k e quiet script has none = absurd (quiet refl)
-  no_script_ends CannotReadScript o result k e quiet script has none = absurd (quiet refl)
+  no_script_ends (NoScript end) o result k e quiet script has none = file_ends end result (λ three. quiet (file_three end (sym e ∙ three))) e
   no_script_ends CannotPrint o result k e quiet script has none = absurd (quiet refl)
   no_script_ends NoMemory o result k e quiet script has none = inr e
 
@@ -244,13 +218,12 @@ module _ (asked : Asked) where
   refused_ends Done o result k e quiet text script reads has is no_tree = absurd (no_tree (subst HasTree (same_bytes o asked.input k.text text k.has_text reads) k.of_text))
   refused_ends (Undefined kind line) o result k e quiet text script reads has is no_tree = absurd (no_tree (subst HasTree (same_bytes o asked.input k.text text k.has_text reads) k.of_text))
   refused_ends (Refused refusal) o result k e quiet text script reads has is no_tree = inl e
-  refused_ends LongScript o result k e quiet text script reads has is no_tree =
-      let same = same_bytes o asked.script k.script script k.has_script has in
-      let long = k.of_script in let short = is.short in let l = ap (length {A = ℕ}) same in absurd (omega arith)
-  refused_ends (BadScript line) o result k e quiet text script reads has is no_tree =
-      absurd (k.of_script.none is.content (subst (λ b. IsScriptFile b is.content) (sym (same_bytes o asked.script k.script script k.has_script has)) is.file))
   refused_ends CannotReadText o result k e quiet text script reads has is no_tree = absurd (quiet refl)
-  refused_ends CannotReadScript o result k e quiet text script reads has is no_tree = absurd (quiet refl)
+  refused_ends (NoScript end) o result k e quiet text script reads has is no_tree =
+      ⊎_elim
+      (λ three. absurd (quiet (file_three end three)))
+      (λ nine. inr (e ∙ nine))
+      (script_kept o asked.script is.content end (script, has, record { short = is.short; file = is.file }) k)
   refused_ends CannotPrint o result k e quiet text script reads has is no_tree = absurd (quiet refl)
   refused_ends NoMemory o result k e quiet text script reads has is no_tree = inr e
 

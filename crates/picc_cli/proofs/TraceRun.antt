@@ -6,9 +6,9 @@ use Rattle.pic_chip.specs.declared.Event.{Event}
 use Rattle.pic_map.specs.EventText.{CanBeShown, event_text}
 use Rattle.pic_map.specs.MapContent.{MapContent}
 use Rattle.picc_cli.specs.declared.tracing.Ended.{Ended}
-use Rattle.picc_cli.specs.declared.tracing.Ended.TheVariants.{Done, Undefined, Refused, LongScript, BadScript, CannotReadText, CannotReadScript, CannotPrint, NoMemory}
+use Rattle.picc_cli.specs.declared.tracing.Ended.TheVariants.{Done, Undefined, Refused, CannotReadText, NoScript, CannotPrint, NoMemory}
 use Rattle.picc_cli.specs.Lines.{event_lines}
-use Rattle.picc_cli.specs.Trace.{IsMap, AllShown, AreLines, AreEventLines, Leads, Takes, BreaksLine, BreaksLines, Stops, IsScriptEnd}
+use Rattle.picc_cli.specs.Trace.{IsMap, AllShown, AreLines, AreEventLines, Leads, Takes, BreaksLine, BreaksLines, Stops}
 use Rattle.picc_cli.proofs.Endings.{whole_line}
 use Rattle.picc_cli.proofs.Files.{later}
 
@@ -74,22 +74,8 @@ stopped content few most (Undefined kind line) p q r map low (text, lines, e) sa
 stopped content few most CannotPrint p q r map low has stops = broke content few most p q r map low has stops
 stopped content few most NoMemory p q r map low has stops = inr (broke content few most p q r map low has stops)
 stopped content few most (Refused refusal) p q r map low has stops = absurd stops
-stopped content few most LongScript p q r map low has stops = absurd stops
-stopped content few most (BadScript line) p q r map low has stops = absurd stops
 stopped content few most CannotReadText p q r map low has stops = absurd stops
-stopped content few most CannotReadScript p q r map low has stops = absurd stops
+stopped content few most (NoScript end) p q r map low has stops = absurd stops
 
 pub all_taken : (content : MapContent) (few most : ℕ) (p q : Option (List ℕ)) → IsMap content → few ≤ most → HasLines content few p q → Leads most Done p q
 all_taken content few most p q map low (text, lines, e) = (text, by_map content few most text map low lines, e)
-
--- ---- the end without a script
-pub no_script_leads : (steps : ℕ) (ended : Ended) (p q : Option (List ℕ)) → IsScriptEnd ended → q ≡ p → Leads steps ended p q
-no_script_leads steps LongScript p q end same = same
-no_script_leads steps (BadScript line) p q end same = same
-no_script_leads steps CannotReadScript p q end same = same
-no_script_leads steps NoMemory p q end same = inl same
-no_script_leads steps Done p q end same = absurd end
-no_script_leads steps (Undefined kind line) p q end same = absurd end
-no_script_leads steps (Refused refusal) p q end same = absurd end
-no_script_leads steps CannotReadText p q end same = absurd end
-no_script_leads steps CannotPrint p q end same = absurd end

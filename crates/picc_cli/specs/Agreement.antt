@@ -10,7 +10,8 @@ use Rattle.picc_cli.specs.Inputs as inputs
 use Rattle.picc_cli.specs.Lines.{cannot_read, undefined_line}
 use Rattle.picc_cli.specs.Refusals.{refusal_line}
 use Rattle.picc_cli.specs.Said.{GivesUp, IsLast}
-use Rattle.picc_cli.specs.Trace.{Reads, IsScript}
+use Rattle.picc_cli.specs.ScriptInput.{IsScript}
+use Rattle.picc_cli.specs.Trace.{Reads}
 
 -- ---- faults
 -- a file that is to be read has no content

@@ -12,7 +12,8 @@ use Rattle.picc_cli.specs.Inputs as inputs
 use Rattle.picc_cli.specs.Inputs.{IsHexInput, IsMapInput, IsScriptInput, HasNoHex, HasNoMap, HasNoScript}
 use Rattle.picc_cli.specs.Said.{GivesUp}
 use Rattle.picc_cli.specs.Lines.{event_lines}
-use Rattle.picc_cli.specs.Trace.{IsFile, AllShown}
+use Rattle.picc_cli.specs.ScriptInput.{IsFile}
+use Rattle.picc_cli.specs.Trace.{AllShown}
 
 -- ---- the files
 -- where the host tells contents, the name has a HEX file, or a map

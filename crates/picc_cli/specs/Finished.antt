@@ -19,7 +19,8 @@ use Rattle.picc_cli.specs.Said.{GivesUp, Prints}
 use Rattle.picc_cli.specs.Simulation.{SimulationCompletes}
 use Rattle.picc_cli.specs.Summary.{IsSummed, GeneratedTells}
 use Rattle.picc_cli.specs.Trace as trace
-use Rattle.picc_cli.specs.Trace.{IsScript, Knows, IsTraceText}
+use Rattle.picc_cli.specs.ScriptInput.{IsScript}
+use Rattle.picc_cli.specs.Trace.{Knows, IsTraceText}
 
 -- ---- the files, where the host tells what they held before
 pub record BuildHasFiles (names : Names) (old : Contents) (new : Option Contents) (result : ℕ) : Type 0 where

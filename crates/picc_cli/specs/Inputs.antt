@@ -14,7 +14,7 @@ use Rattle.picc_cli.specs.declared.inputs.FileEnd.{FileEnd}
 use Rattle.picc_cli.specs.declared.inputs.FileEnd.TheVariants.{CannotRead, TooLong, BadHex, BadLine, NoMemory}
 use Rattle.picc_cli.specs.HexReasons.{hex_line, hex_text}
 use Rattle.picc_cli.specs.Lines.{cannot_read, located}
-use Rattle.picc_cli.specs.Trace.{IsFile, HasBadLine, IsLong, longest_script}
+use Rattle.picc_cli.specs.ScriptInput.{IsFile, HasBadLine, IsLong, longest_script}
 
 -- ---- the files
 -- the most bytes of a HEX file and of a map

@@ -9,6 +9,7 @@ pub mod Refusals
 pub mod Lines
 pub mod Said
 pub mod Outcome
+pub mod ScriptInput
 pub mod Trace
 pub mod HexReasons
 pub mod Inputs

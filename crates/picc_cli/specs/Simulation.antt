@@ -20,7 +20,8 @@ use Rattle.picc_cli.specs.Command.{Simulated, Form, Build, Trace, Simulate, Agre
 use Rattle.picc_cli.specs.Inputs.{IsHexInput, IsMapInput, IsScriptInput, HasNoHex, HasNoMap, HasNoScript}
 use Rattle.picc_cli.specs.Lines.{event_lines}
 use Rattle.picc_cli.specs.Said.{IsLast}
-use Rattle.picc_cli.specs.Trace.{IsFile, AllShown}
+use Rattle.picc_cli.specs.ScriptInput.{IsFile}
+use Rattle.picc_cli.specs.Trace.{AllShown}
 
 -- ---- the run
 -- the chip after a reset, where all that is unknown then is 0

@@ -10,35 +10,16 @@ use Rattle.pic_map.specs.MapContent.{MapContent}
 use Rattle.picc_core.specs.Answers.{Tells}
 use Rattle.picc_core.specs.Texts.{HasTree}
 use Rattle.ram_place.specs.Placement.{IsPlacing}
-use Rattle.schedule.specs.ScriptFile.{ScriptContent, IsScriptFile, IsFirstBadLine}
 use Rattle.picc_cli.specs.declared.tracing.Ended.{Ended}
-use Rattle.picc_cli.specs.declared.tracing.Ended.TheVariants.{Done, Undefined, Refused, LongScript, BadScript, CannotReadText, CannotReadScript, CannotPrint, NoMemory}
+use Rattle.picc_cli.specs.declared.tracing.Ended.TheVariants.{Done, Undefined, Refused, CannotReadText, NoScript, CannotPrint, NoMemory}
+use Rattle.picc_cli.specs.declared.inputs.FileEnd.TheVariants.{CannotRead}
 use Rattle.picc_cli.specs.Command.{Asked}
+use Rattle.picc_cli.specs.Inputs as inputs
 use Rattle.picc_cli.specs.Lines.{cannot_read, located, undefined_line, event_lines}
 use Rattle.picc_cli.specs.Refusals.{refusal_line}
+use Rattle.picc_cli.specs.ScriptInput.{IsScript}
 
 -- ---- the files
--- the most bytes of a script
-abbrev pub longest_script : ℕ
-longest_script = 4194304
-
-pub record IsScript (bytes : List ℕ) : Type 0 where
-  pub short : length bytes ≤ longest_script
-  pub content : ScriptContent
-  pub file : IsScriptFile bytes content
-
--- it isn't too long, and its first bad line has this number
-pub record HasBadLine (line : ℕ) (bytes : List ℕ) : Type 0 where
-  pub short : length bytes ≤ longest_script
-  pub first : IsFirstBadLine bytes line
-  pub none : (content : ScriptContent) → IsScriptFile bytes content → ⊥
-
-abbrev pub IsLong : List ℕ → Type 0
-IsLong bytes = longest_script < length bytes
-
-abbrev pub IsAny : List ℕ → Type 0
-IsAny bytes = Unit {0}
-
 -- this holds of the text, and that of the script
 pub record Reads (asked : Asked) (old : Contents) (OfText OfScript : List ℕ → Type 0) : Type 0 where
   pub text : List ℕ
@@ -48,43 +29,13 @@ pub record Reads (asked : Asked) (old : Contents) (OfText OfScript : List ℕ �
   pub of_text : OfText text
   pub of_script : OfScript script
 
--- a name has a content of which this holds
-abbrev pub IsFile : Contents → List ℕ → (List ℕ → Type 0) → Type 0
-IsFile old name Of = (bytes : List ℕ) × (old name ≡ Some bytes) × Of bytes
-
--- what is known of the file of the script where a trace ended so for want of a script
-abbrev pub HasNoScript : Contents → List ℕ → Ended → Type 0
-HasNoScript old name LongScript = IsFile old name IsLong
-HasNoScript old name (BadScript line) = IsFile old name (HasBadLine line)
-HasNoScript old name CannotReadScript = Unit {0}
-HasNoScript old name NoMemory = Unit {0}
-HasNoScript old name Done = ⊥
-HasNoScript old name (Undefined kind line) = ⊥
-HasNoScript old name (Refused refusal) = ⊥
-HasNoScript old name CannotReadText = ⊥
-HasNoScript old name CannotPrint = ⊥
-
--- a trace can end so for want of a script
-abbrev pub IsScriptEnd : Ended → Type 0
-IsScriptEnd LongScript = Unit {0}
-IsScriptEnd (BadScript line) = Unit {0}
-IsScriptEnd CannotReadScript = Unit {0}
-IsScriptEnd NoMemory = Unit {0}
-IsScriptEnd Done = ⊥
-IsScriptEnd (Undefined kind line) = ⊥
-IsScriptEnd (Refused refusal) = ⊥
-IsScriptEnd CannotReadText = ⊥
-IsScriptEnd CannotPrint = ⊥
-
 -- What is known of the files of a trace that ended so.
 abbrev pub Knows : Asked → Contents → Ended → Type 0
 Knows asked old Done = Reads asked old HasTree IsScript
 Knows asked old (Undefined kind line) = Reads asked old HasTree IsScript
 Knows asked old (Refused refusal) = Reads asked old (λ text. Tells text refusal) IsScript
-Knows asked old LongScript = Reads asked old IsAny IsLong
-Knows asked old (BadScript line) = Reads asked old IsAny (HasBadLine line)
 Knows asked old CannotReadText = Unit {0}
-Knows asked old CannotReadScript = Unit {0}
+Knows asked old (NoScript end) = inputs.HasNoScript old asked.script end
 Knows asked old CannotPrint = Unit {0}
 Knows asked old NoMemory = Unit {0}
 
@@ -93,28 +44,16 @@ abbrev pub is_fault : Ended → Bool
 is_fault Done = false
 is_fault (Undefined kind line) = false
 is_fault (Refused refusal) = false
-is_fault LongScript = false
-is_fault (BadScript line) = false
 is_fault CannotReadText = true
-is_fault CannotReadScript = true
+is_fault (NoScript end) = inputs.is_fault end
 is_fault CannotPrint = true
 is_fault NoMemory = false
 
--- there is a script, or the trace ended for want of one
-abbrev pub fails_in : {T : Type 0} → Result T Ended → Bool
-fails_in (Ok script) = false
-fails_in (Err ended) = is_fault ended
-
 -- over a sound host only a file without a content is a fault, and each is one, where memory suffices up to it
 pub record FailsWithoutFiles (kind : Kind) (old : Option Contents) (asked : Asked) (ended : Ended) : Type 0 where
-  pub only : IsTrue kind.is_sound → is_fault ended ≡ true → ((ended ≡ CannotReadText) × Lacks old asked.input) ⊎ ((ended ≡ CannotReadScript) × Lacks old asked.script)
+  pub only : IsTrue kind.is_sound → is_fault ended ≡ true → ((ended ≡ CannotReadText) × Lacks old asked.input) ⊎ ((ended ≡ NoScript CannotRead) × Lacks old asked.script)
   pub text : IsTrue kind.is_sound → Lacks old asked.input → ended ≡ CannotReadText
-  pub script : IsTrue kind.is_sound → Lacks old asked.script → (ended ≡ CannotReadText) ⊎ ((ended ≡ CannotReadScript) ⊎ (ended ≡ NoMemory))
-
--- the same of the script's file alone
-pub record FailsWithoutScript {T : Type 0} (kind : Kind) (old : Option Contents) (name : List ℕ) (result : Result T Ended) : Type 0 where
-  pub only : IsTrue kind.is_sound → fails_in result ≡ true → (result ≡ Err CannotReadScript) × Lacks old name
-  pub always : IsTrue kind.is_sound → Lacks old name → result ≡ Err CannotReadScript
+  pub script : IsTrue kind.is_sound → Lacks old asked.script → (ended ≡ CannotReadText) ⊎ ((ended ≡ NoScript CannotRead) ⊎ (ended ≡ NoMemory))
 
 -- ---- the printed text
 -- The map of a program: the copies of its functions, and where its objects and frames are to stand.
@@ -146,10 +85,8 @@ abbrev pub last_line : Asked → Ended → List ℕ
 last_line asked Done = []
 last_line asked (Undefined kind line) = undefined_line asked.input kind line
 last_line asked (Refused refusal) = refusal_line asked.input refusal
-last_line asked LongScript = located asked.script 0 (codes "too long")
-last_line asked (BadScript line) = located asked.script line (codes "bad line")
 last_line asked CannotReadText = cannot_read asked.input
-last_line asked CannotReadScript = cannot_read asked.script
+last_line asked (NoScript end) = inputs.line_of asked.script end
 last_line asked CannotPrint = []
 last_line asked NoMemory = []
 
@@ -166,10 +103,8 @@ Leads steps (Undefined kind line) old new = PrintsLines steps old new
 Leads steps CannotPrint old new = BreaksLines steps old new
 Leads steps NoMemory old new = (new ≡ old) ⊎ BreaksLines steps old new
 Leads steps (Refused refusal) old new = new ≡ old
-Leads steps LongScript old new = new ≡ old
-Leads steps (BadScript line) old new = new ≡ old
 Leads steps CannotReadText old new = new ≡ old
-Leads steps CannotReadScript old new = new ≡ old
+Leads steps (NoScript end) old new = new ≡ old
 
 -- ---- one step
 -- what a step that was taken has printed: nothing, or the line of its event
@@ -186,10 +121,8 @@ Stops content (Undefined kind line) old new = new ≡ old
 Stops content CannotPrint old new = BreaksLine content old new
 Stops content NoMemory old new = BreaksLine content old new
 Stops content (Refused refusal) old new = ⊥
-Stops content LongScript old new = ⊥
-Stops content (BadScript line) old new = ⊥
 Stops content CannotReadText old new = ⊥
-Stops content CannotReadScript old new = ⊥
+Stops content (NoScript end) old new = ⊥
 
 -- a run can end so
 abbrev pub IsRunEnd : Ended → Type 0
@@ -198,10 +131,8 @@ IsRunEnd (Undefined kind line) = Unit {0}
 IsRunEnd CannotPrint = Unit {0}
 IsRunEnd NoMemory = Unit {0}
 IsRunEnd (Refused refusal) = ⊥
-IsRunEnd LongScript = ⊥
-IsRunEnd (BadScript line) = ⊥
 IsRunEnd CannotReadText = ⊥
-IsRunEnd CannotReadScript = ⊥
+IsRunEnd (NoScript end) = ⊥
 
 -- ---- the whole text
 -- The whole text of a trace that ends so: the lines of its events and the last line.
@@ -211,10 +142,8 @@ HasEvents asked (Undefined kind line) text = AreEventLines asked.steps text
 HasEvents asked CannotPrint text = text ≡ []
 HasEvents asked NoMemory text = text ≡ []
 HasEvents asked (Refused refusal) text = text ≡ []
-HasEvents asked LongScript text = text ≡ []
-HasEvents asked (BadScript line) text = text ≡ []
 HasEvents asked CannotReadText text = text ≡ []
-HasEvents asked CannotReadScript text = text ≡ []
+HasEvents asked (NoScript end) text = text ≡ []
 
 pub record IsTraceText (asked : Asked) (ended : Ended) (text : List ℕ) : Type 0 where
   pub events : List ℕ
@@ -226,9 +155,7 @@ abbrev pub status_of : Ended → ℕ
 status_of Done = 0
 status_of (Undefined kind line) = 4
 status_of (Refused refusal) = 1
-status_of LongScript = 5
-status_of (BadScript line) = 5
 status_of CannotReadText = 3
-status_of CannotReadScript = 3
+status_of (NoScript end) = inputs.status_of end
 status_of CannotPrint = 3
 status_of NoMemory = 9

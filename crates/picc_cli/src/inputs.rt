@@ -7,12 +7,11 @@ ghost use Rattle.picc_cli.specs.Inputs.{IsHexInput, IsMapInput, IsScriptInput, I
 ghost use Rattle.picc_cli.specs.Inputs.{hex_end as hex_end_of, is_no_memory};
 ghost use Rattle.picc_cli.specs.Lines.{located};
 ghost use Rattle.picc_cli.specs.Said.{Says, HasOutcomeCause};
-ghost use Rattle.picc_cli.specs.Trace.{IsFile};
+ghost use Rattle.picc_cli.specs.ScriptInput.{IsFile};
 ghost use Rattle.schedule.specs.ScriptFile as script_file;
 
 use crate::hex_reason::{hex_line, hex_text};
 use crate::say::{say, say_located};
-use crate::tracing::SCRIPT_LIMIT;
 use hex_image::{HexError, read_hex};
 use host_io::{Host, HostError, read_whole};
 use pic_chip::{Image, Script};
@@ -25,6 +24,9 @@ const HEX_LIMIT: usize = 1_048_576;
 
 /// The longest map, in bytes.
 const MAP_LIMIT: usize = 262_144;
+
+/// The longest script, in bytes.
+const SCRIPT_LIMIT: usize = 4_194_304;
 
 /// Why a command ends at a file that it reads.
 #[derive(Drop)]

@@ -1,26 +1,22 @@
 // The form `trace`: from the files' names to an exit status.
-ghost use Rattle.std.specs.Prelude.{◌≡◌, ◌⊎◌, IsTrue, IfOk, IfErr, IfSome, Some};
-ghost use Rattle.host_io.specs.Host.{Closed, Lacks};
+ghost use Rattle.std.specs.Prelude.{◌≡◌, IfSome, Some};
+ghost use Rattle.host_io.specs.Host.{Closed};
 ghost use Rattle.picc_cli.specs.Command.{Trace};
 ghost use Rattle.picc_cli.specs.CommandView.{asked_of};
 ghost use Rattle.picc_cli.specs.Finished.{HasFaults, HasStatus, HasPrinted, HasTold, IsComplete};
 ghost use Rattle.picc_cli.specs.Lines as lines;
 ghost use Rattle.picc_cli.specs.Said.{Says, HasOutcomeCause};
-ghost use Rattle.picc_cli.specs.Trace.{IsScript, IsFile, HasNoScript, IsScriptEnd, Knows, FailsWithoutFiles, FailsWithoutScript, Leads, is_fault, fails_in, last_line, status_of};
+ghost use Rattle.picc_cli.specs.Trace.{Knows, FailsWithoutFiles, Leads, is_fault, last_line, status_of};
 
 use crate::building::TEXT_LIMIT;
 use crate::command::Asked;
+use crate::inputs::{FileEnd, say_file_end, script_in};
 use crate::running::run;
 use crate::say::{say, say_located, say_refusal};
 use host_io::{Host, HostError, read_whole};
-use pic_chip::Script;
 use picc_core::{CompileError, Refusal, front};
-use schedule::{ScriptError, read_script};
 use src_machine::Undef;
 use std::alloc::Global;
-
-/// The longest script, in bytes.
-pub const SCRIPT_LIMIT: usize = 4_194_304;
 
 /// How a trace ended.
 #[derive(Drop)]
@@ -31,14 +27,10 @@ pub enum Ended {
     Undefined { kind: Undef, line: u32 },
     /// The text is refused.
     Refused(Refusal),
-    /// The script has more bytes than a script may have.
-    LongScript,
-    /// The script has a line, the first one, that no script has there.
-    BadScript { line: u32 },
     /// The text's file can't be read.
     CannotReadText,
-    /// The script's file can't be read.
-    CannotReadScript,
+    /// There is no script, for this reason.
+    NoScript(FileEnd),
     /// The line of an event can't be printed.
     CannotPrint,
     NoMemory,
@@ -81,18 +73,15 @@ fn report<H: Host>(alloc: Global, host: &mut H, asked: Asked<'_>, ended: Ended) 
             undef_text(kind),
         ),
         Ended::Refused(refusal) => say_refusal(alloc, host, asked.input, &refusal),
-        Ended::LongScript => say_located(alloc, host, 5, asked.script, 0, b"too long", b""),
-        Ended::BadScript { line } => {
-            say_located(alloc, host, 5, asked.script, line, b"bad line", b"")
-        }
         Ended::CannotReadText => say(host, 3, "cannot read ", asked.input, "\n"),
-        Ended::CannotReadScript => say(host, 3, "cannot read ", asked.script, "\n"),
+        Ended::NoScript(end) => say_file_end(alloc, host, asked.script, &end),
         Ended::CannotPrint => 3,
         Ended::NoMemory => 9,
     }
 }
 
 /// Reads the text and the script, and runs the text.
+#[tactic(auto, using(crate::proofs::TraceFiles::no_script_known, crate::proofs::Sound::traced_no_script))]
 fn traced<H: Host>(alloc: Global, host: &mut H, asked: Asked<'_>) -> Ended
     requires { H.open_file host.old ≡ Closed }
     ensures closed { H.open_file host.new ≡ Closed }
@@ -110,40 +99,12 @@ fn traced<H: Host>(alloc: Global, host: &mut H, asked: Asked<'_>) -> Ended
     };
     let script = match script_in(alloc, host, asked.script) {
         Ok(script) => script,
-        Err(ended) => return ended,
+        Err(end) => return Ended::NoScript(end),
     };
     match front(alloc, &text) {
         Ok(known) => run(alloc, host, known, &script, asked.steps),
         Err(CompileError::NoMemory) => Ended::NoMemory,
         Err(CompileError::Refused(refusal)) => Ended::Refused(refusal),
-    }
-}
-
-/// The script of a file, or how the trace ends without one.
-fn script_in<H: Host>(alloc: Global, host: &mut H, name: &str) -> Result<Script, Ended>
-    requires { H.open_file host.old ≡ Closed }
-    ensures closed { H.open_file host.new ≡ Closed }
-    ensures same_kind { H.kind host.new ≡ H.kind host.old }
-    ensures same_contents { H.contents host.new ≡ H.contents host.old }
-    ensures same_printed { H.printed host.new ≡ H.printed host.old }
-    ensures found { IfOk result (λ _. IfSome (H.contents host.old) (λ old. IsFile old name.now IsScript)) }
-    ensures end { IfErr result IsScriptEnd }
-    ensures none { IfErr result (λ ended. IfSome (H.contents host.old) (λ old. HasNoScript old name.now ended)) }
-    ensures cause { HasOutcomeCause (H.kind host.old) (H.faults host.old) (H.faults host.new) (fails_in result) }
-    ensures sound { FailsWithoutScript (H.kind host.old) (H.contents host.old) name.now result }
-{
-    let bytes = match read_whole(alloc, host, name, SCRIPT_LIMIT) {
-        Ok(bytes) => bytes,
-        Err(HostError::Failed) => return Err(Ended::CannotReadScript),
-        Err(HostError::NoMemory) => return Err(Ended::NoMemory),
-    };
-    if bytes.len() > SCRIPT_LIMIT {
-        return Err(Ended::LongScript);
-    }
-    match read_script(alloc, &bytes) {
-        Ok(script) => Ok(script),
-        Err(ScriptError::BadLine { line }) => Err(Ended::BadScript { line }),
-        Err(ScriptError::NoMemory) => Err(Ended::NoMemory),
     }
 }
 

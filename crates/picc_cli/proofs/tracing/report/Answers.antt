@@ -5,6 +5,3 @@ returns-in-Undefined-clause-said g c = rw (c.in-Undefined.is, ← c.undef_text.e
 
 pub returns-in-CannotReadText-clause-said : goal.returns-in-CannotReadText-clause-said
 returns-in-CannotReadText-clause-said g c = rw c.in-CannotReadText.is c.say.ensures.said
-
-pub returns-in-CannotReadScript-clause-said : goal.returns-in-CannotReadScript-clause-said
-returns-in-CannotReadScript-clause-said g c = rw c.in-CannotReadScript.is c.say-in-CannotReadScript.ensures.said
