@@ -32,6 +32,7 @@ fn hostile_files(rt: HostRuntime) -> Result<(), Failure> {
     };
     for case in [
         read(JUMP_HEX, JUMP_MAP, "", 0, "End\n"),
+        // the last byte of its second record is the checksum, and isn't the one that makes the sum 0
         read(
             ":020000040000FA\n:020000000528D2\n:00000001FF\n",
             JUMP_MAP,
