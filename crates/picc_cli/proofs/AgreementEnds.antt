@@ -1,5 +1,5 @@
 -- What is known of a comparison by its end.
-use Rattle.std.proofs.Common.{◌≡◌, ℕ, ◌≤◌, Option, Some, None, IfSome, List, length, sym, ◌∙◌, subst}
+use Rattle.std.proofs.Common.{◌≡◌, ℕ, Option, Some, None, IfSome, List, sym, ◌∙◌, subst}
 use Rattle.host_io.specs.Host.{Kind, Contents, IsRead}
 use Rattle.picc_core.specs.Texts.{HasTree}
 use Rattle.schedule.specs.ScriptFile.{ScriptContent}

@@ -1,7 +1,7 @@
 -- Without a fault, how a comparison ends by its files.
 use Rattle.std.proofs.Common.{◌≡◌, ℕ, ◌⊎◌, inl, inr, ⊎_elim, Option, Some, List, Err, sym, ◌∙◌, subst}
 use Rattle.host_io.specs.Host.{Contents}
-use Rattle.picc_core.specs.Texts.{program_tokens, HasTree, HasNoTree}
+use Rattle.picc_core.specs.Texts.{program_tokens, HasTree}
 use Rattle.picc_core.specs.declared.refusal.CompileError.TheVariants as errors
 use Rattle.picc_core.specs.declared.refusal.Refusal.{Refusal}
 use Rattle.picc_cli.specs.declared.comparing.Ended.{Ended}
@@ -10,7 +10,7 @@ use Rattle.picc_cli.specs.Agreement.{AgreementTells, Knows, status_of}
 use Rattle.picc_cli.specs.Command.{Compared}
 use Rattle.picc_cli.specs.Finished.{AgreementCompletes}
 use Rattle.picc_cli.specs.Said.{GivesUp}
-use Rattle.picc_cli.specs.ScriptInput.{IsFile, IsScript}
+use Rattle.picc_cli.specs.ScriptInput.{IsScript}
 use Rattle.picc_cli.proofs.FilesKept.{same_bytes, script_kept, file_ends}
 
 module _ (asked : Compared) (o : Contents) (result : ℕ) (quiet : result ≡ 3 → ⊥) where

@@ -1,5 +1,5 @@
 -- How a build ends, by its outcome and by what was printed.
-use Rattle.std.proofs.Common.{◌≡◌, ℕ, ◌<◌, ◌≤◌, ◌⊎◌, inl, inr, true, IsTrue, Option, Some, None, IfSome, List, ◌++◌, length, refl, sym, ap, ◌∙◌, subst, arith, option_map, Err}
+use Rattle.std.proofs.Common.{◌≡◌, ℕ, ◌⊎◌, inl, inr, true, IsTrue, Option, Some, None, IfSome, List, ◌++◌, length, refl, sym, ap, ◌∙◌, subst, arith, option_map, Err}
 use Rattle.std.proofs.Math.Seq.{take-length}
 use Rattle.host_io.specs.Host.{Kind, Contents, put, PrintsPrefix, IsCounted}
 use Rattle.picc_cli.specs.declared.building.Outcome.{Outcome}

@@ -1,6 +1,6 @@
 -- Statuses and faults of simulations, comparisons and generated programs.
-use Rattle.std.proofs.Common.{◌≡◌, ℕ, ◌<◌, ◌≤◌, ◌⊎◌, inl, inr, ⊎_elim, true, false, Bool, IsTrue, Option, Some, None, IfSome, List, refl, sym, ◌∙◌, subst, arith, Result, Ok, Err}
-use Rattle.host_io.specs.Host.{Kind, Contents, Lacks, IsCounted}
+use Rattle.std.proofs.Common.{◌≡◌, ℕ, ◌⊎◌, inl, inr, ⊎_elim, true, Option, Some, None, IfSome, List, refl, sym, ◌∙◌, arith}
+use Rattle.host_io.specs.Host.{Kind, Contents}
 use Rattle.picc_cli.specs.declared.comparing.Ended as agree_ends
 use Rattle.picc_cli.specs.declared.comparing.Ended.TheVariants as agree
 use Rattle.picc_cli.specs.declared.inputs.FileEnd.{FileEnd}

@@ -1,5 +1,5 @@
 -- Files that are such as they are to be, and statuses of those that aren't.
-use Rattle.std.proofs.Common.{◌≡◌, ℕ, ◌<◌, ◌≤◌, ◌⊎◌, inl, inr, Some, List, length, refl, sym, ap, ◌∙◌, subst, arith}
+use Rattle.std.proofs.Common.{◌≡◌, ℕ, ◌⊎◌, inl, inr, Some, List, length, refl, sym, ap, ◌∙◌, subst, arith}
 use Rattle.hex_image.specs.HexFile.{IsHexFile}
 use Rattle.host_io.specs.Host.{Contents}
 use Rattle.pic_map.specs.MapContent.{MapContent}

@@ -1,7 +1,7 @@
 -- Statuses and faults of a command that ended with this status, whatever its form is.
-use Rattle.std.proofs.Common.{◌≡◌, ℕ, ◌<◌, ◌≤◌, ◌⊎◌, inl, inr, true, false, Bool, IsTrue, Option, Some, None, List, refl, sym, ◌∙◌, subst, arith}
+use Rattle.std.proofs.Common.{◌≡◌, ℕ, ◌<◌, ◌⊎◌, inl, inr, true, false, Bool, IsTrue, Option, Some, List, refl, sym, ◌∙◌, subst, arith}
 use Rattle.host_io.specs.Host.{Kind, Contents, IsCounted}
-use Rattle.picc_cli.specs.Command.{Simulated, Compared, Form, Simulate, Agree, Generate}
+use Rattle.picc_cli.specs.Command.{Form}
 use Rattle.picc_cli.specs.Finished.{LacksFile, HasFaults, IsStatus, HasStatus}
 use Rattle.picc_cli.specs.Said.{GivesUp, HasOutcomeCause, Says}
 use Rattle.picc_cli.proofs.Endings.{number_apart, counted_later}

@@ -1,7 +1,6 @@
 -- What a command prints, by what its parts print.
-use Rattle.std.proofs.Common.{◌≡◌, ℕ, ◌<◌, ◌≤◌, ◌⊎◌, inl, inr, true, Option, Some, None, List, [], ◌++◌, length, take, refl, sym, ap, ◌∙◌, subst, arith, append_assoc, option_map}
+use Rattle.std.proofs.Common.{◌≡◌, ℕ, inl, inr, Option, Some, None, List, [], ◌++◌, refl, sym, ap, ◌∙◌, subst, arith, append_assoc, option_map}
 use Rattle.host_io.specs.Host.{Kind, PrintsPrefix}
-use Rattle.pic_map.specs.MapContent.{MapContent}
 use Rattle.picc_cli.specs.declared.simulating.Ended as chip_ends
 use Rattle.picc_cli.specs.declared.simulating.Ended.TheVariants.{Done, Unmodelled, NoHex, NoMap, NoScript, CannotPrint, NoMemory}
 use Rattle.picc_cli.specs.Chip.{Leads, IsChipText, last_line, status_of}

@@ -1,12 +1,12 @@
 -- What is known of a file that a command reads.
 use Rattle.std.proofs.lemmas.List.{length-map}
-use Rattle.std.proofs.Common.{◌≡◌, ℕ, ◌<◌, ◌≤◌, ◌⊎◌, inl, inr, true, false, Bool, IsTrue, Option, Some, None, IfSome, List, ◌+◌, map, length, Result, Ok, Err, refl, sym, ap, ◌∙◌, subst, arith}
+use Rattle.std.proofs.Common.{◌≡◌, ℕ, ◌<◌, ◌≤◌, true, false, Bool, Option, Some, None, IfSome, List, ◌+◌, length, Result, Ok, Err, refl, sym, ap, ◌∙◌, subst, arith}
 use Rattle.hex_image.specs.Answers.{Refuses}
 use Rattle.hex_image.specs.HexFile.{Given, IsHexFile}
 use Rattle.hex_image.specs.Reading.{reading_of}
 use Rattle.hex_image.specs.declared.read.HexError.{HexError}
 use Rattle.hex_image.specs.declared.read.HexError.TheVariants as errors
-use Rattle.host_io.specs.Host.{Kind, Contents, Lacks, IsRead}
+use Rattle.host_io.specs.Host.{Kind, Contents, IsRead}
 use Rattle.pic_map.specs.MapContent.{MapContent}
 use Rattle.pic_map.specs.MapView as view
 use Rattle.pic_map.specs.declared.Map.{Map}
@@ -15,9 +15,9 @@ use Rattle.pic_map.specs.MapFile.{IsMapFile}
 use Rattle.schedule.specs.ScriptFile.{ScriptContent, IsScriptFile, IsFirstBadLine}
 use Rattle.picc_cli.specs.declared.inputs.FileEnd.{FileEnd}
 use Rattle.picc_cli.specs.declared.inputs.FileEnd.TheVariants.{CannotRead, TooLong, BadHex, BadLine, NoMemory}
-use Rattle.picc_cli.specs.Inputs.{IsHexInput, IsMapInput, IsScriptInput, HasBadRecord, HasBadMapLine, IsUnread, HasNoHex, HasNoMap, HasNoScript, FailsWithoutFile, hex_end, is_fault, is_no_memory, status_of}
+use Rattle.picc_cli.specs.Inputs.{IsHexInput, IsMapInput, IsScriptInput, HasBadMapLine, IsUnread, HasNoHex, HasNoMap, HasNoScript, FailsWithoutFile, hex_end, is_fault, is_no_memory, status_of}
 use Rattle.picc_cli.specs.Said.{HasOutcomeCause}
-use Rattle.picc_cli.specs.ScriptInput.{IsFile, HasBadLine, IsLong}
+use Rattle.picc_cli.specs.ScriptInput.{IsFile, HasBadLine}
 use Rattle.std.specs.Prelude.{if◌then◌else◌}
 use Rattle.picc_cli.proofs.FewObjects.{few_objects}
 use Rattle.picc_cli.proofs.Files.{content_of, read_whole, read_long}

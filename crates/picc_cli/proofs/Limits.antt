@@ -1,5 +1,5 @@
 -- The numbers that words give are within their limits.
-use Rattle.std.proofs.Common.{◌≡◌, ℕ, ◌+◌, ◌-◌, ◌*◌, ◌<◌, ◌≤◌, ⊎_elim, Bool, true, false, Option, Some, None, List, [], ◌∷◌, refl, sym, ap, arith}
+use Rattle.std.proofs.Common.{◌≡◌, ℕ, ◌+◌, ◌-◌, ◌*◌, ◌≤◌, ⊎_elim, Bool, true, false, Option, Some, None, List, [], ◌∷◌, sym, ap, arith}
 use Rattle.std.proofs.lemmas.Bool.{cases_lt, lt-ltb, le-ltb}
 use Rattle.std.specs.Prelude.{nat_lt, ◌&&◌, if◌then◌else◌}
 use Rattle.std.specs.Prelude.{codes, option_map}
@@ -8,7 +8,7 @@ use Rattle.std.specs.Str.{bytes_eq}
 use Rattle.picc_cli.specs.declared.command.Command as declared
 use Rattle.picc_cli.specs.declared.command.Command.TheVariants as commands
 use Rattle.picc_cli.specs.CommandView.{IsWithin, compared_of, form_view}
-use Rattle.picc_cli.specs.Command.{Compared, Form, Build, Trace, Simulate, Agree, Generate, is_name, differ, is_short, all_digits, number_onto, number_in, build_of, trace_of, simulate_of, agree_of, from_one, generate_of, form_by_name, form_of}
+use Rattle.picc_cli.specs.Command.{Compared, Build, Trace, Simulate, Agree, Generate, is_name, differ, is_short, all_digits, number_onto, number_in, build_of, trace_of, simulate_of, agree_of, from_one, generate_of, form_by_name, form_of}
 
 onto_within : (most n m : ℕ) (digits : List ℕ) → n ≤ most → number_onto most n digits ≡ Some m → m ≤ most
 unfolding number_onto

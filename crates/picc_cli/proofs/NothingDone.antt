@@ -1,12 +1,12 @@
 -- A command that wants memory before it has begun.
-use Rattle.std.proofs.Common.{◌≡◌, ℕ, ◌<◌, ◌≤◌, ◌⊎◌, inl, inr, IsTrue, Option, Some, None, IfSome, List, [], ◌∷◌, ◌++◌, take, refl, sym, subst, arith, option_map}
+use Rattle.std.proofs.Common.{ℕ, inl, inr, Option, Some, None, IfSome, List, [], ◌∷◌, ◌++◌, refl, sym, arith}
 use Rattle.host_io.specs.Host.{Kind, Contents, PrintsPrefix}
 use Rattle.picc_cli.specs.declared.building.Outcome.TheVariants as outcomes
 use Rattle.picc_cli.specs.declared.comparing.Ended.TheVariants as agree
 use Rattle.picc_cli.specs.declared.simulating.Ended.TheVariants as chip
 use Rattle.picc_cli.specs.declared.tracing.Ended.TheVariants as trace
 use Rattle.picc_cli.specs.Command.{Form, Build, Trace, Simulate, Agree, Generate}
-use Rattle.picc_cli.specs.Finished.{LacksFile, HasFiles, HasFaults, IsStatus, HasStatus, HasPrinted, HasTold, IsComplete}
+use Rattle.picc_cli.specs.Finished.{HasFiles, HasFaults, IsStatus, HasStatus, HasPrinted, HasTold, IsComplete}
 use Rattle.pic_sim.specs.Going.{Known}
 use Rattle.picc_cli.specs.Generated.{generated}
 use Rattle.picc_cli.specs.Simulation.{HasSimulated}

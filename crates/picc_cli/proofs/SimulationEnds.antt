@@ -1,13 +1,11 @@
 -- What is known of a command by its end.
-use Rattle.std.proofs.Common.{◌≡◌, ℕ, ◌≤◌, ◌⊎◌, inl, inr, false, Option, Some, None, IsSome, IfSome, List, [], ◌∷◌, ◌++◌, Result, Ok, Err, OnOk, is_err, refl, sym, ap, ◌∙◌, subst, arith, option_map}
+use Rattle.std.proofs.Common.{◌≡◌, ℕ, inl, inr, false, Option, Some, None, IsSome, IfSome, List, [], ◌∷◌, Result, Ok, Err, OnOk, is_err, sym, ap, ◌∙◌, subst, arith}
 use Rattle.host_io.specs.Host.{Kind, Contents, PrintsPrefix}
 use Rattle.pic_chip.specs.declared.Event.{Event}
 use Rattle.pic_chip.specs.Machine.{Machine}
 use Rattle.pic_map.specs.MapContent.{MapContent, watch_of}
 use Rattle.pic_map.specs.Tracing.{Tracing, looked}
-use Rattle.pic_sim.specs.Board.{Lists, Followed}
 use Rattle.pic_sim.specs.declared.running.SimEnd.{SimEnd}
-use Rattle.pic_sim.specs.declared.running.SimEnd.TheVariants as sim
 use Rattle.schedule.specs.ScriptFile.{ScriptContent}
 use Rattle.pic_sim.specs.Going.{Known, Went}
 use Rattle.picc_cli.specs.declared.simulating.Ended.{Ended}
@@ -16,7 +14,6 @@ use Rattle.picc_cli.specs.Chip.{RunPrints, last_line, status_of}
 use Rattle.picc_cli.specs.Command.{Simulated, Simulate}
 use Rattle.picc_cli.specs.Said.{IsLast, Says}
 use Rattle.picc_cli.specs.Inputs.{IsHexInput, IsMapInput, IsScriptInput}
-use Rattle.picc_cli.specs.Lines.{event_lines}
 use Rattle.picc_cli.specs.ScriptInput.{IsFile}
 use Rattle.picc_cli.specs.Simulation.{HasSimulated, Knows, IsFed, IsRun, IsPrinted, Runs, Simulates, first_chip, first_look}
 use Rattle.picc_cli.proofs.Endings.{add_nothing}

@@ -1,5 +1,5 @@
 -- Without a fault, how a simulation ends by its files.
-use Rattle.std.proofs.Common.{◌≡◌, ℕ, ◌⊎◌, inl, inr, ⊎_elim, Option, Some, List, sym, subst}
+use Rattle.std.proofs.Common.{◌≡◌, ℕ, ◌⊎◌, inl, inr, ⊎_elim, Option, List, sym, subst}
 use Rattle.host_io.specs.Host.{Contents}
 use Rattle.pic_map.specs.MapContent.{MapContent}
 use Rattle.pic_sim.specs.Going.{Known}

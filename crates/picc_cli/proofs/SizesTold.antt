@@ -1,5 +1,5 @@
 -- The sizes of a generated program, and what is told of them.
-use Rattle.std.proofs.Common.{◌≡◌, ℕ, ◌⊎◌, inl, inr, Option, Some, None, IfSome, List, ◌++◌, subst, ap, ◌∙◌, arith}
+use Rattle.std.proofs.Common.{◌≡◌, ℕ, inl, inr, Option, Some, None, IfSome, List, ◌++◌, subst, ap, ◌∙◌, arith}
 use Rattle.host_io.specs.Host.{Kind, Contents}
 use Rattle.picc_cli.specs.Command.{Generate}
 use Rattle.picc_cli.specs.Finished.{HasTold}

@@ -1,14 +1,12 @@
 -- Over a sound host, where a command comes to a file without a content.
-use Rattle.std.proofs.Common.{◌≡◌, ℕ, ◌<◌, ◌≤◌, ◌⊎◌, inl, inr, true, false, Bool, IsTrue, Option, Some, None, IfSome, List, length, Result, Ok, Err, refl, sym, ap, ◌∙◌, subst, arith}
-use Rattle.hex_image.specs.HexFile.{IsHexFile}
+use Rattle.std.proofs.Common.{◌≡◌, ℕ, inl, inr, true, false, IsTrue, Option, Some, None, IfSome, List, Result, Ok, Err, refl, sym, ap, ◌∙◌, subst}
 use Rattle.host_io.specs.Host.{Kind, Contents, Lacks, FailsAtMissing}
 use Rattle.host_io.specs.declared.host.HostError.TheVariants as host
 use Rattle.pic_map.specs.MapContent.{MapContent}
-use Rattle.pic_map.specs.MapFile.{IsMapFile}
 use Rattle.picc_cli.specs.declared.comparing.Ended as agree_ends
 use Rattle.picc_cli.specs.declared.comparing.Ended.TheVariants as agree
 use Rattle.picc_cli.specs.declared.inputs.FileEnd.{FileEnd}
-use Rattle.picc_cli.specs.declared.inputs.FileEnd.TheVariants.{CannotRead, TooLong, BadHex, BadLine, NoMemory}
+use Rattle.picc_cli.specs.declared.inputs.FileEnd.TheVariants.{CannotRead}
 use Rattle.picc_cli.specs.declared.simulating.Ended as chip_ends
 use Rattle.picc_cli.specs.declared.simulating.Ended.TheVariants as chip
 use Rattle.picc_cli.specs.declared.tracing.Ended.TheVariants as traced
@@ -167,13 +165,10 @@ module _ {T U : Type 0} (kind : Kind) (old : Option Contents) (asked : Asked) (x
       → tracing.FailsWithoutFiles kind old asked (traced.NoScript end)
   traced_no_script end other middle alike same later =
       record {
-        only = λ is fails. let both = sound.only is fails in inr (ap traced.NoScript (err_end both.0), both.1);
+        only = λ is fails. let both = sound.only is fails in let read = both.0 in let e : end ≡ CannotRead = cc in inr (ap traced.NoScript e, both.1);
         text = λ is lacks. let both = text.always is lacks in absurd (cc);
-        script = λ is lacks. inr (inl (ap traced.NoScript (err_end (sound.always is lacks))));
+        script = λ is lacks. let both = sound.always is lacks in let e : end ≡ CannotRead = cc in inr (inl (ap traced.NoScript e));
       }
     where
       sound : FailsWithoutFile {T = U} kind old asked.script (Err end)
       sound = moved {T = U} kind old asked.script other middle (Err end) alike same later
-
-      err_end : Err {T = U} end ≡ Err CannotRead → end ≡ CannotRead
-      err_end e = cc

@@ -1,10 +1,9 @@
 -- How a trace ends, by what was printed.
-use Rattle.std.proofs.Common.{◌≡◌, ℕ, ◌<◌, ◌⊎◌, inl, inr, ⊎_elim, true, false, Bool, IsTrue, Option, Some, None, IfSome, List, [], ◌++◌, length, refl, sym, ap, ◌∙◌, subst, arith, append_assoc, option_map, Err}
+use Rattle.std.proofs.Common.{◌≡◌, ℕ, ◌⊎◌, inl, inr, ⊎_elim, true, IsTrue, Option, Some, None, IfSome, List, [], ◌++◌, refl, sym, ap, ◌∙◌, subst, arith, option_map, Err}
 use Rattle.host_io.specs.Host.{Kind, Contents, PrintsPrefix, IsCounted}
 use Rattle.picc_core.specs.Texts.{program_tokens, HasTree, HasNoTree}
 use Rattle.picc_core.specs.declared.refusal.CompileError.TheVariants as errors
 use Rattle.picc_core.specs.declared.refusal.Refusal.{Refusal}
-use Rattle.schedule.specs.ScriptFile.{IsScriptFile}
 use Rattle.picc_cli.specs.declared.inputs.FileEnd.{FileEnd}
 use Rattle.picc_cli.specs.declared.inputs.FileEnd.TheVariants as files
 use Rattle.picc_cli.specs.declared.inputs.FileEnd.TheVariants.{CannotRead}
@@ -17,7 +16,7 @@ use Rattle.picc_cli.specs.Lines.{cannot_read}
 use Rattle.picc_cli.specs.Said.{GivesUp, HasOutcomeCause, Says}
 use Rattle.picc_cli.specs.ScriptInput.{IsScript}
 use Rattle.picc_cli.specs.Trace.{Knows, is_fault, FailsWithoutFiles, AreEventLines, last_line, Leads, IsTraceText, status_of}
-use Rattle.picc_cli.proofs.Endings.{number_apart, add_nothing, counted_later, quiet_ends, said_prefix}
+use Rattle.picc_cli.proofs.Endings.{number_apart, counted_later, quiet_ends, said_prefix}
 use Rattle.picc_cli.proofs.Files.{longer, later}
 use Rattle.picc_cli.proofs.FilesKept.{same_bytes, script_kept, file_ends}
 use Rattle.picc_cli.proofs.FormEnds.{form_faults}

@@ -49,7 +49,7 @@ run_at asked o CannotPrint bytes read file tree end = tt
 run_at asked o NoMemory bytes read file tree end = tt
 run_at asked o (Refused refusal) bytes read file tree end = absurd end
 run_at asked o CannotReadText bytes read file tree end = absurd end
-run_at asked o (NoScript end) bytes read file tree end = absurd end
+run_at asked o (NoScript why) bytes read file tree end = absurd end
 
 pub run_known : (asked : Asked) (old middle : Option Contents) (content : ScriptContent) (ended : Ended) (bytes text : List ℕ) → IfSome old (IsRead asked.input 262145 bytes) → middle ≡ old
     → IfSome middle (λ o. IsFile o asked.script (IsScriptInput content)) → text ≡ bytes → HasTree text → IsRunEnd ended → IfSome old (λ o. Knows asked o ended)

@@ -10,7 +10,7 @@ use Rattle.picc_cli.specs.declared.tracing.Ended.{Ended}
 use Rattle.picc_cli.specs.Built.{IsRefused}
 use Rattle.picc_cli.specs.Agreement as agreement
 use Rattle.picc_cli.specs.Chip as chip
-use Rattle.picc_cli.specs.Command.{Names, Asked, Simulated, Compared, Form, Build, Trace, Simulate, Agree, Generate}
+use Rattle.picc_cli.specs.Command.{Names, Asked, Compared, Form, Build, Trace, Simulate, Agree, Generate}
 use Rattle.picc_cli.specs.Lines.{usage_line, cannot_read}
 use Rattle.picc_cli.specs.Outcome as build
 use Rattle.picc_cli.specs.Outcome.{Builds, Refuses, BreaksOff}

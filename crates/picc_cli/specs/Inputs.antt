@@ -1,6 +1,6 @@
 -- Files that a command reads whole, closes and then checks: why it doesn't go on behind one, what is known of the file then,
 -- and the line that is printed.
-use Rattle.std.specs.Prelude.{ℕ, ◌≡◌, ◌≤◌, ◌<◌, Bool, true, false, IsTrue, Option, Some, None, List, [], length, codes, if◌then◌else◌, Result, Ok, Err}
+use Rattle.std.specs.Prelude.{ℕ, ◌≡◌, ◌≤◌, ◌<◌, Bool, true, false, IsTrue, Option, List, [], length, codes, if◌then◌else◌, Result, Ok, Err}
 use Rattle.hex_image.specs.HexFile.{IsHexFile}
 use Rattle.hex_image.specs.Reading.{reading_of}
 use Rattle.hex_image.specs.declared.read.HexError.{HexError}

@@ -1,6 +1,6 @@
 -- What a simulation has done by its end: the files that it read, the run of the chip over the board, how the board's lists have
 -- grown, and what was printed of the run.
-use Rattle.std.specs.Prelude.{ℕ, ◌≡◌, ◌⊎◌, false, List, [], ◌∷◌, ◌++◌, replicate, Option, Some, None, IsSome, option_map}
+use Rattle.std.specs.Prelude.{ℕ, ◌≡◌, ◌⊎◌, false, List, [], ◌++◌, replicate, Option, Some, None, IsSome, option_map}
 use Rattle.host_io.specs.Host.{Contents, PrintsPrefix}
 use Rattle.pic_chip.specs.declared.Event.{Event}
 use Rattle.pic_chip.specs.declared.Start.{Start}
@@ -9,7 +9,7 @@ use Rattle.pic_chip.specs.State.{reset}
 use Rattle.pic_map.specs.MapContent.{MapContent, watch_of}
 use Rattle.pic_map.specs.Tracing.{Tracing, looked}
 use Rattle.pic_sim.specs.Board.{Lists, Followed}
-use Rattle.pic_sim.specs.Going.{Known, Point, Went}
+use Rattle.pic_sim.specs.Going.{Known, Went}
 use Rattle.pic_sim.specs.declared.running.SimEnd.{SimEnd}
 use Rattle.pic_sim.specs.declared.running.SimEnd.TheVariants as sim
 use Rattle.schedule.specs.ScriptFile.{ScriptContent}

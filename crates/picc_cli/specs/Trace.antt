@@ -1,5 +1,5 @@
 -- How a trace ends: what is known of its files, what it prints, and its exit status.
-use Rattle.std.specs.Prelude.{ℕ, ◌≡◌, ◌<◌, ◌≤◌, ◌⊎◌, Bool, true, false, IsTrue, Option, Some, List, [], ◌∷◌, ◌++◌, length, codes, option_map, Result, Ok, Err}
+use Rattle.std.specs.Prelude.{ℕ, ◌≡◌, ◌≤◌, ◌⊎◌, Bool, true, false, IsTrue, Option, Some, List, [], ◌∷◌, ◌++◌, length, option_map}
 use Rattle.call_graph.specs.Copies.{AreCopies}
 use Rattle.call_graph.specs.declared.types.FnCopy.{FnCopy}
 use Rattle.c_typed.specs.Trees.{Program}
@@ -15,7 +15,7 @@ use Rattle.picc_cli.specs.declared.tracing.Ended.TheVariants.{Done, Undefined, R
 use Rattle.picc_cli.specs.declared.inputs.FileEnd.TheVariants.{CannotRead}
 use Rattle.picc_cli.specs.Command.{Asked}
 use Rattle.picc_cli.specs.Inputs as inputs
-use Rattle.picc_cli.specs.Lines.{cannot_read, located, undefined_line, event_lines}
+use Rattle.picc_cli.specs.Lines.{cannot_read, undefined_line, event_lines}
 use Rattle.picc_cli.specs.Refusals.{refusal_line}
 use Rattle.picc_cli.specs.ScriptInput.{IsScript}
 

@@ -9,7 +9,7 @@
 mod build;
 mod building;
 mod code;
-mod command;
+pub mod command;
 mod comparing;
 mod digits;
 mod dispatch;
@@ -25,6 +25,5 @@ mod simulating;
 mod summary;
 mod tracing;
 
-pub use command::{Asked, Command, Compared, Files, Simulated, command_of};
 pub use dispatch::picc;
 pub use generating::generate;

@@ -1,4 +1,3 @@
-use Rattle.std.proofs.Common.{sym, ◌∙◌}
 use Rattle.picc_cli.specs.CommandView.{names_of}
 use Rattle.picc_cli.proofs.Files.{unmade_files, broken_hex, broken_map, built_files}
 use Rattle.picc_cli.proofs.building.run.Goals as goal

@@ -1,6 +1,5 @@
-use Rattle.std.proofs.Common.{◌≡◌, ◌∙◌, refl, sym, ap}
+use Rattle.std.proofs.Common.{◌∙◌, ap}
 use Rattle.pic_map.specs.MapView.{content_of}
-use Rattle.pic_map.specs.Tracing.{looked}
 use Rattle.schedule.specs.ScriptFile as script_file
 use Rattle.picc_cli.proofs.SimulationEnds.{looked_first, run_of}
 use Rattle.picc_cli.proofs.simulating.run_over.Goals as goal

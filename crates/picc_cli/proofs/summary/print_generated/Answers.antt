@@ -1,7 +1,6 @@
 use Rattle.std.proofs.Common.{Some}
 use Rattle.picc_cli.specs.Command.{Generate}
 use Rattle.picc_cli.proofs.NothingDone.{no_print, no_told}
-use Rattle.picc_cli.proofs.SizesTold.{sizes_told}
 use Rattle.picc_cli.proofs.summary.print_generated.Goals as goal
 
 pub returns-in-Err-clause-printed : goal.returns-in-Err-clause-printed

@@ -3,20 +3,23 @@ use Rattle.c_typed.specs.Views.{program_of}
 use Rattle.pic_map.specs.MapView.{object_of, frame_of}
 use Rattle.picc_cli.proofs.summary.sizes_of.Goals as goal
 
-pub returns-in-Ok-clause-sizes : goal.returns-in-Ok-clause-sizes
-returns-in-Ok-clause-sizes g c =
+pub returns-in-Ok : goal.returns-in-Ok
+returns-in-Ok c =
     let known = c.in-Ok.known in
     let says = c.in-Ok.ensures in
     record {
-      tree = says.tree;
-      program = program_of known.typed;
-      copies = known.copies.list.items;
-      are_copies = says.list;
-      has_depth = says.depth.0;
-      objects = map object_of known.placed.objects.items;
-      frames = map frame_of known.placed.frames.items;
-      placed = says.exact;
-      covered = says.ram;
-      at = known.at.items;
-      blocks = says.blocks;
+      sizes =
+          record {
+            tree = says.tree;
+            program = program_of known.typed;
+            copies = known.copies.list.items;
+            are_copies = says.list;
+            has_depth = says.depth.0;
+            objects = map object_of known.placed.objects.items;
+            frames = map frame_of known.placed.frames.items;
+            placed = says.exact;
+            covered = says.ram;
+            at = known.at.items;
+            blocks = says.blocks;
+          };
     }
