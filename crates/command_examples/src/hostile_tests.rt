@@ -32,13 +32,13 @@ fn hostile_files(rt: HostRuntime) -> Result<(), Failure> {
     };
     for case in [
         read(JUMP_HEX, JUMP_MAP, "", 0, "End\n"),
-        // the last byte of its second record is the checksum, and isn't the one that makes the sum 0
+        // the bytes 02, 05 and 30 need C9 to make the sum 0
         read(
-            ":020000040000FA\n:020000000528D2\n:00000001FF\n",
+            ":020000040000FA\n:02000000053000\n:00000001FF\n",
             JUMP_MAP,
             "",
             5,
-            "a.hex:2: checksum D2, wanted D1\n",
+            "a.hex:2: checksum 00, wanted C9\n",
         ),
         read(
             ":020000040000FA\n:020000000528D1\n",

@@ -3,7 +3,7 @@ ghost use Rattle.std.specs.Prelude.{◌≡◌, IfOk};
 ghost use Rattle.host_io.specs.Host.{Closed};
 ghost use Rattle.host_io.specs.Memory.{open_of};
 
-use crate::commands::{USAGE, host_with, run, words_of};
+use crate::commands::{LED, USAGE, host_with, run, words_of};
 use host_io::{Fail, MemoryHost};
 use std::alloc::{AllocError, Global};
 use std::process::Abort;
@@ -71,8 +71,6 @@ fn check(rt: &impl Abort, alloc: Global, case: Case) -> Result<(), AllocError> {
 
 const TRACE: &str = "trace a.c a.s 1000";
 
-const LED: &str = "void main(void){PORTB=5;}";
-
 const DIVIDES: &str = "unsigned char x;\nvoid main(void){\nPORTB=1/x;}";
 
 // Each command with what it ends in.
@@ -93,13 +91,6 @@ fn each_status_comes(rt: HostRuntime) -> Result<(), Failure> {
         ran("trace a.c a.s 3", LED, "", 0, "W PORTB 05\n"),
         ran("trace a.c a.s 0000000002", LED, "", 0, ""),
         ran("trace a.c a.s 1000000", LED, "", 0, "W PORTB 05\nEnd\n"),
-        ran(
-            TRACE,
-            "void main(void){PORTB=PORTA;PORTB=PORTA;}",
-            "input 5A",
-            0,
-            "R PORTA 5A\nW PORTB 5A\nR PORTA 00\nW PORTB 00\nEnd\n",
-        ),
         // refusals, behind the script
         ran(TRACE, "", "", 1, "a.c: error 7: roots none\n"),
         ran(
