@@ -4,7 +4,9 @@ pub mod Act
 pub mod Registers
 pub mod Address
 pub mod Instructions
+pub mod Control
 pub mod Interrupts
+pub mod World
 pub mod Run
 pub mod Text
 pub mod Named
