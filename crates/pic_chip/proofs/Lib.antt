@@ -12,3 +12,4 @@ pub mod ControlLaws
 pub mod ChipControl
 pub mod WorldLaws
 pub mod Masks
+pub mod Risings
