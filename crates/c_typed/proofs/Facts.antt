@@ -60,13 +60,13 @@ tables_of_sound p sound =
 pub function_of_sound : (p : Program) (n : ℕ) (f : FunctionTree) → is_sound p ≡ true → slice_get p.functions n ≡ Some f → function_fits p f ≡ true
 function_of_sound p n f sound is = all_of (function_fits p) p.functions n f (and_parts (list_all (static_fits p) p.statics) (list_all (function_fits p) p.functions) (tables_of_sound p sound)).1 is
 
-body_of : (p : Program) (f : FunctionTree) → function_fits p f ≡ true → statements_fit p f false false f.body ≡ true
+body_of : (p : Program) (f : FunctionTree) → function_fits p f ≡ true → statements_fit p f true false false f.body ≡ true
 body_of p f holds =
-    (and_parts (list_all (local_fits p) f.locals) (statements_fit p f false false f.body)
-    (and_parts (list_all (param_fits p) f.params) (list_all (local_fits p) f.locals && statements_fit p f false false f.body)
-    (and_parts (result_fits p f.result) (list_all (param_fits p) f.params && (list_all (local_fits p) f.locals && statements_fit p f false false f.body)) holds).1).1).1
+    (and_parts (list_all (local_fits p) f.locals) (statements_fit p f true false false f.body)
+    (and_parts (list_all (param_fits p) f.params) (list_all (local_fits p) f.locals && statements_fit p f true false false f.body)
+    (and_parts (result_fits p f.result) (list_all (param_fits p) f.params && (list_all (local_fits p) f.locals && statements_fit p f true false false f.body)) holds).1).1).1
 
-pub body_of_sound : (p : Program) (n : ℕ) (f : FunctionTree) → is_sound p ≡ true → slice_get p.functions n ≡ Some f → statements_fit p f false false f.body ≡ true
+pub body_of_sound : (p : Program) (n : ℕ) (f : FunctionTree) → is_sound p ≡ true → slice_get p.functions n ≡ Some f → statements_fit p f true false false f.body ≡ true
 body_of_sound p n f sound is = body_of p f (function_of_sound p n f sound is)
 
 -- Each static object of a sound program fits.

@@ -1,11 +1,11 @@
 //! Initializers, from the tree's root down (ISO/IEC 9899:1990, 6.5.7).
 
+use crate::parts::{put_text, put_value};
 use crate::slots::{Cursor, Sink, Slot};
-use crate::values::{put_text, put_value};
 use c_declare::expression::assign;
+use c_operate::checker::Checker;
+use c_operate::error::CheckError;
 use c_operate::term::used;
-use c_scope::checker::Checker;
-use c_scope::error::CheckError;
 use c_tree::statement::{Init, NextInit};
 
 /// Gives a part of an object what an initializer says. `inside` says that it stands in a list.
@@ -75,7 +75,7 @@ fn next_item(
 
 /// Checks the expressions of an initializer that nothing can take.
 #[cycle(visit)]
-pub fn visit(init: &Init, checker: &mut Checker) -> Result<(), CheckError> {
+pub(crate) fn visit(init: &Init, checker: &mut Checker) -> Result<(), CheckError> {
     match init {
         Init::Assign(value) => {
             let term = assign(value, checker)?;

@@ -1,7 +1,7 @@
 //! Why a program has no typed tree.
 
 ghost use Rattle.std.specs.Prelude.{◌≡◌};
-ghost use Rattle.c_scope.specs.declared.error.CheckError.TheVariants.{NoMemory};
+ghost use Rattle.c_operate.specs.declared.error.CheckError.TheVariants.{NoMemory};
 
 use std::alloc::{AllocError, AllocFailed};
 

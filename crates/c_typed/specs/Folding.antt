@@ -1,29 +1,34 @@
--- The value of an integer constant expression (ISO/IEC 9899:1990, 6.4), which may have none: a part of it that is
--- evaluated is undefined.
-use Rattle.std.specs.Prelude.{ℕ, pos, Bool, true, false, not, nat_eq, if◌then◌else◌, Option, Some, None}
+-- The value of an integer constant expression (ISO/IEC 9899:1990, 6.4). It has none where a part of it that is evaluated
+-- is undefined, as a division by 0 is.
+use Rattle.std.specs.Prelude.{ℕ, Bool, true, false, not, nat_eq, if◌then◌else◌, Option, Some, None}
 use Rattle.c_ints.specs.Conversions.{promoted}
-use Rattle.c_ints.specs.Operators.{cut_to, shifts, outcome, unary_type, exact_unary}
+use Rattle.c_ints.specs.Operators.{truth, cut_to, shifts, outcome, unary_type, exact_unary}
 use Rattle.c_ints.specs.Quantity.{Quantity}
 use Rattle.c_ints.specs.Range.{pattern}
 use Rattle.c_ints.specs.declared.operators.BinOp.{BinOp}
 use Rattle.c_ints.specs.declared.operators.UnOp.{UnOp}
 use Rattle.c_ints.specs.declared.types.IntTy.{IntTy}
-use Rattle.c_ints.specs.declared.types.IntTy.TheVariants as intty
+use Rattle.c_ints.specs.declared.types.IntTy.TheVariants as int
 use Rattle.c_typed.specs.Trees as tree
 use Rattle.c_typed.specs.Trees.{Expression}
+use Rattle.c_typed.specs.Types.{is_constant}
 use Rattle.c_typed.specs.declared.expression.LogicalOp.{LogicalOp}
 use Rattle.c_typed.specs.declared.expression.LogicalOp.TheVariants as logical
+use Rattle.c_typed.specs.declared.folding.Folded.{Folded}
+use Rattle.c_typed.specs.declared.folding.Folded.TheVariants as folding
 use Rattle.c_typed.specs.declared.types.Ty.{Ty}
 use Rattle.c_typed.specs.declared.types.Ty.TheVariants.{Void, Int, Pointer, Array, Struct}
 
+-- the bits of a value
 unfoldable pub bits : Quantity → ℕ
 bits v = pattern v.ty v.number
 
+-- It isn't 0.
 abbrev pub holds : Quantity → Bool
 holds v = not (nat_eq (bits v) 0)
 
-abbrev pub truth : Bool → Quantity
-truth is = cut_to intty.Int (if is then pos 1 else pos 0)
+abbrev pub truth_value : Bool → Quantity
+truth_value is = cut_to int.Int (truth is)
 
 -- an integer in a type
 abbrev pub converted_to : IntTy → Option Quantity → Option Quantity
@@ -56,13 +61,13 @@ combined op (Some a) (Some b) = applied op a b
 
 abbrev pub truth_of : Option Quantity → Option Quantity
 truth_of None = None
-truth_of (Some v) = Some (truth (holds v))
+truth_of (Some v) = Some (truth_value (holds v))
 
 -- The right operand counts only where the left one doesn't decide.
 abbrev pub decided : LogicalOp → Bool → Option Quantity → Option Quantity
 decided logical.And true right = truth_of right
-decided logical.And false right = Some (truth false)
-decided logical.Or true right = Some (truth true)
+decided logical.And false right = Some (truth_value false)
+decided logical.Or true right = Some (truth_value true)
 decided logical.Or false right = truth_of right
 
 abbrev pub connected : LogicalOp → Option Quantity → Option Quantity → Option Quantity
@@ -73,6 +78,7 @@ abbrev pub chosen : Option Quantity → Option Quantity → Option Quantity → 
 chosen None held failed = None
 chosen (Some v) held failed = if holds v then held else failed
 
+-- The value of an expression that is an integer constant expression; of another one it says nothing.
 unfoldable pub constant_value : Expression → Option Quantity
 constant_value (tree.Constant value line) = Some value
 constant_value (tree.Read place ty line) = None
@@ -99,3 +105,11 @@ bits_of (Some v) = bits v
 
 abbrev pub constant_bits : Expression → ℕ
 constant_bits e = bits_of (constant_value e)
+
+-- What an expression is as an integer constant expression: none, one without a value, or one with this value.
+abbrev pub with_value : Option Quantity → Folded
+with_value None = folding.Undefined
+with_value (Some v) = folding.Value v
+
+abbrev pub folded : Expression → Folded
+folded e = if is_constant e then with_value (constant_value e) else folding.Variable

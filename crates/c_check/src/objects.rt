@@ -4,16 +4,16 @@ use crate::initializer::initialize;
 use crate::slots::{Sink, Slot};
 use c_declare::outline::{Declared, Outline};
 use c_declare::specifiers::{Specified, Storage};
-use c_scope::checker::Checker;
-use c_scope::error::{CheckError, Kind, refused};
-use c_scope::scope::{Binding, Scopes};
-use c_scope::types::{MOST_BYTES, Types};
+use c_operate::checker::Checker;
+use c_operate::error::{CheckError, Kind, refused};
+use c_operate::scope::{Binding, Scopes};
+use c_operate::types::{MOST_BYTES, Types};
 use c_tree::statement::Init;
 use c_typed::{Object, Qualified, TExpr, TItem, TPlace, TStmt, Ty};
 use std::alloc::{AllocError, Global};
 
 /// The type that an object is declared with; `given` says that an initializer may give its length.
-pub fn object_type(
+pub(crate) fn object_type(
     types: &Types,
     specified: Specified,
     outline: Outline,
@@ -98,7 +98,7 @@ fn bind_object(
 }
 
 /// A static object: its initializer, its name in the map, its name in the text, and its type.
-pub fn static_object(
+pub(crate) fn static_object(
     init: Option<&Init>,
     checker: &mut Checker,
     map_name: Vec<u8>,
@@ -121,7 +121,7 @@ pub fn static_object(
 }
 
 /// A static object of a block, whose declarator has this number among those of the function's body.
-pub fn block_static(
+pub(crate) fn block_static(
     init: Option<&Init>,
     checker: &mut Checker,
     declarator: u32,
@@ -134,7 +134,7 @@ pub fn block_static(
 }
 
 /// A local: what its declarator does.
-pub fn local_object(
+pub(crate) fn local_object(
     init: Option<&Init>,
     checker: &mut Checker,
     specified: Specified,

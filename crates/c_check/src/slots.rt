@@ -1,7 +1,7 @@
 //! What an initializer initializes, part by part (ISO/IEC 9899:1990, 6.5.7).
 
-use c_scope::error::{CheckError, Kind, refused};
-use c_scope::types::Types;
+use c_operate::error::{CheckError, Kind, refused};
+use c_operate::types::Types;
 use c_typed::{Initial, Qualified, TItem, Ty};
 use std::alloc::Global;
 
