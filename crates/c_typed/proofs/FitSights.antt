@@ -1,10 +1,9 @@
 -- How each variant fits, from its parts.
-use Rattle.std.proofs.Common.{◌≡◌, List, [], ◌∷◌, Option, Some, None, map, sym, ap, ◌∙◌, Bool, true, false, ◌&&◌, ◌||◌}
+use Rattle.std.proofs.Common.{◌≡◌, None, map, sym, ap, ◌∙◌, true, false, ◌&&◌}
 use Rattle.std.specs.Prelude.{slice_get, nat_lt, not}
-use Rattle.c_ints.specs.declared.operators.BinOp.TheVariants as binop
 use Rattle.c_typed.proofs.Shapes.{show_expression_constant, show_expression_read, show_expression_address, show_expression_convert, show_expression_cast, show_expression_unary, show_expression_binary, show_expression_offset, show_expression_difference, show_expression_logical, show_expression_conditional, show_expression_comma, show_expression_assign, show_expression_struct_assign, show_expression_update, show_expression_step, show_expression_call, show_place_name, show_place_bit, show_place_member, show_place_deref}
-use Rattle.c_typed.specs.Fits.{is_null, source, source_of, is_converted, is_device, keeps_from, goes_to, is_side, sides_fit, assigned_fits, is_no_register, is_memory, names_local, is_local_name, if_array, first_reach, is_reached, reached_by, array_reach, declared_type, is_named, operand_standing, is_indexed, is_alone, member_at, leads_fits, returns_type, params_of, rule_holds, place_rule_holds, fits, place_fits, arguments_fit}
-use Rattle.c_typed.specs.Rules.{read_fits, convert_fits, cast_fits, unary_fits, binary_fits, offset_fits, difference_fits, logical_fits, choice_fits, assign_fits, copy_fits, update_fits, step_fits, member_fits, deref_fits, is_zero}
+use Rattle.c_typed.specs.Fits.{is_null, source, source_of, is_converted, is_device, sides_fit, assigned_fits, is_no_register, is_memory, names_local, is_local_name, if_array, first_reach, is_reached, reached_by, array_reach, declared_type, is_named, operand_standing, is_alone, member_at, leads_fits, returns_type, params_of, rule_holds, place_rule_holds, fits, place_fits, arguments_fit}
+use Rattle.c_typed.specs.Rules.{read_fits, convert_fits, cast_fits, unary_fits, binary_fits, offset_fits, difference_fits, logical_fits, copy_fits, update_fits, step_fits, member_fits, deref_fits, is_zero}
 use Rattle.c_typed.specs.Sameness.{is_pointer, is_scalar, same_type}
 use Rattle.c_typed.specs.Trees as tree
 use Rattle.c_typed.specs.Trees.{Expression, Place, FunctionTree, Program}

@@ -11,7 +11,7 @@ use Rattle.c_typed.specs.Types.{type_of}
 use Rattle.std.specs.Global.{Box}
 use Rattle.c_typed.specs.Views.{expression_of, item_of, statement_of, statements_of, arm_of, arms_of, last_arm_of}
 use Rattle.c_typed.specs.declared.statement.TStmt as StmtOf
-use Rattle.c_typed.specs.declared.standing.Standing.TheVariants.{Used, Alone}
+use Rattle.c_typed.specs.declared.standing.Standing.TheVariants.{Alone}
 use Rattle.c_typed.specs.declared.statement.TArm.{TArm}
 use Rattle.c_typed.specs.declared.statement.TStmt.TheVariants as TStmt
 use Rattle.c_typed.specs.declared.statement.TStmt.TheViews.{out-TArm}

@@ -1,11 +1,11 @@
 -- Whether an expression fits: what it names is there with its declared type, and at each node the typing rules hold.
-use Rattle.std.specs.Prelude.{ℕ, nat_eq, nat_lt, unsigned_abs, Bool, true, false, not, ◌&&◌, ◌||◌, if◌then◌else◌, List, [], ◌∷◌, Option, Some, None, is_some, slice_get}
+use Rattle.std.specs.Prelude.{ℕ, nat_eq, nat_lt, Bool, true, false, not, ◌&&◌, ◌||◌, if◌then◌else◌, List, [], ◌∷◌, Option, Some, None, is_some, slice_get}
 use Rattle.std.specs.Option.{option_map}
 use Rattle.c_ints.specs.declared.operators.BinOp.{BinOp}
 use Rattle.c_ints.specs.declared.operators.BinOp.TheVariants as binop
 use Rattle.c_ints.specs.declared.types.IntTy.TheVariants as int
 use Rattle.c_typed.specs.Rules.{read_fits, address_fits, start_fits, keeps, convert_fits, cast_fits, unary_fits, binary_fits, offset_fits, difference_fits, logical_fits, choice_fits, assign_fits, copy_fits, update_fits, step_fits, member_fits, deref_fits, is_zero}
-use Rattle.c_typed.specs.Sameness.{same_type, same_flag, same_qualified, is_pointer, is_array, is_scalar, pointed, is_the, members_of}
+use Rattle.c_typed.specs.Sameness.{same_type, same_flag, same_qualified, is_pointer, is_scalar, pointed, members_of}
 use Rattle.c_typed.specs.Trees as tree
 use Rattle.c_typed.specs.Trees.{Expression, Expressions, Place, MemberTree, VariableTree, StaticTree, FunctionTree, Program}
 use Rattle.c_typed.specs.Types.{type_of, place_type}

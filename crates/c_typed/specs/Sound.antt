@@ -1,7 +1,6 @@
 -- Whether statements, functions, static objects and structures fit, and what makes a program sound.
 use Rattle.std.specs.Prelude.{ℕ, suc, ◌+◌, ◌-◌, ◌*◌, ◌^◌, ◌%◌, nat_eq, nat_lt, nat_le, ℤ, int_le, Bool, true, false, not, ◌&&◌, ◌||◌, if◌then◌else◌, List, [], ◌∷◌, length, Option, Some, None, is_some, slice_get}
 use Rattle.std.specs.List.{list_all}
-use Rattle.c_ints.specs.Quantity.{Quantity}
 use Rattle.c_typed.specs.Fits.{source_of, goes_to, fits, place_fits}
 use Rattle.c_typed.specs.Sameness.{same_type, is_void, is_array, is_struct, is_scalar, is_promoted, is_complete}
 use Rattle.c_typed.specs.Trees as tree
