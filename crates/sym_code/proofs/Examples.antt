@@ -1,5 +1,5 @@
 -- Runs of small blocks, computed.
-use Rattle.std.proofs.Common.{◌≡◌, false, ℕ, zero, suc, List, [], ◌∷◌, Some, refl}
+use Rattle.std.proofs.Common.{◌≡◌, true, false, ℕ, zero, suc, List, [], ◌∷◌, Some, refl}
 use Rattle.pic_chip.specs.declared.Arrival.{Arrival}
 use Rattle.pic_chip.specs.declared.Cell.TheVariants as cells
 use Rattle.pic_chip.specs.declared.Flag.TheVariants.{Intf}
@@ -7,8 +7,9 @@ use Rattle.core_code.specs.World.{ReadOf, WriteOf, Ended, arrived, is_due, enter
 use Rattle.core_code.specs.declared.code.Byte.TheVariants as bytes
 use Rattle.sym_code.specs.Cost.{cost_by, step_cost}
 use Rattle.sym_code.specs.Layout.{Layout, address_of, general_at}
-use Rattle.sym_code.specs.Machine.{Setting, Machine, Still, Stuck, reached, contents, after_read, after_write, execute, sym_step, sym_run, sym_start}
+use Rattle.sym_code.specs.Machine.{Setting, Machine, Still, reached, contents, after_read, after_write, execute, sym_step, sym_run, sym_start}
 use Rattle.sym_code.specs.Registers.{result_with, flags_with, skips_with, after_row}
+use Rattle.sym_code.specs.declared.code.BankBit.TheVariants.{Rp1}
 use Rattle.sym_code.specs.declared.code.BitOperation.TheVariants.{Bcf, Bsf, Btfsc, Btfss}
 use Rattle.sym_code.specs.declared.code.BlockName.{BlockName}
 use Rattle.sym_code.specs.declared.code.BlockName.TheVariants.{Start, Copy}
@@ -59,10 +60,10 @@ unfolding sym_run sym_step execute reached contents after_read after_write after
 written_still = refl
 
 -- The second byte of object 1 is reached through INDF, with IRP set. It is 255, so adding 1 gives 0 and sets Z, and the
--- write to PORTC, at 07, is skipped. A select is two instructions, and a label none.
+-- write to PORTC, at 07, is skipped. A select is one instruction, and a label none.
 abbrev pointing : Setting
 pointing = setting (
-    SelectBank (bytes.Static 1 1) ∷ Literal Movlw (literals.Low (bytes.Static 1 1)) ∷ Movwf (operands.Register register.Fsr)
+    SelectBank Rp1 true ∷ Literal Movlw (literals.Low (bytes.Static 1 1)) ∷ Movwf (operands.Register register.Fsr)
     ∷ Bit Bsf (operands.Register register.Status) 7 ∷ File Incf (operands.Register register.Indf) into.File
     ∷ Bit Btfss (operands.Register register.Status) 2 ∷ Movwf (device 7) ∷ Label (Inner 0) ∷ to_halt ∷ []) [] [] []
 
@@ -70,17 +71,9 @@ pointed : (sym_run pointing 8 begun).world.trace ≡ ReadOf (cells.Static 1 1) 0
 unfolding sym_run sym_step execute reached address_of general_at contents after_read after_write result_with flags_with skips_with after_row arrived is_due noted device_value after_device_read after_device_write sets_gie
 pointed = refl
 
-pointed_cost : cost_by pointing begun 8 ≡ 8
+pointed_cost : cost_by pointing begun 8 ≡ 7
 unfolding cost_by step_cost sym_run sym_step execute reached address_of general_at contents after_read after_write result_with flags_with skips_with after_row arrived is_due noted device_value after_device_read after_device_write sets_gie
 pointed_cost = refl
-
--- A skip before a select: stuck, since a select is two words.
-abbrev selecting : Setting
-selecting = setting (Bit Btfsc (operands.Register register.Status) 2 ∷ SelectBank (bytes.Static 1 1) ∷ to_halt ∷ []) [] [] []
-
-selecting_stuck : sym_step selecting begun ≡ Stuck
-unfolding sym_step execute reached arrived is_due
-selecting_stuck = refl
 
 -- INTE and GIE are set, and the external flag comes after that event. The handler is called there whole, writes 1 to
 -- PORTC and clears the flag; W is main's again behind it.

@@ -5,14 +5,12 @@ use Rattle.core_code.specs.World.{arrived, is_due}
 use Rattle.sym_code.specs.Machine.{Setting, Machine, Position, fetched, sym_run}
 use Rattle.sym_code.specs.declared.code.Label.TheVariants.{Restore}
 use Rattle.sym_code.specs.declared.code.Sym.{Sym}
-use Rattle.sym_code.specs.declared.code.Sym.TheVariants.{Goto, Label, SelectBank, SelectPage}
+use Rattle.sym_code.specs.declared.code.Sym.TheVariants.{Goto, Label}
 use Rattle.sym_code.specs.declared.code.Target.TheVariants as targets
 
--- a select is two instructions, and the jump out of the handler restores main's context
+-- the jump out of the handler restores main's context
 abbrev pub cost_of : Sym → ℕ
 cost_of (Label label) = 0
-cost_of (SelectBank byte) = 2
-cost_of (SelectPage target) = 2
 cost_of (Goto (targets.Label Restore)) = 1 + context_cost
 cost_of _ = 1
 

@@ -1,4 +1,5 @@
 pub mod WellFormed
+pub mod Touching
 pub mod Registers
 pub mod Layout
 pub mod Machine

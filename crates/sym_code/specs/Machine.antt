@@ -157,13 +157,10 @@ after_write g (Register address) v t = if sets_gie address v t.world then None e
 after_write g (General k address) v t = Some (record t { memory = with_byte t.memory k v; world = noting (λ cell. WriteOf cell v) (object_at g.program.layout.objects 0 address) t.world })
 
 -- ---- skips
--- How many places behind a skip the code goes on: past labels, and past the next word. A select is two words, and no
--- skip goes past one of them.
+-- How many places behind a skip the code goes on: past labels, and past the next word.
 abbrev pub past_word : List Sym → Option ℕ
 past_word [] = None
 past_word (sym.Label l ∷ rest) = option_map (λ n. n + 1) (past_word rest)
-past_word (sym.SelectBank byte ∷ rest) = None
-past_word (sym.SelectPage target ∷ rest) = None
 past_word (_ ∷ rest) = Some 1
 
 abbrev pub skips_to : Position → Option ℕ → Machine → Next
@@ -291,8 +288,8 @@ execute g p (sym.Plain op) t = plain p op t
 execute g p (sym.Call target) t = call g p target t
 execute g p (sym.Goto target) t = goto g p target t
 execute g p (sym.Label label) t = goes p t
-execute g p (sym.SelectBank byte) t = goes p t
-execute g p (sym.SelectPage target) t = goes p t
+execute g p (sym.SelectBank bit to) t = goes p t
+execute g p (sym.SelectPage bit target) t = goes p t
 
 abbrev pub fetched : Program → Position → Option Sym
 fetched g p = slice_get (g.block p.block) p.index
