@@ -2,6 +2,10 @@ pub mod WellFormed
 pub mod Touching
 pub mod Registers
 pub mod Layout
+pub mod Programs
+pub mod Effect
 pub mod Machine
 pub mod Cost
+pub mod Runs
+pub mod Quiet
 pub mod Correct
