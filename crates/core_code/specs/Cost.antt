@@ -161,7 +161,8 @@ least_task [] s = 1
 least_task (Do before t ∷ c) s = least_of t s
 least_task (Put to held ∷ c) s = 1
 least_task (PutBit to value ∷ c) s = 1
-least_task (PutBack register value ∷ c) s = 1
+-- one instruction reads and writes the register
+least_task (PutBack register value ∷ c) s = 0
 least_task (Join ∷ c) s = 0
 least_task (LoadFrom to object offset n ∷ c) s = one_if (nat_lt 0 n)
 least_task (StoreTo object offset from n ∷ c) s = one_if (nat_lt 0 n)

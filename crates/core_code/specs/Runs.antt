@@ -1,10 +1,10 @@
 -- What a run of byte code is compared by, at each of its moments: the trace, whether the next step goes, whether main has
 -- ended and nothing is due, and the bounds of the instructions that the steps so far take together.
-use Rattle.std.specs.Prelude.{ℕ, zero, suc, ◌+◌, Bool, true, false, List, ◌∷◌}
+use Rattle.std.specs.Prelude.{ℕ, zero, suc, ◌+◌, Bool, List}
 use Rattle.pic_chip.specs.World.{Happening}
 use Rattle.core_code.specs.Bytes.{Held}
 use Rattle.core_code.specs.Cost.{step_most, step_least}
-use Rattle.core_code.specs.Machine.{Setting, Task, PutBack, core_step, core_moment, goes_on, is_still}
+use Rattle.core_code.specs.Machine.{Setting, core_step, core_moment, goes_on, is_still}
 
 abbrev pub trace_at : Setting → ℕ → List (Happening Held)
 trace_at g n = (core_moment g n).world.trace
@@ -23,12 +23,3 @@ most_by g (suc n) = most_by g n + step_most g (core_moment g n)
 unfoldable pub least_by : Setting → ℕ → ℕ
 least_by g zero = 0
 least_by g (suc n) = least_by g n + step_least g (core_moment g n)
-
--- One instruction of the chip reads and writes the register of a bit. Byte code has a moment between the two events, which
--- the chip hasn't.
-abbrev pub is_within_bit : List Task → Bool
-is_within_bit (PutBack register value ∷ c) = true
-is_within_bit _ = false
-
-abbrev pub is_within_bit_at : Setting → ℕ → Bool
-is_within_bit_at g n = is_within_bit (core_moment g n).code

@@ -91,23 +91,24 @@ unfolding sym_run sym_step acted effect effect_of access_of stand after_row rais
 written_still = refl
 
 -- The second byte of object 1 is reached through INDF, with IRP set. It is 255, so adding 1 gives 0 and sets Z, and the
--- write to PORTC, at 07, is skipped. A select is one instruction, and a label none.
+-- write to PORTC, at 07, is skipped. A select is one instruction and a label none; INCF of a watched byte makes two events,
+-- and so two steps.
 abbrev pointing : Setting
 pointing = setting (
     SelectBank Rp1 true ∷ Literal Movlw (literals.Low (bytes.Static 1 1)) ∷ Movwf (operands.Register register.Fsr)
     ∷ Bit Bsf (operands.Register register.Status) 7 ∷ File Incf (operands.Register register.Indf) into.File
     ∷ Bit Btfss (operands.Register register.Status) 2 ∷ Movwf (device 7) ∷ Label (Inner 0) ∷ to_halt ∷ []) []
 
-pointed : (run pointing 9 7).world.trace ≡ ReadOf (cells.Static 1 1) 0xff ∷ WriteOf (cells.Static 1 1) 0 ∷ Ended ∷ []
+pointed : (run pointing 9 8).world.trace ≡ ReadOf (cells.Static 1 1) 0xff ∷ WriteOf (cells.Static 1 1) 0 ∷ Ended ∷ []
 unfolding sym_run sym_step acted effect effect_of access_of address_of general_at owner stand result_with flags_with skips_with after_row raised_by control.is_due stored with_stored arrived is_due device_value after_device_read after_device_write sets_gie
 pointed = refl
 
-pointed_least : sym_least pointing entry (external_at 9) (begun pointing) 7 ≡ 7
+pointed_least : sym_least pointing entry (external_at 9) (begun pointing) 8 ≡ 7
 unfolding cost_by step_cost sym_run sym_step acted effect effect_of access_of address_of general_at owner stand result_with flags_with skips_with after_row raised_by control.is_due stored with_stored arrived is_due device_value after_device_read after_device_write sets_gie
 pointed_least = refl
 
 -- where each instruction costs one more than its number
-pointed_most : sym_most pointing (λ block index. suc index) entry (external_at 9) (begun pointing) 7 ≡ 30
+pointed_most : sym_most pointing (λ block index. suc index) entry (external_at 9) (begun pointing) 8 ≡ 30
 unfolding cost_by step_cost sym_run sym_step acted effect effect_of access_of address_of general_at owner stand result_with flags_with skips_with after_row raised_by control.is_due stored with_stored arrived is_due device_value after_device_read after_device_write sets_gie
 pointed_most = refl
 
@@ -145,19 +146,19 @@ abbrev interrupting : Setting
 interrupting = setting (Literal Movlw (literals.Number 0x90) ∷ Movwf (device 0x0b) ∷ File Movf (device 8) into.W ∷ Movwf (device 6) ∷ to_halt ∷ [])
     (Movwf (device 7) ∷ Bit Bcf (device 0x0b) 1 ∷ Goto (targets.Label Restore) ∷ [])
 
-interrupted : (run interrupting 1 9).world.trace ≡
+interrupted : (run interrupting 1 10).world.trace ≡
     WriteOf (cells.Device 0x0b) 0x90 ∷ WriteOf (cells.Device 7) 99 ∷ ReadOf (cells.Device 0x0b) 0x12 ∷ WriteOf (cells.Device 0x0b) 0x10
     ∷ ReadOf (cells.Device 8) 7 ∷ WriteOf (cells.Device 6) 7 ∷ Ended ∷ []
 unfolding sym_run sym_step acted effect effect_of access_of stand result_with flags_with skips_with after_row raised_by control.is_due control.entered control.left stored with_stored arrived is_due entered left device_value after_device_read after_device_write sets_gie
 interrupted = refl
 
 -- between the read of PORTD and the write to PORTB
-between : (run interrupting 2 9).world.trace ≡
+between : (run interrupting 2 10).world.trace ≡
     WriteOf (cells.Device 0x0b) 0x90 ∷ ReadOf (cells.Device 8) 7
     ∷ WriteOf (cells.Device 7) 99 ∷ ReadOf (cells.Device 0x0b) 0x12 ∷ WriteOf (cells.Device 0x0b) 0x10 ∷ WriteOf (cells.Device 6) 7 ∷ Ended ∷ []
 unfolding sym_run sym_step acted effect effect_of access_of stand result_with flags_with skips_with after_row raised_by control.is_due control.entered control.left stored with_stored arrived is_due entered left device_value after_device_read after_device_write sets_gie
 between = refl
 
-between_most : sym_most interrupting (λ block index. 1) entry (external_at 2) (begun interrupting) 9 ≡ 208
+between_most : sym_most interrupting (λ block index. 1) entry (external_at 2) (begun interrupting) 10 ≡ 208
 unfolding cost_by step_cost sym_run sym_step acted effect effect_of access_of stand result_with flags_with skips_with after_row raised_by control.is_due control.entered control.left stored with_stored arrived is_due entered left device_value after_device_read after_device_write sets_gie
 between_most = refl

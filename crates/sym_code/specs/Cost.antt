@@ -3,7 +3,7 @@
 use Rattle.std.specs.Prelude.{ℕ, zero, suc, ◌+◌, Bool, if◌then◌else◌, Option, Some, None}
 use Rattle.pic_chip.specs.World.{Outside, is_due}
 use Rattle.core_code.specs.Cost.{context_cost}
-use Rattle.sym_code.specs.Effect.{Setting, Effect, Leaves, effect}
+use Rattle.sym_code.specs.Effect.{Setting, Thread, Memory, Rest, Effect, Leaves, effect}
 use Rattle.sym_code.specs.Machine.{Machine, Entry, running, settled, sym_run}
 use Rattle.sym_code.specs.Programs.{Position}
 use Rattle.sym_code.specs.declared.code.BlockName.{BlockName}
@@ -29,8 +29,13 @@ instruction_cost c None effect = 0
 instruction_cost c (Some p) Leaves = c.word p.block p.index + c.leave
 instruction_cost c (Some p) effect = c.word p.block p.index
 
+-- an instruction of two events is paid at its first one
+abbrev pub thread_cost : Setting → Prices → Bool → Thread → Memory → Option Rest → ℕ
+thread_cost g c inside th m None = instruction_cost c th.at (effect g inside th m)
+thread_cost g c inside th m (Some rest) = 0
+
 abbrev pub step_cost_at : Setting → Prices → Machine → ℕ
-step_cost_at g c t = if is_due t.world then c.enter else instruction_cost c (running t).at (effect g t.world.inside (running t) t.memory)
+step_cost_at g c t = if is_due t.world then c.enter else thread_cost g c t.world.inside (running t) t.memory (running t).rest
 
 unfoldable pub step_cost : Setting → Prices → Outside → Machine → ℕ
 step_cost g c o t = step_cost_at g c (settled o t)

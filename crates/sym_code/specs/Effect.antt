@@ -46,8 +46,21 @@ pub record Setting : Type 0 where
   pub limit : Bool → ℕ
 
 -- ---- threads and memory
--- main or the handler: the next instruction, or none where main has ended; where returns go to; and the registers
+-- a byte each access of which is an event: a device register by its lowest address, or a byte of a static object by its
+-- number and the cell that is shown
+pub data Loud : Type 0 where
+  Port : ℕ → Loud
+  Shared : ℕ → Cell → Loud
+
+-- what an instruction that reads such a byte and writes it has still to write
+pub record Rest : Type 0 where
+  pub to : Loud
+  pub byte : ℕ
+
+-- Main or the handler: what is left of the instruction before; the next instruction, or none where main has ended; where
+-- returns go to; and the registers.
 pub record Thread : Type 0 where
+  pub rest : Option Rest
   pub at : Option Position
   pub stack : List Position
   pub registers : Registers
@@ -71,12 +84,6 @@ abbrev pub write : ℕ → ℕ → Option Write
 write k v = Some (record { number = k; byte = v })
 
 -- ---- accesses
--- a byte each access of which is an event: a device register by its lowest address, or a byte of a static object by its
--- number and the cell that is shown
-pub data Loud : Type 0 where
-  Port : ℕ → Loud
-  Shared : ℕ → Cell → Loud
-
 pub data Access : Type 0 where
   -- FSR
   Pointer : Access
@@ -126,10 +133,9 @@ pub data Effect : Type 0 where
   Stuck : Effect
   -- no event: the thread behind it, and a byte that is written
   Quiet : Thread → Option Write → Effect
-  -- a read, a write, or a read and then a write, with an event for each; what comes behind is by the byte that was read
+  -- a read, with what comes behind by the byte that was read; and a write. Each is an event.
   Reads : Loud → (ℕ → Thread) → Effect
   Writes : Loud → ℕ → Thread → Effect
-  Updates : Loud → (ℕ → ℕ) → (ℕ → Thread) → Effect
   -- the handler ends; main ends; main has ended
   Leaves : Effect
   Ends : Thread → Effect
@@ -140,6 +146,10 @@ goes th p r = record th { at = Some p; registers = r }
 
 abbrev pub quiet : Thread → Effect
 quiet th = Quiet th None
+
+-- A byte is read and what f makes of it is written: two events, so two steps.
+abbrev pub updates : Loud → (ℕ → ℕ) → (ℕ → Thread) → Effect
+updates b f next = Reads b (λ x. record (next x) { rest = Some (record { to = b; byte = f x }) })
 
 -- ---- instructions on a file register
 -- behind one that has read x, with its flags
@@ -160,7 +170,7 @@ file_to_w q p th m op Denied = Stuck
 
 abbrev pub file_to_file : Program → Position → Thread → Memory → FileOperation → Access → Effect
 file_to_file q p th m op Pointer = quiet (result_in_fsr q p th op th.registers.fsr)
-file_to_file q p th m op (Event b) = Updates b (λ x. result_with th.registers op x) (λ x. after_file q p th op x)
+file_to_file q p th m op (Event b) = updates b (λ x. result_with th.registers op x) (λ x. after_file q p th op x)
 file_to_file q p th m op (Silent k) = Quiet (after_file q p th op (m k)) (write k (result_with th.registers op (m k)))
 file_to_file q p th m op Denied = Stuck
 
@@ -178,7 +188,7 @@ store q p th r v Denied = Stuck
 -- ---- instructions on a bit
 abbrev pub change : Program → Position → Thread → Memory → (ℕ → ℕ) → Access → Effect
 change q p th m f Pointer = quiet (goes th (behind q p) (record th.registers { fsr = f th.registers.fsr }))
-change q p th m f (Event b) = Updates b f (λ x. goes th (behind q p) th.registers)
+change q p th m f (Event b) = updates b f (λ x. goes th (behind q p) th.registers)
 change q p th m f (Silent k) = Quiet (goes th (behind q p) th.registers) (write k (f (m k)))
 change q p th m f Denied = Stuck
 
@@ -291,6 +301,10 @@ effect_at g false th m None = Rests
 effect_at g true th m None = Stuck
 effect_at g inside th m (Some p) = effect_if g inside p th m (fetched g.program p)
 
--- what the next instruction of a thread does
+abbrev pub effect_rest : Setting → Bool → Thread → Memory → Option Rest → Effect
+effect_rest g inside th m None = effect_at g inside th m th.at
+effect_rest g inside th m (Some x) = Writes x.to x.byte (record th { rest = None })
+
+-- what the next step of a thread does: what is left of an instruction, or else the next one
 unfoldable pub effect : Setting → Bool → Thread → Memory → Effect
-effect g inside th m = effect_at g inside th m th.at
+effect g inside th m = effect_rest g inside th m th.rest

@@ -1,4 +1,5 @@
--- What symbolic code does: an instruction is one step, with a handler that is entered whole directly after an event. Main
+-- What symbolic code does: an instruction is one step, and one that makes two events is two, so that no step makes more than
+-- one. The handler is entered whole directly after an event. Main
 -- and the handler are two threads over one memory, which is the chip's. Positions in blocks stand in place of addresses
 -- of program memory. Saving and restoring main's context is the machine's here, and the start block's on the chip; so
 -- what the handler finds in the registers comes from outside. A step that would go to where no instruction stands is
@@ -6,7 +7,7 @@
 -- g is the setting, e the handler's registers at its entries, o the outside, t the machine.
 use Rattle.std.specs.Prelude.{ℕ, zero, suc, ◌+◌, Bool, true, false, if◌then◌else◌, List, [], ◌∷◌, ◌++◌, Option, Some, None}
 use Rattle.pic_chip.specs.World.{Outside, World, ReadOf, WriteOf, Ended, arrived, is_due, entered, left, noted, device_value, after_device_read, after_device_write, sets_gie, world_at_start}
-use Rattle.sym_code.specs.Effect.{Setting, Thread, Memory, Write, written, write, Loud, Port, Shared, Effect, Stuck, Quiet, Reads, Writes, Updates, Leaves, Ends, Rests, effect}
+use Rattle.sym_code.specs.Effect.{Setting, Thread, Memory, Write, written, write, Loud, Port, Shared, Effect, Stuck, Quiet, Reads, Writes, Leaves, Ends, Rests, effect}
 use Rattle.sym_code.specs.Programs.{Program, Position, front, lands}
 use Rattle.sym_code.specs.Registers.{Registers}
 use Rattle.sym_code.specs.declared.code.BlockName.TheVariants.{Copy}
@@ -71,7 +72,6 @@ made o m w Stuck = None
 made o m w (Quiet th x) = Some (record { thread = th; write = x; world = w })
 made o m w (Reads b next) = Some (record { thread = next (value_by o m w b); write = None; world = read_by o m w b })
 made o m w (Writes b v th) = made_write w b v th
-made o m w (Updates b f next) = made_write (read_by o m w b) b (f (value_by o m w b)) (next (value_by o m w b))
 made o m w Leaves = None
 made o m w (Ends th) = None
 made o m w Rests = None
@@ -95,7 +95,8 @@ moved t (Some x) = Goes (record t {
   main = if t.world.inside then t.main else x.thread;
   isr = if t.world.inside then x.thread else t.isr;
   memory = written x.write t.memory;
-  world = x.world })
+  world = x.world;
+})
 
 -- An effect is applied. Main ends with an event. Behind the handler main goes on as it was.
 unfoldable pub acted : Setting → Outside → Machine → Effect → Next
@@ -109,7 +110,7 @@ act g o t = acted g o t (effect g t.world.inside (running t) t.memory)
 
 -- ---- entries
 abbrev pub at_entry : Program → ℕ → Registers → Thread
-at_entry q handler r = record { at = Some (front q (Copy handler)); stack = []; registers = r }
+at_entry q handler r = record { rest = None; at = Some (front q (Copy handler)); stack = []; registers = r }
 
 abbrev pub with_entry : Thread → Machine → Machine
 with_entry th t = record t { isr = th; entries = t.entries + 1; world = entered t.world }
@@ -143,8 +144,9 @@ sym_run g e o (suc n) t = let u = sym_run g e o n t in gone u (sym_step g e o u)
 -- at the front of main, with these registers and this memory
 abbrev pub sym_start : Program → Registers → Memory → Machine
 sym_start q r m = record {
-  main = record { at = Some (front q (Copy 0)); stack = []; registers = r };
-  isr = record { at = None; stack = []; registers = r };
+  main = record { rest = None; at = Some (front q (Copy 0)); stack = []; registers = r };
+  isr = record { rest = None; at = None; stack = []; registers = r };
   entries = 0;
   memory = m;
-  world = world_at_start }
+  world = world_at_start;
+}
