@@ -16,6 +16,11 @@ abbrev pub body_at : List Body → ℕ → List Tree
 body_at [] copy = []
 body_at (b ∷ bs) copy = if nat_eq b.copy copy then trees_in b.code.items else body_at bs copy
 
+-- where none has the number, the root is main's
+abbrev pub root_at : List Body → ℕ → Root
+root_at [] copy = Main
+root_at (b ∷ bs) copy = if nat_eq b.copy copy then b.root else root_at bs copy
+
 abbrev pub is_handlers : Root → Bool
 is_handlers Main = false
 is_handlers Isr = true
@@ -30,10 +35,13 @@ first_byte (Number n) = bytes.Number n
 first_byte (Low object) = bytes.Part (Fixed object) 0 false
 first_byte (High object) = bytes.Part (Fixed object) 0 true
 
--- the same with what the code doesn't tell: which static objects aren't const, and the bytes of frames and parameters
-abbrev pub program_of : CoreProgram → (ℕ → Bool) → (ℕ → ℕ) → (ℕ → ℕ) → Program
-program_of p is_watched frame_bytes parameter_bytes = record {
+-- The same with what the code doesn't tell: which copies a body may call, which static objects aren't const, and the bytes
+-- of frames and parameters.
+abbrev pub program_of : CoreProgram → (ℕ → ℕ → Bool) → (ℕ → Bool) → (ℕ → ℕ) → (ℕ → ℕ) → Program
+program_of p calls is_watched frame_bytes parameter_bytes = record {
   body = body_at p.bodies.items;
+  root = root_at p.bodies.items;
+  calls = calls;
   handler = handler_in p.bodies.items;
   first = map (λ o. map first_byte o.items) p.statics.items;
   is_watched = is_watched;
