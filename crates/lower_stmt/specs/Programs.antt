@@ -9,8 +9,8 @@ use Rattle.c_typed.specs.declared.calls.FnId.{FnId}
 use Rattle.c_typed.specs.declared.calls.FnId.TheVariants.{User, Helper}
 use Rattle.call_graph.specs.declared.types.FnCopy.{FnCopy}
 use Rattle.core_code.specs.Bytes.{Held, same_root}
+use Rattle.core_code.specs.FirstBytes.{first_held}
 use Rattle.core_code.specs.Machine.{Program}
-use Rattle.core_code.specs.Programs.{first_byte}
 use Rattle.core_code.specs.Tree.{Tree}
 use Rattle.lower_stmt.specs.Bodies.{code_of, first_bytes}
 use Rattle.pic_chip.specs.declared.Root.{Root}
@@ -66,8 +66,8 @@ abbrev pub isnt_const : Option StaticTree → Bool
 isnt_const None = false
 isnt_const (Some s) = not s.ty.constant
 
-abbrev pub first_held : typed.Program → List (List Held)
-first_held p = map (map first_byte) (first_bytes p)
+abbrev pub statics_held : typed.Program → List (List Held)
+statics_held p = map (map first_held) (first_bytes p)
 
 unfoldable pub core_of : typed.Program → List FnCopy → Program
 core_of p copies = record {
@@ -75,7 +75,7 @@ core_of p copies = record {
   root = λ c. root_in (slice_get copies c);
   calls = λ c d. may_call p (slice_get copies c) (slice_get copies d);
   handler = handler_from copies 0;
-  first = first_held p;
+  first = statics_held p;
   is_watched = λ n. isnt_const (slice_get p.statics n);
   frame_bytes = λ c. size_or_none (frame_size p.sizes) (function_in p (slice_get copies c));
   parameter_bytes = λ c. size_or_none (λ f. variables_bytes p.sizes f.params) (function_in p (slice_get copies c));
