@@ -4,6 +4,6 @@ pub mod Bytes
 pub mod Values
 pub mod Operands
 pub mod Machine
-pub mod Programs
+pub mod FirstBytes
 pub mod Cost
 pub mod Runs

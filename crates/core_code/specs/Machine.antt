@@ -19,7 +19,7 @@ use Rattle.core_code.specs.Bytes.{Object, Fixed, FrameOf, Held, Place, Memory, U
 use Rattle.core_code.specs.Operands.{number_left, is_helped, fits_unary, fits_together}
 use Rattle.core_code.specs.Tree as tree
 use Rattle.core_code.specs.Tree.{Tree, list_of}
-use Rattle.core_code.specs.Values.{Value, Extent, byte_count, byte_of, pointer_in, value_in, truth_in, converted, unary_value, binary_value, right_type}
+use Rattle.core_code.specs.Values.{Value, Pointer, Extent, byte_count, byte_of, pointer_in, value_in, truth_in, converted, unary_value, binary_value, right_type}
 use Rattle.core_code.specs.declared.code.Byte.{Byte}
 use Rattle.core_code.specs.declared.code.Byte.TheVariants.{Static, Frame, Result, Device}
 
@@ -243,7 +243,7 @@ writes q to (Some v) c p a s m w = when (is_own q p to (byte_count v)) (goes c p
 
 -- the address of a place as a value
 abbrev pub address_of : Byte → Option Value
-address_of place = option_map Value.Pointer (place_of place)
+address_of place = option_map Pointer (place_of place)
 
 abbrev pub and_then : Option Value → (Value → Option Value) → Option Value
 and_then None f = None
