@@ -5,7 +5,7 @@ use Rattle.pic_isa.specs.declared.Ins.TheVariants.{Addwf, Clrf, Decfsz, Movf, Mo
 use Rattle.pic_isa.specs.Lookup.{row_of}
 use Rattle.pic_chip.specs.State.{State, reset}
 use Rattle.pic_chip.specs.Act.{perform, accesses}
-use Rattle.pic_chip.specs.Address.{Device, place, byte_at}
+use Rattle.pic_chip.specs.Address.{Device, Nothing, place, byte_at}
 use Rattle.pic_chip.specs.Instructions.{row}
 use Rattle.pic_chip.specs.Interrupts.{begun}
 use Rattle.text_lines.specs.Text.{lines_of}
@@ -37,6 +37,10 @@ eight_returns s = after Return (after Return (after Return (after Return (after 
 -- GIE and INTE are set
 abbrev pub enabled : State
 enabled = record fresh { intcon = 0x90; pc = 0x123 }
+
+-- GIE, PEIE and TMR1IE are set
+abbrev pub timed : State
+timed = record fresh { intcon = 0xc0; pie1 = 0x01; pc = 0x123 }
 
 abbrev pub hex_example : List ℕ
 hex_example = codes ":020000040000FA" ++ 10 ∷ codes ":020000000528D1" ++ 13 ∷ 10 ∷ 10 ∷ codes ":00000001FF"
@@ -73,6 +77,14 @@ pub record WorkedExamples : Type 0 where
   pub enters : (begun 2 enabled).pc ∷ (begun 2 enabled).intcon ∷ (begun 2 enabled).pushes ∷ [] ≡ 0x004 ∷ 0x12 ∷ 1 ∷ []
   pub not_enabled : begun 1 enabled ≡ record enabled { intcon = 0x91 }
   pub returns_from : (after Retfie (begun 2 enabled)).pc ∷ (after Retfie (begun 2 enabled)).intcon ∷ [] ≡ 0x123 ∷ 0x92 ∷ []
+  -- timer 1 comes through PEIE and its enable bit, and its flag is one of PIR1
+  pub timer_enters : (begun 8 timed).pc ∷ (begun 8 timed).intcon ∷ (begun 8 timed).pir1 ∷ [] ≡ 0x004 ∷ 0x40 ∷ 0x01 ∷ []
+  pub timer_waits : begun 8 (record timed { intcon = 0x80 }) ≡ record timed { intcon = 0x80; pir1 = 0x01 }
+  pub other_timer_waits : begun 16 timed ≡ record timed { pir1 = 0x02 }
+  -- PIR1 and PIE1 keep what is written, and take nothing of the input list
+  pub keeps_pir1 : (perform (row (0x5a ∷ []) 0 (Movf 0x0c false)) (after (Movwf 0x0c) fresh)).w ≡ 0x90
+  pub keeps_pie1 : (after (Movwf 0x0c) (record fresh { bank = 1 })).pie1 ≡ 0x90
+  pub only_lower_banks : place 2 0x0c ≡ Nothing
   -- a device register is read from the input list: bytes as they come, then 0
   pub reads_input : (perform (row (0x5a ∷ []) 0 (Movf 6 false)) fresh).w ≡ 0x5a
   pub reads_past_input : (perform (row [] 0 (Movf 6 false)) fresh).w ≡ 0

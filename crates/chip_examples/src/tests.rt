@@ -56,10 +56,7 @@ fn run(chip: &mut Chip, image: &Image, script: &Script, steps: u64) -> bool {
 
 fn check(rt: &impl Abort, alloc: Global, small: Small) -> Result<(), AllocError> {
     let image = assembled(alloc, small.words)?;
-    let script = Script {
-        input: Vec::new(alloc),
-        arrivals: Vec::from_slice(alloc, small.arrivals)?,
-    };
+    let script = Script::new(Vec::new(alloc), Vec::from_slice(alloc, small.arrivals)?);
     let mut chip = Chip::reset(&Start {
         w: 0,
         fsr: 0,
@@ -217,6 +214,32 @@ const NOT_ENABLED: &[Arrival] = &[Arrival {
     flag: Flag::Rbif,
 }];
 
+/// A handler that counts in 70h, and a main that enables timer 1.
+const TIMED: &[(u16, u16)] = &[
+    (0x00, 0x2810), // GOTO 10h
+    (0x04, 0x0af0), // INCF 70h,F
+    (0x05, 0x100c), // BCF PIR1,0: TMR1IF
+    (0x06, 0x0009), // RETFIE
+    (0x10, 0x1683), // BSF STATUS,5
+    (0x11, 0x140c), // BSF PIE1,0: TMR1IE
+    (0x12, 0x1283), // BCF STATUS,5
+    (0x13, 0x30c0), // MOVLW C0h: GIE and PEIE
+    (0x14, 0x008b), // MOVWF INTCON
+    (0x15, 0x080c), // MOVF PIR1,W
+    (0x16, 0x00f1), // MOVWF 71h
+    (0x17, 0x2817), // GOTO 17h
+];
+
+const TIMER: &[Arrival] = &[Arrival {
+    t: 6,
+    flag: Flag::Tmr1if,
+}];
+
+const OTHER_TIMER: &[Arrival] = &[Arrival {
+    t: 6,
+    flag: Flag::Tmr2if,
+}];
+
 #[test]
 fn small_images_run_as_the_data_sheet_says(rt: HostRuntime) -> Result<(), Fail> {
     let alloc = rt.alloc();
@@ -299,6 +322,32 @@ fn small_images_run_as_the_data_sheet_says(rt: HostRuntime) -> Result<(), Fail> 
                 0x14,
                 0,
                 &[(0x20, 1), (0x21, 1)],
+            )
+        },
+        Small {
+            arrivals: TIMER,
+            ..ran("a timer", TIMED, 7, 0x05, 1, &[(0x70, 1)])
+        },
+        Small {
+            arrivals: TIMER,
+            ..ran(
+                "a return from the timer",
+                TIMED,
+                11,
+                0x17,
+                0,
+                &[(0x70, 1), (0x71, 0)],
+            )
+        },
+        Small {
+            arrivals: OTHER_TIMER,
+            ..ran(
+                "the other timer",
+                TIMED,
+                8,
+                0x17,
+                0,
+                &[(0x70, 0), (0x71, 2)],
             )
         },
         Small {

@@ -119,12 +119,14 @@ const START: Start = Start {
     ram: [0; 368],
 };
 
-/// Whether an instruction wrote a device register other than INTCON.
+/// Whether an instruction wrote a device register other than INTCON, PIR1 and PIE1.
 fn is_told(accesses: Accesses) -> bool {
     match accesses.write {
         None => false,
         Some(access) => match u8::try_from(access.address) {
-            Ok(register) => register != 0x0b && register_name(register).is_some(),
+            Ok(register) => {
+                !matches!(register, 0x0b | 0x0c | 0x8c) && register_name(register).is_some()
+            }
             Err(_) => false,
         },
     }

@@ -22,6 +22,10 @@ flag_bit Rcif = 256
 flag_bit Adif = 512
 flag_bit Pspif = 1024
 
+-- all flags, in the order of their bits
+abbrev pub flags : List Flag
+flags = Rbif ∷ Intf ∷ Tmr0if ∷ Tmr1if ∷ Tmr2if ∷ Ccp1if ∷ Sspif ∷ Txif ∷ Rcif ∷ Adif ∷ Pspif ∷ []
+
 -- the flags that arrive at this instruction index, as a mask
 abbrev pub arriving : List Arrival → ℕ → ℕ
 arriving [] t = 0

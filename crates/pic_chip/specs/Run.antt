@@ -64,7 +64,7 @@ registers_of (a ∷ rest) = if is_register a.address then a ∷ registers_of res
 -- What is known at a moment, which is a point between two instructions, before an interrupt is taken there.
 pub record Moment : Type 0 where
   pub state : State
-  -- the word of the last instruction was SLEEP or had no row: the run has ended
+  -- the next word is SLEEP or has no row: the run has ended
   pub stopped : Bool
   -- an interrupt was taken, and no RETFIE has run since
   pub handling : Bool
@@ -100,15 +100,13 @@ takes mask m = is_due (control_of (raised mask m.state))
 abbrev pub is_handling : ℕ → Moment → Bool
 is_handling mask m = m.handling || takes mask m
 
--- One instruction, at a boundary where the flags of the mask arrive. At a word that isn't modelled the flags are set and
--- a due interrupt is taken, and nothing else is done.
+-- one instruction, at a boundary where the flags of the mask arrive
 abbrev pub stepped : List ℕ → List ℕ → List Range → ℕ → Moment → Moment
 stepped image inputs ranges mask m =
     let s = begun mask m.state in
     let made = accesses (execute image inputs) s in
     record m {
       state = perform (execute image inputs) s;
-      stopped = not (is_modelled (fetched image s));
       handling = is_handling mask m && not (is_return_from_interrupt (fetched image s));
       early = if m.met then m.early else m.early ++ registers_of made;
       trace = if m.met then m.trace ++ events_of ranges made else m.trace;
@@ -117,9 +115,14 @@ stepped image inputs ranges mask m =
 abbrev pub first_moment : Setting → Moment
 first_moment g = observed g.watch (record { state = reset g.start; stopped = false; handling = false; met = false; ended = false; early = []; trace = [] })
 
--- the next moment, where these flags arrive at this one; where the run has ended nothing comes behind it
+-- where these flags arrive, the run doesn't go on: it has ended, or the word that is met is SLEEP or has no row
+abbrev pub ends_at : List ℕ → ℕ → Moment → Bool
+ends_at image mask m = m.stopped || not (is_modelled (fetched image (begun mask m.state)))
+
+-- The next moment, where these flags arrive at this one. Behind the end of the run everything stays as it was.
 abbrev pub next_moment : List ℕ → List ℕ → Watch → ℕ → Moment → Moment
-next_moment image inputs watch mask m = if m.stopped then m else observed watch (stepped image inputs watch.ranges mask m)
+next_moment image inputs watch mask m =
+    if ends_at image mask m then record m { stopped = true } else observed watch (stepped image inputs watch.ranges mask m)
 
 -- the moment after k instructions from reset
 unfoldable pub moment : Setting → ℕ → Moment

@@ -2,16 +2,17 @@
 -- address of its register.
 use Rattle.std.proofs.Common.{◌≡◌, ℕ, zero, suc, ◌+◌, ◌-◌, ◌*◌, ◌/◌, ◌%◌, ◌<◌, ◌≤◌, Bool, true, false, not, List, [], ◌∷◌, ◌++◌, refl, sym, ap, ◌∙◌, subst, add-zero, append-nil, length, arith, slice_index, Option, Some, None, nat_eq, nat_lt}
 use Rattle.std.specs.Prelude.{if◌then◌else◌, ◌&&◌, ◌||◌, is_some, nat_le, slice_index_or, bit_and, bit_or, bit_xor}
-use Rattle.std.proofs.lemmas.Bool.{agree_below_at, eqb-true, ltb-true, ltb-false}
+use Rattle.std.proofs.lemmas.Bool.{agree_below_at, eqb-true, eq-eqb, ltb-true, lt-ltb, ltb-false}
 use Rattle.pic_isa.specs.declared.Ins.{Ins}
 use Rattle.pic_isa.specs.declared.Ins.TheVariants.{Addwf, Andwf, Clrf, Clrw, Comf, Decf, Decfsz, Incf, Incfsz, Iorwf, Movf, Movwf, Nop, Rlf, Rrf, Subwf, Swapf, Xorwf, Bcf, Bsf, Btfsc, Btfss, Addlw, Andlw, Call, Clrwdt, Goto, Iorlw, Movlw, Retfie, Retlw, Return, Sleep, Sublw, Xorlw}
 use Rattle.pic_isa.specs.Lookup.{row_of, no_row, groups, byte_rows, bit_rows, jump_rows, literal_rows, control_row, clear_row, dest_bit}
-use Rattle.pic_chip.specs.State.{State, AtW, AtPc, AtBank, AtZ, AtC, AtFsr, AtIntcon, put}
+use Rattle.pic_chip.specs.State.{State, AtW, AtPc, AtBank, AtZ, AtC, AtFsr, AtIntcon, AtPir1, put}
 use Rattle.pic_chip.specs.Registers.{Register, registers, register_at, is_among, is_register, lowest, or_itself}
 use Rattle.pic_chip.specs.Act.{Derived, Write, Note, Effect, Made, made, accesses, Act, Ask, Do, value_in, apply, effect, perform}
-use Rattle.pic_chip.specs.Address.{Place, Pcl, Status, Fsr, Pclath, Intcon, General, Device, Nothing, place, indirect, operand, in_every_bank, address_of}
+use Rattle.pic_chip.specs.Address.{Place, Pcl, Status, Fsr, Pclath, Intcon, Pir1, Pie1, General, Device, Nothing, place, indirect, operand, in_every_bank, address_of}
 use Rattle.pic_chip.specs.Instructions.{contents, after_read, store, result_to, byte_row, test_row, write_row, plain_row, is_empty, to, of, part, with_part, number, bit, set_bit, clear_bit, access, note, write_note, following, skipping, z_of, sum, sum_flags, difference, difference_flags, complement, increment, decrement, swap, is_zero, page, push, pop, row, act_of, execute, fetched, is_modelled}
-use Rattle.pic_chip.specs.Interrupts.{enter, raised, begun, is_due}
+use Rattle.pic_chip.specs.Control.{is_stored, is_due}
+use Rattle.pic_chip.specs.Interrupts.{control_of, enter, raised, begun}
 use Rattle.pic_chip.specs.Machine.{wanted, takes_input}
 use Rattle.pic_sim.specs.declared.board.Exchange.{Exchange}
 use Rattle.pic_sim.specs.Board.{is_outside}
@@ -126,19 +127,23 @@ row_holds g (r ∷ rs) h address first e =
     by_test false true is in_it e later = ap (λ n. g n address) (sym (some_inj r.1 first e)) ∙ mirror_holds g r.1 r.2 own.1 address in_it
     by_test false false is in_it e later = later e
 
--- a register's lowest address is its own lowest, and INTCON's alone ends in 0Bh
+-- where INTCON, PIR1 and PIE1 are found
+abbrev is_kept : ℕ → Bool
+is_kept address = nat_eq (address % 128) 0x0b || nat_eq address 0x0c || nat_eq address 0x8c
+
+-- a register's lowest address is its own lowest, and these are found there alone
 abbrev names_itself : ℕ → ℕ → Bool
-names_itself first address = nat_eq (lowest first) first && is_register first && (not (nat_eq first 0x0b) || nat_eq (address % 128) 0x0b)
+names_itself first address = nat_eq (lowest first) first && is_register first && (not (is_stored first) || is_kept address)
 
 abbrev Itself : ℕ → Type 0
 Itself first = (lowest first ≡ first) × (is_outside first ≡ true)
 
-itself : (address first : ℕ) → nat_eq (address % 128) 0x0b ≡ false → register_at registers address ≡ Some first → Itself first
+itself : (address first : ℕ) → is_kept address ≡ false → register_at registers address ≡ Some first → Itself first
 itself address first other e =
     let all = row_holds names_itself registers refl address first e in
-    let parts = both (nat_eq (lowest first) first && is_register first) (not (nat_eq first 0x0b) || nat_eq (address % 128) 0x0b) all in
+    let parts = both (nat_eq (lowest first) first && is_register first) (not (is_stored first) || is_kept address) all in
     let own = both (nat_eq (lowest first) first) (is_register first) parts.0 in
-    (eqb-true (lowest first) first own.0, outside (is_register first) (nat_eq first 0x0b) (nat_eq (address % 128) 0x0b) own.1 other parts.1)
+    (eqb-true (lowest first) first own.0, outside (is_register first) (is_stored first) (is_kept address) own.1 other parts.1)
   where
     outside : (r i t : Bool) → r ≡ true → t ≡ false → (not i || t) ≡ true → (r && not i) ≡ true
     outside true false t hr ht h = refl
@@ -188,31 +193,61 @@ abbrev IsFit : Place → Type 0
 IsFit (Device address) = Itself address
 IsFit _ = Unit {0}
 
-device_fit : (bank low : ℕ) → low < 128 → nat_eq low 11 ≡ false → IsFit (if is_register (0x80 * bank + low) then Device (lowest (0x80 * bank + low)) else Nothing)
-device_fit bank low h other = by_case (register_at registers (0x80 * bank + low)) refl
+device_fit : (bank low : ℕ) → low < 128 → nat_eq low 11 ≡ false → (nat_eq low 12 && nat_lt bank 2) ≡ false → IsFit (if is_register (0x80 * bank + low) then Device (lowest (0x80 * bank + low)) else Nothing)
+device_fit bank low h other peripheral = by_case (register_at registers (0x80 * bank + low)) refl
   where
     low_part : (0x80 * bank + low) % 128 ≡ low
     low_part = omega arith
 
+    apart : (a b : ℕ) → (a ≡ b → ⊥) → nat_eq a b ≡ false
+    apart a b other = by_equal (nat_eq a b) refl
+      where
+        by_equal : (q : Bool) → nat_eq a b ≡ q → q ≡ false
+        by_equal true e = absurd (other (eqb-true a b e))
+        by_equal false e = refl
+
+    no_peripheral : low ≡ 12 → bank < 2 → ⊥
+    no_peripheral e l = both_true (nat_eq low 12) (nat_lt bank 2) (eq-eqb low 12 e) (lt-ltb bank 2 l) peripheral
+      where
+        both_true : (a b : Bool) → a ≡ true → b ≡ true → (a && b) ≡ false → ⊥
+        both_true true true ha hb h = cc
+        both_true true false ha hb h = cc
+        both_true false b ha hb h = cc
+
+    none_kept : (a b c : Bool) → a ≡ false → b ≡ false → c ≡ false → (a || b || c) ≡ false
+    none_kept false false false ha hb hc = refl
+    none_kept true b c ha hb hc = absurd (cc)
+    none_kept a true c ha hb hc = absurd (cc)
+    none_kept a b true ha hb hc = absurd (cc)
+
+    not_kept : is_kept (0x80 * bank + low) ≡ false
+    not_kept =
+        none_kept (nat_eq ((0x80 * bank + low) % 128) 0x0b) (nat_eq (0x80 * bank + low) 0x0c) (nat_eq (0x80 * bank + low) 0x8c)
+        (ap (λ n. nat_eq n 0x0b) low_part ∙ other)
+        (apart (0x80 * bank + low) 0x0c (λ e. no_peripheral (omega (arith, e, h)) (omega (arith, e, h))))
+        (apart (0x80 * bank + low) 0x8c (λ e. no_peripheral (omega (arith, e, h)) (omega (arith, e, h))))
+
     by_case : (o : Option ℕ) → register_at registers (0x80 * bank + low) ≡ o → IsFit (if is_some o then Device (or_itself (0x80 * bank + low) o) else Nothing)
     by_case None e = tt
-    by_case (Some first) e = itself (0x80 * bank + low) first (ap (λ n. nat_eq n 0x0b) low_part ∙ other) e
+    by_case (Some first) e = itself (0x80 * bank + low) first not_kept e
 
 place_fit : (bank low : ℕ) → low < 128 → IsFit (place bank low)
-place_fit bank low h = by_tests (nat_eq low 2) (nat_eq low 3) (nat_eq low 4) (nat_eq low 10) (nat_eq low 11) refl (nat_le 0x70 low) (nat_le (if nat_lt bank 2 then 0x20 else 0x10) low)
+place_fit bank low h = by_tests (nat_eq low 2) (nat_eq low 3) (nat_eq low 4) (nat_eq low 10) (nat_eq low 11) refl (nat_eq low 12 && nat_lt bank 2) refl (nat_eq bank 0) (nat_le 0x70 low) (nat_le (if nat_lt bank 2 then 0x20 else 0x10) low)
   where
-    by_tests : (a b c d e : Bool) → nat_eq low 11 ≡ e → (f g : Bool) → IsFit (
-        if a then Pcl else if b then Status else if c then Fsr else if d then Pclath else if e then Intcon else
+    by_tests : (a b c d e : Bool) → nat_eq low 11 ≡ e → (p : Bool) → (nat_eq low 12 && nat_lt bank 2) ≡ p → (q f g : Bool) → IsFit (
+        if a then Pcl else if b then Status else if c then Fsr else if d then Pclath else if e then Intcon else if p then (if q then Pir1 else Pie1) else
         if f then General (low - 0x20) else if g then General (0x60 * bank + low - 0x20) else
         if is_register (0x80 * bank + low) then Device (lowest (0x80 * bank + low)) else Nothing)
-    by_tests true b c d e is f g = tt
-    by_tests false true c d e is f g = tt
-    by_tests false false true d e is f g = tt
-    by_tests false false false true e is f g = tt
-    by_tests false false false false true is f g = tt
-    by_tests false false false false false is true g = tt
-    by_tests false false false false false is false true = tt
-    by_tests false false false false false is false false = device_fit bank low h is
+    by_tests true b c d e is p at q f g = tt
+    by_tests false true c d e is p at q f g = tt
+    by_tests false false true d e is p at q f g = tt
+    by_tests false false false true e is p at q f g = tt
+    by_tests false false false false true is p at q f g = tt
+    by_tests false false false false false is true at true f g = tt
+    by_tests false false false false false is true at false f g = tt
+    by_tests false false false false false is false at q true g = tt
+    by_tests false false false false false is false at q false true = tt
+    by_tests false false false false false is false at q false false = device_fit bank low h is at
 
 indirect_fit : (address : ℕ) → IsFit (indirect address)
 indirect_fit address = by_test (nat_eq (address % 128) 0)
@@ -239,6 +274,8 @@ store_keeps false Status v before t = refl
 store_keeps plain Fsr v before t = refl
 store_keeps plain Pclath v before t = refl
 store_keeps plain Intcon v before t = refl
+store_keeps plain Pir1 v before t = refl
+store_keeps plain Pie1 v before t = refl
 store_keeps plain (General k) v before t = refl
 store_keeps plain (Device a) v before t = refl
 store_keeps plain Nothing v before t = refl
@@ -248,7 +285,7 @@ result_keeps true p v flags h = append_keeps (store (is_empty flags) p v) flags 
 result_keeps false p v flags h = λ before t. h before (put t AtW (value_in before v))
 
 -- ---- an instruction's effect
--- Its reads of device registers other than INTCON are what it wants of the input list, each by one place of the list; and
+-- Its reads of device registers other than INTCON, PIR1 and PIE1 are what it wants of the input list, each by one place of the list; and
 -- its accesses are named by lowest addresses.
 pub record IsPlain (inputs : List ℕ) (s : State) (e : Effect) : Type 0 where
   pub reads : reads_of (made e.notes s) ≡ given_of (wanted (made e.notes s)) (slice_index inputs s.taken)
@@ -289,7 +326,7 @@ module _ (inputs : List ℕ) (s : State) where
   }
 
   general_outside : (k : ℕ) → is_outside (address_of k) ≡ false
-  general_outside k = ap (λ b. b && not (nat_eq (address_of k) 0x0b)) (general_plain k)
+  general_outside k = ap (λ b. b && not (is_stored (address_of k))) (general_plain k)
 
   one_read : (address byte : ℕ) (t : Bool) → t ≡ true → byte ≡ slice_index inputs s.taken → (if t then (let one : List Exchange = (record { register = address; value = byte }) ∷ [] in one) else []) ≡ given_of (if t then Some address else None) (slice_index inputs s.taken)
   one_read address byte true h e = ap (λ (x : ℕ). let one : List Exchange = (record { register = address; value = x }) ∷ [] in one) e
@@ -310,6 +347,10 @@ module _ (inputs : List ℕ) (s : State) where
   read_notes Pclath h false r = quiet_read 10 refl refl (contents inputs s.pc Pclath)
   read_notes Intcon h true r = quiet_both 11 refl refl (contents inputs s.pc Intcon) r
   read_notes Intcon h false r = quiet_read 11 refl refl (contents inputs s.pc Intcon)
+  read_notes Pir1 h true r = quiet_both 12 refl refl (contents inputs s.pc Pir1) r
+  read_notes Pir1 h false r = quiet_read 12 refl refl (contents inputs s.pc Pir1)
+  read_notes Pie1 h true r = quiet_both 0x8c refl refl (contents inputs s.pc Pie1) r
+  read_notes Pie1 h false r = quiet_read 0x8c refl refl (contents inputs s.pc Pie1)
   read_notes (General k) h true r = quiet_both (address_of k) (general_outside k) (plain_lowest (address_of k) (general_plain k)) (contents inputs s.pc (General k)) r
   read_notes (General k) h false r = quiet_read (address_of k) (general_outside k) (plain_lowest (address_of k) (general_plain k)) (contents inputs s.pc (General k))
   read_notes (Device a) h true r = record {
@@ -369,6 +410,8 @@ module _ (inputs : List ℕ) (s : State) where
   write_notes Fsr h v = record { reads = refl; counted = refl; low = (refl, tt) }
   write_notes Pclath h v = record { reads = refl; counted = refl; low = (refl, tt) }
   write_notes Intcon h v = record { reads = refl; counted = refl; low = (refl, tt) }
+  write_notes Pir1 h v = record { reads = refl; counted = refl; low = (refl, tt) }
+  write_notes Pie1 h v = record { reads = refl; counted = refl; low = (refl, tt) }
   write_notes (General k) h v = record { reads = refl; counted = refl; low = (plain_lowest (address_of k) (general_plain k), tt) }
   write_notes (Device a) h v = record { reads = refl; counted = refl; low = (h.0, tt) }
   write_notes Nothing h v = record { reads = refl; counted = refl; low = tt }
@@ -451,18 +494,27 @@ wants_outside [] = tt
 wants_outside (x ∷ xs) = by_test (takes_input x) refl (wants_outside xs)
   where
     by_test : (b : Bool) → takes_input x ≡ b → IsWanted (wanted xs) → IsWanted (if b then Some x.address else wanted xs)
-    by_test true e later = only_reads x.write (is_register x.address) (not (nat_eq x.address 0x0b)) e
+    by_test true e later = only_reads x.write (is_register x.address) (not (is_stored x.address)) e
     by_test false e later = later
 
 -- ---- boundaries
 pub begun_count : (mask : ℕ) (s : State) → (begun mask s).taken ≡ s.taken
-begun_count mask s = by_test (is_due (raised mask s).intcon)
+begun_count mask s = by_test (is_due (control_of (raised mask s)))
   where
     by_test : (b : Bool) → (if b then perform enter (raised mask s) else raised mask s).taken ≡ s.taken
     by_test true = refl
     by_test false = refl
 
--- of a mask, bits 0 to 2 alone count
-pub begun_same : (mask other : ℕ) (s : State) → mask % 8 ≡ other % 8 → begun mask s ≡ begun other s
+-- what begins with these flags of INTCON and of PIR1
+begun_with : ℕ → ℕ → State → State
+begun_with low high s =
+    let r = perform (plain_row (to AtIntcon (of (λ x. bit_or x low) (part AtIntcon)) ∷ to AtPir1 (of (λ x. bit_or x high) (part AtPir1)) ∷ [])) s in
+    if is_due (control_of r) then perform enter r else r
+
+-- of a mask, bits 0 to 10 alone count
+pub begun_same : (mask other : ℕ) (s : State) → mask % 2048 ≡ other % 2048 → begun mask s ≡ begun other s
+unfolding begun_with
 begun_same mask other s e =
-    ap (λ (k : ℕ). let r = perform (plain_row (to AtIntcon (of (λ x. bit_or x k) (part AtIntcon)) ∷ [])) s in if is_due r.intcon then perform enter r else r) e
+    let low : mask % 8 ≡ other % 8 = omega (arith, e) in
+    let high : mask / 8 % 256 ≡ other / 8 % 256 = omega (arith, e) in
+    ap (λ (k : ℕ). begun_with k (mask / 8 % 256) s) low ∙ ap (λ (k : ℕ). begun_with (other % 8) k s) high

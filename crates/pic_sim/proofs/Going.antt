@@ -1,12 +1,12 @@
 -- Runs over a board, instruction by instruction.
-use Rattle.std.proofs.Common.{◌≡◌, ℕ, suc, ◌+◌, ◌%◌, ◌<◌, ◌≤◌, Bool, true, false, List, [], ◌∷◌, ◌++◌, refl, sym, ap, ◌∙◌, subst, add-zero, append-nil, append_assoc, length-append, length, arith, None, nat_eq}
-use Rattle.std.specs.Prelude.{if◌then◌else◌, ◌&&◌}
+use Rattle.std.proofs.Common.{◌≡◌, ℕ, suc, ◌+◌, ◌%◌, ◌<◌, ◌≤◌, Bool, true, false, List, [], ◌∷◌, ◌++◌, refl, sym, ap, ◌∙◌, subst, add-zero, append-nil, append_assoc, length-append, length, arith, None, Some, not, nat_eq}
+use Rattle.std.specs.Prelude.{if◌then◌else◌, ◌&&◌, ◌||◌}
 use Rattle.std.proofs.lemmas.Bool.{eqb-true, eqb-false}
 use Rattle.pic_chip.specs.Act.{Made, accesses}
-use Rattle.pic_chip.specs.Instructions.{execute}
+use Rattle.pic_chip.specs.Instructions.{execute, fetched, is_modelled}
 use Rattle.pic_chip.specs.Interrupts.{arriving}
 use Rattle.pic_chip.specs.Machine.{stop_at, takes_input}
-use Rattle.pic_chip.specs.Run.{Moment, observed, stepped}
+use Rattle.pic_chip.specs.Run.{Moment, observed, stepped, next_moment}
 use Rattle.pic_map.specs.Tracing.{Tracing}
 use Rattle.pic_sim.specs.declared.board.Exchange.{Exchange}
 use Rattle.pic_sim.specs.Board.{is_outside}
@@ -46,18 +46,18 @@ bytes_join inputs place (x ∷ xs) ys hx hy =
     let e : place + length (x ∷ xs) ≡ place + 1 + length xs = omega arith in
     (hx.0, bytes_join inputs (place + 1) xs ys hx.1 (subst (λ (n : ℕ). HasBytes inputs n ys) e hy))
 
-masks_split : (masks : ℕ → ℕ) (index : ℕ) (xs : List ℕ) (y : ℕ) → HasMasks masks index (xs ++ y ∷ []) → HasMasks masks index xs × (masks (index + length xs) % 8 ≡ y % 8)
-masks_split masks index [] y h = (tt, ap (λ (n : ℕ). masks n % 8) (add-zero index) ∙ h.0)
+masks_split : (masks : ℕ → ℕ) (index : ℕ) (xs : List ℕ) (y : ℕ) → HasMasks masks index (xs ++ y ∷ []) → HasMasks masks index xs × (masks (index + length xs) % 2048 ≡ y % 2048)
+masks_split masks index [] y h = (tt, ap (λ (n : ℕ). masks n % 2048) (add-zero index) ∙ h.0)
 masks_split masks index (x ∷ xs) y h =
     let rest = masks_split masks (index + 1) xs y h.1 in
     let e : index + length (x ∷ xs) ≡ index + 1 + length xs = omega arith in
-    ((h.0, rest.0), ap (λ (n : ℕ). masks n % 8) e ∙ rest.1)
+    ((h.0, rest.0), ap (λ (n : ℕ). masks n % 2048) e ∙ rest.1)
 
-masks_join : (masks : ℕ → ℕ) (index : ℕ) (xs : List ℕ) (y : ℕ) → HasMasks masks index xs → masks (index + length xs) % 8 ≡ y % 8 → HasMasks masks index (xs ++ y ∷ [])
-masks_join masks index [] y hx hy = (ap (λ (n : ℕ). masks n % 8) (sym (add-zero index)) ∙ hy, tt)
+masks_join : (masks : ℕ → ℕ) (index : ℕ) (xs : List ℕ) (y : ℕ) → HasMasks masks index xs → masks (index + length xs) % 2048 ≡ y % 2048 → HasMasks masks index (xs ++ y ∷ [])
+masks_join masks index [] y hx hy = (ap (λ (n : ℕ). masks n % 2048) (sym (add-zero index)) ∙ hy, tt)
 masks_join masks index (x ∷ xs) y hx hy =
     let e : index + 1 + length xs ≡ index + length (x ∷ xs) = omega arith in
-    (hx.0, masks_join masks (index + 1) xs y hx.1 (ap (λ (n : ℕ). masks n % 8) e ∙ hy))
+    (hx.0, masks_join masks (index + 1) xs y hx.1 (ap (λ (n : ℕ). masks n % 2048) e ∙ hy))
 
 -- ---- from instruction to instruction
 no_steps : (image : List ℕ) (a : Around) (m : Moment) (p : Point) → IsAt a m p → Leads image a m 0 [] p p
@@ -86,6 +86,12 @@ ran_none image p = record {
 smaller : (j k : ℕ) → j < suc k → (j ≡ k → ⊥) → j < k
 smaller j k below other = omega (arith, below, other)
 
+-- a run that hasn't ended goes on at a word of the model
+goes_on : (stopped b : Bool) (pc : ℕ) → stopped ≡ false → (if b then None else Some pc) ≡ None → (stopped || not b) ≡ false
+goes_on false true pc h e = refl
+goes_on false false pc h e = absurd (cc)
+goes_on true b pc h e = absurd (cc)
+
 -- what one more instruction adds, where it has this index
 one_more : (image : List ℕ) (a : Around) (m : Moment) (k : ℕ) (xs ys : List Exchange) (p q r : Point) → q.chip.index ≡ p.chip.index + k → Leads image a m k xs p q → Follows image a (after image a p.chip.index m k) ys q r → Leads image a m (suc k) (xs ++ ys) p r
 unfolding after made_in
@@ -94,7 +100,9 @@ one_more image a m k xs ys p q r place done next =
     let made = accesses (execute image a.inputs) (begun_at a (p.chip.index + k) before) in
     let same = ap (λ (i : ℕ). accesses (execute image a.inputs) (begun_at a i before)) place in
     record {
-      at = subst (λ (i : ℕ). IsAt a (observed a.watch (stepped image a.inputs a.watch.ranges (a.masks i) before)) r) place next.at;
+      at = subst (λ (i : ℕ). IsAt a (next_moment image a.inputs a.watch (a.masks i) before) r) place
+          (subst (λ (b : Bool). IsAt a (if b then record before { stopped = true } else observed a.watch (stepped image a.inputs a.watch.ranges (a.masks q.chip.index) before)) r)
+          (sym (goes_on before.stopped (is_modelled (fetched image (begun_at a q.chip.index before))) (begun_at a q.chip.index before).pc done.at.going next.modelled)) next.at);
       reads = ap (λ (zs : List Exchange). zs ++ ys) done.reads ∙ ap (λ (zs : List Exchange). reads_of (made_in image a p.chip.index m k) ++ zs) (next.reads ∙ ap reads_of same)
           ∙ sym (reads-append (made_in image a p.chip.index m k) made);
       writes = next.writes ∙ ap (λ (zs : List Exchange). zs ++ writes_of (accesses (execute image a.inputs) (begun_at a q.chip.index before))) done.writes
@@ -130,7 +138,7 @@ ran_on image k p q r done next = record {
       let place : p.chip.index + length done.raised ≡ q.chip.index = ap (λ (n : ℕ). p.chip.index + n) done.count ∙ sym done.index in
       one_more image a m k done.given next.given p q r done.index first
       (next.run a (after image a p.chip.index m k) (subst (λ (n : ℕ). HasBytes a.inputs n next.given) (sym first.place) b.1)
-      (subst (λ (n : ℕ). a.masks n % 8 ≡ next.mask % 8) place f.1) first.at);
+      (subst (λ (n : ℕ). a.masks n % 2048 ≡ next.mask % 2048) place f.1) first.at);
   follows = next.follows ∙ done.follows;
   by_script = λ script e.
       let before = done.by_script script e in
@@ -138,7 +146,7 @@ ran_on image k p q r done next = record {
       let places : length q.board.lists.given ≡ length p.board.lists.given + length done.given = ap length done.given_now ∙ length-append p.board.lists.given done.given in
       let index : q.chip.index ≡ p.chip.index + length done.raised = done.index ∙ ap (λ (n : ℕ). p.chip.index + n) (sym done.count) in (
         bytes_join script.input (length p.board.lists.given) done.given next.given before.0 (subst (λ (n : ℕ). HasBytes script.input n next.given) places now.1),
-        masks_join (arriving script.arrivals) p.chip.index done.raised next.mask before.1 (ap (λ (n : ℕ). n % 8) (sym (now.0 ∙ ap (arriving script.arrivals) index))),
+        masks_join (arriving script.arrivals) p.chip.index done.raised next.mask before.1 (ap (λ (n : ℕ). n % 2048) (sym (now.0 ∙ ap (arriving script.arrivals) index))),
       );
 }
 

@@ -1,6 +1,5 @@
 mod Accesses
 mod Answering
-mod ArrivalMasks
 mod FromReset
 mod Going
 mod Stepping

@@ -1,6 +1,6 @@
 -- One instruction over a board, from its parts.
 use Rattle.std.proofs.Common.{◌≡◌, ℕ, ◌+◌, ◌%◌, Bool, true, false, not, List, [], ◌∷◌, ◌++◌, refl, sym, ap, ◌∙◌, subst, append-nil, append_assoc, length, slice_index, Option, Some, None, nat_eq, IsSome, IfSome}
-use Rattle.std.specs.Prelude.{if◌then◌else◌, ◌&&◌}
+use Rattle.std.specs.Prelude.{if◌then◌else◌, ◌&&◌, ◌||◌}
 use Rattle.pic_chip.specs.declared.Event.{Event}
 use Rattle.pic_chip.specs.declared.Event.TheVariants as events
 use Rattle.pic_chip.specs.declared.access.Accesses.{Accesses}
@@ -142,6 +142,7 @@ record Looks (m o : Moment) (new : Tracing) (more : List Event) : Type 0 where
   met : o.met ≡ new.met
   ended : o.ended ≡ new.ended
   trace : o.trace ≡ m.trace ++ more
+  stopped : o.stopped ≡ m.stopped
 
 abbrev see : Bool → Bool → Bool → Moment → Moment
 see b c x m = if b then (if c then record m { ended = true; trace = m.trace ++ events.End ∷ [] } else m) else record m { met = x }
@@ -157,9 +158,9 @@ looks w m t ew em ee =
     (by_tests t.met (nat_eq pc t.watch.halt && not t.ended) (nat_eq pc t.watch.main))
   where
     by_tests : (b c x : Bool) → Looks m (see b c x m) (if b then (if c then record t { ended = true } else t) else record t { met = x }) (if b then (if c then events.End ∷ [] else []) else [])
-    by_tests true true x = record { state = refl; met = em; ended = refl; trace = refl }
-    by_tests true false x = record { state = refl; met = em; ended = ee; trace = sym (append-nil m.trace) }
-    by_tests false c x = record { state = refl; met = refl; ended = ee; trace = sym (append-nil m.trace) }
+    by_tests true true x = record { state = refl; met = em; ended = refl; trace = refl; stopped = refl }
+    by_tests true false x = record { state = refl; met = em; ended = ee; trace = sym (append-nil m.trace); stopped = refl }
+    by_tests false c x = record { state = refl; met = refl; ended = ee; trace = sym (append-nil m.trace); stopped = refl }
 
 -- the moments that are watched stay the same ones
 watch_kept : (pc : ℕ) (t : Tracing) → t.watch ≡ (looked pc t).watch
@@ -188,7 +189,7 @@ one_on false pc index e = absurd (cc)
 module _ (image : List ℕ) (done : Accesses) (old new : Point) (pc_now : ℕ) (pc_is : pc_now ≡ new.chip.state.pc) (act : Acted image (Done done) old.chip new.chip old.board new.board)
     (events_now : AreLowest (seen done) → new.events ≡ old.events ++ shown_all (seen done) old.tracing ++ told pc_now old.tracing)
     (tracing_now : new.tracing ≡ looked pc_now old.tracing) where
-  follows_from : (a : Around) (m : Moment) → HasBytes a.inputs old.chip.state.taken act.given → a.masks old.chip.index % 8 ≡ act.mask % 8 → IsAt a m old → Follows image a m act.given old new
+  follows_from : (a : Around) (m : Moment) → HasBytes a.inputs old.chip.state.taken act.given → a.masks old.chip.index % 2048 ≡ act.mask % 2048 → IsAt a m old → Follows image a m act.given old new
   follows_from a m bytes mask at =
       let t = old.tracing in
       let begins : begun_at a old.chip.index m ≡ begun act.mask old.chip.state = ap (begun (a.masks old.chip.index)) at.state ∙ begun_same (a.masks old.chip.index) act.mask old.chip.state mask in
@@ -210,6 +211,7 @@ module _ (image : List ℕ) (done : Accesses) (old new : Point) (pc_now : ℕ) (
               ∙ ap (λ (z : List Event). z ++ shown_all (seen done) t ++ told pc_now t) at.trace
               ∙ sym (events_now low);
           watch = at.watch ∙ watch_kept pc_now t ∙ ap (λ (u : Tracing). u.watch) (sym tracing_now);
+          going = look.stopped ∙ at.going;
         };
         reads = act.reads a.inputs bytes ∙ ap reads_of (sym made);
         writes = act.taken_now a.inputs bytes ∙ ap (λ (z : List Made). old.board.lists.taken ++ writes_of z) (sym made);
@@ -235,6 +237,10 @@ steps_at_end image done end old new pc_now is pc_is act =
     steps_from image done old new pc_now pc_is (subst (λ (e : StepEnd). Acted image e old.chip new.chip old.board new.board) is act)
 
 -- ---- where the model goes no further
+or_not : (b c : Bool) → c ≡ false → (b || not c) ≡ true
+or_not true c h = refl
+or_not false c h = ap not h
+
 stops_from : (image : List ℕ) (pc : ℕ) (old new : Point) → Acted image (Unmodelled pc) old.chip new.chip old.board new.board → new.tracing ≡ old.tracing → new.events ≡ old.events → Stops image pc old new
 stops_from image pc old new act tracing events =
     let all = act.unchanged refl in
@@ -249,6 +255,10 @@ stops_from image pc old new act tracing events =
       tracing = tracing;
       events = events;
       by_script = λ script e. (act.by_script script e).0;
+      ends = λ a m mask at.
+          let begins : begun_at a old.chip.index m ≡ begun act.mask old.chip.state = ap (begun (a.masks old.chip.index)) at.state ∙ begun_same (a.masks old.chip.index) act.mask old.chip.state mask in
+          or_not m.stopped (is_modelled (fetched image (begun_at a old.chip.index m)))
+          (ap (λ (s : State). is_modelled (fetched image s)) begins ∙ not_modelled image (begun act.mask old.chip.state) (Some pc) act.stopped refl);
     }
 
 pub stops_at_end : (image : List ℕ) (pc : ℕ) (end : StepEnd) (old new : Point) → end ≡ Unmodelled pc → Acted image end old.chip new.chip old.board new.board → new.tracing ≡ old.tracing → new.events ≡ old.events → Stops image pc old new

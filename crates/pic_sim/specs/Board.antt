@@ -1,6 +1,7 @@
 -- What a board keeps, and what it is asked.
-use Rattle.std.specs.Prelude.{ℕ, Bool, not, ◌&&◌, nat_eq, List}
+use Rattle.std.specs.Prelude.{ℕ, Bool, not, ◌&&◌, List}
 use Rattle.pic_chip.specs.Registers.{is_register}
+use Rattle.pic_chip.specs.Control.{is_stored}
 use Rattle.pic_chip.specs.declared.Arrival.{Arrival}
 use Rattle.pic_chip.specs.declared.script.Script.{Script}
 use Rattle.pic_sim.specs.declared.board.Exchange.{Exchange}
@@ -22,6 +23,6 @@ pub record Followed : Type 0 where
 abbrev pub followed : Script → Followed
 followed s = record { input = s.input.items; arrivals = s.arrivals.items }
 
--- the device registers other than INTCON, by their lowest addresses or others
+-- the device registers other than INTCON, PIR1 and PIE1, by their lowest addresses or others
 abbrev pub is_outside : ℕ → Bool
-is_outside address = is_register address && not (nat_eq address 0x0b)
+is_outside address = is_register address && not (is_stored address)

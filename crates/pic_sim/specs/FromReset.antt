@@ -1,14 +1,13 @@
 -- Runs over a board as runs from reset.
-use Rattle.std.specs.Prelude.{ℕ, ◌+◌, ◌/◌, ◌%◌, ◌≡◌, false, nat_eq, if◌then◌else◌, List, [], ◌∷◌, ◌++◌, length, Some}
+use Rattle.std.specs.Prelude.{ℕ, ◌+◌, ◌/◌, ◌%◌, ◌≡◌, true, false, nat_eq, if◌then◌else◌, List, [], ◌∷◌, ◌++◌, length, Some}
 use Rattle.pic_chip.specs.declared.Arrival.{Arrival}
 use Rattle.pic_chip.specs.declared.Flag.{Flag}
-use Rattle.pic_chip.specs.declared.Flag.TheVariants.{Rbif, Intf, Tmr0if}
 use Rattle.pic_chip.specs.State.{reset}
-use Rattle.pic_chip.specs.Interrupts.{arriving}
-use Rattle.pic_chip.specs.Run.{Setting, moment}
+use Rattle.pic_chip.specs.Interrupts.{flag_bit, flags, arriving}
+use Rattle.pic_chip.specs.Run.{Setting, Moment, moment}
 use Rattle.pic_map.specs.Tracing.{looked}
 use Rattle.pic_sim.specs.declared.board.Exchange.{Exchange}
-use Rattle.pic_sim.specs.Going.{Around, Point, IsAt, Ran, HasBytes, HasMasks}
+use Rattle.pic_sim.specs.Going.{Around, Point, IsAt, Ran, Stops, HasBytes, HasMasks}
 
 -- what a run from reset depends on besides the image
 abbrev pub around : Setting → Around
@@ -22,10 +21,13 @@ bytes_of (x ∷ xs) = x.value ∷ bytes_of xs
 abbrev pub arrival : ℕ → Flag → List Arrival
 arrival t flag = (record { t = t; flag = flag }) ∷ []
 
--- the flags of a mask, by its bits 0 to 2
+-- the arrivals of some flags, where a mask has their bits
+unfoldable pub flags_among : List Flag → ℕ → ℕ → List Arrival
+flags_among [] t mask = []
+flags_among (flag ∷ rest) t mask = (if nat_eq (mask / flag_bit flag % 2) 1 then arrival t flag else []) ++ flags_among rest t mask
+
 abbrev pub flags_at : ℕ → ℕ → List Arrival
-flags_at t mask =
-    (if nat_eq (mask % 2) 1 then arrival t Rbif else []) ++ (if nat_eq (mask / 2 % 2) 1 then arrival t Intf else []) ++ (if nat_eq (mask / 4 % 2) 1 then arrival t Tmr0if else [])
+flags_at t mask = flags_among flags t mask
 
 -- the arrivals of masks, the first of which stands at index t
 abbrev pub arrivals_of : ℕ → List ℕ → List Arrival
@@ -59,3 +61,9 @@ abbrev pub GoesOnByScript : Type 0
 GoesOnByScript =
     (g : Setting) (k : ℕ) (old new : Point) → Ran g.image k old new → old.board.follows ≡ Some (record { input = g.inputs; arrivals = g.arrivals }) → length old.board.lists.given ≡ old.chip.state.taken
     → IsAt (around g) (moment g old.chip.index) old → IsAt (around g) (moment g (old.chip.index + k)) new
+
+-- Where the model goes no further the run from reset ends: each later moment is the one at which it stopped.
+abbrev pub StopsForGood : Type 0
+StopsForGood =
+    (g : Setting) (pc k : ℕ) (old new : Point) (stop : Stops g.image pc old new) → arriving g.arrivals old.chip.index % 2048 ≡ stop.mask % 2048
+    → IsAt (around g) (moment g old.chip.index) old → moment g (old.chip.index + 1 + k) ≡ record (moment g old.chip.index) { stopped = true }

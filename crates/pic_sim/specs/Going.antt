@@ -1,13 +1,13 @@
 -- What a run over a board is. The definitions of one instruction and of a moment are those of the chip's run from
 -- reset; here a run goes on from any moment, with any input list and any flags that arrive.
-use Rattle.std.specs.Prelude.{ℕ, zero, suc, ◌+◌, ◌%◌, ◌≡◌, ◌<◌, ◌≤◌, ◌&&◌, if◌then◌else◌, List, [], ◌∷◌, ◌++◌, length, slice_index, Option, Some, None}
+use Rattle.std.specs.Prelude.{ℕ, zero, suc, ◌+◌, ◌%◌, ◌≡◌, ◌<◌, ◌≤◌, true, false, ◌&&◌, if◌then◌else◌, List, [], ◌∷◌, ◌++◌, length, slice_index, Option, Some, None}
 use Rattle.pic_chip.specs.declared.Event.{Event}
 use Rattle.pic_chip.specs.State.{State}
 use Rattle.pic_chip.specs.Act.{Made, accesses}
 use Rattle.pic_chip.specs.Instructions.{execute}
 use Rattle.pic_chip.specs.Interrupts.{arriving, begun}
 use Rattle.pic_chip.specs.Machine.{Machine, stop_at, takes_input}
-use Rattle.pic_chip.specs.Run.{Watch, Moment, observed, stepped}
+use Rattle.pic_chip.specs.Run.{Watch, Moment, ends_at, next_moment}
 use Rattle.pic_map.specs.Tracing.{Tracing}
 use Rattle.pic_sim.specs.declared.board.Exchange.{Exchange}
 use Rattle.pic_sim.specs.declared.running.SimEnd.{SimEnd}
@@ -24,7 +24,7 @@ pub record Around : Type 0 where
 -- the moment after k instructions from this one, at which the next instruction has this index
 unfoldable pub after : List ℕ → Around → ℕ → Moment → ℕ → Moment
 after image a index m zero = m
-after image a index m (suc k) = observed a.watch (stepped image a.inputs a.watch.ranges (a.masks (index + k)) (after image a index m k))
+after image a index m (suc k) = next_moment image a.inputs a.watch (a.masks (index + k)) (after image a index m k)
 
 -- the state in which an instruction runs: the flags were set, and an interrupt that was due was taken
 abbrev pub begun_at : Around → ℕ → Moment → State
@@ -36,7 +36,7 @@ made_in image a index m zero = []
 made_in image a index m (suc k) = made_in image a index m k ++ accesses (execute image a.inputs) (begun_at a (index + k) (after image a index m k))
 
 -- ---- what goes to a board
--- the reads of device registers other than INTCON
+-- the reads of device registers other than INTCON, PIR1 and PIE1
 abbrev pub reads_of : List Made → List Exchange
 reads_of [] = []
 reads_of (x ∷ xs) = if takes_input x then (record { register = x.address; value = x.byte }) ∷ reads_of xs else reads_of xs
@@ -51,10 +51,10 @@ abbrev pub HasBytes : List ℕ → ℕ → List Exchange → Type 0
 HasBytes inputs place [] = Unit {0}
 HasBytes inputs place (x ∷ xs) = (slice_index inputs place ≡ x.value) × HasBytes inputs (place + 1) xs
 
--- From this index on these masks arrive. Their bits 0 to 2 alone count.
+-- From this index on these masks arrive. Their bits 0 to 10 alone count.
 abbrev pub HasMasks : (ℕ → ℕ) → ℕ → List ℕ → Type 0
 HasMasks masks index [] = Unit {0}
-HasMasks masks index (x ∷ xs) = (masks index % 8 ≡ x % 8) × HasMasks masks (index + 1) xs
+HasMasks masks index (x ∷ xs) = (masks index % 2048 ≡ x % 2048) × HasMasks masks (index + 1) xs
 
 -- ---- a run over a board
 -- what is known of a board
@@ -72,13 +72,14 @@ pub record Point : Type 0 where
 abbrev pub point : Machine → Tracing → List Event → Lists → Option Followed → Point
 point chip tracing events lists follows = record { chip = chip; tracing = tracing; events = events; board = record { lists = lists; follows = follows } }
 
--- the state, what is remembered of the moments so far, and the trace are those of this moment
+-- the state, what is remembered of the moments so far, and the trace are those of this moment, at which the run goes on
 pub record IsAt (a : Around) (m : Moment) (p : Point) : Type 0 where
   pub state : m.state ≡ p.chip.state
   pub met : m.met ≡ p.tracing.met
   pub ended : m.ended ≡ p.tracing.ended
   pub trace : m.trace ≡ p.events
   pub watch : a.watch ≡ p.tracing.watch
+  pub going : m.stopped ≡ false
 
 -- k instructions from a moment lead from one point to another. The board was asked for these bytes.
 pub record Leads (image : List ℕ) (a : Around) (m : Moment) (k : ℕ) (given : List Exchange) (old new : Point) : Type 0 where
@@ -119,6 +120,8 @@ pub record Stops (image : List ℕ) (pc : ℕ) (old new : Point) : Type 0 where
   pub tracing : new.tracing ≡ old.tracing
   pub events : new.events ≡ old.events
   pub by_script : (script : Followed) → old.board.follows ≡ Some script → mask ≡ arriving script.arrivals old.chip.index
+  -- the chip's run ends here, from any moment at which chip, tracer and trace stand
+  pub ends : (a : Around) (m : Moment) → a.masks old.chip.index % 2048 ≡ mask % 2048 → IsAt a m old → ends_at image (a.masks old.chip.index) m ≡ true
 
 -- one more entry at most
 pub record MayGrow {X : Type 0} (old new : List X) : Type 0 where

@@ -3,4 +3,3 @@ pub mod ScriptBoard
 pub mod Going
 pub mod Step
 pub mod FromReset
-pub mod Arrivals

@@ -8,7 +8,7 @@ abbrev pub lists_of : ScriptBoard → Lists
 lists_of board = record { given = board.given.items; taken = board.taken.items; raised = board.raised.items }
 
 abbrev pub script_of : ScriptBoard → Followed
-script_of board = followed board.timed.script
+script_of board = followed board.script
 
 -- the least number of entries that one of its lists has space for
 abbrev pub space : ScriptBoard → ℕ

@@ -21,7 +21,7 @@ abbrev pub given_of : Option ℕ → ℕ → List Exchange
 given_of None byte = []
 given_of (Some register) byte = (record { register = register; value = byte }) ∷ []
 
--- what is wanted is of a device register other than INTCON
+-- what is wanted is of a device register other than INTCON, PIR1 and PIE1
 abbrev pub IsWanted : Option ℕ → Type 0
 IsWanted None = Unit {0}
 IsWanted (Some register) = IsTrue (is_outside register)
@@ -71,7 +71,7 @@ pub record Steps (image : List ℕ) (old new : Point) : Type 0 where
   pub given_now : new.board.lists.given ≡ old.board.lists.given ++ given
   pub raised_now : new.board.lists.raised ≡ old.board.lists.raised ++ mask ∷ []
   pub index : new.chip.index ≡ old.chip.index + 1
-  pub run : (a : Around) (m : Moment) → HasBytes a.inputs old.chip.state.taken given → a.masks old.chip.index % 8 ≡ mask % 8 → IsAt a m old → Follows image a m given old new
+  pub run : (a : Around) (m : Moment) → HasBytes a.inputs old.chip.state.taken given → a.masks old.chip.index % 2048 ≡ mask % 2048 → IsAt a m old → Follows image a m given old new
   pub follows : new.board.follows ≡ old.board.follows
   pub by_script : (script : Followed) → old.board.follows ≡ Some script → (mask ≡ arriving script.arrivals old.chip.index) × HasBytes script.input (length old.board.lists.given) given
 

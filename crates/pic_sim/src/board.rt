@@ -36,8 +36,8 @@ pub trait Board: Drop {
         ensures same_lists { lists self.new ≡ lists self.old }
         ensures same_room { room self.new ≡ room self.old };
 
-    /// What arrives before the instruction of index `t`, as a mask: bit 0 is RBIF, bit 1 INTF and bit 2 TMR0IF. It is
-    /// asked once for each instruction.
+    /// What arrives before the instruction of index `t`, as a mask: bits 0 to 2 are RBIF, INTF and TMR0IF, and bits 3 to 10
+    /// the flags of PIR1 from its bit 0 on. It is asked once for each instruction.
     fn tick(&mut self, t: u64) -> Result<u16, AllocError>
         ensures raised { IfOk result (λ mask. lists self.new ≡ record (lists self.old) { raised = (lists self.old).raised ++ mask ∷ [] }) }
         ensures by_script { IfOk result (λ mask. IfSome (follows self.old) (λ script. mask ≡ arriving script.arrivals t)) }
@@ -46,7 +46,7 @@ pub trait Board: Drop {
         ensures same_follows { follows self.new ≡ follows self.old }
         ensures room { room self.old ≤ room self.new + 1 };
 
-    /// The byte that an instruction reads of a device register other than INTCON.
+    /// The byte that an instruction reads of a device register other than INTCON, PIR1 and PIE1.
     fn read(&mut self, register: u8) -> Result<u8, AllocError>
         requires { IsTrue (is_outside register) }
         ensures given { IfOk result (λ byte. lists self.new ≡ record (lists self.old) { given = (lists self.old).given ++ (record { register = register; value = byte }) ∷ [] }) }
@@ -56,7 +56,7 @@ pub trait Board: Drop {
         ensures same_follows { follows self.new ≡ follows self.old }
         ensures room { room self.old ≤ room self.new + 1 };
 
-    /// Tells the byte that an instruction writes to a device register other than INTCON.
+    /// Tells the byte that an instruction writes to a device register other than INTCON, PIR1 and PIE1.
     fn write(&mut self, register: u8, value: u8) -> Result<(), AllocError>
         requires { IsTrue (is_outside register) }
         ensures taken { OnOk result (lists self.new ≡ record (lists self.old) { taken = (lists self.old).taken ++ (record { register = register; value = value }) ∷ [] }) }

@@ -6,9 +6,8 @@
 // arrivals; and the board was asked just these.
 #![tactic(auto)]
 
-ghost use Rattle.pic_sim.specs.FromReset.{AnswersAreInput, MasksAreArrivals, BeginsAtReset, GoesOn, GoesOnByScript};
+ghost use Rattle.pic_sim.specs.FromReset.{AnswersAreInput, MasksAreArrivals, BeginsAtReset, GoesOn, GoesOnByScript, StopsForGood};
 
-mod arrivals;
 mod board;
 mod running;
 mod script_board;
@@ -18,13 +17,15 @@ pub use running::{SimEnd, simulate};
 pub use script_board::ScriptBoard;
 
 /// Runs over a board are runs from reset: what `simulate` does from a moment of such a run on leads to a later moment of it.
-/// The input list has the board's answers to `read` as its bytes, and the arrivals are its answers to `tick`.
+/// The input list has the board's answers to `read` as its bytes, and the arrivals are its answers to `tick`. Where
+/// `simulate` stops, the run from reset has ended.
 pub fn runs_go_on()
     ensures input { AnswersAreInput }
     ensures arrivals { MasksAreArrivals }
     ensures first { BeginsAtReset }
     ensures goes_on { GoesOn }
     ensures by_script { GoesOnByScript }
+    ensures stops { StopsForGood }
 {}
 
 #[cfg(test)]

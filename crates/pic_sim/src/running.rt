@@ -2,6 +2,7 @@
 
 ghost use Rattle.std.specs.Prelude.{◌≡◌, ◌<◌, ◌≤◌, ◌+◌, ◌*◌, ◌^◌, ◌++◌, ◌∷◌, [], false, IsTrue, IfOk, IfSome, IfNone, OnOk, OnErr, MatchOption, Some, length, option_to_list};
 ghost use Rattle.pic_chip.specs.Registers.{lowest};
+ghost use Rattle.pic_chip.specs.Control.{is_stored as kept};
 ghost use Rattle.pic_chip.specs.Interrupts.{arriving};
 ghost use Rattle.pic_chip.specs.Seen.{accesses_in, made_by, seen};
 ghost use Rattle.pic_map.specs.Tracing.{tracing_of, looked, told, list_of};
@@ -26,7 +27,7 @@ pub enum SimEnd {
 }
 
 /// Runs `n` instructions on the chip, over a board. For each the board is asked once what arrives, then once for a
-/// byte where the instruction reads a device register other than INTCON; it is told once of a write to one.
+/// byte where the instruction reads a device register other than INTCON, PIR1 and PIE1; it is told once of a write to one.
 /// The tracer was asked about the moment at which the run begins, and is asked once about each later one; the
 /// events are appended to the trace, which has room for 2n + 1 of them. The chip's index and n are at most 2^40 in all.
 ///
@@ -131,19 +132,26 @@ fn ask(board: &mut Box<dyn Board>, wanted: Option<u8>) -> Result<u8, AllocError>
     }
 }
 
-// The device register other than INTCON whose lowest address this is.
+// INTCON, PIR1 or PIE1.
+fn is_stored(register: u8) -> bool
+    ensures { result ≡ kept register }
+{
+    register == 0x0b || register == 0x0c || register == 0x8c
+}
+
+// The device register other than these whose lowest address this is.
 fn outside(address: u16) -> Option<u8>
     ensures found { IfSome result (λ register. (register ≡ address) × IsTrue (is_outside register)) }
     ensures none { IfNone result (lowest address ≡ address → is_outside address ≡ false) }
 {
     let register = u8::try_from(address).ok()?;
-    if register == 0x0b || register_name(register).is_none() {
+    if is_stored(register) || register_name(register).is_none() {
         return None;
     }
     Some(register)
 }
 
-// The write of an instruction, if it is to a device register other than INTCON.
+// The write of an instruction, if it is to a device register other than INTCON, PIR1 and PIE1.
 fn outside_write(end: StepEnd) -> Option<Exchange>
     ensures write { AreLowest (accesses_in end) → option_to_list result ≡ writes_of (accesses_in end) }
     ensures outside { IfSome result (λ x. IsTrue (is_outside x.register)) }

@@ -6,9 +6,9 @@ ghost use Rattle.pic_chip.specs.Interrupts.{arriving};
 ghost use Rattle.pic_sim.specs.Board.{followed, is_outside};
 ghost use Rattle.pic_sim.specs.ScriptBoard.{lists_of, script_of, space};
 
-use crate::arrivals::Timed;
 use crate::board::{Board, Exchange};
 use pic_chip::Script;
+use pic_chip::script::input_at;
 use std::alloc::{AllocError, Global};
 
 /// A board whose answers are those of a script: the input byte whose number is the count of bytes given so far, and 0
@@ -18,7 +18,7 @@ pub struct ScriptBoard {
     given: Vec<Exchange>,
     taken: Vec<Exchange>,
     raised: Vec<u16>,
-    timed: Timed,
+    script: Script,
 }
 
 impl ScriptBoard {
@@ -31,7 +31,10 @@ impl ScriptBoard {
             given: Vec::new(alloc),
             taken: Vec::new(alloc),
             raised: Vec::new(alloc),
-            timed: Timed::empty(alloc),
+            script: Script {
+                input: Vec::new(alloc),
+                arrivals: Vec::new(alloc),
+            },
         }
     }
 
@@ -54,6 +57,14 @@ impl ScriptBoard {
         self.raised = raised;
         Ok(())
     }
+}
+
+fn copy(alloc: Global, script: &Script) -> Result<Script, AllocError>
+    ensures { IfOk result (λ copy. followed copy ≡ followed script.now) }
+{
+    let input = Vec::from_slice(alloc, &script.input)?;
+    let arrivals = Vec::from_slice(alloc, &script.arrivals)?;
+    Ok(Script { input, arrivals })
 }
 
 // The same list, with room for so many more.
@@ -80,7 +91,7 @@ impl Board for ScriptBoard {
         ensures same_lists { lists_of self.new ≡ lists_of self.old }
         ensures same_room { space self.new ≡ space self.old }
     {
-        self.timed = Timed::copy(self.alloc(), script)?;
+        self.script = copy(self.alloc(), script)?;
         Ok(())
     }
 
@@ -92,7 +103,7 @@ impl Board for ScriptBoard {
         ensures same_follows { script_of self.new ≡ script_of self.old }
         ensures room { space self.old ≤ space self.new + 1 }
     {
-        let mask = self.timed.mask(t);
+        let mask = self.script.mask_at(t);
         self.raised.push(mask)?;
         Ok(mask)
     }
@@ -106,7 +117,9 @@ impl Board for ScriptBoard {
         ensures same_follows { script_of self.new ≡ script_of self.old }
         ensures room { space self.old ≤ space self.new + 1 }
     {
-        let value = self.timed.byte(self.given.len() as u64);
+        let number = self.given.len() as u64;
+        let script = &self.script;
+        let value = input_at(&script.input, number);
         self.given.push(Exchange { register, value })?;
         Ok(value)
     }

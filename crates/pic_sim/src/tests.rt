@@ -148,10 +148,10 @@ fn fed(
 ) -> Result<ScriptBoard, AllocError> {
     let mut board = ScriptBoard::new(alloc);
     board.reserve(room)?;
-    board.feed(&Script {
-        input: Vec::from_slice(alloc, input)?,
-        arrivals: Vec::from_slice(alloc, arrivals)?,
-    })?;
+    board.feed(&Script::new(
+        Vec::from_slice(alloc, input)?,
+        Vec::from_slice(alloc, arrivals)?,
+    ))?;
     Ok(board)
 }
 
@@ -201,13 +201,17 @@ fn a_script_board_answers_as_its_script(rt: HostRuntime) -> Result<(), Fail> {
             t: 7,
             flag: Flag::Intf,
         },
+        Arrival {
+            t: 7,
+            flag: Flag::Adif,
+        },
     ];
     let mut board = fed(alloc, &[0x01, 0x02], &arrivals, 3)?;
     assert_eq!(rt; board.read(5)?, 0x01);
     assert_eq!(rt; board.read(5)?, 0x02);
     assert_eq!(rt; board.read(5)?, 0x00);
     assert_eq!(rt; board.tick(6)?, 0);
-    assert_eq!(rt; board.tick(7)?, 6);
+    assert_eq!(rt; board.tick(7)?, 0x206);
     assert_eq!(rt; board.tick(2)?, 1);
     board.write(6, 0xff)?;
     Ok(())

@@ -10,9 +10,10 @@ use Rattle.std.proofs.lemmas.Option.{cond_some}
 use Rattle.std.proofs.lemmas.Slice.Eq.{bytes_eq-Decides}
 use Rattle.pic_chip.specs.declared.Arrival.{Arrival}
 use Rattle.pic_chip.specs.declared.Flag.{Flag}
-use Rattle.pic_chip.specs.declared.Flag.TheVariants.{Rbif, Intf, Tmr0if}
+use Rattle.pic_chip.specs.declared.Flag.TheVariants.{Rbif, Intf, Tmr0if, Tmr1if, Tmr2if, Ccp1if, Sspif, Txif, Rcif, Adif, Pspif}
+use Rattle.pic_chip.specs.Interrupts.{flags}
 use Rattle.schedule.specs.ScriptFile.{byte_value, AreBytes, is_digit, number_onto, IsTime, flag_word}
-use Rattle.schedule.specs.Reading.{byte_onto, bytes_in, digits_length, time_onto, flag_in, arrival_of, arrival_in}
+use Rattle.schedule.specs.Reading.{byte_onto, bytes_in, digits_length, time_onto, flag_among, flag_in, arrival_of, arrival_in}
 
 pub guarded : {A : Type 0} (b : Bool) (o : Option A) (p : A) → (if b then None else o) ≡ Some p → (b ≡ false) × (o ≡ Some p)
 guarded true o p e = absurd (cc e)
@@ -81,20 +82,29 @@ time_again n (c ∷ digits) t e h =
     rw small (time_again (10 * n + (c - 48)) digits t e h)
 
 -- ---- flags
-pub flag_is : (tail : List ℕ) (f : Flag) → flag_in tail ≡ Some f → tail ≡ flag_word f
-flag_is tail f e = first (bytes_eq tail (codes " TMR0IF")) (bytes_eq tail (codes " INTF")) (bytes_eq tail (codes " RBIF")) refl refl refl e
+pub among_is : (fs : List Flag) (tail : List ℕ) (f : Flag) → flag_among fs tail ≡ Some f → tail ≡ flag_word f
+among_is [] tail f e = absurd (cc e)
+among_is (g ∷ fs) tail f e = by_test (bytes_eq tail (flag_word g)) refl (among_is fs tail f) e
   where
-    first : (x y z : Bool) → bytes_eq tail (codes " TMR0IF") ≡ x → bytes_eq tail (codes " INTF") ≡ y → bytes_eq tail (codes " RBIF") ≡ z
-        → (if x then Some Tmr0if else if y then Some Intf else if z then Some Rbif else None) ≡ Some f → tail ≡ flag_word f
-    first true y z a b c h = let same : Tmr0if ≡ f = cc h in (bytes_eq-Decides tail (codes " TMR0IF")).0 a ∙ ap flag_word same
-    first false true z a b c h = let same : Intf ≡ f = cc h in (bytes_eq-Decides tail (codes " INTF")).0 b ∙ ap flag_word same
-    first false false true a b c h = let same : Rbif ≡ f = cc h in (bytes_eq-Decides tail (codes " RBIF")).0 c ∙ ap flag_word same
-    first false false false a b c h = absurd (cc h)
+    by_test : (b : Bool) → bytes_eq tail (flag_word g) ≡ b → (flag_among fs tail ≡ Some f → tail ≡ flag_word f) → (if b then Some g else flag_among fs tail) ≡ Some f → tail ≡ flag_word f
+    by_test true is later h = let same : g ≡ f = cc h in (bytes_eq-Decides tail (flag_word g)).0 is ∙ ap flag_word same
+    by_test false is later h = later h
+
+pub flag_is : (tail : List ℕ) (f : Flag) → flag_in tail ≡ Some f → tail ≡ flag_word f
+flag_is = among_is flags
 
 pub flag_again : (f : Flag) → flag_in (flag_word f) ≡ Some f
 flag_again Rbif = refl
 flag_again Intf = refl
 flag_again Tmr0if = refl
+flag_again Tmr1if = refl
+flag_again Tmr2if = refl
+flag_again Ccp1if = refl
+flag_again Sspif = refl
+flag_again Txif = refl
+flag_again Rcif = refl
+flag_again Adif = refl
+flag_again Pspif = refl
 
 -- ---- digits
 digits_within : (text : List ℕ) → digits_length text ≤ length text
@@ -127,6 +137,14 @@ before_flag : (digits : List ℕ) (f : Flag) → list_all is_digit digits ≡ tr
 before_flag digits Rbif h = length_of_digits digits (codes "RBIF") h
 before_flag digits Intf h = length_of_digits digits (codes "INTF") h
 before_flag digits Tmr0if h = length_of_digits digits (codes "TMR0IF") h
+before_flag digits Tmr1if h = length_of_digits digits (codes "TMR1IF") h
+before_flag digits Tmr2if h = length_of_digits digits (codes "TMR2IF") h
+before_flag digits Ccp1if h = length_of_digits digits (codes "CCP1IF") h
+before_flag digits Sspif h = length_of_digits digits (codes "SSPIF") h
+before_flag digits Txif h = length_of_digits digits (codes "TXIF") h
+before_flag digits Rcif h = length_of_digits digits (codes "RCIF") h
+before_flag digits Adif h = length_of_digits digits (codes "ADIF") h
+before_flag digits Pspif h = length_of_digits digits (codes "PSPIF") h
 
 -- ---- arrivals
 abbrev pub IsArrivalText : List ℕ → Arrival → Type 0

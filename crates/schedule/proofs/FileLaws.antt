@@ -1,5 +1,5 @@
 -- What is read of a text's lines is the content of a script file, and that of each script file is read.
-use Rattle.std.proofs.Common.{◌≡◌, ℕ, ◌+◌, ◌-◌, ◌<◌, ◌≤◌, Bool, true, false, Option, Some, None, Result, Ok, Err, List, [], ◌∷◌, ◌++◌, length, refl, sym, ap, ◌∙◌, subst, append_assoc, append-nil, nat_lt, arith}
+use Rattle.std.proofs.Common.{◌≡◌, ℕ, suc, ◌+◌, ◌-◌, ◌<◌, ◌≤◌, Bool, true, false, Option, Some, None, Result, Ok, Err, List, [], ◌∷◌, ◌++◌, length, refl, sym, ap, ◌∙◌, subst, append_assoc, append-nil, nat_lt, arith}
 use Rattle.std.specs.Prelude.{codes, if◌then◌else◌}
 use Rattle.std.specs.List.{slice_get}
 use Rattle.std.proofs.lemmas.Bool.{le-ltb, ltb-false}
@@ -7,8 +7,9 @@ use Rattle.text_lines.specs.Text.{lines_of}
 use Rattle.pic_chip.specs.declared.Arrival.{Arrival}
 use Rattle.text_lines.specs.Front.{after}
 use Rattle.text_lines.proofs.Words.{after_is, after_again}
+use Rattle.pic_chip.specs.Arrivals.{IsRising}
 use Rattle.schedule.specs.ScriptFile as file
-use Rattle.schedule.specs.ScriptFile.{ScriptContent, Piece, IsLine, AreLines, inputs_of, arrivals_of, IsRising, AreScriptLines, IsScriptFile}
+use Rattle.schedule.specs.ScriptFile.{ScriptContent, Piece, IsLine, AreLines, inputs_of, arrivals_of, AreScriptLines, IsScriptFile}
 use Rattle.schedule.specs.Reading.{bytes_in, arrival_in, with_input, with_arrival, time_of, last_time, by_word, after_line, go_on, read_on, nothing}
 use Rattle.std.proofs.lemmas.List.{length-append}
 use Rattle.schedule.proofs.Fields.{guarded, bytes_are, bytes_again, arrival_is, arrival_again}
@@ -173,3 +174,22 @@ same_ok r a b e f = cc (e, f)
 -- each text has one content at most
 pub one_only : (text : List ℕ) (a b : ScriptContent) → IsScriptFile text a → IsScriptFile text b → a ≡ b
 one_only text a b h k = same_ok (read_on 1 nothing (lines_of text)) a b (script_again 1 a (lines_of text) h) (script_again 1 b (lines_of text) k)
+
+-- ---- order
+-- an arrival that doesn't come before the last one goes behind it
+pub rising_behind_last : (t : ℕ) (xs : List Arrival) (a : Arrival) → IsRising t xs → t ≤ a.t → last_time xs ≤ a.t → IsRising t (xs ++ a ∷ [])
+rising_behind_last t [] a h first last = (first, tt)
+rising_behind_last t (x ∷ []) a h first last = (h.0, (last, tt))
+rising_behind_last t (x ∷ y ∷ xs) a h first last =
+    let same : length (x ∷ y ∷ xs) - 1 ≡ suc (length (y ∷ xs) - 1) = omega arith in
+    let later : last_time (y ∷ xs) ≤ a.t = subst (λ n. time_of (slice_get (x ∷ y ∷ xs) n) ≤ a.t) same last in
+    (h.0, rising_behind_last x.t (y ∷ xs) a h.1 (rising_last x.t (y ∷ xs) h.1 (omega arith) later) later)
+  where
+    rising_last : (t : ℕ) (xs : List Arrival) → IsRising t xs → 0 < length xs → last_time xs ≤ a.t → t ≤ a.t
+    rising_last t [] h l last = absurd (omega arith)
+    rising_last t (x ∷ []) h l last = let first = h.0 in omega (arith, first, last)
+    rising_last t (x ∷ y ∷ xs) h l last =
+        let same : length (x ∷ y ∷ xs) - 1 ≡ suc (length (y ∷ xs) - 1) = omega arith in
+        let first = h.0 in
+        let rest = rising_last x.t (y ∷ xs) h.1 (omega arith) (subst (λ n. time_of (slice_get (x ∷ y ∷ xs) n) ≤ a.t) same last) in
+        omega (arith, first, rest)

@@ -4,9 +4,9 @@ use Rattle.std.specs.List.{slice_get}
 use Rattle.std.specs.Str.{bytes_eq}
 use Rattle.pic_chip.specs.declared.Arrival.{Arrival}
 use Rattle.pic_chip.specs.declared.Flag.{Flag}
-use Rattle.pic_chip.specs.declared.Flag.TheVariants.{Rbif, Intf, Tmr0if}
+use Rattle.pic_chip.specs.Interrupts.{flags}
 use Rattle.text_lines.specs.Front.{after}
-use Rattle.schedule.specs.ScriptFile.{ScriptContent, byte_value, is_digit}
+use Rattle.schedule.specs.ScriptFile.{ScriptContent, byte_value, is_digit, flag_word}
 
 -- ---- input
 abbrev pub byte_onto : Option ℕ → Option (List ℕ) → Option (List ℕ)
@@ -43,11 +43,13 @@ unfoldable pub time_onto : ℕ → List ℕ → Option ℕ
 time_onto n [] = Some n
 time_onto n (c ∷ digits) = if nat_lt 4294967295 (10 * n + (c - 48)) then None else time_onto (10 * n + (c - 48)) digits
 
+-- the one of some flags whose name stands there
+abbrev pub flag_among : List Flag → List ℕ → Option Flag
+flag_among [] tail = None
+flag_among (flag ∷ rest) tail = if bytes_eq tail (flag_word flag) then Some flag else flag_among rest tail
+
 abbrev pub flag_in : List ℕ → Option Flag
-flag_in tail =
-    if bytes_eq tail (codes " TMR0IF") then Some Tmr0if else
-    if bytes_eq tail (codes " INTF") then Some Intf else
-    if bytes_eq tail (codes " RBIF") then Some Rbif else None
+flag_in tail = flag_among flags tail
 
 abbrev pub arrival_of : Option ℕ → Option Flag → Option Arrival
 arrival_of (Some t) (Some flag) = Some (record { t = t; flag = flag })

@@ -4,8 +4,9 @@ use Rattle.std.specs.List.{AllPass}
 use Rattle.text_lines.specs.Text.{lines_of, digit_value}
 use Rattle.pic_chip.specs.declared.Arrival.{Arrival}
 use Rattle.pic_chip.specs.declared.Flag.{Flag}
-use Rattle.pic_chip.specs.declared.Flag.TheVariants.{Rbif, Intf, Tmr0if}
+use Rattle.pic_chip.specs.declared.Flag.TheVariants.{Rbif, Intf, Tmr0if, Tmr1if, Tmr2if, Ccp1if, Sspif, Txif, Rcif, Adif, Pspif}
 use Rattle.pic_chip.specs.declared.script.Script.{Script}
+use Rattle.pic_chip.specs.Arrivals.{IsRising}
 
 -- the bytes that reads of device registers take, and the flags that arrive, in order
 pub record ScriptContent : Type 0 where
@@ -45,10 +46,19 @@ pub record IsTime (digits : List ℕ) (t : ℕ) : Type 0 where
   pub value : number_onto 0 digits ≡ t
   pub within : t < 2 ^ 32
 
+-- a flag's name, behind a space
 abbrev pub flag_word : Flag → List ℕ
 flag_word Rbif = codes " RBIF"
 flag_word Intf = codes " INTF"
 flag_word Tmr0if = codes " TMR0IF"
+flag_word Tmr1if = codes " TMR1IF"
+flag_word Tmr2if = codes " TMR2IF"
+flag_word Ccp1if = codes " CCP1IF"
+flag_word Sspif = codes " SSPIF"
+flag_word Txif = codes " TXIF"
+flag_word Rcif = codes " RCIF"
+flag_word Adif = codes " ADIF"
+flag_word Pspif = codes " PSPIF"
 
 -- what a line tells
 pub data Piece : Type 0 where
@@ -78,11 +88,6 @@ arrivals_of [] = []
 arrivals_of (Blank ∷ pieces) = arrivals_of pieces
 arrivals_of (Input bytes ∷ pieces) = arrivals_of pieces
 arrivals_of (At arrival ∷ pieces) = arrival ∷ arrivals_of pieces
-
--- no arrival comes before this time, nor before the one that stands before it
-abbrev pub IsRising : ℕ → List Arrival → Type 0
-IsRising t [] = Unit {0}
-IsRising t (arrival ∷ arrivals) = (t ≤ arrival.t) × IsRising arrival.t arrivals
 
 pub record AreScriptLines (lines : List (List ℕ)) (content : ScriptContent) : Type 0 where
   pub pieces : List Piece

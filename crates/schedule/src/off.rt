@@ -4,7 +4,6 @@ ghost use Rattle.std.specs.Prelude.{◌≡◌, ◌<◌, ◌≤◌, ◌+◌, ◌*
 ghost use Rattle.pic_map.specs.Tracing.{list_of};
 ghost use Rattle.schedule.specs.Watching.{ahead};
 
-use pic_chip::script::mask_at;
 use pic_chip::{Accesses, Arrival, Chip, Event, Image, Script, Start, StepEnd};
 use pic_isa::{Ins, decode};
 use pic_map::{Map, Tracer};
@@ -108,7 +107,7 @@ fn last_free(image: &Image, script: &Script, n: u32) -> u32
     let mut run = Run::new();
     let mut last = 0;
     for moment in 0..=n {
-        let boundary = run.boundary(image, mask_at(&script.arrivals, moment as u64));
+        let boundary = run.boundary(image, script.mask_at(moment as u64));
         if !run.handling && !boundary.taken {
             last = moment;
         }
@@ -210,21 +209,24 @@ fn read_at(
         runs: 0,
         before: Vec::new(alloc),
         by_length: Script {
-            input: script.input.clone()?,
+            input: Vec::new(alloc),
             arrivals: Vec::new(alloc),
         },
     };
+    let mut reached = Vec::new(alloc);
     for at in 0..moment {
-        take_moment(&mut off, &mut watched, script, at)?;
-        watched.step(image, script, mask_at(&script.arrivals, at as u64));
+        take_moment(&mut off, &mut reached, &mut watched, script, at)?;
+        watched.step(image, script, script.mask_at(at as u64));
     }
-    take_moment(&mut off, &mut watched, script, moment)?;
+    take_moment(&mut off, &mut reached, &mut watched, script, moment)?;
+    off.by_length = Script::new(script.input.clone()?, reached);
     Ok(off)
 }
 
 /// Goes on with what is read off from the moment before to this one.
 fn take_moment(
     off: &mut Off,
+    reached: &mut Vec<Arrival>,
     watched: &mut Watched<'_>,
     script: &Script,
     moment: u32,
@@ -236,7 +238,7 @@ fn take_moment(
     ensures taken { OnOk result (off.new.events ≡ watched.new.events) }
 {
     watched.look();
-    put_arrivals(off, &script.arrivals, moment, watched.events)?;
+    put_arrivals(off, reached, &script.arrivals, moment, watched.events)?;
     off.events = watched.events;
     off.runs = watched.runs;
     Ok(())
@@ -245,6 +247,7 @@ fn take_moment(
 /// Puts the arrivals at a moment, where the trace has so many events; what is read off so far is that of the moment before.
 fn put_arrivals(
     off: &mut Off,
+    reached: &mut Vec<Arrival>,
     arrivals: &[Arrival],
     moment: u32,
     events: u32,
@@ -253,7 +256,7 @@ fn put_arrivals(
 {
     for arrival in arrivals {
         if arrival.t == moment {
-            off.by_length.arrivals.push(Arrival {
+            reached.push(Arrival {
                 t: events,
                 flag: arrival.flag,
             })?;

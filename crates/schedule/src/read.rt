@@ -23,8 +23,8 @@ pub enum ScriptError {
 
 /// The script of a script file (the format is the project's own). Each line is empty; or `input` and any
 /// number of bytes, each a space and two hexadecimal digits of either case; or `at T FLAG`, where T is one
-/// to ten decimal digits, at most 4,294,967,295 and not below the T before it, and FLAG is TMR0IF, INTF or
-/// RBIF. The bytes of several lines are joined.
+/// to ten decimal digits, at most 4,294,967,295 and not below the T before it, and FLAG is RBIF, INTF,
+/// TMR0IF, TMR1IF, TMR2IF, CCP1IF, SSPIF, TXIF, RCIF, ADIF or PSPIF. The bytes of several lines are joined.
 #[tactic(auto, using(crate::proofs::Given::found, crate::proofs::Given::only, crate::proofs::BadLine::bad_line))]
 pub fn read_script(alloc: Global, bytes: &[u8]) -> Result<Script, ScriptError>
     requires { length bytes.now < 2 ^ 32 }
@@ -126,6 +126,7 @@ fn byte_value(high: u8, low: u8) -> Option<u8>
     Some((16 * high + low) as u8)
 }
 
+#[tactic(auto, using(crate::proofs::FileLaws::rising_behind_last))]
 fn take_arrival(script: &mut Script, text: &[u8]) -> Result<bool, AllocError>
     ensures { IfOk result (λ good. Goes good (reading.with_arrival (content_of script.old) (reading.arrival_in text.now)) (content_of script.new)) }
 {
@@ -199,17 +200,42 @@ fn time(digits: &[u8]) -> Option<u32>
     Some(number)
 }
 
+/// The flag whose name stands behind a space.
 fn flag(tail: &[u8]) -> Option<Flag>
     ensures { result ≡ reading.flag_in tail.now }
 {
-    if tail == b" TMR0IF".as_slice() {
-        return Some(Flag::Tmr0if);
+    if tail == b" RBIF".as_slice() {
+        return Some(Flag::Rbif);
     }
     if tail == b" INTF".as_slice() {
         return Some(Flag::Intf);
     }
-    if tail == b" RBIF".as_slice() {
-        return Some(Flag::Rbif);
+    if tail == b" TMR0IF".as_slice() {
+        return Some(Flag::Tmr0if);
+    }
+    if tail == b" TMR1IF".as_slice() {
+        return Some(Flag::Tmr1if);
+    }
+    if tail == b" TMR2IF".as_slice() {
+        return Some(Flag::Tmr2if);
+    }
+    if tail == b" CCP1IF".as_slice() {
+        return Some(Flag::Ccp1if);
+    }
+    if tail == b" SSPIF".as_slice() {
+        return Some(Flag::Sspif);
+    }
+    if tail == b" TXIF".as_slice() {
+        return Some(Flag::Txif);
+    }
+    if tail == b" RCIF".as_slice() {
+        return Some(Flag::Rcif);
+    }
+    if tail == b" ADIF".as_slice() {
+        return Some(Flag::Adif);
+    }
+    if tail == b" PSPIF".as_slice() {
+        return Some(Flag::Pspif);
     }
     None
 }

@@ -1,10 +1,11 @@
 use Rattle.std.proofs.Common.{refl}
 use Rattle.text_lines.specs.Text.{split_lines, without_cr, bytes_of}
+use Rattle.pic_chip.specs.Control.{is_due}
 use Rattle.hex_image.specs.HexFile.{given_by, from_address, byte_at}
 use Rattle.chip_examples.proofs.worked_examples.Goals as goal
 
 pub returns : goal.returns
-unfolding split_lines without_cr bytes_of given_by from_address byte_at
+unfolding is_due split_lines without_cr bytes_of given_by from_address byte_at
 returns c = record {
   sum_carries = refl;
   sum_is_zero = refl;
@@ -24,6 +25,12 @@ returns c = record {
   enters = refl;
   not_enabled = refl;
   returns_from = refl;
+  timer_enters = refl;
+  timer_waits = refl;
+  other_timer_waits = refl;
+  keeps_pir1 = refl;
+  keeps_pie1 = refl;
+  only_lower_banks = refl;
   reads_input = refl;
   reads_past_input = refl;
   jump_word = refl;

@@ -1,5 +1,5 @@
 use Rattle.pic_sim.proofs.Answering.{answers_are_input, masks_are_arrivals}
-use Rattle.pic_sim.proofs.FromReset.{begins, goes_on, goes_on_by_script}
+use Rattle.pic_sim.proofs.FromReset.{begins, goes_on, goes_on_by_script, stops_for_good}
 use Rattle.pic_sim.proofs.runs_go_on.Goals as goal
 
 pub returns-clause-input : goal.returns-clause-input
@@ -16,3 +16,6 @@ returns-clause-goes_on c = goes_on
 
 pub returns-clause-by_script : goal.returns-clause-by_script
 returns-clause-by_script c = goes_on_by_script
+
+pub returns-clause-stops : goal.returns-clause-stops
+returns-clause-stops c = stops_for_good
