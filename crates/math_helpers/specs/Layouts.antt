@@ -7,7 +7,7 @@ use Rattle.math_helpers.specs.declared.layout.Width.{Width}
 use Rattle.math_helpers.specs.declared.layout.Width.TheVariants.{Two, Four}
 use Rattle.math_helpers.specs.declared.layout.Value.{Value}
 use Rattle.math_helpers.specs.declared.layout.Value.TheVariants.{Left, Right, Remainder, Spare, Answer}
-use Rattle.math_helpers.specs.declared.layout.Layout.{Layout}
+use Rattle.math_helpers.specs.declared.layout.RoutineLayout.{RoutineLayout}
 
 abbrev pub bytes_of : Width → ℕ
 bytes_of Two = 2
@@ -18,7 +18,7 @@ bits_of Two = 16
 bits_of Four = 32
 
 -- byte k of a value, counted from the lowest one
-abbrev pub operand_at : Layout → Value → ℕ → Operand
+abbrev pub operand_at : RoutineLayout → Value → ℕ → Operand
 operand_at l Left k = Operand.Byte (Byte.Frame l.copy k)
 operand_at l Right k = Operand.Byte (Byte.Frame l.copy (bytes_of l.width + k))
 operand_at l Remainder k = Operand.Byte (Byte.Frame l.copy (2 * bytes_of l.width + k))

@@ -15,7 +15,7 @@ use Rattle.sym_code.specs.declared.code.Register.TheVariants.{Status}
 use Rattle.sym_code.specs.declared.code.Sym.{Sym}
 use Rattle.sym_code.specs.declared.code.Sym.TheVariants as Sym
 use Rattle.sym_code.specs.declared.code.Target.TheVariants as Target
-use Rattle.math_helpers.specs.declared.layout.Layout.{Layout}
+use Rattle.math_helpers.specs.declared.layout.RoutineLayout.{RoutineLayout}
 use Rattle.math_helpers.specs.declared.layout.Value.{Value}
 use Rattle.math_helpers.specs.declared.layout.Value.TheVariants as Value
 use Rattle.math_helpers.specs.declared.steps.Step.{Step}
@@ -62,11 +62,11 @@ zero_flag = 2
 
 -- W becomes byte k of the right operand, and behind the lowest byte one more where the carry says so; where that gives 0
 -- with a carry, the next instruction is skipped
-abbrev pub right_byte : Layout → BitOperation → ℕ → List Sym
+abbrev pub right_byte : RoutineLayout → BitOperation → ℕ → List Sym
 right_byte l unless k = to_w Movf (operand_at l Value.Right k) ∷ (if k == 0 then [] else on_flag unless carry_flag ∷ to_w Incfsz (operand_at l Value.Right k) ∷ [])
 
 -- the code of a step at byte k
-abbrev pub step_code : Layout → Step → ℕ → List Sym
+abbrev pub step_code : RoutineLayout → Step → ℕ → List Sym
 step_code l (Step.Clear v) k = clear (operand_at l v k) ∷ []
 step_code l (Step.Answer v) k = to_w Movf (operand_at l v k) ∷ from_w (operand_at l Value.Answer k) ∷ []
 step_code l (Step.ShiftLeft v) k = to_file Rlf (operand_at l v k) ∷ []
@@ -78,6 +78,6 @@ step_code l (Step.Invert v) k = to_file Comf (operand_at l v k) ∷ []
 step_code l (Step.Increment v) k = (if k == 0 then [] else on_flag Btfsc zero_flag ∷ []) ++ to_file Incf (operand_at l v k) ∷ []
 
 -- the code of a step at so many bytes
-abbrev pub each_byte : Layout → Step → ℕ → List Sym
+abbrev pub each_byte : RoutineLayout → Step → ℕ → List Sym
 each_byte l step zero = []
 each_byte l step (suc k) = each_byte l step k ++ step_code l step k

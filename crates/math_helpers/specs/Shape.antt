@@ -1,10 +1,12 @@
 -- What can be read off the code of a routine: the words it takes, the labels it jumps to, and the bytes it names.
-use Rattle.std.specs.Prelude.{◌≡◌, ℕ, ◌+◌, ◌<◌, nat_eq, Bool, true, false, not, ◌&&◌, ◌||◌, if◌then◌else◌, List, [], ◌∷◌}
+use Rattle.std.specs.Prelude.{◌≡◌, ℕ, ◌+◌, ◌<◌, ◌≤◌, nat_eq, Bool, true, false, not, ◌&&◌, ◌||◌, if◌then◌else◌, List, [], ◌∷◌, length, take, drop}
 use Rattle.c_typed.specs.declared.calls.Helper.{Helper}
 use Rattle.c_typed.specs.declared.calls.Helper.TheVariants.{Mul2, Mul4, Divu2, Divs2, Remu2, Rems2, Divu4, Divs4, Remu4, Rems4, Shl2, Shru2, Shrs2, Shl4, Shru4, Shrs4}
 use Rattle.core_code.specs.declared.code.Byte.{Byte}
 use Rattle.core_code.specs.declared.code.Byte.TheVariants as Byte
 use Rattle.pic_chip.specs.declared.Root.{Root}
+use Rattle.sym_code.specs.declared.code.BitOperation.TheVariants.{Btfsc, Btfss}
+use Rattle.sym_code.specs.declared.code.FileOperation.TheVariants.{Decfsz, Incfsz}
 use Rattle.sym_code.specs.declared.code.Label.TheVariants as Label
 use Rattle.sym_code.specs.declared.code.Literal.TheVariants as Literal
 use Rattle.sym_code.specs.declared.code.LiteralOperation.TheVariants.{Movlw}
@@ -32,7 +34,7 @@ abbrev pub jumps : Sym → Bool
 jumps (Sym.Goto target) = true
 jumps _ = false
 
--- a select takes two words, and is left out where the same was selected before
+-- the selects of a bank or a page take two words at most, and are left out where the same was selected before
 abbrev pub select_words : Bool → Bool → ℕ
 select_words selected needed = if needed && not selected then 2 else 0
 
@@ -44,11 +46,38 @@ words_from bank page (sym ∷ rest) =
     1 + select_words bank (accesses_frame sym) + select_words page (jumps sym)
     + words_from (bank || accesses_frame sym) (page || jumps sym) rest
 
--- the words of a block with all selects that it can need
+-- the words of a block with all selects that it can need, at most
 abbrev pub most_words : List Sym → ℕ
 most_words list = words_from false false list
 
--- the words that are stated for a routine
+-- ---- prices
+abbrev pub is_skip : Sym → Bool
+is_skip (Sym.File Decfsz file into) = true
+is_skip (Sym.File Incfsz file into) = true
+is_skip (Sym.Bit Btfsc file bit) = true
+is_skip (Sym.Bit Btfss file bit) = true
+is_skip _ = false
+
+-- No label stands among the instructions, and the last of them isn't a skip, before which the selects of the following one
+-- would stand.
+abbrev pub is_straight : List Sym → Bool
+is_straight [] = true
+is_straight (Sym.Label label ∷ rest) = false
+is_straight (sym ∷ []) = not (is_skip sym)
+is_straight (sym ∷ next ∷ rest) = is_straight (next ∷ rest)
+
+-- the prices of so many instructions together, from this number on
+abbrev pub sum_from : (ℕ → ℕ) → ℕ → List Sym → ℕ
+sum_from price n [] = 0
+sum_from price n (sym ∷ rest) = price n + sum_from price (n + 1) rest
+
+-- Wherever some instructions stand one behind the other, they cost no more than their words with all selects that they
+-- can need.
+abbrev pub ArePriced : (ℕ → ℕ) → List Sym → Type 0
+ArePriced price list = (n : ℕ) (part : List Sym) → take (length part) (drop n list) ≡ part → is_straight part ≡ true → sum_from price n part ≤ most_words part
+
+-- ---- what is stated
+-- the words of a routine
 abbrev pub stated_words : Helper → ℕ
 stated_words Mul2 = 90
 stated_words Mul4 = 160
@@ -66,6 +95,20 @@ stated_words Shrs2 = 50
 stated_words Shl4 = 70
 stated_words Shru4 = 70
 stated_words Shrs4 = 70
+
+-- how many bytes of the right operand a routine is given: of a shift's count the lowest one
+abbrev pub right_bytes : Helper → ℕ
+right_bytes Mul2 = 2
+right_bytes Mul4 = 4
+right_bytes Divu2 = 2
+right_bytes Divs2 = 2
+right_bytes Remu2 = 2
+right_bytes Rems2 = 2
+right_bytes Divu4 = 4
+right_bytes Divs4 = 4
+right_bytes Remu4 = 4
+right_bytes Rems4 = 4
+right_bytes _ = 1
 
 -- ---- labels
 abbrev pub marks : List Sym → List ℕ

@@ -6,7 +6,7 @@ ghost use Rattle.math_helpers.specs.Layouts.{bytes_of};
 ghost use Rattle.math_helpers.specs.Routines.{negate_if_code, take_off_code, divide_code, sign_code, magnitudes_code, part_value, division_code, signed_division_code};
 
 use crate::emit::{CARRY, put_bit, put_flag, put_from_w, put_jump, put_label, put_return, put_w};
-use crate::layout::{Layout, Value};
+use crate::layout::{RoutineLayout, Value};
 use crate::product::{put_round_end, put_rounds};
 use crate::steps::{Step, put_each};
 use std::alloc::AllocError;
@@ -34,7 +34,7 @@ impl Part {
 // The value is negated where bit 7 of a byte is 1.
 fn put_negate_if(
     block: &mut SymBlock,
-    layout: Layout,
+    layout: RoutineLayout,
     sign: Operand,
     value: Value,
     label: u32,
@@ -52,7 +52,7 @@ fn put_negate_if(
 
 // Where the remainder is at least the right operand, that is taken off it, and C becomes 1; otherwise C becomes 0. Where C
 // is 1 before, a bit has left the remainder's highest byte, and so the right operand can be taken off.
-fn put_take_off(block: &mut SymBlock, layout: Layout) -> Result<(), AllocError>
+fn put_take_off(block: &mut SymBlock, layout: RoutineLayout) -> Result<(), AllocError>
     ensures code { OnOk result (block.new.list.items ≡ block.old.list.items ++ take_off_code layout) }
     ensures name { block.new.name ≡ block.old.name }
 {
@@ -71,7 +71,7 @@ fn put_take_off(block: &mut SymBlock, layout: Layout) -> Result<(), AllocError>
 // The left operand becomes the quotient, and the remainder that of the division, both operands without sign. In each
 // round the highest bit of the left operand moves into the remainder. The bit of the quotient is 1 where the right operand
 // is taken off; it stands in C until the next round shifts it into the left operand.
-fn put_divide(block: &mut SymBlock, layout: Layout) -> Result<(), AllocError>
+fn put_divide(block: &mut SymBlock, layout: RoutineLayout) -> Result<(), AllocError>
     ensures code { OnOk result (block.new.list.items ≡ block.old.list.items ++ divide_code layout) }
     ensures name { block.new.name ≡ block.old.name }
 {
@@ -88,7 +88,7 @@ fn put_divide(block: &mut SymBlock, layout: Layout) -> Result<(), AllocError>
 
 // Bit 7 of the sign becomes that of the answer: a quotient is negative where the operands' signs differ, a remainder
 // where the dividend is negative.
-fn put_sign(block: &mut SymBlock, layout: Layout, part: Part) -> Result<(), AllocError>
+fn put_sign(block: &mut SymBlock, layout: RoutineLayout, part: Part) -> Result<(), AllocError>
     ensures code { OnOk result (block.new.list.items ≡ block.old.list.items ++ sign_code layout part) }
     ensures name { block.new.name ≡ block.old.name }
 {
@@ -102,7 +102,7 @@ fn put_sign(block: &mut SymBlock, layout: Layout, part: Part) -> Result<(), Allo
 }
 
 // Both operands become their magnitudes.
-fn put_magnitudes(block: &mut SymBlock, layout: Layout) -> Result<(), AllocError>
+fn put_magnitudes(block: &mut SymBlock, layout: RoutineLayout) -> Result<(), AllocError>
     ensures code { OnOk result (block.new.list.items ≡ block.old.list.items ++ magnitudes_code layout) }
     ensures name { block.new.name ≡ block.old.name }
 {
@@ -119,7 +119,11 @@ fn put_magnitudes(block: &mut SymBlock, layout: Layout) -> Result<(), AllocError
 }
 
 /// A division of numbers without sign.
-pub fn put_division(block: &mut SymBlock, layout: Layout, part: Part) -> Result<(), AllocError>
+pub fn put_division(
+    block: &mut SymBlock,
+    layout: RoutineLayout,
+    part: Part,
+) -> Result<(), AllocError>
     ensures code { OnOk result (block.new.list.items ≡ block.old.list.items ++ division_code layout part) }
     ensures name { block.new.name ≡ block.old.name }
 {
@@ -132,7 +136,7 @@ pub fn put_division(block: &mut SymBlock, layout: Layout, part: Part) -> Result<
 /// A division of signed numbers, the quotient rounded toward zero.
 pub fn put_signed_division(
     block: &mut SymBlock,
-    layout: Layout,
+    layout: RoutineLayout,
     part: Part,
 ) -> Result<(), AllocError>
     ensures code { OnOk result (block.new.list.items ≡ block.old.list.items ++ signed_division_code layout part) }

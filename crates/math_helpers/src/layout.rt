@@ -54,13 +54,13 @@ pub enum Value {
 
 /// Whose routine it is: the root that it runs under, the number of its copy, and the width of its operands.
 #[derive(Clone, Copy, PartialEq, Eq, Debug)]
-pub struct Layout {
+pub struct RoutineLayout {
     pub root: Root,
     pub copy: u16,
     pub width: Width,
 }
 
-impl Layout {
+impl RoutineLayout {
     /// Byte `k` of a value, counted from the lowest one.
     pub fn byte(self, value: Value, k: u8) -> Operand
         ensures { result ≡ operand_at self value k }

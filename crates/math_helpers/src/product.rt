@@ -7,13 +7,13 @@ ghost use Rattle.math_helpers.specs.Routines.{rounds_code, round_end_code, produ
 use crate::emit::{
     CARRY, put_file, put_flag, put_from_w, put_jump, put_label, put_number, put_return,
 };
-use crate::layout::{Layout, Value};
+use crate::layout::{RoutineLayout, Value};
 use crate::steps::{Step, put_each};
 use std::alloc::AllocError;
 use sym_code::{BitOperation, FileOperation, SymBlock};
 
 /// The counter becomes the number of bits of an operand.
-pub fn put_rounds(block: &mut SymBlock, layout: Layout) -> Result<(), AllocError>
+pub fn put_rounds(block: &mut SymBlock, layout: RoutineLayout) -> Result<(), AllocError>
     ensures code { OnOk result (block.new.list.items ≡ block.old.list.items ++ rounds_code layout) }
     ensures name { block.new.name ≡ block.old.name }
 {
@@ -25,7 +25,7 @@ pub fn put_rounds(block: &mut SymBlock, layout: Layout) -> Result<(), AllocError
 /// One round less is left, and where another one is left, it begins at the label.
 pub fn put_round_end(
     block: &mut SymBlock,
-    layout: Layout,
+    layout: RoutineLayout,
     counter: Value,
     label: u32,
 ) -> Result<(), AllocError>
@@ -39,7 +39,7 @@ pub fn put_round_end(
 
 /// For each bit of the left operand, from the highest one: the answer is doubled, and the right operand added to it where
 /// the bit is 1.
-pub fn put_product(block: &mut SymBlock, layout: Layout) -> Result<(), AllocError>
+pub fn put_product(block: &mut SymBlock, layout: RoutineLayout) -> Result<(), AllocError>
     ensures code { OnOk result (block.new.list.items ≡ block.old.list.items ++ product_code layout) }
     ensures name { block.new.name ≡ block.old.name }
 {

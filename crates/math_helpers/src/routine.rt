@@ -7,7 +7,7 @@ ghost use Rattle.math_helpers.specs.Routines.{width_of, task_of, task_code, help
 ghost use Rattle.math_helpers.specs.Shape.{most_words, stated_words, is_closed, IsOwn, frame_size};
 
 use crate::division::{Part, put_division, put_signed_division};
-use crate::layout::{Layout, Width};
+use crate::layout::{RoutineLayout, Width};
 use crate::product::put_product;
 use crate::shift::{Direction, put_shift};
 use c_typed::Helper;
@@ -63,7 +63,7 @@ fn task_of(helper: Helper) -> Task
     }
 }
 
-fn put_task(block: &mut SymBlock, layout: Layout, task: Task) -> Result<(), AllocError>
+fn put_task(block: &mut SymBlock, layout: RoutineLayout, task: Task) -> Result<(), AllocError>
     ensures code { OnOk result (block.new.list.items ≡ block.old.list.items ++ task_code layout task) }
     ensures name { block.new.name ≡ block.old.name }
 {
@@ -89,7 +89,7 @@ pub fn helper(alloc: Global, h: Helper, root: Root, copy: u16) -> Result<SymBloc
     let mut block = SymBlock::new(alloc, BlockName::Copy(copy));
     put_task(
         &mut block,
-        Layout {
+        RoutineLayout {
             root,
             copy,
             width: width_of(h),

@@ -5,7 +5,7 @@ ghost use Rattle.std.specs.Prelude.{◌≡◌, ◌++◌, OnOk};
 ghost use Rattle.math_helpers.specs.Routines.{one_bit_code, shift_code};
 
 use crate::emit::{CARRY, ZERO, put_file, put_flag, put_label, put_return, put_w};
-use crate::layout::{Layout, Value};
+use crate::layout::{RoutineLayout, Value};
 use crate::product::put_round_end;
 use crate::steps::{Step, put_each};
 use std::alloc::AllocError;
@@ -23,7 +23,11 @@ pub enum Direction {
 }
 
 // The answer goes by one bit.
-fn put_one_bit(block: &mut SymBlock, layout: Layout, direction: Direction) -> Result<(), AllocError>
+fn put_one_bit(
+    block: &mut SymBlock,
+    layout: RoutineLayout,
+    direction: Direction,
+) -> Result<(), AllocError>
     ensures code { OnOk result (block.new.list.items ≡ block.old.list.items ++ one_bit_code layout direction) }
     ensures name { block.new.name ≡ block.old.name }
 {
@@ -47,7 +51,7 @@ fn put_one_bit(block: &mut SymBlock, layout: Layout, direction: Direction) -> Re
 /// The left operand goes by as many bits as the lowest byte of the right operand says.
 pub fn put_shift(
     block: &mut SymBlock,
-    layout: Layout,
+    layout: RoutineLayout,
     direction: Direction,
 ) -> Result<(), AllocError>
     ensures code { OnOk result (block.new.list.items ≡ block.old.list.items ++ shift_code layout direction) }

@@ -6,7 +6,7 @@ ghost use Rattle.math_helpers.specs.Layouts.{bytes_of};
 ghost use Rattle.math_helpers.specs.Pieces.{right_byte, step_code, each_byte};
 
 use crate::emit::{CARRY, ZERO, put_clear, put_file, put_flag, put_from_w, put_w};
-use crate::layout::{Layout, Value};
+use crate::layout::{RoutineLayout, Value};
 use std::alloc::AllocError;
 use sym_code::{BitOperation, FileOperation, SymBlock};
 
@@ -38,7 +38,7 @@ pub enum Step {
 // next instruction is skipped where that gives 0 with a carry.
 fn put_right_byte(
     block: &mut SymBlock,
-    layout: Layout,
+    layout: RoutineLayout,
     unless: BitOperation,
     k: u8,
 ) -> Result<(), AllocError>
@@ -55,7 +55,12 @@ fn put_right_byte(
 }
 
 // The code of a step at byte `k`.
-fn put_step(block: &mut SymBlock, layout: Layout, step: Step, k: u8) -> Result<(), AllocError>
+fn put_step(
+    block: &mut SymBlock,
+    layout: RoutineLayout,
+    step: Step,
+    k: u8,
+) -> Result<(), AllocError>
     requires { k < bytes_of layout.width }
     ensures code { OnOk result (block.new.list.items ≡ block.old.list.items ++ step_code layout step k) }
     ensures name { block.new.name ≡ block.old.name }
@@ -104,7 +109,7 @@ fn put_step(block: &mut SymBlock, layout: Layout, step: Step, k: u8) -> Result<(
 // One is added to byte `k`, behind the lowest one only where the byte before it became 0.
 fn put_increment(
     block: &mut SymBlock,
-    layout: Layout,
+    layout: RoutineLayout,
     value: Value,
     k: u8,
 ) -> Result<(), AllocError>
@@ -120,7 +125,7 @@ fn put_increment(
 
 /// The code of a step at all bytes.
 #[tactic(auto, using(crate::proofs::Rounds::each_more, std::proofs::lemmas::List::append_assoc))]
-pub fn put_each(block: &mut SymBlock, layout: Layout, step: Step) -> Result<(), AllocError>
+pub fn put_each(block: &mut SymBlock, layout: RoutineLayout, step: Step) -> Result<(), AllocError>
     ensures code { OnOk result (block.new.list.items ≡ block.old.list.items ++ each_byte layout step (bytes_of layout.width)) }
     ensures name { block.new.name ≡ block.old.name }
 {

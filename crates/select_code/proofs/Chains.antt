@@ -1,5 +1,5 @@
 -- What is appended one behind the other.
-use Rattle.std.proofs.Common.{◌≡◌, ℕ, zero, suc, ◌+◌, ◌<◌, List, [], ◌∷◌, ◌++◌, true, false, Option, Some, None, option_map, cond, ◌⊎◌, inl, inr, Vec, Box, Global, length, get_or, take, refl, sym, ap, ◌∙◌, append_assoc, length-append, add-one, arith}
+use Rattle.std.proofs.Common.{◌≡◌, ℕ, zero, suc, ◌+◌, ◌<◌, List, [], ◌∷◌, ◌++◌, true, false, Option, Some, None, option_map, cond, ◌⊎◌, inl, inr, Vec, Box, Global, length, get_or, take, reverse, refl, sym, ap, ◌∙◌, append_assoc, length-append, add-one, arith}
 use Rattle.std.proofs.lemmas.List.{append-nil, length-map}
 use Rattle.core_code.specs.declared.code.Byte.{Byte}
 use Rattle.core_code.specs.declared.code.Core.{Core}
@@ -9,7 +9,7 @@ use Rattle.sym_code.specs.declared.code.Label.{Label}
 use Rattle.sym_code.specs.declared.code.Sym.{Sym}
 use Rattle.select_code.specs.declared.control.Ending.{Ending}
 use Rattle.select_code.specs.Pieces.{test_code, label_code, goto_code, jump_code, first_label, second_label}
-use Rattle.select_code.specs.Selected.{Given, code_of, parts_code, first_code, single_code, if_code, short_jump, is_nothing, short_turn, short_list, turned, turn_code}
+use Rattle.select_code.specs.Selected.{Given, code_of, parts_code, first_code, single_code, form_by, if_code, short_jump, is_nothing, short_turn, short_list, turned, turn_code}
 use Rattle.select_code.specs.Sized.{is_cut}
 use Rattle.c_ints.specs.declared.types.IntTy.{IntTy}
 use Rattle.core_code.specs.declared.code.Core.TheVariants as Core
@@ -69,7 +69,7 @@ pub if_jump : (w : Given) (e : Ending) (loops : List ℕ) (before : List Tree) (
     → short_jump loops holds fails ≡ Some to → p ≡ o ++ test_code test size → q ≡ p ++ jump_code to → q ≡ o ++ code_of w e loops (length o) before tree
 if_jump w e loops before tree holds fails test size o p q to is short a b =
     then_put o p q (test_code test size) (jump_code to) a b
-    ∙ ap (λ s. o ++ if_code s (is_nothing fails) (length o) (test_code test size) (λ n. code_of w e loops n [] holds) (λ n. code_of w e loops n [] fails)) (sym short)
+    ∙ ap (λ s. o ++ if_code (form_by s (is_nothing fails)) (length o) (test_code test size) (λ n. code_of w e loops n [] holds) (λ n. code_of w e loops n [] fails)) (sym short)
     ∙ ap (λ t. o ++ code_of w e loops (length o) before t) (sym is)
 
 pub if_one : (w : Given) (e : Ending) (loops : List ℕ) (before : List Tree) (tree holds fails : Tree) (test : Byte) (size : ℕ) (o p q r s : List Sym) (end : Label) → tree ≡ If test size holds fails
@@ -87,8 +87,8 @@ if_one w e loops before tree holds fails test size o p q r s end is short nothin
     let u = then_put o p q t (jump_code l) a b' in
     let v = then_at o q r head f u c in
     then_put o r s (head ++ f (length o + length head)) (label_code l) v d'
-    ∙ ap (λ n. o ++ if_code None n (length o) t f g) (sym nothing)
-    ∙ ap (λ j. o ++ if_code j (is_nothing fails) (length o) t f g) (sym short)
+    ∙ ap (λ n. o ++ if_code (form_by None n) (length o) t f g) (sym nothing)
+    ∙ ap (λ j. o ++ if_code (form_by j (is_nothing fails)) (length o) t f g) (sym short)
     ∙ ap (λ z. o ++ code_of w e loops (length o) before z) (sym is)
 
 pub if_both : (w : Given) (e : Ending) (loops : List ℕ) (before : List Tree) (tree holds fails : Tree) (test : Byte) (size : ℕ) (o p q r s u v y : List Sym) (end other : Label) → tree ≡ If test size holds fails
@@ -115,13 +115,13 @@ if_both w e loops before tree holds fails test size o p q r s u v y end other is
     let h5 = then_put o s u (arm ++ goto_code l) (label_code m) h4 d5 in
     let h6 = then_at o u v middle g h5 e6 in
     then_put o v y (middle ++ g (length o + length middle)) (label_code l) h6 d7
-    ∙ ap (λ n. o ++ if_code None n (length o) t f g) (sym nothing)
-    ∙ ap (λ j. o ++ if_code j (is_nothing fails) (length o) t f g) (sym short)
+    ∙ ap (λ n. o ++ if_code (form_by None n) (length o) t f g) (sym nothing)
+    ∙ ap (λ j. o ++ if_code (form_by j (is_nothing fails)) (length o) t f g) (sym short)
     ∙ ap (λ z. o ++ code_of w e loops (length o) before z) (sym is)
 
-pub jump_same : (l m : List ℕ) (y z n k : Core) (short : Option Label) → short ≡ short_jump l (tree_of y) (tree_of n) → l ≡ m → y ≡ z → n ≡ k → short_jump m (tree_of z) (tree_of k) ≡ short
+pub jump_same : (l m : List ℕ) (y z n k : Core) (short : Option Label) → short ≡ short_jump (reverse l) (tree_of y) (tree_of n) → l ≡ m → y ≡ z → n ≡ k → short_jump (reverse m) (tree_of z) (tree_of k) ≡ short
 jump_same l m y z n k short is a b d =
-    sym (is ∙ ap (λ v. short_jump v (tree_of y) (tree_of n)) a ∙ ap (λ v. short_jump m (tree_of v) (tree_of n)) b ∙ ap (λ v. short_jump m (tree_of z) (tree_of v)) d)
+    sym (is ∙ ap (λ v. short_jump (reverse v) (tree_of y) (tree_of n)) a ∙ ap (λ v. short_jump (reverse m) (tree_of v) (tree_of n)) b ∙ ap (λ v. short_jump (reverse m) (tree_of z) (tree_of v)) d)
 
 -- A loop's turn.
 pub turn_short : (w : Given) (e : Ending) (loops : List ℕ) (o q : List Sym) (xs : List Core) (tree : Tree) (top : Label) (count : ℕ) → tree ≡ Many (trees_of (trees_in xs)) → Some count ≡ short_list (trees_in xs)

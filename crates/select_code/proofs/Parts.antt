@@ -1,12 +1,13 @@
--- Lists of operations, one more at a time.
-use Rattle.std.proofs.Common.{◌≡◌, ℕ, ◌+◌, ◌<◌, List, [], ◌∷◌, ◌++◌, ◌&&◌, true, false, ◌==◌, length, get_or, take, refl, sym, ap, ◌∙◌, arith}
-use Rattle.std.proofs.lemmas.List.{take_more}
+-- Lists of operations, one more at a time, and from the back.
+use Rattle.std.proofs.Common.{◌≡◌, ℕ, zero, suc, ◌+◌, ◌-◌, ◌<◌, ◌≤◌, List, [], ◌∷◌, ◌++◌, ◌&&◌, true, false, cond, ◌==◌, Some, None, option_map, length, get_or, take, reverse, slice_get, refl, sym, ap, ◌∙◌, arith}
+use Rattle.std.proofs.lemmas.List.{take_more, get_or-reverse, length-reverse, reverse-append}
+use Rattle.std.proofs.lemmas.Option.{slice_get-get_or, slice_get_past}
 use Rattle.std.proofs.lemmas.Bool.{ne_eqb}
 use Rattle.core_code.specs.declared.code.Core.{Core}
 use Rattle.core_code.specs.Tree.{trees_of}
 use Rattle.core_code.specs.View.{tree_of, trees_in}
 use Rattle.select_code.specs.Sized.{is_byte_sized, are_byte_sized}
-use Rattle.select_code.specs.Selected.{is_none}
+use Rattle.select_code.specs.Selected.{is_none, is_exit, short_list}
 
 both_left : (a b c : _) → (a && (b && c)) ≡ ((a && b) && c)
 both_left true b c = refl
@@ -28,3 +29,31 @@ sized_taken n xs i x lt is = ap (λ l. are_byte_sized n (trees_of (trees_in l)))
 pub none_of : (xs : List Core) (n : ℕ) → n ≡ length xs → (n == 0) ≡ is_none (trees_of (trees_in xs))
 none_of [] n e = rw e refl
 none_of (x ∷ xs) n e = ne_eqb n 0 (λ z. omega (arith, e, z))
+
+-- counted from the back
+pub from_back : (xs : List ℕ) (k x : ℕ) → k < length xs → x ≡ get_or xs (length xs - 1 - k) x → Some x ≡ slice_get (reverse xs) k
+from_back xs k x lt is = ap (λ v. Some v) (is ∙ sym (get_or-reverse xs k x lt)) ∙ sym (slice_get-get_or (reverse xs) k x (omega (arith, lt, length-reverse xs)))
+
+pub past_back : (xs : List ℕ) (k : ℕ) → length xs ≤ k → None ≡ slice_get (reverse xs) k
+past_back xs k le = sym (slice_get_past (reverse xs) k (omega (arith, le, length-reverse xs)))
+
+-- the loop that was entered last is the first one
+pub one_inside : (xs : List ℕ) (x : ℕ) → reverse (xs ++ x ∷ []) ≡ x ∷ reverse xs
+one_inside xs x = reverse-append xs (x ∷ [])
+
+one_longer : (b : _) (n : ℕ) → option_map (λ count. suc count) (cond b (Some n) None) ≡ cond b (Some (suc n)) None
+one_longer true n = refl
+one_longer false n = refl
+
+pub short_none : (xs : List Core) → length xs ≡ 0 → None ≡ short_list (trees_in xs)
+short_none [] e = refl
+short_none (x ∷ xs) e = absurd (omega (arith, e))
+
+-- by the last of some operations
+pub short_by_last : (xs : List Core) (n : ℕ) (x : Core) → length xs ≡ suc n → x ≡ get_or xs n x → short_list (trees_in xs) ≡ cond (is_exit (tree_of x)) (Some n) None
+short_by_last [] n x e is = absurd (omega (arith, e))
+short_by_last (y ∷ []) zero x e is = ap (λ v. cond (is_exit (tree_of v)) (Some 0) None) (sym is)
+short_by_last (y ∷ []) (suc n) x e is = absurd (omega (arith, e))
+short_by_last (y ∷ z ∷ xs) zero x e is = absurd (omega (arith, e))
+short_by_last (y ∷ z ∷ xs) (suc n) x e is =
+    ap (λ s. option_map (λ count. suc count) s) (short_by_last (z ∷ xs) n x (omega (arith, e)) is) ∙ one_longer (is_exit (tree_of x)) n

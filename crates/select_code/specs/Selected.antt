@@ -1,5 +1,5 @@
 -- The code of operations.
-use Rattle.std.specs.Prelude.{ℕ, zero, suc, ◌+◌, ◌-◌, Bool, true, false, cond, nat_lt, List, [], ◌∷◌, ◌++◌, length, slice_get, Option, Some, None, option_map}
+use Rattle.std.specs.Prelude.{ℕ, zero, suc, ◌+◌, Bool, true, false, cond, List, [], ◌∷◌, ◌++◌, length, slice_get, Option, Some, None, option_map}
 use Rattle.core_code.specs.Tree.{Tree, Trees, Set, Address, Copy, Load, Store, Unary, Binary, Convert, BitRead, BitWrite, Call, Leave, Many, If, Loop, Exit, Again, NoTree, AndTree, list_of, trees_of}
 use Rattle.sym_code.specs.declared.code.BlockName.{BlockName}
 use Rattle.sym_code.specs.declared.code.BlockName.TheVariants as block
@@ -27,14 +27,10 @@ leave_code ending.Return = sym.Plain plain.Return ∷ []
 abbrev pub call_code : ℕ → List Sym
 call_code copy = sym.Call (target.Block (block.Copy copy)) ∷ []
 
--- where the loop that is so many loops out begins, the innermost loop being the last
-abbrev pub loop_out : List ℕ → ℕ → Option ℕ
-loop_out loops count = cond (nat_lt count (length loops)) (slice_get loops (length loops - 1 - count)) None
-
--- where an operation goes to that does nothing else
+-- Where an operation goes to that does nothing else. `loops` has where the loops round it begin, the innermost one first.
 abbrev pub jump_target : List ℕ → Tree → Option Label
-jump_target loops (Exit count) = option_map second_label (loop_out loops count)
-jump_target loops (Again count) = option_map first_label (loop_out loops count)
+jump_target loops (Exit count) = option_map second_label (slice_get loops count)
+jump_target loops (Again count) = option_map first_label (slice_get loops count)
 jump_target loops _ = None
 
 abbrev pub goes_to : Option Label → List Sym
@@ -58,26 +54,38 @@ abbrev pub is_exit : Tree → Bool
 is_exit (Exit zero) = true
 is_exit _ = false
 
-abbrev pub is_exit_there : Option Tree → Bool
-is_exit_there None = false
-is_exit_there (Some part) = is_exit part
-
 -- how many operations there are before the last one, where that leaves the innermost loop
 abbrev pub short_list : List Tree → Option ℕ
-short_list parts = cond (is_exit_there (slice_get parts (length parts - 1))) (Some (length parts - 1)) None
+short_list [] = None
+short_list (part ∷ []) = cond (is_exit part) (Some 0) None
+short_list (part ∷ next ∷ parts) = option_map (λ count. suc count) (short_list (next ∷ parts))
 
 abbrev pub short_turn : Tree → Option ℕ
 short_turn (Many parts) = short_list (list_of parts)
 short_turn _ = None
 
--- A condition behind so many instructions: the jump that it is, whether nothing is to be done where it fails, the code of
--- the test, and the codes of both parts behind so many instructions.
-abbrev pub if_code : Option Label → Bool → ℕ → List Sym → (ℕ → List Sym) → (ℕ → List Sym) → List Sym
-if_code (Some to) nothing at test holds fails = test ++ jump_code to
-if_code None true at test holds fails =
+-- What a condition comes to: but a jump, where it fails; nothing to do where it fails; or the whole of it.
+pub data IfForm : Type 0 where
+  Jumps : Label → IfForm
+  Half : IfForm
+  Whole : IfForm
+
+-- by the jump that it is, and whether there is nothing to do where it fails
+abbrev pub form_by : Option Label → Bool → IfForm
+form_by (Some to) nothing = Jumps to
+form_by None true = Half
+form_by None false = Whole
+
+abbrev pub if_form : List ℕ → Tree → Tree → IfForm
+if_form loops holds fails = form_by (short_jump loops holds fails) (is_nothing fails)
+
+-- a condition behind so many instructions: the code of the test, and the codes of both parts behind so many instructions
+abbrev pub if_code : IfForm → ℕ → List Sym → (ℕ → List Sym) → (ℕ → List Sym) → List Sym
+if_code (Jumps to) at test holds fails = test ++ jump_code to
+if_code Half at test holds fails =
     let head = test ++ jump_code (second_label at) in
     head ++ holds (at + length head) ++ label_code (second_label at)
-if_code None false at test holds fails =
+if_code Whole at test holds fails =
     let head = test ++ jump_code (first_label at) in
     let middle = head ++ holds (at + length head) ++ goto_code (second_label at) ++ label_code (first_label at) in
     middle ++ fails (at + length middle) ++ label_code (second_label at)
@@ -115,11 +123,11 @@ abbrev mutual
   pub code_of : Given → Ending → List ℕ → ℕ → List Tree → Tree → List Sym
   code_of wide end loops at before (Many parts) = parts_code wide end loops at [] parts (length (list_of parts))
   code_of wide end loops at before (If test size holds fails) =
-      if_code (short_jump loops holds fails) (is_nothing fails) at (test_code test size)
+      if_code (if_form loops holds fails) at (test_code test size)
       (λ n. code_of wide end loops n [] holds) (λ n. code_of wide end loops n [] fails)
   code_of wide end loops at before (Loop body) =
-      loop_code at (turned (option_map (λ count. first_code wide end (loops ++ at ∷ []) (at + 1) count body) (short_turn body))
-      (code_of wide end (loops ++ at ∷ []) (at + 1) [] body) (first_label at))
+      loop_code at (turned (option_map (λ count. first_code wide end (at ∷ loops) (at + 1) count body) (short_turn body))
+      (code_of wide end (at ∷ loops) (at + 1) [] body) (first_label at))
   code_of wide end loops at before single = single_code wide end loops at before single
 
   -- the first operations of a `Many`

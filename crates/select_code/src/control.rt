@@ -1,11 +1,11 @@
 //! The recursion over control.
 
-ghost use Rattle.std.specs.Prelude.{◌≡◌, ◌≤◌, ◌+◌, ◌++◌, [], ◌∷◌, ℕ, List, true, false, IfSome, IfOk, OnOk, length};
+ghost use Rattle.std.specs.Prelude.{◌≡◌, ◌≤◌, ◌+◌, ◌++◌, [], ◌∷◌, ℕ, List, true, false, IfSome, IfOk, OnOk, length, reverse, slice_get};
 ghost use Rattle.core_code.specs.Tree.{Tree, trees_of};
 ghost use Rattle.core_code.specs.View.{tree_of, trees_in};
 ghost use Rattle.sym_code.specs.declared.code.Sym.{Sym};
 ghost use Rattle.select_code.specs.Pieces.{first_label};
-ghost use Rattle.select_code.specs.Selected.{leave_code, call_code, loop_out, jump_target, goes_to, is_nothing, short_jump, is_exit, short_list, single_code, code_of, parts_code, loop_code, turn_code, body_code, ending_of, byte_code};
+ghost use Rattle.select_code.specs.Selected.{leave_code, call_code, jump_target, goes_to, is_nothing, short_jump, is_exit, short_list, single_code, code_of, parts_code, loop_code, turn_code, body_code, ending_of, byte_code};
 ghost use Rattle.select_code.specs.Sized.{is_byte_sized};
 
 use crate::pieces::{
@@ -69,8 +69,9 @@ fn put_call(copy: u16, out: &mut SymBlock) -> Result<(), AllocError>
 }
 
 // Where the loop that is so many loops out begins, by what stood before it: the innermost loop is the last.
+#[tactic(auto, using(crate::proofs::Parts::from_back, crate::proofs::Parts::past_back))]
 fn loop_out(loops: &[usize], count: u8) -> Option<usize>
-    ensures { result ≡ loop_out loops.now count }
+    ensures { result ≡ slice_get (reverse loops.now) count }
 {
     let count = usize::from(count);
     if count < loops.len() {
@@ -83,7 +84,7 @@ fn loop_out(loops: &[usize], count: u8) -> Option<usize>
 // The label that an operation goes to, where all that it does is to go there.
 #[tactic(auto, using(core_code::proofs::Views::tree_set, core_code::proofs::Views::tree_address, core_code::proofs::Views::tree_copy, core_code::proofs::Views::tree_load, core_code::proofs::Views::tree_store, core_code::proofs::Views::tree_unary, core_code::proofs::Views::tree_binary, core_code::proofs::Views::tree_convert, core_code::proofs::Views::tree_bit_read, core_code::proofs::Views::tree_bit_write, core_code::proofs::Views::tree_call, core_code::proofs::Views::tree_leave, core_code::proofs::Views::tree_many, core_code::proofs::Views::tree_if, core_code::proofs::Views::tree_loop, core_code::proofs::Views::tree_exit, core_code::proofs::Views::tree_again))]
 fn jump_of(c: &Core, loops: &[usize]) -> Result<Option<Label>, AllocError>
-    ensures { IfOk result (λ to. to ≡ jump_target loops.now (tree_of c.now)) }
+    ensures { IfOk result (λ to. to ≡ jump_target (reverse loops.now) (tree_of c.now)) }
 {
     match c {
         Core::Exit(count) => match loop_out(loops, *count) {
@@ -120,6 +121,7 @@ fn is_exit(c: &Core) -> bool
 }
 
 // How many operations there are before the last one, where that leaves the innermost loop.
+#[tactic(auto, using(crate::proofs::Parts::short_none, crate::proofs::Parts::short_by_last))]
 fn short_list(parts: &[Core]) -> Option<usize>
     ensures value { result ≡ short_list (trees_in parts.now) }
     ensures fits { IfSome result (λ count. count + 1 ≡ length parts.now) }
@@ -137,7 +139,7 @@ fn short_list(parts: &[Core]) -> Option<usize>
 
 // The label of a condition's `no` part, where the condition is but a jump.
 fn short_jump(yes: &Core, no: &Core, loops: &[usize]) -> Result<Option<Label>, AllocError>
-    ensures { IfOk result (λ to. to ≡ short_jump loops.now (tree_of yes.now) (tree_of no.now)) }
+    ensures { IfOk result (λ to. to ≡ short_jump (reverse loops.now) (tree_of yes.now) (tree_of no.now)) }
 {
     if is_empty(yes) {
         jump_of(no, loops)
@@ -148,7 +150,7 @@ fn short_jump(yes: &Core, no: &Core, loops: &[usize]) -> Result<Option<Label>, A
 
 // What goes somewhere else, or nothing where the loop that is meant isn't there.
 fn put_jump(c: &Core, loops: &[usize], out: &mut SymBlock) -> Result<(), AllocError>
-    ensures put { OnOk result (out.new.list.items ≡ out.old.list.items ++ goes_to (jump_target loops.now (tree_of c.now))) }
+    ensures put { OnOk result (out.new.list.items ≡ out.old.list.items ++ goes_to (jump_target (reverse loops.now) (tree_of c.now))) }
     ensures name { out.new.name ≡ out.old.name }
 {
     match jump_of(c, loops)? {
@@ -167,7 +169,7 @@ fn select_single<W: Wide>(
     loops: &[usize],
     out: &mut SymBlock,
 ) -> Result<(), AllocError>
-    ensures put { OnOk result (out.new.list.items ≡ out.old.list.items ++ single_code (W.code wide.now) ending loops.now (length out.old.list.items) (trees_in before.now) (tree_of c.now)) }
+    ensures put { OnOk result (out.new.list.items ≡ out.old.list.items ++ single_code (W.code wide.now) ending (reverse loops.now) (length out.old.list.items) (trees_in before.now) (tree_of c.now)) }
     ensures name { out.new.name ≡ out.old.name }
 {
     match c {
@@ -209,7 +211,7 @@ pub fn select_with<W: Wide>(
     loops: &mut Vec<usize>,
     out: &mut SymBlock,
 ) -> Result<(), AllocError>
-    ensures put { OnOk result (out.new.list.items ≡ out.old.list.items ++ code_of (W.code wide.now) ending loops.old.items (length out.old.list.items) (trees_in before.now) (tree_of c.now)) }
+    ensures put { OnOk result (out.new.list.items ≡ out.old.list.items ++ code_of (W.code wide.now) ending (reverse loops.old.items) (length out.old.list.items) (trees_in before.now) (tree_of c.now)) }
     ensures loops { OnOk result (loops.new.items ≡ loops.old.items) }
     ensures name { out.new.name ≡ out.old.name }
 {
@@ -256,7 +258,7 @@ fn select_parts<W: Wide>(
     out: &mut SymBlock,
 ) -> Result<(), AllocError>
     requires { count ≤ length parts.now }
-    ensures put { OnOk result (out.new.list.items ≡ out.old.list.items ++ parts_code (W.code wide.now) ending loops.old.items (length out.old.list.items) [] (trees_of (trees_in parts.now)) count) }
+    ensures put { OnOk result (out.new.list.items ≡ out.old.list.items ++ parts_code (W.code wide.now) ending (reverse loops.old.items) (length out.old.list.items) [] (trees_of (trees_in parts.now)) count) }
     ensures loops { OnOk result (loops.new.items ≡ loops.old.items) }
     ensures name { out.new.name ≡ out.old.name }
 {
@@ -268,6 +270,7 @@ fn select_parts<W: Wide>(
 
 // A loop.
 #[cycle(select)]
+#[tactic(auto, using(crate::proofs::Parts::one_inside))]
 fn select_loop<W: Wide>(
     body: &Core,
     wide: &W,
@@ -275,7 +278,7 @@ fn select_loop<W: Wide>(
     loops: &mut Vec<usize>,
     out: &mut SymBlock,
 ) -> Result<(), AllocError>
-    ensures put { OnOk result (out.new.list.items ≡ out.old.list.items ++ loop_code (length out.old.list.items) (turn_code (W.code wide.now) ending (loops.old.items ++ length out.old.list.items ∷ []) (length out.old.list.items + 1) (tree_of body.now) (first_label (length out.old.list.items)))) }
+    ensures put { OnOk result (out.new.list.items ≡ out.old.list.items ++ loop_code (length out.old.list.items) (turn_code (W.code wide.now) ending (length out.old.list.items ∷ reverse loops.old.items) (length out.old.list.items + 1) (tree_of body.now) (first_label (length out.old.list.items)))) }
     ensures loops { OnOk result (loops.new.items ≡ loops.old.items) }
     ensures name { out.new.name ≡ out.old.name }
 {
@@ -299,7 +302,7 @@ fn select_turn<W: Wide>(
     loops: &mut Vec<usize>,
     out: &mut SymBlock,
 ) -> Result<(), AllocError>
-    ensures put { OnOk result (out.new.list.items ≡ out.old.list.items ++ turn_code (W.code wide.now) ending loops.old.items (length out.old.list.items) (tree_of body.now) top) }
+    ensures put { OnOk result (out.new.list.items ≡ out.old.list.items ++ turn_code (W.code wide.now) ending (reverse loops.old.items) (length out.old.list.items) (tree_of body.now) top) }
     ensures loops { OnOk result (loops.new.items ≡ loops.old.items) }
     ensures name { out.new.name ≡ out.old.name }
 {

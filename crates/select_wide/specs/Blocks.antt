@@ -14,7 +14,7 @@ use Rattle.sym_code.specs.declared.code.SymBlock.{SymBlock}
 use Rattle.select_code.specs.Selected.{body_code}
 use Rattle.select_code.specs.declared.control.Ending.{Ending}
 use Rattle.select_code.specs.declared.control.Ending.TheVariants.{Halt, Restore, Return}
-use Rattle.select_wide.specs.Sums.{is_same_root}
+use Rattle.core_code.specs.Bytes.{same_root}
 use Rattle.select_wide.specs.Selection.{wide_code}
 
 abbrev pub is_user : FnId → Bool
@@ -28,7 +28,7 @@ body_at (body ∷ bodies) number = if nat_eq body.copy number then Some body els
 
 -- the handler's copy is the first under its root
 abbrev pub handler_at : List FnCopy → Option ℕ
-handler_at list = position (λ copy. is_same_root copy.root Isr) list
+handler_at list = position (λ copy. same_root copy.root Isr) list
 
 abbrev pub is_number : Option ℕ → ℕ → Bool
 is_number None number = false

@@ -18,14 +18,14 @@ use Rattle.sym_code.specs.declared.code.Sym.TheVariants as sym
 use Rattle.sym_code.specs.declared.code.Target.TheVariants.{Block}
 use Rattle.select_code.specs.Pieces.{byte_behind}
 use Rattle.select_wide.specs.Moves.{copies_code}
-use Rattle.select_wide.specs.Sums.{is_same_root}
+use Rattle.core_code.specs.Bytes.{same_root}
 
 abbrev pub is_helper : Helper → FnId → Bool
 is_helper helper (callee.User f) = false
 is_helper helper (callee.Helper other) = nat_eq (helper_number other) (helper_number helper)
 
 abbrev pub is_copy_of : Root → Helper → FnCopy → Bool
-is_copy_of root helper copy = is_same_root copy.root root && is_helper helper copy.function
+is_copy_of root helper copy = same_root copy.root root && is_helper helper copy.function
 
 -- the number of a helper's copy under a root
 abbrev pub copy_of : List FnCopy → Root → Helper → Option ℕ

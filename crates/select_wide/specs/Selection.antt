@@ -11,7 +11,8 @@ use Rattle.core_code.specs.Tree.{Tree}
 use Rattle.core_code.specs.declared.code.Byte.{Byte}
 use Rattle.sym_code.specs.declared.code.FileOperation.TheVariants.{Andwf, Iorwf, Xorwf}
 use Rattle.sym_code.specs.declared.code.Sym.{Sym}
-use Rattle.select_wide.specs.Sums.{is_same, chain_code, sum_code, bits_code}
+use Rattle.core_code.specs.Bytes.{same_byte}
+use Rattle.select_wide.specs.Sums.{chain_code, sum_code, bits_code}
 use Rattle.select_wide.specs.Comparisons.{equality_code, order_code}
 use Rattle.select_wide.specs.Single.{is_signed, unary_code, widening_code}
 use Rattle.select_wide.specs.Pointers.{address_code, load_code, store_all_code}
@@ -23,7 +24,7 @@ use Rattle.select_wide.specs.declared.operands.Way.TheVariants.{Left, Right, Sig
 
 -- what a run of `Set`s leaves in a byte, with one operation more
 abbrev pub number_behind : Byte → Option ℕ → Tree → Option ℕ
-number_behind byte left (tree.Set to value) = if is_same to byte then Some value else left
+number_behind byte left (tree.Set to value) = if same_byte to byte then Some value else left
 number_behind byte left _ = None
 
 abbrev pub number_from : Byte → Option ℕ → List Tree → Option ℕ

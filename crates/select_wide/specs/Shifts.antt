@@ -8,7 +8,7 @@ use Rattle.sym_code.specs.declared.code.Sym.{Sym}
 use Rattle.select_code.specs.declared.pieces.Flag.TheVariants.{Carry}
 use Rattle.select_code.specs.Pieces.{byte_behind, file_code, flag_code, copy_code}
 use Rattle.select_wide.specs.Pieces.{rising, sign_code}
-use Rattle.select_wide.specs.Sums.{is_same}
+use Rattle.core_code.specs.Bytes.{same_byte}
 use Rattle.select_wide.specs.Moves.{copies_code, stores_code, clears_code}
 use Rattle.select_wide.specs.declared.operands.Way.{Way}
 use Rattle.select_wide.specs.declared.operands.Way.TheVariants.{Left, Right, SignedRight}
@@ -54,7 +54,7 @@ in_place_code way at width count = bytes_code way at width (count / 8) ++ bit_sh
 
 -- the value goes to where the left operand isn't already
 abbrev pub moved_code : Byte → Byte → ℕ → List Sym
-moved_code to left width = if is_same to left then [] else copies_code to left width
+moved_code to left width = if same_byte to left then [] else copies_code to left width
 
 -- a shift by a constant; one by the width or more leaves the left operand's value
 abbrev pub shift_code : Way → Byte → Byte → ℕ → ℕ → List Sym

@@ -1,9 +1,7 @@
 -- Sums, differences and bit operations, byte by byte from the lowest.
-use Rattle.std.specs.Prelude.{ℕ, nat_eq, Bool, true, false, ◌&&◌, if◌then◌else◌, List, ◌++◌}
-use Rattle.pic_chip.specs.declared.Root.{Root}
-use Rattle.pic_chip.specs.declared.Root.TheVariants.{Main, Isr}
+use Rattle.std.specs.Prelude.{ℕ, nat_eq, if◌then◌else◌, List, ◌++◌}
+use Rattle.core_code.specs.Bytes.{same_byte}
 use Rattle.core_code.specs.declared.code.Byte.{Byte}
-use Rattle.core_code.specs.declared.code.Byte.TheVariants.{Static, Frame, Result, Device}
 use Rattle.sym_code.specs.declared.code.BitOperation.{BitOperation}
 use Rattle.sym_code.specs.declared.code.BitOperation.TheVariants.{Btfsc, Btfss}
 use Rattle.sym_code.specs.declared.code.FileOperation.{FileOperation}
@@ -16,20 +14,6 @@ use Rattle.select_code.specs.Pieces.{byte_behind, file_code, store_code, flag_co
 use Rattle.select_wide.specs.Pieces.{rising, pair_code}
 use Rattle.select_wide.specs.declared.operands.Chain.{Chain}
 use Rattle.select_wide.specs.declared.operands.Chain.TheVariants.{Sum, Difference}
-
-abbrev pub is_same_root : Root → Root → Bool
-is_same_root Main Main = true
-is_same_root Isr Isr = true
-is_same_root Main Isr = false
-is_same_root Isr Main = false
-
--- two names of one byte
-abbrev pub is_same : Byte → Byte → Bool
-is_same (Static object offset) (Static other place) = nat_eq object other && nat_eq offset place
-is_same (Frame copy offset) (Frame other place) = nat_eq copy other && nat_eq offset place
-is_same (Result root k) (Result other n) = is_same_root root other && nat_eq k n
-is_same (Device address) (Device other) = nat_eq address other
-is_same _ _ = false
 
 abbrev pub chain_operation : Chain → FileOperation
 chain_operation Sum = Addwf
@@ -53,17 +37,17 @@ abbrev pub apart_code : Chain → Byte → Byte → Byte → ℕ → List Sym
 apart_code chain to left right k = if nat_eq k 0 then pair_code (chain_operation chain) left right W ++ store_code to else copy_code (byte_behind to k) (byte_behind left k) ++ further_code chain (byte_behind to k) (byte_behind right k) File
 
 abbrev pub chain_byte_code : Chain → Byte → Byte → Byte → ℕ → List Sym
-chain_byte_code chain to left right k = if is_same to left then link_code chain left right File k else apart_code chain to left right k
+chain_byte_code chain to left right k = if same_byte to left then link_code chain left right File k else apart_code chain to left right k
 
 abbrev pub chain_code : Chain → Byte → Byte → Byte → ℕ → List Sym
 chain_code chain to left right width = rising (chain_byte_code chain to left right) width
 
 -- a sum, whose operands may change places
 abbrev pub sum_code : Byte → Byte → Byte → ℕ → List Sym
-sum_code to left right width = if is_same to right then chain_code Sum to right left width else chain_code Sum to left right width
+sum_code to left right width = if same_byte to right then chain_code Sum to right left width else chain_code Sum to left right width
 
 abbrev pub bits_byte_code : FileOperation → Byte → Byte → Byte → List Sym
-bits_byte_code op to left right = if is_same to left then pair_code op left right File else pair_code op left right W ++ store_code to
+bits_byte_code op to left right = if same_byte to left then pair_code op left right File else pair_code op left right W ++ store_code to
 
 abbrev pub bits_at_code : FileOperation → Byte → Byte → Byte → ℕ → List Sym
 bits_at_code op to left right k = bits_byte_code op (byte_behind to k) (byte_behind left k) (byte_behind right k)

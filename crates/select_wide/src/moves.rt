@@ -1,9 +1,9 @@
 //! Names of bytes, and several bytes that become others, W, or 0.
 
 ghost use Rattle.std.specs.Prelude.{◌≡◌, ◌++◌, OnOk, min};
+ghost use Rattle.core_code.specs.Bytes.{same_byte, same_root};
 ghost use Rattle.select_code.specs.Pieces.{byte_behind};
 ghost use Rattle.select_wide.specs.Moves.{copies_code, stores_code, clears_code};
-ghost use Rattle.select_wide.specs.Sums.{is_same, is_same_root};
 
 use core_code::Byte;
 use pic_chip::Root;
@@ -13,7 +13,7 @@ use sym_code::SymBlock;
 
 /// Whether two roots are one.
 pub fn is_same_root(root: Root, other: Root) -> bool
-    ensures { result ≡ is_same_root root other }
+    ensures { result ≡ same_root root other }
 {
     match root {
         Root::Main => match other {
@@ -29,7 +29,7 @@ pub fn is_same_root(root: Root, other: Root) -> bool
 
 /// Whether two names are those of one byte.
 pub fn is_same(byte: Byte, other: Byte) -> bool
-    ensures { result ≡ is_same byte other }
+    ensures { result ≡ same_byte byte other }
 {
     match byte {
         Byte::Static { object, offset } => match other {

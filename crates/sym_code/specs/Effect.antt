@@ -2,12 +2,13 @@
 -- read of a device register or of a watched byte comes later. Where no rule applies it is stuck: so is an access that the
 -- thread may not make, and in code with selects one in a bank, or a jump or call to a page, that isn't selected.
 -- g is the setting, q the program, inside whether the handler runs, p where the instruction stands, th the thread, m memory.
-use Rattle.std.specs.Prelude.{ℕ, ◌+◌, ◌/◌, ◌%◌, Bool, true, false, not, ◌&&◌, ◌||◌, nat_eq, nat_lt, if◌then◌else◌, List, [], ◌∷◌, length, Option, Some, None}
+use Rattle.std.specs.Prelude.{ℕ, ◌/◌, ◌%◌, Bool, true, false, not, ◌&&◌, ◌||◌, nat_eq, nat_lt, if◌then◌else◌, List, [], ◌∷◌, length, Option, Some, None}
 use Rattle.pic_isa.specs.declared.Ins.TheVariants as ins
 use Rattle.pic_chip.specs.Address.{in_every_bank}
 use Rattle.pic_chip.specs.Instructions.{bit, set_bit, clear_bit, truth}
 use Rattle.pic_chip.specs.Registers.{is_register, lowest}
 use Rattle.pic_chip.specs.declared.Cell.{Cell}
+use Rattle.pic_chip.specs.declared.Root.{Root}
 use Rattle.pic_chip.specs.declared.Root.TheVariants.{Main, Isr}
 use Rattle.core_code.specs.declared.code.Byte.TheVariants as bytes
 use Rattle.sym_code.specs.Layout.{DataLayout, address_of, address_byte, general_at, Owner, Watched, Constant, Of, Nobody, owner}
@@ -91,6 +92,10 @@ pub data Access : Type 0 where
   -- a general byte by its number, without an event
   Silent : ℕ → Access
   Denied : Access
+
+abbrev pub root_of : Bool → Root
+root_of false = Main
+root_of true = Isr
 
 -- Main has its own frames and results, and so has the handler; no byte of a const object is written.
 abbrev pub access_by : Bool → Bool → ℕ → Owner → Access

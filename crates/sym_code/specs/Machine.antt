@@ -5,7 +5,7 @@
 -- what the handler finds in the registers comes from outside. A step that would go to where no instruction stands is
 -- stuck at once.
 -- g is the setting, e the handler's registers at its entries, o the outside, t the machine.
-use Rattle.std.specs.Prelude.{ℕ, zero, suc, ◌+◌, Bool, true, false, if◌then◌else◌, List, [], ◌∷◌, ◌++◌, Option, Some, None}
+use Rattle.std.specs.Prelude.{ℕ, zero, suc, ◌+◌, Bool, false, if◌then◌else◌, [], Option, Some, None}
 use Rattle.pic_chip.specs.World.{Outside, World, ReadOf, WriteOf, Ended, arrived, is_due, entered, left, noted, device_value, after_device_read, after_device_write, sets_gie, world_at_start}
 use Rattle.sym_code.specs.Effect.{Setting, Thread, Memory, Write, written, write, Loud, Port, Shared, Effect, Stuck, Quiet, Reads, Writes, Leaves, Ends, Rests, effect}
 use Rattle.sym_code.specs.Programs.{Program, Position, front, lands}
@@ -109,15 +109,16 @@ abbrev pub act : Setting → Outside → Machine → Next
 act g o t = acted g o t (effect g t.world.inside (running t) t.memory)
 
 -- ---- entries
-abbrev pub at_entry : Program → ℕ → Registers → Thread
-at_entry q handler r = record { rest = None; at = Some (front q (Copy handler)); stack = []; registers = r }
+-- at the front of a copy
+abbrev pub at_front : Program → ℕ → Registers → Thread
+at_front q copy r = record { rest = None; at = Some (front q (Copy copy)); stack = []; registers = r }
 
 abbrev pub with_entry : Thread → Machine → Machine
 with_entry th t = record t { isr = th; entries = t.entries + 1; world = entered t.world }
 
 abbrev pub enter : Setting → Entry → Option ℕ → Machine → Next
 enter g e None t = Stops
-enter g e (Some h) t = if lands g.program (front g.program (Copy h)) then Goes (with_entry (at_entry g.program h (e t.entries)) t) else Stops
+enter g e (Some h) t = if lands g.program (front g.program (Copy h)) then Goes (with_entry (at_front g.program h (e t.entries)) t) else Stops
 
 -- ---- steps and runs
 -- the flags that arrive at this length are set
@@ -143,10 +144,4 @@ sym_run g e o (suc n) t = let u = sym_run g e o n t in gone u (sym_step g e o u)
 
 -- at the front of main, with these registers and this memory
 abbrev pub sym_start : Program → Registers → Memory → Machine
-sym_start q r m = record {
-  main = record { rest = None; at = Some (front q (Copy 0)); stack = []; registers = r };
-  isr = record { rest = None; at = None; stack = []; registers = r };
-  entries = 0;
-  memory = m;
-  world = world_at_start;
-}
+sym_start q r m = record { main = at_front q 0 r; isr = record { rest = None; at = None; stack = []; registers = r }; entries = 0; memory = m; world = world_at_start }

@@ -1,6 +1,6 @@
 -- Programs of symbolic code, and positions in them. A label is no instruction and no position: where one stands, the code
 -- goes on behind it. Of two blocks or labels of one name the first counts.
-use Rattle.std.specs.Prelude.{ℕ, zero, suc, ◌+◌, Bool, true, false, nat_eq, if◌then◌else◌, List, [], ◌∷◌, drop, Option, Some, None, option_map, slice_get}
+use Rattle.std.specs.Prelude.{ℕ, suc, ◌+◌, Bool, true, false, nat_eq, if◌then◌else◌, List, [], ◌∷◌, drop, Option, Some, None, option_map, slice_get}
 use Rattle.sym_code.specs.Layout.{DataLayout}
 use Rattle.sym_code.specs.declared.code.BlockName.{BlockName}
 use Rattle.sym_code.specs.declared.code.BlockName.TheVariants.{Start, Copy}

@@ -1,4 +1,4 @@
-use Rattle.std.proofs.Common.{◌≡◌, ◌++◌, [], length}
+use Rattle.std.proofs.Common.{◌≡◌, ◌++◌, [], length, reverse}
 use Rattle.core_code.specs.Tree.{trees_of}
 use Rattle.core_code.specs.View.{trees_in}
 use Rattle.select_code.specs.Selected.{parts_code}
@@ -6,7 +6,7 @@ use Rattle.select_code.proofs.control.+select.Given as goal
 
 abbrev pub invariant-select_parts-loop-k : goal.invariant-select_parts-loop-k
 invariant-select_parts-loop-k g l = record {
-  put : l.out.list.items ≡ l.initial.out.list.items ++ parts_code (g.W.Wide.code l.wide) l.ending l.initial.loops.items (length l.initial.out.list.items) [] (trees_of (trees_in l.parts)) l.k;
+  put : l.out.list.items ≡ l.initial.out.list.items ++ parts_code (g.W.Wide.code l.wide) l.ending (reverse l.initial.loops.items) (length l.initial.out.list.items) [] (trees_of (trees_in l.parts)) l.k;
   loops : l.loops.items ≡ l.initial.loops.items;
   name : l.out.name ≡ l.initial.out.name;
 }
