@@ -1,5 +1,5 @@
 -- Runs: by micro-steps from any state, and from the start of a program by the steps that count.
-use Rattle.std.specs.Prelude.{ℕ, zero, suc, ◌+◌, Bool, true, false, not, ◌&&◌, if◌then◌else◌, Option, Some, None}
+use Rattle.std.specs.Prelude.{ℕ, zero, suc, ◌+◌, Bool, true, false, not, ◌&&◌, ◌||◌, if◌then◌else◌, Option, Some, None}
 use Rattle.pic_chip.specs.declared.Root.{Root}
 use Rattle.pic_chip.specs.declared.Root.TheVariants.{Main, Isr}
 use Rattle.src_machine.specs.Control.{State, Outcome, Went, Undefined, Idle, Lost}
@@ -36,15 +36,14 @@ steps_by s zero = 0
 steps_by s (suc n) = let t = moment s n in steps_by s n + one_if (counts s t && is_taken (step s t))
 
 -- ---- by steps
--- The state in which the next step is taken: behind the micro-steps that don't count, so many at most.
-mutual
-  pub ready_within : ℕ → Setting → State → State
-  ready_within zero s t = t
-  ready_within (suc n) s t = if counts s t then t else ready_from n s t (step s t)
+-- the next micro-step counts, or there is none to take
+abbrev pub is_ready : Setting → State → Bool
+is_ready s t = counts s t || not (is_taken (step s t))
 
-  pub ready_from : ℕ → Setting → State → Outcome → State
-  ready_from n s t (Went u event) = ready_within n s u
-  ready_from n s t _ = t
+-- The state in which the next step is taken: behind the micro-steps that don't count, so many at most.
+unfoldable pub ready_within : ℕ → Setting → State → State
+ready_within zero s t = t
+ready_within (suc n) s t = if is_ready s t then t else ready_within n s (gone t (step s t))
 
 unfoldable pub ready : Setting → State → State
 ready s t = ready_within (weight s t) s t
