@@ -1,6 +1,6 @@
 //! From a text to the image of its program and the map of its memory.
 
-ghost use Rattle.std.specs.Prelude.{◌≡◌, ◌<◌, length, map, None, Err, IfOk, IfErr};
+ghost use Rattle.std.specs.Prelude.{◌≡◌, ◌<◌, ◌≤◌, length, map, None, Err, IfOk, IfErr};
 ghost use Rattle.c_typed.specs.Chains.{graph_of};
 ghost use Rattle.c_typed.specs.Roots.{broken_root};
 ghost use Rattle.c_typed.specs.Views.{program_of};
@@ -136,6 +136,7 @@ fn built(alloc: Global, front: Front) -> Result<Built, AllocError>
 fn checked(built: Built) -> Result<Built, CompileError>
     ensures same { IfOk result (λ checked. checked ≡ built) }
     ensures written { IfOk result (λ checked. AreInRange (content_of checked.map)) }
+    ensures few { IfOk result (λ checked. length checked.map.objects.items ≤ 65536) }
     ensures told { IfErr result (λ error. error ≡ NoMemory) }
 {
     if can_be_written(&built.map) {
@@ -165,6 +166,8 @@ pub fn compile(alloc: Global, text: &[u8]) -> Result<Built, CompileError>
     ensures map { IfOk result (λ built. IsPlaced (program_of built.typed) (map object_of built.map.objects.items) (map frame_of built.map.frames.items)) }
     // A map file can tell that map.
     ensures written { IfOk result (λ built. AreInRange (content_of built.map)) }
+    // It has few objects.
+    ensures few { IfOk result (λ built. length built.map.objects.items ≤ 65536) }
     // Each address that is covered is counted once.
     ensures ram { IfOk result (λ built. built.ram ≡ addresses_covered (map object_of built.map.objects.items) (map frame_of built.map.frames.items)) }
 {

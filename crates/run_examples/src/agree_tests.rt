@@ -11,6 +11,9 @@ use std::test::Fail;
 /// The most instructions of a test.
 const MOST: u32 = 100_000;
 
+/// The most objects of a program.
+const MOST_OBJECTS: usize = 65_536;
+
 // A sum that has no room in a char.
 const WIDE: &str = "void main(void){unsigned char a=200;unsigned char b=100;PORTB=(a+b)>>1;}";
 
@@ -24,6 +27,11 @@ PORTB=10/x;}";
 const DIVIDES_LATER: &str = "void interrupt h(void){PORTC=1;INTF=0;}
 void main(void){unsigned char i;unsigned char z=0;INTCON=0x90;for(i=0;i<100;i++);
 PORTB=1/z;}";
+
+// Main's division by 0 stands behind its event that follows the loop in which the handler is called.
+const DIVIDES_BEHIND: &str = "void interrupt h(void){INTF=0;}
+void main(void){unsigned int i;unsigned char z=0;INTCON=0x90;for(i=0;i<600;i++);PORTB=1;
+PORTC=1/z;}";
 
 // Handlers that never give control back, or only for no time.
 const NEVER_ENDS: &str = "void interrupt h(void){for(;;);}void main(void){INTCON=0x90;for(;;);}";
@@ -45,8 +53,8 @@ fn script_of(alloc: Global, arrivals: &[Arrival]) -> Result<Script, AllocError> 
 }
 
 fn answer(alloc: Global, program: &Built, script: &Script, n: u32) -> Result<Agreed, Fail> {
-    if n > MOST {
-        return Err(Fail::new("too many instructions"));
+    if n > MOST || program.map.objects.len() > MOST_OBJECTS {
+        return Err(Fail::new("too many instructions or objects"));
     }
     Ok(agree(alloc, program, script, n)?)
 }
@@ -164,6 +172,28 @@ fn undefined_steps(rt: HostRuntime) -> Result<(), Fail> {
         )
     );
     assert!(rt; is_undefined(answer_at(alloc, NO_HANDLER, 0, 2_000)?, Undef::Handler, 3));
+    Ok(())
+}
+
+#[test]
+fn undefined_behind_the_next_event(rt: HostRuntime) -> Result<(), Fail> {
+    let alloc = rt.alloc();
+    // the arrival falls into the loop, and the chip is in the loop at the end or far behind it
+    for n in &[5_000, 60_000] {
+        let answer = answer_at(alloc, DIVIDES_BEHIND, 100, *n)?;
+        assert!(rt; is_undefined(answer, Undef::Division, 3));
+    }
+    // a second arrival falls behind the loop
+    let program = built(alloc, DIVIDES_BEHIND)?;
+    let mut arrivals = Vec::new(alloc);
+    for t in &[100, 50_000] {
+        arrivals.push(Arrival {
+            t: *t,
+            flag: Flag::Intf,
+        })?;
+    }
+    let answer = answer(alloc, &program, &script_of(alloc, &arrivals)?, 60_000)?;
+    assert!(rt; is_undefined(answer, Undef::Division, 3));
     Ok(())
 }
 
