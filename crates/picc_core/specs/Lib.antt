@@ -4,3 +4,4 @@ pub mod Answers
 pub mod Blocks
 pub mod Compiled
 pub mod Agreement
+pub mod Headline
