@@ -7,4 +7,5 @@ pub mod Devices
 pub mod Done
 pub mod Growth
 pub mod Wanted
+pub mod OrLaws
 pub mod Masks

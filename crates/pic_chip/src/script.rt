@@ -16,7 +16,7 @@ pub struct Script {
 #[tactic(auto, using(crate::proofs::Masks::mask_goes_on, crate::proofs::Masks::mask_small, crate::proofs::Masks::or_nothing))]
 pub fn mask_at(arrivals: &[Arrival], index: u64) -> u16
     ensures value { result ≡ arriving arrivals.now index }
-    ensures small { result < 8 }
+    ensures small { result < 2048 }
 {
     let mut rest = arrivals;
     let mut mask = 0;
@@ -31,12 +31,20 @@ pub fn mask_at(arrivals: &[Arrival], index: u64) -> u16
 
 fn bit_of(flag: Flag) -> u16
     ensures value { result ≡ flag_bit flag }
-    ensures small { result < 8 }
+    ensures small { result < 2048 }
 {
     match flag {
         Flag::Rbif => 1,
         Flag::Intf => 2,
         Flag::Tmr0if => 4,
+        Flag::Tmr1if => 8,
+        Flag::Tmr2if => 16,
+        Flag::Ccp1if => 32,
+        Flag::Sspif => 64,
+        Flag::Txif => 128,
+        Flag::Rcif => 256,
+        Flag::Adif => 512,
+        Flag::Pspif => 1024,
     }
 }
 

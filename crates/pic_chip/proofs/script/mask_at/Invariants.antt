@@ -4,7 +4,7 @@ use Rattle.pic_chip.specs.Interrupts.{arriving}
 use Rattle.pic_chip.proofs.script.mask_at.Given as goal
 
 abbrev pub invariant-loop-rest : goal.invariant-loop-rest
-invariant-loop-rest l = (bit_or l.mask (arriving l.rest l.index) ≡ arriving l.arrivals l.index) × (l.mask < 8)
+invariant-loop-rest l = (bit_or l.mask (arriving l.rest l.index) ≡ arriving l.arrivals l.index) × (l.mask < 2048)
 
 abbrev pub decreases-loop-rest : goal.decreases-loop-rest
 decreases-loop-rest l = length l.rest
