@@ -5,3 +5,5 @@ pub mod Blocks
 pub mod Compiled
 pub mod Agreement
 pub mod Headline
+pub mod SourceOf
+pub mod Accepted

@@ -40,6 +40,10 @@ const NEVER_CLEARS: &str = "void interrupt h(void){PORTB=1;}void main(void){INTC
 
 const DOES_NOTHING: &str = "void interrupt h(void){}void main(void){INTCON=0x90;for(;;);}";
 
+// A timer's flag in PIR1, with its enable bit in PIE1.
+const PERIPHERAL: &str =
+    "void interrupt h(void){TMR1IF=0;PORTB=1;}void main(void){TMR1IE=1;PEIE=1;GIE=1;PORTA=2;}";
+
 // An interrupt is enabled while its flag is set, and there is no handler.
 const NO_HANDLER: &str = "void main(void){INTE=1;
 GIE=1;
@@ -128,6 +132,26 @@ fn an_arrival_before_any_instruction(rt: HostRuntime) -> Result<(), Fail> {
     assert_eq!(rt; wrong, 0);
     // a flag that is set before INTCON is written is lost
     assert!(rt; is_same(answer_at(alloc, TWO_COPIES, 0, 2_000)?, 3));
+    Ok(())
+}
+
+#[test]
+fn a_peripheral_interrupts(rt: HostRuntime) -> Result<(), Fail> {
+    let alloc = rt.alloc();
+    let program = built(alloc, PERIPHERAL)?;
+    let mut wrong: usize = 0;
+    for number in 0..=100u32 {
+        let arrival = Arrival {
+            t: number.saturating_mul(5),
+            flag: Flag::Tmr1if,
+        };
+        let got = answer(alloc, &program, &script_of(alloc, &[arrival])?, 2_000)?;
+        // main's seven accesses and its end, and the handler's three: PIR1 keeps the flag until it is enabled
+        if !is_same(got, 11) {
+            wrong = wrong.wrapping_add(1);
+        }
+    }
+    assert_eq!(rt; wrong, 0);
     Ok(())
 }
 

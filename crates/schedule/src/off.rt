@@ -1,6 +1,6 @@
 //! What a run of the chip tells of its arrivals and of the runs of its handler.
 
-ghost use Rattle.std.specs.Prelude.{◌≡◌, ◌<◌, ◌≤◌, ◌+◌, ◌*◌, ◌^◌, length, IfOk, OnOk};
+ghost use Rattle.std.specs.Prelude.{◌≡◌, ◌<◌, ◌≤◌, ◌+◌, ◌*◌, ◌^◌, length, IfOk};
 ghost use Rattle.pic_map.specs.Tracing.{list_of};
 ghost use Rattle.schedule.specs.Watching.{ahead};
 
@@ -93,6 +93,7 @@ pub fn read_off(
     requires moments { n < 2 ^ 31 }
     requires lines { length map.now.objects.items ≤ 65536 }
     ensures moment { IfOk result (λ off. off.moment ≤ n) }
+    ensures input { IfOk result (λ off. off.by_length.input.items ≡ script.now.input.items) }
     // An instruction reads once and writes once at most, and main ends once.
     ensures few { IfOk result (λ off. off.events ≤ 2 * off.moment + 1) }
 {
@@ -196,6 +197,7 @@ fn read_at(
     requires moments { moment < 2 ^ 31 }
     requires lines { length map.now.objects.items ≤ 65536 }
     ensures moment { IfOk result (λ off. off.moment ≡ moment) }
+    ensures input { IfOk result (λ off. off.by_length.input.items ≡ script.now.input.items) }
     ensures few { IfOk result (λ off. off.events ≤ 2 * moment + 1) }
 {
     let mut watched = Watched {
@@ -214,53 +216,61 @@ fn read_at(
             arrivals: Vec::new(alloc),
         },
     };
+    let mut left: &[Arrival] = &script.arrivals;
     for at in 0..moment {
-        take_moment(&mut off, &mut watched, script, at)?;
+        left = take_moment(&mut off, &mut watched, left, at)?;
         watched.step(image, script, mask_at(&script.arrivals, at as u64));
     }
-    take_moment(&mut off, &mut watched, script, moment)?;
+    take_moment(&mut off, &mut watched, left, moment)?;
     Ok(off)
 }
 
-/// Goes on with what is read off from the moment before to this one.
-fn take_moment(
+/// Goes on with what is read off from the moment before to this one, and answers the arrivals behind it; those of earlier
+/// moments aren't among the ones that are left.
+fn take_moment<'a>(
     off: &mut Off,
     watched: &mut Watched<'_>,
-    script: &Script,
+    left: &'a [Arrival],
     moment: u32,
-) -> Result<(), AllocError>
+) -> Result<&'a [Arrival], AllocError>
     requires { watched.old.events + ahead watched.old.tracer < 2 ^ 32 }
     ensures same { (watched.new.run ≡ watched.old.run) × (watched.new.runs ≡ watched.old.runs) }
     ensures events { watched.new.events + ahead watched.new.tracer ≤ watched.old.events + ahead watched.old.tracer }
     ensures moment { off.new.moment ≡ off.old.moment }
-    ensures taken { OnOk result (off.new.events ≡ watched.new.events) }
+    ensures input { off.new.by_length.input ≡ off.old.by_length.input }
+    ensures taken { IfOk result (λ left. off.new.events ≡ watched.new.events) }
 {
     watched.look();
-    put_arrivals(off, &script.arrivals, moment, watched.events)?;
+    let behind = put_arrivals(off, left, moment, watched.events)?;
     off.events = watched.events;
     off.runs = watched.runs;
-    Ok(())
+    Ok(behind)
 }
 
-/// Puts the arrivals at a moment, where the trace has so many events; what is read off so far is that of the moment before.
-fn put_arrivals(
+/// Puts the arrivals at a moment, where the trace has so many events, and answers those behind it. What is read off so far is
+/// that of the moment before. The arrivals are in order, so those at this moment are the first that are left.
+fn put_arrivals<'a>(
     off: &mut Off,
-    arrivals: &[Arrival],
+    arrivals: &'a [Arrival],
     moment: u32,
     events: u32,
-) -> Result<(), AllocError>
-    ensures { off.new.moment ≡ off.old.moment }
+) -> Result<&'a [Arrival], AllocError>
+    ensures moment { off.new.moment ≡ off.old.moment }
+    ensures input { off.new.by_length.input ≡ off.old.by_length.input }
 {
-    for arrival in arrivals {
-        if arrival.t == moment {
-            off.by_length.arrivals.push(Arrival {
-                t: events,
-                flag: arrival.flag,
-            })?;
-            if moment > 0 {
-                off.before.push(off.events)?;
-            }
+    let mut left = arrivals;
+    while let [arrival, behind @ ..] = left {
+        if arrival.t > moment {
+            return Ok(left);
         }
+        off.by_length.arrivals.push(Arrival {
+            t: events,
+            flag: arrival.flag,
+        })?;
+        if moment > 0 {
+            off.before.push(off.events)?;
+        }
+        left = behind;
     }
-    Ok(())
+    Ok(left)
 }

@@ -8,3 +8,4 @@ invariant-loop-at l =
     × (l.watched.events + ahead l.watched.tracer ≤ 2 * l.at + 1)
     × (l.watched.runs ≤ l.at)
     × (l.off.moment ≡ l.moment)
+    × (l.off.by_length.input.items ≡ l.script.input.items)
