@@ -237,7 +237,7 @@ module _ (assignments : List Assignment) (image inputs : List ℕ) (few : length
       let held = at.holds a found.1 in
       let shape = stores inputs a.side a.port a.value p t f.0 held.1 in
       let e : Effect = record { writes = to AtPc (following p) ∷ []; notes = record { write = true; address = address a; value = part AtW } ∷ [] } in
-      let one = steps image inputs p mask (Movwf (a.port + 5)) m at.calm.gie at.handling at.pc (omega arith) words.store ∙ ap (behind mask m) shape in
+      let one = steps image inputs p mask (Movwf (a.port + 5)) m code.modelled (omega arith) at.calm.gie at.handling at.pc (omega arith) words.store ∙ ap (behind mask m) shape in
       let b = behind mask m e in
       let trace : b.trace ≡ take (suc i) (events_of assignments) =
       trace_on mask m e at.met ∙ ap (λ es. m.trace ++ es) (shows a.side a.port a.value t f.0 held.0) ∙ ap (λ es. es ++ event_of a ∷ []) at.trace ∙ next_event assignments i a found.1 in

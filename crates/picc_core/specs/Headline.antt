@@ -29,7 +29,7 @@ pub record SourceRun : Type 0 where
   pub steps : ℕ → ℕ
 
 -- What the theorem needs of a program.
-pub record Source : Type 0 where
+pub record Source : Type 1 where
   -- The lines of the map are exactly those of its static objects and of the frames of its function copies, where they are
   -- to stand.
   pub IsMapped : List ObjectLine → List FrameLine → Type 0

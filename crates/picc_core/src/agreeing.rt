@@ -5,8 +5,7 @@ ghost use Rattle.picc_core.specs.Agreement.{events_in};
 
 use crate::known::Built;
 use crate::source_run::{Fault, FaultAt, Going, SourceRun, Stretch, StretchEnd};
-use pic_chip::script::mask_at;
-use pic_chip::{Arrival, Script};
+use pic_chip::{Arrival, Flag, Script};
 use schedule::{Off, read_off};
 use src_machine::Undef;
 use std::alloc::{AllocError, Global};
@@ -53,27 +52,28 @@ fn steps_at(built: &Built, moment: u32) -> u64 {
 ///
 /// Between two arrivals the schedule is the same, and the steps that count grow with the moment. So of the moments before
 /// the last one those directly before an arrival suffice. Up to the event behind which the arrival falls, the run under the
-/// earlier arrivals is the run under all of them. So there is one run, which takes the arrivals as it comes to them; and
-/// from the place of an arrival a second run goes on without it, up to its next event.
+/// earlier arrivals is the run under all of them. So there is one run, under all arrivals; and from the place of an arrival
+/// a second run goes on without it, up to its next event.
 fn first_fault(
     alloc: Global,
     built: &Built,
     script: &Script,
     off: &Off,
 ) -> Result<Option<Fault>, AllocError> {
-    let mut search = Search::new(alloc, built, script, off)?;
-    for (number, pair) in off.by_length.arrivals.iter().enumerate() {
+    let mut search = Search::new(alloc, built, off)?;
+    let lengths = &off.by_length.arrivals;
+    for (number, (arrival, pair)) in script.arrivals.iter().zip(lengths).enumerate() {
         let length = pair.t as u64;
         if let Some(fault) = search.go_to(length) {
             return Ok(Some(fault));
         }
         if let Some(moment) = moment_before(script, off, number) {
-            let fault = search.fault_before(alloc, length, steps_at(built, moment))?;
+            let fault = search.fault_before(length, steps_at(built, moment))?;
             if fault.is_some() {
                 return Ok(fault);
             }
         }
-        search.arrive(*pair)?;
+        search.arrive(pair.t, arrival.flag)?;
     }
     Ok(search.go_to(u64::MAX))
 }
@@ -82,7 +82,7 @@ fn first_fault(
 /// arrival comes with it, and stands before it; and where the instruction behind that moment makes an event. Then this arrival
 /// makes a difference only behind the steps that count, and these count for the next moment that is looked at too.
 ///
-/// A script's arrivals are in order, so the pairs of lengths are those of its first ones, each at the same place.
+/// A script's arrivals are in order, and so are the lengths at which they come: each length stands at its arrival's place.
 fn moment_before(script: &Script, off: &Off, number: usize) -> Option<u32> {
     let at_reset = off.by_length.arrivals.len().checked_sub(off.before.len())?;
     let events = *off.before.get(number.checked_sub(at_reset)?)?;
@@ -113,40 +113,30 @@ enum Ahead {
     Known(Option<FaultAt>),
 }
 
-/// The search for undefined steps: the run, the arrivals that it came to, by length of the trace, and the flags of those
-/// that came with its present length, as a mask; and what was looked at beside it.
+/// The search for undefined steps: the run under the schedule of all arrivals; those that were taken at its present length, each
+/// flag once; and what was looked at beside it.
 #[derive(Drop)]
 struct Search<'a> {
-    built: &'a Built,
     most: u64,
     events: u64,
     runs: u64,
-    schedule: Script,
+    schedule: &'a Script,
     run: SourceRun<'a>,
-    mask: u16,
+    here: Vec<Arrival>,
     ahead: Ahead,
     known: Option<Stretch>,
 }
 
 impl<'a> Search<'a> {
-    /// The run before its first step and any arrival.
-    fn new(
-        alloc: Global,
-        built: &'a Built,
-        script: &Script,
-        off: &Off,
-    ) -> Result<Search<'a>, AllocError> {
+    /// The run before its first step.
+    fn new(alloc: Global, built: &'a Built, off: &'a Off) -> Result<Search<'a>, AllocError> {
         Ok(Search {
-            built,
             most: steps_at(built, off.moment),
             events: off.events as u64,
             runs: off.runs as u64,
-            schedule: Script {
-                input: script.input.clone()?,
-                arrivals: Vec::new(alloc),
-            },
+            schedule: &off.by_length,
             run: SourceRun::new(alloc, &built.typed, &built.map)?,
-            mask: 0,
+            here: Vec::new(alloc),
             ahead: Ahead::Unknown,
             known: None,
         })
@@ -177,9 +167,9 @@ impl<'a> Search<'a> {
             if self.run.events >= length || self.is_over() {
                 return None;
             }
-            self.mask = 0;
+            self.here.clear();
             self.ahead = Ahead::Unknown;
-            match self.run.step(&self.schedule) {
+            match self.run.step(self.schedule) {
                 Going::Went => {}
                 Going::Idle => return None,
                 Going::Fault(fault) => return Some(fault),
@@ -189,30 +179,23 @@ impl<'a> Search<'a> {
     }
 
     /// Takes an arrival at the run's present length.
-    fn arrive(&mut self, pair: Arrival) -> Result<(), AllocError> {
-        let mask = self.mask | mask_at(&[pair], pair.t as u64);
-        if mask != self.mask {
-            self.mask = mask;
+    fn arrive(&mut self, length: u32, flag: Flag) -> Result<(), AllocError> {
+        if self.here.iter().all(|other| other.flag != flag) {
+            self.here.push(Arrival { t: length, flag })?;
             self.ahead = Ahead::Unknown;
         }
-        self.schedule.arrivals.push(pair)?;
         Ok(())
     }
 
-    /// The undefined step that the run meets before its next event, if nothing more arrives, where the trace has this
-    /// length and the step is among so many first ones.
-    fn fault_before(
-        &mut self,
-        alloc: Global,
-        length: u64,
-        steps: u64,
-    ) -> Result<Option<Fault>, AllocError> {
+    /// The undefined step that the run meets before its next event, if nothing arrives but what was taken, where the trace
+    /// has this length and the step is among so many first ones.
+    fn fault_before(&mut self, length: u64, steps: u64) -> Result<Option<Fault>, AllocError> {
         if self.run.events != length {
             return Ok(None);
         }
         let found = match self.ahead {
             Ahead::Known(found) => found,
-            Ahead::Unknown => self.look_ahead(alloc)?,
+            Ahead::Unknown => self.look_ahead()?,
         };
         self.ahead = Ahead::Known(found);
         Ok(match found {
@@ -222,8 +205,9 @@ impl<'a> Search<'a> {
     }
 
     /// A second run goes on up to its next event, for as many steps at most as any moment can ask for.
-    fn look_ahead(&mut self, alloc: Global) -> Result<Option<FaultAt>, AllocError> {
-        let mut run = self.second_run(alloc)?;
+    fn look_ahead(&mut self) -> Result<Option<FaultAt>, AllocError> {
+        let mut run = self.run.copy()?;
+        let schedule = Script::new(self.schedule.input.clone()?, self.here.clone()?);
         let length = run.events;
         for _ in run.steps..self.most {
             if run.events > length {
@@ -232,7 +216,7 @@ impl<'a> Search<'a> {
             if let Some(told) = self.told_of(&run) {
                 return Ok(told);
             }
-            match run.step(&self.schedule) {
+            match run.step(&schedule) {
                 Going::Went => {}
                 Going::Idle => return Ok(None),
                 Going::Fault(fault) => {
@@ -272,14 +256,5 @@ impl<'a> Search<'a> {
             StretchEnd::Open if self.most.saturating_sub(run.steps) <= ahead => Some(None),
             StretchEnd::Open => None,
         }
-    }
-
-    /// A second run that stands where the first one does.
-    fn second_run(&self, alloc: Global) -> Result<SourceRun<'a>, AllocError> {
-        let mut run = SourceRun::new(alloc, &self.built.typed, &self.built.map)?;
-        for _ in 0..self.run.steps {
-            let _ = run.step(&self.schedule);
-        }
-        Ok(run)
     }
 }

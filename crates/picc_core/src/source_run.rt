@@ -79,6 +79,20 @@ impl<'a> SourceRun<'a> {
         })
     }
 
+    /// The run once more, at the same place.
+    pub fn copy(&self) -> Result<SourceRun<'a>, AllocError> {
+        Ok(SourceRun {
+            source: self.source.copy()?,
+            steps: self.steps,
+            events: self.events,
+            behind: self.behind,
+            since: self.since,
+            last: self.last,
+            by_main: self.by_main,
+            local: self.local,
+        })
+    }
+
     /// How many steps main has taken.
     pub fn main_steps(&self) -> u64 {
         self.source.main_steps()

@@ -50,10 +50,10 @@ GIE=1;
 PORTA=2;}";
 
 fn script_of(alloc: Global, arrivals: &[Arrival]) -> Result<Script, AllocError> {
-    Ok(Script {
-        input: Vec::from_slice(alloc, &[1, 0, 0, 0, 0, 1, 1, 1])?,
-        arrivals: Vec::from_slice(alloc, arrivals)?,
-    })
+    Ok(Script::new(
+        Vec::from_slice(alloc, &[1, 0, 0, 0, 0, 1, 1, 1])?,
+        Vec::from_slice(alloc, arrivals)?,
+    ))
 }
 
 fn answer(alloc: Global, program: &Built, script: &Script, n: u32) -> Result<Agreed, Fail> {
@@ -181,6 +181,32 @@ fn a_timer_ticks(rt: HostRuntime) -> Result<(), Fail> {
     let events = u32::try_from(run.events.len()).unwrap_or(u32::MAX);
     assert!(rt; events >= 30);
     assert!(rt; is_same(answer(alloc, &program, &script, 3_000)?, events));
+    Ok(())
+}
+
+// Two flags that aren't enabled come before each instruction, and a third one calls the handler every 200 of them.
+#[test]
+fn arrivals_at_each_instruction(rt: HostRuntime) -> Result<(), Fail> {
+    let alloc = rt.alloc();
+    let mut arrivals = Vec::new(alloc);
+    let mut calls: u32 = 0;
+    for t in 1_000..19_000u32 {
+        for flag in &[Flag::Rbif, Flag::Tmr0if] {
+            arrivals.push(Arrival { t, flag: *flag })?;
+        }
+        if t % 200 == 0 {
+            arrivals.push(Arrival {
+                t,
+                flag: Flag::Intf,
+            })?;
+            calls = calls.wrapping_add(1);
+        }
+    }
+    let program = built(alloc, IDLE)?;
+    let got = answer(alloc, &program, &script_of(alloc, &arrivals)?, 20_000)?;
+    // the write to INTCON, and the handler's three accesses at each call
+    assert_eq!(rt; calls, 90);
+    assert!(rt; is_same(got, 271));
     Ok(())
 }
 

@@ -4,7 +4,6 @@ ghost use Rattle.std.specs.Prelude.{◌≡◌, ◌<◌, ◌≤◌, ◌+◌, ◌*
 ghost use Rattle.pic_map.specs.Tracing.{list_of};
 ghost use Rattle.schedule.specs.Watching.{ahead};
 
-use pic_chip::script::mask_at;
 use pic_chip::{Accesses, Arrival, Chip, Event, Image, Script, Start, StepEnd};
 use pic_isa::{Ins, decode};
 use pic_map::{Map, Tracer};
@@ -22,8 +21,8 @@ pub struct Off {
     pub runs: u32,
     /// For each arrival from 1 to that moment, in order, the length of the trace one instruction before it.
     pub before: Vec<u32>,
-    /// The same input bytes; and each arrival up to that moment, in order, with the length of the trace when it comes in place
-    /// of its instruction.
+    /// The same input bytes; and each arrival up to that moment with the length of the trace when it comes in place of its
+    /// instruction, in order of these lengths.
     pub by_length: Script,
 }
 
@@ -109,7 +108,7 @@ fn last_free(image: &Image, script: &Script, n: u32) -> u32
     let mut run = Run::new();
     let mut last = 0;
     for moment in 0..=n {
-        let boundary = run.boundary(image, mask_at(&script.arrivals, moment as u64));
+        let boundary = run.boundary(image, script.mask_at(moment as u64));
         if !run.handling && !boundary.taken {
             last = moment;
         }
@@ -186,6 +185,16 @@ fn count(event: Option<Event>) -> u32
     }
 }
 
+/// What is read off a run up to one of its moments: its events and the runs of its handler; and of the arrivals up to it the
+/// lengths of the trace, those before them and those at which they come.
+#[derive(Drop)]
+struct Reading {
+    events: u32,
+    runs: u32,
+    before: Vec<u32>,
+    lengths: Vec<Arrival>,
+}
+
 /// What is read off a run at a moment of it.
 fn read_at(
     alloc: Global,
@@ -206,29 +215,37 @@ fn read_at(
         events: 0,
         runs: 0,
     };
-    let mut off = Off {
-        moment,
+    let mut reading = Reading {
         events: 0,
         runs: 0,
         before: Vec::new(alloc),
-        by_length: Script {
-            input: script.input.clone()?,
-            arrivals: Vec::new(alloc),
-        },
+        lengths: Vec::new(alloc),
     };
     let mut left: &[Arrival] = &script.arrivals;
     for at in 0..moment {
-        left = take_moment(&mut off, &mut watched, left, at)?;
-        watched.step(image, script, mask_at(&script.arrivals, at as u64));
+        left = take_moment(&mut reading, &mut watched, left, at)?;
+        watched.step(image, script, script.mask_at(at as u64));
     }
-    take_moment(&mut off, &mut watched, left, moment)?;
-    Ok(off)
+    take_moment(&mut reading, &mut watched, left, moment)?;
+    let Reading {
+        events,
+        runs,
+        before,
+        lengths,
+    } = reading;
+    Ok(Off {
+        moment,
+        events,
+        runs,
+        before,
+        by_length: Script::new(script.input.clone()?, lengths),
+    })
 }
 
 /// Goes on with what is read off from the moment before to this one, and answers the arrivals behind it; those of earlier
 /// moments aren't among the ones that are left.
 fn take_moment<'a>(
-    off: &mut Off,
+    reading: &mut Reading,
     watched: &mut Watched<'_>,
     left: &'a [Arrival],
     moment: u32,
@@ -236,39 +253,34 @@ fn take_moment<'a>(
     requires { watched.old.events + ahead watched.old.tracer < 2 ^ 32 }
     ensures same { (watched.new.run ≡ watched.old.run) × (watched.new.runs ≡ watched.old.runs) }
     ensures events { watched.new.events + ahead watched.new.tracer ≤ watched.old.events + ahead watched.old.tracer }
-    ensures moment { off.new.moment ≡ off.old.moment }
-    ensures input { off.new.by_length.input ≡ off.old.by_length.input }
-    ensures taken { IfOk result (λ left. off.new.events ≡ watched.new.events) }
+    ensures taken { IfOk result (λ left. reading.new.events ≡ watched.new.events) }
 {
     watched.look();
-    let behind = put_arrivals(off, left, moment, watched.events)?;
-    off.events = watched.events;
-    off.runs = watched.runs;
+    let behind = put_arrivals(reading, left, moment, watched.events)?;
+    reading.events = watched.events;
+    reading.runs = watched.runs;
     Ok(behind)
 }
 
 /// Puts the arrivals at a moment, where the trace has so many events, and answers those behind it. What is read off so far is
 /// that of the moment before. The arrivals are in order, so those at this moment are the first that are left.
 fn put_arrivals<'a>(
-    off: &mut Off,
+    reading: &mut Reading,
     arrivals: &'a [Arrival],
     moment: u32,
     events: u32,
-) -> Result<&'a [Arrival], AllocError>
-    ensures moment { off.new.moment ≡ off.old.moment }
-    ensures input { off.new.by_length.input ≡ off.old.by_length.input }
-{
+) -> Result<&'a [Arrival], AllocError> {
     let mut left = arrivals;
     while let [arrival, behind @ ..] = left {
         if arrival.t > moment {
             return Ok(left);
         }
-        off.by_length.arrivals.push(Arrival {
+        reading.lengths.push(Arrival {
             t: events,
             flag: arrival.flag,
         })?;
         if moment > 0 {
-            off.before.push(off.events)?;
+            reading.before.push(reading.events)?;
         }
         left = behind;
     }
