@@ -145,15 +145,15 @@ fn refused_page(
 ) -> Result<Refusal, AllocError>
     ensures { IfOk result IsCodeRefusal }
 {
-    Ok(match first_over_page(p, order) {
-        Some((number, words)) => Refusal::Page {
-            function: name_of(alloc, p, number)?,
-            words,
-        },
-        None => Refusal::Page {
+    let Some((number, words)) = first_over_page(p, order) else {
+        return Ok(Refusal::Page {
             function: Vec::new(alloc),
             words: words_in_code,
-        },
+        });
+    };
+    Ok(Refusal::Page {
+        function: name_of(alloc, p, number)?,
+        words,
     })
 }
 
