@@ -12,7 +12,7 @@ use crate::access::StepEnd;
 use crate::place::{Place, place_at};
 use crate::processor::Processor;
 use crate::rows::{device_read, run};
-use crate::script::{Script, input_at, mask_at};
+use crate::script::{Script, input_at};
 use crate::{Image, Start};
 use pic_isa::{Ins, decode};
 use std::marker::Model;
@@ -107,7 +107,7 @@ impl Chip {
         ensures stopped { stopped_at result ≡ stop_at image.now (begun (arriving script.now.arrivals.items self.old.index) self.old.state) }
         ensures index { self.new.index ≡ index_after image.now (begun (arriving script.now.arrivals.items self.old.index) self.old.state) self.old.index }
     {
-        self.begin(mask_at(&script.arrivals, self.index));
+        self.begin(script.mask_at(self.index));
         let input = input_at(&script.input, self.processor.taken());
         self.exec(image, input)
     }

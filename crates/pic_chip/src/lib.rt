@@ -22,7 +22,7 @@ pub use access::{Access, Accesses, StepEnd};
 pub use chip::Chip;
 pub use image::Image;
 pub use registers::{bit, register, register_name};
-pub use script::Script;
+pub use script::{Script, arrivals_in_any_order};
 pub use trace::Trace;
 
 /// Whose code a function copy belongs to: `main`, or the interrupt handler.
