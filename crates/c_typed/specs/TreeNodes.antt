@@ -6,8 +6,8 @@ use Rattle.c_typed.specs.Trees.{Constant, Read, Address, Convert, Cast, Unary, B
 use Rattle.c_typed.specs.Trees.{NoExpression, AndExpression, Name, Bit, Member, Deref, Scalar, Struct, Text}
 use Rattle.c_typed.specs.Trees.{Block, Empty, Expr, Declare, InitScalar, InitList, If, Loop, Switch, Break, Continue, Return, NoStatement, AndStatement, OneArm, NoArm, AndArm, NoLast, Last}
 
-mutual
-  unfoldable pub nodes_in : Expression → ℕ
+unfoldable mutual
+  pub nodes_in : Expression → ℕ
   nodes_in (Constant value line) = 1
   nodes_in (Read place ty line) = 1 + nodes_at place
   nodes_in (Address place ty line) = 1 + nodes_at place
@@ -26,11 +26,11 @@ mutual
   nodes_in (Step op place operation scale ty line) = 1 + nodes_at place
   nodes_in (Call function arguments ty line) = 1 + nodes_of_all arguments
 
-  unfoldable pub nodes_of_all : Expressions → ℕ
+  pub nodes_of_all : Expressions → ℕ
   nodes_of_all NoExpression = 0
   nodes_of_all (AndExpression e es) = nodes_in e + nodes_of_all es
 
-  unfoldable pub nodes_at : Place → ℕ
+  pub nodes_at : Place → ℕ
   nodes_at (Name object ty line) = 1
   nodes_at (Bit register number line) = 1
   nodes_at (Member whole number offset ty line) = 1 + nodes_at whole
@@ -50,8 +50,8 @@ abbrev pub items_nodes : List Item → ℕ
 items_nodes [] = 0
 items_nodes (item ∷ items) = item_nodes item + items_nodes items
 
-mutual
-  unfoldable pub statement_nodes : Statement → ℕ
+unfoldable mutual
+  pub statement_nodes : Statement → ℕ
   statement_nodes (Block body line) = 1 + nodes_of_body body
   statement_nodes (Empty line) = 1
   statement_nodes (Expr e line) = 1 + nodes_in e
@@ -65,18 +65,18 @@ mutual
   statement_nodes (Continue line) = 1
   statement_nodes (Return value line) = 1 + nodes_in_any value
 
-  unfoldable pub nodes_of_body : Statements → ℕ
+  pub nodes_of_body : Statements → ℕ
   nodes_of_body NoStatement = 0
   nodes_of_body (AndStatement s ss) = statement_nodes s + nodes_of_body ss
 
-  unfoldable pub arm_nodes : Arm → ℕ
+  pub arm_nodes : Arm → ℕ
   arm_nodes (OneArm condition body line) = 1 + (nodes_in condition + statement_nodes body)
 
-  unfoldable pub arms_nodes : Arms → ℕ
+  pub arms_nodes : Arms → ℕ
   arms_nodes NoArm = 0
   arms_nodes (AndArm arm arms) = arm_nodes arm + arms_nodes arms
 
-  unfoldable pub last_nodes : LastArm → ℕ
+  pub last_nodes : LastArm → ℕ
   last_nodes NoLast = 0
   last_nodes (Last s) = statement_nodes s
 

@@ -45,7 +45,7 @@ pub record IsOverPage (p : Program) (copies : List FnCopy) (number words : ℕ) 
   pub copy : FnCopy
   pub among : Contains copies copy
   pub function : copy.function ≡ callee.User number
-  pub words : words ≡ copy_words p copy
+  pub stated : words ≡ copy_words p copy
   pub over : page_words < words
 
 -- of all of them the one that is defined first
@@ -88,7 +88,7 @@ pub record PassesPages (p : Program) (copies : List FnCopy) (words : ℕ) : Type
   pub in_order : IsCodeOrder p copies order
   pub pages : AreWithinPages (sizes p order)
   pub passes : PassesMemory (addresses (sizes p order))
-  pub words : words ≡ sum (sizes p order)
+  pub total : words ≡ sum (sizes p order)
 
 -- The first refusal of a program with sound types.
 abbrev pub IsFirstRefusal : Program → Refusal → Type 0

@@ -51,7 +51,7 @@ initial_from p content object (s ∷ statics) = bytes_from p content object 0 (t
 -- The list has exactly the program's copies, in the order of placing, and the lines are exactly those of its objects and of the
 -- frames of these copies, where they are to stand.
 pub record IsMapOf (p : Program) (copies : List FnCopy) (objects : List ObjectLine) (frames : List FrameLine) : Type 0 where
-  pub copies : AreCopies p copies
+  pub known : AreCopies p copies
   pub placing : IsPlacing p copies objects frames
 
 -- the copies of these two numbers may be live together
