@@ -382,7 +382,7 @@ module _ (assignments : List Assignment) (image inputs : List ℕ) (few : length
             trace = refl;
             early = refl;
             stopped = refl;
-          handling = refl;
+            handling = refl;
             calm = record { gie = refl; z = omega arith; dc = omega arith; c = omega arith; bank = omega arith; page = refl; pushes = refl; pops = refl };
             holds = tt;
           };

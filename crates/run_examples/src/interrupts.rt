@@ -124,10 +124,7 @@ fn under_ticks(
             flag,
         })?;
     }
-    let script = Script::new(
-        Vec::from_slice(alloc, &[1, 0, 0, 0, 0, 1, 1, 1])?,
-        arrivals,
-    );
+    let script = Script::new(Vec::from_slice(alloc, &[1, 0, 0, 0, 0, 1, 1, 1])?, arrivals);
     let program = built(alloc, text)?;
     Ok(goes_as(alloc, &program, &script, 20_000, least)?)
 }
