@@ -176,10 +176,10 @@ bits_stay x y g e f =
 common_stays : (x y e : ℕ) → Grows x y → bit_and y e ≡ 0 → bit_and x e ≡ 0
 common_stays x y e g none =
     same_from_bits (bit_and x e) 0 (λ i.
-      let there : min (bit_at y i) (bit_at e i) ≡ 0 = sym (bit_at_and y e i) ∙ ap (λ z. bit_at z i) none ∙ bit_at-zero i in
-      let less : bit_at x i ≤ bit_at y i = g i in
-      let here : min (bit_at x i) (bit_at e i) ≡ 0 = omega arith in
-      bit_at_and x e i ∙ here ∙ sym (bit_at-zero i))
+    let there : min (bit_at y i) (bit_at e i) ≡ 0 = sym (bit_at_and y e i) ∙ ap (λ z. bit_at z i) none ∙ bit_at-zero i in
+    let less : bit_at x i ≤ bit_at y i = g i in
+    let here : min (bit_at x i) (bit_at e i) ≡ 0 = omega arith in
+    bit_at_and x e i ∙ here ∙ sym (bit_at-zero i))
 
 some_stays : (a b : ℕ) → (b ≡ 0 → a ≡ 0) → Leads (not (nat_eq a 0)) (not (nat_eq b 0))
 some_stays a b f h = by_test (nat_eq b 0) refl
@@ -201,8 +201,8 @@ raised_due mask c =
     let p = or_grows c.pir1 (mask / 8 % 256) in
     leads_and _ _ _ _ (one_stays (bit_at c.intcon 7) (bit_at y 7) (g 7) (bit_at-lt y 7))
     (leads_or _ _ _ _
-      (leads_or _ _ _ _
-        (leads_or _ _ _ _ (bits_stay c.intcon y g 5 2) (bits_stay c.intcon y g 4 1))
-        (bits_stay c.intcon y g 3 0))
-      (leads_and _ _ _ _ (one_stays (bit_at c.intcon 6) (bit_at y 6) (g 6) (bit_at-lt y 6))
-        (some_stays (bit_and c.pir1 c.pie1) (bit_and z c.pie1) (common_stays c.pir1 z c.pie1 p))))
+    (leads_or _ _ _ _
+    (leads_or _ _ _ _ (bits_stay c.intcon y g 5 2) (bits_stay c.intcon y g 4 1))
+    (bits_stay c.intcon y g 3 0))
+    (leads_and _ _ _ _ (one_stays (bit_at c.intcon 6) (bit_at y 6) (g 6) (bit_at-lt y 6))
+    (some_stays (bit_and c.pir1 c.pie1) (bit_and z c.pie1) (common_stays c.pir1 z c.pie1 p))))

@@ -14,9 +14,9 @@ max_same a = omega arith
 pub or_assoc : (a b c : ℕ) → bit_or (bit_or a b) c ≡ bit_or a (bit_or b c)
 or_assoc a b c =
     same_from_bits _ _ (λ i.
-      bit_at_or (bit_or a b) c i ∙ ap (λ x. max x (bit_at c i)) (bit_at_or a b i)
-      ∙ max_assoc (bit_at a i) (bit_at b i) (bit_at c i)
-      ∙ sym (bit_at_or a (bit_or b c) i ∙ ap (max (bit_at a i)) (bit_at_or b c i)))
+    bit_at_or (bit_or a b) c i ∙ ap (λ x. max x (bit_at c i)) (bit_at_or a b i)
+    ∙ max_assoc (bit_at a i) (bit_at b i) (bit_at c i)
+    ∙ sym (bit_at_or a (bit_or b c) i ∙ ap (max (bit_at a i)) (bit_at_or b c i)))
 
 pub or_same : (a : ℕ) → bit_or a a ≡ a
 or_same a = same_from_bits _ _ (λ i. bit_at_or a a i ∙ max_same (bit_at a i))

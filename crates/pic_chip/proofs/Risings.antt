@@ -36,11 +36,10 @@ rising_far t (a ∷ xs) h (suc i) (suc j) d l m = rising_far a.t xs h.1 i j d (o
 
 pub rising_from : (t : ℕ) (xs : List Arrival) → ((d : Arrival) → 0 < length xs → t ≤ (slice_index_or xs 0 d).t) → IsNonDecreasingBy (λ (a : Arrival). a.t) xs → IsRising t xs
 rising_from t [] first up = tt
-rising_from t (a ∷ xs) first up =
-    (
-      first a (omega arith),
-      rising_from a.t xs (λ d l. up 0 1 d (omega arith) (omega arith)) (λ i j d l m. up (suc i) (suc j) d (omega arith) (omega arith)),
-    )
+rising_from t (a ∷ xs) first up = (
+  first a (omega arith),
+  rising_from a.t xs (λ d l. up 0 1 d (omega arith) (omega arith)) (λ i j d l m. up (suc i) (suc j) d (omega arith) (omega arith)),
+)
 
 -- ---- what arrives
 -- arrivals that come later don't arrive
@@ -84,8 +83,7 @@ pub rest_step : (mask : ℕ) (rest : List Arrival) (t : ℕ) (d : Arrival) → 1
 rest_step mask [] t d l m h = absurd (omega arith)
 rest_step mask (a ∷ others) t d l m h =
     let first = h.0 in
-    let same : a.t ≡ t = omega arith in
-    (
+    let same : a.t ≡ t = omega arith in (
       mask_step mask (a ∷ others) t d l same,
       subst (IsRising t) (sym (take_all (length (a ∷ others) - 1) others (omega arith))) (subst (λ n. IsRising n others) same h.1),
     )
@@ -123,4 +121,4 @@ bit_arriving (a ∷ xs) t i = by_test (nat_eq a.t t) (bit_arriving xs t i)
 pub any_order : (given other : List Arrival) → IsPermutation given other → (t : ℕ) → arriving other t ≡ arriving given t
 any_order given other h t =
     same_from_bits (arriving other t) (arriving given t) (λ i.
-      bit_arriving other t i ∙ ap truth (sym (list_any-IsPermutation (has_flag t i) given other h)) ∙ sym (bit_arriving given t i))
+    bit_arriving other t i ∙ ap truth (sym (list_any-IsPermutation (has_flag t i) given other h)) ∙ sym (bit_arriving given t i))

@@ -35,8 +35,8 @@ control_of s = record { intcon = s.intcon; pir1 = s.pir1; pie1 = s.pie1 }
 abbrev pub raise : ℕ → Act
 raise mask =
     plain_row (
-      to AtIntcon (of (λ x. bit_or x (mask % 8)) (part AtIntcon)) ∷
-      to AtPir1 (of (λ x. bit_or x (mask / 8 % 256)) (part AtPir1)) ∷ []
+    to AtIntcon (of (λ x. bit_or x (mask % 8)) (part AtIntcon)) ∷
+    to AtPir1 (of (λ x. bit_or x (mask / 8 % 256)) (part AtPir1)) ∷ []
     )
 
 -- taking an interrupt clears GIE, pushes the program counter and goes to 0004h

@@ -150,12 +150,20 @@ fn a_peripheral_comes_through_its_enable_bits(rt: HostRuntime) -> Result<(), Fai
 #[test]
 fn arrivals_are_put_in_order(rt: HostRuntime) -> Result<(), Fail> {
     let mut arrivals = Vec::new(rt.alloc());
-    for (t, flag) in [(7, Flag::Pspif), (2, Flag::Rbif), (7, Flag::Tmr0if), (0, Flag::Adif)] {
+    for (t, flag) in [
+        (7, Flag::Pspif),
+        (2, Flag::Rbif),
+        (7, Flag::Tmr0if),
+        (0, Flag::Adif),
+    ] {
         arrivals.push(Arrival { t, flag })?;
     }
     let script = Script::new(Vec::new(rt.alloc()), arrivals);
     assert_eq!(rt; (script.arrivals[0].t, script.arrivals[1].t), (0, 2));
-    assert_eq!(rt; (script.mask_at(0), script.mask_at(1), script.mask_at(2)), (0x200, 0, 1));
+    assert_eq!(rt;
+        (script.mask_at(0), script.mask_at(1), script.mask_at(2)),
+        (0x200, 0, 1)
+    );
     assert_eq!(rt; (script.mask_at(7), script.mask_at(8)), (0x404, 0));
     Ok(())
 }
