@@ -16,7 +16,7 @@ use Rattle.src_machine.specs.Step.{step}
 use Rattle.src_values.specs.Objects.{Setting, first_memory}
 use Rattle.src_values.specs.Shown.{address_of, shown, shown_byte}
 use Rattle.src_values.specs.declared.objects.Object.TheVariants.{Fixed}
-use Rattle.picc_core.specs.Headline.{Source, SourceRun}
+use Rattle.picc_core.specs.Headline.{Source, SourceRun, IsFaithful}
 
 -- ---- runs
 abbrev pub setting_of : Program → Outside → Setting
@@ -71,3 +71,8 @@ source_of p copies content = record {
   nodes = nodes_of p;
   run = run_of p content;
 }
+
+-- What the image does on the chip, seen by the map, is what the program says: the headline of a typed program.
+pub record IsFaithfulTo (p : Program) (content : MapContent) (image : List ℕ) : Type 0 where
+  pub copies : List FnCopy
+  pub faithful : IsFaithful (source_of p copies content) content image
