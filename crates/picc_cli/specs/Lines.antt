@@ -3,8 +3,8 @@ use Rattle.std.specs.Prelude.{ℕ, List, [], ◌∷◌, ◌++◌, codes, decimal
 use Rattle.pic_chip.specs.declared.Event.{Event}
 use Rattle.pic_map.specs.EventText.{event_text}
 use Rattle.pic_map.specs.MapContent.{MapContent}
-use Rattle.src_machine.specs.declared.objects.Undef.{Undef}
-use Rattle.src_machine.specs.declared.objects.Undef.TheVariants as undef
+use Rattle.src_values.specs.declared.objects.Undef.{Undef}
+use Rattle.src_values.specs.declared.objects.Undef.TheVariants as undef
 
 abbrev pub usage_line : List ℕ
 usage_line = codes "usage: picc build IN OUT MAP | trace IN SCRIPT M | sim HEX MAP SCRIPT N | agree IN SCRIPT N | gen K" ++ 10 ∷ []

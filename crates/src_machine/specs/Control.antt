@@ -1,23 +1,18 @@
--- What a step is about (the focus), and what waits for it, the innermost first.
-use Rattle.std.specs.Prelude.{ℕ, Bool, true, false, List, [], ◌∷◌, Option}
-use Rattle.c_ints.specs.declared.operators.BinOp.{BinOp}
-use Rattle.c_ints.specs.declared.operators.UnOp.{UnOp}
-use Rattle.c_typed.specs.Trees.{Expression, Expressions, Place, Item, Statement, Statements, Arms, LastArm}
-use Rattle.c_typed.specs.declared.expression.LogicalOp.{LogicalOp}
+-- What a step is about (the focus), and what waits for it, the innermost first. A frame that waits holds its node of the
+-- tree and what is done of the node's parts: so types, lines and constants are read off the node, and what is left to do
+-- follows from the two.
+use Rattle.std.specs.Prelude.{ℕ, List, [], ◌∷◌, Option}
+use Rattle.c_typed.specs.Trees as tree
+use Rattle.c_typed.specs.Trees.{Expression, Expressions, Place, Item, Statement, Statements, Arm, Arms}
 use Rattle.c_typed.specs.declared.statement.TCase.{TCase}
-use Rattle.c_typed.specs.declared.types.Ty.{Ty}
-use Rattle.src_machine.specs.Objects.{Memory}
-use Rattle.src_machine.specs.World.{Happening, World}
-use Rattle.src_machine.specs.declared.objects.Byte.{Byte}
-use Rattle.src_machine.specs.declared.objects.Change.{Change}
-use Rattle.src_machine.specs.declared.objects.CopyOf.{CopyOf}
-use Rattle.src_machine.specs.Data.{Datum}
-use Rattle.src_machine.specs.declared.objects.Object.{Object}
-use Rattle.src_machine.specs.declared.objects.Reading.{Reading}
-use Rattle.src_machine.specs.declared.objects.Spot.{Spot}
-use Rattle.src_machine.specs.declared.objects.Undef.{Undef}
+use Rattle.pic_chip.specs.World.{Happening, World}
+use Rattle.src_values.specs.Data.{Datum}
+use Rattle.src_values.specs.Objects.{Memory}
+use Rattle.src_values.specs.declared.objects.Byte.{Byte}
+use Rattle.src_values.specs.declared.objects.CopyOf.{CopyOf}
+use Rattle.src_values.specs.declared.objects.Spot.{Spot}
+use Rattle.src_values.specs.declared.objects.Undef.{Undef}
 
--- A number that stands last is the line of a node.
 pub data Focus : Type 0 where
   -- an expression is evaluated, and a place is found
   Eval : Expression → Focus
@@ -28,91 +23,82 @@ pub data Focus : Type 0 where
   -- a statement begins, and one is done
   Run : Statement → Focus
   Past : Focus
-  -- the bytes of a number are read
-  Fetch : Spot → Reading → ℕ → Focus
-  -- the low and the high byte of a pointer
-  FetchLow : Spot → ℕ → Focus
-  FetchHigh : Spot → Byte → ℕ → Focus
-  -- so many bytes of a structure whose value is dropped
-  Skim : Spot → ℕ → ℕ → Focus
-  -- a value's bytes are written from the one of this number on; then the second value is that of the expression
-  Write : Spot → Datum → ℕ → Datum → ℕ → Focus
-  -- the register of a bit is written
+  -- a number or a pointer is read: the byte that comes next, and those that were read
+  Fetch : Spot → List Byte → Focus
+  -- a structure is read whose value is dropped: so many bytes are left, and this one was the last
+  Skim : Spot → ℕ → Option Byte → Focus
+  -- a value is written: the place of its byte of this number, which comes next
+  Write : Spot → Datum → ℕ → Focus
+  -- a bit of a register gets a value; the register was read as this number, and is written next
   PutBit : ℕ → ℕ → Datum → ℕ → Focus
-  -- so many bytes are copied: one is read, or the one read is written
-  CopyRead : Spot → Spot → ℕ → ℕ → Focus
-  CopyWrite : Spot → Spot → Byte → ℕ → ℕ → Focus
-  -- the characters of a string, and zeros up to so many bytes
-  Spell : Spot → List ℕ → ℕ → ℕ → Focus
-  -- the bytes of an object that no item of a list has, of so many from this one on
-  Blank : Object → List Item → ℕ → ℕ → ℕ → Focus
-  -- a function is called with these values
-  Calls : ℕ → List Datum → ℕ → Focus
+  -- so many bytes are copied, to a place from one: a byte is read, or the one that was read is written
+  CopyRead : Spot → Spot → ℕ → Focus
+  CopyWrite : Spot → Spot → Byte → ℕ → Focus
+  -- characters of a string, and then zeros, up to so many bytes
+  Spell : Spot → List ℕ → ℕ → Focus
+  -- the bytes without an item, of so many from this one on
+  Blank : ℕ → ℕ → Focus
+  -- a function is called
+  Calls : Focus
   -- a function has ended with this value
   Leaves : Datum → Focus
-  -- the labels of a switch are compared with its value
-  Compares : Datum → List TCase → Option ℕ → Statements → Focus
+  -- labels of a switch are compared with its value
+  Compares : Datum → List TCase → Focus
   -- main has ended
   Over : Focus
 
--- a loop: its condition, what is done after each turn, its body and its line
-pub record Round : Type 0 where
-  pub condition : Option Expression
-  pub step : Option Expression
-  pub body : Statement
-  pub line : ℕ
+-- What is done of an expression's parts.
+pub data Got : Type 0 where
+  -- its first part is under way
+  Nothing : Got
+  -- its left operand has this value, and the right one is under way
+  One : Datum → Got
+  -- its place was found; what follows it is under way
+  At : Spot → Got
+  -- its place was found, its right operand has this value, and the place is read
+  AtWith : Spot → Datum → Got
+  -- its place is written; the expression's value comes from this one
+  Stores : Spot → Datum → Got
+  -- its structure is copied
+  Copies : Got
+  -- these arguments have their values, one is under way, and these follow it
+  Args : List Datum → Expressions → Got
+  -- all arguments have their values
+  Passed : List Datum → Got
+  -- the function that is called is under way
+  Called : Got
+
+-- What is under way of a statement.
+pub data Stage : Type 0 where
+  -- the value that it begins with, or a loop's condition
+  Tests : Stage
+  -- what a loop begins with, and what it does after a turn
+  Begins : Stage
+  Steps : Stage
+  -- the body of a loop or of a switch
+  Turns : Stage
+  -- an arm's condition; these arms follow it
+  Picks : Arm → Arms → Stage
+  -- the comparison with labels
+  Chooses : Stage
+  -- the write of the value that a local begins with
+  Fills : Stage
+  -- the value or the place of an item of a list; these items follow it
+  AtItem : Item → List Item → Stage
+  -- the bytes of an item before these
+  Items : List Item → Stage
+  -- the bytes without an item
+  Blanks : Stage
 
 pub data Pending : Type 0 where
-  -- the place is read as this type, or its address is taken, which counts as an operator or doesn't
-  Reads : Ty → ℕ → Pending
-  Takes : Bool → ℕ → Pending
-  Converts : Ty → ℕ → Pending
-  Casts : Ty → ℕ → Pending
-  Unaries : UnOp → ℕ → Pending
-  -- a left operand with its operator and the right operand, and then a right operand with the left value
-  Left : BinOp → Expression → Ty → ℕ → Pending
-  Right : BinOp → Datum → Ty → ℕ → Pending
-  OffsetLeft : BinOp → Expression → ℕ → ℕ → Pending
-  OffsetRight : BinOp → Datum → ℕ → ℕ → Pending
-  DifferenceLeft : Expression → ℕ → ℕ → Pending
-  DifferenceRight : Datum → ℕ → ℕ → Pending
-  LogicalLeft : LogicalOp → Expression → ℕ → Pending
-  LogicalRight : ℕ → Pending
-  Chooses : Expression → Expression → ℕ → Pending
-  Commas : Expression → ℕ → Pending
-  -- the place of an assignment, and then its value
-  AssignTo : Expression → ℕ → Pending
-  Assigns : Spot → ℕ → Pending
-  StructTo : Place → ℕ → ℕ → Pending
-  StructFrom : Spot → ℕ → ℕ → Pending
-  -- the place of a compound assignment, its right operand, and its old value
-  UpdateAt : Change → Expression → Pending
-  Updates : Change → Spot → Pending
-  StepAt : Change → Pending
-  Changes : Change → Spot → Datum → Pending
-  -- a member so many bytes behind the place, and what a pointer points to
-  Members : ℕ → ℕ → Pending
-  Derefs : ℕ → Pending
-  -- an argument: the values before it and the arguments behind it
-  Arguments : ℕ → List Datum → Expressions → ℕ → Pending
-  -- a value that is dropped, or that a local or an item of its list begins with
-  Drops : Pending
-  Initializes : Object → ℕ → Pending
-  ItemValue : Spot → ℕ → Pending
-  ItemFrom : Spot → ℕ → ℕ → Pending
-  -- the items behind one, of a list
-  Lists : Object → List Item → List Item → ℕ → Pending
-  Picks : Statement → Arms → LastArm → ℕ → Pending
-  -- a loop: before its first turn, at its condition, in its body, and after what is done after a turn
-  Begins : Round → Pending
-  Tests : Round → Pending
-  Turns : Round → Pending
-  Switches : List TCase → Option ℕ → Statements → ℕ → Pending
-  InSwitch : Pending
+  -- an expression that waits for a part
+  In : Expression → Got → Pending
+  -- a member that waits for its structure, or what a pointer points to for the pointer
+  To : Place → Pending
+  -- a statement that waits for a part
+  Doing : Statement → Stage → Pending
   -- the statements behind one
   Before : Statements → Pending
-  -- a value that is returned
-  Gives : ℕ → Pending
   -- the caller, and what the handler interrupted
   Returns : CopyOf → Pending
   Resumes : CopyOf → Focus → Pending
@@ -123,19 +109,67 @@ pub record State : Type 0 where
   pub focus : Focus
   pub stack : List Pending
   pub memory : Memory
-  pub world : World
+  pub world : World Byte
 
--- a step goes on, with the event that it makes if it makes one; it is undefined, at this line; or there is none to take
+-- A step goes on, with the event that it makes if it makes one; it is undefined, at this line; there is none to take; or
+-- no rule is there for the state, which no run of a program comes to.
 pub data Outcome : Type 0 where
-  Went : State → Option Happening → Outcome
+  Went : State → Option (Happening Byte) → Outcome
   Undefined : Undef → ℕ → Outcome
   Idle : Outcome
+  Lost : Outcome
+
+abbrev pub state : CopyOf → Focus → List Pending → Memory → World Byte → State
+state c x k m w = record { copy = c; focus = x; stack = k; memory = m; world = w }
+
+-- ---- lines
+abbrev pub expression_line : Expression → ℕ
+expression_line (tree.Constant value line) = line
+expression_line (tree.Read place ty line) = line
+expression_line (tree.Address place ty line) = line
+expression_line (tree.Convert operand ty line) = line
+expression_line (tree.Cast operand ty line) = line
+expression_line (tree.Unary op operand ty line) = line
+expression_line (tree.Binary op left right ty line) = line
+expression_line (tree.Offset op left right size ty line) = line
+expression_line (tree.Difference left right size line) = line
+expression_line (tree.Logical op left right line) = line
+expression_line (tree.Conditional condition chosen otherwise ty line) = line
+expression_line (tree.Comma left right ty line) = line
+expression_line (tree.Assign place value ty line) = line
+expression_line (tree.StructAssign place from size line) = line
+expression_line (tree.Update op place value operation size ty line) = line
+expression_line (tree.Step op place operation size ty line) = line
+expression_line (tree.Call function arguments ty line) = line
+
+abbrev pub place_line : Place → ℕ
+place_line (tree.Name object ty line) = line
+place_line (tree.Bit register number line) = line
+place_line (tree.Member whole member offset ty line) = line
+place_line (tree.Deref pointer ty line) = line
+
+abbrev pub statement_line : Statement → ℕ
+statement_line (tree.Block ss line) = line
+statement_line (tree.Empty line) = line
+statement_line (tree.Expr e line) = line
+statement_line (tree.Declare local line) = line
+statement_line (tree.InitScalar local e line) = line
+statement_line (tree.InitList local list line) = line
+statement_line (tree.If chain otherwise line) = line
+statement_line (tree.Loop shape first condition step body line) = line
+statement_line (tree.Switch e cases default ss line) = line
+statement_line (tree.Break line) = line
+statement_line (tree.Continue line) = line
+statement_line (tree.Return e line) = line
+
+-- the line of the node that waits
+abbrev pub line_at : List Pending → ℕ
+line_at (In e got ∷ k) = expression_line e
+line_at (To place ∷ k) = place_line place
+line_at (Doing t stage ∷ k) = statement_line t
+line_at _ = 0
 
 -- ---- active copies
-abbrev pub is_over : Focus → Bool
-is_over Over = true
-is_over _ = false
-
 -- the copy that runs, until main has ended
 abbrev pub running : CopyOf → Focus → List CopyOf → List CopyOf
 running c Over more = more
@@ -146,7 +180,10 @@ abbrev pub callers : List Pending → List CopyOf
 callers [] = []
 callers (Returns c ∷ k) = c ∷ callers k
 callers (Resumes c x ∷ k) = running c x (callers k)
-callers (_ ∷ k) = callers k
+callers (In e got ∷ k) = callers k
+callers (To place ∷ k) = callers k
+callers (Doing t stage ∷ k) = callers k
+callers (Before ss ∷ k) = callers k
 
 -- A copy is active from its call up to the next step of its caller.
 unfoldable pub active : CopyOf → Focus → List Pending → List CopyOf

@@ -1,7 +1,3 @@
-pub mod World
-pub mod Data
-pub mod Objects
-pub mod Values
 pub mod Control
 pub mod Accesses
 pub mod Expressions
@@ -9,5 +5,6 @@ pub mod Statements
 pub mod Giving
 pub mod Counting
 pub mod Step
-pub mod Shown
+pub mod Weights
+pub mod Runs
 pub mod Progress

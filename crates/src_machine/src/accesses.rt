@@ -1,56 +1,50 @@
-//! Reads and writes of one byte, and the values that are made of them.
+//! How values are read and written, byte by byte: each byte is a step. The node that a value belongs to waits below,
+//! until all bytes are done.
 
-use crate::control::{Focus, Listed, Pending};
-use crate::machine::{Machine, SrcEnd, undefined};
-use crate::memory::Slot;
-use crate::objects::{Byte, CopyOf, Datum, Object, Pointer, Reading, Spot, Undef};
-use crate::values::{
-    byte_count, byte_of, joined, kept_in, lowest_bit, next_byte, number_in, number_of, read_on,
-};
-use c_ints::size;
-use c_typed::{TItem, Ty};
-use pic_chip::{Cell, Event, Root, Script};
+use crate::control::{Code, Focus, Got, Pending, Stage};
+use crate::counting::statement_line;
+use crate::machine::{Machine, Outcome, undefined};
+use c_typed::{StepOp, TExpr, TItem, TStmt, Ty};
+use pic_chip::{Event, Script};
+use src_values::accesses::{Fits, Reach, Taken, is_covered, with_bit};
+use src_values::objects::ReadBytes;
+use src_values::values::{byte_count, byte_of, kept_in, lowest_bit, next_byte, value_from};
+use src_values::{Byte, CopyOf, Datum, Object, Pointer, Spot, Undef};
 
-/// Which bytes a read may meet: those of numbers, any, or the one that completes a pointer.
-#[derive(Clone, Copy)]
-enum Fits {
-    Number,
-    Any,
-    Completing(Byte),
-}
-
-impl Fits {
-    fn holds(self, byte: Byte) -> bool {
-        match self {
-            Fits::Number => match byte {
-                Byte::Number(_) => true,
-                Byte::Unset | Byte::Part { .. } => false,
-            },
-            Fits::Any => true,
-            Fits::Completing(low) => joined(low, byte).is_some(),
-        }
+/// Whether the value of `++` or `--` is the old one.
+pub(crate) fn is_postfix(op: StepOp) -> bool {
+    match op {
+        StepOp::PostIncrement | StepOp::PostDecrement => true,
+        StepOp::PreIncrement | StepOp::PreDecrement => false,
     }
 }
 
-/// A byte that was read, and the event that it made.
-#[derive(Clone, Copy)]
-struct Taken {
-    byte: Byte,
-    event: Option<Event>,
+// The value of an expression behind the write of its place: what the place holds afterwards, or the old value.
+fn answer_of(expr: &TExpr, spot: Spot, value: Datum) -> Datum {
+    match expr {
+        TExpr::Step { op, .. } if is_postfix(*op) => value,
+        _ => kept_in(spot, value),
+    }
 }
 
-fn low_bits(x: u64) -> u16 {
-    (x & 0xffff) as u16
+/// The byte so many behind the start of an object.
+pub(crate) fn behind(object: Object, offset: u64) -> Spot {
+    Spot::Memory(Pointer::Into { object, offset })
 }
 
-fn with_bit(old: u8, bit: u8, value: u8) -> u8 {
-    let mask = 1u8 << (bit & 7) as u32;
-    if value == 1 { old | mask } else { old & !mask }
+/// How many bytes a write of a value has: one where a bit is written.
+pub(crate) fn written_bytes(spot: Spot, value: Datum) -> u8 {
+    match spot {
+        Spot::Bit { .. } => 1,
+        Spot::Device(_) | Spot::Memory(_) => byte_count(value),
+    }
 }
 
-// The register and the value of a bit of it.
-fn bit_of(value: u8, bit: u8) -> u8 {
-    value >> (bit & 7) as u32 & 1
+fn is_over(focus: &Focus) -> bool {
+    match focus {
+        Focus::Over => true,
+        _ => false,
+    }
 }
 
 impl<'a> Machine<'a> {
@@ -84,328 +78,214 @@ impl<'a> Machine<'a> {
         }
     }
 
-    // The handler, or a function that it calls, reaches a variable of main's root.
-    fn breaks_isolation(&self, object: Object) -> bool {
-        match object {
-            Object::Fixed(_) => false,
-            Object::Variable { copy, .. } => {
-                self.copy.root == Root::Isr && copy.root == Root::Main
-            }
-        }
-    }
-
-    fn read_fault(&self, fits: Fits, object: Object, byte: Byte) -> Option<Undef> {
-        if byte == Byte::Unset {
-            Some(Undef::Unset)
-        } else if !self.is_alive(object) {
-            Some(Undef::Inactive)
-        } else if !fits.holds(byte) {
-            Some(Undef::Bytes)
-        } else if self.breaks_isolation(object) {
-            Some(Undef::Isolation)
-        } else {
-            None
-        }
-    }
-
-    fn write_fault(&self, object: Object) -> Option<Undef> {
-        if !self.is_alive(object) {
-            Some(Undef::Inactive)
-        } else if self.breaks_isolation(object) {
-            Some(Undef::Isolation)
-        } else {
-            None
-        }
-    }
-
-    // The slot of an object that has a byte so many behind its start.
-    fn slot_with(&self, object: Object, offset: u64) -> Option<Slot> {
-        let slot = self.memory.slot(object)?;
-        if offset < slot.size { Some(slot) } else { None }
-    }
-
-    // A byte as a number: one of a pointer is that of the object's address plus the offset.
-    fn shown(&self, byte: Byte) -> u8 {
-        match byte {
-            Byte::Unset => 0,
-            Byte::Number(number) => number,
-            Byte::Part {
-                object,
-                offset,
-                high,
-            } => {
-                let base = match self.memory.slot(object) {
-                    Some(slot) => slot.address,
-                    None => 0,
-                };
-                let address = (base as u64).saturating_add(offset);
-                if high {
-                    (address / 256 % 2) as u8
-                } else {
-                    (address % 256) as u8
-                }
-            }
-        }
-    }
-
-    // What an access to a byte of an object is in an event, if it is one.
-    fn cell(slot: Slot, object: Object, offset: u64) -> Option<Cell> {
-        match object {
-            Object::Fixed(number) if slot.watched => Some(Cell::Static {
-                object: low_bits(number as u64),
-                offset: low_bits(offset),
-            }),
-            _ => None,
-        }
-    }
-
-    fn read_register(&mut self, register: u8, script: &Script) -> (u8, Event) {
-        let value = self.world.read(register, script);
-        let cell = Cell::Device { address: register };
-        (value, Event::Read { cell, value })
-    }
-
-    fn take_at(&mut self, fits: Fits, object: Object, offset: u64) -> Result<Taken, Undef> {
-        let Some(slot) = self.slot_with(object, offset) else {
-            return Err(Undef::Outside);
+    // Who reaches a spot.
+    fn reach(&self, spot: Spot) -> Reach {
+        let alive = match spot {
+            Spot::Memory(Pointer::Into { object, .. }) => self.is_alive(object),
+            Spot::Memory(Pointer::Null) | Spot::Device(_) | Spot::Bit { .. } => true,
         };
-        let byte = self.memory.get(slot, offset);
-        if let Some(kind) = self.read_fault(fits, object, byte) {
-            return Err(kind);
+        Reach {
+            root: self.copy.root,
+            alive,
         }
-        let event = match Self::cell(slot, object, offset) {
-            Some(cell) => {
-                self.world.note();
-                Some(Event::Read {
-                    cell,
-                    value: self.shown(byte),
-                })
-            }
-            None => None,
-        };
-        Ok(Taken { byte, event })
     }
 
     fn take_byte(&mut self, fits: Fits, spot: Spot, script: &Script) -> Result<Taken, Undef> {
-        match spot {
-            Spot::Device(address) => {
-                let (value, event) = self.read_register(address, script);
-                Ok(Taken {
-                    byte: Byte::Number(value),
-                    event: Some(event),
-                })
-            }
-            Spot::Bit { register, bit } => {
-                let (value, event) = self.read_register(register, script);
-                Ok(Taken {
-                    byte: Byte::Number(bit_of(value, bit)),
-                    event: Some(event),
-                })
-            }
-            Spot::Memory(Pointer::Null) => Err(Undef::Outside),
-            Spot::Memory(Pointer::Into { object, offset }) => self.take_at(fits, object, offset),
-        }
-    }
-
-    fn put_register(&mut self, register: u8, value: u8) -> Result<Option<Event>, Undef> {
-        if self.world.sets_gie(register, value) {
-            return Err(Undef::Gie);
-        }
-        self.world.write(register, value);
-        let cell = Cell::Device { address: register };
-        Ok(Some(Event::Write { cell, value }))
-    }
-
-    fn put_at(&mut self, object: Object, offset: u64, byte: Byte) -> Result<Option<Event>, Undef> {
-        let Some(slot) = self.slot_with(object, offset) else {
-            return Err(Undef::Outside);
-        };
-        if let Some(kind) = self.write_fault(object) {
-            return Err(kind);
-        }
-        self.memory.put_in(slot, offset, byte);
-        match Self::cell(slot, object, offset) {
-            Some(cell) => {
-                self.world.note();
-                let value = self.shown(byte);
-                Ok(Some(Event::Write { cell, value }))
-            }
-            None => Ok(None),
-        }
+        let reach = self.reach(spot);
+        self.memory
+            .take_byte(&mut self.world, reach, fits, spot, script)
     }
 
     fn put_byte(&mut self, spot: Spot, byte: Byte) -> Result<Option<Event>, Undef> {
-        match spot {
-            Spot::Device(address) => self.put_register(address, number_in(byte)),
-            Spot::Bit { .. } | Spot::Memory(Pointer::Null) => Err(Undef::Outside),
-            Spot::Memory(Pointer::Into { object, offset }) => self.put_at(object, offset, byte),
+        let reach = self.reach(spot);
+        self.memory.put_byte(&mut self.world, reach, spot, byte)
+    }
+
+    // The line of the node that waits.
+    pub(crate) fn line_at(&self) -> u32 {
+        match self.stack.last() {
+            Some(Pending::In(expr, _)) => expr.line(),
+            Some(Pending::To(place)) => place.line(),
+            Some(Pending::Doing(code, _)) => match code.statement() {
+                Some(statement) => statement_line(statement),
+                None => 0,
+            },
+            _ => 0,
         }
     }
 
-    // Goes on behind an access with the event that it made, or tells why it is undefined.
-    fn after(
-        &mut self,
-        access: Result<Option<Event>, Undef>,
-        focus: Focus<'a>,
-        line: u32,
-    ) -> SrcEnd {
+    // Goes on behind an access with the event that it made.
+    fn after(&mut self, event: Option<Event>, focus: Focus<'a>) -> Outcome {
+        self.focus = focus;
+        Outcome::Went(event)
+    }
+
+    fn after_putting(&mut self, access: Result<Option<Event>, Undef>, focus: Focus<'a>) -> Outcome {
         match access {
-            Ok(event) => {
-                self.focus = focus;
-                SrcEnd::Went(event)
-            }
-            Err(kind) => undefined(kind, line),
+            Ok(event) => self.after(event, focus),
+            Err(kind) => undefined(kind, self.line_at()),
         }
     }
 
-    // The read of a place as a type begins.
-    pub(crate) fn fetching(&self, spot: Spot, ty: Ty, line: u32) -> Focus<'a> {
-        match ty {
-            Ty::Int(ty) => {
-                let reading = Reading {
-                    ty,
-                    bytes: 0,
-                    number: 0,
-                };
-                Focus::Fetch {
-                    spot,
-                    reading,
-                    line,
-                }
+    /// The read of a place as a type begins.
+    pub(crate) fn fetching(&self, spot: Spot, ty: Ty) -> Focus<'a> {
+        let left = match ty {
+            Ty::Int(_) | Ty::Pointer(_) => {
+                let read = ReadBytes::new();
+                return Focus::Fetch { spot, read };
             }
-            Ty::Pointer(_) => Focus::FetchLow { spot, line },
-            Ty::Struct(_) => Focus::Skim {
-                spot,
-                left: self.program.bytes_of(ty),
-                line,
-            },
-            Ty::Void | Ty::Array { .. } => Focus::Skim {
-                spot,
-                left: 0,
-                line,
-            },
+            Ty::Struct(_) => self.program.bytes_of(ty),
+            Ty::Void | Ty::Array { .. } => 0,
+        };
+        let last = None;
+        Focus::Skim { spot, left, last }
+    }
+
+    /// The type that the node which waits reads its place as.
+    pub(crate) fn read_type(&self) -> Ty {
+        match self.stack.last() {
+            Some(Pending::In(expr, _)) => expr.ty(),
+            _ => Ty::Void,
         }
     }
 
-    pub(crate) fn fetch(
-        &mut self,
-        spot: Spot,
-        reading: Reading,
-        line: u32,
-        script: &Script,
-    ) -> SrcEnd {
-        if size(reading.ty) <= reading.bytes {
-            return self.go(Focus::Holds(number_of(reading)));
+    // A value was read. It is that of a node that only reads; others go on with it.
+    fn fetched(&mut self, value: Datum) -> Outcome {
+        if let Some(Pending::In(expr, Got::At(_))) = self.stack.last() {
+            if let TExpr::Read { .. } = expr {
+                let _ = self.stack.pop();
+            }
         }
-        match self.take_byte(Fits::Number, spot, script) {
+        self.go(Focus::Holds(value))
+    }
+
+    pub(crate) fn fetch(&mut self, spot: Spot, read: ReadBytes, script: &Script) -> Outcome {
+        let ty = self.read_type();
+        if self.program.bytes_of(ty) <= read.count() as u64 {
+            return self.fetched(value_from(ty, read));
+        }
+        match self.take_byte(Fits::Behind(ty, read), spot, script) {
             Ok(taken) => {
-                let focus = Focus::Fetch {
-                    spot: next_byte(spot),
-                    reading: read_on(reading, taken.byte),
-                    line,
-                };
-                self.after(Ok(taken.event), focus, line)
+                let spot = next_byte(spot);
+                let read = read.and(taken.byte);
+                self.after(taken.event, Focus::Fetch { spot, read })
             }
-            Err(kind) => undefined(kind, line),
+            Err(kind) => undefined(kind, self.line_at()),
         }
     }
 
-    pub(crate) fn fetch_low(&mut self, spot: Spot, line: u32, script: &Script) -> SrcEnd {
-        match self.take_byte(Fits::Any, spot, script) {
-            Ok(taken) => {
-                let focus = Focus::FetchHigh {
-                    spot: next_byte(spot),
-                    low: taken.byte,
-                    line,
-                };
-                self.after(Ok(taken.event), focus, line)
-            }
-            Err(kind) => undefined(kind, line),
-        }
-    }
-
-    pub(crate) fn fetch_high(
-        &mut self,
-        spot: Spot,
-        low: Byte,
-        line: u32,
-        script: &Script,
-    ) -> SrcEnd {
-        match self.take_byte(Fits::Completing(low), spot, script) {
-            Ok(taken) => {
-                let value = match joined(low, taken.byte) {
-                    Some(pointer) => Datum::Pointer(pointer),
-                    None => Datum::Missing,
-                };
-                self.after(Ok(taken.event), Focus::Holds(value), line)
-            }
-            Err(kind) => undefined(kind, line),
-        }
-    }
-
-    pub(crate) fn skim(&mut self, spot: Spot, left: u64, line: u32, script: &Script) -> SrcEnd {
+    pub(crate) fn skim(&mut self, spot: Spot, left: u64, script: &Script) -> Outcome {
         if left == 0 {
-            return self.go(Focus::Holds(Datum::Missing));
+            return self.fetched(Datum::Missing);
         }
         match self.take_byte(Fits::Any, spot, script) {
             Ok(taken) => {
                 let focus = Focus::Skim {
                     spot: next_byte(spot),
                     left: left - 1,
-                    line,
+                    last: Some(taken.byte),
                 };
-                self.after(Ok(taken.event), focus, line)
+                self.after(taken.event, focus)
             }
-            Err(kind) => undefined(kind, line),
+            Err(kind) => undefined(kind, self.line_at()),
         }
     }
 
-    pub(crate) fn write(
+    /// The items of a local's list from the one of this number on, in order, and then the bytes without an item.
+    pub(crate) fn items(
         &mut self,
-        spot: Spot,
-        value: Datum,
-        at: u8,
-        answer: Datum,
-        line: u32,
-        script: &Script,
-    ) -> SrcEnd {
-        if byte_count(value) <= at {
-            return self.go(Focus::Holds(answer));
+        code: Code<'a>,
+        object: Object,
+        items: &'a Vec<TItem>,
+        at: usize,
+    ) -> Outcome {
+        let Some(item) = items.get(at) else {
+            let left = self.memory.size(object);
+            return self.go_waiting(
+                Focus::Blank { at: 0, left },
+                Pending::Doing(code, Stage::Blanks),
+            );
+        };
+        let here = Pending::Doing(code, Stage::AtItem(at));
+        match item {
+            TItem::Scalar { value, .. } => self.go_waiting(Focus::Eval(value), here),
+            TItem::Struct { from, .. } => self.go_waiting(Focus::Find(from), here),
+            TItem::Text {
+                offset,
+                bytes,
+                size,
+            } => {
+                let focus = Focus::Spell {
+                    spot: behind(object, *offset),
+                    text: bytes,
+                    left: *size,
+                };
+                let next = at.saturating_add(1);
+                self.go_waiting(focus, Pending::Doing(code, Stage::Items(next)))
+            }
+        }
+    }
+
+    // All bytes of a statement's part stand in their places.
+    fn stored_for(&mut self, code: Code<'a>, stage: Stage) -> Outcome {
+        match code.statement() {
+            Some(TStmt::InitScalar { .. }) => match stage {
+                Stage::Fills => self.go(Focus::Past),
+                _ => Outcome::Lost,
+            },
+            Some(TStmt::InitList { local, items, .. }) => match stage {
+                Stage::Items(at) => {
+                    let object = self.local_of(*local);
+                    self.items(code, object, items, at)
+                }
+                Stage::Blanks => self.go(Focus::Past),
+                _ => Outcome::Lost,
+            },
+            _ => Outcome::Lost,
+        }
+    }
+
+    // All bytes stand in their places: the node that waits goes on.
+    fn stored(&mut self) -> Outcome {
+        match self.stack.pop() {
+            Some(Pending::In(expr, Got::Stores(spot, value))) => {
+                self.go(Focus::Holds(answer_of(expr, spot, value)))
+            }
+            Some(Pending::In(_, Got::Copies)) => self.go(Focus::Holds(Datum::Missing)),
+            Some(Pending::Doing(code, stage)) => self.stored_for(code, stage),
+            _ => Outcome::Lost,
+        }
+    }
+
+    pub(crate) fn write(&mut self, spot: Spot, value: Datum, at: u8, script: &Script) -> Outcome {
+        if written_bytes(spot, value) <= at {
+            return self.stored();
         }
         match spot {
             Spot::Bit { register, bit } => {
-                let (old, event) = self.read_register(register, script);
+                let (old, event) = self.world.read_register(register, script);
                 let focus = Focus::PutBit {
                     register,
-                    value: with_bit(old, bit, lowest_bit(value)),
-                    answer,
-                    line,
+                    bit,
+                    value,
+                    old,
                 };
-                self.after(Ok(Some(event)), focus, line)
+                self.after(Some(event), focus)
             }
             Spot::Device(_) | Spot::Memory(_) => {
                 let access = self.put_byte(spot, byte_of(value, at));
-                let focus = Focus::Write {
-                    spot: next_byte(spot),
-                    value,
-                    at: at.saturating_add(1),
-                    answer,
-                    line,
-                };
-                self.after(access, focus, line)
+                let spot = next_byte(spot);
+                let at = at.saturating_add(1);
+                self.after_putting(access, Focus::Write { spot, value, at })
             }
         }
     }
 
-    pub(crate) fn write_register(
-        &mut self,
-        register: u8,
-        value: u8,
-        answer: Datum,
-        line: u32,
-    ) -> SrcEnd {
-        let access = self.put_register(register, value);
-        self.after(access, Focus::Holds(answer), line)
+    pub(crate) fn put_bit(&mut self, register: u8, bit: u8, value: Datum, old: u8) -> Outcome {
+        let number = with_bit(old, bit, lowest_bit(value));
+        let access = self.world.put_register(register, number);
+        let spot = Spot::Bit { register, bit };
+        self.after_putting(access, Focus::Write { spot, value, at: 1 })
     }
 
     pub(crate) fn copy_read(
@@ -413,11 +293,10 @@ impl<'a> Machine<'a> {
         to: Spot,
         from: Spot,
         left: u64,
-        line: u32,
         script: &Script,
-    ) -> SrcEnd {
+    ) -> Outcome {
         if left == 0 {
-            return self.go(Focus::Holds(Datum::Missing));
+            return self.stored();
         }
         match self.take_byte(Fits::Any, from, script) {
             Ok(taken) => {
@@ -426,105 +305,74 @@ impl<'a> Machine<'a> {
                     from,
                     byte: taken.byte,
                     left: left - 1,
-                    line,
                 };
-                self.after(Ok(taken.event), focus, line)
+                self.after(taken.event, focus)
             }
-            Err(kind) => undefined(kind, line),
+            Err(kind) => undefined(kind, self.line_at()),
         }
     }
 
-    pub(crate) fn copy_write(
-        &mut self,
-        to: Spot,
-        from: Spot,
-        byte: Byte,
-        left: u64,
-        line: u32,
-    ) -> SrcEnd {
+    pub(crate) fn copy_write(&mut self, to: Spot, from: Spot, byte: Byte, left: u64) -> Outcome {
         let access = self.put_byte(to, byte);
-        let focus = Focus::CopyRead {
-            to: next_byte(to),
-            from: next_byte(from),
-            left,
-            line,
-        };
-        self.after(access, focus, line)
+        let to = next_byte(to);
+        let from = next_byte(from);
+        self.after_putting(access, Focus::CopyRead { to, from, left })
     }
 
-    pub(crate) fn spell(&mut self, spot: Spot, text: &'a [u8], left: u64, line: u32) -> SrcEnd {
+    pub(crate) fn spell(&mut self, spot: Spot, text: &'a [u8], left: u64) -> Outcome {
         if left == 0 {
-            return self.go(Focus::Holds(Datum::Missing));
+            return self.stored();
         }
-        let (first, rest) = match text {
+        let (first, text) = match text {
             [first, rest @ ..] => (*first, rest),
             [] => (0, text),
         };
         let access = self.put_byte(spot, Byte::Number(first));
         let focus = Focus::Spell {
             spot: next_byte(spot),
-            text: rest,
+            text,
             left: left - 1,
-            line,
         };
-        self.after(access, focus, line)
+        self.after_putting(access, focus)
     }
 
-    /// Whether some item of a list has the byte.
-    pub(crate) fn is_covered(&self, items: &[TItem], at: u64) -> bool {
-        for item in items {
-            let (start, size) = match item {
-                TItem::Scalar { offset, value } => (*offset, self.program.bytes_of(value.ty())),
-                TItem::Struct { offset, size, .. } => (*offset, *size),
-                TItem::Text { offset, size, .. } => (*offset, *size),
-            };
-            if start <= at && at < start.saturating_add(size) {
-                return true;
+    /// How many bytes from this one on have an item of the list, of so many.
+    pub(crate) fn covered_from(&self, items: &[TItem], at: u64, left: u64) -> u64 {
+        for count in 0..left {
+            if !is_covered(self.program, items, at.saturating_add(count)) {
+                return count;
             }
         }
-        false
+        left
     }
 
-    pub(crate) fn blank(&mut self, list: Listed<'a>, at: u64, left: u64) -> SrcEnd {
-        if left == 0 {
-            return self.go(Focus::Holds(Datum::Missing));
+    // The list that waits, and its local.
+    pub(crate) fn list_at(&self) -> Option<(u32, &'a Vec<TItem>)> {
+        match self.stack.last() {
+            Some(Pending::Doing(code, _)) => match code.statement() {
+                Some(TStmt::InitList { local, items, .. }) => Some((*local, items)),
+                _ => None,
+            },
+            _ => None,
         }
+    }
+
+    /// The next byte without an item becomes 0.
+    pub(crate) fn blank(&mut self, at: u64, left: u64) -> Outcome {
+        let Some((local, items)) = self.list_at() else {
+            return Outcome::Lost;
+        };
+        let covered = self.covered_from(items, at, left);
+        let at = at.saturating_add(covered);
+        let left = left.saturating_sub(covered);
+        if left == 0 {
+            return self.stored();
+        }
+        let access = self.put_byte(behind(self.local_of(local), at), Byte::Number(0));
         let focus = Focus::Blank {
-            list,
             at: at.saturating_add(1),
             left: left - 1,
         };
-        if self.is_covered(list.items, at) {
-            return self.go(focus);
-        }
-        let spot = Spot::Memory(Pointer::Into {
-            object: list.object,
-            offset: at,
-        });
-        let access = self.put_byte(spot, Byte::Number(0));
-        self.after(access, focus, list.line)
-    }
-
-    /// The write of a value begins; what the expression gives then is another.
-    pub(crate) fn writing(&mut self, spot: Spot, value: Datum, answer: Datum, line: u32) -> SrcEnd {
-        self.go(Focus::Write {
-            spot,
-            value,
-            at: 0,
-            answer,
-            line,
-        })
-    }
-
-    /// The write of a value that the expression gives too.
-    pub(crate) fn keeping(&mut self, spot: Spot, value: Datum, line: u32) -> SrcEnd {
-        self.writing(spot, value, kept_in(spot, value), line)
-    }
-}
-
-fn is_over(focus: &Focus) -> bool {
-    match focus {
-        Focus::Over => true,
-        _ => false,
+        self.after_putting(access, focus)
     }
 }

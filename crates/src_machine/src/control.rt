@@ -1,43 +1,9 @@
-//! What a step is about (the focus), and what waits for it.
+//! What a step is about (the focus), and what waits for it. A frame that waits holds its node of the tree and what is
+//! done of the node's parts: types, lines and constants are read off the node.
 
-use crate::objects::{Byte, Change, CopyOf, Datum, Object, Reading, Spot};
-use c_ints::{BinOp, UnOp};
-use c_typed::{LogicalOp, TArm, TCase, TExpr, TItem, TPlace, TStmt, Ty};
-
-/// The labels of a switch from the one of this number on, where `default` leads, and the statements of
-/// its body.
-#[derive(Clone, Copy)]
-pub(crate) struct Labels<'a> {
-    pub cases: &'a Vec<TCase>,
-    pub next: usize,
-    pub default: Option<u32>,
-    pub statements: &'a Vec<TStmt>,
-}
-
-/// A loop: its condition, what is done after each turn, its body and its line.
-#[derive(Clone, Copy)]
-pub(crate) struct Round<'a> {
-    pub condition: &'a Option<TExpr>,
-    pub step: &'a Option<TExpr>,
-    pub body: &'a Box<TStmt>,
-    pub line: u32,
-}
-
-/// A loop stands before its first turn or between two turns, at its condition, or in its body.
-#[derive(Clone, Copy, PartialEq, Eq, Debug)]
-pub(crate) enum Stage {
-    Begins,
-    Tests,
-    Turns,
-}
-
-/// A local and the list that it begins with.
-#[derive(Clone, Copy)]
-pub(crate) struct Listed<'a> {
-    pub object: Object,
-    pub items: &'a Vec<TItem>,
-    pub line: u32,
-}
+use c_typed::{TArm, TExpr, TPlace, TStmt};
+use src_values::objects::ReadBytes;
+use src_values::{Byte, CopyOf, Datum, Spot};
 
 /// Where a statement stands: in a list, by its number; behind an `else` or in a loop; or in an arm of an `if`,
 /// by the arm's number.
@@ -74,138 +40,127 @@ pub(crate) enum Focus<'a> {
     /// A statement begins, and one is done.
     Run(Code<'a>),
     Past,
-    /// The bytes of a number are read.
+    /// A number or a pointer is read: the byte that comes next, and those that were read.
     Fetch {
         spot: Spot,
-        reading: Reading,
-        line: u32,
+        read: ReadBytes,
     },
-    /// The low and the high byte of a pointer are read.
-    FetchLow {
-        spot: Spot,
-        line: u32,
-    },
-    FetchHigh {
-        spot: Spot,
-        low: Byte,
-        line: u32,
-    },
-    /// So many bytes of a structure are read, whose value is dropped.
+    /// A structure is read whose value is dropped: so many bytes are left, and this one was the last.
     Skim {
         spot: Spot,
         left: u64,
-        line: u32,
+        last: Option<Byte>,
     },
-    /// The value's bytes are written from the one of this number on; then the expression has `answer`.
+    /// A value is written: the place of its byte of this number, which comes next.
     Write {
         spot: Spot,
         value: Datum,
         at: u8,
-        answer: Datum,
-        line: u32,
     },
-    /// The register of a bit is written.
+    /// A bit of a register gets a value; the register was read, and is written next.
     PutBit {
         register: u8,
-        value: u8,
-        answer: Datum,
-        line: u32,
+        bit: u8,
+        value: Datum,
+        old: u8,
     },
-    /// So many bytes are copied: one is read, or the one read is written.
+    /// So many bytes are copied: one is read, or the one that was read is written.
     CopyRead {
         to: Spot,
         from: Spot,
         left: u64,
-        line: u32,
     },
     CopyWrite {
         to: Spot,
         from: Spot,
         byte: Byte,
         left: u64,
-        line: u32,
     },
-    /// The characters of a string are written, and zeros up to so many bytes.
+    /// Characters of a string, and then zeros, up to so many bytes.
     Spell {
         spot: Spot,
         text: &'a [u8],
         left: u64,
-        line: u32,
     },
-    /// The bytes that no item of a list has become 0: so many from this one on.
+    /// The bytes without an item, of so many from this one on.
     Blank {
-        list: Listed<'a>,
         at: u64,
         left: u64,
     },
-    /// A function is called with the last values.
-    Calls {
-        function: u32,
-        count: usize,
-        line: u32,
-    },
+    /// A function is called.
+    Calls,
     /// A function has ended with this value.
     Leaves(Datum),
-    /// The labels of a switch are compared with its value.
+    /// The labels of a switch are compared with its value, from the one of this number on.
     Compares {
         value: Datum,
-        labels: Labels<'a>,
+        next: usize,
     },
     /// Main has ended.
     Over,
 }
 
+/// What is done of an expression's parts.
+#[derive(Clone, Copy)]
+pub(crate) enum Got {
+    /// Its first part is under way.
+    Nothing,
+    /// Its left operand has this value, and the right one is under way.
+    One(Datum),
+    /// Its place was found; what follows it is under way.
+    At(Spot),
+    /// Its place was found, its right operand has this value, and the place is read.
+    AtWith(Spot, Datum),
+    /// Its place is written; the expression's value comes from this one.
+    Stores(Spot, Datum),
+    /// Its structure is copied.
+    Copies,
+    /// So many arguments have their values, which stand below, and the next one is under way.
+    Args(usize),
+    /// All arguments, so many, have their values.
+    Passed(usize),
+    /// The function that is called is under way.
+    Called,
+}
+
+/// What is under way of a statement.
+#[derive(Clone, Copy, PartialEq, Eq)]
+pub(crate) enum Stage {
+    /// The value that it begins with, or a loop's condition.
+    Tests,
+    /// What a loop begins with, and what it does after a turn.
+    Begins,
+    Steps,
+    /// The body of a loop or of a switch.
+    Turns,
+    /// The condition of the arm of this number.
+    Picks(usize),
+    /// The comparison with labels.
+    Chooses,
+    /// The write of the value that a local begins with.
+    Fills,
+    /// The value or the place of the item of this number.
+    AtItem(usize),
+    /// The bytes of the item before the one of this number.
+    Items(usize),
+    /// The bytes without an item.
+    Blanks,
+}
+
 /// What waits for the focus.
 #[derive(Clone, Copy)]
 pub(crate) enum Pending<'a> {
-    Reads(Ty, u32),
-    /// An address is taken, which counts as an operator or doesn't.
-    Takes(bool, u32),
-    Converts(Ty, u32),
-    Casts(Ty, u32),
-    Unaries(UnOp, u32),
-    Left(BinOp, &'a Box<TExpr>, Ty, u32),
-    Right(BinOp, Datum, Ty, u32),
-    OffsetLeft(BinOp, &'a Box<TExpr>, u64, u32),
-    OffsetRight(BinOp, Datum, u64, u32),
-    DifferenceLeft(&'a Box<TExpr>, u64, u32),
-    DifferenceRight(Datum, u64, u32),
-    LogicalLeft(LogicalOp, &'a Box<TExpr>, u32),
-    LogicalRight(u32),
-    Chooses(&'a Box<TExpr>, &'a Box<TExpr>, u32),
-    Commas(&'a Box<TExpr>, u32),
-    AssignTo(&'a Box<TExpr>, u32),
-    Assigns(Spot, u32),
-    StructTo(&'a Box<TPlace>, u64, u32),
-    StructFrom(Spot, u64, u32),
-    UpdateAt(Change, &'a Box<TExpr>),
-    Updates(Change, Spot),
-    StepAt(Change),
-    Changes(Change, Spot, Datum),
-    Members(u64, u32),
-    Derefs(u32),
-    /// An argument: how many values stand before it, and all arguments.
-    Arguments {
-        function: u32,
-        count: usize,
-        arguments: &'a Vec<TExpr>,
-        line: u32,
-    },
-    Drops,
-    Initializes(Object, u32),
-    ItemValue(Spot, u32),
-    ItemFrom(Spot, u64, u32),
-    /// The items of a list from the one of this number on.
-    Lists(Listed<'a>, usize),
-    /// The condition of the arm of this number.
-    Picks(&'a Vec<TArm>, usize, &'a Option<Box<TStmt>>),
-    /// A loop, at this stage.
-    Loops(Stage, Round<'a>),
-    Switches(Labels<'a>, u32),
-    InSwitch,
+    /// An expression that waits for a part.
+    In(&'a TExpr, Got),
+    /// A value of an argument, which waits for a call.
+    Value(Datum),
+    /// A member that waits for its structure, or what a pointer points to for the pointer.
+    To(&'a TPlace),
+    /// A statement that waits for a part.
+    Doing(Code<'a>, Stage),
     /// The statements from the one of this number on.
     Before(&'a Vec<TStmt>, usize),
-    Gives(u32),
+    /// The caller.
     Returns(CopyOf),
     /// What the handler interrupted: `Machine` has its focus.
     Resumes(CopyOf),

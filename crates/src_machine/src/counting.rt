@@ -1,24 +1,30 @@
 //! Which micro-steps count as steps of the source, and at which line: an operator applied, a byte accessed,
 //! a switch label compared, a statement begun, a function called, the end of a function's body.
 
-use crate::control::{Focus, Labels, Pending};
-use crate::giving::decides;
+use crate::accesses::written_bytes;
+use crate::control::{Code, Focus, Got, Pending, Stage};
 use crate::machine::Machine;
-use crate::objects::Datum;
-use crate::values::{byte_count, truth_of};
-use c_ints::size;
-use c_typed::{LogicalOp, TStmt};
+use crate::operators::decides;
+use c_typed::{LogicalOp, TExpr, TPlace, TStmt, Ty, Typed};
+use src_values::Datum;
+use src_values::values::truth_of;
 
 fn counted_if(counts: bool, line: u32) -> Option<u32> {
     if counts { Some(line) } else { None }
 }
 
-// A place that was found.
-fn found_counts(top: &Pending) -> Option<u32> {
-    match top {
-        Pending::Takes(counts, line) => counted_if(*counts, *line),
-        Pending::Members(_, line) | Pending::StructFrom(_, _, line) => Some(*line),
-        _ => None,
+// Whether taking the address is an operator. An array that becomes the pointer to its first element takes
+// no step.
+fn is_operator(program: &Typed, place: Ty, ty: Ty) -> bool {
+    if !place.is_array() {
+        return true;
+    }
+    let Ty::Pointer(row) = ty else {
+        return false;
+    };
+    match program.targets.get(row as usize) {
+        Some(target) => target.ty == place,
+        None => false,
     }
 }
 
@@ -30,44 +36,92 @@ fn logical_counts(op: LogicalOp, value: Datum, line: u32) -> Option<u32> {
     }
 }
 
-// A value.
+// A value that is given to an expression.
+fn value_counts_in(expr: &TExpr, got: Got, value: Datum) -> Option<u32> {
+    match got {
+        Got::Nothing => match expr {
+            TExpr::Cast { line, .. }
+            | TExpr::Unary { line, .. }
+            | TExpr::Conditional { line, .. }
+            | TExpr::Comma { line, .. } => Some(*line),
+            TExpr::Logical { op, line, .. } => logical_counts(*op, value, *line),
+            _ => None,
+        },
+        Got::One(_) => match expr {
+            TExpr::Binary { line, .. }
+            | TExpr::Offset { line, .. }
+            | TExpr::Difference { line, .. }
+            | TExpr::Logical { line, .. } => Some(*line),
+            _ => None,
+        },
+        Got::At(_) => match expr {
+            TExpr::Assign { line, .. } | TExpr::Step { line, .. } => Some(*line),
+            _ => None,
+        },
+        Got::AtWith(_, _) => match expr {
+            TExpr::Update { line, .. } => Some(*line),
+            _ => None,
+        },
+        Got::Stores(_, _) | Got::Copies | Got::Args(_) | Got::Passed(_) | Got::Called => None,
+    }
+}
+
+// A value; `*` is an operator.
 fn value_counts(value: Datum, top: &Pending) -> Option<u32> {
     match top {
-        Pending::Casts(_, line)
-        | Pending::Unaries(_, line)
-        | Pending::Right(_, _, _, line)
-        | Pending::OffsetRight(_, _, _, line)
-        | Pending::DifferenceRight(_, _, line)
-        | Pending::LogicalRight(line)
-        | Pending::Chooses(_, _, line)
-        | Pending::Commas(_, line)
-        | Pending::Assigns(_, line)
-        | Pending::Derefs(line) => Some(*line),
-        Pending::LogicalLeft(op, _, line) => logical_counts(*op, value, *line),
-        Pending::Changes(change, _, _) => Some(change.line),
+        Pending::In(expr, got) => value_counts_in(expr, *got, value),
+        Pending::To(TPlace::Deref { line, .. }) => Some(*line),
         _ => None,
+    }
+}
+
+// A place that was found; `.` is an operator.
+fn found_counts(program: &Typed, top: &Pending) -> Option<u32> {
+    match top {
+        Pending::In(TExpr::Address { place, ty, line }, Got::Nothing) => {
+            counted_if(is_operator(program, place.ty().ty, *ty), *line)
+        }
+        Pending::In(TExpr::StructAssign { line, .. }, Got::At(_)) => Some(*line),
+        Pending::To(TPlace::Member { line, .. }) => Some(*line),
+        _ => None,
+    }
+}
+
+/// The line of a statement's first token.
+pub(crate) fn statement_line(statement: &TStmt) -> u32 {
+    match statement {
+        TStmt::Block { line, .. }
+        | TStmt::Empty { line }
+        | TStmt::Expr { line, .. }
+        | TStmt::Declare { line, .. }
+        | TStmt::InitScalar { line, .. }
+        | TStmt::InitList { line, .. }
+        | TStmt::If { line, .. }
+        | TStmt::Loop { line, .. }
+        | TStmt::Switch { line, .. }
+        | TStmt::Break { line }
+        | TStmt::Continue { line }
+        | TStmt::Return { line, .. } => *line,
     }
 }
 
 // A statement that begins; a declarator is none.
 fn statement_counts(statement: &TStmt) -> Option<u32> {
     match statement {
-        TStmt::Block { line, .. }
-        | TStmt::Empty { line }
-        | TStmt::Expr { line, .. }
-        | TStmt::If { line, .. }
-        | TStmt::Loop { line, .. }
-        | TStmt::Switch { line, .. }
-        | TStmt::Break { line }
-        | TStmt::Continue { line }
-        | TStmt::Return { line, .. } => Some(*line),
         TStmt::Declare { .. } | TStmt::InitScalar { .. } | TStmt::InitList { .. } => None,
+        _ => Some(statement_line(statement)),
     }
 }
 
-fn label_counts(labels: &Labels) -> Option<u32> {
-    let case = labels.cases.get(labels.next)?;
-    Some(case.line)
+// The label of this number of a switch.
+fn label_counts(code: Code, next: usize) -> Option<u32> {
+    match code.statement()? {
+        TStmt::Switch { cases, .. } => {
+            let case = cases.get(next)?;
+            Some(case.line)
+        }
+        _ => None,
+    }
 }
 
 impl<'a> Machine<'a> {
@@ -87,30 +141,27 @@ impl<'a> Machine<'a> {
         match self.focus {
             Focus::Eval(_) | Focus::Find(_) | Focus::Leaves(_) => None,
             Focus::Holds(value) => value_counts(value, self.stack.last()?),
-            Focus::Found(_) => found_counts(self.stack.last()?),
+            Focus::Found(_) => found_counts(self.program, self.stack.last()?),
             Focus::Run(code) => statement_counts(code.statement()?),
             Focus::Past => self.past_counts(),
-            Focus::Fetch { reading, line, .. } => {
-                counted_if(reading.bytes < size(reading.ty), line)
+            Focus::Fetch { read, .. } => {
+                let wanted = self.program.bytes_of(self.read_type());
+                counted_if((read.count() as u64) < wanted, self.line_at())
             }
-            Focus::FetchLow { line, .. }
-            | Focus::FetchHigh { line, .. }
-            | Focus::PutBit { line, .. }
-            | Focus::CopyWrite { line, .. }
-            | Focus::Calls { line, .. } => Some(line),
-            Focus::Skim { left, line, .. }
-            | Focus::CopyRead { left, line, .. }
-            | Focus::Spell { left, line, .. } => counted_if(left != 0, line),
-            Focus::Write {
-                value,
-                at,
-                line,
-                ..
-            } => counted_if(at < byte_count(value), line),
-            Focus::Blank { list, at, left } => {
-                counted_if(left != 0 && !self.is_covered(list.items, at), list.line)
+            Focus::PutBit { .. } | Focus::CopyWrite { .. } | Focus::Calls => Some(self.line_at()),
+            Focus::Skim { left, .. } | Focus::CopyRead { left, .. } | Focus::Spell { left, .. } =>
+                counted_if(left != 0, self.line_at()),
+            Focus::Write { spot, value, at } => {
+                counted_if(at < written_bytes(spot, value), self.line_at())
             }
-            Focus::Compares { labels, .. } => label_counts(&labels),
+            Focus::Blank { at, left } => {
+                let (_, items) = self.list_at()?;
+                counted_if(self.covered_from(items, at, left) < left, self.line_at())
+            }
+            Focus::Compares { next, .. } => match self.stack.last()? {
+                Pending::Doing(code, Stage::Chooses) => label_counts(*code, next),
+                _ => None,
+            },
             Focus::Over => Some(self.line_of(self.copy.function)),
         }
     }

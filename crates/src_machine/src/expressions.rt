@@ -1,45 +1,12 @@
-//! How expressions and places begin: the left operand first, and what waits for it.
+//! How expressions and places begin, and what follows a place that was found: the left operand comes first, and the node
+//! waits for it.
 
-use crate::control::{Focus, Pending};
-use crate::machine::{Machine, SrcEnd, nowhere, undefined};
-use crate::objects::{Change, Datum, Object, Pointer, Spot, Undef, number_from};
-use crate::values::one_in;
-use c_ints::BinOp;
-use c_typed::{Object as Name, StepOp, TExpr, TPlace, Ty, Typed};
-
-// Whether taking the address is an operator. An array that becomes the pointer to its first element takes
-// no step.
-fn is_operator(program: &Typed, place: Ty, ty: Ty) -> bool {
-    if !place.is_array() {
-        return true;
-    }
-    let Ty::Pointer(row) = ty else {
-        return false;
-    };
-    match program.targets.get(row as usize) {
-        Some(target) => target.ty == place,
-        None => false,
-    }
-}
-
-fn step_operator(op: StepOp) -> BinOp {
-    match op {
-        StepOp::PreIncrement | StepOp::PostIncrement => BinOp::Add,
-        StepOp::PreDecrement | StepOp::PostDecrement => BinOp::Sub,
-    }
-}
-
-fn is_postfix(op: StepOp) -> bool {
-    match op {
-        StepOp::PostIncrement | StepOp::PostDecrement => true,
-        StepOp::PreIncrement | StepOp::PreDecrement => false,
-    }
-}
-
-// The start of an object in memory.
-fn start_of(object: Object) -> Spot {
-    Spot::Memory(Pointer::Into { object, offset: 0 })
-}
+use crate::accesses::behind;
+use crate::control::{Code, Focus, Got, Pending, Stage};
+use crate::machine::{Machine, Outcome, undefined};
+use c_typed::{Object as Name, TExpr, TItem, TPlace, TStmt};
+use src_values::objects::as_number;
+use src_values::{Datum, Object, Spot, Undef};
 
 impl<'a> Machine<'a> {
     /// The local of this number of the running copy.
@@ -53,176 +20,60 @@ impl<'a> Machine<'a> {
     // What a name stands for.
     fn spot_of(&self, name: Name) -> Spot {
         match name {
-            Name::Static(number) => start_of(Object::Fixed(number)),
-            Name::Param(number) => start_of(Object::Variable {
-                copy: self.copy,
-                number,
-            }),
-            Name::Local(number) => start_of(self.local_of(number)),
+            Name::Static(number) => behind(Object::Fixed(number), 0),
+            Name::Param(number) => {
+                let copy = self.copy;
+                behind(Object::Variable { copy, number }, 0)
+            }
+            Name::Local(number) => behind(self.local_of(number), 0),
             Name::Register(address) => Spot::Device(address),
         }
     }
 
-    /// The arguments from left to right, and then the call.
+    /// The arguments from the one of this number on, from left to right, and then the call.
     pub(crate) fn arguments(
         &mut self,
-        function: u32,
-        count: usize,
+        call: &'a TExpr,
         arguments: &'a Vec<TExpr>,
-        line: u32,
-    ) -> SrcEnd {
+        count: usize,
+    ) -> Outcome {
         match arguments.get(count) {
-            None => self.go(Focus::Calls {
-                function,
-                count,
-                line,
-            }),
+            None => self.go_waiting(Focus::Calls, Pending::In(call, Got::Passed(count))),
             Some(argument) => self.go_waiting(
                 Focus::Eval(argument),
-                Pending::Arguments {
-                    function,
-                    count,
-                    arguments,
-                    line,
-                },
+                Pending::In(call, Got::Args(count)),
             ),
         }
     }
 
     /// An expression begins.
-    pub(crate) fn eval(&mut self, expr: &'a TExpr) -> SrcEnd {
+    pub(crate) fn eval(&mut self, expr: &'a TExpr) -> Outcome {
+        let here = Pending::In(expr, Got::Nothing);
         match expr {
-            TExpr::Constant { value, .. } => self.go(Focus::Holds(Datum::Number(number_from(
-                *value,
-            )))),
-            TExpr::Read { place, ty, line } => {
-                self.go_waiting(Focus::Find(place), Pending::Reads(*ty, *line))
+            TExpr::Constant { value, .. } => {
+                self.go(Focus::Holds(Datum::Number(as_number(*value))))
             }
-            TExpr::Address { place, ty, line } => {
-                let counts = is_operator(self.program, place.ty().ty, *ty);
-                self.go_waiting(Focus::Find(place), Pending::Takes(counts, *line))
-            }
-            TExpr::Convert { operand, ty, line } => {
-                self.go_waiting(Focus::Eval(operand), Pending::Converts(*ty, *line))
-            }
-            TExpr::Cast { operand, ty, line } => {
-                self.go_waiting(Focus::Eval(operand), Pending::Casts(*ty, *line))
-            }
-            TExpr::Unary {
-                op,
-                operand,
-                line,
-                ..
-            } => self.go_waiting(Focus::Eval(operand), Pending::Unaries(*op, *line)),
-            TExpr::Binary {
-                op,
-                left,
-                right,
-                ty,
-                line,
-            } => self.go_waiting(Focus::Eval(left), Pending::Left(*op, right, *ty, *line)),
-            TExpr::Offset {
-                op,
-                left,
-                right,
-                size,
-                line,
-                ..
-            } => self.go_waiting(
-                Focus::Eval(left),
-                Pending::OffsetLeft(*op, right, *size, *line),
-            ),
-            TExpr::Difference {
-                left,
-                right,
-                size,
-                line,
-            } => self.go_waiting(
-                Focus::Eval(left),
-                Pending::DifferenceLeft(right, *size, *line),
-            ),
-            TExpr::Logical {
-                op,
-                left,
-                right,
-                line,
-            } => self.go_waiting(Focus::Eval(left), Pending::LogicalLeft(*op, right, *line)),
-            TExpr::Conditional {
-                condition,
-                then,
-                otherwise,
-                line,
-                ..
-            } => self.go_waiting(
-                Focus::Eval(condition),
-                Pending::Chooses(then, otherwise, *line),
-            ),
-            TExpr::Comma {
-                left,
-                right,
-                line,
-                ..
-            } => self.go_waiting(Focus::Eval(left), Pending::Commas(right, *line)),
-            TExpr::Assign {
-                place,
-                value,
-                line,
-                ..
-            } => self.go_waiting(Focus::Find(place), Pending::AssignTo(value, *line)),
-            TExpr::StructAssign {
-                place,
-                from,
-                size,
-                line,
-            } => self.go_waiting(Focus::Find(place), Pending::StructTo(from, *size, *line)),
-            TExpr::Update {
-                op,
-                place,
-                value,
-                operation,
-                size,
-                ty,
-                line,
-            } => {
-                let change = Change {
-                    op: *op,
-                    operation: *operation,
-                    size: *size,
-                    ty: *ty,
-                    keeps_old: false,
-                    line: *line,
-                };
-                self.go_waiting(Focus::Find(place), Pending::UpdateAt(change, value))
-            }
-            TExpr::Step {
-                op,
-                place,
-                operation,
-                size,
-                ty,
-                line,
-            } => {
-                let change = Change {
-                    op: step_operator(*op),
-                    operation: *operation,
-                    size: *size,
-                    ty: *ty,
-                    keeps_old: is_postfix(*op),
-                    line: *line,
-                };
-                self.go_waiting(Focus::Find(place), Pending::StepAt(change))
-            }
-            TExpr::Call {
-                function,
-                arguments,
-                line,
-                ..
-            } => self.arguments(*function, 0, arguments, *line),
+            TExpr::Read { place, .. }
+            | TExpr::Address { place, .. }
+            | TExpr::Assign { place, .. }
+            | TExpr::StructAssign { place, .. }
+            | TExpr::Update { place, .. }
+            | TExpr::Step { place, .. } => self.go_waiting(Focus::Find(place), here),
+            TExpr::Convert { operand, .. }
+            | TExpr::Cast { operand, .. }
+            | TExpr::Unary { operand, .. } => self.go_waiting(Focus::Eval(operand), here),
+            TExpr::Binary { left, .. }
+            | TExpr::Offset { left, .. }
+            | TExpr::Difference { left, .. }
+            | TExpr::Logical { left, .. }
+            | TExpr::Comma { left, .. } => self.go_waiting(Focus::Eval(left), here),
+            TExpr::Conditional { condition, .. } => self.go_waiting(Focus::Eval(condition), here),
+            TExpr::Call { arguments, .. } => self.arguments(expr, arguments, 0),
         }
     }
 
     /// A place is looked for.
-    pub(crate) fn find(&mut self, place: &'a TPlace) -> SrcEnd {
+    pub(crate) fn find(&mut self, place: &'a TPlace) -> Outcome {
         match place {
             TPlace::Name { object, .. } => {
                 let spot = self.spot_of(*object);
@@ -232,72 +83,85 @@ impl<'a> Machine<'a> {
                 register: *register,
                 bit: *bit,
             })),
-            TPlace::Member {
-                whole,
-                offset,
-                line,
-                ..
-            } => self.go_waiting(Focus::Find(whole), Pending::Members(*offset, *line)),
-            TPlace::Deref { pointer, line, .. } => {
-                self.go_waiting(Focus::Eval(pointer), Pending::Derefs(*line))
+            TPlace::Member { whole, .. } => self.go_waiting(Focus::Find(whole), Pending::To(place)),
+            TPlace::Deref { pointer, .. } => {
+                self.go_waiting(Focus::Eval(pointer), Pending::To(place))
             }
         }
     }
 
-    fn takes(&mut self, spot: Spot, line: u32) -> SrcEnd {
-        match spot {
-            Spot::Memory(pointer) => self.go(Focus::Holds(Datum::Pointer(pointer))),
-            Spot::Device(_) | Spot::Bit { .. } => nowhere(line),
-        }
-    }
-
-    fn member(&mut self, spot: Spot, offset: u64, line: u32) -> SrcEnd {
-        match spot {
-            Spot::Memory(pointer) => match self.moved(pointer, false, offset) {
-                Some(moved) => self.go(Focus::Found(Spot::Memory(moved))),
-                None => undefined(Undef::Outside, line),
+    // The first place of an expression was found.
+    fn found_first(&mut self, expr: &'a TExpr, spot: Spot) -> Outcome {
+        let here = Pending::In(expr, Got::At(spot));
+        match expr {
+            TExpr::Address { .. } => match spot {
+                Spot::Memory(pointer) => self.go(Focus::Holds(Datum::Pointer(pointer))),
+                Spot::Device(_) | Spot::Bit { .. } => Outcome::Lost,
             },
-            Spot::Device(_) | Spot::Bit { .. } => nowhere(line),
+            TExpr::Read { ty, .. } | TExpr::Step { ty, .. } => {
+                let focus = self.fetching(spot, *ty);
+                self.go_waiting(focus, here)
+            }
+            TExpr::Assign { value, .. } | TExpr::Update { value, .. } => {
+                self.go_waiting(Focus::Eval(value), here)
+            }
+            TExpr::StructAssign { from, .. } => self.go_waiting(Focus::Find(from), here),
+            _ => Outcome::Lost,
         }
     }
 
-    /// A place was found: what waits for it takes it.
-    pub(crate) fn found(&mut self, spot: Spot) -> SrcEnd {
-        let Some(top) = self.stack.pop() else {
-            return nowhere(0);
+    // A member, so many bytes behind the start of its structure.
+    fn found_to(&mut self, place: &'a TPlace, spot: Spot) -> Outcome {
+        let TPlace::Member { offset, line, .. } = place else {
+            return Outcome::Lost;
         };
-        match top {
-            Pending::Reads(ty, line) => {
-                let focus = self.fetching(spot, ty, line);
-                self.go(focus)
-            }
-            Pending::Takes(_, line) => self.takes(spot, line),
-            Pending::AssignTo(value, line) => {
-                self.go_waiting(Focus::Eval(value), Pending::Assigns(spot, line))
-            }
-            Pending::StructTo(from, size, line) => {
-                self.go_waiting(Focus::Find(from), Pending::StructFrom(spot, size, line))
-            }
-            Pending::StructFrom(to, left, line) | Pending::ItemFrom(to, left, line) => {
-                self.go(Focus::CopyRead {
-                    to,
-                    from: spot,
-                    left,
-                    line,
-                })
-            }
-            Pending::UpdateAt(change, value) => {
-                self.go_waiting(Focus::Eval(value), Pending::Updates(change, spot))
-            }
-            Pending::StepAt(change) => {
-                let focus = self.fetching(spot, change.ty, change.line);
+        let Spot::Memory(pointer) = spot else {
+            return Outcome::Lost;
+        };
+        match self.memory.moved(pointer, false, *offset) {
+            Some(moved) => self.go(Focus::Found(Spot::Memory(moved))),
+            None => undefined(Undef::Outside, *line),
+        }
+    }
+
+    // The structure that an item of a list begins with.
+    fn found_for(&mut self, code: Code<'a>, stage: Stage, from: Spot) -> Outcome {
+        let Some(TStmt::InitList { local, items, .. }) = code.statement() else {
+            return Outcome::Lost;
+        };
+        let Stage::AtItem(at) = stage else {
+            return Outcome::Lost;
+        };
+        match items.get(at) {
+            Some(TItem::Struct { offset, size, .. }) => {
+                let to = behind(self.local_of(*local), *offset);
+                let left = *size;
+                let rest = Stage::Items(at.saturating_add(1));
                 self.go_waiting(
-                    focus,
-                    Pending::Changes(change, spot, one_in(change.operation)),
+                    Focus::CopyRead { to, from, left },
+                    Pending::Doing(code, rest),
                 )
             }
-            Pending::Members(offset, line) => self.member(spot, offset, line),
-            _ => nowhere(0),
+            _ => Outcome::Lost,
+        }
+    }
+
+    /// A place was found: the node that waits takes it.
+    pub(crate) fn found(&mut self, spot: Spot) -> Outcome {
+        match self.stack.pop() {
+            Some(Pending::In(expr, Got::Nothing)) => self.found_first(expr, spot),
+            Some(Pending::In(expr, Got::At(to))) => match expr {
+                TExpr::StructAssign { size, .. } => {
+                    let from = spot;
+                    let left = *size;
+                    let focus = Focus::CopyRead { to, from, left };
+                    self.go_waiting(focus, Pending::In(expr, Got::Copies))
+                }
+                _ => Outcome::Lost,
+            },
+            Some(Pending::To(place)) => self.found_to(place, spot),
+            Some(Pending::Doing(code, stage)) => self.found_for(code, stage, spot),
+            _ => Outcome::Lost,
         }
     }
 }

@@ -1,26 +1,11 @@
-//! Where a value goes: what waits for it takes it.
+//! Where a value goes: the node that waits for it takes it.
 
-use crate::control::{Focus, Labels, Pending, Stage};
-use crate::machine::{Machine, SrcEnd, nowhere, undefined};
-use crate::objects::{Change, Datum, Object, Pointer, Spot, Undef};
-use crate::pointers::difference;
-use crate::values::{converted, kept_in, truth_of, truth_value, unary_answer};
-use c_typed::{LogicalOp, TCase, TExpr, TStmt};
-
-/// Whether the left operand of `&&` or `||` decides.
-pub(crate) fn decides(op: LogicalOp, holds: bool) -> bool {
-    match op {
-        LogicalOp::And => !holds,
-        LogicalOp::Or => holds,
-    }
-}
-
-fn is_missing(value: Datum) -> bool {
-    match value {
-        Datum::Missing => true,
-        Datum::Number(_) | Datum::Pointer(_) => false,
-    }
-}
+use crate::accesses::behind;
+use crate::control::{Code, Focus, Pending, Stage};
+use crate::machine::{Machine, Outcome, undefined};
+use c_typed::{TCase, TItem, TPlace, TStmt};
+use src_values::values::truth_of;
+use src_values::{Datum, Spot, Undef};
 
 fn is_case(value: Datum, case: &TCase) -> bool {
     match value {
@@ -30,208 +15,174 @@ fn is_case(value: Datum, case: &TCase) -> bool {
 }
 
 impl<'a> Machine<'a> {
-    // The value of an operator, or why it is undefined.
-    fn answered(&mut self, answer: Result<Datum, Undef>, line: u32) -> SrcEnd {
-        match answer {
-            Ok(value) => self.go(Focus::Holds(value)),
-            Err(kind) => undefined(kind, line),
-        }
-    }
-
     // Goes on with a value that is used. A missing one is undefined.
-    fn used(&mut self, value: Datum, line: u32, focus: Focus<'a>) -> SrcEnd {
-        if is_missing(value) {
+    fn used(&mut self, value: Datum, line: u32, focus: Focus<'a>, pending: Pending<'a>) -> Outcome {
+        if value.is_missing() {
             undefined(Undef::Unset, line)
         } else {
-            self.go(focus)
+            self.go_waiting(focus, pending)
         }
     }
 
-    fn logical(&mut self, op: LogicalOp, value: Datum, right: &'a Box<TExpr>, line: u32) -> SrcEnd {
-        let Some(holds) = truth_of(value) else {
-            return undefined(Undef::Unset, line);
-        };
-        if decides(op, holds) {
-            self.go(Focus::Holds(truth_value(holds)))
-        } else {
-            self.go_waiting(Focus::Eval(right), Pending::LogicalRight(line))
+    // What a pointer points to.
+    fn take_to(&mut self, place: &'a TPlace, value: Datum) -> Outcome {
+        match place {
+            TPlace::Deref { line, .. } => match value {
+                Datum::Pointer(pointer) => self.go(Focus::Found(Spot::Memory(pointer))),
+                Datum::Number(_) => Outcome::Lost,
+                Datum::Missing => undefined(Undef::Unset, *line),
+            },
+            _ => Outcome::Lost,
         }
     }
 
-    fn truth_given(&mut self, value: Datum, line: u32) -> SrcEnd {
-        match truth_of(value) {
-            Some(holds) => self.go(Focus::Holds(truth_value(holds))),
-            None => undefined(Undef::Unset, line),
-        }
-    }
-
-    fn chooses(
-        &mut self,
-        value: Datum,
-        first: &'a Box<TExpr>,
-        second: &'a Box<TExpr>,
-        line: u32,
-    ) -> SrcEnd {
-        match truth_of(value) {
-            Some(true) => self.go(Focus::Eval(first)),
-            Some(false) => self.go(Focus::Eval(second)),
-            None => undefined(Undef::Unset, line),
-        }
-    }
-
-    fn deref(&mut self, value: Datum, line: u32) -> SrcEnd {
-        match value {
-            Datum::Pointer(pointer) => self.go(Focus::Found(Spot::Memory(pointer))),
-            Datum::Number(_) => nowhere(line),
-            Datum::Missing => undefined(Undef::Unset, line),
-        }
-    }
-
-    // A value that a local, or an item of its list, begins with.
-    fn initializes(&mut self, spot: Spot, value: Datum, line: u32) -> SrcEnd {
-        if is_missing(value) {
-            return undefined(Undef::Unset, line);
-        }
-        self.wait(Pending::Drops);
-        self.writing(spot, value, Datum::Missing, line)
-    }
-
-    // The new value of a place is written, and the expression has the new or the old one.
-    fn changes(&mut self, change: Change, spot: Spot, old: Datum, right: Datum) -> SrcEnd {
-        match self.changed(change, old, right) {
-            Ok(value) => {
-                let answer = if change.keeps_old {
-                    old
-                } else {
-                    kept_in(spot, value)
-                };
-                self.writing(spot, value, answer, change.line)
-            }
-            Err(kind) => undefined(kind, change.line),
-        }
-    }
-
-    // One argument more.
-    fn argument(
-        &mut self,
-        value: Datum,
-        function: u32,
-        count: usize,
-        arguments: &'a Vec<TExpr>,
-        line: u32,
-    ) -> SrcEnd {
-        let _ = self.values.push(value);
-        self.arguments(function, count.saturating_add(1), arguments, line)
-    }
-
-    fn jump(&mut self, target: u32, statements: &'a Vec<TStmt>) -> SrcEnd {
-        self.wait(Pending::InSwitch);
+    // A switch goes on at the statement of this number.
+    fn jump(&mut self, code: Code<'a>, statements: &'a Vec<TStmt>, target: u32) -> Outcome {
+        self.wait(Pending::Doing(code, Stage::Turns));
         self.go_waiting(Focus::Past, Pending::Before(statements, target as usize))
     }
 
-    /// The labels of a switch are compared with its value, one a step.
-    pub(crate) fn compares(&mut self, value: Datum, labels: Labels<'a>) -> SrcEnd {
-        match labels.cases.get(labels.next) {
-            None => match labels.default {
-                Some(target) => self.jump(target, labels.statements),
+    // The label of this number of a switch is compared with its value.
+    fn compares_in(&mut self, code: Code<'a>, value: Datum, next: usize) -> Outcome {
+        let Some(
+            TStmt::Switch {
+                cases,
+                default,
+                statements,
+                ..
+            },
+        ) = code.statement()
+        else {
+            return Outcome::Lost;
+        };
+        match cases.get(next) {
+            None => match default {
+                Some(target) => self.jump(code, statements, *target),
                 None => self.go(Focus::Past),
             },
             Some(case) => {
                 if is_case(value, case) {
-                    return self.jump(case.target, labels.statements);
+                    return self.jump(code, statements, case.target);
                 }
-                let mut labels = labels;
-                labels.next = labels.next.saturating_add(1);
-                self.go(Focus::Compares { value, labels })
+                let next = next.saturating_add(1);
+                self.go_waiting(
+                    Focus::Compares { value, next },
+                    Pending::Doing(code, Stage::Chooses),
+                )
             }
         }
     }
 
-    /// A value goes to what waits for it.
-    pub(crate) fn give(&mut self, value: Datum) -> SrcEnd {
-        let Some(top) = self.stack.pop() else {
-            return nowhere(0);
-        };
-        match top {
-            Pending::Converts(ty, line) | Pending::Casts(ty, line) => {
-                self.answered(converted(ty, value), line)
-            }
-            Pending::Unaries(op, line) => self.answered(unary_answer(op, value), line),
-            Pending::Left(op, right, ty, line) => {
-                self.go_waiting(Focus::Eval(right), Pending::Right(op, value, ty, line))
-            }
-            Pending::Right(op, left, ty, line) => {
-                let answer = self.binary(op, ty, left, value);
-                self.answered(answer, line)
-            }
-            Pending::OffsetLeft(op, right, size, line) => self.go_waiting(
-                Focus::Eval(right),
-                Pending::OffsetRight(op, value, size, line),
-            ),
-            Pending::OffsetRight(op, left, size, line) => {
-                let answer = self.offset(op, size, left, value);
-                self.answered(answer, line)
-            }
-            Pending::DifferenceLeft(right, size, line) => self.go_waiting(
-                Focus::Eval(right),
-                Pending::DifferenceRight(value, size, line),
-            ),
-            Pending::DifferenceRight(left, size, line) => {
-                self.answered(difference(size, left, value), line)
-            }
-            Pending::LogicalLeft(op, right, line) => self.logical(op, value, right, line),
-            Pending::LogicalRight(line) => self.truth_given(value, line),
-            Pending::Chooses(first, second, line) => self.chooses(value, first, second, line),
-            Pending::Commas(right, _) => self.go(Focus::Eval(right)),
-            Pending::Assigns(spot, line) => {
-                if is_missing(value) {
-                    return undefined(Undef::Unset, line);
-                }
-                self.keeping(spot, value, line)
-            }
-            Pending::Updates(change, spot) => {
-                let focus = self.fetching(spot, change.ty, change.line);
-                self.go_waiting(focus, Pending::Changes(change, spot, value))
-            }
-            Pending::Changes(change, spot, right) => self.changes(change, spot, value, right),
-            Pending::Derefs(line) => self.deref(value, line),
-            Pending::Arguments {
-                function,
-                count,
-                arguments,
-                line,
-            } => self.argument(value, function, count, arguments, line),
-            Pending::Initializes(object, line) => {
-                let spot = Spot::Memory(Pointer::Into { object, offset: 0 });
-                self.initializes(spot, value, line)
-            }
-            Pending::ItemValue(spot, line) => self.initializes(spot, value, line),
-            _ => self.give_statement(value, top),
+    /// The labels of a switch are compared with its value, one a step.
+    pub(crate) fn compares(&mut self, value: Datum, next: usize) -> Outcome {
+        match self.stack.pop() {
+            Some(Pending::Doing(code, Stage::Chooses)) => self.compares_in(code, value, next),
+            _ => Outcome::Lost,
         }
     }
 
-    // A value goes to the statement that waits for it.
-    fn give_statement(&mut self, value: Datum, top: Pending<'a>) -> SrcEnd {
-        match top {
-            Pending::Drops => self.go(Focus::Past),
-            Pending::Picks(arms, at, otherwise) => self.picks(value, arms, at, otherwise),
-            Pending::Loops(Stage::Begins, round) => self.tests(round),
-            Pending::Loops(Stage::Tests, round) => match truth_of(value) {
-                Some(true) => self.turns(round),
+    // The value of an item of a list.
+    fn take_item(
+        &mut self,
+        code: Code<'a>,
+        local: u32,
+        items: &'a Vec<TItem>,
+        at: usize,
+        value: Datum,
+        line: u32,
+    ) -> Outcome {
+        match items.get(at) {
+            Some(TItem::Scalar { offset, .. }) => {
+                let spot = behind(self.local_of(local), *offset);
+                let rest = Stage::Items(at.saturating_add(1));
+                self.used(
+                    value,
+                    line,
+                    Focus::Write { spot, value, at: 0 },
+                    Pending::Doing(code, rest),
+                )
+            }
+            _ => Outcome::Lost,
+        }
+    }
+
+    // A statement takes the value that it begins with.
+    fn take_first(&mut self, code: Code<'a>, statement: &'a TStmt, value: Datum) -> Outcome {
+        match statement {
+            TStmt::Expr { .. } => self.go(Focus::Past),
+            TStmt::InitScalar { local, line, .. } => {
+                let spot = behind(self.local_of(*local), 0);
+                self.used(
+                    value,
+                    *line,
+                    Focus::Write { spot, value, at: 0 },
+                    Pending::Doing(code, Stage::Fills),
+                )
+            }
+            TStmt::Loop { body, line, .. } => match truth_of(value) {
+                Some(true) => self.turn(code, body),
                 Some(false) => self.go(Focus::Past),
-                None => undefined(Undef::Unset, round.line),
+                None => undefined(Undef::Unset, *line),
             },
-            Pending::Switches(labels, line) => {
-                self.used(value, line, Focus::Compares { value, labels })
-            }
-            Pending::Gives(line) => {
-                if is_missing(value) {
-                    return undefined(Undef::Unset, line);
+            TStmt::Switch { line, .. } => self.used(
+                value,
+                *line,
+                Focus::Compares { value, next: 0 },
+                Pending::Doing(code, Stage::Chooses),
+            ),
+            TStmt::Return { line, .. } => {
+                if value.is_missing() {
+                    return undefined(Undef::Unset, *line);
                 }
                 self.unwind();
                 self.go(Focus::Leaves(value))
             }
-            _ => nowhere(0),
+            _ => Outcome::Lost,
+        }
+    }
+
+    // A statement takes the value of its expression.
+    fn take_for(&mut self, code: Code<'a>, stage: Stage, value: Datum) -> Outcome {
+        let Some(statement) = code.statement() else {
+            return Outcome::Lost;
+        };
+        match stage {
+            Stage::Tests => self.take_first(code, statement, value),
+            Stage::Begins | Stage::Steps => match statement {
+                TStmt::Loop {
+                    condition,
+                    body,
+                    ..
+                } => self.test(code, condition, body),
+                _ => Outcome::Lost,
+            },
+            Stage::Picks(at) => match statement {
+                TStmt::If {
+                    arms,
+                    otherwise,
+                    ..
+                } => self.picks(code, arms, at, otherwise, value),
+                _ => Outcome::Lost,
+            },
+            Stage::AtItem(at) => match statement {
+                TStmt::InitList { local, items, line } => {
+                    self.take_item(code, *local, items, at, value, *line)
+                }
+                _ => Outcome::Lost,
+            },
+            Stage::Turns | Stage::Chooses | Stage::Fills | Stage::Items(_) | Stage::Blanks => {
+                Outcome::Lost
+            }
+        }
+    }
+
+    /// A value goes to the node that waits.
+    pub(crate) fn give(&mut self, value: Datum) -> Outcome {
+        match self.stack.pop() {
+            Some(Pending::In(expr, got)) => self.take_in(expr, got, value),
+            Some(Pending::To(place)) => self.take_to(place, value),
+            Some(Pending::Doing(code, stage)) => self.take_for(code, stage, value),
+            _ => Outcome::Lost,
         }
     }
 }

@@ -12,14 +12,10 @@ mod counting;
 mod expressions;
 mod giving;
 mod machine;
-mod memory;
-mod objects;
-mod pointers;
+mod operators;
 mod progress;
 mod statements;
-mod values;
-mod world;
 
 pub use machine::SrcEnd;
-pub use objects::Undef;
 pub use progress::Source;
+pub use src_values::Undef;

@@ -1,12 +1,12 @@
 //! The source machine: its state, and its micro-steps.
 
-use crate::control::{Focus, Pending};
-use crate::memory::Memory;
-use crate::objects::{CopyOf, Datum, Object, Undef};
-use crate::world::World;
-use c_typed::{Function, Typed};
+use crate::control::{Focus, Got, Pending};
+use c_typed::{Function, TExpr, Typed};
 use pic_chip::{Event, Root, Script};
 use pic_map::Map;
+use src_values::memory::Memory;
+use src_values::world::World;
+use src_values::{CopyOf, Datum, Object, Undef};
 use std::alloc::{AllocError, Global};
 
 /// How a step ended: it was taken, with the event that it made if it made one; it is undefined, for
@@ -19,9 +19,18 @@ pub enum SrcEnd {
     Idle,
 }
 
+/// How a micro-step ended. `Lost` is that of a state for which no rule is there; no run of a program comes to one.
+#[derive(Clone, Copy)]
+pub(crate) enum Outcome {
+    Went(Option<Event>),
+    Undefined { kind: Undef, line: u32 },
+    Idle,
+    Lost,
+}
+
 /// What takes a step: main or a function that it calls, the handler or a function that it calls, or the
 /// interrupt by which the handler is entered.
-#[derive(Clone, Copy, PartialEq, Eq, Debug)]
+#[derive(Clone, Copy)]
 pub(crate) enum Taker {
     Main,
     Handler,
@@ -29,7 +38,7 @@ pub(crate) enum Taker {
 }
 
 /// A program and where its run stands. What is to be done is a focus and a stack of what waits for it, the
-/// innermost at the end. The values of arguments that wait for a call stand on a stack of their own.
+/// innermost at the end.
 #[derive(Drop)]
 pub(crate) struct Machine<'a> {
     pub program: &'a Typed,
@@ -38,41 +47,31 @@ pub(crate) struct Machine<'a> {
     // the focus that the handler interrupted
     pub interrupted: Focus<'a>,
     pub stack: Vec<Pending<'a>>,
-    pub values: Vec<Datum>,
+    // how many frames have room
+    room: usize,
     pub memory: Memory,
     pub world: World,
     handler: Option<u32>,
 }
 
-// The number of the first function that is main, or of the first that is the handler.
+// Main, and the handler if there is one, by their numbers.
 fn main_in(functions: &[Function]) -> Option<u32> {
-    let mut number = 0u32;
-    for function in functions {
-        if function.name.as_slice() == b"main".as_slice() {
-            return Some(number);
-        }
-        number = number.saturating_add(1);
-    }
-    None
+    let at = functions
+        .iter()
+        .position(|function| function.name.as_slice() == b"main".as_slice())?;
+    Some((at & 0xffff_ffff) as u32)
 }
 
 fn handler_in(functions: &[Function]) -> Option<u32> {
-    let mut number = 0u32;
-    for function in functions {
-        if function.interrupt {
-            return Some(number);
-        }
-        number = number.saturating_add(1);
-    }
-    None
+    let at = functions.iter().position(|function| function.interrupt)?;
+    Some((at & 0xffff_ffff) as u32)
 }
 
 // What can wait at a time. A function is active at most once for each root, where a program has no recursion. In
-// one activation the nodes from its body down to where it stands have one entry each: a list of statements, a part of
-// an expression, a call that goes on. Two kinds of nodes have more. A switch whose body runs has two, but then
-// its value's nodes have none. A list that a local begins with has three at most, and stands inside no other one.
-// So an activation has two entries more than nodes at most, and what the handler interrupts is one. A value that
-// waits for a call has a node of its own, its argument.
+// one activation the nodes from its body down to where it stands have one frame each: a list of statements, a
+// statement, an expression, a place, a call that goes on. A switch whose body runs has two, but then its value's
+// nodes have none. The value of an argument that waits for its call has a node of its own. So an activation has
+// two frames more than nodes at most, those of its body and of its caller, and what the handler interrupts is one.
 fn room_of(program: &Typed) -> usize {
     let more = (program.functions.len() as u64).saturating_mul(2);
     program
@@ -90,8 +89,6 @@ impl<'a> Machine<'a> {
         let room = room_of(program);
         let mut stack = Vec::new(alloc);
         stack.try_reserve(room)?;
-        let mut values = Vec::new(alloc);
-        values.try_reserve(room)?;
         let main = match main_in(&program.functions) {
             Some(main) => main,
             None => 0,
@@ -105,7 +102,7 @@ impl<'a> Machine<'a> {
             focus: Focus::Past,
             interrupted: Focus::Past,
             stack,
-            values,
+            room,
             memory,
             world: World::new(),
             handler: handler_in(&program.functions),
@@ -114,12 +111,37 @@ impl<'a> Machine<'a> {
         Ok(machine)
     }
 
+    /// The same program at the same place, with room of its own.
+    pub fn copy(&self) -> Result<Machine<'a>, AllocError> {
+        let mut stack = self.stack.clone()?;
+        stack.try_reserve(self.room.saturating_sub(self.stack.len()))?;
+        Ok(Machine {
+            program: self.program,
+            copy: self.copy,
+            focus: self.focus,
+            interrupted: self.interrupted,
+            stack,
+            room: self.room,
+            memory: self.memory.clone()?,
+            world: self.world,
+            handler: self.handler,
+        })
+    }
+
     /// Micro-steps up to one that counts as a step, and what took it.
     pub fn step(&mut self, script: &Script) -> (Taker, SrcEnd) {
         for _ in 0..u64::MAX {
-            let (taker, counts, end) = self.micro_step(script);
-            if counts || !is_taken(end) {
-                return (taker, end);
+            let (taker, counts, outcome) = self.micro_step(script);
+            match outcome {
+                Outcome::Went(event) => {
+                    if counts {
+                        return (taker, SrcEnd::Went(event));
+                    }
+                }
+                Outcome::Undefined { kind, line } => {
+                    return (taker, SrcEnd::Undefined { kind, line });
+                }
+                Outcome::Idle | Outcome::Lost => break,
             }
         }
         (Taker::Main, SrcEnd::Idle)
@@ -127,8 +149,8 @@ impl<'a> Machine<'a> {
 
     // A micro-step, what took it, and whether it counts as a step. Arrivals come first, then the handler if
     // it is due.
-    fn micro_step(&mut self, script: &Script) -> (Taker, bool, SrcEnd) {
-        self.world.arrive(&script.arrivals);
+    fn micro_step(&mut self, script: &Script) -> (Taker, bool, Outcome) {
+        self.world.arrive(script);
         let due = self.world.is_due();
         if due {
             if let Some(handler) = self.handler {
@@ -137,12 +159,12 @@ impl<'a> Machine<'a> {
         }
         let taker = taker_in(self.copy.root);
         let line = self.counted_line();
-        let end = self.act(script);
-        let end = if due { refused(line, end) } else { end };
-        (taker, line.is_some(), end)
+        let outcome = self.act(script);
+        let outcome = if due { refused(line, outcome) } else { outcome };
+        (taker, line.is_some(), outcome)
     }
 
-    fn act(&mut self, script: &Script) -> SrcEnd {
+    fn act(&mut self, script: &Script) -> Outcome {
         match self.focus {
             Focus::Eval(expr) => self.eval(expr),
             Focus::Find(place) => self.find(place),
@@ -150,71 +172,51 @@ impl<'a> Machine<'a> {
             Focus::Found(spot) => self.found(spot),
             Focus::Run(code) => self.begin(code),
             Focus::Past => self.proceed(),
-            Focus::Fetch {
-                spot,
-                reading,
-                line,
-            } => self.fetch(spot, reading, line, script),
-            Focus::FetchLow { spot, line } => self.fetch_low(spot, line, script),
-            Focus::FetchHigh { spot, low, line } => self.fetch_high(spot, low, line, script),
-            Focus::Skim { spot, left, line } => self.skim(spot, left, line, script),
-            Focus::Write {
-                spot,
-                value,
-                at,
-                answer,
-                line,
-            } => self.write(spot, value, at, answer, line, script),
+            Focus::Fetch { spot, read } => self.fetch(spot, read, script),
+            Focus::Skim { spot, left, .. } => self.skim(spot, left, script),
+            Focus::Write { spot, value, at } => self.write(spot, value, at, script),
             Focus::PutBit {
                 register,
+                bit,
                 value,
-                answer,
-                line,
-            } => self.write_register(register, value, answer, line),
-            Focus::CopyRead {
-                to,
-                from,
-                left,
-                line,
-            } => self.copy_read(to, from, left, line, script),
+                old,
+            } => self.put_bit(register, bit, value, old),
+            Focus::CopyRead { to, from, left } => self.copy_read(to, from, left, script),
             Focus::CopyWrite {
                 to,
                 from,
                 byte,
                 left,
-                line,
-            } => self.copy_write(to, from, byte, left, line),
-            Focus::Spell {
-                spot,
-                text,
-                left,
-                line,
-            } => self.spell(spot, text, left, line),
-            Focus::Blank { list, at, left } => self.blank(list, at, left),
-            Focus::Calls {
-                function,
-                count,
-                line,
-            } => self.call(function, count, line),
+            } => self.copy_write(to, from, byte, left),
+            Focus::Spell { spot, text, left } => self.spell(spot, text, left),
+            Focus::Blank { at, left } => self.blank(at, left),
+            Focus::Calls => self.call(),
             Focus::Leaves(value) => self.leave(value),
-            Focus::Compares { value, labels } => self.compares(value, labels),
-            Focus::Over => SrcEnd::Idle,
+            Focus::Compares { value, next } => self.compares(value, next),
+            Focus::Over => Outcome::Idle,
         }
     }
 
     // The handler is called whole: what it interrupts waits below it.
-    fn enter(&mut self, handler: u32) -> SrcEnd {
+    fn enter(&mut self, handler: u32) -> Outcome {
         self.world.enter();
         self.interrupted = self.focus;
-        self.enter_copy(Root::Isr, handler, Pending::Resumes(self.copy));
+        self.wait(Pending::Resumes(self.copy));
+        self.enter_copy(Root::Isr, handler);
         self.go(Focus::Past)
     }
 
+    /// What the handler interrupted goes on.
+    pub fn resume(&mut self, copy: CopyOf) -> Outcome {
+        self.world.leave();
+        self.copy = copy;
+        self.go(self.interrupted)
+    }
+
     // A function's body begins, with all variables of the copy unset.
-    fn enter_copy(&mut self, root: Root, function: u32, caller: Pending<'a>) {
+    fn enter_copy(&mut self, root: Root, function: u32) {
         self.copy = CopyOf { root, function };
         self.memory.clear_copy(self.copy);
-        self.wait(caller);
         self.begin_body(function);
     }
 
@@ -226,29 +228,47 @@ impl<'a> Machine<'a> {
         }
     }
 
+    // All arguments have their values: the function is called.
+    fn call(&mut self) -> Outcome {
+        match self.stack.pop() {
+            Some(Pending::In(expr, Got::Passed(count))) => match expr {
+                TExpr::Call { function, line, .. } => {
+                    self.call_with(expr, *function, count, *line)
+                }
+                _ => Outcome::Lost,
+            },
+            _ => Outcome::Lost,
+        }
+    }
+
     // A call gives the parameters their values, and all other variables of the copy none.
-    fn call(&mut self, function: u32, count: usize, line: u32) -> SrcEnd {
-        let first = self.values.len().saturating_sub(count);
+    fn call_with(&mut self, expr: &'a TExpr, function: u32, count: usize, line: u32) -> Outcome {
+        let first = self.stack.len().saturating_sub(count);
         if self.has_missing(first) {
             return undefined(Undef::Unset, line);
         }
-        let caller = Pending::Returns(self.copy);
-        self.enter_copy(self.copy.root, function, caller);
-        self.give_values(first);
-        self.values.truncate(first);
+        let caller = self.copy;
+        let callee = CopyOf {
+            root: caller.root,
+            function,
+        };
+        self.memory.clear_copy(callee);
+        self.give_values(callee, first);
+        self.stack.truncate(first);
+        self.wait(Pending::In(expr, Got::Called));
+        self.wait(Pending::Returns(caller));
+        self.copy = callee;
+        self.begin_body(function);
         self.go(Focus::Past)
     }
 
-    // The parameters of the running copy get the values from this one on.
-    fn give_values(&mut self, first: usize) {
+    // The parameters of a copy get the values from this one on.
+    fn give_values(&mut self, copy: CopyOf, first: usize) {
         let mut number = 0u32;
-        for at in first..self.values.len() {
-            let object = Object::Variable {
-                copy: self.copy,
-                number,
-            };
-            if let Some(value) = self.values.get(at).copied() {
-                self.memory.put_value(object, value);
+        for at in first..self.stack.len() {
+            if let Some(Pending::Value(value)) = self.stack.get(at).copied() {
+                self.memory
+                    .put_value(Object::Variable { copy, number }, value);
             }
             number = number.saturating_add(1);
         }
@@ -256,9 +276,9 @@ impl<'a> Machine<'a> {
 
     // Whether a value from this one on is missing.
     fn has_missing(&self, first: usize) -> bool {
-        for at in first..self.values.len() {
-            match self.values.get(at) {
-                Some(Datum::Missing) => return true,
+        for at in first..self.stack.len() {
+            match self.stack.get(at) {
+                Some(Pending::Value(Datum::Missing)) => return true,
                 _ => {}
             }
         }
@@ -287,26 +307,21 @@ impl<'a> Machine<'a> {
     }
 
     /// What the next micro-step is about.
-    pub(crate) fn go(&mut self, focus: Focus<'a>) -> SrcEnd {
+    pub(crate) fn go(&mut self, focus: Focus<'a>) -> Outcome {
         self.focus = focus;
-        SrcEnd::Went(None)
+        Outcome::Went(None)
     }
 
     /// What the next micro-step is about, and what waits for it.
-    pub(crate) fn go_waiting(&mut self, focus: Focus<'a>, pending: Pending<'a>) -> SrcEnd {
+    pub(crate) fn go_waiting(&mut self, focus: Focus<'a>, pending: Pending<'a>) -> Outcome {
         self.wait(pending);
         self.go(focus)
     }
 }
 
 /// A step that is undefined.
-pub(crate) fn undefined(kind: Undef, line: u32) -> SrcEnd {
-    SrcEnd::Undefined { kind, line }
-}
-
-/// No program comes here.
-pub(crate) fn nowhere(line: u32) -> SrcEnd {
-    undefined(Undef::Unset, line)
+pub(crate) fn undefined(kind: Undef, line: u32) -> Outcome {
+    Outcome::Undefined { kind, line }
 }
 
 fn taker_in(root: Root) -> Taker {
@@ -316,20 +331,13 @@ fn taker_in(root: Root) -> Taker {
     }
 }
 
-fn is_taken(end: SrcEnd) -> bool {
-    match end {
-        SrcEnd::Went(_) => true,
-        SrcEnd::Undefined { .. } | SrcEnd::Idle => false,
-    }
-}
-
 // Without a handler the next step is undefined, if it isn't so for another reason.
-fn refused(line: Option<u32>, end: SrcEnd) -> SrcEnd {
-    match end {
-        SrcEnd::Undefined { .. } => end,
-        SrcEnd::Went(_) | SrcEnd::Idle => match line {
+fn refused(line: Option<u32>, outcome: Outcome) -> Outcome {
+    match outcome {
+        Outcome::Undefined { .. } | Outcome::Lost => outcome,
+        Outcome::Went(_) | Outcome::Idle => match line {
             Some(line) => undefined(Undef::Handler, line),
-            None => end,
+            None => outcome,
         },
     }
 }

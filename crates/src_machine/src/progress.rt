@@ -4,10 +4,10 @@ ghost use Rattle.std.specs.Prelude.{◌≡◌, ◌≤◌, ◌+◌, IfOk, None, S
 ghost use Rattle.src_machine.specs.Progress.{main_steps_of, runs_of, undefined_in, undefined_by, taken_by};
 
 use crate::machine::{Machine, SrcEnd, Taker};
-use crate::objects::Undef;
 use c_typed::Typed;
 use pic_chip::Script;
 use pic_map::Map;
+use src_values::Undef;
 use std::alloc::{AllocError, Global};
 
 /// The undefined step that a run met: its kind and its line.
@@ -41,6 +41,20 @@ impl<'a> Source<'a> {
             main_steps: 0,
             runs: 0,
             stop: None,
+        })
+    }
+
+    /// The run once more, at the same place.
+    pub fn copy(&self) -> Result<Source<'a>, AllocError>
+        ensures main_steps { IfOk result (λ source. main_steps_of source ≡ main_steps_of self.now) }
+        ensures runs { IfOk result (λ source. runs_of source ≡ runs_of self.now) }
+        ensures defined { IfOk result (λ source. undefined_in source ≡ undefined_in self.now) }
+    {
+        Ok(Source {
+            machine: self.machine.copy()?,
+            main_steps: self.main_steps,
+            runs: self.runs,
+            stop: self.stop,
         })
     }
 

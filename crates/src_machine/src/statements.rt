@@ -1,63 +1,71 @@
 //! How statements begin, and what follows them.
 
-use crate::control::{Code, Focus, Labels, Listed, Pending, Round, Stage};
-use crate::machine::{Machine, SrcEnd, nowhere, undefined};
-use crate::objects::{Datum, Object, Pointer, Spot, Undef};
-use crate::values::truth_of;
-use c_typed::{LoopForm, TArm, TExpr, TItem, TStmt};
+use crate::control::{Code, Focus, Got, Pending, Stage};
+use crate::machine::{Machine, Outcome, undefined};
+use c_typed::{LoopForm, TArm, TExpr, TStmt};
 use pic_chip::Event;
+use src_values::values::truth_of;
+use src_values::{CopyOf, Datum, Object, Undef};
 
-// The byte so many behind the start of a local.
-fn behind(object: Object, offset: u64) -> Spot {
-    Spot::Memory(Pointer::Into { object, offset })
+fn is_loop(code: Code) -> bool {
+    match code.statement() {
+        Some(TStmt::Loop { .. }) => true,
+        _ => false,
+    }
 }
 
 impl<'a> Machine<'a> {
     /// A turn of a loop.
-    pub(crate) fn turns(&mut self, round: Round<'a>) -> SrcEnd {
+    pub(crate) fn turn(&mut self, code: Code<'a>, body: &'a Box<TStmt>) -> Outcome {
         self.go_waiting(
-            Focus::Run(Code::Boxed(round.body)),
-            Pending::Loops(Stage::Turns, round),
+            Focus::Run(Code::Boxed(body)),
+            Pending::Doing(code, Stage::Turns),
         )
     }
 
     /// The condition before a turn. One that is left out holds.
-    pub(crate) fn tests(&mut self, round: Round<'a>) -> SrcEnd {
-        match round.condition {
+    pub(crate) fn test(
+        &mut self,
+        code: Code<'a>,
+        condition: &'a Option<TExpr>,
+        body: &'a Box<TStmt>,
+    ) -> Outcome {
+        match condition {
             Some(condition) => self.go_waiting(
                 Focus::Eval(condition),
-                Pending::Loops(Stage::Tests, round),
+                Pending::Doing(code, Stage::Tests),
             ),
-            None => self.turns(round),
+            None => self.turn(code, body),
         }
     }
 
     // What is done before the first condition, or between a turn and the next condition.
-    fn prepares(&mut self, expr: &'a Option<TExpr>, round: Round<'a>) -> SrcEnd {
-        match expr {
-            Some(expr) => self.go_waiting(Focus::Eval(expr), Pending::Loops(Stage::Begins, round)),
-            None => self.tests(round),
-        }
-    }
-
-    fn loops(&mut self, form: LoopForm, begin: &'a Option<TExpr>, round: Round<'a>) -> SrcEnd {
-        match form {
-            LoopForm::While | LoopForm::For => self.prepares(begin, round),
-            LoopForm::Do => self.turns(round),
-        }
-    }
-
-    /// The arm of this number of an `if`, or what stands behind its last `else`.
-    pub(crate) fn arms(
+    fn prepares(
         &mut self,
+        code: Code<'a>,
+        expr: &'a Option<TExpr>,
+        stage: Stage,
+        condition: &'a Option<TExpr>,
+        body: &'a Box<TStmt>,
+    ) -> Outcome {
+        match expr {
+            Some(expr) => self.go_waiting(Focus::Eval(expr), Pending::Doing(code, stage)),
+            None => self.test(code, condition, body),
+        }
+    }
+
+    // The arm of this number of an `if`, or what stands behind its last `else`.
+    fn arms(
+        &mut self,
+        code: Code<'a>,
         arms: &'a Vec<TArm>,
         at: usize,
         otherwise: &'a Option<Box<TStmt>>,
-    ) -> SrcEnd {
+    ) -> Outcome {
         match arms.get(at) {
             Some(arm) => self.go_waiting(
                 Focus::Eval(&arm.condition),
-                Pending::Picks(arms, at, otherwise),
+                Pending::Doing(code, Stage::Picks(at)),
             ),
             None => match otherwise {
                 Some(last) => self.go(Focus::Run(Code::Boxed(last))),
@@ -69,52 +77,56 @@ impl<'a> Machine<'a> {
     /// The condition of the arm of this number has this value.
     pub(crate) fn picks(
         &mut self,
-        value: Datum,
+        code: Code<'a>,
         arms: &'a Vec<TArm>,
         at: usize,
         otherwise: &'a Option<Box<TStmt>>,
-    ) -> SrcEnd {
+        value: Datum,
+    ) -> Outcome {
         let Some(arm) = arms.get(at) else {
-            return nowhere(0);
+            return Outcome::Lost;
         };
         match truth_of(value) {
             Some(true) => self.go(Focus::Run(Code::InArm(arms, at))),
-            Some(false) => self.arms(arms, at.saturating_add(1), otherwise),
+            Some(false) => self.arms(code, arms, at.saturating_add(1), otherwise),
             None => undefined(Undef::Unset, arm.line),
         }
     }
 
-    // The nearest loop or switch is left.
-    fn break_off(&mut self) -> SrcEnd {
+    // To behind the nearest loop or switch.
+    fn break_off(&mut self) -> Outcome {
         for _ in 0..self.stack.len() {
             match self.stack.pop() {
-                Some(Pending::Loops(Stage::Turns, _)) | Some(Pending::InSwitch) => break,
-                _ => {}
+                Some(Pending::Doing(_, Stage::Turns)) => return self.go(Focus::Past),
+                Some(Pending::Before(_, _)) => {}
+                _ => break,
             }
         }
-        self.go(Focus::Past)
+        Outcome::Lost
     }
 
-    // The nearest loop goes on.
-    fn go_on(&mut self) -> SrcEnd {
+    // To behind the body of the nearest loop.
+    fn go_on(&mut self) -> Outcome {
         for _ in 0..self.stack.len() {
             match self.stack.last() {
-                Some(Pending::Loops(Stage::Turns, _)) => break,
-                _ => {
-                    let _ = self.stack.pop();
+                Some(Pending::Doing(code, Stage::Turns)) => {
+                    if is_loop(*code) {
+                        return self.go(Focus::Past);
+                    }
                 }
+                Some(Pending::Before(_, _)) => {}
+                _ => break,
             }
+            let _ = self.stack.pop();
         }
-        self.go(Focus::Past)
+        Outcome::Lost
     }
 
     /// Takes off what waits in the function.
     pub(crate) fn unwind(&mut self) {
         for _ in 0..self.stack.len() {
             match self.stack.last() {
-                Some(Pending::Before(_, _))
-                | Some(Pending::Loops(Stage::Turns, _))
-                | Some(Pending::InSwitch) => {
+                Some(Pending::Before(_, _)) | Some(Pending::Doing(_, Stage::Turns)) => {
                     let _ = self.stack.pop();
                 }
                 _ => break,
@@ -122,52 +134,8 @@ impl<'a> Machine<'a> {
         }
     }
 
-    // The items of a list in order, and then the bytes without an item.
-    fn items(&mut self, list: Listed<'a>, at: usize) -> SrcEnd {
-        let object = list.object;
-        let line = list.line;
-        let Some(item) = list.items.get(at) else {
-            let left = self.memory.size(object);
-            return self.go_waiting(Focus::Blank { list, at: 0, left }, Pending::Drops);
-        };
-        self.wait(Pending::Lists(list, at.saturating_add(1)));
-        match item {
-            TItem::Scalar { offset, value } => self.go_waiting(
-                Focus::Eval(value),
-                Pending::ItemValue(behind(object, *offset), line),
-            ),
-            TItem::Struct { offset, from, size } => {
-                self.wait(Pending::Drops);
-                self.go_waiting(
-                    Focus::Find(from),
-                    Pending::ItemFrom(behind(object, *offset), *size, line),
-                )
-            }
-            TItem::Text {
-                offset,
-                bytes,
-                size,
-            } => self.go_waiting(
-                Focus::Spell {
-                    spot: behind(object, *offset),
-                    text: bytes,
-                    left: *size,
-                    line,
-                },
-                Pending::Drops,
-            ),
-        }
-    }
-
-    // Main ends with an event.
-    fn end_main(&mut self) -> SrcEnd {
-        self.world.note();
-        self.focus = Focus::Over;
-        SrcEnd::Went(Some(Event::End))
-    }
-
     // The statement of this number of some, and then those behind it.
-    fn statements(&mut self, statements: &'a Vec<TStmt>, at: usize) -> SrcEnd {
+    fn statements(&mut self, statements: &'a Vec<TStmt>, at: usize) -> Outcome {
         if at < statements.len() {
             self.go_waiting(
                 Focus::Run(Code::Listed(statements, at)),
@@ -178,47 +146,61 @@ impl<'a> Machine<'a> {
         }
     }
 
+    // The body of a loop or of a switch has ended.
+    fn turned(&mut self, code: Code<'a>, stage: Stage) -> Outcome {
+        if stage != Stage::Turns {
+            return Outcome::Lost;
+        }
+        match code.statement() {
+            Some(
+                TStmt::Loop {
+                    condition,
+                    step,
+                    body,
+                    ..
+                },
+            ) => self.prepares(code, step, Stage::Steps, condition, body),
+            Some(TStmt::Switch { .. }) => self.go(Focus::Past),
+            _ => Outcome::Lost,
+        }
+    }
+
     /// The end of a statement. Main ends with an event; a function ends without a value; behind the handler
     /// what it interrupted goes on.
-    pub(crate) fn proceed(&mut self) -> SrcEnd {
+    pub(crate) fn proceed(&mut self) -> Outcome {
         let Some(top) = self.stack.pop() else {
-            return self.end_main();
+            self.world.note();
+            self.focus = Focus::Over;
+            return Outcome::Went(Some(Event::End));
         };
         match top {
             Pending::Before(statements, at) => self.statements(statements, at),
-            Pending::Loops(Stage::Turns, round) => self.prepares(round.step, round),
-            Pending::InSwitch => self.go(Focus::Past),
-            Pending::Lists(list, at) => self.items(list, at),
-            Pending::Returns(copy) => {
-                self.go_waiting(Focus::Leaves(Datum::Missing), Pending::Returns(copy))
+            Pending::Doing(code, stage) => self.turned(code, stage),
+            Pending::Returns(copy) => self.go_waiting(
+                Focus::Leaves(Datum::Missing),
+                Pending::Returns(copy),
+            ),
+            Pending::Resumes(copy) => self.resume(copy),
+            Pending::In(_, _) | Pending::Value(_) | Pending::To(_) => Outcome::Lost,
+        }
+    }
+
+    // A call has its value, and its caller goes on.
+    fn handed(&mut self, value: Datum, caller: CopyOf) -> Outcome {
+        match self.stack.pop() {
+            Some(Pending::In(_, Got::Called)) => {
+                self.copy = caller;
+                self.go(Focus::Holds(value))
             }
-            Pending::Resumes(copy) => {
-                self.world.leave();
-                self.copy = copy;
-                self.go(self.interrupted)
-            }
-            _ => nowhere(0),
+            _ => Outcome::Lost,
         }
     }
 
     /// A function is left with a value.
-    pub(crate) fn leave(&mut self, value: Datum) -> SrcEnd {
+    pub(crate) fn leave(&mut self, value: Datum) -> Outcome {
         match self.stack.pop() {
-            Some(Pending::Returns(copy)) => {
-                self.copy = copy;
-                self.go(Focus::Holds(value))
-            }
-            _ => nowhere(0),
-        }
-    }
-
-    fn returns(&mut self, value: &'a Option<TExpr>, line: u32) -> SrcEnd {
-        match value {
-            Some(value) => self.go_waiting(Focus::Eval(value), Pending::Gives(line)),
-            None => {
-                self.unwind();
-                self.proceed()
-            }
+            Some(Pending::Returns(caller)) => self.handed(value, caller),
+            _ => Outcome::Lost,
         }
     }
 
@@ -229,77 +211,72 @@ impl<'a> Machine<'a> {
         object
     }
 
-    /// A statement begins.
-    pub(crate) fn begin(&mut self, code: Code<'a>) -> SrcEnd {
-        match code.statement() {
-            Some(statement) => self.begin_statement(statement),
-            None => nowhere(0),
+    // A loop begins.
+    fn loops(&mut self, code: Code<'a>, statement: &'a TStmt) -> Outcome {
+        let TStmt::Loop {
+            form,
+            begin,
+            condition,
+            body,
+            ..
+        } = statement
+        else {
+            return Outcome::Lost;
+        };
+        match form {
+            LoopForm::While | LoopForm::For => {
+                self.prepares(code, begin, Stage::Begins, condition, body)
+            }
+            LoopForm::Do => self.turn(code, body),
         }
     }
 
-    fn begin_statement(&mut self, statement: &'a TStmt) -> SrcEnd {
+    // A function is left.
+    fn returns(&mut self, code: Code<'a>, value: &'a Option<TExpr>) -> Outcome {
+        match value {
+            Some(value) => self.go_waiting(Focus::Eval(value), Pending::Doing(code, Stage::Tests)),
+            None => {
+                self.unwind();
+                self.proceed()
+            }
+        }
+    }
+
+    /// A statement begins.
+    pub(crate) fn begin(&mut self, code: Code<'a>) -> Outcome {
+        let Some(statement) = code.statement() else {
+            return Outcome::Lost;
+        };
+        let here = Pending::Doing(code, Stage::Tests);
         match statement {
             TStmt::Block { statements, .. } => {
                 self.go_waiting(Focus::Past, Pending::Before(statements, 0))
             }
             TStmt::Empty { .. } => self.go(Focus::Past),
-            TStmt::Expr { value, .. } => self.go_waiting(Focus::Eval(value), Pending::Drops),
+            TStmt::Expr { value, .. } | TStmt::Switch { value, .. } => {
+                self.go_waiting(Focus::Eval(value), here)
+            }
             TStmt::Declare { local, .. } => {
                 let _ = self.declared(*local);
                 self.go(Focus::Past)
             }
-            TStmt::InitScalar { local, value, line } => {
-                let object = self.declared(*local);
-                self.go_waiting(Focus::Eval(value), Pending::Initializes(object, *line))
+            TStmt::InitScalar { local, value, .. } => {
+                let _ = self.declared(*local);
+                self.go_waiting(Focus::Eval(value), here)
             }
-            TStmt::InitList { local, items, line } => {
+            TStmt::InitList { local, items, .. } => {
                 let object = self.declared(*local);
-                let list = Listed {
-                    object,
-                    items,
-                    line: *line,
-                };
-                self.items(list, 0)
+                self.items(code, object, items, 0)
             }
             TStmt::If {
                 arms,
                 otherwise,
                 ..
-            } => self.arms(arms, 0, otherwise),
-            TStmt::Loop {
-                form,
-                begin,
-                condition,
-                step,
-                body,
-                line,
-            } => {
-                let round = Round {
-                    condition,
-                    step,
-                    body,
-                    line: *line,
-                };
-                self.loops(*form, begin, round)
-            }
-            TStmt::Switch {
-                value,
-                cases,
-                default,
-                statements,
-                line,
-            } => {
-                let labels = Labels {
-                    cases,
-                    next: 0,
-                    default: *default,
-                    statements,
-                };
-                self.go_waiting(Focus::Eval(value), Pending::Switches(labels, *line))
-            }
+            } => self.arms(code, arms, 0, otherwise),
+            TStmt::Loop { .. } => self.loops(code, statement),
             TStmt::Break { .. } => self.break_off(),
             TStmt::Continue { .. } => self.go_on(),
-            TStmt::Return { value, line } => self.returns(value, *line),
+            TStmt::Return { value, .. } => self.returns(code, value),
         }
     }
 }

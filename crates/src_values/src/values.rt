@@ -3,22 +3,22 @@
 ghost use Rattle.std.specs.Prelude.{◌≡◌};
 ghost use Rattle.c_ints.specs.Operators.{shifts};
 
-use crate::objects::{Byte, Datum, Number, Object, Pointer, Reading, Spot, Undef, number_from};
+use crate::objects::{Byte, Datum, Number, Object, Pointer, ReadBytes, Spot, Undef, as_number};
 use c_ints::{BinOp, IntTy, UnOp, Value, apply, convert, promote, size, unary};
 use c_typed::Ty;
 
 /// The number of a type with these bits, cut to its width.
-pub(crate) fn number(ty: IntTy, bits: u32) -> Datum {
-    Datum::Number(number_from(Value::new(ty, bits)))
+pub fn number(ty: IntTy, bits: u32) -> Datum {
+    Datum::Number(as_number(Value::new(ty, bits)))
 }
 
 /// An int, 1 where it holds and 0 where it doesn't.
-pub(crate) fn truth_value(holds: bool) -> Datum {
+pub fn truth_value(holds: bool) -> Datum {
     number(IntTy::Int, if holds { 1 } else { 0 })
 }
 
 /// How many bytes the value has.
-pub(crate) fn byte_count(value: Datum) -> u8 {
+pub fn byte_count(value: Datum) -> u8 {
     match value {
         Datum::Number(number) => size(number.ty),
         Datum::Pointer(_) => 2,
@@ -27,7 +27,7 @@ pub(crate) fn byte_count(value: Datum) -> u8 {
 }
 
 /// The byte of this number, the lowest first. Those of null are the number 0.
-pub(crate) fn byte_of(value: Datum, k: u8) -> Byte {
+pub fn byte_of(value: Datum, k: u8) -> Byte {
     match value {
         Datum::Number(number) => {
             let bytes = number.bits.to_le_bytes();
@@ -43,27 +43,22 @@ pub(crate) fn byte_of(value: Datum, k: u8) -> Byte {
     }
 }
 
-/// The number that the bytes read so far make.
-pub(crate) fn number_of(reading: Reading) -> Datum {
-    number(reading.ty, reading.number)
-}
-
 /// The number that a byte holds.
-pub(crate) fn number_in(byte: Byte) -> u8 {
+pub fn number_in(byte: Byte) -> u8 {
     match byte {
         Byte::Number(number) => number,
         Byte::Unset | Byte::Part { .. } => 0,
     }
 }
 
-/// One byte more of a number that is read.
-pub(crate) fn read_on(reading: Reading, byte: Byte) -> Reading {
-    let shift = (reading.bytes & 3) as u32 * 8;
-    Reading {
-        ty: reading.ty,
-        bytes: reading.bytes.saturating_add(1),
-        number: reading.number | (number_in(byte) as u32) << shift,
-    }
+// The number that the bytes make.
+fn number_from(read: ReadBytes) -> u32 {
+    u32::from_le_bytes([
+        number_in(read.get(0)),
+        number_in(read.get(1)),
+        number_in(read.get(2)),
+        number_in(read.get(3)),
+    ])
 }
 
 fn same_part(a: Object, f: u64, b: Object, g: u64) -> Option<Pointer> {
@@ -78,7 +73,7 @@ fn same_part(a: Object, f: u64, b: Object, g: u64) -> Option<Pointer> {
 }
 
 /// The pointer that two bytes make: two numbers 0 make null, and the bytes of one pointer that pointer.
-pub(crate) fn joined(low: Byte, high: Byte) -> Option<Pointer> {
+pub fn joined(low: Byte, high: Byte) -> Option<Pointer> {
     match low {
         Byte::Number(a) => match high {
             Byte::Number(b) if a == 0 && b == 0 => Some(Pointer::Null),
@@ -100,9 +95,38 @@ pub(crate) fn joined(low: Byte, high: Byte) -> Option<Pointer> {
     }
 }
 
+/// The value that bytes make as a type. That of a structure is none.
+pub fn value_from(ty: Ty, read: ReadBytes) -> Datum {
+    match ty {
+        Ty::Int(ty) => number(ty, number_from(read)),
+        Ty::Pointer(_) => match joined(read.get(0), read.get(1)) {
+            Some(pointer) => Datum::Pointer(pointer),
+            None => Datum::Missing,
+        },
+        Ty::Void | Ty::Array { .. } | Ty::Struct(_) => Datum::Missing,
+    }
+}
+
+fn is_number(byte: Byte) -> bool {
+    match byte {
+        Byte::Number(_) => true,
+        Byte::Unset | Byte::Part { .. } => false,
+    }
+}
+
+/// Whether a byte may follow those that were read as a type: a number's are numbers, and the second one of
+/// a pointer completes the first.
+pub fn fits_behind(ty: Ty, read: ReadBytes, byte: Byte) -> bool {
+    match ty {
+        Ty::Int(_) => is_number(byte),
+        Ty::Pointer(_) => read.count() == 0 || joined(read.get(0), byte).is_some(),
+        Ty::Void | Ty::Array { .. } | Ty::Struct(_) => true,
+    }
+}
+
 fn as_integer(ty: IntTy, value: Datum) -> Result<Datum, Undef> {
     match value {
-        Datum::Number(number) => Ok(Datum::Number(number_from(convert(number.value(), ty)))),
+        Datum::Number(number) => Ok(Datum::Number(as_number(convert(number.value(), ty)))),
         Datum::Pointer(_) | Datum::Missing => Err(Undef::Unset),
     }
 }
@@ -117,7 +141,7 @@ fn as_pointer(value: Datum) -> Result<Datum, Undef> {
 }
 
 /// The value in this type. A missing value has no other type than void.
-pub(crate) fn converted(ty: Ty, value: Datum) -> Result<Datum, Undef> {
+pub fn converted(ty: Ty, value: Datum) -> Result<Datum, Undef> {
     match ty {
         Ty::Void => Ok(Datum::Missing),
         Ty::Int(ty) => as_integer(ty, value),
@@ -134,7 +158,7 @@ fn is_null(pointer: Pointer) -> bool {
 }
 
 /// Whether the value is one that isn't 0; `None` for a missing one.
-pub(crate) fn truth_of(value: Datum) -> Option<bool> {
+pub fn truth_of(value: Datum) -> Option<bool> {
     match value {
         Datum::Number(number) => Some(number.value().number() != 0),
         Datum::Pointer(pointer) => Some(!is_null(pointer)),
@@ -143,9 +167,9 @@ pub(crate) fn truth_of(value: Datum) -> Option<bool> {
 }
 
 /// What a unary operator gives.
-pub(crate) fn unary_answer(op: UnOp, value: Datum) -> Result<Datum, Undef> {
+pub fn unary_answer(op: UnOp, value: Datum) -> Result<Datum, Undef> {
     match value {
-        Datum::Number(number) => Ok(Datum::Number(number_from(unary(op, number.value())))),
+        Datum::Number(number) => Ok(Datum::Number(as_number(unary(op, number.value())))),
         Datum::Pointer(pointer) => Ok(truth_value(is_null(pointer))),
         Datum::Missing => Err(Undef::Unset),
     }
@@ -176,7 +200,7 @@ fn bad_count(ty: Ty, value: Datum) -> Option<Undef> {
 }
 
 /// What the right operand alone makes undefined.
-pub(crate) fn bad_right(op: BinOp, ty: Ty, right: Datum) -> Option<Undef> {
+pub fn bad_right(op: BinOp, ty: Ty, right: Datum) -> Option<Undef> {
     match op {
         BinOp::Div | BinOp::Rem => bad_divisor(right),
         BinOp::Shl | BinOp::Shr => bad_count(ty, right),
@@ -205,15 +229,15 @@ fn applied(op: BinOp, a: Value, b: Value) -> Option<Value> {
 }
 
 /// What an operator gives on integers, where the divisor isn't 0 and the count fits.
-pub(crate) fn on_numbers(op: BinOp, a: Number, b: Number) -> Result<Datum, Undef> {
+pub fn on_numbers(op: BinOp, a: Number, b: Number) -> Result<Datum, Undef> {
     match applied(op, a.value(), b.value()) {
-        Some(value) => Ok(Datum::Number(number_from(value))),
+        Some(value) => Ok(Datum::Number(as_number(value))),
         None => Err(Undef::Overflow),
     }
 }
 
 /// What a comparison says of two places in one object.
-pub(crate) fn compared(op: BinOp, a: u64, b: u64) -> bool {
+pub fn compared(op: BinOp, a: u64, b: u64) -> bool {
     match op {
         BinOp::Lt => a < b,
         BinOp::Gt => a > b,
@@ -226,7 +250,7 @@ pub(crate) fn compared(op: BinOp, a: u64, b: u64) -> bool {
 }
 
 /// What `++` and `--` count by: 1 in the type of the operation, or the int 1 where a pointer is moved.
-pub(crate) fn one_in(operation: Ty) -> Datum {
+pub fn one_in(operation: Ty) -> Datum {
     match operation {
         Ty::Int(ty) => number(ty, 1),
         _ => number(IntTy::Int, 1),
@@ -234,7 +258,7 @@ pub(crate) fn one_in(operation: Ty) -> Datum {
 }
 
 /// The lowest bit of a value.
-pub(crate) fn lowest_bit(value: Datum) -> u8 {
+pub fn lowest_bit(value: Datum) -> u8 {
     match value {
         Datum::Number(number) => (number.bits & 1) as u8,
         Datum::Pointer(_) | Datum::Missing => 0,
@@ -242,7 +266,7 @@ pub(crate) fn lowest_bit(value: Datum) -> u8 {
 }
 
 /// What a place holds after an assignment: a bit has the lowest bit alone.
-pub(crate) fn kept_in(spot: Spot, value: Datum) -> Datum {
+pub fn kept_in(spot: Spot, value: Datum) -> Datum {
     match spot {
         Spot::Bit { .. } => number(IntTy::UChar, lowest_bit(value) as u32),
         Spot::Device(_) | Spot::Memory(_) => value,
@@ -250,7 +274,7 @@ pub(crate) fn kept_in(spot: Spot, value: Datum) -> Datum {
 }
 
 /// The following byte, which need not be there.
-pub(crate) fn next_byte(spot: Spot) -> Spot {
+pub fn next_byte(spot: Spot) -> Spot {
     match spot {
         Spot::Memory(Pointer::Into { object, offset }) => Spot::Memory(Pointer::Into {
             object,

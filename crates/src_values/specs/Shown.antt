@@ -7,12 +7,12 @@ use Rattle.pic_chip.specs.declared.Event.{Event}
 use Rattle.pic_chip.specs.declared.Event.TheVariants as events
 use Rattle.pic_chip.specs.declared.Root.{Root}
 use Rattle.pic_map.specs.MapContent.{MapContent, ObjectLine, FrameLine}
-use Rattle.src_machine.specs.Objects.{function_at, same_root, variables_of}
-use Rattle.src_machine.specs.World.{Happening, ReadOf, WriteOf, Ended}
-use Rattle.src_machine.specs.declared.objects.Byte.{Byte}
-use Rattle.src_machine.specs.declared.objects.Byte.TheVariants as bytes
-use Rattle.src_machine.specs.declared.objects.Object.{Object}
-use Rattle.src_machine.specs.declared.objects.Object.TheVariants.{Fixed, Variable}
+use Rattle.src_values.specs.Objects.{function_at, same_root, variables_of}
+use Rattle.pic_chip.specs.World.{Happening, ReadOf, WriteOf, Ended}
+use Rattle.src_values.specs.declared.objects.Byte.{Byte}
+use Rattle.src_values.specs.declared.objects.Byte.TheVariants as bytes
+use Rattle.src_values.specs.declared.objects.Object.{Object}
+use Rattle.src_values.specs.declared.objects.Object.TheVariants.{Fixed, Variable}
 
 abbrev pub object_address : Option ObjectLine → ℕ
 object_address None = 0
@@ -48,7 +48,7 @@ shown_byte address (bytes.Number n) = n
 shown_byte address (bytes.Part object offset high) = address_byte high (address object + offset)
 
 -- an event with its value under the map
-unfoldable pub shown : (Object → ℕ) → Happening → Event
+unfoldable pub shown : (Object → ℕ) → Happening Byte → Event
 shown address (ReadOf cell byte) = events.Read cell (shown_byte address byte)
 shown address (WriteOf cell byte) = events.Write cell (shown_byte address byte)
 shown address Ended = events.End

@@ -9,7 +9,7 @@ use std::alloc::{AllocError, Global};
 
 /// An object: where its bytes begin, how many it has, its address in the map, and whether an access to
 /// it is an event.
-#[derive(Clone, Copy, PartialEq, Eq, Debug)]
+#[derive(Clone, Copy)]
 pub(crate) struct Slot {
     pub start: usize,
     pub size: u64,
@@ -18,7 +18,7 @@ pub(crate) struct Slot {
 }
 
 /// The variables of a function copy: the number of the first slot, and how many there are.
-#[derive(Clone, Copy, PartialEq, Eq, Debug)]
+#[derive(Clone, Copy)]
 struct Variables {
     first: usize,
     count: usize,
@@ -26,7 +26,7 @@ struct Variables {
 
 /// The memory of a run. The copies stand in the order of the functions, main's before the handler's.
 #[derive(Drop)]
-pub(crate) struct Memory {
+pub struct Memory {
     fixed: Vec<Slot>,
     slots: Vec<Slot>,
     copies: Vec<Variables>,
@@ -46,6 +46,18 @@ fn frame_of(frames: &[FrameLine], root: Root, name: &[u8]) -> Option<u16> {
         }
     }
     None
+}
+
+impl Clone for Memory {
+    fn clone(&self) -> Result<Memory, AllocError> {
+        Ok(Memory {
+            fixed: self.fixed.clone()?,
+            slots: self.slots.clone()?,
+            copies: self.copies.clone()?,
+            bytes: self.bytes.clone()?,
+            functions: self.functions,
+        })
+    }
 }
 
 impl Memory {
@@ -169,7 +181,7 @@ impl Memory {
     }
 
     /// Where an object is.
-    pub fn slot(&self, object: Object) -> Option<Slot> {
+    pub(crate) fn slot(&self, object: Object) -> Option<Slot> {
         match object {
             Object::Fixed(number) => self.fixed.get(number as usize).copied(),
             Object::Variable { copy, number } => {
@@ -193,7 +205,7 @@ impl Memory {
     }
 
     /// A byte of an object, so many bytes behind its start.
-    pub fn get(&self, slot: Slot, offset: u64) -> Byte {
+    pub(crate) fn get(&self, slot: Slot, offset: u64) -> Byte {
         match self
             .bytes
             .get((slot.start as u64).saturating_add(offset) as usize)
@@ -204,7 +216,7 @@ impl Memory {
     }
 
     /// Writes a byte of an object.
-    pub fn put_in(&mut self, slot: Slot, offset: u64, byte: Byte) {
+    pub(crate) fn put_in(&mut self, slot: Slot, offset: u64, byte: Byte) {
         let at = (slot.start as u64).saturating_add(offset) as usize;
         if offset < slot.size && at < self.bytes.len() {
             self.bytes[at] = byte;
@@ -241,6 +253,30 @@ impl Memory {
                 copy,
                 number: (number & 0xffff_ffff) as u32,
             });
+        }
+    }
+
+    /// A byte as a number: one of a pointer is that of the object's address plus the offset.
+    pub(crate) fn shown(&self, byte: Byte) -> u8 {
+        match byte {
+            Byte::Unset => 0,
+            Byte::Number(number) => number,
+            Byte::Part {
+                object,
+                offset,
+                high,
+            } => {
+                let base = match self.slot(object) {
+                    Some(slot) => slot.address,
+                    None => 0,
+                };
+                let address = (base as u64).saturating_add(offset);
+                if high {
+                    (address / 256 % 2) as u8
+                } else {
+                    (address % 256) as u8
+                }
+            }
         }
     }
 }

@@ -1,6 +1,6 @@
 -- Values of expressions, what operators and conversions give, and when they are undefined (ISO/IEC 9899:1990, 6.2 and
 -- 6.3; the kinds of undefined steps are the project's own).
-use Rattle.std.specs.Prelude.{ℕ, ◌/◌, ◌%◌, ◌^◌, Bool, true, false, not, ◌&&◌, ◌||◌, nat_eq, nat_lt, if◌then◌else◌, ℤ, pos, neg_ℤ, ◌-ℤ◌, ◌*ℤ◌, int_div, List, Option, Some, None}
+use Rattle.std.specs.Prelude.{ℕ, ◌+◌, ◌*◌, ◌/◌, ◌%◌, ◌^◌, Bool, true, false, not, ◌&&◌, ◌||◌, nat_eq, nat_lt, if◌then◌else◌, ℤ, pos, neg_ℤ, ◌-ℤ◌, ◌*ℤ◌, int_div, List, [], ◌∷◌, Option, Some, None, is_some}
 use Rattle.std.specs.Ordering.{int_eq}
 use Rattle.c_ints.specs.Operators.{cut_to, truth, comparison, shifts_badly, outcome, unary_type, exact_unary}
 use Rattle.c_ints.specs.Quantity.{Quantity}
@@ -13,20 +13,19 @@ use Rattle.c_ints.specs.declared.types.IntTy.TheVariants as int
 use Rattle.c_typed.specs.Trees.{Program}
 use Rattle.c_typed.specs.declared.types.Ty.{Ty}
 use Rattle.c_typed.specs.declared.types.Ty.TheVariants as types
-use Rattle.src_machine.specs.Objects.{same_object, is_alive, object_bytes, moved}
-use Rattle.src_machine.specs.declared.objects.Byte.{Byte}
-use Rattle.src_machine.specs.declared.objects.Byte.TheVariants as bytes
-use Rattle.src_machine.specs.declared.objects.Change.{Change}
-use Rattle.src_machine.specs.declared.objects.CopyOf.{CopyOf}
-use Rattle.src_machine.specs.Data.{Datum}
-use Rattle.src_machine.specs.Data.{Number, Pointer, Missing}
-use Rattle.src_machine.specs.declared.objects.Object.{Object}
-use Rattle.src_machine.specs.declared.objects.Pointer.{Pointer as Place}
-use Rattle.src_machine.specs.declared.objects.Pointer.TheVariants.{Null, Into}
-use Rattle.src_machine.specs.declared.objects.Spot.{Spot}
-use Rattle.src_machine.specs.declared.objects.Spot.TheVariants as spots
-use Rattle.src_machine.specs.declared.objects.Undef.{Undef}
-use Rattle.src_machine.specs.declared.objects.Undef.TheVariants.{Division, Overflow, Shift, Unset, Outside, Inactive, Order, Past}
+use Rattle.src_values.specs.Objects.{same_object, is_alive, object_bytes, moved}
+use Rattle.src_values.specs.declared.objects.Byte.{Byte}
+use Rattle.src_values.specs.declared.objects.Byte.TheVariants as bytes
+use Rattle.src_values.specs.declared.objects.CopyOf.{CopyOf}
+use Rattle.src_values.specs.Data.{Datum}
+use Rattle.src_values.specs.Data.{Number, Pointer, Missing}
+use Rattle.src_values.specs.declared.objects.Object.{Object}
+use Rattle.src_values.specs.declared.objects.Pointer.{Pointer as Place}
+use Rattle.src_values.specs.declared.objects.Pointer.TheVariants.{Null, Into}
+use Rattle.src_values.specs.declared.objects.Spot.{Spot}
+use Rattle.src_values.specs.declared.objects.Spot.TheVariants as spots
+use Rattle.src_values.specs.declared.objects.Undef.{Undef}
+use Rattle.src_values.specs.declared.objects.Undef.TheVariants.{Division, Overflow, Shift, Unset, Outside, Inactive, Order, Past}
 
 -- what an operator gives, or why it is undefined
 pub data Answer : Type 0 where
@@ -66,6 +65,51 @@ abbrev pub joined : Byte → Byte → Option Place
 joined (bytes.Number a) (bytes.Number b) = null_if (nat_eq a 0 && nat_eq b 0)
 joined (bytes.Part a f false) (bytes.Part b g true) = same_part a f b g
 joined _ _ = None
+
+-- ---- the values that bytes make
+abbrev pub number_in : Byte → ℕ
+number_in bytes.Unset = 0
+number_in (bytes.Number n) = n
+number_in (bytes.Part object offset high) = 0
+
+-- the number that bytes make, the lowest first
+unfoldable pub number_from : List Byte → ℕ
+number_from [] = 0
+number_from (byte ∷ more) = number_in byte + 256 * number_from more
+
+abbrev pub pointer_held : Option Place → Datum
+pointer_held (Some x) = Pointer x
+pointer_held None = Missing
+
+abbrev pub pointer_from : List Byte → Datum
+pointer_from (low ∷ high ∷ []) = pointer_held (joined low high)
+pointer_from _ = Missing
+
+-- The value that bytes make as a type. That of a structure is none.
+unfoldable pub value_from : Ty → List Byte → Datum
+value_from (types.Int ty) read = number_of ty (number_from read)
+value_from (types.Pointer target) read = pointer_from read
+value_from _ read = Missing
+
+-- the second byte of a pointer, behind its first one
+abbrev pub completes : Byte → Byte → Bool
+completes low byte = is_some (joined low byte)
+
+abbrev pub is_number : Byte → Bool
+is_number bytes.Unset = false
+is_number (bytes.Number n) = true
+is_number (bytes.Part object offset high) = false
+
+-- Which byte may follow those that were read as a type: a number's are numbers, and the second one of a pointer
+-- completes the first.
+abbrev pub follows_in_pointer : List Byte → Byte → Bool
+follows_in_pointer [] byte = true
+follows_in_pointer (low ∷ more) byte = completes low byte
+
+unfoldable pub fits_behind : Ty → List Byte → Byte → Bool
+fits_behind (types.Int ty) read byte = is_number byte
+fits_behind (types.Pointer target) read byte = follows_in_pointer read byte
+fits_behind _ read byte = true
 
 -- ---- conversions
 abbrev pub as_integer : IntTy → Datum → Answer
@@ -214,9 +258,14 @@ abbrev pub changed_by : Program → List CopyOf → BinOp → ℕ → Ty → Dat
 changed_by p active op size (types.Pointer target) old u = offset_answer p op size old u
 changed_by p active op size operation old u = operated p active op operation (converted operation old) u
 
--- the new value of a place
-unfoldable pub change_answer : Program → List CopyOf → Change → Datum → Datum → Answer
-change_answer p active change old u = then_converted change.ty (changed_by p active change.op change.size change.operation old u)
+-- The new value of a place of this type: the old one, converted to the type of the operation, is the left operand.
+unfoldable pub change_answer : Program → List CopyOf → BinOp → Ty → ℕ → Ty → Datum → Datum → Answer
+change_answer p active op operation size ty old u = then_converted ty (changed_by p active op size operation old u)
+
+-- what `++` and `--` count by: 1 in the type of the operation, or the int 1 where a pointer is moved
+abbrev pub one_in : Ty → Datum
+one_in (types.Int ty) = Number (cut_to ty (pos 1))
+one_in _ = Number (cut_to int.Int (pos 1))
 
 -- ---- bits
 abbrev pub lowest_bit : Datum → ℕ

@@ -1,7 +1,7 @@
 //! Operators on pointers, and on values of any kind.
 
-use crate::machine::Machine;
-use crate::objects::{Change, Datum, Number, Object, Pointer, Undef};
+use crate::memory::Memory;
+use crate::objects::{Datum, Number, Object, Pointer, Undef};
 use crate::values::{bad_right, compared, converted, number, on_numbers, truth_value};
 use c_ints::{BinOp, IntTy};
 use c_typed::Ty;
@@ -27,10 +27,10 @@ fn elements_between(f: u64, g: u64, size: u64) -> Datum {
     number(IntTy::Int, bits)
 }
 
-impl<'a> Machine<'a> {
+impl Memory {
     /// A pointer moved up or down by so many bytes; none where it comes out of its object and isn't the
     /// byte just past the end. Null moves by 0 alone.
-    pub(crate) fn moved(&self, pointer: Pointer, down: bool, by: u64) -> Option<Pointer> {
+    pub fn moved(&self, pointer: Pointer, down: bool, by: u64) -> Option<Pointer> {
         match pointer {
             Pointer::Null => { if by == 0 { Some(pointer) } else { None } }
             Pointer::Into { object, offset } => {
@@ -39,7 +39,7 @@ impl<'a> Machine<'a> {
                 } else {
                     offset.checked_add(by)?
                 };
-                if offset <= self.memory.size(object) {
+                if offset <= self.size(object) {
                     Some(Pointer::Into { object, offset })
                 } else {
                     None
@@ -48,13 +48,13 @@ impl<'a> Machine<'a> {
         }
     }
 
-    // == on pointers to two objects.
-    fn apart(&self, a: Object, f: u64, b: Object, g: u64) -> Option<Undef> {
-        if !(self.is_alive(a) && self.is_alive(b)) {
+    // == on pointers to two objects, which are alive or not.
+    fn apart(&self, alive: bool, a: Object, f: u64, b: Object, g: u64) -> Option<Undef> {
+        if !alive {
             return Some(Undef::Inactive);
         }
-        let m = self.memory.size(a);
-        let n = self.memory.size(b);
+        let m = self.size(a);
+        let n = self.size(b);
         if (f == m && g < n) || (f < m && g == n) {
             Some(Undef::Past)
         } else {
@@ -63,7 +63,7 @@ impl<'a> Machine<'a> {
     }
 
     // Whether two pointers are equal.
-    fn same(&self, x: Pointer, y: Pointer) -> Result<bool, Undef> {
+    fn same(&self, alive: bool, x: Pointer, y: Pointer) -> Result<bool, Undef> {
         match x {
             Pointer::Null => match y {
                 Pointer::Null => Ok(true),
@@ -81,7 +81,7 @@ impl<'a> Machine<'a> {
                     if a == b {
                         return Ok(f == g);
                     }
-                    match self.apart(a, f, b, g) {
+                    match self.apart(alive, a, f, b, g) {
                         Some(kind) => Err(kind),
                         None => Ok(false),
                     }
@@ -90,17 +90,19 @@ impl<'a> Machine<'a> {
         }
     }
 
-    fn on_pointers(&self, op: BinOp, x: Pointer, y: Pointer) -> Result<Datum, Undef> {
+    fn on_pointers(&self, alive: bool, op: BinOp, x: Pointer, y: Pointer) -> Result<Datum, Undef> {
         match op {
-            BinOp::Eq => Ok(truth_value(self.same(x, y)?)),
-            BinOp::Ne => Ok(truth_value(!self.same(x, y)?)),
+            BinOp::Eq => Ok(truth_value(self.same(alive, x, y)?)),
+            BinOp::Ne => Ok(truth_value(!self.same(alive, x, y)?)),
             _ => ordered(op, x, y),
         }
     }
 
-    /// What a binary operator gives. `ty` is the type of the operation.
-    pub(crate) fn binary(
+    /// What a binary operator gives. `ty` is the type of the operation. Where both operands are pointers,
+    /// `alive` says whether what they point to is alive.
+    pub fn binary(
         &self,
+        alive: bool,
         op: BinOp,
         ty: Ty,
         left: Datum,
@@ -115,7 +117,7 @@ impl<'a> Machine<'a> {
                 _ => Err(Undef::Unset),
             },
             Datum::Pointer(x) => match right {
-                Datum::Pointer(y) => self.on_pointers(op, x, y),
+                Datum::Pointer(y) => self.on_pointers(alive, op, x, y),
                 _ => Err(Undef::Unset),
             },
             Datum::Missing => Err(Undef::Unset),
@@ -141,13 +143,7 @@ impl<'a> Machine<'a> {
     }
 
     /// A pointer moved by an integer's number of elements; the integer may stand first.
-    pub(crate) fn offset(
-        &self,
-        op: BinOp,
-        size: u64,
-        left: Datum,
-        right: Datum,
-    ) -> Result<Datum, Undef> {
+    pub fn offset(&self, op: BinOp, size: u64, left: Datum, right: Datum) -> Result<Datum, Undef> {
         match left {
             Datum::Pointer(pointer) => match right {
                 Datum::Number(count) => self.moved_by(op, size, pointer, count),
@@ -161,16 +157,22 @@ impl<'a> Machine<'a> {
         }
     }
 
-    /// The new value of a place.
-    pub(crate) fn changed(&self, change: Change, old: Datum, right: Datum) -> Result<Datum, Undef> {
-        let value = match change.operation {
-            Ty::Pointer(_) => self.offset(change.op, change.size, old, right)?,
-            operation => {
-                let left = converted(operation, old)?;
-                self.binary(change.op, operation, left, right)?
-            }
+    /// The new value of a place of type `ty`: the old one, converted to the type of the operation, is the left
+    /// operand. An element has `size` bytes where that is a pointer.
+    pub fn changed(
+        &self,
+        op: BinOp,
+        operation: Ty,
+        size: u64,
+        ty: Ty,
+        old: Datum,
+        right: Datum,
+    ) -> Result<Datum, Undef> {
+        let value = match operation {
+            Ty::Pointer(_) => self.offset(op, size, old, right)?,
+            _ => self.binary(true, op, operation, converted(operation, old)?, right)?,
         };
-        converted(change.ty, value)
+        converted(ty, value)
     }
 }
 
@@ -192,7 +194,7 @@ fn ordered(op: BinOp, x: Pointer, y: Pointer) -> Result<Datum, Undef> {
 }
 
 /// How many elements lie between two pointers.
-pub(crate) fn difference(size: u64, left: Datum, right: Datum) -> Result<Datum, Undef> {
+pub fn difference(size: u64, left: Datum, right: Datum) -> Result<Datum, Undef> {
     match left {
         Datum::Pointer(x) => match right {
             Datum::Pointer(y) => between(size, x, y),

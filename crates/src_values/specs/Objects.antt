@@ -1,25 +1,28 @@
 -- Objects, how many bytes they have, which of them are active, and where pointers move.
-use Rattle.std.specs.Prelude.{ℕ, ◌+◌, Bool, true, false, not, ◌&&◌, ◌||◌, nat_eq, if◌then◌else◌, ℤ, pos, ◌+ℤ◌, int_lt, unsigned_abs, List, [], ◌∷◌, ◌++◌, length, Option, Some, None, slice_get}
+use Rattle.std.specs.Prelude.{ℕ, ◌+◌, Bool, true, false, not, ◌&&◌, ◌||◌, nat_eq, nat_lt, if◌then◌else◌, ℤ, pos, ◌+ℤ◌, int_lt, unsigned_abs, List, [], ◌∷◌, ◌++◌, length, Option, Some, None, slice_get}
 use Rattle.std.specs.Ordering.{int_eq}
+use Rattle.pic_chip.specs.World.{Outside}
 use Rattle.pic_chip.specs.declared.Root.{Root}
 use Rattle.pic_chip.specs.declared.Root.TheVariants as roots
-use Rattle.c_typed.specs.Roots.{is_main}
+use Rattle.c_typed.specs.Roots.{is_main, is_handler}
 use Rattle.c_typed.specs.Trees as tree
 use Rattle.c_typed.specs.Trees.{FunctionTree, Program, Statements, StaticTree, VariableTree}
 use Rattle.c_typed.specs.Types.{type_bytes}
 use Rattle.c_typed.specs.declared.expression.Object.TheVariants as names
 use Rattle.c_typed.specs.declared.expression.Object.{Object as Name}
+use Rattle.c_typed.specs.declared.program.Initial.{Initial}
+use Rattle.c_typed.specs.declared.program.InitialByte.{InitialByte}
+use Rattle.c_typed.specs.declared.program.InitialByte.TheVariants as initial
 use Rattle.c_typed.specs.declared.types.Ty.{Ty}
-use Rattle.src_machine.specs.declared.objects.Byte.{Byte}
-use Rattle.src_machine.specs.declared.objects.Byte.TheVariants as bytes
-use Rattle.src_machine.specs.declared.objects.CopyOf.{CopyOf}
-use Rattle.src_machine.specs.declared.objects.Object.{Object}
-use Rattle.src_machine.specs.declared.objects.Object.TheVariants.{Fixed, Variable}
-use Rattle.src_machine.specs.declared.objects.Pointer.{Pointer}
-use Rattle.src_machine.specs.declared.objects.Pointer.TheVariants.{Null, Into}
-use Rattle.src_machine.specs.declared.objects.Spot.{Spot}
-use Rattle.src_machine.specs.declared.objects.Spot.TheVariants as spots
-use Rattle.src_machine.specs.World.{Outside}
+use Rattle.src_values.specs.declared.objects.Byte.{Byte}
+use Rattle.src_values.specs.declared.objects.Byte.TheVariants as bytes
+use Rattle.src_values.specs.declared.objects.CopyOf.{CopyOf}
+use Rattle.src_values.specs.declared.objects.Object.{Object}
+use Rattle.src_values.specs.declared.objects.Object.TheVariants.{Fixed, Variable}
+use Rattle.src_values.specs.declared.objects.Pointer.{Pointer}
+use Rattle.src_values.specs.declared.objects.Pointer.TheVariants.{Null, Into}
+use Rattle.src_values.specs.declared.objects.Spot.{Spot}
+use Rattle.src_values.specs.declared.objects.Spot.TheVariants as spots
 
 -- what a run goes by: the program, and what comes from outside
 pub record Setting : Type 0 where
@@ -41,9 +44,6 @@ function_at p f = or_no_function (slice_get p.functions f)
 abbrev pub first_from : (FunctionTree → Bool) → ℕ → List FunctionTree → Option ℕ
 first_from test n [] = None
 first_from test n (f ∷ fs) = if test f then Some n else first_from test (n + 1) fs
-
-abbrev pub is_handler : FunctionTree → Bool
-is_handler f = f.interrupt
 
 abbrev pub main_in : Program → Option ℕ
 main_in p = first_from is_main 0 p.functions
@@ -152,3 +152,31 @@ with_byte m object offset byte other at = if same_object other object && nat_eq 
 -- no byte of the object has a value
 abbrev pub cleared : Memory → Object → Memory
 cleared m object other at = if same_object other object then bytes.Unset else m other at
+
+-- No variable of the copy has a value.
+abbrev pub is_of : CopyOf → Object → Bool
+is_of c (Fixed n) = false
+is_of c (Variable d n) = same_copy d c
+
+abbrev pub fresh : Memory → CopyOf → Memory
+fresh m c object at = if is_of c object then bytes.Unset else m object at
+
+-- ---- the memory at the start
+abbrev pub initial_byte : InitialByte → Byte
+initial_byte (initial.Number n) = bytes.Number n
+initial_byte (initial.Address object byte) = bytes.Part (Fixed object) 0 (nat_eq byte 1)
+
+-- the byte that a list of initial bytes gives a place, otherwise 0
+abbrev pub initial_at : List Initial → ℕ → Byte
+initial_at [] at = bytes.Number 0
+initial_at (i ∷ is) at = if nat_eq i.offset at then initial_byte i.byte else initial_at is at
+
+abbrev pub static_byte : List ℕ → Option StaticTree → ℕ → Byte
+static_byte sizes None at = bytes.Unset
+static_byte sizes (Some s) at = if nat_lt at (type_bytes sizes s.ty.ty) then initial_at s.initial at else bytes.Unset
+
+-- Static objects begin with their initial values, otherwise 0; variables begin unset. No object has a byte beyond its
+-- size.
+abbrev pub first_memory : Program → Memory
+first_memory p (Fixed n) at = static_byte p.sizes (slice_get p.statics n) at
+first_memory p (Variable c n) at = bytes.Unset

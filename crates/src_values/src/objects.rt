@@ -1,12 +1,11 @@
 //! What a run of the source is about: objects, pointers to them, bytes and values.
 
-use c_ints::{BinOp, IntTy, Value};
-use c_typed::Ty;
+use c_ints::{IntTy, Value};
 use pic_chip::Root;
 
 /// A copy of a function: the one that belongs to a root, of the function of this number in
 /// `Typed::functions`.
-#[derive(Clone, Copy, PartialEq, Eq, Debug)]
+#[derive(Clone, Copy, PartialEq, Eq)]
 pub struct CopyOf {
     pub root: Root,
     pub function: u32,
@@ -14,21 +13,21 @@ pub struct CopyOf {
 
 /// An object (ISO/IEC 9899:1990, 3.14): the static object of a number in `Typed::statics`, or a variable
 /// of a function copy: its parameters are counted first, then its locals.
-#[derive(Clone, Copy, PartialEq, Eq, Debug)]
+#[derive(Clone, Copy, PartialEq, Eq)]
 pub enum Object {
     Fixed(u32),
     Variable { copy: CopyOf, number: u32 },
 }
 
 /// A pointer: null, or so many bytes behind the start of an object, up to the byte just past its end.
-#[derive(Clone, Copy, PartialEq, Eq, Debug)]
+#[derive(Clone, Copy)]
 pub enum Pointer {
     Null,
     Into { object: Object, offset: u64 },
 }
 
 /// What a byte of an object holds: nothing yet, a number, or the low (0) or high (1) byte of a pointer.
-#[derive(Clone, Copy, PartialEq, Eq, Debug)]
+#[derive(Clone, Copy, PartialEq, Eq)]
 pub enum Byte {
     Unset,
     Number(u8),
@@ -40,7 +39,7 @@ pub enum Byte {
 }
 
 /// A number of an integer type, by its bits.
-#[derive(Clone, Copy, PartialEq, Eq, Debug)]
+#[derive(Clone, Copy)]
 pub struct Number {
     pub ty: IntTy,
     pub bits: u32,
@@ -54,7 +53,7 @@ impl Number {
 }
 
 /// An integer value as a number.
-pub fn number_from(value: Value) -> Number {
+pub fn as_number(value: Value) -> Number {
     Number {
         ty: value.ty(),
         bits: value.bits(),
@@ -63,15 +62,25 @@ pub fn number_from(value: Value) -> Number {
 
 /// The value of an expression. `Missing` is that of an expression of type void, of a structure, and of a
 /// call that ended without a value.
-#[derive(Clone, Copy, PartialEq, Eq, Debug)]
+#[derive(Clone, Copy)]
 pub enum Datum {
     Number(Number),
     Pointer(Pointer),
     Missing,
 }
 
+impl Datum {
+    /// Whether there is no value.
+    pub fn is_missing(self) -> bool {
+        match self {
+            Datum::Missing => true,
+            Datum::Number(_) | Datum::Pointer(_) => false,
+        }
+    }
+}
+
 /// Where a place is: a device register, by its lowest address; a bit of one; or in memory.
-#[derive(Clone, Copy, PartialEq, Eq, Debug)]
+#[derive(Clone, Copy)]
 pub enum Spot {
     Device(u8),
     Bit { register: u8, bit: u8 },
@@ -108,23 +117,43 @@ pub enum Undef {
     Handler,
 }
 
-/// What a compound assignment, `++` or `--` does to a place: the operator, the type that the old value
-/// is converted to before it, the size of an element where that is a pointer, the place's type, whether
-/// the expression's value is the old one, and the line of the node's first token.
-#[derive(Clone, Copy, PartialEq, Eq, Debug)]
-pub struct Change {
-    pub op: BinOp,
-    pub operation: Ty,
-    pub size: u64,
-    pub ty: Ty,
-    pub keeps_old: bool,
-    pub line: u32,
+/// The first bytes of a value, the lowest first: as many as were read so far.
+#[derive(Clone, Copy)]
+pub struct ReadBytes {
+    bytes: [Byte; 4],
+    count: u8,
 }
 
-/// How the bytes of a value are read: how many so far, and the number that they make.
-#[derive(Clone, Copy, PartialEq, Eq, Debug)]
-pub struct Reading {
-    pub ty: IntTy,
-    pub bytes: u8,
-    pub number: u32,
+impl ReadBytes {
+    /// No byte yet.
+    pub fn new() -> ReadBytes {
+        ReadBytes {
+            bytes: [Byte::Unset; 4],
+            count: 0,
+        }
+    }
+
+    /// How many there are.
+    pub fn count(self) -> u8 {
+        self.count
+    }
+
+    /// The byte of this number, `Unset` where it wasn't read.
+    pub fn get(self, k: u8) -> Byte {
+        if k < self.count && k < 4 {
+            self.bytes[k as usize]
+        } else {
+            Byte::Unset
+        }
+    }
+
+    /// One byte more. No value has more than four.
+    pub fn and(self, byte: Byte) -> ReadBytes {
+        let mut more = self;
+        if self.count < 4 {
+            more.bytes[self.count as usize] = byte;
+            more.count = self.count + 1;
+        }
+        more
+    }
 }

@@ -1,0 +1,210 @@
+//! Expressions that take the value of a part.
+
+use crate::accesses::is_postfix;
+use crate::control::{Focus, Got, Pending};
+use crate::machine::{Machine, Outcome, undefined};
+use c_ints::BinOp;
+use c_typed::{LogicalOp, StepOp, TExpr};
+use src_values::pointers::difference;
+use src_values::values::{converted, one_in, truth_of, truth_value, unary_answer};
+use src_values::{Datum, Pointer, Spot, Undef};
+
+/// Whether the left operand of `&&` or `||` decides.
+pub(crate) fn decides(op: LogicalOp, holds: bool) -> bool {
+    match op {
+        LogicalOp::And => !holds,
+        LogicalOp::Or => holds,
+    }
+}
+
+fn step_operator(op: StepOp) -> BinOp {
+    match op {
+        StepOp::PreIncrement | StepOp::PostIncrement => BinOp::Add,
+        StepOp::PreDecrement | StepOp::PostDecrement => BinOp::Sub,
+    }
+}
+
+impl<'a> Machine<'a> {
+    // The value of an operator, or why it is undefined.
+    fn answered(&mut self, answer: Result<Datum, Undef>, line: u32) -> Outcome {
+        match answer {
+            Ok(value) => self.go(Focus::Holds(value)),
+            Err(kind) => undefined(kind, line),
+        }
+    }
+
+    // Whether what two pointers point to is alive.
+    fn are_alive(&self, left: Datum, right: Datum) -> bool {
+        match left {
+            Datum::Pointer(Pointer::Into { object: a, .. }) => match right {
+                Datum::Pointer(Pointer::Into { object: b, .. }) => {
+                    self.is_alive(a) && self.is_alive(b)
+                }
+                _ => true,
+            },
+            _ => true,
+        }
+    }
+
+    // The operand of a node with one has its value, or the left one of a node with two, and the right one begins.
+    fn take_operand(&mut self, expr: &'a TExpr, value: Datum) -> Outcome {
+        match expr {
+            TExpr::Convert { ty, line, .. } | TExpr::Cast { ty, line, .. } => {
+                self.answered(converted(*ty, value), *line)
+            }
+            TExpr::Unary { op, line, .. } => self.answered(unary_answer(*op, value), *line),
+            TExpr::Binary { right, .. }
+            | TExpr::Offset { right, .. }
+            | TExpr::Difference { right, .. } => {
+                self.go_waiting(Focus::Eval(right), Pending::In(expr, Got::One(value)))
+            }
+            _ => Outcome::Lost,
+        }
+    }
+
+    // Both operands have their values.
+    fn take_right(&mut self, expr: &'a TExpr, left: Datum, right: Datum) -> Outcome {
+        match expr {
+            TExpr::Binary { op, ty, line, .. } => {
+                let alive = self.are_alive(left, right);
+                let answer = self.memory.binary(alive, *op, *ty, left, right);
+                self.answered(answer, *line)
+            }
+            TExpr::Offset { op, size, line, .. } => {
+                let answer = self.memory.offset(*op, *size, left, right);
+                self.answered(answer, *line)
+            }
+            TExpr::Difference { size, line, .. } => {
+                self.answered(difference(*size, left, right), *line)
+            }
+            TExpr::Logical { line, .. } => match truth_of(right) {
+                Some(holds) => self.go(Focus::Holds(truth_value(holds))),
+                None => undefined(Undef::Unset, *line),
+            },
+            _ => Outcome::Lost,
+        }
+    }
+
+    // A condition decides what follows.
+    fn take_condition(&mut self, expr: &'a TExpr, value: Datum) -> Outcome {
+        match expr {
+            TExpr::Logical {
+                op,
+                right,
+                line,
+                ..
+            } => match truth_of(value) {
+                None => undefined(Undef::Unset, *line),
+                Some(holds) => {
+                    if decides(*op, holds) {
+                        self.go(Focus::Holds(truth_value(holds)))
+                    } else {
+                        self.go_waiting(Focus::Eval(right), Pending::In(expr, Got::One(value)))
+                    }
+                }
+            },
+            TExpr::Conditional {
+                then,
+                otherwise,
+                line,
+                ..
+            } => match truth_of(value) {
+                Some(true) => self.go(Focus::Eval(then)),
+                Some(false) => self.go(Focus::Eval(otherwise)),
+                None => undefined(Undef::Unset, *line),
+            },
+            TExpr::Comma { right, .. } => self.go(Focus::Eval(right)),
+            _ => self.take_operand(expr, value),
+        }
+    }
+
+    // The new value of a place is written, and a value stays with the node.
+    fn changes(
+        &mut self,
+        expr: &'a TExpr,
+        spot: Spot,
+        answer: Result<Datum, Undef>,
+        kept: Option<Datum>,
+        line: u32,
+    ) -> Outcome {
+        match answer {
+            Ok(value) => {
+                let stays = match kept {
+                    Some(old) => old,
+                    None => value,
+                };
+                let focus = Focus::Write { spot, value, at: 0 };
+                self.go_waiting(focus, Pending::In(expr, Got::Stores(spot, stays)))
+            }
+            Err(kind) => undefined(kind, line),
+        }
+    }
+
+    // A node whose place was found.
+    fn take_at(&mut self, expr: &'a TExpr, spot: Spot, value: Datum) -> Outcome {
+        match expr {
+            TExpr::Assign { line, .. } => {
+                if value.is_missing() {
+                    return undefined(Undef::Unset, *line);
+                }
+                let focus = Focus::Write { spot, value, at: 0 };
+                self.go_waiting(focus, Pending::In(expr, Got::Stores(spot, value)))
+            }
+            TExpr::Update { ty, .. } => {
+                let focus = self.fetching(spot, *ty);
+                self.go_waiting(focus, Pending::In(expr, Got::AtWith(spot, value)))
+            }
+            TExpr::Step {
+                op,
+                operation,
+                size,
+                ty,
+                line,
+                ..
+            } => {
+                let one = one_in(*operation);
+                let by = step_operator(*op);
+                let answer = self.memory.changed(by, *operation, *size, *ty, value, one);
+                let kept = if is_postfix(*op) { Some(value) } else { None };
+                self.changes(expr, spot, answer, kept, *line)
+            }
+            _ => Outcome::Lost,
+        }
+    }
+
+    // An update whose place was read.
+    fn take_old(&mut self, expr: &'a TExpr, spot: Spot, right: Datum, old: Datum) -> Outcome {
+        match expr {
+            TExpr::Update {
+                op,
+                operation,
+                size,
+                ty,
+                line,
+                ..
+            } => {
+                let answer = self.memory.changed(*op, *operation, *size, *ty, old, right);
+                self.changes(expr, spot, answer, None, *line)
+            }
+            _ => Outcome::Lost,
+        }
+    }
+
+    /// An expression takes the value of a part.
+    pub(crate) fn take_in(&mut self, expr: &'a TExpr, got: Got, value: Datum) -> Outcome {
+        match got {
+            Got::Nothing => self.take_condition(expr, value),
+            Got::One(left) => self.take_right(expr, left, value),
+            Got::At(spot) => self.take_at(expr, spot, value),
+            Got::AtWith(spot, right) => self.take_old(expr, spot, right, value),
+            Got::Args(count) => match expr {
+                TExpr::Call { arguments, .. } => {
+                    self.wait(Pending::Value(value));
+                    self.arguments(expr, arguments, count.saturating_add(1))
+                }
+                _ => Outcome::Lost,
+            },
+            Got::Stores(_, _) | Got::Copies | Got::Passed(_) | Got::Called => Outcome::Lost,
+        }
+    }
+}
