@@ -59,7 +59,7 @@ unfoldable mutual
   statement_nodes (InitScalar local value line) = 1 + nodes_in value
   statement_nodes (InitList local items line) = 1 + items_nodes items
   statement_nodes (If arms last line) = arms_nodes arms + last_nodes last
-  statement_nodes (Loop form begin condition step body line) = 1 + (nodes_in_any begin + (nodes_in_any condition + (nodes_in_any step + statement_nodes body)))
+  statement_nodes (Loop _ begin condition step body line) = 1 + (nodes_in_any begin + (nodes_in_any condition + (nodes_in_any step + statement_nodes body)))
   statement_nodes (Switch value cases default body line) = 1 + (nodes_in value + (length cases + nodes_of_body body))
   statement_nodes (Break line) = 1
   statement_nodes (Continue line) = 1
