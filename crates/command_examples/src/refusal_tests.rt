@@ -179,6 +179,58 @@ fn blocks_fill_pages(rt: HostRuntime) -> Result<(), Fail> {
     Ok(())
 }
 
+// Of two blocks over a page the one is told whose function is defined first, though code has main's before the handler's.
+#[test]
+fn the_first_function_over_a_page(rt: HostRuntime) -> Result<(), Fail> {
+    let alloc = rt.alloc();
+    let store = "PORTB=5;";
+    let (main, handler) = ("void main(void){", "void interrupt h(void){");
+    check_parts(
+        &rt,
+        alloc,
+        &[
+            (handler, 1),
+            (store, 147),
+            ("}", 1),
+            (main, 1),
+            (store, 147),
+            ("}", 1),
+        ],
+        "a.c: error 11: page h 2062\n",
+    )?;
+    check_parts(
+        &rt,
+        alloc,
+        &[
+            (main, 1),
+            (store, 147),
+            ("}", 1),
+            (handler, 1),
+            (store, 148),
+            ("}", 1),
+        ],
+        "a.c: error 11: page main 2062\n",
+    )?;
+    // a function that both roots reach stands in front of them
+    check_parts(
+        &rt,
+        alloc,
+        &[
+            ("void f(void){", 1),
+            (store, 148),
+            ("}", 1),
+            (handler, 1),
+            (store, 147),
+            ("f();}", 1),
+            (main, 1),
+            (store, 147),
+            ("f();}", 1),
+        ],
+        "a.c: error 11: page f 2076\n",
+    )?;
+    Ok(())
+}
+
 #[test]
 fn texts_at_the_limits(rt: HostRuntime) -> Result<(), Fail> {
     let alloc = rt.alloc();

@@ -219,3 +219,34 @@ fn each_fault_ends_a_trace(rt: HostRuntime) -> Result<(), Failure> {
     assert!(rt; false, "some call is the last");
     Ok(())
 }
+
+// A peripheral's flag stands in PIR1 and its enable bit in PIE1, and PEIE of INTCON enables all of them.
+#[test]
+fn a_peripheral_interrupts(rt: HostRuntime) -> Result<(), Failure> {
+    let alloc = rt.alloc();
+    let cases = [
+        Case {
+            line: TRACE,
+            text: Some(
+                "void interrupt h(void){TMR1IF=0;PORTB=1;}void main(void){TMR1IE=1;PEIE=1;GIE=1;PORTA=2;}",
+            ),
+            script: Some("at 6 TMR1IF"),
+            status: 0,
+            printed: "R PIE1 00\nW PIE1 01\nR INTCON 00\nW INTCON 40\nR INTCON 40\nW INTCON C0\n\
+R PIR1 01\nW PIR1 00\nW PORTB 01\nW PORTA 02\nEnd\n",
+        },
+        Case {
+            line: TRACE,
+            text: Some(
+                "void interrupt h(void){TMR1IF=0;PORTB=1;}void main(void){TMR1IE=1;GIE=1;PORTA=2;}",
+            ),
+            script: Some("at 4 TMR1IF"),
+            status: 0,
+            printed: "R PIE1 00\nW PIE1 01\nR INTCON 00\nW INTCON 80\nW PORTA 02\nEnd\n",
+        },
+    ];
+    for case in &cases {
+        check(&rt, alloc, *case)?;
+    }
+    Ok(())
+}

@@ -11,8 +11,8 @@ use Rattle.pic_chip.specs.Run.{IsStart, Setting, moment, is_handling, takes}
 use Rattle.pic_chip.specs.declared.Root.TheVariants.{Main}
 use Rattle.picc_cli.specs.declared.program.Assignment.{Assignment}
 use Rattle.pic_map.specs.MapContent.{FrameLine, ObjectLine}
-use Rattle.picc_cli.specs.Headline.{IsFrontOf, ComesTo, Follows, IsFaithful, setting_of, is_guarded}
-use Rattle.picc_cli.specs.PortProgram.{AllFit, events_of, source_of}
+use Rattle.picc_core.specs.Headline.{IsFrontOf, ComesTo, HasNext, Follows, IsFaithful, setting_of, is_guarded}
+use Rattle.picc_cli.specs.PortProgram.{AllFit, events_of, run_of, source_of}
 use Rattle.picc_cli.specs.PortCode.{HasCode, map_of}
 use Rattle.picc_cli.proofs.Ticks.{not_due}
 use Rattle.picc_cli.proofs.Stages.{Stage, AtReset, ToLoad, ToSelect, ToStore, AtOnce, Halted, made_by, has_met, IsWhen, Stands, Count, counts, stands}
@@ -47,9 +47,9 @@ never : (b : Bool) → b ≡ false → b ≡ true → ⊥
 never b f t = cc
 
 -- an assignment takes three instructions, and the last one leads to the end
-fast : (j m long n t before now : ℕ) → min j (long + 1) ≡ before → before ≤ long + 1 → (before ≤ long → 3 * before ≤ t) → (before ≡ long + 1 → 1 + 3 * long ≤ t)
-    → now ≤ long + 1 → (now ≤ long → n ≤ 3 * now + 3) → t ≤ n → 8192 * (m + 1) ≤ n - t → min (j + m) (long + 1) ≤ now
-fast j m long n t before now least most early over bound late order enough =
+fast : (i m long n t before now : ℕ) → i ≤ before + m → before ≤ long + 1 → (before ≤ long → 3 * before ≤ t) → (before ≡ long + 1 → 1 + 3 * long ≤ t)
+    → now ≤ long + 1 → (now ≤ long → n ≤ 3 * now + 3) → t ≤ n → 8192 * (m + 1) ≤ n - t → min i (long + 1) ≤ now
+fast i m long n t before now next most early over bound late order enough =
     ⊎_elim
     (λ going. ⊎_elim
     (λ began. let e = early (omega arith) in let l = late (omega arith) in omega arith)
@@ -87,16 +87,29 @@ module _ (assignments : List Assignment) (image inputs : List ℕ) (few : length
   prefix : (n : ℕ) → (k : ℕ) × IsFrontOf (moment run n).trace (take k all)
   prefix n = (made_at n, subst (λ es. IsFrontOf es (take (made_at n) all)) (sym (trace_is n)) (front all (made_at n) (made_at n) (omega arith)))
 
-  pace : (n t m j : ℕ) → t ≤ n → 8192 * (m + 1) ≤ n - t → ComesTo (λ k. take k all) (length (moment run t).trace) j → IsFrontOf (take (j + m) all) (moment run n).trace
-  pace n t m j order long comes =
+  comes : (t : ℕ) → ComesTo (λ k. take k all) (length (moment run t).trace) (made_at t)
+  comes t =
+      let c = count_at t in let most = c.most in
+      let total = count_events assignments in
+      let long = length_is t in
+      record {
+        here = ap (length {A = Event}) (sym (trace_is t));
+        before = λ i below. let short = length-take-le i all (omega (arith, total)) in omega arith;
+      }
+
+  pace : (n t m : ℕ) → t ≤ n → 8192 * (m + 1) ≤ n - t → HasNext (run_of assignments) (length (moment run t).trace) m (moment run n).trace
+  pace n t m order long =
       let total = count_events assignments in
       let before = count_at t in
       let now = count_at n in
-      let here : length (take j all) ≡ made_at t = comes.here ∙ length_is t in
-      let least : min j (length assignments + 1) ≡ made_at t = ap (min j) (sym total) ∙ sym (length-take j all) ∙ here in
-      let enough : min (j + m) (length all) ≤ made_at n =
-      rw total (fast j m (length assignments) n t (made_at t) (made_at n) least before.most before.not_early before.after_all now.most now.not_late order long) in
-      subst (IsFrontOf (take (j + m) all)) (sym (trace_is n)) (front_by all (j + m) (made_at n) enough)
+      record {
+        from = made_at t;
+        comes = comes t;
+        all = λ i next.
+            let enough : min i (length all) ≤ made_at n =
+            rw total (fast i m (length assignments) n t (made_at t) (made_at n) next before.most before.not_early before.after_all now.most now.not_late order long) in
+            subst (IsFrontOf (take i all)) (sym (trace_is n)) (front_by all i (made_at n) enough);
+      }
 
   -- no handler runs
   calm_at : (k mask : ℕ) → is_handling mask (moment run k) ≡ false
@@ -113,7 +126,7 @@ module _ (assignments : List Assignment) (image inputs : List ℕ) (few : length
   pub follows : Follows (source_of assignments) (map_of assignments) run
   follows = record {
     prefix = λ n clean. prefix n;
-    pace = λ n t m j clean order quiet long comes. pace n t m j order long comes;
+    pace = λ n t m clean order quiet long. pace n t m order long;
     end_state = λ n i k line clean met is. absurd (no_line i line is);
     no_underflow = λ n k clean order. let pops = (at k).at.calm.pops in omega arith;
     no_overflow = λ n k clean order. let pushes = (at k).at.calm.pushes in omega arith;
@@ -127,8 +140,7 @@ module _ (assignments : List Assignment) (image inputs : List ℕ) (few : length
 pub faithful : (assignments : List Assignment) (image : List ℕ) → length assignments ≤ 146 → AllFit assignments → HasCode image assignments → IsFaithful (source_of assignments) (map_of assignments) image
 faithful assignments image few fit code = record {
   words = code.modelled;
-  objects = refl;
-  copies = refl;
+  mapped = (refl, refl);
   main = omega arith;
   halt = omega arith;
   apart = λ i j x y other first second together. absurd (only_one i j x y other first second);

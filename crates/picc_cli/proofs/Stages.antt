@@ -11,12 +11,12 @@ use Rattle.pic_chip.specs.State.{State, AtPc, AtW}
 use Rattle.pic_chip.specs.Act.{Effect, effect, made}
 use Rattle.pic_chip.specs.Instructions.{row, to, following, part}
 use Rattle.pic_chip.specs.Interrupts.{arriving}
-use Rattle.pic_chip.specs.Run.{IsStart, events_of as shown, Setting, Watch, Moment, moment, first_moment, observed, stepped}
+use Rattle.pic_chip.specs.Run.{IsStart, events_of as shown, Setting, Watch, Moment, moment, first_moment, next_moment, observed, stepped}
 use Rattle.picc_cli.specs.declared.program.Assignment.{Assignment}
 use Rattle.picc_cli.specs.declared.program.Side.{Side}
 use Rattle.picc_cli.specs.declared.program.Side.TheVariants.{Port, Tris}
 use Rattle.pic_map.specs.MapContent.{watch_of}
-use Rattle.picc_cli.specs.Headline.{setting_of}
+use Rattle.picc_core.specs.Headline.{setting_of}
 use Rattle.picc_cli.specs.PortProgram.{IsFine, AllFit, address, event_of, events_of}
 use Rattle.picc_cli.specs.PortCode.{HasCode, select, main_address, halt_address, map_of}
 use Rattle.picc_cli.proofs.Ticks.{IsCalm, flagged, gie_stays, behind, steps, bank_of, stores, shows, selects, select_notes}
@@ -79,6 +79,7 @@ module _ (assignments : List Assignment) where
     pub ended : m.ended ≡ has_ended stage
     pub trace : m.trace ≡ take (made_by stage) (events_of assignments)
     pub early : m.early ≡ []
+    pub stopped : m.stopped ≡ false
     pub handling : m.handling ≡ false
     pub calm : IsCalm m.state
     pub holds : Holds stage m.state
@@ -168,7 +169,7 @@ module _ (assignments : List Assignment) (image inputs : List ℕ) (few : length
       let f : IsFine a = fine assignments i a fit found.1 in
       let words = code.each i a found.1 in
       let e = effect (row inputs (5 + 3 * i) (Movlw a.value)) (flagged mask m.state) in
-      let one = steps image inputs (5 + 3 * i) mask (Movlw a.value) m at.calm.gie at.handling at.pc f.1 words.load in
+      let one = steps image inputs (5 + 3 * i) mask (Movlw a.value) m code.modelled (omega arith) at.calm.gie at.handling at.pc f.1 words.load in
       let away : (behind mask m e).state.pc ≢ halt_address assignments = omega arith in
       let two = passes assignments (behind mask m e) at.met away in
       subst (Stands assignments (suc k)) (sym (ap (observed (watch assignments)) one ∙ two)) (record {
@@ -180,6 +181,7 @@ module _ (assignments : List Assignment) (image inputs : List ℕ) (few : length
           ended = at.ended;
           trace = trace_on mask m e at.met ∙ append-nil m.trace ∙ at.trace;
           early = early_on mask m e at.met ∙ at.early;
+          stopped = refl;
           handling = refl;
           calm = calm_on mask m.state ((5 + 3 * i + 1) % 8192) a.value at.calm;
           holds = λ b h. let same : a ≡ b = cc (found.1, h) in ap (λ (x : Assignment). x.value) same;
@@ -199,7 +201,7 @@ module _ (assignments : List Assignment) (image inputs : List ℕ) (few : length
       let words = code.each i a found.1 in
       let t = flagged mask m.state in
       let e = effect (row inputs p (select a.side)) t in
-      let one = steps image inputs p mask (select a.side) m at.calm.gie at.handling at.pc (fits_select a.side) words.bank in
+      let one = steps image inputs p mask (select a.side) m code.modelled (omega arith) at.calm.gie at.handling at.pc (fits_select a.side) words.bank in
       let chosen = selects inputs a.side p t (calm_on mask m.state m.state.pc m.state.w at.calm) in
       let pc = chosen.pc in
       let away : (behind mask m e).state.pc ≢ halt_address assignments = omega arith in
@@ -213,6 +215,7 @@ module _ (assignments : List Assignment) (image inputs : List ℕ) (few : length
           ended = at.ended;
           trace = trace_on mask m e at.met ∙ ap (λ es. m.trace ++ es) (select_notes inputs a.side p t) ∙ append-nil m.trace ∙ at.trace;
           early = early_on mask m e at.met ∙ at.early;
+          stopped = refl;
           handling = refl;
           calm = chosen.calm;
           holds = λ b h.
@@ -234,7 +237,7 @@ module _ (assignments : List Assignment) (image inputs : List ℕ) (few : length
       let held = at.holds a found.1 in
       let shape = stores inputs a.side a.port a.value p t f.0 held.1 in
       let e : Effect = record { writes = to AtPc (following p) ∷ []; notes = record { write = true; address = address a; value = part AtW } ∷ [] } in
-      let one = steps image inputs p mask (Movwf (a.port + 5)) m at.calm.gie at.handling at.pc (omega arith) words.store ∙ ap (behind mask m) shape in
+      let one = steps image inputs p mask (Movwf (a.port + 5)) m code.modelled (omega arith) at.calm.gie at.handling at.pc (omega arith) words.store ∙ ap (behind mask m) shape in
       let b = behind mask m e in
       let trace : b.trace ≡ take (suc i) (events_of assignments) =
       trace_on mask m e at.met ∙ ap (λ es. m.trace ++ es) (shows a.side a.port a.value t f.0 held.0) ∙ ap (λ es. es ++ event_of a ∷ []) at.trace ∙ next_event assignments i a found.1 in
@@ -249,6 +252,7 @@ module _ (assignments : List Assignment) (image inputs : List ℕ) (few : length
           ended = at.ended;
           trace = trace;
           early = early_on mask m e at.met ∙ at.early;
+          stopped = refl;
           handling = refl;
           calm = calm_on mask m.state ((p + 1) % 8192) m.state.w at.calm;
           holds = tt;
@@ -266,6 +270,7 @@ module _ (assignments : List Assignment) (image inputs : List ℕ) (few : length
           ended = refl;
           trace = ap (λ es. es ++ events.End ∷ []) (trace ∙ ap (λ n. take n (events_of assignments)) all) ∙ last_event assignments ∙ ap (λ n. take n (events_of assignments)) (sym (add-one (length assignments)));
           early = early_on mask m e at.met ∙ at.early;
+          stopped = refl;
           handling = refl;
           calm = calm_on mask m.state ((p + 1) % 8192) m.state.w at.calm;
           holds = tt;
@@ -280,7 +285,7 @@ module _ (assignments : List Assignment) (image inputs : List ℕ) (few : length
   starts : (k mask : ℕ) (m : Moment) → At assignments AtReset k m → Stands assignments (suc k) (next mask m)
   starts k mask m at =
       let e = effect (row inputs 0 (Goto main_address)) (flagged mask m.state) in
-      let one = steps image inputs 0 mask (Goto main_address) m at.calm.gie at.handling at.pc (omega arith) code.from_reset in
+      let one = steps image inputs 0 mask (Goto main_address) m code.modelled (omega arith) at.calm.gie at.handling at.pc (omega arith) code.from_reset in
       let page = at.calm.page in
       let b = behind mask m e in
       let here : b.state.pc ≡ main_address = omega arith in
@@ -291,12 +296,12 @@ module _ (assignments : List Assignment) (image inputs : List ℕ) (few : length
       let some = λ (h : 0 < length assignments).
       (let x : Stands assignments (suc k) (next mask m) = subst (Stands assignments (suc k)) (sym (ap (observed (watch assignments)) one ∙ two)) (record {
         stage = ToLoad 0;
-        at = record { when = (h, omega arith); pc = here; met = refl; ended = at.ended; trace = trace; early = early; handling = refl; calm = calm; holds = tt };
+        at = record { when = (h, omega arith); pc = here; met = refl; ended = at.ended; trace = trace; early = early; stopped = refl; handling = refl; calm = calm; holds = tt };
       }) in x) in
       let none = λ (h : length assignments ≤ 0).
       (let x : Stands assignments (suc k) (next mask m) = subst (Stands assignments (suc k)) (sym (ap (observed (watch assignments)) one ∙ two)) (record {
         stage = AtOnce;
-        at = record { when = (omega arith, omega arith); pc = omega arith; met = refl; ended = at.ended; trace = trace; early = early; handling = refl; calm = calm; holds = tt };
+        at = record { when = (omega arith, omega arith); pc = omega arith; met = refl; ended = at.ended; trace = trace; early = early; stopped = refl; handling = refl; calm = calm; holds = tt };
       }) in x) in
       ⊎_elim some none (cases_lt 0 (length assignments))
 
@@ -305,7 +310,7 @@ module _ (assignments : List Assignment) (image inputs : List ℕ) (few : length
   ends_at_once k mask m at =
       let halt = halt_address assignments in
       let e = effect (row inputs halt (Goto halt)) (flagged mask m.state) in
-      let one = steps image inputs halt mask (Goto halt) m at.calm.gie at.handling at.pc halt_small code.halt in
+      let one = steps image inputs halt mask (Goto halt) m code.modelled (omega arith) at.calm.gie at.handling at.pc halt_small code.halt in
       let page = at.calm.page in
       let b = behind mask m e in
       let here : b.state.pc ≡ halt = omega arith in
@@ -319,6 +324,7 @@ module _ (assignments : List Assignment) (image inputs : List ℕ) (few : length
           ended = refl;
           trace = ap (λ es. es ++ events.End ∷ []) (trace_on mask m e at.met ∙ append-nil m.trace ∙ at.trace ∙ ap (λ n. take n (events_of assignments)) (sym empty)) ∙ last_event assignments ∙ ap (λ n. take n (events_of assignments)) (sym (add-one (length assignments)));
           early = early_on mask m e at.met ∙ at.early;
+          stopped = refl;
           handling = refl;
           calm = calm_on mask m.state (m.state.pclath / 8 % 4 * 2048 + halt) m.state.w at.calm;
           holds = tt;
@@ -330,7 +336,7 @@ module _ (assignments : List Assignment) (image inputs : List ℕ) (few : length
   idles k mask m at =
       let halt = halt_address assignments in
       let e = effect (row inputs halt (Goto halt)) (flagged mask m.state) in
-      let one = steps image inputs halt mask (Goto halt) m at.calm.gie at.handling at.pc halt_small code.halt in
+      let one = steps image inputs halt mask (Goto halt) m code.modelled (omega arith) at.calm.gie at.handling at.pc halt_small code.halt in
       let page = at.calm.page in
       let b = behind mask m e in
       let here : b.state.pc ≡ halt = omega arith in
@@ -344,6 +350,7 @@ module _ (assignments : List Assignment) (image inputs : List ℕ) (few : length
           ended = at.ended;
           trace = trace_on mask m e at.met ∙ append-nil m.trace ∙ at.trace;
           early = early_on mask m e at.met ∙ at.early;
+          stopped = refl;
           handling = refl;
           calm = calm_on mask m.state (m.state.pclath / 8 % 4 * 2048 + halt) m.state.w at.calm;
           holds = tt;
@@ -374,13 +381,22 @@ module _ (assignments : List Assignment) (image inputs : List ℕ) (few : length
             ended = refl;
             trace = refl;
             early = refl;
+            stopped = refl;
             handling = refl;
             calm = record { gie = refl; z = omega arith; dc = omega arith; c = omega arith; bank = omega arith; page = refl; pushes = refl; pops = refl };
             holds = tt;
           };
         }
 
+    -- the run has not ended
+    goes : (mask : ℕ) (m : Moment) → m.stopped ≡ false → next_moment image inputs (watch assignments) mask m ≡ next mask m
+    goes mask m on = ap (λ (b : Bool). if b then m else next mask m) on
+
     pub stands : (k : ℕ) → Stands assignments k (moment run k)
     unfolding moment
     stands zero = first
-    stands (suc k) = let before = stands k in goes_on k (arriving arrivals k) (moment run k) before.stage before.at
+    stands (suc k) =
+        let before = stands k in
+        let mask = arriving arrivals k in
+        let m = moment run k in
+        subst (Stands assignments (suc k)) (sym (goes mask m before.at.stopped)) (goes_on k mask m before.stage before.at)

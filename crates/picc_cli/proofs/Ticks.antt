@@ -1,5 +1,5 @@
 -- One instruction of a program that assigns constants to ports.
-use Rattle.std.proofs.Common.{◌≡◌, ℕ, zero, suc, ◌+◌, ◌%◌, ◌<◌, Bool, true, false, not, max, List, [], ◌∷◌, ◌++◌, slice_index, refl, ap, ◌∙◌, arith}
+use Rattle.std.proofs.Common.{◌≡◌, ℕ, zero, suc, ◌+◌, ◌/◌, ◌%◌, ◌<◌, Bool, true, false, not, max, List, [], ◌∷◌, ◌++◌, slice_index, refl, ap, ◌∙◌, arith}
 use Rattle.std.specs.Prelude.{bit_or, ◌&&◌, ◌||◌, if◌then◌else◌}
 use Rattle.std.proofs.lemmas.Nat.Bits.{bit_at_or, bit_at_above}
 use Rattle.pic_isa.specs.declared.Ins.{Ins}
@@ -9,8 +9,9 @@ use Rattle.pic_isa.specs.Lookup.{row_of}
 use Rattle.pic_isa.proofs.Rows.{of_word}
 use Rattle.pic_chip.specs.State.{State, AtPc, AtW}
 use Rattle.pic_chip.specs.Act.{Effect, effect, perform, apply, made, accesses}
-use Rattle.pic_chip.specs.Instructions.{to, part, row, act_of, execute, fetched, is_return_from_interrupt, bit, following}
-use Rattle.pic_chip.specs.Interrupts.{raised, begun, is_due}
+use Rattle.pic_chip.specs.Instructions.{to, part, row, act_of, execute, fetched, is_modelled, is_return_from_interrupt, bit, following}
+use Rattle.pic_chip.specs.Control.{is_due}
+use Rattle.pic_chip.specs.Interrupts.{raised, begun, control_of}
 use Rattle.pic_chip.specs.Run.{Moment, stepped, takes, is_handling, events_of, registers_of}
 use Rattle.picc_cli.specs.declared.program.Side.{Side}
 use Rattle.picc_cli.specs.declared.program.Side.TheVariants.{Port, Tris}
@@ -29,14 +30,15 @@ pub record IsCalm (s : State) : Type 0 where
   pub pops : s.pops ≡ 0
 
 abbrev pub flagged : ℕ → State → State
-flagged mask s = record s { intcon = bit_or s.intcon (mask % 8) }
+flagged mask s = record s { intcon = bit_or s.intcon (mask % 8); pir1 = bit_or s.pir1 (mask / 8 % 256) }
 
 pub gie_stays : (x mask : ℕ) → bit x 7 ≡ 0 → bit (bit_or x (mask % 8)) 7 ≡ 0
 gie_stays x mask h =
     let b = bit_at_above (mask % 8) 3 7 (omega arith) (omega arith) in
     bit_at_or x (mask % 8) 7 ∙ ap (λ v. max v (bit (mask % 8) 7)) h ∙ ap (λ v. max 0 v) b
 
-pub not_due : (mask : ℕ) (s : State) → bit s.intcon 7 ≡ 0 → is_due (raised mask s).intcon ≡ false
+pub not_due : (mask : ℕ) (s : State) → bit s.intcon 7 ≡ 0 → is_due (control_of (raised mask s)) ≡ false
+unfolding is_due
 not_due mask s h = let e = gie_stays s.intcon mask h in rw e refl
 
 pub calm_begins : (mask : ℕ) (s : State) → bit s.intcon 7 ≡ 0 → begun mask s ≡ flagged mask s
@@ -52,27 +54,35 @@ behind mask m e =
     let t = flagged mask m.state in
     record m {
       state = apply e.writes t t;
+      stopped = false;
       handling = false;
       early = if m.met then m.early else m.early ++ registers_of (made e.notes t);
       trace = if m.met then m.trace ++ events_of [] (made e.notes t) else m.trace;
     }
 
-pub steps : (image inputs : List ℕ) (p mask : ℕ) (i : Ins) (m : Moment) → bit m.state.intcon 7 ≡ 0 → m.handling ≡ false → m.state.pc ≡ p → IsWellFormed i → slice_index image p ≡ word_of i
+-- the word that stands there is modelled
+goes : (image : List ℕ) (p : ℕ) (t : State) → ((at : ℕ) → at < 8192 → is_modelled (row_of (slice_index image at)) ≡ true) → t.pc ≡ p → p < 8192 → not (is_modelled (fetched image t)) ≡ false
+goes image p t modelled at low = ap (λ q. not (is_modelled (row_of (slice_index image q)))) at ∙ ap not (modelled p low)
+
+pub steps : (image inputs : List ℕ) (p mask : ℕ) (i : Ins) (m : Moment) → ((at : ℕ) → at < 8192 → is_modelled (row_of (slice_index image at)) ≡ true) → p < 8192
+    → bit m.state.intcon 7 ≡ 0 → m.handling ≡ false → m.state.pc ≡ p → IsWellFormed i → slice_index image p ≡ word_of i
     → stepped image inputs [] mask m ≡ behind mask m (effect (row inputs p i) (flagged mask m.state))
-steps image inputs p mask i m gie calm at fits h =
+steps image inputs p mask i m modelled low gie calm at fits h =
     let t = flagged mask m.state in
     let word : slice_index image t.pc ≡ word_of i = ap (slice_index image) at ∙ h in
     let e : effect (execute image inputs) t ≡ effect (row inputs p i) t = fetches image inputs t i fits word ∙ ap (λ q. effect (row inputs q i) t) at in
-    let after = λ (s : State) (handling : Bool).
+    let after = λ (s : State) (stopped handling : Bool).
     (let made = accesses (execute image inputs) s in
     let x : Moment = record m {
       state = perform (execute image inputs) s;
+      stopped = stopped;
       handling = handling && not (is_return_from_interrupt (fetched image s));
       early = if m.met then m.early else m.early ++ registers_of made;
       trace = if m.met then m.trace ++ events_of [] made else m.trace;
     } in x) in
     let due : is_handling mask m ≡ false = ap (λ b. b || takes mask m) calm ∙ not_due mask m.state gie in
-    ap (λ s. after s (is_handling mask m)) (calm_begins mask m.state gie) ∙ ap (after t) due ∙ ap (behind mask m) e
+    ap (λ s. after s (not (is_modelled (fetched image s))) (is_handling mask m)) (calm_begins mask m.state gie)
+    ∙ ap (λ b. after t b (is_handling mask m)) (goes image p t modelled at low) ∙ ap (after t false) due ∙ ap (behind mask m) e
 
 -- ---- what the four instructions do
 abbrev pub bank_of : Side → ℕ

@@ -1,4 +1,3 @@
-pub mod Headline
 pub mod PortProgram
 pub mod PortCode
 pub mod Built

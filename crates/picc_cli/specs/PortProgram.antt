@@ -8,7 +8,7 @@ use Rattle.picc_cli.specs.declared.program.Assignment.{Assignment}
 use Rattle.picc_cli.specs.declared.program.Side.{Side}
 use Rattle.picc_cli.specs.declared.program.Side.TheVariants.{Port, Tris}
 use Rattle.pic_map.specs.MapContent.{FrameLine}
-use Rattle.picc_cli.specs.Headline.{Source, SourceRun}
+use Rattle.picc_core.specs.Headline.{Source, SourceRun}
 
 -- ---- spelling
 -- one of the ports A to E
@@ -77,7 +77,7 @@ events_of (a ∷ rest) = event_of a ∷ events_of rest
 
 -- Each assignment is one step, and so is the end of main. No schedule changes them, since GIE is never set.
 abbrev pub run_of : List Assignment → SourceRun
-run_of assignments = record { trace = λ k. take k (events_of assignments); is_defined = λ k. true }
+run_of assignments = record { trace = λ k. take k (events_of assignments); is_defined = λ k. true; steps = λ k. k }
 
 -- main's frame holds the temporary bytes of an assignment: the constant's, and two for the address
 abbrev pub frame_size : List Assignment → ℕ
@@ -91,10 +91,9 @@ frames_of assignments = record { root = Main; name = codes "main"; address = 0x2
 -- its constant and the conversion.
 abbrev pub source_of : List Assignment → Source
 source_of assignments = record {
-  objects = [];
-  frames = frames_of assignments;
-  live_together = λ i j. true;
+  IsMapped = λ objects frames. (objects ≡ []) × (frames ≡ frames_of assignments);
+  live_together = λ i j. Unit {0};
   initial = [];
   nodes = 2 + 5 * length assignments;
-  run = λ schedule inputs. run_of assignments;
+  run = λ outside. run_of assignments;
 }

@@ -4,6 +4,7 @@ use Rattle.std.specs.List.Sorted.{IsPermutation}
 use Rattle.c_typed.specs.Nodes.{capped}
 use Rattle.c_typed.specs.Trees.{Program}
 use Rattle.c_typed.specs.Words.{start_size}
+use Rattle.call_graph.specs.Copies.{AreCopies}
 use Rattle.call_graph.specs.declared.types.FnCopy.{FnCopy}
 use Rattle.code_place.specs.Pages.{addresses}
 use Rattle.ram_place.specs.Sizes.{block_words}
@@ -25,6 +26,15 @@ pub record HasBlocks (p : Program) (copies : List FnCopy) (at : List ℕ) (words
   pub order : List FnCopy
   pub same : IsPermutation copies order
   pub placed : at ≡ addresses (sizes p order)
+  pub sum : words ≡ sum (sizes p order)
+  pub within : words ≤ 8192
+
+-- so many words are stated of a program: those of the start block and of the blocks of its copies
+pub record HasWords (p : Program) (words : ℕ) : Type 0 where
+  pub copies : List FnCopy
+  pub known : AreCopies p copies
+  pub order : List FnCopy
+  pub same : IsPermutation copies order
   pub sum : words ≡ sum (sizes p order)
   pub within : words ≤ 8192
 

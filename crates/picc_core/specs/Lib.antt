@@ -4,3 +4,6 @@ pub mod Answers
 pub mod Blocks
 pub mod Compiled
 pub mod Agreement
+pub mod Headline
+pub mod SourceOf
+pub mod Accepted

@@ -1,6 +1,6 @@
 //! From a text to the image of its program and the map of its memory.
 
-ghost use Rattle.std.specs.Prelude.{◌≡◌, ◌<◌, length, map, None, Err, IfOk, IfErr};
+ghost use Rattle.std.specs.Prelude.{◌≡◌, ◌<◌, ◌≤◌, length, map, None, Err, IfOk, IfErr};
 ghost use Rattle.c_typed.specs.Chains.{graph_of};
 ghost use Rattle.c_typed.specs.Roots.{broken_root};
 ghost use Rattle.c_typed.specs.Views.{program_of};
@@ -9,6 +9,7 @@ ghost use Rattle.pic_map.specs.MapText.{AreInRange};
 ghost use Rattle.pic_map.specs.MapView.{content_of, object_of, frame_of};
 ghost use Rattle.ram_place.specs.Placement.{addresses_covered};
 ghost use Rattle.picc_core.specs.Answers.{IsRefusedUnless, TellsError};
+ghost use Rattle.picc_core.specs.Blocks.{HasWords};
 ghost use Rattle.picc_core.specs.Compiled.{IsPlaced, IsWithinDepth};
 ghost use Rattle.picc_core.specs.Texts.{program_tokens, HasTree};
 ghost use Rattle.picc_core.specs.declared.refusal.CompileError.TheVariants.{NoMemory, Refused};
@@ -136,6 +137,7 @@ fn built(alloc: Global, front: Front) -> Result<Built, AllocError>
 fn checked(built: Built) -> Result<Built, CompileError>
     ensures same { IfOk result (λ checked. checked ≡ built) }
     ensures written { IfOk result (λ checked. AreInRange (content_of checked.map)) }
+    ensures few { IfOk result (λ checked. length checked.map.objects.items ≤ 65536) }
     ensures told { IfErr result (λ error. error ≡ NoMemory) }
 {
     if can_be_written(&built.map) {
@@ -165,6 +167,10 @@ pub fn compile(alloc: Global, text: &[u8]) -> Result<Built, CompileError>
     ensures map { IfOk result (λ built. IsPlaced (program_of built.typed) (map object_of built.map.objects.items) (map frame_of built.map.frames.items)) }
     // A map file can tell that map.
     ensures written { IfOk result (λ built. AreInRange (content_of built.map)) }
+    // This is the sum of the stated words of all blocks.
+    ensures words { IfOk result (λ built. HasWords (program_of built.typed) built.words) }
+    // It has few objects.
+    ensures few { IfOk result (λ built. length built.map.objects.items ≤ 65536) }
     // Each address that is covered is counted once.
     ensures ram { IfOk result (λ built. built.ram ≡ addresses_covered (map object_of built.map.objects.items) (map frame_of built.map.frames.items)) }
 {

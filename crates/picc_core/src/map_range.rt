@@ -1,6 +1,6 @@
 //! Whether a map is one that a map file can tell.
 
-ghost use Rattle.std.specs.Prelude.{◌≡◌, IsTrue, map};
+ghost use Rattle.std.specs.Prelude.{◌≡◌, ◌≤◌, IsTrue, length, map};
 ghost use Rattle.std.specs.List.{AllPass};
 ghost use Rattle.pic_map.specs.MapFile.{is_name_byte};
 ghost use Rattle.pic_map.specs.MapText.{AreInRange, AreObjects, AreFrames, IsPlaced};
@@ -13,6 +13,9 @@ const DATA_MEMORY: u16 = 0x200;
 
 /// The addresses of program memory are below this one.
 const PROGRAM_MEMORY: u16 = 0x2000;
+
+/// The most lines of objects. Each object has a byte of data memory of its own, so no program has more.
+const MOST_OBJECTS: usize = 65_536;
 
 /// The most bytes that an object or a frame has.
 const MOST_BYTES: u16 = 352;
@@ -62,10 +65,12 @@ fn are_frames(frames: &[FrameLine]) -> bool
 
 /// Whether addresses, sizes and names are such as a map file can have.
 pub(crate) fn can_be_written(map: &Map) -> bool
-    ensures { IsTrue result → AreInRange (content_of map.now) }
+    ensures written { IsTrue result → AreInRange (content_of map.now) }
+    ensures few { IsTrue result → length map.now.objects.items ≤ 65536 }
 {
     map.main < PROGRAM_MEMORY
         && map.halt < PROGRAM_MEMORY
+        && map.objects.len() <= MOST_OBJECTS
         && are_objects(&map.objects)
         && are_frames(&map.frames)
 }

@@ -21,12 +21,28 @@ pub(crate) enum Going {
     Fault(Fault),
 }
 
-/// A stretch of main: its steps behind so many of its events, up to the next one. So many of them are known to be defined;
-/// none follows them where main has the next event there.
+/// A step of this number, counted from 0, that is undefined.
+#[derive(Clone, Copy, PartialEq, Eq, Debug)]
+pub(crate) struct FaultAt {
+    pub step: u64,
+    pub fault: Fault,
+}
+
+/// What follows the steps that are known of a stretch: nothing, since the last of them makes main's next event; an undefined
+/// step; or what wasn't looked at.
+#[derive(Clone, Copy, PartialEq, Eq, Debug)]
+pub(crate) enum StretchEnd {
+    Event,
+    Fault(Fault),
+    Open,
+}
+
+/// A stretch of main: its steps behind so many of its events, up to the next one. So many of them are known to be defined.
 #[derive(Clone, Copy, PartialEq, Eq, Debug)]
 pub(crate) struct Stretch {
     pub behind: u64,
-    pub defined: u64,
+    pub steps: u64,
+    pub end: StretchEnd,
 }
 
 /// A source run from its start.
@@ -36,10 +52,12 @@ pub(crate) struct SourceRun<'a> {
     /// The steps of main and the handler together, and the events.
     pub steps: u64,
     pub events: u64,
-    /// Main's events, and its steps since the last of them.
+    /// Main's events, its steps since the last of them, and how many it took for that one.
     behind: u64,
     since: u64,
-    /// The last step was main's, and made no event.
+    last: u64,
+    /// The last step was main's; and it made no event.
+    by_main: bool,
     local: bool,
 }
 
@@ -55,7 +73,23 @@ impl<'a> SourceRun<'a> {
             events: 0,
             behind: 0,
             since: 0,
+            last: 0,
+            by_main: false,
             local: false,
+        })
+    }
+
+    /// The run once more, at the same place.
+    pub fn copy(&self) -> Result<SourceRun<'a>, AllocError> {
+        Ok(SourceRun {
+            source: self.source.copy()?,
+            steps: self.steps,
+            events: self.events,
+            behind: self.behind,
+            since: self.since,
+            last: self.last,
+            by_main: self.by_main,
+            local: self.local,
         })
     }
 
@@ -92,52 +126,58 @@ impl<'a> SourceRun<'a> {
         if self.local {
             self.since = self.since.saturating_add(1);
         } else if by_main {
+            self.last = self.since.saturating_add(1);
             self.behind = self.behind.saturating_add(1);
             self.since = 0;
         }
+        self.by_main = by_main;
     }
 
-    /// Whether main is in this stretch, and so many steps more are known to be defined, or the stretch ends before.
+    /// How many steps main has taken since its last event.
+    pub fn since(&self) -> u64 {
+        self.since
+    }
+
+    /// Whether main is in this stretch.
     ///
     /// What main does from one of its events to the next depends on its own variables and on constants alone. The handler
     /// changes neither: an access to a variable of main is undefined there. And what belongs to the handler lives no longer
     /// when main goes on. So the stretch is the same in each run that is the same up to its first event, whatever runs of
     /// the handler lie in between. While main makes no event no flag changes. So behind a step of main without an event
     /// no run of the handler begins before main's next event.
-    pub fn is_known(&self, stretch: Stretch, more: u64) -> bool {
-        self.local
-            && self.behind == stretch.behind
-            && self.since.saturating_add(more) <= stretch.defined
+    pub fn is_in(&self, stretch: Stretch) -> bool {
+        self.local && self.behind == stretch.behind
     }
 
-    /// Goes on in main's stretch for so many steps at most, and tells what is known of it then.
-    pub fn look_ahead(&mut self, schedule: &Script, most: u64) -> Option<Stretch> {
-        if !self.local {
-            return None;
+    /// The stretch that main is in, or the one that its last step ended.
+    pub fn stretch(&self) -> Option<Stretch> {
+        if self.local {
+            Some(self.stretch_with(StretchEnd::Open))
+        } else if self.by_main {
+            Some(Stretch {
+                behind: self.behind.saturating_sub(1),
+                steps: self.last,
+                end: StretchEnd::Event,
+            })
+        } else {
+            None
         }
-        let behind = self.behind;
-        for _ in 0..most {
-            match self.step(schedule) {
-                Going::Went => {
-                    if !self.local {
-                        return Some(whole(behind));
-                    }
-                }
-                Going::Idle => return Some(whole(behind)),
-                Going::Fault(_) => break,
-            }
-        }
-        Some(Stretch {
-            behind,
-            defined: self.since,
-        })
     }
-}
 
-/// A stretch all of whose steps are defined.
-fn whole(behind: u64) -> Stretch {
-    Stretch {
-        behind,
-        defined: u64::MAX,
+    /// The stretch that main is in, where its next step is undefined.
+    pub fn stretch_to(&self, fault: Fault) -> Option<Stretch> {
+        if self.local {
+            Some(self.stretch_with(StretchEnd::Fault(fault)))
+        } else {
+            None
+        }
+    }
+
+    fn stretch_with(&self, end: StretchEnd) -> Stretch {
+        Stretch {
+            behind: self.behind,
+            steps: self.since,
+            end,
+        }
     }
 }

@@ -9,7 +9,7 @@ ghost use Rattle.call_graph.specs.Levels.{IsAcyclic};
 ghost use Rattle.pic_map.specs.MapView.{object_of, frame_of};
 ghost use Rattle.ram_place.specs.Placement as placement;
 ghost use Rattle.picc_core.specs.Answers.{IsRefusedUnless, TellsError};
-ghost use Rattle.picc_core.specs.Blocks.{copy_words as words_of_copy, sizes, HasBlocks, IsOfCode};
+ghost use Rattle.picc_core.specs.Blocks.{copy_words as words_of_copy, sizes, HasBlocks, IsCodeRefusal, IsOfCode};
 ghost use Rattle.picc_core.specs.Texts.{tokens_left, program_tokens, HasTree};
 ghost use Rattle.picc_core.specs.declared.refusal.CompileError.TheVariants.{NoMemory, Refused};
 ghost use Rattle.picc_core.specs.declared.refusal.LimitKind.TheVariants as kinds;
@@ -34,6 +34,9 @@ const LONGEST: usize = 262_144;
 
 /// The most functions that the call graph numbers. There is no memory for more.
 const MOST_FUNCTIONS: usize = 268_435_456;
+
+/// The words of a page of program memory.
+const PAGE_WORDS: u64 = 2048;
 
 /// The most blocks that have numbers. There is no memory for more.
 const MOST_BLOCKS: usize = 4_294_967_295;
@@ -103,22 +106,55 @@ fn words_of(alloc: Global, p: &Typed, order: &[FnCopy]) -> Result<Vec<u64>, Allo
     Ok(words)
 }
 
-/// The name of the function whose block has this number, counted from the start block. The start block and those of
-/// helpers have none.
-fn name_of(alloc: Global, p: &Typed, order: &[FnCopy], number: u32) -> Result<Vec<u8>, AllocError> {
-    let Some(place) = number.checked_sub(1) else {
-        return Ok(Vec::new(alloc));
-    };
-    let Some(copy) = order.get(place as usize) else {
-        return Ok(Vec::new(alloc));
-    };
-    let FnId::User(function) = copy.function else {
-        return Ok(Vec::new(alloc));
-    };
-    match p.functions.get(function as usize) {
+/// Of the functions whose blocks are over a page the one that is defined first, and its words. The copies are in the order of
+/// code, and of one function they have the same words. The start block and those of helpers are never over a page.
+fn first_over_page(p: &Typed, order: &[FnCopy]) -> Option<(u32, u64)> {
+    let mut first = None;
+    for copy in order {
+        if let FnId::User(number) = copy.function {
+            let words = copy_words(p, *copy);
+            if words > PAGE_WORDS && is_earlier(number, first) {
+                first = Some((number, words));
+            }
+        }
+    }
+    first
+}
+
+/// Whether a function is defined before the one that was found so far.
+fn is_earlier(number: u32, found: Option<(u32, u64)>) -> bool {
+    match found {
+        None => true,
+        Some((other, _)) => number < other,
+    }
+}
+
+fn name_of(alloc: Global, p: &Typed, number: u32) -> Result<Vec<u8>, AllocError> {
+    match p.functions.get(number as usize) {
         Some(function) => function.name.clone(),
         None => Ok(Vec::new(alloc)),
     }
+}
+
+/// The first block over a page in the order of the text, where this is the first one in the order of code.
+fn refused_page(
+    alloc: Global,
+    p: &Typed,
+    order: &[FnCopy],
+    words_in_code: u64,
+) -> Result<Refusal, AllocError>
+    ensures { IfOk result IsCodeRefusal }
+{
+    let Some((number, words)) = first_over_page(p, order) else {
+        return Ok(Refusal::Page {
+            function: Vec::new(alloc),
+            words: words_in_code,
+        });
+    };
+    Ok(Refusal::Page {
+        function: name_of(alloc, p, number)?,
+        words,
+    })
 }
 
 /// Why the blocks have no addresses.
@@ -128,8 +164,8 @@ fn refused_code(alloc: Global, p: &Typed, order: &[FnCopy], error: PageError) ->
     match error {
         PageError::NoMemory => CompileError::NoMemory,
         PageError::Code { words } => CompileError::Refused(Refusal::Code { words }),
-        PageError::Page { block, words } => match name_of(alloc, p, order, block) {
-            Ok(function) => CompileError::Refused(Refusal::Page { function, words }),
+        PageError::Page { words, .. } => match refused_page(alloc, p, order, words) {
+            Ok(refusal) => CompileError::Refused(refusal),
             Err(_) => CompileError::NoMemory,
         },
     }

@@ -11,6 +11,9 @@ use std::test::Fail;
 /// The most instructions of a test.
 const MOST: u32 = 100_000;
 
+/// The most objects of a program.
+const MOST_OBJECTS: usize = 65_536;
+
 // A sum that has no room in a char.
 const WIDE: &str = "void main(void){unsigned char a=200;unsigned char b=100;PORTB=(a+b)>>1;}";
 
@@ -25,6 +28,11 @@ const DIVIDES_LATER: &str = "void interrupt h(void){PORTC=1;INTF=0;}
 void main(void){unsigned char i;unsigned char z=0;INTCON=0x90;for(i=0;i<100;i++);
 PORTB=1/z;}";
 
+// Main's division by 0 stands behind its event that follows the loop in which the handler is called.
+const DIVIDES_BEHIND: &str = "void interrupt h(void){INTF=0;}
+void main(void){unsigned int i;unsigned char z=0;INTCON=0x90;for(i=0;i<600;i++);PORTB=1;
+PORTC=1/z;}";
+
 // Handlers that never give control back, or only for no time.
 const NEVER_ENDS: &str = "void interrupt h(void){for(;;);}void main(void){INTCON=0x90;for(;;);}";
 
@@ -32,21 +40,25 @@ const NEVER_CLEARS: &str = "void interrupt h(void){PORTB=1;}void main(void){INTC
 
 const DOES_NOTHING: &str = "void interrupt h(void){}void main(void){INTCON=0x90;for(;;);}";
 
+// A timer's flag in PIR1, with its enable bit in PIE1.
+const PERIPHERAL: &str =
+    "void interrupt h(void){TMR1IF=0;PORTB=1;}void main(void){TMR1IE=1;PEIE=1;GIE=1;PORTA=2;}";
+
 // An interrupt is enabled while its flag is set, and there is no handler.
 const NO_HANDLER: &str = "void main(void){INTE=1;
 GIE=1;
 PORTA=2;}";
 
 fn script_of(alloc: Global, arrivals: &[Arrival]) -> Result<Script, AllocError> {
-    Ok(Script {
-        input: Vec::from_slice(alloc, &[1, 0, 0, 0, 0, 1, 1, 1])?,
-        arrivals: Vec::from_slice(alloc, arrivals)?,
-    })
+    Ok(Script::new(
+        Vec::from_slice(alloc, &[1, 0, 0, 0, 0, 1, 1, 1])?,
+        Vec::from_slice(alloc, arrivals)?,
+    ))
 }
 
 fn answer(alloc: Global, program: &Built, script: &Script, n: u32) -> Result<Agreed, Fail> {
-    if n > MOST {
-        return Err(Fail::new("too many instructions"));
+    if n > MOST || program.map.objects.len() > MOST_OBJECTS {
+        return Err(Fail::new("too many instructions or objects"));
     }
     Ok(agree(alloc, program, script, n)?)
 }
@@ -124,6 +136,26 @@ fn an_arrival_before_any_instruction(rt: HostRuntime) -> Result<(), Fail> {
 }
 
 #[test]
+fn a_peripheral_interrupts(rt: HostRuntime) -> Result<(), Fail> {
+    let alloc = rt.alloc();
+    let program = built(alloc, PERIPHERAL)?;
+    let mut wrong: usize = 0;
+    for number in 0..=100u32 {
+        let arrival = Arrival {
+            t: number.saturating_mul(5),
+            flag: Flag::Tmr1if,
+        };
+        let got = answer(alloc, &program, &script_of(alloc, &[arrival])?, 2_000)?;
+        // main's seven accesses and its end, and the handler's three: PIR1 keeps the flag until it is enabled
+        if !is_same(got, 11) {
+            wrong = wrong.wrapping_add(1);
+        }
+    }
+    assert_eq!(rt; wrong, 0);
+    Ok(())
+}
+
+#[test]
 fn main_waits(rt: HostRuntime) -> Result<(), Fail> {
     let alloc = rt.alloc();
     // the write to INTCON, and the handler's three accesses
@@ -152,6 +184,32 @@ fn a_timer_ticks(rt: HostRuntime) -> Result<(), Fail> {
     Ok(())
 }
 
+// Two flags that aren't enabled come before each instruction, and a third one calls the handler every 200 of them.
+#[test]
+fn arrivals_at_each_instruction(rt: HostRuntime) -> Result<(), Fail> {
+    let alloc = rt.alloc();
+    let mut arrivals = Vec::new(alloc);
+    let mut calls: u32 = 0;
+    for t in 1_000..19_000u32 {
+        for flag in &[Flag::Rbif, Flag::Tmr0if] {
+            arrivals.push(Arrival { t, flag: *flag })?;
+        }
+        if t % 200 == 0 {
+            arrivals.push(Arrival {
+                t,
+                flag: Flag::Intf,
+            })?;
+            calls = calls.wrapping_add(1);
+        }
+    }
+    let program = built(alloc, IDLE)?;
+    let got = answer(alloc, &program, &script_of(alloc, &arrivals)?, 20_000)?;
+    // the write to INTCON, and the handler's three accesses at each call
+    assert_eq!(rt; calls, 90);
+    assert!(rt; is_same(got, 271));
+    Ok(())
+}
+
 #[test]
 fn undefined_steps(rt: HostRuntime) -> Result<(), Fail> {
     let alloc = rt.alloc();
@@ -164,6 +222,28 @@ fn undefined_steps(rt: HostRuntime) -> Result<(), Fail> {
         )
     );
     assert!(rt; is_undefined(answer_at(alloc, NO_HANDLER, 0, 2_000)?, Undef::Handler, 3));
+    Ok(())
+}
+
+#[test]
+fn undefined_behind_the_next_event(rt: HostRuntime) -> Result<(), Fail> {
+    let alloc = rt.alloc();
+    // the arrival falls into the loop, and the chip is in the loop at the end or far behind it
+    for n in &[5_000, 60_000] {
+        let answer = answer_at(alloc, DIVIDES_BEHIND, 100, *n)?;
+        assert!(rt; is_undefined(answer, Undef::Division, 3));
+    }
+    // a second arrival falls behind the loop
+    let program = built(alloc, DIVIDES_BEHIND)?;
+    let mut arrivals = Vec::new(alloc);
+    for t in &[100, 50_000] {
+        arrivals.push(Arrival {
+            t: *t,
+            flag: Flag::Intf,
+        })?;
+    }
+    let answer = answer(alloc, &program, &script_of(alloc, &arrivals)?, 60_000)?;
+    assert!(rt; is_undefined(answer, Undef::Division, 3));
     Ok(())
 }
 

@@ -96,10 +96,7 @@ fn both(
     byte: u8,
 ) -> Result<Runs, Fail> {
     let run = chip_run(alloc, &built.image, &built.map, script, instructions, byte)?;
-    let schedule = Script {
-        input: script.input.clone()?,
-        arrivals: run.arrived,
-    };
+    let schedule = Script::new(script.input.clone()?, run.arrived);
     let (source, ending) = source_run(alloc, built, &schedule)?;
     Ok(Runs {
         chip: run.events,
@@ -137,10 +134,10 @@ pub fn goes_as(
 /// Whether a case agrees with its source, from two starts.
 pub fn case_agrees(alloc: Global, case: Case) -> Result<bool, Fail> {
     let built = built(alloc, case.text)?;
-    let script = Script {
-        input: Vec::from_slice(alloc, case.input)?,
-        arrivals: Vec::from_slice(alloc, case.arrivals)?,
-    };
+    let script = Script::new(
+        Vec::from_slice(alloc, case.input)?,
+        Vec::from_slice(alloc, case.arrivals)?,
+    );
     Ok(
         agrees(alloc, &built, &script, case.instructions, 0)?
             && agrees(alloc, &built, &script, case.instructions, 0xA5)?,
@@ -150,9 +147,6 @@ pub fn case_agrees(alloc: Global, case: Case) -> Result<bool, Fail> {
 /// A text without input and arrivals, run for 12,000 instructions.
 pub fn text_agrees(alloc: Global, text: &str) -> Result<bool, Fail> {
     let built = built(alloc, text)?;
-    let script = Script {
-        input: Vec::new(alloc),
-        arrivals: Vec::new(alloc),
-    };
+    let script = Script::new(Vec::new(alloc), Vec::new(alloc));
     Ok(agrees(alloc, &built, &script, 12_000, 0x5A)?)
 }

@@ -241,10 +241,7 @@ fn arrivals_of(alloc: Global, flag: Flag, count: u32) -> Result<Vec<Arrival>, Al
 // Whether the chip's events, at least so many, are the first of the source.
 fn runs_as_its_source(alloc: Global, text: &str, flag: Flag, least: usize) -> Result<bool, Fail> {
     let program = built(alloc, text)?;
-    let script = Script {
-        input: input_of(alloc, 4_000)?,
-        arrivals: arrivals_of(alloc, flag, 50)?,
-    };
+    let script = Script::new(input_of(alloc, 4_000)?, arrivals_of(alloc, flag, 50)?);
     Ok(goes_as(alloc, &program, &script, 100_000, least)?)
 }
 

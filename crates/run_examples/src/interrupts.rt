@@ -85,10 +85,7 @@ fn wrong_moments(
             t,
             flag: Flag::Intf,
         })?;
-        let script = Script {
-            input: Vec::new(alloc),
-            arrivals,
-        };
+        let script = Script::new(Vec::new(alloc), arrivals);
         if !agrees(alloc, program, &script, instructions, 0x3C)? {
             wrong = wrong.wrapping_add(1);
         }
@@ -127,10 +124,7 @@ fn under_ticks(
             flag,
         })?;
     }
-    let script = Script {
-        input: Vec::from_slice(alloc, &[1, 0, 0, 0, 0, 1, 1, 1])?,
-        arrivals,
-    };
+    let script = Script::new(Vec::from_slice(alloc, &[1, 0, 0, 0, 0, 1, 1, 1])?, arrivals);
     let program = built(alloc, text)?;
     Ok(goes_as(alloc, &program, &script, 20_000, least)?)
 }

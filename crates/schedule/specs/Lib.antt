@@ -1,4 +1,5 @@
 pub mod Answers
+pub mod Off
 pub mod Reading
 pub mod ScriptExample
 pub mod ScriptFile

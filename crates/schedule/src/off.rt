@@ -1,6 +1,6 @@
 //! What a run of the chip tells of its arrivals and of the runs of its handler.
 
-ghost use Rattle.std.specs.Prelude.{◌≡◌, ◌<◌, ◌≤◌, ◌+◌, ◌*◌, ◌^◌, length, IfOk, OnOk};
+ghost use Rattle.std.specs.Prelude.{◌≡◌, ◌<◌, ◌≤◌, ◌+◌, ◌*◌, ◌^◌, length, IfOk};
 ghost use Rattle.pic_map.specs.Tracing.{list_of};
 ghost use Rattle.schedule.specs.Watching.{ahead};
 
@@ -21,8 +21,8 @@ pub struct Off {
     pub runs: u32,
     /// For each arrival from 1 to that moment, in order, the length of the trace one instruction before it.
     pub before: Vec<u32>,
-    /// The same input bytes; and each arrival up to that moment, in order, with the length of the trace when it comes in place
-    /// of its instruction.
+    /// The same input bytes; and each arrival up to that moment with the length of the trace when it comes in place of its
+    /// instruction, in order of these lengths.
     pub by_length: Script,
 }
 
@@ -92,6 +92,7 @@ pub fn read_off(
     requires moments { n < 2 ^ 31 }
     requires lines { length map.now.objects.items ≤ 65536 }
     ensures moment { IfOk result (λ off. off.moment ≤ n) }
+    ensures input { IfOk result (λ off. off.by_length.input.items ≡ script.now.input.items) }
     // An instruction reads once and writes once at most, and main ends once.
     ensures few { IfOk result (λ off. off.events ≤ 2 * off.moment + 1) }
 {
@@ -184,6 +185,16 @@ fn count(event: Option<Event>) -> u32
     }
 }
 
+/// What is read off a run up to one of its moments: its events and the runs of its handler; and of the arrivals up to it the
+/// lengths of the trace, those before them and those at which they come.
+#[derive(Drop)]
+struct Reading {
+    events: u32,
+    runs: u32,
+    before: Vec<u32>,
+    lengths: Vec<Arrival>,
+}
+
 /// What is read off a run at a moment of it.
 fn read_at(
     alloc: Global,
@@ -195,6 +206,7 @@ fn read_at(
     requires moments { moment < 2 ^ 31 }
     requires lines { length map.now.objects.items ≤ 65536 }
     ensures moment { IfOk result (λ off. off.moment ≡ moment) }
+    ensures input { IfOk result (λ off. off.by_length.input.items ≡ script.now.input.items) }
     ensures few { IfOk result (λ off. off.events ≤ 2 * moment + 1) }
 {
     let mut watched = Watched {
@@ -203,67 +215,74 @@ fn read_at(
         events: 0,
         runs: 0,
     };
-    let mut off = Off {
-        moment,
+    let mut reading = Reading {
         events: 0,
         runs: 0,
         before: Vec::new(alloc),
-        by_length: Script {
-            input: Vec::new(alloc),
-            arrivals: Vec::new(alloc),
-        },
+        lengths: Vec::new(alloc),
     };
-    let mut reached = Vec::new(alloc);
+    let mut left: &[Arrival] = &script.arrivals;
     for at in 0..moment {
-        take_moment(&mut off, &mut reached, &mut watched, script, at)?;
+        left = take_moment(&mut reading, &mut watched, left, at)?;
         watched.step(image, script, script.mask_at(at as u64));
     }
-    take_moment(&mut off, &mut reached, &mut watched, script, moment)?;
-    off.by_length = Script::new(script.input.clone()?, reached);
-    Ok(off)
+    take_moment(&mut reading, &mut watched, left, moment)?;
+    let Reading {
+        events,
+        runs,
+        before,
+        lengths,
+    } = reading;
+    Ok(Off {
+        moment,
+        events,
+        runs,
+        before,
+        by_length: Script::new(script.input.clone()?, lengths),
+    })
 }
 
-/// Goes on with what is read off from the moment before to this one.
-fn take_moment(
-    off: &mut Off,
-    reached: &mut Vec<Arrival>,
+/// Goes on with what is read off from the moment before to this one, and answers the arrivals behind it; those of earlier
+/// moments aren't among the ones that are left.
+fn take_moment<'a>(
+    reading: &mut Reading,
     watched: &mut Watched<'_>,
-    script: &Script,
+    left: &'a [Arrival],
     moment: u32,
-) -> Result<(), AllocError>
+) -> Result<&'a [Arrival], AllocError>
     requires { watched.old.events + ahead watched.old.tracer < 2 ^ 32 }
     ensures same { (watched.new.run ≡ watched.old.run) × (watched.new.runs ≡ watched.old.runs) }
     ensures events { watched.new.events + ahead watched.new.tracer ≤ watched.old.events + ahead watched.old.tracer }
-    ensures moment { off.new.moment ≡ off.old.moment }
-    ensures taken { OnOk result (off.new.events ≡ watched.new.events) }
+    ensures taken { IfOk result (λ left. reading.new.events ≡ watched.new.events) }
 {
     watched.look();
-    put_arrivals(off, reached, &script.arrivals, moment, watched.events)?;
-    off.events = watched.events;
-    off.runs = watched.runs;
-    Ok(())
+    let behind = put_arrivals(reading, left, moment, watched.events)?;
+    reading.events = watched.events;
+    reading.runs = watched.runs;
+    Ok(behind)
 }
 
-/// Puts the arrivals at a moment, where the trace has so many events; what is read off so far is that of the moment before.
-fn put_arrivals(
-    off: &mut Off,
-    reached: &mut Vec<Arrival>,
-    arrivals: &[Arrival],
+/// Puts the arrivals at a moment, where the trace has so many events, and answers those behind it. What is read off so far is
+/// that of the moment before. The arrivals are in order, so those at this moment are the first that are left.
+fn put_arrivals<'a>(
+    reading: &mut Reading,
+    arrivals: &'a [Arrival],
     moment: u32,
     events: u32,
-) -> Result<(), AllocError>
-    ensures { off.new.moment ≡ off.old.moment }
-{
-    for arrival in arrivals {
-        if arrival.t == moment {
-            reached.push(Arrival {
-                t: events,
-                flag: arrival.flag,
-            })?;
-            if moment > 0 {
-                off.before.push(off.events)?;
-            }
+) -> Result<&'a [Arrival], AllocError> {
+    let mut left = arrivals;
+    while let [arrival, behind @ ..] = left {
+        if arrival.t > moment {
+            return Ok(left);
         }
+        reading.lengths.push(Arrival {
+            t: events,
+            flag: arrival.flag,
+        })?;
+        if moment > 0 {
+            reading.before.push(reading.events)?;
+        }
+        left = behind;
     }
-    Ok(())
+    Ok(left)
 }

@@ -1,7 +1,7 @@
 //! What main, the handler and the outside share.
 
 use pic_chip::Script;
-use pic_chip::script::{input_at, mask_at};
+use pic_chip::script::input_at;
 
 // The lowest addresses of the registers by which interrupts come (Microchip data sheet DS39582).
 const INTCON: u8 = 0x0b;
@@ -51,7 +51,7 @@ impl World {
     /// clears a flag.
     pub fn arrive(&mut self, script: &Script) {
         if !self.arrived {
-            let mask = mask_at(&script.arrivals, self.events);
+            let mask = script.mask_at(self.events);
             self.intcon |= (mask & 7) as u8;
             self.pir1 |= (mask >> 3 & 0xff) as u8;
             self.arrived = true;

@@ -4,8 +4,9 @@ use Rattle.c_typed.specs.Roots.{broken_root}
 use Rattle.c_typed.specs.Views.{program_of}
 use Rattle.call_graph.specs.Levels.{IsAcyclic}
 use Rattle.pic_map.specs.MapView.{object_of, frame_of}
+use Rattle.picc_core.specs.Blocks.{HasWords}
 use Rattle.picc_core.specs.Compiled.{IsPlaced, IsWithinDepth}
-use Rattle.picc_core.proofs.Handed.{on_same, within_depth, placed}
+use Rattle.picc_core.proofs.Handed.{on_same, within_depth, words_handed, placed}
 use Rattle.picc_core.proofs.compiling.compile.Goals as goal
 
 pub returns-clause-roots : goal.returns-clause-roots
@@ -33,3 +34,10 @@ returns-clause-map c =
     on_same (λ b. IsPlaced (program_of b.typed) (map object_of b.map.objects.items) (map frame_of b.map.frames.items)) c.checked.result b c.checked.ensures.same
     (placed _ (program_of b.typed) _ (map object_of b.map.objects.items) _ (map frame_of b.map.frames.items) (ap program_of c.in_ok-built.ensures.typed)
     (ap (λ v. map object_of v.items) c.in_ok-built.ensures.objects) (ap (λ v. map frame_of v.items) c.in_ok-built.ensures.frames) is)
+
+pub returns-clause-words : goal.returns-clause-words
+returns-clause-words c =
+    let b = c.in_ok-built.field-0 in
+    let front = c.in_ok-front.ensures in
+    on_same (λ b. HasWords (program_of b.typed) b.words) c.checked.result b c.checked.ensures.same
+    (words_handed _ (program_of b.typed) _ b.words _ _ (ap program_of c.in_ok-built.ensures.typed) c.in_ok-built.ensures.sizes.1.0 front.list front.blocks)

@@ -1,5 +1,5 @@
-use Rattle.std.proofs.Common.{◌≡◌}
+use Rattle.std.proofs.Common.{length}
 use Rattle.schedule.proofs.off.put_arrivals.Given as goal
 
-abbrev pub invariant-loop-arrival : goal.invariant-loop-arrival
-invariant-loop-arrival l = l.off.moment ≡ l.fn.off.moment
+abbrev pub decreases-loop-left : goal.decreases-loop-left
+decreases-loop-left l = length l.left

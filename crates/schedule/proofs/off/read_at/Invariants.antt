@@ -1,4 +1,4 @@
-use Rattle.std.proofs.Common.{◌≡◌, ◌≤◌, ◌+◌, ◌*◌}
+use Rattle.std.proofs.Common.{◌≤◌, ◌+◌, ◌*◌}
 use Rattle.schedule.specs.Watching.{ahead}
 use Rattle.schedule.proofs.off.read_at.Given as goal
 
@@ -7,4 +7,3 @@ invariant-loop-at l =
     (l.watched.run.chip.index ≤ l.at)
     × (l.watched.events + ahead l.watched.tracer ≤ 2 * l.at + 1)
     × (l.watched.runs ≤ l.at)
-    × (l.off.moment ≡ l.moment)

@@ -1,5 +1,5 @@
--- The headline: what a HEX image does on the chip is a run of the source program that calls the handler whole.
-use Rattle.std.specs.Prelude.{ℕ, ◌+◌, ◌-◌, ◌*◌, ◌≡◌, ◌≢◌, ◌<◌, ◌≤◌, Bool, true, false, ◌&&◌, nat_eq, nat_le, if◌then◌else◌, List, [], ◌∷◌, length, take, slice_index, slice_index_or, slice_get, Some, Contains}
+-- The headline: what an image does on the chip is a run of the source program that calls the handler whole.
+use Rattle.std.specs.Prelude.{ℕ, ◌+◌, ◌-◌, ◌*◌, ◌≡◌, ◌≢◌, ◌<◌, ◌≤◌, Bool, true, false, ◌&&◌, nat_eq, if◌then◌else◌, List, [], ◌∷◌, length, take, slice_index, slice_index_or, slice_get, Some, Contains}
 use Rattle.pic_chip.specs.declared.Arrival.{Arrival}
 use Rattle.pic_chip.specs.declared.Root.{Root}
 use Rattle.pic_chip.specs.declared.Root.TheVariants.{Main, Isr}
@@ -12,46 +12,51 @@ use Rattle.pic_chip.specs.Instructions.{is_modelled}
 use Rattle.pic_isa.specs.Lookup.{row_of}
 use Rattle.pic_chip.specs.Interrupts.{arriving}
 use Rattle.pic_chip.specs.Run.{IsStart, Setting, moment, is_handling}
-use Rattle.pic_map.specs.MapContent.{ObjectLine, FrameLine, MapContent, watch_of, overlap}
+use Rattle.pic_chip.specs.World.{Outside, outside_of}
+use Rattle.pic_map.specs.MapContent.{ObjectLine, FrameLine, MapContent, watch_of}
+use Rattle.ram_place.specs.Memory.{AreDisjoint}
+use Rattle.schedule.specs.Off.{read_off}
 
 -- ---- the source
--- A run of the source under one schedule, over one input list.
+-- A run of the source under one schedule, over one input list, by micro-steps; some of them count as steps of the language,
+-- the others only go on to the next one.
 pub record SourceRun : Type 0 where
-  -- the trace after so many steps, its values as the map shows them; it stays where the run goes no further
+  -- the trace after so many micro-steps, its values as the map shows them; it stays where the run goes no further
   pub trace : ℕ → List Event
-  -- the step of this number, counted from 0, is not undefined
+  -- the micro-step of this number, counted from 0, is not undefined
   pub is_defined : ℕ → Bool
+  -- how many of the first so many micro-steps count as steps
+  pub steps : ℕ → ℕ
 
 -- What the theorem needs of a program.
-pub record Source : Type 0 where
-  -- its static objects and its function copies, in the order of placing, where they are to stand
-  pub objects : List ObjectLine
-  pub frames : List FrameLine
-  -- the copies of these two numbers may be live together
-  pub live_together : ℕ → ℕ → Bool
+pub record Source : Type 1 where
+  -- The lines of the map are exactly those of its static objects and of the frames of its function copies, where they are
+  -- to stand.
+  pub IsMapped : List ObjectLine → List FrameLine → Type 0
+  -- the copies of these two numbers, in the order of placing, may be live together
+  pub live_together : ℕ → ℕ → Type 0
   -- the initial bytes of each static object, as the map shows them
   pub initial : List (List ℕ)
   -- how many nodes the typed tree has
   pub nodes : ℕ
-  -- A schedule has pairs of a trace length and a flag: the flag is set as soon as the trace has that length.
-  pub run : List Arrival → List ℕ → SourceRun
-
--- ---- the schedule, read off the chip's own trace
--- Each arrival before moment n falls where the chip's trace stood at that moment.
-abbrev pub read_off : (ℕ → List Event) → ℕ → List Arrival → List Arrival
-read_off trace n [] = []
-read_off trace n (a ∷ arrivals) =
-    if nat_le a.t n then record a { t = length (trace a.t) } ∷ read_off trace n arrivals else read_off trace n arrivals
+  -- its run over an input list, under a schedule by the length of the trace
+  pub run : Outside → SourceRun
 
 -- ---- words
 -- xs stands at the front of ys
 abbrev pub IsFrontOf : List Event → List Event → Type 0
 IsFrontOf xs ys = take (length xs) ys ≡ xs
 
--- after j steps, and not before, the trace has this length
+-- after j micro-steps, and not before, the trace has this length
 pub record ComesTo (trace : ℕ → List Event) (long j : ℕ) : Type 0 where
   pub here : length (trace j) ≡ long
   pub before : (i : ℕ) → i < j → length (trace i) < long
+
+-- From the micro-step at which the trace comes to this length on, the events of the next m steps stand in the list.
+pub record HasNext (run : SourceRun) (long m : ℕ) (events : List Event) : Type 0 where
+  pub from : ℕ
+  pub comes : ComesTo run.trace long from
+  pub all : (i : ℕ) → run.steps i ≤ run.steps from + m → IsFrontOf (run.trace i) events
 
 -- no arrival falls after moment t and up to moment n
 abbrev pub IsQuiet : List Arrival → ℕ → ℕ → Type 0
@@ -83,22 +88,22 @@ module _ (source : Source) (content : MapContent) (g : Setting) where
   abbrev pub trace_at : ℕ → List Event
   trace_at n = (moment g n).trace
 
-  -- the source run whose handler is called where the arrivals up to moment n fall in the chip's trace
+  -- the source run whose handler is called where the arrivals up to moment n, in any order, fall in the chip's trace
   abbrev pub run_at : ℕ → SourceRun
-  run_at n = source.run (read_off trace_at n g.arrivals) g.inputs
+  run_at n = source.run (outside_of g.inputs (read_off trace_at n g.arrivals))
 
-  -- No step that counts is undefined: one that is among the first (m + 1) * nodes, and begins while the
-  -- source's trace is no longer than the chip's.
+  -- No step that counts is undefined: one that is among the first (m + 1) * nodes, and begins while the source's trace is
+  -- no longer than the chip's.
   abbrev pub IsClean : ℕ → Type 0
   IsClean n =
-      (m j : ℕ) → m ≤ n → j < (m + 1) * source.nodes → length ((run_at m).trace j) ≤ length (trace_at m) → (run_at m).is_defined j ≡ true
+      (m i : ℕ) → m ≤ n → (run_at m).steps i < (m + 1) * source.nodes → length ((run_at m).trace i) ≤ length (trace_at m) → (run_at m).is_defined i ≡ true
 
   pub record Follows : Type 0 where
     -- the chip's trace is a prefix of the source's
     pub prefix : (n : ℕ) → IsClean n → (k : ℕ) × IsFrontOf (trace_at n) ((run_at n).trace k)
     -- 8,192 (m + 1) instructions without an arrival make the events of the source's next m steps
-    pub pace : (n t m j : ℕ) → IsClean n → t ≤ n → IsQuiet g.arrivals t n → 8192 * (m + 1) ≤ n - t
-        → ComesTo (run_at n).trace (length (trace_at t)) j → IsFrontOf ((run_at n).trace (j + m)) (trace_at n)
+    pub pace : (n t m : ℕ) → IsClean n → t ≤ n → IsQuiet g.arrivals t n → 8192 * (m + 1) ≤ n - t
+        → HasNext (run_at n) (length (trace_at t)) m (trace_at n)
     -- each byte of a static object that isn't const holds its initial value or the last one written
     pub end_state : (n i k : ℕ) (line : ObjectLine) → IsClean n → (moment g n).met ≡ true
         → slice_get content.objects i ≡ Some line → line.constant ≡ false → k < line.size
@@ -125,14 +130,13 @@ pub record IsFaithful (source : Source) (content : MapContent) (image : List ℕ
   -- every word is one of an instruction that the model has
   pub words : (at : ℕ) → at < 8192 → is_modelled (row_of (slice_index image at)) ≡ true
   -- the map has exactly the program's objects and copies, where they are to stand
-  pub objects : content.objects ≡ source.objects
-  pub copies : content.frames ≡ source.frames
+  pub mapped : source.IsMapped content.objects content.frames
   pub main : content.main < 0x2000
   pub halt : content.halt < 0x2000
   -- frames that may be live together have no byte in common, nor has a frame with a static object
   pub apart : (i j : ℕ) (x y : FrameLine) → i ≢ j → slice_get content.frames i ≡ Some x → slice_get content.frames j ≡ Some y
-      → source.live_together i j ≡ true → overlap x.address x.size y.address y.size ≡ false
+      → source.live_together i j → AreDisjoint x.address x.size y.address y.size
   pub clear_of_objects : (x : FrameLine) (y : ObjectLine) → Contains content.frames x → Contains content.objects y
-      → overlap x.address x.size y.address y.size ≡ false
+      → AreDisjoint x.address x.size y.address y.size
   pub runs : (start : Start) (inputs : List ℕ) (arrivals : List Arrival) → IsStart start → ((k : ℕ) → slice_index inputs k < 256)
       → Follows source content (setting_of content image start inputs arrivals)
