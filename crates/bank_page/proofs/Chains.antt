@@ -10,12 +10,10 @@ use Rattle.sym_code.specs.declared.code.Sym.TheVariants as syms
 use Rattle.sym_code.specs.declared.code.Target.{Target}
 use Rattle.code_place.specs.Addresses.{address_of}
 use Rattle.bank_page.specs.Kinds.{is_select, is_label, is_skip, byte_of, target_of}
-use Rattle.bank_page.specs.Known.{changes_bank, changes_page}
+use Rattle.bank_page.specs.Known.{writes_status, writes_pclath}
 use Rattle.bank_page.specs.Needs.{both_banks, banked_at, banked, with_bank, both, needs_one, needs_in}
-use Rattle.bank_page.specs.Selected.{bank_number, has_bank, reaches_byte, reaches_target, is_right}
-use Rattle.bank_page.specs.Step.{is_bank}
+use Rattle.bank_page.specs.Selected.{has_bank, reaches_byte, reaches_target, is_right}
 use Rattle.bank_page.specs.declared.known.Known.{Known}
-use Rattle.bank_page.specs.declared.needs.Banked.{Banked}
 use Rattle.bank_page.specs.declared.needs.Needs.{Needs}
 use Rattle.std.proofs.lemmas.Bool.{eqb-true}
 
@@ -41,9 +39,9 @@ and_right false true p = refl
 and_right false false p = p
 
 -- a bank that is needed is the one that is known
-abbrev pub meets_bank : Option ℕ → Option Banked → Bool
+abbrev pub meets_bank : Known → Option ℕ → Bool
 meets_bank known None = true
-meets_bank known (Some banked) = is_bank known banked.bank
+meets_bank known (Some bank) = has_bank known (Some bank)
 
 -- Each instruction from here up to the first that is no skip finds what it needs, with nothing changed between.
 abbrev pub chain_step : Bool → Bool → Bool → Bool → Bool → Bool → Bool
@@ -51,34 +49,34 @@ chain_step select label skip change right rest = if select then rest else (if la
 
 abbrev pub chain_right : Placed → BlockName → Known → List Sym → Bool
 chain_right placed own known [] = false
-chain_right placed own known (s ∷ rest) = chain_step (is_select s) (is_label s) (is_skip s) (changes_bank s || changes_page s) (is_right placed own known s) (chain_right placed own known rest)
+chain_right placed own known (s ∷ rest) = chain_step (is_select s) (is_label s) (is_skip s) (writes_status s || writes_pclath s) (is_right placed own known s) (chain_right placed own known rest)
 
-abbrev pub needs_step : Bool → Bool → Bool → Bool → Sym → Option (Option Banked) → Option Needs → Option Needs
+abbrev pub needs_step : Bool → Bool → Bool → Bool → Sym → Option (Option ℕ) → Option Needs → Option Needs
 needs_step select label skip change s bank rest = if select then rest else (if label then None else (if skip then (if change then None else both bank rest) else needs_one s bank))
 
-joined_by : (known : Option ℕ) (one other : Banked) (d : Option Banked) (same : Bool) → nat_eq one.bank other.bank ≡ same → (if same then Some (Some one) else None) ≡ Some d → meets_bank known d ≡ true → (is_bank known one.bank ≡ true) × (is_bank known other.bank ≡ true)
+joined_by : (known : Known) (one other : ℕ) (d : Option ℕ) (same : Bool) → nat_eq one other ≡ same → (if same then Some (Some one) else None) ≡ Some d → meets_bank known d ≡ true → (has_bank known (Some one) ≡ true) × (has_bank known (Some other) ≡ true)
 joined_by known one other d false e is met = absurd (none-some d is)
 joined_by known one other d true e is met =
-    let P : Option Banked → Type 0 = λ x. meets_bank known x ≡ true in
+    let P : Option ℕ → Type 0 = λ x. meets_bank known x ≡ true in
     let first = subst P (sym (same_Some (Some one) d is)) met in
-    (first, ap (λ n. is_bank known n) (sym (eqb-true one.bank other.bank e)) ∙ first)
+    (first, ap (λ n. has_bank known (Some n)) (sym (eqb-true one other e)) ∙ first)
 
-joined : (known : Option ℕ) (b c : Option Banked) (d : Option Banked) → both_banks b c ≡ Some d → meets_bank known d ≡ true → (meets_bank known b ≡ true) × (meets_bank known c ≡ true)
+joined : (known : Known) (b c d : Option ℕ) → both_banks b c ≡ Some d → meets_bank known d ≡ true → (meets_bank known b ≡ true) × (meets_bank known c ≡ true)
 joined known None c d is met =
-    let P : Option Banked → Type 0 = λ x. meets_bank known x ≡ true in
+    let P : Option ℕ → Type 0 = λ x. meets_bank known x ≡ true in
     (refl, subst P (sym (same_Some c d is)) met)
 joined known (Some one) None d is met =
-    let P : Option Banked → Type 0 = λ x. meets_bank known x ≡ true in
+    let P : Option ℕ → Type 0 = λ x. meets_bank known x ≡ true in
     (subst P (sym (same_Some (Some one) d is)) met, refl)
-joined known (Some one) (Some other) d is met = joined_by known one other d (nat_eq one.bank other.bank) refl is met
+joined known (Some one) (Some other) d is met = joined_by known one other d (nat_eq one other) refl is met
 
-pub with_parts : (bank : Option (Option Banked)) (m n : Needs) → with_bank bank m ≡ Some n → (bank ≡ Some n.bank) × (m.page ≡ n.page)
+pub with_parts : (bank : Option (Option ℕ)) (m n : Needs) → with_bank bank m ≡ Some n → (bank ≡ Some n.bank) × (m.page ≡ n.page)
 with_parts None m n is = absurd (none-some n is)
 with_parts (Some b) m n is =
     let e = same_Some (record { bank = b; page = m.page }) n is in
     (ap (λ (x : Needs). Some x.bank) e, ap (λ (x : Needs). x.page) e)
 
-needs_chain_step : (select label skip change right rest : Bool) (s : Sym) (bank : Option (Option Banked)) (behind : Option Needs) (known : Option ℕ) (meets_page : Option Target → Bool) (n : Needs) → ((m : Needs) → behind ≡ Some m → meets_bank known m.bank ≡ true → meets_page m.page ≡ true → rest ≡ true) → ((b : Option Banked) → bank ≡ Some b → meets_bank known b ≡ true → (skip ≡ false → meets_page (target_of s) ≡ true) → right ≡ true) → needs_step select label skip change s bank behind ≡ Some n → meets_bank known n.bank ≡ true → meets_page n.page ≡ true → chain_step select label skip change right rest ≡ true
+needs_chain_step : (select label skip change right rest : Bool) (s : Sym) (bank : Option (Option ℕ)) (behind : Option Needs) (known : Known) (meets_page : Option Target → Bool) (n : Needs) → ((m : Needs) → behind ≡ Some m → meets_bank known m.bank ≡ true → meets_page m.page ≡ true → rest ≡ true) → ((b : Option ℕ) → bank ≡ Some b → meets_bank known b ≡ true → (skip ≡ false → meets_page (target_of s) ≡ true) → right ≡ true) → needs_step select label skip change s bank behind ≡ Some n → meets_bank known n.bank ≡ true → meets_page n.page ≡ true → chain_step select label skip change right rest ≡ true
 needs_chain_step true label skip change right rest s bank behind known meets_page n later own is at_bank at_page = later n is at_bank at_page
 needs_chain_step false true skip change right rest s bank behind known meets_page n later own is at_bank at_page = absurd (none-some n is)
 needs_chain_step false false true true right rest s bank behind known meets_page n later own is at_bank at_page = absurd (none-some n is)
@@ -98,15 +96,15 @@ needs_chain_step false false false change right rest s (Some b) behind known mee
     and_both right true (own b refl bank (λ _. page)) refl
 
 -- a byte whose need is met is reached
-at_byte : (known : Option ℕ) (byte : Byte) (at : Option ℕ) (b : Option Banked) → banked_at byte at ≡ Some b → meets_bank known b ≡ true → has_bank known (option_map (λ a. a / 128) at) ≡ true
-at_byte known byte None b is met = absurd (none-some b is)
-at_byte known byte (Some a) b is met =
-    let P : Option Banked → Type 0 = λ x. meets_bank known x ≡ true in
-    subst P (sym (same_Some (Some (record { byte = byte; bank = a / 128 })) b is)) met
+at_byte : (known : Known) (at b : Option ℕ) → banked_at at ≡ Some b → meets_bank known b ≡ true → has_bank known (option_map (λ a. a / 128) at) ≡ true
+at_byte known None b is met = absurd (none-some b is)
+at_byte known (Some a) b is met =
+    let P : Option ℕ → Type 0 = λ x. meets_bank known x ≡ true in
+    subst P (sym (same_Some (Some (a / 128)) b is)) met
 
-byte_reached : (placed : Placed) (known : Known) (byte : Option Byte) (b : Option Banked) → banked placed byte ≡ Some b → meets_bank known.bank b ≡ true → reaches_byte placed known byte ≡ true
+byte_reached : (placed : Placed) (known : Known) (byte : Option Byte) (b : Option ℕ) → banked placed byte ≡ Some b → meets_bank known b ≡ true → reaches_byte placed known byte ≡ true
 byte_reached placed known None b is met = refl
-byte_reached placed known (Some byte) b is met = at_byte known.bank byte (address_of placed byte) b is met
+byte_reached placed known (Some byte) b is met = at_byte known (address_of placed byte) b is met
 
 -- a skip has no target
 no_target : (own : BlockName) (known : Known) (s : Sym) → is_skip s ≡ true → reaches_target own known (target_of s) ≡ true
@@ -119,64 +117,13 @@ no_target own known (syms.Plain op) skip = refl
 no_target own known (syms.Call target) skip = absurd (true_false (sym skip))
 no_target own known (syms.Goto target) skip = absurd (true_false (sym skip))
 no_target own known (syms.Label label) skip = refl
-no_target own known (syms.SelectBank byte) skip = refl
-no_target own known (syms.SelectPage target) skip = refl
+no_target own known (syms.SelectBank bit on) skip = refl
+no_target own known (syms.SelectPage bit target) skip = refl
 
 target_reached : (own : BlockName) (known : Known) (s : Sym) (skip : Bool) → is_skip s ≡ skip → (skip ≡ false → reaches_target own known (target_of s) ≡ true) → reaches_target own known (target_of s) ≡ true
 target_reached own known s true e given = no_target own known s e
 target_reached own known s false e given = given refl
 
-pub chain_of_needs : (placed : Placed) (own : BlockName) (known : Known) (list : List Sym) (n : Needs) → needs_in placed list ≡ Some n → meets_bank known.bank n.bank ≡ true → reaches_target own known n.page ≡ true → chain_right placed own known list ≡ true
+pub chain_of_needs : (placed : Placed) (own : BlockName) (known : Known) (list : List Sym) (n : Needs) → needs_in placed list ≡ Some n → meets_bank known n.bank ≡ true → reaches_target own known n.page ≡ true → chain_right placed own known list ≡ true
 chain_of_needs placed own known [] n is at_bank at_page = absurd (none-some n is)
-chain_of_needs placed own known (s ∷ rest) n is at_bank at_page = needs_chain_step (is_select s) (is_label s) (is_skip s) (changes_bank s || changes_page s) (is_right placed own known s) (chain_right placed own known rest) s (banked placed (byte_of s)) (needs_in placed rest) known.bank (reaches_target own known) n (λ m. chain_of_needs placed own known rest m) (λ b found met page. and_both (reaches_byte placed known (byte_of s)) (reaches_target own known (target_of s)) (byte_reached placed known (byte_of s) b found met) (target_reached own known s (is_skip s) refl page)) is at_bank at_page
-
--- The bank that is needed is that of the byte beside it.
-abbrev pub IsOf : Placed → Option Banked → Type 0
-IsOf placed None = Unit {0}
-IsOf placed (Some b) = bank_number placed b.byte ≡ Some b.bank
-
-of_both_by : (placed : Placed) (one : Banked) (d : Option Banked) (same : Bool) → (if same then Some (Some one) else None) ≡ Some d → IsOf placed (Some one) → IsOf placed d
-of_both_by placed one d true is p =
-    let P : Option Banked → Type 0 = λ x. IsOf placed x in
-    subst P (same_Some (Some one) d is) p
-of_both_by placed one d false is p = absurd (none-some d is)
-
-of_both : (placed : Placed) (b c d : Option Banked) → both_banks b c ≡ Some d → IsOf placed b → IsOf placed c → IsOf placed d
-of_both placed None c d is p q =
-    let P : Option Banked → Type 0 = λ x. IsOf placed x in
-    subst P (same_Some c d is) q
-of_both placed (Some one) None d is p q =
-    let P : Option Banked → Type 0 = λ x. IsOf placed x in
-    subst P (same_Some (Some one) d is) p
-of_both placed (Some one) (Some other) d is p q = of_both_by placed one d (nat_eq one.bank other.bank) is p
-
-of_step : (placed : Placed) (select label skip change : Bool) (s : Sym) (bank : Option (Option Banked)) (behind : Option Needs) (n : Needs) → ((m : Needs) → behind ≡ Some m → IsOf placed m.bank) → ((b : Option Banked) → bank ≡ Some b → IsOf placed b) → needs_step select label skip change s bank behind ≡ Some n → IsOf placed n.bank
-of_step placed true label skip change s bank behind n later own is = later n is
-of_step placed false true skip change s bank behind n later own is = absurd (none-some n is)
-of_step placed false false true true s bank behind n later own is = absurd (none-some n is)
-of_step placed false false true false s None behind n later own is = absurd (none-some n is)
-of_step placed false false true false s (Some b) None n later own is = absurd (none-some n is)
-of_step placed false false true false s (Some b) (Some m) n later own is =
-    let parts = with_parts (both_banks b m.bank) m n is in
-    of_both placed b m.bank n.bank parts.0 (own b refl) (later m refl)
-of_step placed false false false change s None behind n later own is = absurd (none-some n is)
-of_step placed false false false change s (Some b) behind n later own is =
-    let P : Needs → Type 0 = λ x. IsOf placed x.bank in
-    subst P (same_Some (record { bank = b; page = target_of s }) n is) (own b refl)
-
-of_at : (placed : Placed) (byte : Byte) (at : Option ℕ) (b : Option Banked) → address_of placed byte ≡ at → banked_at byte at ≡ Some b → IsOf placed b
-of_at placed byte None b here is = absurd (none-some b is)
-of_at placed byte (Some a) b here is =
-    let P : Option Banked → Type 0 = λ x. IsOf placed x in
-    subst P (same_Some (Some (record { byte = byte; bank = a / 128 })) b is) (ap (λ (o : Option ℕ). option_map (λ x. x / 128) o) here)
-
-of_one : (placed : Placed) (byte : Option Byte) (b : Option Banked) → banked placed byte ≡ Some b → IsOf placed b
-of_one placed None b is =
-    let P : Option Banked → Type 0 = λ x. IsOf placed x in
-    let none : Option Banked = None in
-    subst P (same_Some none b is) tt
-of_one placed (Some byte) b is = of_at placed byte (address_of placed byte) b refl is
-
-pub bank_of_needs : (placed : Placed) (list : List Sym) (n : Needs) → needs_in placed list ≡ Some n → IsOf placed n.bank
-bank_of_needs placed [] n is = absurd (none-some n is)
-bank_of_needs placed (s ∷ rest) n is = of_step placed (is_select s) (is_label s) (is_skip s) (changes_bank s || changes_page s) s (banked placed (byte_of s)) (needs_in placed rest) n (λ m. bank_of_needs placed rest m) (λ b. of_one placed (byte_of s) b) is
+chain_of_needs placed own known (s ∷ rest) n is at_bank at_page = needs_chain_step (is_select s) (is_label s) (is_skip s) (writes_status s || writes_pclath s) (is_right placed own known s) (chain_right placed own known rest) s (banked placed (byte_of s)) (needs_in placed rest) known (reaches_target own known) n (λ m. chain_of_needs placed own known rest m) (λ b found met page. and_both (reaches_byte placed known (byte_of s)) (reaches_target own known (target_of s)) (byte_reached placed known (byte_of s) b found met) (target_reached own known s (is_skip s) refl page)) is at_bank at_page

@@ -1,4 +1,5 @@
 pub mod Chains
+pub mod Fronts
 pub mod Programs
 pub mod Sizes
 pub mod Steps

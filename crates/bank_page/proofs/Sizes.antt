@@ -1,5 +1,5 @@
 -- How many words a list has with its selects.
-use Rattle.std.proofs.Common.{◌≡◌, ℕ, ◌+◌, ◌/◌, ◌≤◌, nat_eq, Bool, true, false, ◌||◌, if◌then◌else◌, List, [], ◌∷◌, ◌++◌, Option, Some, None, refl, sym, ap, ◌∙◌, subst, arith}
+use Rattle.std.proofs.Common.{◌≡◌, ℕ, ◌+◌, ◌/◌, ◌≤◌, nat_eq, Bool, true, false, ◌||◌, if◌then◌else◌, List, [], ◌∷◌, ◌++◌, length, Option, Some, None, refl, sym, ap, subst, arith}
 use Rattle.std.proofs.lemmas.Option.{none-some, same_Some}
 use Rattle.std.proofs.lemmas.List.Sums.{sum_by-append, sum_by-cons, sum_by_push}
 use Rattle.core_code.specs.declared.code.Byte.{Byte}
@@ -12,18 +12,17 @@ use Rattle.sym_code.specs.declared.code.Sym.TheVariants as syms
 use Rattle.sym_code.specs.declared.code.Target.{Target}
 use Rattle.code_place.specs.Addresses.{is_common, address_of}
 use Rattle.code_place.specs.Sizes.{words_of_one, words_in, most_of_operand, most_of_one, most_words}
-use Rattle.bank_page.specs.Kinds.{is_select, is_label, is_skip, byte_named, byte_of, target_of, block_of}
-use Rattle.bank_page.specs.Known.{changes_bank, changes_page}
-use Rattle.bank_page.specs.Needs.{both_banks, banked_at, banked, with_bank, needs_in}
+use Rattle.bank_page.specs.Kinds.{is_select, is_label, is_skip, byte_named, byte_of, target_of}
+use Rattle.bank_page.specs.Known.{knows, learned, writes_status, writes_pclath}
+use Rattle.bank_page.specs.Needs.{both_banks, banked_at, banked, needs_in}
 use Rattle.bank_page.specs.Selected.{front}
-use Rattle.bank_page.specs.Step.{is_bank, is_page, bank_selects, page_selects, selects_for, known_with, passed, NextFor, Next}
+use Rattle.bank_page.specs.Step.{bank_selects, page_selects, unknown, missing, behind_bank, missing_for, known_with, passed, NextFor, Next}
 use Rattle.bank_page.specs.declared.known.Known.{Known}
-use Rattle.bank_page.specs.declared.needs.Banked.{Banked}
 use Rattle.bank_page.specs.declared.needs.Needs.{Needs}
 use Rattle.bank_page.specs.declared.selecting.State.{State}
 use Rattle.bank_page.proofs.Chains.{true_false, needs_step, with_parts}
 
--- the words of a select for what is there
+-- the words of the two selects for what is there
 abbrev pub cost : {A : Type 0} → Option A → ℕ
 cost None = 0
 cost (Some x) = 2
@@ -73,32 +72,32 @@ one_most (syms.Plain op) is = refl
 one_most (syms.Call target) is = refl
 one_most (syms.Goto target) is = refl
 one_most (syms.Label label) is = refl
-one_most (syms.SelectBank byte) is = absurd (true_false is)
-one_most (syms.SelectPage target) is = absurd (true_false is)
+one_most (syms.SelectBank bit on) is = refl
+one_most (syms.SelectPage bit target) is = absurd (true_false is)
 
-both_cost_by : (one : Banked) (d : Option Banked) (same : Bool) → (if same then Some (Some one) else None) ≡ Some d → cost d ≤ 2
+both_cost_by : (one : ℕ) (d : Option ℕ) (same : Bool) → (if same then Some (Some one) else None) ≡ Some d → cost d ≤ 2
 both_cost_by one d true is =
-    let P : Option Banked → Type 0 = λ x. cost x ≤ 2 in
+    let P : Option ℕ → Type 0 = λ x. cost x ≤ 2 in
     subst P (same_Some (Some one) d is) (omega arith)
 both_cost_by one d false is = absurd (none-some d is)
 
-both_cost : (b c d : Option Banked) → both_banks b c ≡ Some d → cost d ≤ cost b + cost c
+both_cost : (b c d : Option ℕ) → both_banks b c ≡ Some d → cost d ≤ cost b + cost c
 both_cost None c d is =
-    let P : Option Banked → Type 0 = λ x. cost x ≤ cost c in
+    let P : Option ℕ → Type 0 = λ x. cost x ≤ cost c in
     let same = subst P (same_Some c d is) (omega arith) in
     omega (arith, same)
 both_cost (Some one) None d is =
-    let P : Option Banked → Type 0 = λ x. cost x ≤ 2 in
+    let P : Option ℕ → Type 0 = λ x. cost x ≤ 2 in
     let same = subst P (same_Some (Some one) d is) (omega arith) in
     omega (arith, same)
 both_cost (Some one) (Some other) d is =
-    let one_only = both_cost_by one d (nat_eq one.bank other.bank) is in
+    let one_only = both_cost_by one d (nat_eq one other) is in
     omega (arith, one_only)
 
 abbrev pub needs_cost : Needs → ℕ
 needs_cost needs = cost needs.bank + cost needs.page
 
-cost_step : (select label skip change : Bool) (s : Sym) (bank : Option (Option Banked)) (behind : Option Needs) (rest : ℕ) (n : Needs) → ((m : Needs) → behind ≡ Some m → needs_cost m ≤ rest) → ((b : Option Banked) → bank ≡ Some b → cost b ≤ cost (byte_of s)) → needs_step select label skip change s bank behind ≡ Some n → needs_cost n ≤ chain_cost_step select skip (extra s) rest
+cost_step : (select label skip change : Bool) (s : Sym) (bank : Option (Option ℕ)) (behind : Option Needs) (rest : ℕ) (n : Needs) → ((m : Needs) → behind ≡ Some m → needs_cost m ≤ rest) → ((b : Option ℕ) → bank ≡ Some b → cost b ≤ cost (byte_of s)) → needs_step select label skip change s bank behind ≡ Some n → needs_cost n ≤ chain_cost_step select skip (extra s) rest
 cost_step true label skip change s bank behind rest n later own is = later n is
 cost_step false true skip change s bank behind rest n later own is = absurd (none-some n is)
 cost_step false false true true s bank behind rest n later own is = absurd (none-some n is)
@@ -117,45 +116,68 @@ cost_step false false false change s (Some b) behind rest n later own is =
     let first = own b refl in
     omega (arith, e, first)
 
-at_cost : (byte : Byte) (at : Option ℕ) (b : Option Banked) → banked_at byte at ≡ Some b → cost b ≤ 2
-at_cost byte None b is = absurd (none-some b is)
-at_cost byte (Some a) b is =
-    let P : Option Banked → Type 0 = λ x. cost x ≤ 2 in
-    subst P (same_Some (Some (record { byte = byte; bank = a / 128 })) b is) (omega arith)
+at_cost : (at b : Option ℕ) → banked_at at ≡ Some b → cost b ≤ 2
+at_cost None b is = absurd (none-some b is)
+at_cost (Some a) b is =
+    let P : Option ℕ → Type 0 = λ x. cost x ≤ 2 in
+    subst P (same_Some (Some (a / 128)) b is) (omega arith)
 
-own_cost : (placed : Placed) (byte : Option Byte) (b : Option Banked) → banked placed byte ≡ Some b → cost b ≤ cost byte
+own_cost : (placed : Placed) (byte : Option Byte) (b : Option ℕ) → banked placed byte ≡ Some b → cost b ≤ cost byte
 own_cost placed None b is =
-    let none : Option Banked = None in
-    let P : Option Banked → Type 0 = λ x. cost x ≤ 0 in
+    let none : Option ℕ = None in
+    let P : Option ℕ → Type 0 = λ x. cost x ≤ 0 in
     subst P (same_Some none b is) (omega arith)
-own_cost placed (Some byte) b is = at_cost byte (address_of placed byte) b is
+own_cost placed (Some byte) b is = at_cost (address_of placed byte) b is
 
 cost_of_needs : (placed : Placed) (list : List Sym) (n : Needs) → needs_in placed list ≡ Some n → needs_cost n ≤ chain_cost list
 cost_of_needs placed [] n is = absurd (none-some n is)
-cost_of_needs placed (s ∷ rest) n is = cost_step (is_select s) (is_label s) (is_skip s) (changes_bank s || changes_page s) s (banked placed (byte_of s)) (needs_in placed rest) (chain_cost rest) n (λ m. cost_of_needs placed rest m) (λ b. own_cost placed (byte_of s) b) is
+cost_of_needs placed (s ∷ rest) n is = cost_step (is_select s) (is_label s) (is_skip s) (writes_status s || writes_pclath s) s (banked placed (byte_of s)) (needs_in placed rest) (chain_cost rest) n (λ m. cost_of_needs placed rest m) (λ b. own_cost placed (byte_of s) b) is
 
-bank_words_by : (known : Bool) (byte : Byte) → words_in (if known then [] else syms.SelectBank byte ∷ []) ≤ 2
-bank_words_by true byte = omega arith
-bank_words_by false byte = omega arith
+-- no instruction is more than a word
+one_word : (s : Sym) → words_of_one s ≤ 1
+one_word (syms.Label label) = omega arith
+one_word (syms.File op file into) = omega arith
+one_word (syms.Movwf file) = omega arith
+one_word (syms.Clrf file) = omega arith
+one_word (syms.Bit op file bit) = omega arith
+one_word (syms.Literal op value) = omega arith
+one_word (syms.Plain op) = omega arith
+one_word (syms.Call target) = omega arith
+one_word (syms.Goto target) = omega arith
+one_word (syms.SelectBank bit on) = omega arith
+one_word (syms.SelectPage bit target) = omega arith
 
-bank_words : (known : Option ℕ) (bank : Option Banked) → words_in (bank_selects known bank) ≤ cost bank
-bank_words known None = omega arith
-bank_words known (Some banked) = bank_words_by (is_bank known banked.bank) banked.byte
+unknown_words : (s : Sym) (already : Bool) → words_in (if already then [] else s ∷ []) ≤ 1
+unknown_words s true = omega arith
+unknown_words s false =
+    let more = sum_by-cons words_of_one s [] in
+    let one = one_word s in
+    omega (arith, more, one)
 
-page_words_by : (known : Bool) (target : Target) → words_in (if known then [] else syms.SelectPage target ∷ []) ≤ 2
-page_words_by true target = omega arith
-page_words_by false target = omega arith
+missing_words : (own : BlockName) (known : Known) (list : List Sym) → words_in (missing own known list) ≤ length list
+missing_words own known [] = omega arith
+missing_words own known (s ∷ list) =
+    let two = sum_by-append words_of_one (unknown own known s) (missing own (learned own known s) list) in
+    let one = unknown_words s (knows own known s) in
+    let others = missing_words own (learned own known s) list in
+    omega (arith, two, one, others)
 
-page_words : (own : BlockName) (known : Option BlockName) (page : Option Target) → words_in (page_selects own known page) ≤ cost page
-page_words own known None = omega arith
-page_words own known (Some target) = page_words_by (is_page known (block_of own target)) target
+count_bank : (bank : Option ℕ) → length (bank_selects bank) ≡ cost bank
+count_bank None = refl
+count_bank (Some bank) = refl
 
-select_words : (own : BlockName) (known : Known) (needs : Needs) → words_in (selects_for own known needs) ≤ needs_cost needs
+count_page : (page : Option Target) → length (page_selects page) ≡ cost page
+count_page None = refl
+count_page (Some target) = refl
+
+select_words : (own : BlockName) (known : Known) (needs : Needs) → words_in (missing_for own known needs) ≤ needs_cost needs
 select_words own known needs =
-    let two = sum_by-append words_of_one (bank_selects known.bank needs.bank) (page_selects own known.page needs.page) in
-    let bank = bank_words known.bank needs.bank in
-    let page = page_words own known.page needs.page in
-    omega (arith, two, bank, page)
+    let banks = missing_words own known (bank_selects needs.bank) in
+    let pages = missing_words own (behind_bank own known needs) (page_selects needs.page) in
+    let two = sum_by-append words_of_one (missing own known (bank_selects needs.bank)) (missing own (behind_bank own known needs) (page_selects needs.page)) in
+    let bank = count_bank needs.bank in
+    let page = count_page needs.page in
+    omega (arith, banks, pages, two, bank, page)
 
 few_select : (list out : List Sym) (state : State) (s : Sym) (rest : List Sym) (behind select : Bool) → is_select s ≡ true → words_in out + most_words (s ∷ rest) ≤ most_words list + debt behind (s ∷ rest) → words_in out + most_words rest ≤ most_words list + debt behind rest
 few_select list out state s rest false select is few =
@@ -200,11 +222,11 @@ few_by placed own list out new state next s rest false true needs is either foun
     few_moved list (out ++ s ∷ []) new (passed state.known s state.behind) next rest step.0 step.1 (few_put list out s rest is (omega (arith, few, within)))
 few_by placed own list out new state next s rest false false None is either found step few = absurd step
 few_by placed own list out new state next s rest false false (Some needs) is either found step few =
-    let put = sum_by-append words_of_one out (selects_for own state.known needs) in
+    let put = sum_by-append words_of_one out (missing_for own state.known needs) in
     let sizes = select_words own state.known needs in
     let within = cost_of_needs placed (s ∷ rest) needs found in
     let none : debt state.behind (s ∷ rest) ≡ 0 = ap (λ (b : Bool). debt b (s ∷ rest)) (free_first state.behind (is_label s) either) in
-    few_moved list (out ++ selects_for own state.known needs ++ s ∷ []) new (passed (known_with own state.known needs) s false) next rest step.0 step.1 (few_put list (out ++ selects_for own state.known needs) s rest is (omega (arith, few, put, sizes, within, none)))
+    few_moved list (out ++ missing_for own state.known needs ++ s ∷ []) new (passed (known_with own state.known needs) s false) next rest step.0 step.1 (few_put list (out ++ missing_for own state.known needs) s rest is (omega (arith, few, put, sizes, within, none)))
 
 pub few_more : (placed : Placed) (own : BlockName) (list out new : List Sym) (state next : State) (s : Sym) (left rest : List Sym) → left ≡ s ∷ rest → Next placed own state s left out new next → Few list out state left → Few list new next rest
 few_more placed own list out new state next s left rest e step few =

@@ -1,26 +1,30 @@
 -- Which instructions select, skip or are none; and what an instruction needs to be selected (Microchip data sheet DS39582,
 -- instruction set summary, STATUS, PCL and PCLATH).
-use Rattle.std.specs.Prelude.{ℕ, Bool, true, false, Option, Some, None, if◌then◌else◌}
+use Rattle.std.specs.Prelude.{Bool, true, false, Option, Some, None, if◌then◌else◌}
 use Rattle.core_code.specs.declared.code.Byte.{Byte}
+use Rattle.sym_code.specs.Touching.{touches}
+use Rattle.sym_code.specs.declared.code.BankBit.{BankBit}
+use Rattle.sym_code.specs.declared.code.BankBit.TheVariants as bank_bits
 use Rattle.sym_code.specs.declared.code.BitOperation.{BitOperation}
 use Rattle.sym_code.specs.declared.code.BitOperation.TheVariants as bit_ops
-use Rattle.sym_code.specs.declared.code.BlockName.{BlockName}
-use Rattle.sym_code.specs.declared.code.BlockName.TheVariants as names
 use Rattle.sym_code.specs.declared.code.FileOperation.{FileOperation}
 use Rattle.sym_code.specs.declared.code.FileOperation.TheVariants as file_ops
-use Rattle.sym_code.specs.declared.code.Label.{Label}
-use Rattle.sym_code.specs.declared.code.Label.TheVariants as labels
 use Rattle.sym_code.specs.declared.code.Operand.{Operand}
 use Rattle.sym_code.specs.declared.code.Operand.TheVariants as operands
 use Rattle.sym_code.specs.declared.code.Sym.{Sym}
 use Rattle.sym_code.specs.declared.code.Sym.TheVariants as syms
 use Rattle.sym_code.specs.declared.code.Target.{Target}
-use Rattle.sym_code.specs.declared.code.Target.TheVariants as targets
 use Rattle.code_place.specs.Addresses.{is_common}
 
+abbrev pub is_rp : BankBit → Bool
+is_rp bank_bits.Rp0 = true
+is_rp bank_bits.Rp1 = true
+is_rp bank_bits.Irp = false
+
+-- A select of RP0, RP1 or a bit of the page. One of IRP is an instruction like any other: no access by name needs it.
 abbrev pub is_select : Sym → Bool
-is_select (syms.SelectBank byte) = true
-is_select (syms.SelectPage target) = true
+is_select (syms.SelectBank bit on) = is_rp bit
+is_select (syms.SelectPage bit target) = true
 is_select _ = false
 
 abbrev pub is_label : Sym → Bool
@@ -49,22 +53,16 @@ byte_named (operands.Byte byte) = if is_common byte then None else Some byte
 byte_named (operands.Register register) = None
 byte_named (operands.Saved saved) = None
 
+abbrev pub byte_touched : Option (Operand × Bool) → Option Byte
+byte_touched None = None
+byte_touched (Some touched) = byte_named touched.0
+
+-- the byte whose bank an instruction needs
 abbrev pub byte_of : Sym → Option Byte
-byte_of (syms.File op file into) = byte_named file
-byte_of (syms.Movwf file) = byte_named file
-byte_of (syms.Clrf file) = byte_named file
-byte_of (syms.Bit op file bit) = byte_named file
-byte_of _ = None
+byte_of s = byte_touched (touches s)
 
 -- the target whose page an instruction needs
 abbrev pub target_of : Sym → Option Target
 target_of (syms.Call target) = Some target
 target_of (syms.Goto target) = Some target
 target_of _ = None
-
--- the block in which a target lies that a block names
-abbrev pub block_of : BlockName → Target → BlockName
-block_of own (targets.Block name) = name
-block_of own (targets.Label (labels.Inner number)) = own
-block_of own (targets.Label labels.Halt) = names.Start
-block_of own (targets.Label labels.Restore) = names.Start

@@ -1,6 +1,6 @@
 -- What the answer of `selects` keeps.
-use Rattle.std.specs.Prelude.{◌≡◌, ◌≤◌, ℕ, ◌/◌, Bool, true, false, not, ◌&&◌, List, [], ◌∷◌, map, Option, Some, None, option_map, if◌then◌else◌}
-use Rattle.std.specs.List.{filter, All}
+use Rattle.std.specs.Prelude.{◌≡◌, ◌≤◌, ℕ, ◌/◌, Bool, true, false, not, ◌&&◌, ◌||◌, List, [], ◌∷◌, ◌++◌, map, Option, Some, None, option_map, is_none, if◌then◌else◌}
+use Rattle.std.specs.List.{filter}
 use Rattle.core_code.specs.declared.code.Byte.{Byte}
 use Rattle.ram_place.specs.declared.placing.Placed.{Placed}
 use Rattle.sym_code.specs.declared.code.BlockName.{BlockName}
@@ -8,11 +8,12 @@ use Rattle.sym_code.specs.declared.code.Sym.{Sym}
 use Rattle.sym_code.specs.declared.code.Sym.TheVariants as syms
 use Rattle.sym_code.specs.declared.code.SymBlock.{SymBlock}
 use Rattle.sym_code.specs.declared.code.Target.{Target}
+use Rattle.sym_code.specs.Programs.{block_of}
 use Rattle.code_place.specs.Addresses.{address_of}
 use Rattle.code_place.specs.Sizes.{words_in, most_words}
-use Rattle.bank_page.specs.Kinds.{is_select, is_label, is_skip, byte_of, target_of, block_of}
-use Rattle.bank_page.specs.Known.{after, nothing}
-use Rattle.bank_page.specs.Step.{is_bank, is_page}
+use Rattle.bank_page.specs.Kinds.{is_select, is_label, is_skip, byte_of, target_of}
+use Rattle.bank_page.specs.Known.{nothing, is_bit, is_page, knows, seen_after}
+use Rattle.bank_page.specs.Step.{rp0_of, rp1_of, page_selects}
 use Rattle.bank_page.specs.declared.known.Known.{Known}
 use Rattle.bank_page.specs.declared.selecting.State.{State}
 
@@ -43,43 +44,47 @@ NoSelectBehindSkip list = walk Free list ≡ Broken → ⊥
 abbrev pub bank_number : Placed → Byte → Option ℕ
 bank_number placed byte = option_map (λ at. at / 128) (address_of placed byte)
 
-abbrev pub has_bank : Option ℕ → Option ℕ → Bool
+-- RP1 and RP0 are known to be those of the bank
+abbrev pub has_bank : Known → Option ℕ → Bool
 has_bank known None = false
-has_bank known (Some bank) = is_bank known bank
+has_bank known (Some bank) = is_bit known.rp1 (rp1_of bank) && is_bit known.rp0 (rp0_of bank)
 
 -- an instruction's byte is in the bank that is known to be selected
 abbrev pub reaches_byte : Placed → Known → Option Byte → Bool
 reaches_byte placed known None = true
-reaches_byte placed known (Some byte) = has_bank known.bank (bank_number placed byte)
+reaches_byte placed known (Some byte) = has_bank known (bank_number placed byte)
 
 -- its target is in the block whose page is known to be selected
 abbrev pub reaches_target : BlockName → Known → Option Target → Bool
 reaches_target own known None = true
-reaches_target own known (Some target) = is_page known.page (block_of own target)
+reaches_target own known (Some target) = is_page known.high (block_of own target) && is_page known.low (block_of own target)
 
 abbrev pub is_right : Placed → BlockName → Known → Sym → Bool
 is_right placed own known s = reaches_byte placed known (byte_of s) && reaches_target own known (target_of s)
 
--- what is known behind an instruction or a select
-abbrev pub seen_after : Placed → BlockName → Known → Sym → Bool → Known
-seen_after placed own known (syms.SelectBank byte) behind = record { bank = bank_number placed byte; page = known.page }
-seen_after placed own known (syms.SelectPage target) behind = record { bank = known.bank; page = Some (block_of own target) }
-seen_after placed own known s behind = after known s behind
+-- it sets something that isn't known to be so already, or is no select
+abbrev pub is_lean : BlockName → Known → Sym → Bool
+is_lean own known s = not (knows own known s)
 
 abbrev pub front : State
 front = record { known = nothing; behind = false }
 
-abbrev pub seen : Placed → BlockName → State → Sym → State
-seen placed own state s = record { known = seen_after placed own state.known s state.behind; behind = is_skip s }
+abbrev pub seen : BlockName → State → Sym → State
+seen own state s = record { known = seen_after own state.known s state.behind; behind = is_skip s }
 
--- Each access to a byte that isn't in every bank, and each jump and call, finds its bank or page selected.
-abbrev pub all_right : Placed → BlockName → State → List Sym → Bool
-all_right placed own state [] = true
-all_right placed own state (s ∷ list) = is_right placed own state.known s && all_right placed own (seen placed own state s) list
+-- each instruction of a list passes a test, by what is known before it
+abbrev pub all_pass : (Known → Sym → Bool) → BlockName → State → List Sym → Bool
+all_pass test own state [] = true
+all_pass test own state (s ∷ list) = test state.known s && all_pass test own (seen own state s) list
 
--- of a block, from its front, where nothing is known
+-- Each access to a byte that isn't in every bank, and each jump and call, finds its bank or page selected; of a block, from its
+-- front, where nothing is known.
 abbrev pub reaches_all : Placed → SymBlock → Bool
-reaches_all placed block = all_right placed block.name front block.list.items
+reaches_all placed block = all_pass (is_right placed block.name) block.name front block.list.items
+
+-- No select sets what is known to be so already.
+abbrev pub is_lean_all : SymBlock → Bool
+is_lean_all block = all_pass (is_lean block.name) block.name front block.list.items
 
 -- the names of the blocks, and their lists without selects
 abbrev pub names_of : List SymBlock → List BlockName
@@ -93,6 +98,25 @@ IsApart block = NoSelectBehindSkip block.list.items
 
 abbrev pub Reaches : Placed → SymBlock → Type 0
 Reaches placed block = reaches_all placed block ≡ true
+
+abbrev pub IsLean : SymBlock → Type 0
+IsLean block = is_lean_all block ≡ true
+
+-- an instruction that needs no select and ends nothing: no select stands before it
+abbrev pub is_quiet : Sym → Bool
+is_quiet s = not (is_select s || is_label s || is_skip s) && is_none (byte_of s) && is_none (target_of s)
+
+abbrev pub are_quiet : List Sym → Bool
+are_quiet [] = true
+are_quiet (s ∷ list) = is_quiet s && are_quiet list
+
+-- A block that begins with a jump begins with four words and what needs no select behind them: the two selects of its page, the
+-- jump, and the next instruction.
+pub record KeepsFront (given made : List Sym) : Type 0 where
+  pub words : (target : Target) (quiet rest : List Sym) → are_quiet quiet ≡ true → given ≡ syms.Goto target ∷ quiet ++ rest → (more : List Sym) × (made ≡ page_selects (Some target) ++ syms.Goto target ∷ quiet ++ more)
+
+abbrev pub KeepsFrontOf : SymBlock → SymBlock → Type 0
+KeepsFrontOf given made = KeepsFront given.list.items made.list.items
 
 -- The real words of the block that is made are at most those that the given one may become.
 abbrev pub IsWithin : SymBlock → SymBlock → Type 0

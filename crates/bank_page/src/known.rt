@@ -1,25 +1,27 @@
-//! What is known of the bank and the page at a place of a block.
+//! What is known at a place of a block of the bits that selects set.
 
-ghost use Rattle.std.specs.Prelude.{◌≡◌};
-ghost use Rattle.bank_page.specs.Kinds as kinds;
+ghost use Rattle.std.specs.Prelude.{◌≡◌, ◌&&◌};
 ghost use Rattle.bank_page.specs.Known as stated;
+ghost use Rattle.sym_code.specs.Programs.{same_name, block_of};
 
 use core_code::Byte;
 use sym_code::{
-    BitOperation, BlockName, Into, Label, LiteralOperation, Operand, PlainOperation, Register, Sym,
-    Target,
+    BankBit, BlockName, Label, LiteralOperation, Operand, PageBit, PlainOperation, Register, Sym,
+    Target, touches,
 };
 
-/// The bank that RP1 and RP0 name, and the block whose page bits 4 and 3 of PCLATH name, where they are known.
+/// RP0 and RP1, where they are known, and the blocks whose page bits 3 and 4 of PCLATH name.
 #[derive(Clone, Copy, PartialEq, Eq, Debug)]
 pub struct Known {
-    pub bank: Option<u16>,
-    pub page: Option<BlockName>,
+    pub rp0: Option<bool>,
+    pub rp1: Option<bool>,
+    pub low: Option<BlockName>,
+    pub high: Option<BlockName>,
 }
 
-/// The block in which a target lies that a block names.
-pub fn block_of(own: BlockName, target: Target) -> BlockName
-    ensures { result ≡ kinds.block_of own target }
+// The block in which a target lies that a block names.
+fn block_of(own: BlockName, target: Target) -> BlockName
+    ensures { result ≡ block_of own target }
 {
     match target {
         Target::Block(name) => name,
@@ -71,62 +73,52 @@ fn is_pclath(file: Operand) -> bool
     }
 }
 
-fn is_file(into: Into) -> bool
-    ensures { result ≡ stated.is_file into }
+/// Whether an instruction writes STATUS.
+pub fn writes_status(sym: Sym) -> bool
+    ensures { result ≡ stated.writes_status sym }
 {
-    match into {
-        Into::File => true,
-        Into::W => false,
+    match touches(sym) {
+        None => false,
+        Some((file, written)) => written && is_status(file),
     }
 }
 
-fn is_write(op: BitOperation) -> bool
-    ensures { result ≡ stated.is_write op }
+/// Whether an instruction writes PCLATH.
+pub fn writes_pclath(sym: Sym) -> bool
+    ensures { result ≡ stated.writes_pclath sym }
 {
-    match op {
-        BitOperation::Bcf => true,
-        BitOperation::Bsf => true,
-        BitOperation::Btfsc => false,
-        BitOperation::Btfss => false,
+    match touches(sym) {
+        None => false,
+        Some((file, written)) => written && is_pclath(file),
     }
 }
 
-/// Whether an instruction may change RP1 or RP0.
-pub fn changes_bank(sym: Sym) -> bool
-    ensures { result ≡ stated.changes_bank sym }
+// Whether an instruction may change this bit of the register that it writes.
+fn is_of_bit(sym: Sym, bit: u8) -> bool
+    ensures { result ≡ stated.is_of_bit sym bit }
 {
     match sym {
-        Sym::File { file, into, .. } => is_file(into) && is_status(file),
-        Sym::Movwf(file) => is_status(file),
-        Sym::Clrf(file) => is_status(file),
-        Sym::Bit { op, file, bit } => is_write(op) && is_status(file) && (bit == 5 || bit == 6),
-        Sym::Literal { .. } => false,
-        Sym::Plain(_) => false,
-        Sym::Call(_) => false,
-        Sym::Goto(_) => false,
-        Sym::Label(_) => false,
-        Sym::SelectBank(_) => false,
-        Sym::SelectPage(_) => false,
+        Sym::Bit { bit: number, .. } => number == bit,
+        _ => true,
     }
 }
 
-/// Whether an instruction may change bits 4 or 3 of PCLATH.
-pub fn changes_page(sym: Sym) -> bool
-    ensures { result ≡ stated.changes_page sym }
+fn changes(written: bool, sym: Sym, bit: u8) -> bool
+    ensures { result ≡ (written && stated.is_of_bit sym bit) }
 {
-    match sym {
-        Sym::File { file, into, .. } => is_file(into) && is_pclath(file),
-        Sym::Movwf(file) => is_pclath(file),
-        Sym::Clrf(file) => is_pclath(file),
-        Sym::Bit { op, file, bit } => is_write(op) && is_pclath(file) && (bit == 3 || bit == 4),
-        Sym::Literal { .. } => false,
-        Sym::Plain(_) => false,
-        Sym::Call(_) => false,
-        Sym::Goto(_) => false,
-        Sym::Label(_) => false,
-        Sym::SelectBank(_) => false,
-        Sym::SelectPage(_) => false,
-    }
+    written && is_of_bit(sym, bit)
+}
+
+fn kept_bit(changed: bool, known: Option<bool>) -> Option<bool>
+    ensures { result ≡ stated.kept changed known }
+{
+    if changed { None } else { known }
+}
+
+fn kept_page(changed: bool, known: Option<BlockName>) -> Option<BlockName>
+    ensures { result ≡ stated.kept changed known }
+{
+    if changed { None } else { known }
 }
 
 fn is_return(op: PlainOperation) -> bool
@@ -145,12 +137,7 @@ fn is_retlw(op: LiteralOperation) -> bool
 {
     match op {
         LiteralOperation::Retlw => true,
-        LiteralOperation::Addlw => false,
-        LiteralOperation::Andlw => false,
-        LiteralOperation::Iorlw => false,
-        LiteralOperation::Movlw => false,
-        LiteralOperation::Sublw => false,
-        LiteralOperation::Xorlw => false,
+        _ => false,
     }
 }
 
@@ -162,14 +149,7 @@ fn ends(sym: Sym) -> bool
         Sym::Goto(_) => true,
         Sym::Plain(op) => is_return(op),
         Sym::Literal { op, .. } => is_retlw(op),
-        Sym::File { .. } => false,
-        Sym::Movwf(_) => false,
-        Sym::Clrf(_) => false,
-        Sym::Bit { .. } => false,
-        Sym::Call(_) => false,
-        Sym::Label(_) => false,
-        Sym::SelectBank(_) => false,
-        Sym::SelectPage(_) => false,
+        _ => false,
     }
 }
 
@@ -181,15 +161,46 @@ fn forgets(sym: Sym) -> bool
     match sym {
         Sym::Label(_) => true,
         Sym::Call(_) => true,
-        Sym::File { .. } => false,
-        Sym::Movwf(_) => false,
-        Sym::Clrf(_) => false,
-        Sym::Bit { .. } => false,
-        Sym::Literal { .. } => false,
-        Sym::Plain(_) => false,
-        Sym::Goto(_) => false,
-        Sym::SelectBank(_) => false,
-        Sym::SelectPage(_) => false,
+        _ => false,
+    }
+}
+
+fn same_bit(a: bool, b: bool) -> bool
+    ensures { result ≡ stated.same_bit a b }
+{
+    if b { a } else { !a }
+}
+
+fn is_bit(known: Option<bool>, on: bool) -> bool
+    ensures { result ≡ stated.is_bit known on }
+{
+    match known {
+        None => false,
+        Some(known) => same_bit(known, on),
+    }
+}
+
+fn same_block(a: BlockName, b: BlockName) -> bool
+    ensures { result ≡ same_name a b }
+{
+    match a {
+        BlockName::Start => match b {
+            BlockName::Start => true,
+            BlockName::Copy(_) => false,
+        },
+        BlockName::Copy(a) => match b {
+            BlockName::Start => false,
+            BlockName::Copy(b) => a == b,
+        },
+    }
+}
+
+fn is_page(known: Option<BlockName>, block: BlockName) -> bool
+    ensures { result ≡ stated.is_page known block }
+{
+    match known {
+        None => false,
+        Some(known) => same_block(known, block),
     }
 }
 
@@ -199,8 +210,10 @@ impl Known {
         ensures { result ≡ stated.nothing }
     {
         Known {
-            bank: None,
-            page: None,
+            rp0: None,
+            rp1: None,
+            low: None,
+            high: None,
         }
     }
 
@@ -211,9 +224,61 @@ impl Known {
         if forgets(sym) || (ends(sym) && !may_be_skipped) {
             return Known::nothing();
         }
+        let status = writes_status(sym);
+        let pclath = writes_pclath(sym);
         Known {
-            bank: if changes_bank(sym) { None } else { self.bank },
-            page: if changes_page(sym) { None } else { self.page },
+            rp0: kept_bit(changes(status, sym, 5), self.rp0),
+            rp1: kept_bit(changes(status, sym, 6), self.rp1),
+            low: kept_page(changes(pclath, sym, 3), self.low),
+            high: kept_page(changes(pclath, sym, 4), self.high),
+        }
+    }
+
+    /// Whether what a select in a block sets is known to be so already.
+    pub fn knows(self, own: BlockName, sym: Sym) -> bool
+        ensures { result ≡ stated.knows own self sym }
+    {
+        match sym {
+            Sym::SelectBank(bit, on) => match bit {
+                BankBit::Rp0 => is_bit(self.rp0, on),
+                BankBit::Rp1 => is_bit(self.rp1, on),
+                BankBit::Irp => false,
+            },
+            Sym::SelectPage(bit, target) => match bit {
+                PageBit::Low => is_page(self.low, block_of(own, target)),
+                PageBit::High => is_page(self.high, block_of(own, target)),
+            },
+            _ => false,
+        }
+    }
+
+    /// What is known behind a select in a block.
+    pub fn learned(self, own: BlockName, sym: Sym) -> Known
+        ensures { result ≡ stated.learned own self sym }
+    {
+        match sym {
+            Sym::SelectBank(bit, on) => match bit {
+                BankBit::Rp0 => Known {
+                    rp0: Some(on),
+                    ..self
+                },
+                BankBit::Rp1 => Known {
+                    rp1: Some(on),
+                    ..self
+                },
+                BankBit::Irp => self,
+            },
+            Sym::SelectPage(bit, target) => match bit {
+                PageBit::Low => Known {
+                    low: Some(block_of(own, target)),
+                    ..self
+                },
+                PageBit::High => Known {
+                    high: Some(block_of(own, target)),
+                    ..self
+                },
+            },
+            _ => self,
         }
     }
 }

@@ -5,41 +5,37 @@ ghost use Rattle.bank_page.specs.Kinds as kinds;
 ghost use Rattle.bank_page.specs.Needs as stated;
 ghost use Rattle.code_place.specs.Addresses as addresses;
 
-use crate::known::{changes_bank, changes_page};
+use crate::known::{writes_pclath, writes_status};
 use code_place::address_of;
 use core_code::Byte;
 use ram_place::Placed;
-use sym_code::{BitOperation, FileOperation, Operand, Sym, Target};
+use sym_code::{BankBit, BitOperation, FileOperation, Operand, Sym, Target, touches};
 
-/// A byte, and the bank that it stands in.
-#[derive(Clone, Copy, PartialEq, Eq, Debug)]
-pub struct Banked {
-    pub byte: Byte,
-    pub bank: u16,
-}
-
-/// What must be selected before an instruction: the bank of a byte, and the page of a target.
+/// What must be selected before an instruction: a bank, and the page of a target.
 #[derive(Clone, Copy, PartialEq, Eq, Debug)]
 pub struct Needs {
-    pub bank: Option<Banked>,
+    pub bank: Option<u16>,
     pub page: Option<Target>,
 }
 
+fn is_rp(bit: BankBit) -> bool
+    ensures { result ≡ kinds.is_rp bit }
+{
+    match bit {
+        BankBit::Rp0 => true,
+        BankBit::Rp1 => true,
+        BankBit::Irp => false,
+    }
+}
+
+/// Whether the instruction selects a bank or a page. One that sets IRP is an instruction like any other.
 pub fn is_select(sym: Sym) -> bool
     ensures { result ≡ kinds.is_select sym }
 {
     match sym {
-        Sym::SelectBank(_) => true,
-        Sym::SelectPage(_) => true,
-        Sym::File { .. } => false,
-        Sym::Movwf(_) => false,
-        Sym::Clrf(_) => false,
-        Sym::Bit { .. } => false,
-        Sym::Literal { .. } => false,
-        Sym::Plain(_) => false,
-        Sym::Call(_) => false,
-        Sym::Goto(_) => false,
-        Sym::Label(_) => false,
+        Sym::SelectBank(bit, _) => is_rp(bit),
+        Sym::SelectPage(_, _) => true,
+        _ => false,
     }
 }
 
@@ -48,16 +44,7 @@ pub fn is_label(sym: Sym) -> bool
 {
     match sym {
         Sym::Label(_) => true,
-        Sym::SelectBank(_) => false,
-        Sym::SelectPage(_) => false,
-        Sym::File { .. } => false,
-        Sym::Movwf(_) => false,
-        Sym::Clrf(_) => false,
-        Sym::Bit { .. } => false,
-        Sym::Literal { .. } => false,
-        Sym::Plain(_) => false,
-        Sym::Call(_) => false,
-        Sym::Goto(_) => false,
+        _ => false,
     }
 }
 
@@ -67,18 +54,7 @@ fn skips_by_file(op: FileOperation) -> bool
     match op {
         FileOperation::Decfsz => true,
         FileOperation::Incfsz => true,
-        FileOperation::Addwf => false,
-        FileOperation::Andwf => false,
-        FileOperation::Comf => false,
-        FileOperation::Decf => false,
-        FileOperation::Incf => false,
-        FileOperation::Iorwf => false,
-        FileOperation::Movf => false,
-        FileOperation::Rlf => false,
-        FileOperation::Rrf => false,
-        FileOperation::Subwf => false,
-        FileOperation::Swapf => false,
-        FileOperation::Xorwf => false,
+        _ => false,
     }
 }
 
@@ -100,15 +76,7 @@ pub fn is_skip(sym: Sym) -> bool
     match sym {
         Sym::File { op, .. } => skips_by_file(op),
         Sym::Bit { op, .. } => skips_by_bit(op),
-        Sym::SelectBank(_) => false,
-        Sym::SelectPage(_) => false,
-        Sym::Movwf(_) => false,
-        Sym::Clrf(_) => false,
-        Sym::Literal { .. } => false,
-        Sym::Plain(_) => false,
-        Sym::Call(_) => false,
-        Sym::Goto(_) => false,
-        Sym::Label(_) => false,
+        _ => false,
     }
 }
 
@@ -146,18 +114,9 @@ fn byte_named(file: Operand) -> Option<Byte>
 fn byte_of(sym: Sym) -> Option<Byte>
     ensures { result ≡ kinds.byte_of sym }
 {
-    match sym {
-        Sym::File { file, .. } => byte_named(file),
-        Sym::Movwf(file) => byte_named(file),
-        Sym::Clrf(file) => byte_named(file),
-        Sym::Bit { file, .. } => byte_named(file),
-        Sym::SelectBank(_) => None,
-        Sym::SelectPage(_) => None,
-        Sym::Literal { .. } => None,
-        Sym::Plain(_) => None,
-        Sym::Call(_) => None,
-        Sym::Goto(_) => None,
-        Sym::Label(_) => None,
+    match touches(sym) {
+        None => None,
+        Some((file, _)) => byte_named(file),
     }
 }
 
@@ -168,52 +127,37 @@ fn target_of(sym: Sym) -> Option<Target>
     match sym {
         Sym::Call(target) => Some(target),
         Sym::Goto(target) => Some(target),
-        Sym::File { .. } => None,
-        Sym::Movwf(_) => None,
-        Sym::Clrf(_) => None,
-        Sym::Bit { .. } => None,
-        Sym::SelectBank(_) => None,
-        Sym::SelectPage(_) => None,
-        Sym::Literal { .. } => None,
-        Sym::Plain(_) => None,
-        Sym::Label(_) => None,
+        _ => None,
     }
 }
 
 // Both needs as one, where no two banks are among them.
-fn both_banks(first: Option<Banked>, second: Option<Banked>) -> Option<Option<Banked>>
+fn both_banks(first: Option<u16>, second: Option<u16>) -> Option<Option<u16>>
     ensures { result ≡ stated.both_banks first second }
 {
     match first {
         None => Some(second),
         Some(one) => match second {
             None => Some(first),
-            Some(other) => if one.bank == other.bank {
-                Some(first)
-            } else {
-                None
-            },
+            Some(other) => if one == other { Some(first) } else { None },
         },
     }
 }
 
 // The bank that a byte needs. There is no answer where it has no address.
-fn find_bank(placed: &Placed, byte: Option<Byte>) -> Option<Option<Banked>>
+fn find_bank(placed: &Placed, byte: Option<Byte>) -> Option<Option<u16>>
     ensures { result ≡ stated.banked placed.now byte }
 {
     match byte {
         None => Some(None),
         Some(byte) => match address_of(placed, byte) {
             None => None,
-            Some(at) => Some(Some(Banked {
-                byte,
-                bank: at / 128,
-            })),
+            Some(at) => Some(Some(at / 128)),
         },
     }
 }
 
-fn needs_one(sym: Sym, bank: Option<Option<Banked>>) -> Option<Needs>
+fn needs_one(sym: Sym, bank: Option<Option<u16>>) -> Option<Needs>
     ensures { result ≡ stated.needs_one sym bank }
 {
     match bank {
@@ -225,7 +169,7 @@ fn needs_one(sym: Sym, bank: Option<Option<Banked>>) -> Option<Needs>
     }
 }
 
-fn with_bank(bank: Option<Option<Banked>>, rest: Needs) -> Option<Needs>
+fn with_bank(bank: Option<Option<u16>>, rest: Needs) -> Option<Needs>
     ensures { result ≡ stated.with_bank bank rest }
 {
     match bank {
@@ -237,7 +181,7 @@ fn with_bank(bank: Option<Option<Banked>>, rest: Needs) -> Option<Needs>
     }
 }
 
-fn both(bank: Option<Option<Banked>>, rest: Option<Needs>) -> Option<Needs>
+fn both(bank: Option<Option<u16>>, rest: Option<Needs>) -> Option<Needs>
     ensures { result ≡ stated.both bank rest }
 {
     match bank {
@@ -263,7 +207,7 @@ pub fn needs_in(placed: &Placed, list: &[Sym]) -> Option<Needs>
             } else if is_label(*first) {
                 None
             } else if is_skip(*first) {
-                if changes_bank(*first) || changes_page(*first) {
+                if writes_status(*first) || writes_pclath(*first) {
                     None
                 } else {
                     both(find_bank(placed, byte_of(*first)), needs_in(placed, rest))

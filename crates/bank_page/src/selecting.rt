@@ -2,16 +2,17 @@
 
 ghost use Rattle.std.specs.Prelude.{◌≡◌, ◌≤◌, ◌++◌, ◌∷◌, [], true, List, IfOk};
 ghost use Rattle.std.specs.List.{All, AllZip};
+ghost use Rattle.bank_page.specs.Known.{learned};
 ghost use Rattle.bank_page.specs.Selected as kept;
 ghost use Rattle.code_place.specs.Sizes.{words_in, most_words};
 ghost use Rattle.bank_page.specs.Step as stated;
 ghost use Rattle.sym_code.specs.WellFormed.{is_well_formed, are_well_formed};
 
-use crate::known::{Known, block_of};
-use crate::needs::{Banked, Needs, is_label, is_select, is_skip, needs_in};
+use crate::known::Known;
+use crate::needs::{Needs, is_label, is_select, is_skip, needs_in};
 use ram_place::Placed;
 use std::alloc::{AllocError, Global};
-use sym_code::{BlockName, Sym, SymBlock, SymProgram, Target};
+use sym_code::{BankBit, PageBit, Sym, SymBlock, SymProgram, Target};
 
 /// What is known at a place of a block, and whether it stands behind a skip.
 #[derive(Clone, Copy)]
@@ -20,83 +21,48 @@ pub struct State {
     pub behind: bool,
 }
 
-fn is_bank(known: Option<u16>, bank: u16) -> bool
-    ensures { result ≡ stated.is_bank known bank }
-{
-    match known {
-        None => false,
-        Some(known) => known == bank,
-    }
-}
-
-fn same_block(a: BlockName, b: BlockName) -> bool
-    ensures { result ≡ stated.same_block a b }
-{
-    match a {
-        BlockName::Start => match b {
-            BlockName::Start => true,
-            BlockName::Copy(_) => false,
-        },
-        BlockName::Copy(a) => match b {
-            BlockName::Start => false,
-            BlockName::Copy(b) => a == b,
-        },
-    }
-}
-
-fn is_page(known: Option<BlockName>, block: BlockName) -> bool
-    ensures { result ≡ stated.is_page known block }
-{
-    match known {
-        None => false,
-        Some(known) => same_block(known, block),
-    }
-}
-
-// Puts the select of a bank where it isn't known to be selected, and answers which one then is.
-fn put_bank(
-    out: &mut SymBlock,
-    known: Option<u16>,
-    bank: Option<Banked>,
-) -> Result<Option<u16>, AllocError>
-    ensures put { IfOk result (λ then. (out.new.list.items ≡ out.old.list.items ++ stated.bank_selects known bank) × (then ≡ stated.bank_with known bank)) }
+// Puts a select where what it sets isn't known to be so, and answers what then is known.
+fn put_select(out: &mut SymBlock, known: Known, select: Sym) -> Result<Known, AllocError>
+    requires { is_well_formed select ≡ true }
+    ensures put { IfOk result (λ then. (out.new.list.items ≡ out.old.list.items ++ stated.unknown out.old.name known select) × (then ≡ learned out.old.name known select)) }
     ensures name { out.new.name ≡ out.old.name }
 {
-    let Some(banked) = bank else {
-        return Ok(known);
-    };
-    if !is_bank(known, banked.bank) {
-        out.put(Sym::SelectBank(banked.byte))?;
+    if !known.knows(out.name, select) {
+        out.put(select)?;
     }
-    Ok(Some(banked.bank))
+    Ok(known.learned(out.name, select))
 }
 
-// The same of a page.
-fn put_page(
-    out: &mut SymBlock,
-    known: Option<BlockName>,
-    page: Option<Target>,
-) -> Result<Option<BlockName>, AllocError>
-    ensures put { IfOk result (λ then. (out.new.list.items ≡ out.old.list.items ++ stated.page_selects out.old.name known page) × (then ≡ stated.page_with out.old.name known page)) }
+// The selects of a bank: bits 8 and 7 of the addresses in it (Microchip data sheet DS39582, STATUS).
+fn put_bank(out: &mut SymBlock, known: Known, bank: Option<u16>) -> Result<Known, AllocError>
+    ensures put { IfOk result (λ then. (out.new.list.items ≡ out.old.list.items ++ stated.missing out.old.name known (stated.bank_selects bank)) × (then ≡ stated.behind_selects out.old.name known (stated.bank_selects bank))) }
+    ensures name { out.new.name ≡ out.old.name }
+{
+    let Some(bank) = bank else {
+        return Ok(known);
+    };
+    let then = put_select(out, known, Sym::SelectBank(BankBit::Rp1, bank / 2 % 2 == 1))?;
+    put_select(out, then, Sym::SelectBank(BankBit::Rp0, bank % 2 == 1))
+}
+
+// The selects of a page.
+fn put_page(out: &mut SymBlock, known: Known, page: Option<Target>) -> Result<Known, AllocError>
+    ensures put { IfOk result (λ then. (out.new.list.items ≡ out.old.list.items ++ stated.missing out.old.name known (stated.page_selects page)) × (then ≡ stated.behind_selects out.old.name known (stated.page_selects page))) }
     ensures name { out.new.name ≡ out.old.name }
 {
     let Some(target) = page else {
         return Ok(known);
     };
-    let block = block_of(out.name, target);
-    if !is_page(known, block) {
-        out.put(Sym::SelectPage(target))?;
-    }
-    Ok(Some(block))
+    let then = put_select(out, known, Sym::SelectPage(PageBit::High, target))?;
+    put_select(out, then, Sym::SelectPage(PageBit::Low, target))
 }
 
 fn put_selects(out: &mut SymBlock, known: Known, needs: Needs) -> Result<Known, AllocError>
-    ensures put { IfOk result (λ then. (out.new.list.items ≡ out.old.list.items ++ stated.selects_for out.old.name known needs) × (then ≡ stated.known_with out.old.name known needs)) }
+    ensures put { IfOk result (λ then. (out.new.list.items ≡ out.old.list.items ++ stated.missing_for out.old.name known needs) × (then ≡ stated.known_with out.old.name known needs)) }
     ensures name { out.new.name ≡ out.old.name }
 {
-    let bank = put_bank(out, known.bank, needs.bank)?;
-    let page = put_page(out, known.page, needs.page)?;
-    Ok(Known { bank, page })
+    let then = put_bank(out, known, needs.bank)?;
+    put_page(out, then, needs.page)
 }
 
 fn passed(known: Known, sym: Sym, behind: bool) -> State
@@ -143,6 +109,8 @@ fn put_selected(out: &mut SymBlock, placed: &Placed, list: &[Sym]) -> Result<(),
     ensures bare { IfOk result (λ _. kept.bare out.new.list.items ≡ kept.bare list.now) }
     ensures apart { IfOk result (λ _. kept.NoSelectBehindSkip out.new.list.items) }
     ensures right { IfOk result (λ _. kept.reaches_all placed.now out.new ≡ true) }
+    ensures lean { IfOk result (λ _. kept.is_lean_all out.new ≡ true) }
+    ensures front { IfOk result (λ _. kept.KeepsFront list.now out.new.list.items) }
     ensures few { IfOk result (λ _. words_in out.new.list.items ≤ most_words list.now) }
 {
     let mut state = State {
@@ -162,6 +130,8 @@ fn selected(alloc: Global, block: &SymBlock, placed: &Placed) -> Result<SymBlock
     ensures bare { IfOk result (λ made. kept.bare made.list.items ≡ kept.bare block.now.list.items) }
     ensures apart { IfOk result (λ made. kept.NoSelectBehindSkip made.list.items) }
     ensures right { IfOk result (λ made. kept.reaches_all placed.now made ≡ true) }
+    ensures lean { IfOk result (λ made. kept.is_lean_all made ≡ true) }
+    ensures front { IfOk result (λ made. kept.KeepsFrontOf block.now made) }
     ensures few { IfOk result (λ made. kept.IsWithin block.now made) }
 {
     let mut out = SymBlock::new(alloc, block.name);
@@ -177,7 +147,8 @@ fn put_made(blocks: &mut Vec<SymBlock>, block: SymBlock) -> Result<(), AllocErro
 }
 
 /// The program with the selects that it needs: before each access to a byte that isn't in every bank, RP1 and RP0 name its
-/// bank, and before each jump and call, PCLATH names the page of its target. In straight-line code nothing is selected twice.
+/// bank, and before each jump and call, bits 4 and 3 of PCLATH name the page of its target. Each select sets one bit, and none
+/// sets what is known to be so in straight-line code.
 /// Between a skip and the instruction behind it stands no select: what both need is selected before the skip.
 ///
 /// Want of memory is also the answer where a skip and what stands behind it need two banks, where a label stands behind a
@@ -192,6 +163,11 @@ pub fn selects(alloc: Global, s: &SymProgram, placed: &Placed) -> Result<SymProg
     ensures apart { IfOk result (λ made. All kept.IsApart made.blocks.items) }
     // On every way through a block each access finds its bank selected, and each jump and call its page.
     ensures reaches { IfOk result (λ made. All (kept.Reaches placed.now) made.blocks.items) }
+    // No select sets what is known to be so already.
+    ensures lean { IfOk result (λ made. All kept.IsLean made.blocks.items) }
+    // A block that begins with a jump begins with four words: the selects of its page, the jump, and the instruction behind it;
+    // what needs no select behind that stands at once.
+    ensures front { IfOk result (λ made. AllZip kept.KeepsFrontOf s.now.blocks.items made.blocks.items) }
     // Each block has at most the words that it may become with a select for each access, jump and call that may need one.
     ensures few { IfOk result (λ made. AllZip kept.IsWithin s.now.blocks.items made.blocks.items) }
 {

@@ -1,9 +1,12 @@
 use crate::selects;
 use core_code::Byte;
+use pic_chip::Root;
+use pic_map::FrameLine;
 use ram_place::Placed;
 use std::alloc::{AllocError, Global};
 use sym_code::{
-    BitOperation, BlockName, Label, Operand, PlainOperation, Sym, SymBlock, SymProgram, Target,
+    BankBit, BitOperation, BlockName, Label, Operand, PageBit, PlainOperation, Sym, SymBlock,
+    SymProgram, Target,
 };
 
 fn placed(alloc: Global) -> Placed {
@@ -38,23 +41,68 @@ fn selects_of_a_skipped_jump_stand_before_the_skip(rt: HostRuntime) -> Result<()
     blocks.push(body(rt.alloc())?)?;
     let program = SymProgram { blocks };
     let made = selects(rt.alloc(), &program, &placed(rt.alloc()))?;
+    let jump = Target::Label(Label::Inner(0));
     let wanted = [
-        (0, Sym::SelectBank(trisb)),
-        (1, Sym::SelectPage(Target::Label(Label::Inner(0)))),
+        (0, Sym::SelectBank(BankBit::Rp1, false)),
+        (1, Sym::SelectBank(BankBit::Rp0, true)),
+        (2, Sym::SelectPage(PageBit::High, jump)),
+        (3, Sym::SelectPage(PageBit::Low, jump)),
         (
-            2,
+            4,
             Sym::Bit {
                 op: BitOperation::Btfss,
                 file: Operand::Byte(trisb),
                 bit: 0,
             },
         ),
-        (3, Sym::Goto(Target::Label(Label::Inner(0)))),
-        (4, Sym::Movwf(Operand::Byte(trisb))),
-        (5, Sym::Label(Label::Inner(0))),
-        (6, Sym::SelectBank(trisb)),
-        (7, Sym::Movwf(Operand::Byte(trisb))),
-        (8, Sym::Plain(PlainOperation::Return)),
+        (5, Sym::Goto(jump)),
+        (6, Sym::Movwf(Operand::Byte(trisb))),
+        (7, Sym::Label(Label::Inner(0))),
+        (8, Sym::SelectBank(BankBit::Rp1, false)),
+        (9, Sym::SelectBank(BankBit::Rp0, true)),
+        (10, Sym::Movwf(Operand::Byte(trisb))),
+        (11, Sym::Plain(PlainOperation::Return)),
+    ];
+    for block in &made.blocks {
+        assert_eq!(rt; block.list.len(), 12);
+        for (place, sym) in wanted {
+            assert_eq!(rt; block.list.get(place).copied(), Some(sym), "{place}");
+        }
+    }
+    assert_eq!(rt; made.blocks.len(), 1);
+    Ok(())
+}
+
+// From TRISB, 86h, to PORTB, 06h, RP0 alone changes, and from there to 110h RP1 alone.
+#[test]
+fn only_the_bits_that_change_are_selected(rt: HostRuntime) -> Result<(), AllocError> {
+    let mut block = SymBlock::new(rt.alloc(), BlockName::Copy(0));
+    for address in [0x86, 0x06, 0x06] {
+        block.put(Sym::Movwf(Operand::Byte(Byte::Device { address })))?;
+    }
+    block.put(Sym::SelectBank(BankBit::Irp, true))?;
+    block.put(Sym::Clrf(Operand::Byte(Byte::Frame { copy: 0, offset: 0 })))?;
+    let mut blocks = Vec::new(rt.alloc());
+    blocks.push(block)?;
+    let mut frames = Vec::new(rt.alloc());
+    frames.push(FrameLine {
+        root: Root::Main,
+        name: Vec::new(rt.alloc()),
+        address: 0x110,
+        size: 1,
+    })?;
+    let placed = Placed {
+        objects: Vec::new(rt.alloc()),
+        frames,
+        ram: 1,
+    };
+    let made = selects(rt.alloc(), &SymProgram { blocks }, &placed)?;
+    let wanted = [
+        (0, Sym::SelectBank(BankBit::Rp1, false)),
+        (1, Sym::SelectBank(BankBit::Rp0, true)),
+        (3, Sym::SelectBank(BankBit::Rp0, false)),
+        (6, Sym::SelectBank(BankBit::Irp, true)),
+        (7, Sym::SelectBank(BankBit::Rp1, true)),
     ];
     for block in &made.blocks {
         assert_eq!(rt; block.list.len(), 9);

@@ -1,6 +1,7 @@
 pub mod Apart
 pub mod Blocks
 pub mod Filled
+pub mod Layouts
 pub mod Maps
 pub mod Marked
 pub mod Named

@@ -2,7 +2,7 @@
 use Rattle.std.proofs.Common.{◌≡◌, ℕ, ◌+◌, ◌<◌, List, length, get_or, take, refl, sym, ap, ◌∙◌}
 use Rattle.std.specs.BTreeMap.{BTreeMap}
 use Rattle.std.specs.Option.{option_or}
-use Rattle.sym_code.specs.Machine.{same_name}
+use Rattle.sym_code.specs.Programs.{same_name}
 use Rattle.sym_code.specs.declared.code.BlockName.{BlockName}
 use Rattle.sym_code.specs.declared.code.Label.TheVariants as labels
 use Rattle.sym_code.specs.declared.code.SymBlock.{SymBlock}
@@ -14,13 +14,13 @@ use Rattle.code_place.specs.declared.marks.Marks.{Marks}
 use Rattle.code_place.proofs.Places.{one_more}
 
 pub marks_more : (ys blocks : List SymBlock) (at : List ℕ) (i : ℕ) (block : SymBlock) (start : ℕ) (old named new : Marks) → ys ≡ blocks → i < length ys → block ≡ get_or ys i block → i < length at → start ≡ get_or at i start → AreMarks (take i blocks) at old
-    → ((asked : BlockName) → block_in named asked ≡ option_or (at_if (same_name block.name asked) start) (block_in old asked)) → named.halt ≡ old.halt → named.restore ≡ old.restore
-    → ((asked : BlockName) → block_in new asked ≡ block_in named asked) → new.halt ≡ option_or (label_at labels.Halt start block.list.items) named.halt → new.restore ≡ option_or (label_at labels.Restore start block.list.items) named.restore
+    → ((asked : BlockName) → block_in named asked ≡ option_or (block_in old asked) (at_if (same_name block.name asked) start)) → named.halt ≡ old.halt → named.restore ≡ old.restore
+    → ((asked : BlockName) → block_in new asked ≡ block_in named asked) → new.halt ≡ option_or named.halt (label_at labels.Halt start block.list.items) → new.restore ≡ option_or named.restore (label_at labels.Restore start block.list.items)
     → AreMarks (take (i + 1) blocks) at new
 marks_more ys blocks at i block start old named new same below read inside is before by_name same_halt same_restore as_named halt restore = (
-  λ name. as_named name ∙ (by_name name ∙ (ap (option_or (at_if (same_name block.name name) start)) (before.0 name) ∙ sym (one_more (λ b s. at_if (same_name b.name name) s) ys blocks at i block start same below read inside is))),
-  halt ∙ (ap (option_or (label_at labels.Halt start block.list.items)) (same_halt ∙ before.1) ∙ sym (one_more (λ b s. label_at labels.Halt s b.list.items) ys blocks at i block start same below read inside is)),
-  restore ∙ (ap (option_or (label_at labels.Restore start block.list.items)) (same_restore ∙ before.2) ∙ sym (one_more (λ b s. label_at labels.Restore s b.list.items) ys blocks at i block start same below read inside is)),
+  λ name. as_named name ∙ (by_name name ∙ (ap (λ o. option_or o (at_if (same_name block.name name) start)) (before.0 name) ∙ sym (one_more (λ b s. at_if (same_name b.name name) s) ys blocks at i block start same below read inside is))),
+  halt ∙ (ap (λ o. option_or o (label_at labels.Halt start block.list.items)) (same_halt ∙ before.1) ∙ sym (one_more (λ b s. label_at labels.Halt s b.list.items) ys blocks at i block start same below read inside is)),
+  restore ∙ (ap (λ o. option_or o (label_at labels.Restore start block.list.items)) (same_restore ∙ before.2) ∙ sym (one_more (λ b s. label_at labels.Restore s b.list.items) ys blocks at i block start same below read inside is)),
 )
 
 -- the map of inner labels has those of the block

@@ -57,8 +57,8 @@ words_more placed target xs i d below =
 -- each instruction has as many words as it is counted with
 pub count_one : (placed : Placed) (target : Target → Option ℕ) (s : Sym) → length (map word_of (rows placed target s)) ≡ words_of_one s
 count_one placed target (syms.Label label) = refl
-count_one placed target (syms.SelectBank byte) = refl
-count_one placed target (syms.SelectPage name) = refl
+count_one placed target (syms.SelectBank bit on) = refl
+count_one placed target (syms.SelectPage bit name) = refl
 count_one placed target (syms.File op file into) = refl
 count_one placed target (syms.Movwf file) = refl
 count_one placed target (syms.Clrf file) = refl

@@ -1,20 +1,18 @@
 -- The addresses of bytes that have names, as far as they are in data memory: the byte of an object or frame stands so far behind
 -- the front of it. Results and saved cells are among 70h to 7Fh, which every bank shows (Microchip data sheet DS39582, register
--- file map); which of these bytes each one is, is the project's own choice.
+-- file map).
 use Rattle.std.specs.Prelude.{ℕ, ◌+◌, nat_lt, nat_eq, Bool, true, false, ◌||◌, Option, Some, None, slice_get, if◌then◌else◌}
 use Rattle.core_code.specs.declared.code.Byte.{Byte}
 use Rattle.core_code.specs.declared.code.Byte.TheVariants as bytes
 use Rattle.pic_chip.specs.declared.Root.{Root}
-use Rattle.pic_chip.specs.declared.Root.TheVariants as roots
 use Rattle.pic_map.specs.declared.ObjLine.{ObjLine}
 use Rattle.pic_map.specs.declared.FrameLine.{FrameLine}
 use Rattle.ram_place.specs.declared.placing.Placed.{Placed}
+use Rattle.sym_code.specs.Layout.{result_address, saved_address}
 use Rattle.sym_code.specs.declared.code.Operand.{Operand}
 use Rattle.sym_code.specs.declared.code.Operand.TheVariants as operands
 use Rattle.sym_code.specs.declared.code.Register.{Register}
 use Rattle.sym_code.specs.declared.code.Register.TheVariants as registers
-use Rattle.sym_code.specs.declared.code.Saved.{Saved}
-use Rattle.sym_code.specs.declared.code.Saved.TheVariants as cells
 
 abbrev pub in_memory : ℕ → Option ℕ
 in_memory at = if nat_lt at 512 then Some at else None
@@ -27,12 +25,8 @@ abbrev pub frame_byte : Option FrameLine → ℕ → Option ℕ
 frame_byte (Some line) offset = in_memory (line.address + offset)
 frame_byte None offset = None
 
-abbrev pub results : Root → ℕ
-results roots.Main = 0x70
-results roots.Isr = 0x74
-
 abbrev pub result_byte : Root → ℕ → Option ℕ
-result_byte r k = if nat_lt k 4 then Some (results r + k) else None
+result_byte r k = if nat_lt k 4 then Some (result_address r + k) else None
 
 abbrev pub address_of : Placed → Byte → Option ℕ
 address_of placed (bytes.Static object offset) = object_byte (slice_get placed.objects.items object) offset
@@ -45,12 +39,6 @@ register_address registers.Indf = 0x00
 register_address registers.Status = 0x03
 register_address registers.Fsr = 0x04
 register_address registers.Pclath = 0x0a
-
-abbrev pub saved_address : Saved → ℕ
-saved_address cells.W = 0x78
-saved_address cells.Status = 0x79
-saved_address cells.Fsr = 0x7a
-saved_address cells.Pclath = 0x7b
 
 abbrev pub file_address : Placed → Operand → Option ℕ
 file_address placed (operands.Byte b) = address_of placed b

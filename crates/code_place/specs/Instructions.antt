@@ -1,5 +1,5 @@
--- The instructions of the chip that a symbolic one stands for, where each byte and each target that it names has an address.
-use Rattle.std.specs.Prelude.{ℕ, ◌/◌, ◌%◌, nat_eq, Bool, true, false, List, [], ◌∷◌, ◌++◌, map, Option, unwrap_or, if◌then◌else◌}
+-- The instruction of the chip that a symbolic one stands for, where each byte and each target that it names has an address.
+use Rattle.std.specs.Prelude.{ℕ, ◌/◌, ◌%◌, nat_eq, Bool, List, [], ◌∷◌, ◌++◌, map, Option, unwrap_or, if◌then◌else◌}
 use Rattle.pic_isa.specs.Table.{word_of}
 use Rattle.pic_isa.specs.declared.Ins.{Ins}
 use Rattle.pic_isa.specs.declared.Ins.TheVariants as isa
@@ -14,17 +14,16 @@ use Rattle.sym_code.specs.declared.code.LiteralOperation.{LiteralOperation}
 use Rattle.sym_code.specs.declared.code.LiteralOperation.TheVariants as literal_ops
 use Rattle.sym_code.specs.declared.code.PlainOperation.{PlainOperation}
 use Rattle.sym_code.specs.declared.code.PlainOperation.TheVariants as plain_ops
-use Rattle.sym_code.specs.declared.code.Into.{Into}
-use Rattle.sym_code.specs.declared.code.Into.TheVariants as goes
 use Rattle.sym_code.specs.declared.code.Literal.{Literal}
 use Rattle.sym_code.specs.declared.code.Literal.TheVariants as values
+use Rattle.sym_code.specs.Touching.{is_file}
+use Rattle.sym_code.specs.declared.code.BankBit.{BankBit}
+use Rattle.sym_code.specs.declared.code.BankBit.TheVariants as bank_bits
 use Rattle.sym_code.specs.declared.code.Operand.{Operand}
+use Rattle.sym_code.specs.declared.code.PageBit.{PageBit}
+use Rattle.sym_code.specs.declared.code.PageBit.TheVariants as page_bits
 use Rattle.sym_code.specs.declared.code.Target.{Target}
 use Rattle.code_place.specs.Addresses.{address_of, file_address}
-
-abbrev pub is_file : Into → Bool
-is_file goes.W = false
-is_file goes.File = true
 
 abbrev pub file_row : FileOperation → ℕ → Bool → Ins
 file_row file_ops.Addwf f d = isa.Addwf f d
@@ -64,16 +63,19 @@ plain_row plain_ops.Retfie = isa.Retfie
 plain_row plain_ops.Return = isa.Return
 
 -- the bit of the register becomes this one
-abbrev pub bit_set : ℕ → ℕ → ℕ → Ins
-bit_set f b one = if nat_eq one 1 then isa.Bsf f b else isa.Bcf f b
+abbrev pub bit_set : ℕ → ℕ → Bool → Ins
+bit_set f b on = if on then isa.Bsf f b else isa.Bcf f b
 
--- RP1 and RP0, bits 6 and 5 of STATUS, become bits 8 and 7 of a byte's address (DS39582, STATUS)
-abbrev pub bank_rows : ℕ → List Ins
-bank_rows address = bit_set 0x03 6 (address / 256 % 2) ∷ bit_set 0x03 5 (address / 128 % 2) ∷ []
+-- RP0, RP1 and IRP are bits 5, 6 and 7 of STATUS (DS39582, STATUS)
+abbrev pub bank_row : BankBit → Bool → Ins
+bank_row bank_bits.Rp0 on = bit_set 0x03 5 on
+bank_row bank_bits.Rp1 on = bit_set 0x03 6 on
+bank_row bank_bits.Irp on = bit_set 0x03 7 on
 
--- bits 4 and 3 of PCLATH become bits 12 and 11 of a target's (DS39582, PCL and PCLATH)
-abbrev pub page_rows : ℕ → List Ins
-page_rows address = bit_set 0x0a 4 (address / 4096 % 2) ∷ bit_set 0x0a 3 (address / 2048 % 2) ∷ []
+-- bits 3 and 4 of PCLATH become bits 11 and 12 of a target's address (DS39582, PCL and PCLATH)
+abbrev pub page_row : PageBit → ℕ → Ins
+page_row page_bits.Low address = bit_set 0x0a 3 (nat_eq (address / 2048 % 2) 1)
+page_row page_bits.High address = bit_set 0x0a 4 (nat_eq (address / 4096 % 2) 1)
 
 -- an address that is there
 abbrev pub known : Option ℕ → ℕ
@@ -94,8 +96,8 @@ reach target = known target % 2048
 
 abbrev pub rows : Placed → (Target → Option ℕ) → Sym → List Ins
 rows placed at (syms.Label label) = []
-rows placed at (syms.SelectBank byte) = bank_rows (known (address_of placed byte))
-rows placed at (syms.SelectPage target) = page_rows (known (at target))
+rows placed at (syms.SelectBank bit on) = bank_row bit on ∷ []
+rows placed at (syms.SelectPage bit target) = page_row bit (known (at target)) ∷ []
 rows placed at (syms.File op file into) = file_row op (low placed file) (is_file into) ∷ []
 rows placed at (syms.Movwf file) = isa.Movwf (low placed file) ∷ []
 rows placed at (syms.Clrf file) = isa.Clrf (low placed file) ∷ []

@@ -2,6 +2,7 @@ pub mod Addresses
 pub mod Answers
 pub mod Image
 pub mod Instructions
+pub mod Layouts
 pub mod Marks
 pub mod Pages
 pub mod Places

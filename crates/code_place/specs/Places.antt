@@ -1,10 +1,10 @@
 -- Where the blocks and labels of a program stand whose block `k` is put at `at[k]`, and what its image then has. A label is no
--- word: it stands where the next word does. Of two with one name the later one counts.
+-- word: it stands where the next word does. Of two with one name the first counts.
 use Rattle.std.specs.Prelude.{◌≡◌, ℕ, ◌+◌, ◌<◌, ◌≤◌, ◌⊎◌, Bool, false, List, [], ◌∷◌, Option, Some, None, IsSome, slice_get, slice_index, take, map, if◌then◌else◌}
 use Rattle.std.specs.Option.{option_or}
 use Rattle.pic_isa.specs.Table.{word_of}
 use Rattle.ram_place.specs.declared.placing.Placed.{Placed}
-use Rattle.sym_code.specs.Machine.{same_name, same_label}
+use Rattle.sym_code.specs.Programs.{same_name, same_label}
 use Rattle.sym_code.specs.declared.code.BlockName.{BlockName}
 use Rattle.sym_code.specs.declared.code.Label.{Label}
 use Rattle.sym_code.specs.declared.code.Label.TheVariants as labels
@@ -35,19 +35,19 @@ at_if holds at = if holds then Some at else None
 -- a label of instructions that stand at an address
 abbrev pub label_at : Label → ℕ → List Sym → Option ℕ
 label_at label at [] = None
-label_at label at (s ∷ list) = option_or (label_at label (at + words_of_one s) list) (at_if (is_label label (label_of s)) at)
+label_at label at (s ∷ list) = option_or (at_if (is_label label (label_of s)) at) (label_at label (at + words_of_one s) list)
 
--- the last place among those that blocks at addresses have
-abbrev pub last_place : (SymBlock → ℕ → Option ℕ) → List SymBlock → List ℕ → Option ℕ
-last_place place [] at = None
-last_place place (block ∷ blocks) [] = None
-last_place place (block ∷ blocks) (start ∷ at) = option_or (last_place place blocks at) (place block start)
+-- the first place among those that blocks at addresses have
+abbrev pub first_place : (SymBlock → ℕ → Option ℕ) → List SymBlock → List ℕ → Option ℕ
+first_place place [] at = None
+first_place place (block ∷ blocks) [] = None
+first_place place (block ∷ blocks) (start ∷ at) = option_or (place block start) (first_place place blocks at)
 
 abbrev pub block_place : List SymBlock → List ℕ → BlockName → Option ℕ
-block_place blocks at name = last_place (λ block start. at_if (same_name block.name name) start) blocks at
+block_place blocks at name = first_place (λ block start. at_if (same_name block.name name) start) blocks at
 
 abbrev pub label_place : List SymBlock → List ℕ → Label → Option ℕ
-label_place blocks at label = last_place (λ block start. label_at label start block.list.items) blocks at
+label_place blocks at label = first_place (λ block start. label_at label start block.list.items) blocks at
 
 -- Where a label stands for a block at an address: an inner one is one of its own.
 abbrev pub label_for : List SymBlock → List ℕ → SymBlock → ℕ → Label → Option ℕ
@@ -108,8 +108,8 @@ HasLiteral placed (values.High byte) = IsSome (address_of placed byte)
 -- what an instruction names has an address
 abbrev pub HasAddress : Placed → (Target → Option ℕ) → Sym → Type 0
 HasAddress placed target (syms.Label label) = Unit {0}
-HasAddress placed target (syms.SelectBank byte) = IsSome (address_of placed byte)
-HasAddress placed target (syms.SelectPage to) = IsSome (target to)
+HasAddress placed target (syms.SelectBank bit on) = Unit {0}
+HasAddress placed target (syms.SelectPage bit to) = IsSome (target to)
 HasAddress placed target (syms.File op file into) = IsSome (file_address placed file)
 HasAddress placed target (syms.Movwf file) = IsSome (file_address placed file)
 HasAddress placed target (syms.Clrf file) = IsSome (file_address placed file)

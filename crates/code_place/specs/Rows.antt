@@ -1,16 +1,12 @@
--- The instructions of the code's own type.
-use Rattle.std.specs.Prelude.{List, [], ◌∷◌}
+-- The instruction that a symbolic one stands for, which a label hasn't.
+use Rattle.std.specs.Prelude.{List, [], ◌∷◌, Option, Some, None}
 use Rattle.pic_isa.specs.Table.{IsWellFormed}
 use Rattle.pic_isa.specs.declared.Ins.{Ins}
-use Rattle.code_place.specs.declared.words.Rows.{Rows}
-use Rattle.code_place.specs.declared.words.Rows.TheVariants as forms
 
-abbrev pub list_of : Rows → List Ins
-list_of forms.Nothing = []
-list_of (forms.One first) = first ∷ []
-list_of (forms.Two first second) = first ∷ second ∷ []
+abbrev pub list_of : Option Ins → List Ins
+list_of None = []
+list_of (Some row) = row ∷ []
 
-abbrev pub AreWellFormed : Rows → Type 0
-AreWellFormed forms.Nothing = Unit {0}
-AreWellFormed (forms.One first) = IsWellFormed first
-AreWellFormed (forms.Two first second) = IsWellFormed first × IsWellFormed second
+abbrev pub MayBeWellFormed : Option Ins → Type 0
+MayBeWellFormed None = Unit {0}
+MayBeWellFormed (Some row) = IsWellFormed row

@@ -1,5 +1,4 @@
--- How many words symbolic code becomes: an instruction one (Microchip data sheet DS39582, instruction set summary), a label none,
--- and a select, which is two instructions, two.
+-- How many words symbolic code becomes: an instruction one (Microchip data sheet DS39582, instruction set summary), a label none.
 use Rattle.std.specs.Prelude.{◌≡◌, ℕ, ◌+◌, ◌%◌, ◌<◌, ◌≤◌, List, Option, Some, None, slice_get, if◌then◌else◌}
 use Rattle.std.specs.List.{sum_by}
 use Rattle.sym_code.specs.declared.code.Sym.{Sym}
@@ -11,24 +10,23 @@ use Rattle.sym_code.specs.declared.code.Sym.TheVariants.{Label, SelectBank, Sele
 
 abbrev pub words_of_one : Sym → ℕ
 words_of_one (Label label) = 0
-words_of_one (SelectBank byte) = 2
-words_of_one (SelectPage target) = 2
 words_of_one _ = 1
 
 abbrev pub words_in : List Sym → ℕ
 words_in list = sum_by words_of_one list
 
--- A file operand that isn't in every bank may need the two words of a bank select before it.
+-- A file operand that isn't in every bank may need the two selects of its bank before it.
 abbrev pub most_of_operand : Operand → ℕ
 most_of_operand (operands.Byte byte) = if is_common byte then 1 else 3
 most_of_operand (operands.Register register) = 1
 most_of_operand (operands.Saved saved) = 1
 
--- How many words an instruction may become with the selects that it may need: a jump or a call may need a page select.
+-- How many words an instruction may become with the selects that it may need: a jump or a call may
+-- need the two selects of its page.
 abbrev pub most_of_one : Sym → ℕ
 most_of_one (Label label) = 0
-most_of_one (SelectBank byte) = 2
-most_of_one (SelectPage target) = 2
+most_of_one (SelectBank bit on) = 1
+most_of_one (SelectPage bit target) = 1
 most_of_one (File op file into) = most_of_operand file
 most_of_one (Movwf file) = most_of_operand file
 most_of_one (Clrf file) = most_of_operand file

@@ -2,6 +2,7 @@
 
 ghost use Rattle.std.specs.Prelude.{◌≡◌, ◌+◌, ◌<◌, IfSome};
 ghost use Rattle.code_place.specs.Addresses as stated;
+ghost use Rattle.sym_code.specs.Layout as layout;
 
 use core_code::Byte;
 use pic_chip::Root;
@@ -71,7 +72,7 @@ fn register_address(register: Register) -> u16
 }
 
 fn saved_address(saved: Saved) -> u16
-    ensures value { result ≡ stated.saved_address saved }
+    ensures value { result ≡ layout.saved_address saved }
     ensures range { result < 512 }
 {
     match saved {

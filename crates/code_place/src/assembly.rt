@@ -6,16 +6,16 @@ ghost use Rattle.code_place.specs.Image.{written};
 ghost use Rattle.code_place.specs.Instructions as stated;
 ghost use Rattle.code_place.specs.Marks.{target_in, target_by};
 ghost use Rattle.code_place.specs.Places.{block_place, label_place, HaveAddresses, HoldsBlocks, HoldsInstructions, IsErasedElsewhere, BlocksHaveAddresses, TargetsStand};
-ghost use Rattle.code_place.specs.Rows.{list_of, AreWellFormed};
+ghost use Rattle.code_place.specs.Rows.{list_of, MayBeWellFormed};
 ghost use Rattle.code_place.specs.Sizes.{words_in, Fit};
 ghost use Rattle.sym_code.specs.declared.code.BlockName.TheVariants.{Copy};
 ghost use Rattle.sym_code.specs.declared.code.Label.TheVariants.{Halt};
 
 use crate::fitting::fit;
 use crate::marks::{Marks, inner_labels, marks_of};
-use crate::words::{Rows, Scope};
+use crate::words::Scope;
 use pic_chip::Image;
-use pic_isa::encode;
+use pic_isa::{Ins, encode};
 use ram_place::Placed;
 use std::alloc::{AllocError, Global};
 use sym_code::{BlockName, SymBlock, SymProgram};
@@ -28,23 +28,18 @@ pub struct Assembled {
     pub halt: u16,
 }
 
-// The address behind the words that are put at one.
-fn put_rows(image: &mut Image, at: u16, rows: Rows) -> u16
-    requires room { at + length (list_of rows) ≤ 8192 }
-    requires fit { AreWellFormed rows }
-    ensures image { image.new ≡ written image.old at (map word_of (list_of rows)) }
-    ensures behind { result ≡ at + length (list_of rows) }
+// The address behind the word of an instruction that is put at one.
+fn put_row(image: &mut Image, at: u16, row: Option<Ins>) -> u16
+    requires room { at + length (list_of row) ≤ 8192 }
+    requires fit { MayBeWellFormed row }
+    ensures image { image.new ≡ written image.old at (map word_of (list_of row)) }
+    ensures behind { result ≡ at + length (list_of row) }
 {
-    match rows {
-        Rows::Nothing => at,
-        Rows::One(first) => {
-            image.set(at, encode(first));
+    match row {
+        None => at,
+        Some(row) => {
+            image.set(at, encode(row));
             at + 1
-        }
-        Rows::Two(first, second) => {
-            image.set(at, encode(first));
-            image.set(at + 1, encode(second));
-            at + 2
         }
     }
 }
@@ -61,10 +56,10 @@ fn put_block(
 {
     let mut pc = at;
     for sym in &block.list {
-        let Some(rows) = scope.rows(*sym) else {
+        let Some(row) = scope.row(*sym) else {
             return Err(AllocError);
         };
-        pc = put_rows(image, pc, rows);
+        pc = put_row(image, pc, row);
     }
     Ok(())
 }

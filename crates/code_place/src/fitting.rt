@@ -9,24 +9,15 @@ use sym_code::{Sym, SymBlock, SymProgram};
 /// How many words a symbolic instruction becomes.
 pub fn words_of_one(sym: Sym) -> u64
     ensures value { result ≡ stated.words_of_one sym }
-    ensures few { result ≤ 2 }
+    ensures few { result ≤ 1 }
 {
     match sym {
         Sym::Label(_) => 0,
-        Sym::SelectBank(_) => 2,
-        Sym::SelectPage(_) => 2,
-        Sym::File { .. } => 1,
-        Sym::Movwf(_) => 1,
-        Sym::Clrf(_) => 1,
-        Sym::Bit { .. } => 1,
-        Sym::Literal { .. } => 1,
-        Sym::Plain(_) => 1,
-        Sym::Call(_) => 1,
-        Sym::Goto(_) => 1,
+        _ => 1,
     }
 }
 
-/// How many words a block becomes: a label none, a select two, and each other instruction one.
+/// How many words a block becomes: a label none, and each instruction one.
 pub fn real_words(block: &SymBlock) -> u64
     ensures exact { result ≡ stated.words_in block.now.list.items }
 {

@@ -1,10 +1,10 @@
 //! Where the labels of a program stand.
 
-ghost use Rattle.std.specs.Prelude.{◌≡◌, ℕ, ◌+◌, ◌≤◌, None, OnOk, IfOk};
+ghost use Rattle.std.specs.Prelude.{◌≡◌, ℕ, ◌+◌, ◌≤◌, nat_eq, None, OnOk, IfOk};
 ghost use Rattle.std.specs.BTreeMap.{get};
 ghost use Rattle.std.specs.Option.{option_or};
 ghost use Rattle.std.specs.Ordering.{nat_cmp};
-ghost use Rattle.sym_code.specs.Machine.{same_name};
+ghost use Rattle.sym_code.specs.Programs.{same_name};
 ghost use Rattle.sym_code.specs.declared.code.Label.TheVariants.{Inner, Halt, Restore};
 ghost use Rattle.code_place.specs.Marks.{block_in, target_in, AreMarks, AreInner};
 ghost use Rattle.code_place.specs.Places as stated;
@@ -20,9 +20,22 @@ use sym_code::{BlockName, Label, Sym, SymBlock, SymProgram, Target};
 #[derive(Drop)]
 pub struct Marks {
     pub start: Option<u16>,
-    pub copies: BTreeMap<u16, u16>,
+    pub copies: BTreeMap<u32, u16>,
     pub halt: Option<u16>,
     pub restore: Option<u16>,
+}
+
+// Where something stands that has no place yet: of two with one number the first counts.
+fn put_first(places: &mut BTreeMap<u32, u16>, number: u32, at: u16) -> Result<(), AllocError>
+    ensures { OnOk result ((asked : ℕ) → get nat_cmp places.new asked ≡ option_or (get nat_cmp places.old asked) (at_if (nat_eq number asked) at)) }
+{
+    match places.get(&number).copied() {
+        Some(_) => {}
+        None => {
+            places.insert(number, at)?;
+        }
+    }
+    Ok(())
 }
 
 impl Marks {
@@ -39,33 +52,33 @@ impl Marks {
         }
     }
 
+    #[tactic(auto, using(crate::proofs::Maps::or_none))]
     fn put_block(&mut self, name: BlockName, at: u16) -> Result<(), AllocError>
-        ensures names { OnOk result ((asked : BlockName) → block_in self.new asked ≡ option_or (at_if (same_name name asked) at) (block_in self.old asked)) }
+        ensures names { OnOk result ((asked : BlockName) → block_in self.new asked ≡ option_or (block_in self.old asked) (at_if (same_name name asked) at)) }
         ensures halt { OnOk result (self.new.halt ≡ self.old.halt) }
         ensures restore { OnOk result (self.new.restore ≡ self.old.restore) }
     {
         match name {
             BlockName::Start => {
-                self.start = Some(at);
+                self.start = self.start.or(Some(at));
+                Ok(())
             }
-            BlockName::Copy(copy) => {
-                self.copies.insert(copy, at)?;
-            }
+            BlockName::Copy(copy) => put_first(&mut self.copies, copy as u32, at),
         }
-        Ok(())
     }
 
+    #[tactic(auto, using(crate::proofs::Maps::or_none))]
     fn put_label(&mut self, label: Option<Label>, at: u16)
         ensures names { (asked : BlockName) → block_in self.new asked ≡ block_in self.old asked }
-        ensures halt { self.new.halt ≡ option_or (at_if (is_label Halt label) at) self.old.halt }
-        ensures restore { self.new.restore ≡ option_or (at_if (is_label Restore label) at) self.old.restore }
+        ensures halt { self.new.halt ≡ option_or self.old.halt (at_if (is_label Halt label) at) }
+        ensures restore { self.new.restore ≡ option_or self.old.restore (at_if (is_label Restore label) at) }
     {
         match label {
             Some(Label::Halt) => {
-                self.halt = Some(at);
+                self.halt = self.halt.or(Some(at));
             }
             Some(Label::Restore) => {
-                self.restore = Some(at);
+                self.restore = self.restore.or(Some(at));
             }
             Some(Label::Inner(_)) => {}
             None => {}
@@ -73,11 +86,12 @@ impl Marks {
     }
 
     // The labels of a block that stands at an address.
+    #[tactic(auto, using(crate::proofs::Maps::or_none))]
     fn put_labels(&mut self, block: &SymBlock, at: u16)
         requires { at + words_in block.now.list.items ≤ 8192 }
         ensures names { (asked : BlockName) → block_in self.new asked ≡ block_in self.old asked }
-        ensures halt { self.new.halt ≡ option_or (label_at Halt at block.now.list.items) self.old.halt }
-        ensures restore { self.new.restore ≡ option_or (label_at Restore at block.now.list.items) self.old.restore }
+        ensures halt { self.new.halt ≡ option_or self.old.halt (label_at Halt at block.now.list.items) }
+        ensures restore { self.new.restore ≡ option_or self.old.restore (label_at Restore at block.now.list.items) }
     {
         let mut pc = at as u64;
         for sym in &block.list {
@@ -92,7 +106,7 @@ impl Marks {
     {
         match name {
             BlockName::Start => self.start,
-            BlockName::Copy(copy) => self.copies.get(&copy).copied(),
+            BlockName::Copy(copy) => self.copies.get(&(copy as u32)).copied(),
         }
     }
 
@@ -117,16 +131,7 @@ fn label_of(sym: Sym) -> Option<Label>
 {
     match sym {
         Sym::Label(label) => Some(label),
-        Sym::SelectBank(_) => None,
-        Sym::SelectPage(_) => None,
-        Sym::File { .. } => None,
-        Sym::Movwf(_) => None,
-        Sym::Clrf(_) => None,
-        Sym::Bit { .. } => None,
-        Sym::Literal { .. } => None,
-        Sym::Plain(_) => None,
-        Sym::Call(_) => None,
-        Sym::Goto(_) => None,
+        _ => None,
     }
 }
 
@@ -146,22 +151,20 @@ pub fn marks_of(alloc: Global, s: &SymProgram, at: &[u16]) -> Result<Marks, Allo
     Ok(marks)
 }
 
+#[tactic(auto, using(crate::proofs::Maps::or_none))]
 fn put_inner(
     labels: &mut BTreeMap<u32, u16>,
     label: Option<Label>,
     at: u16,
 ) -> Result<(), AllocError>
-    ensures { OnOk result ((asked : ℕ) → get nat_cmp labels.new asked ≡ option_or (at_if (is_label (Inner asked) label) at) (get nat_cmp labels.old asked)) }
+    ensures { OnOk result ((asked : ℕ) → get nat_cmp labels.new asked ≡ option_or (get nat_cmp labels.old asked) (at_if (is_label (Inner asked) label) at)) }
 {
     match label {
-        Some(Label::Inner(number)) => {
-            labels.insert(number, at)?;
-        }
-        Some(Label::Halt) => {}
-        Some(Label::Restore) => {}
-        None => {}
+        Some(Label::Inner(number)) => put_first(labels, number, at),
+        Some(Label::Halt) => Ok(()),
+        Some(Label::Restore) => Ok(()),
+        None => Ok(()),
     }
-    Ok(())
 }
 
 /// Where the inner labels of a block stand that stands at an address.

@@ -5,8 +5,8 @@ use pic_map::{FrameLine, ObjLine};
 use ram_place::Placed;
 use std::alloc::{AllocError, Global};
 use sym_code::{
-    BitOperation, BlockName, FileOperation, Into, Label, Literal, LiteralOperation, Operand,
-    PlainOperation, Sym, SymBlock, SymProgram, Target,
+    BankBit, BitOperation, BlockName, FileOperation, Into, Label, Literal, LiteralOperation,
+    Operand, PageBit, PlainOperation, Sym, SymBlock, SymProgram, Target,
 };
 
 // A static object at 190h, and main's frame at A0h.
@@ -34,7 +34,8 @@ fn placed(alloc: Global) -> Result<Placed, AllocError> {
 
 fn start(alloc: Global) -> Result<SymBlock, AllocError> {
     let mut block = SymBlock::new(alloc, BlockName::Start);
-    block.put(Sym::SelectPage(Target::Block(BlockName::Copy(0))))?;
+    block.put(Sym::SelectPage(PageBit::High, Target::Block(BlockName::Copy(0))))?;
+    block.put(Sym::SelectPage(PageBit::Low, Target::Block(BlockName::Copy(0))))?;
     block.put(Sym::Goto(Target::Block(BlockName::Copy(0))))?;
     block.put(Sym::Label(Label::Halt))?;
     block.put(Sym::Goto(Target::Label(Label::Halt)))?;
@@ -52,7 +53,8 @@ fn body(alloc: Global) -> Result<SymBlock, AllocError> {
         op: LiteralOperation::Movlw,
         value: Literal::Number(5),
     })?;
-    block.put(Sym::SelectBank(counter))?;
+    block.put(Sym::SelectBank(BankBit::Rp1, false))?;
+    block.put(Sym::SelectBank(BankBit::Rp0, true))?;
     block.put(Sym::Movwf(Operand::Byte(counter)))?;
     block.put(Sym::Label(Label::Inner(7)))?;
     block.put(Sym::File {

@@ -1,4 +1,4 @@
-//! The instructions of the chip that symbolic ones stand for.
+//! The instruction of the chip that a symbolic one stands for.
 
 ghost use Rattle.std.specs.Prelude.{◌≡◌, ◌<◌, ◌%◌, ℕ, true, length, map, Option, Some, None, IsSome, IfSome, OnSome};
 ghost use Rattle.std.specs.BTreeMap.{get};
@@ -8,7 +8,7 @@ ghost use Rattle.code_place.specs.Addresses as placing;
 ghost use Rattle.code_place.specs.Instructions as stated;
 ghost use Rattle.code_place.specs.Marks.{target_in};
 ghost use Rattle.code_place.specs.Places.{HasAddress, HasLiteral};
-ghost use Rattle.code_place.specs.Rows.{list_of, AreWellFormed};
+ghost use Rattle.code_place.specs.Rows.{list_of, MayBeWellFormed};
 ghost use Rattle.code_place.specs.Sizes.{words_of_one};
 
 use crate::address::{address_of, file_address};
@@ -17,17 +17,9 @@ use pic_isa::Ins;
 use ram_place::Placed;
 use std::collections::BTreeMap;
 use sym_code::{
-    BitOperation, FileOperation, Into, Literal, LiteralOperation, Operand, PlainOperation, Sym,
-    Target,
+    BankBit, BitOperation, FileOperation, Literal, LiteralOperation, Operand, PageBit,
+    PlainOperation, Sym, Target, is_file,
 };
-
-/// The instructions of the chip that a symbolic one stands for.
-#[derive(Clone, Copy)]
-pub enum Rows {
-    Nothing,
-    One(Ins),
-    Two(Ins, Ins),
-}
 
 /// What the operands of a block's instructions name.
 #[derive(Clone, Copy)]
@@ -73,78 +65,70 @@ impl<'a> Scope<'a> {
         }
     }
 
-    /// The instructions that a symbolic one stands for, where all that it names has an address.
-    pub fn rows(&self, sym: Sym) -> Option<Rows>
+    /// The instruction that a symbolic one stands for, where all that it names has an address. A label is none.
+    pub fn row(&self, sym: Sym) -> Option<Option<Ins>>
         requires { is_well_formed sym ≡ true }
-        ensures value { IfSome result (λ rows. list_of rows ≡ stated.rows self.now.placed.now (target_in self.now.marks.now self.now.inner.now) sym) }
+        ensures value { IfSome result (λ row. list_of row ≡ stated.rows self.now.placed.now (target_in self.now.marks.now self.now.inner.now) sym) }
         ensures named { OnSome result (HasAddress self.now.placed.now (target_in self.now.marks.now self.now.inner.now) sym) }
-        ensures fit { IfSome result AreWellFormed }
-        ensures count { IfSome result (λ rows. length (list_of rows) ≡ words_of_one sym) }
+        ensures fit { IfSome result MayBeWellFormed }
+        ensures count { IfSome result (λ row. length (list_of row) ≡ words_of_one sym) }
     {
         match sym {
-            Sym::Label(_) => Some(Rows::Nothing),
-            Sym::SelectBank(byte) => Some(bank_rows(address_of(self.placed, byte)?)),
-            Sym::SelectPage(target) => Some(page_rows(self.target(target)?)),
-            Sym::File { op, file, into } => Some(Rows::One(file_row(
+            Sym::Label(_) => Some(None),
+            Sym::SelectBank(bit, on) => Some(Some(bank_row(bit, on))),
+            Sym::SelectPage(bit, target) => Some(Some(page_row(bit, self.target(target)?))),
+            Sym::File { op, file, into } => Some(Some(file_row(
                 op,
                 self.low(file)?,
                 is_file(into),
             ))),
-            Sym::Movwf(file) => Some(Rows::One(Ins::Movwf { f: self.low(file)? })),
-            Sym::Clrf(file) => Some(Rows::One(Ins::Clrf { f: self.low(file)? })),
-            Sym::Bit { op, file, bit } => Some(Rows::One(bit_row(op, self.low(file)?, bit))),
-            Sym::Literal { op, value } => Some(Rows::One(literal_row(op, self.literal(value)?))),
-            Sym::Plain(op) => Some(Rows::One(plain_row(op))),
-            Sym::Call(target) => Some(Rows::One(Ins::Call {
+            Sym::Movwf(file) => Some(Some(Ins::Movwf { f: self.low(file)? })),
+            Sym::Clrf(file) => Some(Some(Ins::Clrf { f: self.low(file)? })),
+            Sym::Bit { op, file, bit } => Some(Some(bit_row(op, self.low(file)?, bit))),
+            Sym::Literal { op, value } => Some(Some(literal_row(op, self.literal(value)?))),
+            Sym::Plain(op) => Some(Some(plain_row(op))),
+            Sym::Call(target) => Some(Some(Ins::Call {
                 k: self.target(target)? % 2048,
             })),
-            Sym::Goto(target) => Some(Rows::One(Ins::Goto {
+            Sym::Goto(target) => Some(Some(Ins::Goto {
                 k: self.target(target)? % 2048,
             })),
         }
     }
 }
 
-fn is_file(into: Into) -> bool
-    ensures { result ≡ stated.is_file into }
-{
-    match into {
-        Into::W => false,
-        Into::File => true,
-    }
-}
-
-fn bit_set(f: u8, b: u8, one: u16) -> Ins
+fn bit_set(f: u8, b: u8, on: bool) -> Ins
     requires f { f < 128 }
     requires b { b < 8 }
-    ensures value { result ≡ stated.bit_set f b one }
+    ensures value { result ≡ stated.bit_set f b on }
     ensures fits { IsWellFormed result }
 {
-    if one == 1 {
+    if on {
         Ins::Bsf { f, b }
     } else {
         Ins::Bcf { f, b }
     }
 }
 
-fn bank_rows(address: u16) -> Rows
-    ensures value { list_of result ≡ stated.bank_rows address }
-    ensures fit { AreWellFormed result }
+fn bank_row(bit: BankBit, on: bool) -> Ins
+    ensures value { result ≡ stated.bank_row bit on }
+    ensures fits { IsWellFormed result }
 {
-    Rows::Two(
-        bit_set(0x03, 6, address / 256 % 2),
-        bit_set(0x03, 5, address / 128 % 2),
-    )
+    match bit {
+        BankBit::Rp0 => bit_set(0x03, 5, on),
+        BankBit::Rp1 => bit_set(0x03, 6, on),
+        BankBit::Irp => bit_set(0x03, 7, on),
+    }
 }
 
-fn page_rows(address: u16) -> Rows
-    ensures value { list_of result ≡ stated.page_rows address }
-    ensures fit { AreWellFormed result }
+fn page_row(bit: PageBit, address: u16) -> Ins
+    ensures value { result ≡ stated.page_row bit address }
+    ensures fits { IsWellFormed result }
 {
-    Rows::Two(
-        bit_set(0x0a, 4, address / 4096 % 2),
-        bit_set(0x0a, 3, address / 2048 % 2),
-    )
+    match bit {
+        PageBit::Low => bit_set(0x0a, 3, address / 2048 % 2 == 1),
+        PageBit::High => bit_set(0x0a, 4, address / 4096 % 2 == 1),
+    }
 }
 
 fn file_row(op: FileOperation, f: u8, d: bool) -> Ins

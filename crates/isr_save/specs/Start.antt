@@ -28,7 +28,7 @@ use Rattle.sym_code.specs.declared.code.Target.TheVariants as targets
 abbrev pub to_w : FileOperation → Operand → Sym
 to_w op file = syms.File op file goes.W
 
--- from reset to the vector, where a page select of two words stands before the jump
+-- from reset to the vector: four words with the two selects of a page before the jump
 abbrev pub reset : List Sym
 reset = syms.Goto (targets.Label (labels.Inner 0)) ∷ syms.Plain plain_ops.Nop ∷ []
 

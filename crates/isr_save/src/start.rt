@@ -14,8 +14,8 @@ use sym_code::{
     Register, Saved, Sym, SymBlock, Target,
 };
 
-// From 0000h to the interrupt vector at 0004h (Microchip data sheet DS39582, program memory map), where a page select of two
-// words will stand before the jump.
+// From 0000h to the interrupt vector at 0004h (Microchip data sheet DS39582, program memory map), where the two selects of a
+// page will stand before the jump: with them these are four words.
 const RESET: [Sym; 2] = [
     Sym::Goto(Target::Label(Label::Inner(0))),
     Sym::Plain(PlainOperation::Nop),

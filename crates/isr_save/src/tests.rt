@@ -36,7 +36,7 @@ fn program(alloc: Global) -> Result<CoreProgram, AllocError> {
     })
 }
 
-// With the two words of a page select before the jump, the third instruction stands at 0004h.
+// With the two selects of a page before the jump, the third instruction stands at 0004h.
 #[test]
 fn vector_stands_behind_a_jump_and_one_instruction(rt: HostRuntime) -> Result<(), AllocError> {
     let object = Byte::Static {

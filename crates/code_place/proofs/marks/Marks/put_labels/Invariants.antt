@@ -8,4 +8,4 @@ use Rattle.code_place.specs.Sizes.{words_in}
 use Rattle.code_place.proofs.marks.Marks.put_labels.Given as goal
 
 abbrev pub invariant-loop-sym : goal.invariant-loop-sym
-invariant-loop-sym l = (l.pc ≡ l.at + words_in (take l.sym-index l.block.list.items)) × ((asked : BlockName) → block_in l.self asked ≡ block_in l.initial.self asked) × (l.self.halt ≡ option_or (label_at Halt l.at (take l.sym-index l.block.list.items)) l.initial.self.halt) × (l.self.restore ≡ option_or (label_at Restore l.at (take l.sym-index l.block.list.items)) l.initial.self.restore)
+invariant-loop-sym l = (l.pc ≡ l.at + words_in (take l.sym-index l.block.list.items)) × ((asked : BlockName) → block_in l.self asked ≡ block_in l.initial.self asked) × (l.self.halt ≡ option_or l.initial.self.halt (label_at Halt l.at (take l.sym-index l.block.list.items))) × (l.self.restore ≡ option_or l.initial.self.restore (label_at Restore l.at (take l.sym-index l.block.list.items)))
