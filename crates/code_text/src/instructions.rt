@@ -194,11 +194,7 @@ fn put_block(out: &mut Listing, block: &SymBlock) -> Result<(), AllocError> {
 }
 
 /// The blocks of a program under a head.
-pub fn put_symbolic(
-    out: &mut Listing,
-    head: &str,
-    program: &SymProgram,
-) -> Result<(), AllocError> {
+pub fn put_symbolic(out: &mut Listing, head: &str, program: &SymProgram) -> Result<(), AllocError> {
     out.begin(0, head)?;
     out.end()?;
     for block in &program.blocks {

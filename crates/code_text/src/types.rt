@@ -3,7 +3,9 @@
 use crate::listing::{Listing, inside};
 use crate::names::of_int;
 use crate::statements::put_statements;
-use c_typed::{Function, Initial, InitialByte, Member, Qualified, Static, Structure, Ty, Typed, Variable};
+use c_typed::{
+    Function, Initial, InitialByte, Member, Qualified, Static, Structure, Ty, Typed, Variable,
+};
 use std::alloc::AllocError;
 
 pub fn put_type(out: &mut Listing, ty: Ty) -> Result<(), AllocError> {
