@@ -1,13 +1,13 @@
 //! Declarations in the file and in blocks (ISO/IEC 9899:1990, 6.5 and 6.7).
 
+use crate::initializer::visit;
+use crate::objects::{block_static, local_object, object_type, static_object};
 use c_declare::declarator::{Context, outline, specified};
 use c_declare::outline::{Declared, Outline, ParamShape, line_of};
 use c_declare::specifiers::{Site, Specified, Storage};
-use c_initialize::initializer::visit;
-use c_initialize::objects::{block_static, local_object, object_type, static_object};
-use c_scope::checker::Checker;
-use c_scope::error::{CheckError, Kind, refused};
-use c_scope::scope::Binding;
+use c_operate::checker::Checker;
+use c_operate::error::{CheckError, Kind, refused};
+use c_operate::scope::Binding;
 use c_tree::statement::{Declaration, EqualsInit, Init, InitDeclarator};
 use c_typed::{Qualified, TStmt, Ty};
 use std::alloc::{AllocError, Global};

@@ -1,6 +1,6 @@
 //! What `break` and `continue` leave and repeat (ISO/IEC 9899:1990, 6.6.6).
 
-use c_scope::error::{CheckError, Kind, refused};
+use c_operate::error::{CheckError, Kind, refused};
 use c_typed::TStmt;
 
 /// Whether `break` and `continue` have something to leave and to repeat.

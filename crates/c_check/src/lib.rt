@@ -1,18 +1,25 @@
 // The checker of C: from a concrete tree to a typed tree, in which each conversion is explicit.
 //
 // In: the tree of a text. Out: its typed tree, or the first node that breaks a rule on names and types.
+// Here stand declarations with their initializers, statements and functions; expressions, specifiers and declarators
+// stand in the crates below.
 // The promise so far: it ends on every tree. That the typed tree is the one of the rules is tested, and
 // owed.
 #![tactic(auto)]
 
 mod declaration;
 mod flow;
+mod initializer;
+mod objects;
+mod parts;
+mod slots;
 mod statement;
 mod switch;
+mod text;
 mod unit;
 mod values;
 
-pub use c_scope::error::{CheckError, Kind};
+pub use c_operate::error::{CheckError, Kind};
 pub use c_typed::{
     Folded, Function, Initial, InitialByte, LogicalOp, LoopForm, Member, Object, Qualified,
     RootKind, Static, StepOp, Structure, TArm, TCase, TExpr, TItem, TPlace, TStmt, Ty, Typed,

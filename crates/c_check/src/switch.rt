@@ -2,8 +2,8 @@
 
 use c_declare::constants::constant_value;
 use c_ints::{IntTy, convert};
-use c_scope::checker::Checker;
-use c_scope::error::{CheckError, Kind, number, refused};
+use c_operate::checker::Checker;
+use c_operate::error::{CheckError, Kind, number, refused};
 use c_tree::expression::Cond;
 use c_tree::statement::Label;
 use c_typed::{TCase, TExpr, TStmt};

@@ -2,10 +2,10 @@
 
 use c_declare::expression::expression;
 use c_ints::{IntTy, promote};
+use c_operate::checker::Checker;
 use c_operate::conversion::{assigned, converted};
+use c_operate::error::{CheckError, Kind, refused};
 use c_operate::term::{Operand, used};
-use c_scope::checker::Checker;
-use c_scope::error::{CheckError, Kind, refused};
 use c_tree::expression::Expr;
 use c_tree::statement::ForHead;
 use c_typed::{TExpr, TStmt, Ty};

@@ -2,9 +2,9 @@
 
 use crate::expression::conditional;
 use c_ints::Value;
+use c_operate::checker::Checker;
+use c_operate::error::{CheckError, Kind, refused};
 use c_operate::term::used;
-use c_scope::checker::Checker;
-use c_scope::error::{CheckError, Kind, refused};
 use c_tree::expression::Cond;
 use c_typed::{Folded, TExpr};
 

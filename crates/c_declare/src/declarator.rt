@@ -4,9 +4,9 @@ use crate::constants::array_length;
 use crate::outline::{Made, Outline, ParamList, add_field, add_param, line_of, outlined};
 use crate::specifiers::{self, Site, Specified, Words};
 use crate::type_name;
-use c_scope::checker::Checker;
-use c_scope::error::{CheckError, Kind, refused};
-use c_scope::types::{Progress, Types};
+use c_operate::checker::Checker;
+use c_operate::error::{CheckError, Kind, refused};
+use c_operate::types::{Progress, Types};
 use c_tree::expression::{Declarator, Member, NextParam, Param, Spec, Specs, StructBody, Suffix};
 use c_tree::word::Name;
 

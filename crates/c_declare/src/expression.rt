@@ -6,13 +6,13 @@
 use crate::prefixes::{Applied, apply_prefix, listed};
 use crate::type_name::size_of_name;
 use c_operate::calls::{call, refuse_undefined};
+use c_operate::checker::Checker;
+use c_operate::error::CheckError;
 use c_operate::operators::{chosen, combined, sequenced};
 use c_operate::places::{element, indexable, member, pointed_member};
 use c_operate::primary::{constant_term, grouped, named};
 use c_operate::term::{Operand, Term, refuse_table, used};
 use c_operate::writes::{assignment, stepped};
-use c_scope::checker::Checker;
-use c_scope::error::CheckError;
 use c_token::Punct;
 use c_tree::expression::{
     Assign, Binary, Cast, Choice, Cond, Expr, NextAssign, NextOperand, Operand as TreeOperand,

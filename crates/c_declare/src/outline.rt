@@ -1,9 +1,9 @@
 //! What a declarator makes of a type (ISO/IEC 9899:1990, 6.5.4).
 
 use crate::specifiers::{Specified, Storage};
-use c_scope::checker::Checker;
-use c_scope::error::{CheckError, Kind, refused};
-use c_scope::types::Types;
+use c_operate::checker::Checker;
+use c_operate::error::{CheckError, Kind, refused};
+use c_operate::types::Types;
 use c_tree::expression::Declarator;
 use c_tree::word::Name;
 use c_typed::{Qualified, Ty};

@@ -2,12 +2,12 @@
 
 use crate::type_name::type_named;
 use c_ints::UnOp;
+use c_operate::checker::Checker;
+use c_operate::error::CheckError;
 use c_operate::operators::{arithmetic, cast_to, negation};
 use c_operate::places::{address, pointed, size_of_term};
 use c_operate::term::{Operand, Term, used};
 use c_operate::writes::stepped;
-use c_scope::checker::Checker;
-use c_scope::error::CheckError;
 use c_token::Punct;
 use c_tree::expression::Prefix;
 use c_tree::word::Sign;

@@ -1,7 +1,7 @@
 //! Specifiers of declarations (ISO/IEC 9899:1990, 6.5.1 to 6.5.3).
 
 use c_ints::IntTy;
-use c_scope::error::{CheckError, Kind, refused};
+use c_operate::error::{CheckError, Kind, refused};
 use c_token::Keyword;
 use c_tree::expression::{Spec, Specs};
 use c_typed::{Qualified, Ty};

@@ -1,11 +1,11 @@
 //! The names of types (ISO/IEC 9899:1990, 6.5.5).
 
 use crate::specifiers::{Site, Words, line_of};
+use c_operate::checker::Checker;
+use c_operate::error::{CheckError, Kind, refused};
 use c_operate::places::size_of_type;
 use c_operate::term::Term;
-use c_scope::checker::Checker;
-use c_scope::error::{CheckError, Kind, refused};
-use c_scope::types::Types;
+use c_operate::types::Types;
 use c_token::Keyword;
 use c_tree::expression::{Spec, StructBody, TypeName};
 use c_tree::word::{Pointer, Word};

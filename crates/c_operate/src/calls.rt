@@ -1,9 +1,9 @@
 //! Calls of functions (ISO/IEC 9899:1990, 6.3.2.2).
 
+use crate::checker::Checker;
 use crate::conversion::assigned;
+use crate::error::{CheckError, Kind, refused};
 use crate::term::{Form, Operand, Term, refuse_table, value_term};
-use c_scope::checker::Checker;
-use c_scope::error::{CheckError, Kind, refused};
 use c_typed::TExpr;
 
 // The number of the function that a term names without brackets.

@@ -1,8 +1,8 @@
 //! Conversions between types (ISO/IEC 9899:1990, 6.2 and 6.3.16.1).
 
+use crate::error::{CheckError, Kind, refused};
 use crate::term::{Operand, Side};
-use c_scope::error::{CheckError, Kind, refused};
-use c_scope::types::Types;
+use crate::types::Types;
 use c_typed::{Qualified, TExpr, Ty};
 use std::alloc::Global;
 

@@ -1,8 +1,8 @@
 //! The types of binary operators (ISO/IEC 9899:1990, 6.3.5 to 6.3.12).
 
 use crate::term::Side;
+use crate::types::Types;
 use c_ints::{BinOp, IntTy, promote, usual};
-use c_scope::types::Types;
 use c_token::Punct;
 use c_typed::Ty;
 

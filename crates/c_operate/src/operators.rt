@@ -1,11 +1,11 @@
 //! Operators whose operands are checked already (ISO/IEC 9899:1990, 6.3.3 to 6.3.17).
 
 use crate::conversion::{converted, is_assignable, is_castable};
+use crate::error::{CheckError, Kind, refused};
 use crate::operation::{Node, binary_operator, operation_of};
 use crate::term::{Operand, Term, value_term};
+use crate::types::Types;
 use c_ints::{BinOp, IntTy, UnOp, promote, usual};
-use c_scope::error::{CheckError, Kind, refused};
-use c_scope::types::Types;
 use c_token::Punct;
 use c_typed::{LogicalOp, Qualified, TExpr, Ty};
 use std::alloc::Global;

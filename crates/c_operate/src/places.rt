@@ -1,14 +1,14 @@
 //! Operators on places: `& * [] . ->` and `sizeof` (ISO/IEC 9899:1990, 6.3.2 and 6.3.3).
 
 use crate::conversion::converted;
+use crate::error::{CheckError, Kind, number, refused};
 use crate::operation::operation_of;
 use crate::term::{
     Form, Operand, Place, Term, array_start, constant, into_place, place_term, refuse_table,
     used_value, value_term,
 };
+use crate::types::Types;
 use c_ints::{BinOp, IntTy};
-use c_scope::error::{CheckError, Kind, number, refused};
-use c_scope::types::Types;
 use c_typed::{TExpr, TPlace, Ty};
 use std::alloc::Global;
 

@@ -1,9 +1,9 @@
 //! Names, constants and brackets (ISO/IEC 9899:1990, 6.3.1).
 
+use crate::error::{CheckError, Kind, refused};
+use crate::scope::{Binding, Scopes};
 use crate::term::{Form, Place, Term, constant, place_term, value_term};
 use c_ints::IntTy;
-use c_scope::error::{CheckError, Kind, refused};
-use c_scope::scope::{Binding, Scopes};
 use c_tree::word::{Constant, Name};
 use c_typed::TPlace;
 

@@ -1,9 +1,9 @@
 //! Expressions that are checked already, and their values.
 
+use crate::checker::Checker;
+use crate::error::{CheckError, Kind, refused};
+use crate::types::Types;
 use c_ints::{IntTy, Value};
-use c_scope::checker::Checker;
-use c_scope::error::{CheckError, Kind, refused};
-use c_scope::types::Types;
 use c_typed::{Qualified, TExpr, TPlace, Ty};
 use std::alloc::Global;
 

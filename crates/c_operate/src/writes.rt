@@ -1,11 +1,11 @@
 //! Assignments, `++` and `--` (ISO/IEC 9899:1990, 6.3.2.4, 6.3.3.1 and 6.3.16).
 
 use crate::conversion::{assigned, converted};
+use crate::error::{CheckError, Kind, refused};
 use crate::operation::{Node, compound_operator, operation_of};
 use crate::term::{Operand, Side, Term, read_from, refuse_table, value_term, written};
+use crate::types::Types;
 use c_ints::{BinOp, IntTy, usual};
-use c_scope::error::{CheckError, Kind, refused};
-use c_scope::types::Types;
 use c_token::Punct;
 use c_typed::{StepOp, TExpr, TPlace, Ty};
 use std::alloc::Global;

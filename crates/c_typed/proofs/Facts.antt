@@ -1,15 +1,18 @@
 -- What a sound program's parts tell the passes behind it.
-use Rattle.std.proofs.Common.{◌≡◌, ℕ, ◌<◌, Bool, true, false, ◌&&◌, List, [], ◌∷◌, Option, Some, None, length, zero, suc, refl, sym, ap, ◌∙◌, arith}
+use Rattle.std.proofs.Common.{◌≡◌, ℕ, ◌+◌, ◌^◌, ◌<◌, ◌≤◌, Bool, true, false, ◌&&◌, List, [], ◌∷◌, Option, Some, None, length, map, zero, suc, refl, sym, ap, ◌∙◌, arith}
 use Rattle.std.proofs.lemmas.Bool.{and_parts, false≢true}
 use Rattle.std.proofs.lemmas.Option.{slice_get_within}
 use Rattle.std.specs.List.{list_all}
 use Rattle.std.specs.Option.{option_map, unwrap_or}
 use Rattle.std.specs.Prelude.{slice_get}
 use Rattle.c_typed.specs.Fits.{static_type, variable_type, is_named, returns_type, rule_holds, place_rule_holds, fits, place_fits}
+use Rattle.c_typed.specs.Nodes.{total, statement_nodes, program_nodes}
 use Rattle.c_typed.specs.Sound.{target_fits, structure_fits, static_fits, param_fits, local_fits, result_fits, function_fits, is_sound, statements_fit}
 use Rattle.c_typed.specs.Trees as tree
 use Rattle.c_typed.specs.Trees.{Expressions, StaticTree, VariableTree, FunctionTree, Program}
 use Rattle.c_typed.specs.declared.expression.Object.TheVariants as object
+use Rattle.c_typed.specs.declared.program.Function.{Function}
+use Rattle.c_typed.specs.declared.program.Typed.{Typed}
 use Rattle.c_typed.specs.declared.standing.Standing.{Standing}
 use Rattle.c_typed.specs.declared.types.Qualified.{Qualified}
 use Rattle.c_typed.specs.declared.types.Ty.{Ty}
@@ -60,15 +63,30 @@ tables_of_sound p sound =
 pub function_of_sound : (p : Program) (n : ℕ) (f : FunctionTree) → is_sound p ≡ true → slice_get p.functions n ≡ Some f → function_fits p f ≡ true
 function_of_sound p n f sound is = all_of (function_fits p) p.functions n f (and_parts (list_all (static_fits p) p.statics) (list_all (function_fits p) p.functions) (tables_of_sound p sound)).1 is
 
-body_of : (p : Program) (f : FunctionTree) → function_fits p f ≡ true → statements_fit p f false false f.body ≡ true
+body_of : (p : Program) (f : FunctionTree) → function_fits p f ≡ true → statements_fit p f true false false f.body ≡ true
 body_of p f holds =
-    (and_parts (list_all (local_fits p) f.locals) (statements_fit p f false false f.body)
-    (and_parts (list_all (param_fits p) f.params) (list_all (local_fits p) f.locals && statements_fit p f false false f.body)
-    (and_parts (result_fits p f.result) (list_all (param_fits p) f.params && (list_all (local_fits p) f.locals && statements_fit p f false false f.body)) holds).1).1).1
+    (and_parts (list_all (local_fits p) f.locals) (statements_fit p f true false false f.body)
+    (and_parts (list_all (param_fits p) f.params) (list_all (local_fits p) f.locals && statements_fit p f true false false f.body)
+    (and_parts (result_fits p f.result) (list_all (param_fits p) f.params && (list_all (local_fits p) f.locals && statements_fit p f true false false f.body)) holds).1).1).1
 
-pub body_of_sound : (p : Program) (n : ℕ) (f : FunctionTree) → is_sound p ≡ true → slice_get p.functions n ≡ Some f → statements_fit p f false false f.body ≡ true
+pub body_of_sound : (p : Program) (n : ℕ) (f : FunctionTree) → is_sound p ≡ true → slice_get p.functions n ≡ Some f → statements_fit p f true false false f.body ≡ true
 body_of_sound p n f sound is = body_of p f (function_of_sound p n f sound is)
 
 -- Each static object of a sound program fits.
 pub static_of_sound : (p : Program) (n : ℕ) (s : StaticTree) → is_sound p ≡ true → slice_get p.statics n ≡ Some s → static_fits p s ≡ true
 static_of_sound p n s sound is = all_of (static_fits p) p.statics n s (and_parts (list_all (static_fits p) p.statics) (list_all (function_fits p) p.functions) (tables_of_sound p sound)).0 is
+
+one_more : (n a b : ℕ) → n ≤ b → suc n ≤ (1 + a) + b
+one_more n a b l = omega (arith, l)
+
+-- Each function is a node.
+functions_are_nodes : (fs : List Function) → length fs ≤ program_nodes fs
+functions_are_nodes [] = omega arith
+functions_are_nodes (f ∷ fs) = one_more (length fs) (total (map statement_nodes f.body.items)) (program_nodes fs) (functions_are_nodes fs)
+
+first_of_three : (n a b c most : ℕ) → n ≤ a → a + b + c ≤ most → n ≤ most
+first_of_three n a b c most l small = omega (arith, l, small)
+
+-- A typed program has at most 2 to the 28 functions.
+pub few_functions : (p : Typed) → length p.functions.items ≤ 2 ^ 28
+few_functions p = first_of_three (length p.functions.items) (program_nodes p.functions.items) _ _ (2 ^ 28) (functions_are_nodes p.functions.items) p.small

@@ -1,10 +1,9 @@
 -- How each variant fits, from its parts.
-use Rattle.std.proofs.Common.{◌≡◌, List, [], ◌∷◌, Option, Some, None, map, sym, ap, ◌∙◌, Bool, true, false, ◌&&◌, ◌||◌}
-use Rattle.std.specs.Prelude.{slice_get, nat_lt}
-use Rattle.c_ints.specs.declared.operators.BinOp.TheVariants as binop
+use Rattle.std.proofs.Common.{◌≡◌, None, map, sym, ap, ◌∙◌, true, false, ◌&&◌}
+use Rattle.std.specs.Prelude.{slice_get, nat_lt, not}
 use Rattle.c_typed.proofs.Shapes.{show_expression_constant, show_expression_read, show_expression_address, show_expression_convert, show_expression_cast, show_expression_unary, show_expression_binary, show_expression_offset, show_expression_difference, show_expression_logical, show_expression_conditional, show_expression_comma, show_expression_assign, show_expression_struct_assign, show_expression_update, show_expression_step, show_expression_call, show_place_name, show_place_bit, show_place_member, show_place_deref}
-use Rattle.c_typed.specs.Fits.{is_null, source, source_of, keeps_from, goes_to, is_side, sides_fit, assigned_fits, is_no_register, is_memory, names_local, is_local_name, if_array, first_reach, is_reached, reached_by, array_reach, declared_type, is_named, operand_standing, is_indexed, is_alone, member_at, leads_fits, returns_type, params_of, rule_holds, place_rule_holds, fits, place_fits, arguments_fit}
-use Rattle.c_typed.specs.Rules.{read_fits, convert_fits, cast_fits, unary_fits, binary_fits, offset_fits, difference_fits, logical_fits, choice_fits, assign_fits, copy_fits, update_fits, step_fits, member_fits, deref_fits, is_zero}
+use Rattle.c_typed.specs.Fits.{is_null, source, source_of, is_converted, is_device, sides_fit, assigned_fits, is_no_register, is_memory, names_local, is_local_name, if_array, first_reach, is_reached, reached_by, array_reach, declared_type, is_named, operand_standing, is_alone, member_at, leads_fits, returns_type, params_of, rule_holds, place_rule_holds, fits, place_fits, arguments_fit}
+use Rattle.c_typed.specs.Rules.{read_fits, convert_fits, cast_fits, unary_fits, binary_fits, offset_fits, difference_fits, logical_fits, copy_fits, update_fits, step_fits, member_fits, deref_fits, is_zero}
 use Rattle.c_typed.specs.Sameness.{is_pointer, is_scalar, same_type}
 use Rattle.c_typed.specs.Trees as tree
 use Rattle.c_typed.specs.Trees.{Expression, Place, FunctionTree, Program}
@@ -150,6 +149,74 @@ source_of_step op place operation size ty line = ap source_of (show_expression_s
 pub source_of_call : (function : _) (arguments : _) (ty : _) (line : _) → source_of (expression_of (TExpr.Call function arguments ty line)) ≡ (None)
 unfolding source_of
 source_of_call function arguments ty line = ap source_of (show_expression_call function arguments ty line)
+
+pub is_converted_constant : (value : _) (line : _) → is_converted (expression_of (TExpr.Constant value line)) ≡ (false)
+unfolding is_converted
+is_converted_constant value line = ap is_converted (show_expression_constant value line)
+
+pub is_converted_read : (place : _) (ty : _) (line : _) → is_converted (expression_of (TExpr.Read place ty line)) ≡ (false)
+unfolding is_converted
+is_converted_read place ty line = ap is_converted (show_expression_read place ty line)
+
+pub is_converted_address : (place : _) (ty : _) (line : _) → is_converted (expression_of (TExpr.Address place ty line)) ≡ (false)
+unfolding is_converted
+is_converted_address place ty line = ap is_converted (show_expression_address place ty line)
+
+pub is_converted_convert : (operand : _) (ty : _) (line : _) → is_converted (expression_of (TExpr.Convert operand ty line)) ≡ (true)
+unfolding is_converted
+is_converted_convert operand ty line = ap is_converted (show_expression_convert operand ty line)
+
+pub is_converted_cast : (operand : _) (ty : _) (line : _) → is_converted (expression_of (TExpr.Cast operand ty line)) ≡ (false)
+unfolding is_converted
+is_converted_cast operand ty line = ap is_converted (show_expression_cast operand ty line)
+
+pub is_converted_unary : (op : _) (operand : _) (ty : _) (line : _) → is_converted (expression_of (TExpr.Unary op operand ty line)) ≡ (false)
+unfolding is_converted
+is_converted_unary op operand ty line = ap is_converted (show_expression_unary op operand ty line)
+
+pub is_converted_binary : (op : _) (left : _) (right : _) (ty : _) (line : _) → is_converted (expression_of (TExpr.Binary op left right ty line)) ≡ (false)
+unfolding is_converted
+is_converted_binary op left right ty line = ap is_converted (show_expression_binary op left right ty line)
+
+pub is_converted_offset : (op : _) (left : _) (right : _) (size : _) (ty : _) (line : _) → is_converted (expression_of (TExpr.Offset op left right size ty line)) ≡ (false)
+unfolding is_converted
+is_converted_offset op left right size ty line = ap is_converted (show_expression_offset op left right size ty line)
+
+pub is_converted_difference : (left : _) (right : _) (size : _) (line : _) → is_converted (expression_of (TExpr.Difference left right size line)) ≡ (false)
+unfolding is_converted
+is_converted_difference left right size line = ap is_converted (show_expression_difference left right size line)
+
+pub is_converted_logical : (op : _) (left : _) (right : _) (line : _) → is_converted (expression_of (TExpr.Logical op left right line)) ≡ (false)
+unfolding is_converted
+is_converted_logical op left right line = ap is_converted (show_expression_logical op left right line)
+
+pub is_converted_conditional : (condition : _) (chosen : _) (otherwise : _) (ty : _) (line : _) → is_converted (expression_of (TExpr.Conditional condition chosen otherwise ty line)) ≡ (false)
+unfolding is_converted
+is_converted_conditional condition chosen otherwise ty line = ap is_converted (show_expression_conditional condition chosen otherwise ty line)
+
+pub is_converted_comma : (left : _) (right : _) (ty : _) (line : _) → is_converted (expression_of (TExpr.Comma left right ty line)) ≡ (false)
+unfolding is_converted
+is_converted_comma left right ty line = ap is_converted (show_expression_comma left right ty line)
+
+pub is_converted_assign : (place : _) (value : _) (ty : _) (line : _) → is_converted (expression_of (TExpr.Assign place value ty line)) ≡ (false)
+unfolding is_converted
+is_converted_assign place value ty line = ap is_converted (show_expression_assign place value ty line)
+
+pub is_converted_struct_assign : (place : _) (from : _) (size : _) (line : _) → is_converted (expression_of (TExpr.StructAssign place from size line)) ≡ (false)
+unfolding is_converted
+is_converted_struct_assign place from size line = ap is_converted (show_expression_struct_assign place from size line)
+
+pub is_converted_update : (op : _) (place : _) (value : _) (operation : _) (size : _) (ty : _) (line : _) → is_converted (expression_of (TExpr.Update op place value operation size ty line)) ≡ (false)
+unfolding is_converted
+is_converted_update op place value operation size ty line = ap is_converted (show_expression_update op place value operation size ty line)
+
+pub is_converted_step : (op : _) (place : _) (operation : _) (size : _) (ty : _) (line : _) → is_converted (expression_of (TExpr.Step op place operation size ty line)) ≡ (false)
+unfolding is_converted
+is_converted_step op place operation size ty line = ap is_converted (show_expression_step op place operation size ty line)
+
+pub is_converted_call : (function : _) (arguments : _) (ty : _) (line : _) → is_converted (expression_of (TExpr.Call function arguments ty line)) ≡ (false)
+unfolding is_converted
+is_converted_call function arguments ty line = ap is_converted (show_expression_call function arguments ty line)
 
 pub is_memory_name : (object : _) (ty : _) (line : _) → is_memory (place_of (TPlace.Name object ty line)) ≡ (is_no_register object)
 is_memory_name object ty line = ap is_memory (show_place_name object ty line)
@@ -339,7 +406,7 @@ pub rule_holds_address : (p : Program) (standing : Standing) (place : _) (ty : _
 unfolding rule_holds
 rule_holds_address p standing place ty line = ap (rule_holds p standing) (show_expression_address place ty line)
 
-pub rule_holds_convert : (p : Program) (standing : Standing) (operand : _) (ty : _) (line : _) → rule_holds p standing (expression_of (TExpr.Convert operand ty line)) ≡ (convert_fits p (is_null (expression_of operand.value)) (type_of (expression_of operand.value)) ty)
+pub rule_holds_convert : (p : Program) (standing : Standing) (operand : _) (ty : _) (line : _) → rule_holds p standing (expression_of (TExpr.Convert operand ty line)) ≡ (not (is_converted (expression_of operand.value)) && convert_fits p (is_null (expression_of operand.value)) (type_of (expression_of operand.value)) ty)
 unfolding rule_holds
 rule_holds_convert p standing operand ty line = ap (rule_holds p standing) (show_expression_convert operand ty line)
 
@@ -399,7 +466,7 @@ pub place_rule_holds_name : (p : Program) (f : FunctionTree) (object : _) (ty : 
 unfolding place_rule_holds
 place_rule_holds_name p f object ty line = ap (place_rule_holds p f) (show_place_name object ty line)
 
-pub place_rule_holds_bit : (p : Program) (f : FunctionTree) (register : _) (bit : _) (line : _) → place_rule_holds p f (place_of (TPlace.Bit register bit line)) ≡ (nat_lt register 256 && nat_lt bit 8)
+pub place_rule_holds_bit : (p : Program) (f : FunctionTree) (register : _) (bit : _) (line : _) → place_rule_holds p f (place_of (TPlace.Bit register bit line)) ≡ (is_device register && nat_lt bit 8)
 unfolding place_rule_holds
 place_rule_holds_bit p f register bit line = ap (place_rule_holds p f) (show_place_bit register bit line)
 
@@ -525,6 +592,8 @@ place_needs_rule p f (tree.Deref pointer ty line) fails = sym (ap (λ b. b && fi
 pub ruleset all_is_null = (is_null_constant, is_null_read, is_null_address, is_null_convert, is_null_cast, is_null_unary, is_null_binary, is_null_offset, is_null_difference, is_null_logical, is_null_conditional, is_null_comma, is_null_assign, is_null_struct_assign, is_null_update, is_null_step, is_null_call)
 
 pub ruleset all_source_of = (source_of_constant, source_of_read, source_of_address, source_of_convert, source_of_cast, source_of_unary, source_of_binary, source_of_offset, source_of_difference, source_of_logical, source_of_conditional, source_of_comma, source_of_assign, source_of_struct_assign, source_of_update, source_of_step, source_of_call)
+
+pub ruleset all_is_converted = (is_converted_constant, is_converted_read, is_converted_address, is_converted_convert, is_converted_cast, is_converted_unary, is_converted_binary, is_converted_offset, is_converted_difference, is_converted_logical, is_converted_conditional, is_converted_comma, is_converted_assign, is_converted_struct_assign, is_converted_update, is_converted_step, is_converted_call)
 
 pub ruleset all_is_memory = (is_memory_name, is_memory_bit, is_memory_member, is_memory_deref)
 

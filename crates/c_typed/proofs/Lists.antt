@@ -17,16 +17,16 @@ count_in [] = refl
 count_in (x ∷ xs) = ap suc (count_in xs)
 
 -- Statements that all fit, and arms.
-abbrev pub statements_in : Program → FunctionTree → Bool → Bool → List TStmt → Bool
-statements_in p f leaves repeats xs = statements_fit p f leaves repeats (statements_of (map statement_of xs))
+abbrev pub statements_in : Program → FunctionTree → Bool → Bool → Bool → List TStmt → Bool
+statements_in p f declares leaves repeats xs = statements_fit p f declares leaves repeats (statements_of (map statement_of xs))
 
-pub no_statements : (p : Program) (f : FunctionTree) (leaves repeats : Bool) → statements_in p f leaves repeats [] ≡ true
+pub no_statements : (p : Program) (f : FunctionTree) (declares leaves repeats : Bool) → statements_in p f declares leaves repeats [] ≡ true
 unfolding statements_fit
-no_statements p f leaves repeats = refl
+no_statements p f declares leaves repeats = refl
 
-pub more_statements : (p : Program) (f : FunctionTree) (leaves repeats : Bool) (x : TStmt) (xs : List TStmt) → statements_in p f leaves repeats (x ∷ xs) ≡ (statement_fits p f leaves repeats (statement_of x) && statements_in p f leaves repeats xs)
+pub more_statements : (p : Program) (f : FunctionTree) (declares leaves repeats : Bool) (x : TStmt) (xs : List TStmt) → statements_in p f declares leaves repeats (x ∷ xs) ≡ (statement_fits p f declares leaves repeats (statement_of x) && statements_in p f declares leaves repeats xs)
 unfolding statements_fit
-more_statements p f leaves repeats x xs = refl
+more_statements p f declares leaves repeats x xs = refl
 
 abbrev pub arms_in : Program → FunctionTree → Bool → Bool → List TArm → Bool
 arms_in p f leaves repeats xs = arms_fit p f leaves repeats (arms_of (map arm_of xs))

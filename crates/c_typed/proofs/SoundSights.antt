@@ -11,61 +11,61 @@ use Rattle.c_typed.specs.Types.{type_of}
 use Rattle.std.specs.Global.{Box}
 use Rattle.c_typed.specs.Views.{expression_of, item_of, statement_of, statements_of, arm_of, arms_of, last_arm_of}
 use Rattle.c_typed.specs.declared.statement.TStmt as StmtOf
-use Rattle.c_typed.specs.declared.standing.Standing.TheVariants.{Used, Alone}
+use Rattle.c_typed.specs.declared.standing.Standing.TheVariants.{Alone}
 use Rattle.c_typed.specs.declared.statement.TArm.{TArm}
 use Rattle.c_typed.specs.declared.statement.TStmt.TheVariants as TStmt
 use Rattle.c_typed.specs.declared.statement.TStmt.TheViews.{out-TArm}
 
-pub statement_fits_block : (p : Program) (f : FunctionTree) (leaves repeats : Bool) (statements : _) (line : _) → statement_fits p f leaves repeats (statement_of (TStmt.Block statements line)) ≡ (statements_fit p f leaves repeats (statements_of (map statement_of statements.items)))
+pub statement_fits_block : (p : Program) (f : FunctionTree) (declares leaves repeats : Bool) (statements : _) (line : _) → statement_fits p f declares leaves repeats (statement_of (TStmt.Block statements line)) ≡ (statements_fit p f true leaves repeats (statements_of (map statement_of statements.items)))
 unfolding statement_fits
-statement_fits_block p f leaves repeats statements line = ap (statement_fits p f leaves repeats) (show_statement_block statements line)
+statement_fits_block p f declares leaves repeats statements line = ap (statement_fits p f declares leaves repeats) (show_statement_block statements line)
 
-pub statement_fits_empty : (p : Program) (f : FunctionTree) (leaves repeats : Bool) (line : _) → statement_fits p f leaves repeats (statement_of (TStmt.Empty line)) ≡ (true)
+pub statement_fits_empty : (p : Program) (f : FunctionTree) (declares leaves repeats : Bool) (line : _) → statement_fits p f declares leaves repeats (statement_of (TStmt.Empty line)) ≡ (true)
 unfolding statement_fits
-statement_fits_empty p f leaves repeats line = ap (statement_fits p f leaves repeats) (show_statement_empty line)
+statement_fits_empty p f declares leaves repeats line = ap (statement_fits p f declares leaves repeats) (show_statement_empty line)
 
-pub statement_fits_expr : (p : Program) (f : FunctionTree) (leaves repeats : Bool) (value : _) (line : _) → statement_fits p f leaves repeats (statement_of (TStmt.Expr value line)) ≡ (fits p f Alone (expression_of value))
+pub statement_fits_expr : (p : Program) (f : FunctionTree) (declares leaves repeats : Bool) (value : _) (line : _) → statement_fits p f declares leaves repeats (statement_of (TStmt.Expr value line)) ≡ (fits p f Alone (expression_of value))
 unfolding statement_fits
-statement_fits_expr p f leaves repeats value line = ap (statement_fits p f leaves repeats) (show_statement_expr value line)
+statement_fits_expr p f declares leaves repeats value line = ap (statement_fits p f declares leaves repeats) (show_statement_expr value line)
 
-pub statement_fits_declare : (p : Program) (f : FunctionTree) (leaves repeats : Bool) (local : _) (line : _) → statement_fits p f leaves repeats (statement_of (TStmt.Declare local line)) ≡ (local_is_there f local)
+pub statement_fits_declare : (p : Program) (f : FunctionTree) (declares leaves repeats : Bool) (local : _) (line : _) → statement_fits p f declares leaves repeats (statement_of (TStmt.Declare local line)) ≡ (declares && local_is_there f local)
 unfolding statement_fits
-statement_fits_declare p f leaves repeats local line = ap (statement_fits p f leaves repeats) (show_statement_declare local line)
+statement_fits_declare p f declares leaves repeats local line = ap (statement_fits p f declares leaves repeats) (show_statement_declare local line)
 
-pub statement_fits_init_scalar : (p : Program) (f : FunctionTree) (leaves repeats : Bool) (local : _) (value : _) (line : _) → statement_fits p f leaves repeats (statement_of (TStmt.InitScalar local value line)) ≡ (first_value_fits p f (slice_get f.locals local) (expression_of value))
+pub statement_fits_init_scalar : (p : Program) (f : FunctionTree) (declares leaves repeats : Bool) (local : _) (value : _) (line : _) → statement_fits p f declares leaves repeats (statement_of (TStmt.InitScalar local value line)) ≡ (declares && first_value_fits p f (slice_get f.locals local) (expression_of value))
 unfolding statement_fits
-statement_fits_init_scalar p f leaves repeats local value line = ap (statement_fits p f leaves repeats) (show_statement_init_scalar local value line)
+statement_fits_init_scalar p f declares leaves repeats local value line = ap (statement_fits p f declares leaves repeats) (show_statement_init_scalar local value line)
 
-pub statement_fits_init_list : (p : Program) (f : FunctionTree) (leaves repeats : Bool) (local : _) (items : _) (line : _) → statement_fits p f leaves repeats (statement_of (TStmt.InitList local items line)) ≡ (list_fits p f (slice_get f.locals local) (map item_of items.items))
+pub statement_fits_init_list : (p : Program) (f : FunctionTree) (declares leaves repeats : Bool) (local : _) (items : _) (line : _) → statement_fits p f declares leaves repeats (statement_of (TStmt.InitList local items line)) ≡ (declares && list_fits p f (slice_get f.locals local) (map item_of items.items))
 unfolding statement_fits
-statement_fits_init_list p f leaves repeats local items line = ap (statement_fits p f leaves repeats) (show_statement_init_list local items line)
+statement_fits_init_list p f declares leaves repeats local items line = ap (statement_fits p f declares leaves repeats) (show_statement_init_list local items line)
 
-pub statement_fits_loop : (p : Program) (f : FunctionTree) (leaves repeats : Bool) (shape : _) (begin : _) (condition : _) (step : _) (body : _) (line : _) → statement_fits p f leaves repeats (statement_of (TStmt.Loop shape begin condition step body line)) ≡ (loop_fits shape (is_some (option_map expression_of begin)) (is_some (option_map expression_of condition)) (is_some (option_map expression_of step)) && (any_fits p f (option_map expression_of begin) && (any_condition_fits p f (option_map expression_of condition) && (any_fits p f (option_map expression_of step) && statement_fits p f true true (statement_of body.value)))))
+pub statement_fits_loop : (p : Program) (f : FunctionTree) (declares leaves repeats : Bool) (shape : _) (begin : _) (condition : _) (step : _) (body : _) (line : _) → statement_fits p f declares leaves repeats (statement_of (TStmt.Loop shape begin condition step body line)) ≡ (loop_fits shape (is_some (option_map expression_of begin)) (is_some (option_map expression_of condition)) (is_some (option_map expression_of step)) && (any_fits p f (option_map expression_of begin) && (any_condition_fits p f (option_map expression_of condition) && (any_fits p f (option_map expression_of step) && statement_fits p f false true true (statement_of body.value)))))
 unfolding statement_fits
-statement_fits_loop p f leaves repeats shape begin condition step body line = ap (statement_fits p f leaves repeats) (show_statement_loop shape begin condition step body line)
+statement_fits_loop p f declares leaves repeats shape begin condition step body line = ap (statement_fits p f declares leaves repeats) (show_statement_loop shape begin condition step body line)
 
-pub statement_fits_switch : (p : Program) (f : FunctionTree) (leaves repeats : Bool) (value : _) (cases : _) (default : _) (statements : _) (line : _) → statement_fits p f leaves repeats (statement_of (TStmt.Switch value cases default statements line)) ≡ (switch_rule p f (expression_of value) && (cases_fit (type_of (expression_of value)) (count_of (statements_of (map statement_of statements.items))) cases.items && (default_fits (count_of (statements_of (map statement_of statements.items))) default && statements_fit p f true repeats (statements_of (map statement_of statements.items)))))
+pub statement_fits_switch : (p : Program) (f : FunctionTree) (declares leaves repeats : Bool) (value : _) (cases : _) (default : _) (statements : _) (line : _) → statement_fits p f declares leaves repeats (statement_of (TStmt.Switch value cases default statements line)) ≡ (switch_rule p f (expression_of value) && (cases_fit (type_of (expression_of value)) (count_of (statements_of (map statement_of statements.items))) cases.items && (default_fits (count_of (statements_of (map statement_of statements.items))) default && statements_fit p f false true repeats (statements_of (map statement_of statements.items)))))
 unfolding statement_fits
-statement_fits_switch p f leaves repeats value cases default statements line = ap (statement_fits p f leaves repeats) (show_statement_switch value cases default statements line)
+statement_fits_switch p f declares leaves repeats value cases default statements line = ap (statement_fits p f declares leaves repeats) (show_statement_switch value cases default statements line)
 
-pub statement_fits_break : (p : Program) (f : FunctionTree) (leaves repeats : Bool) (line : _) → statement_fits p f leaves repeats (statement_of (TStmt.Break line)) ≡ (leaves)
+pub statement_fits_break : (p : Program) (f : FunctionTree) (declares leaves repeats : Bool) (line : _) → statement_fits p f declares leaves repeats (statement_of (TStmt.Break line)) ≡ (leaves)
 unfolding statement_fits
-statement_fits_break p f leaves repeats line = ap (statement_fits p f leaves repeats) (show_statement_break line)
+statement_fits_break p f declares leaves repeats line = ap (statement_fits p f declares leaves repeats) (show_statement_break line)
 
-pub statement_fits_continue : (p : Program) (f : FunctionTree) (leaves repeats : Bool) (line : _) → statement_fits p f leaves repeats (statement_of (TStmt.Continue line)) ≡ (repeats)
+pub statement_fits_continue : (p : Program) (f : FunctionTree) (declares leaves repeats : Bool) (line : _) → statement_fits p f declares leaves repeats (statement_of (TStmt.Continue line)) ≡ (repeats)
 unfolding statement_fits
-statement_fits_continue p f leaves repeats line = ap (statement_fits p f leaves repeats) (show_statement_continue line)
+statement_fits_continue p f declares leaves repeats line = ap (statement_fits p f declares leaves repeats) (show_statement_continue line)
 
-pub statement_fits_return : (p : Program) (f : FunctionTree) (leaves repeats : Bool) (value : _) (line : _) → statement_fits p f leaves repeats (statement_of (TStmt.Return value line)) ≡ (return_fits p f (option_map expression_of value))
+pub statement_fits_return : (p : Program) (f : FunctionTree) (declares leaves repeats : Bool) (value : _) (line : _) → statement_fits p f declares leaves repeats (statement_of (TStmt.Return value line)) ≡ (return_fits p f (option_map expression_of value))
 unfolding statement_fits
-statement_fits_return p f leaves repeats value line = ap (statement_fits p f leaves repeats) (show_statement_return value line)
+statement_fits_return p f declares leaves repeats value line = ap (statement_fits p f declares leaves repeats) (show_statement_return value line)
 
-pub statement_fits_if : (p : Program) (f : FunctionTree) (leaves repeats : Bool) (arms : _) (last : Option (Box StmtOf.TStmt)) (line : _) → statement_fits p f leaves repeats (statement_of (TStmt.If arms last line)) ≡ (is_some_arm (arms_of (map arm_of arms.items)) && (arms_fit p f leaves repeats (arms_of (map arm_of arms.items)) && last_fits p f leaves repeats (last_arm_of last)))
+pub statement_fits_if : (p : Program) (f : FunctionTree) (declares leaves repeats : Bool) (arms : _) (last : Option (Box StmtOf.TStmt)) (line : _) → statement_fits p f declares leaves repeats (statement_of (TStmt.If arms last line)) ≡ (is_some_arm (arms_of (map arm_of arms.items)) && (arms_fit p f leaves repeats (arms_of (map arm_of arms.items)) && last_fits p f leaves repeats (last_arm_of last)))
 unfolding statement_fits
-statement_fits_if p f leaves repeats arms None line = ap (statement_fits p f leaves repeats) (show_statement_if_alone arms line)
-statement_fits_if p f leaves repeats arms (Some last) line = ap (statement_fits p f leaves repeats) (show_statement_if_else arms last line)
+statement_fits_if p f declares leaves repeats arms None line = ap (statement_fits p f declares leaves repeats) (show_statement_if_alone arms line)
+statement_fits_if p f declares leaves repeats arms (Some last) line = ap (statement_fits p f declares leaves repeats) (show_statement_if_else arms last line)
 
-pub arm_fits_one : (p : Program) (f : FunctionTree) (leaves repeats : Bool) (arm : TArm) → arm_fits p f leaves repeats (arm_of arm) ≡ (condition_fits p f (expression_of (out-TArm arm).condition) && statement_fits p f leaves repeats (statement_of (out-TArm arm).then))
+pub arm_fits_one : (p : Program) (f : FunctionTree) (leaves repeats : Bool) (arm : TArm) → arm_fits p f leaves repeats (arm_of arm) ≡ (condition_fits p f (expression_of (out-TArm arm).condition) && statement_fits p f false leaves repeats (statement_of (out-TArm arm).then))
 unfolding arm_fits
 arm_fits_one p f leaves repeats arm = ap (arm_fits p f leaves repeats) (show_arm arm)
 
@@ -73,7 +73,7 @@ pub last_fits_none : (p : Program) (f : FunctionTree) (leaves repeats : Bool) �
 unfolding last_fits
 last_fits_none p f leaves repeats = refl
 
-pub last_fits_some : (p : Program) (f : FunctionTree) (leaves repeats : Bool) (s : Statement) → last_fits p f leaves repeats (tree.Last s) ≡ statement_fits p f leaves repeats s
+pub last_fits_some : (p : Program) (f : FunctionTree) (leaves repeats : Bool) (s : Statement) → last_fits p f leaves repeats (tree.Last s) ≡ statement_fits p f false leaves repeats s
 unfolding last_fits
 last_fits_some p f leaves repeats s = refl
 

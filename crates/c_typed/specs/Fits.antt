@@ -1,11 +1,11 @@
 -- Whether an expression fits: what it names is there with its declared type, and at each node the typing rules hold.
-use Rattle.std.specs.Prelude.{ℕ, nat_eq, nat_lt, unsigned_abs, Bool, true, false, not, ◌&&◌, ◌||◌, List, [], ◌∷◌, Option, Some, None, is_some, slice_get}
+use Rattle.std.specs.Prelude.{ℕ, nat_eq, nat_lt, Bool, true, false, not, ◌&&◌, ◌||◌, if◌then◌else◌, List, [], ◌∷◌, Option, Some, None, is_some, slice_get}
 use Rattle.std.specs.Option.{option_map}
 use Rattle.c_ints.specs.declared.operators.BinOp.{BinOp}
 use Rattle.c_ints.specs.declared.operators.BinOp.TheVariants as binop
 use Rattle.c_ints.specs.declared.types.IntTy.TheVariants as int
 use Rattle.c_typed.specs.Rules.{read_fits, address_fits, start_fits, keeps, convert_fits, cast_fits, unary_fits, binary_fits, offset_fits, difference_fits, logical_fits, choice_fits, assign_fits, copy_fits, update_fits, step_fits, member_fits, deref_fits, is_zero}
-use Rattle.c_typed.specs.Sameness.{same_type, same_flag, same_qualified, is_pointer, is_array, is_scalar, pointed, is_the, members_of}
+use Rattle.c_typed.specs.Sameness.{same_type, same_flag, same_qualified, is_pointer, is_scalar, pointed, members_of}
 use Rattle.c_typed.specs.Trees as tree
 use Rattle.c_typed.specs.Trees.{Expression, Expressions, Place, MemberTree, VariableTree, StaticTree, FunctionTree, Program}
 use Rattle.c_typed.specs.Types.{type_of, place_type}
@@ -16,6 +16,7 @@ use Rattle.c_typed.specs.declared.standing.Standing.TheVariants.{Used, Pointed, 
 use Rattle.c_typed.specs.declared.types.Qualified.{Qualified}
 use Rattle.c_typed.specs.declared.types.Ty.{Ty}
 use Rattle.c_typed.specs.declared.types.Ty.TheVariants.{Int, Array}
+use Rattle.pic_chip.specs.Registers.{name_at}
 
 -- A null constant: the constant 0, cast to a pointer type or not (6.2.2.3).
 unfoldable pub is_null : Expression → Bool
@@ -60,6 +61,26 @@ source_of (tree.StructAssign place from size line) = None
 source_of (tree.Update op place value operation size ty line) = None
 source_of (tree.Step op place operation size ty line) = None
 source_of (tree.Call function arguments ty line) = None
+
+-- A value that was converted without a cast. It isn't converted so again.
+unfoldable pub is_converted : Expression → Bool
+is_converted (tree.Constant value line) = false
+is_converted (tree.Read place ty line) = false
+is_converted (tree.Address place ty line) = false
+is_converted (tree.Convert operand ty line) = true
+is_converted (tree.Cast operand ty line) = false
+is_converted (tree.Unary op operand ty line) = false
+is_converted (tree.Binary op left right ty line) = false
+is_converted (tree.Offset op left right size ty line) = false
+is_converted (tree.Difference left right size line) = false
+is_converted (tree.Logical op left right line) = false
+is_converted (tree.Conditional condition chosen otherwise ty line) = false
+is_converted (tree.Comma left right ty line) = false
+is_converted (tree.Assign place value ty line) = false
+is_converted (tree.StructAssign place from size line) = false
+is_converted (tree.Update op place value operation size ty line) = false
+is_converted (tree.Step op place operation size ty line) = false
+is_converted (tree.Call function arguments ty line) = false
 
 -- A pointer that becomes one of another type drops no qualifier of its target (6.3.16.1).
 abbrev pub keeps_from : Program → Option Ty → Ty → Bool
@@ -168,7 +189,11 @@ unfoldable mutual
   array_reach (tree.Step op place operation size ty line) = None
   array_reach (tree.Call function arguments ty line) = None
 
--- A register of the device is a volatile unsigned char.
+-- A register of the device, by the lowest address at which it is found (data sheet DS39582, register file map).
+unfoldable pub is_device : ℕ → Bool
+is_device register = is_some (name_at register)
+
+-- It is a volatile unsigned char.
 abbrev pub register_type : Qualified
 register_type = record { ty = Int int.UChar; constant = false; volatile = true }
 
@@ -183,7 +208,7 @@ abbrev pub declared_type : Program → FunctionTree → Object → Option Qualif
 declared_type p f (object.Static number) = option_map static_type (slice_get p.statics number)
 declared_type p f (object.Param number) = option_map variable_type (slice_get f.params number)
 declared_type p f (object.Local number) = option_map variable_type (slice_get f.locals number)
-declared_type p f (object.Register number) = Some register_type
+declared_type p f (object.Register number) = if is_device number then Some register_type else None
 
 -- The type of an array before its list of first values has told its length (6.5.7).
 abbrev pub is_open_array : ℕ → Ty → Bool
@@ -242,7 +267,7 @@ unfoldable pub rule_holds : Program → Standing → Expression → Bool
 rule_holds p standing (tree.Constant value line) = true
 rule_holds p standing (tree.Read place ty line) = read_fits (place_type place) ty
 rule_holds p standing (tree.Address place ty line) = leads_fits p standing (is_memory place) (is_reached place) (place_type place) ty
-rule_holds p standing (tree.Convert operand ty line) = convert_fits p (is_null operand) (type_of operand) ty
+rule_holds p standing (tree.Convert operand ty line) = not (is_converted operand) && convert_fits p (is_null operand) (type_of operand) ty
 rule_holds p standing (tree.Cast operand ty line) = cast_fits p (is_null operand) (type_of operand) ty
 rule_holds p standing (tree.Unary op operand ty line) = unary_fits op (type_of operand) ty
 rule_holds p standing (tree.Binary op left right ty line) = binary_fits p op (type_of left) (type_of right) ty
@@ -260,7 +285,7 @@ rule_holds p standing (tree.Call function arguments ty line) = returns_type (sli
 -- The same for places.
 unfoldable pub place_rule_holds : Program → FunctionTree → Place → Bool
 place_rule_holds p f (tree.Name object ty line) = is_named (names_local object) (declared_type p f object) ty
-place_rule_holds p f (tree.Bit register bit line) = nat_lt register 256 && nat_lt bit 8
+place_rule_holds p f (tree.Bit register bit line) = is_device register && nat_lt bit 8
 place_rule_holds p f (tree.Member whole member offset ty line) = member_fits (member_at p (place_type whole).ty member) (place_type whole) offset ty
 place_rule_holds p f (tree.Deref pointer ty line) = deref_fits p (type_of pointer) ty
 

@@ -2,15 +2,10 @@
 -- project's own), and the first of them that a program breaks.
 use Rattle.std.specs.Prelude.{ℕ, ◌+◌, nat_eq, nat_lt, Bool, true, false, not, ◌&&◌, ◌||◌, if◌then◌else◌, List, [], ◌∷◌, Option, Some, None}
 use Rattle.c_typed.specs.Chains.{graph_of}
+use Rattle.c_typed.specs.Sameness.{is_void}
 use Rattle.c_typed.specs.Trees.{FunctionTree, Program}
 use Rattle.c_typed.specs.declared.program.RootKind.{RootKind}
 use Rattle.c_typed.specs.declared.program.RootKind.TheVariants as kinds
-use Rattle.c_typed.specs.declared.types.Ty.{Ty}
-use Rattle.c_typed.specs.declared.types.Ty.TheVariants.{Void}
-
-abbrev pub is_void : Ty → Bool
-is_void Void = true
-is_void _ = false
 
 abbrev pub is_empty : {A : Type 0} → List A → Bool
 is_empty [] = true

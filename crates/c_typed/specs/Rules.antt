@@ -1,6 +1,6 @@
 -- The typing rules at one node: which types its parts may have, and which type it has (ISO/IEC 9899:1990, 6.3). An
 -- operand was brought to the type that the rule asks for by a Convert node, where it had another one.
-use Rattle.std.specs.Prelude.{ℕ, nat_eq, nat_lt, ℤ, pos, int_le, Bool, true, false, not, ◌&&◌, ◌||◌, if◌then◌else◌, Option, Some, None, is_some, is_none}
+use Rattle.std.specs.Prelude.{ℕ, nat_eq, ℤ, pos, int_le, Bool, true, false, not, ◌&&◌, ◌||◌, if◌then◌else◌, Option, Some, None, is_some}
 use Rattle.c_ints.specs.Conversions.{promoted, common}
 use Rattle.c_ints.specs.Operators.{compares, shifts}
 use Rattle.c_ints.specs.declared.operators.BinOp.{BinOp}
@@ -8,12 +8,12 @@ use Rattle.c_ints.specs.declared.operators.BinOp.TheVariants as binop
 use Rattle.c_ints.specs.declared.operators.UnOp.{UnOp}
 use Rattle.c_ints.specs.declared.operators.UnOp.TheVariants as unop
 use Rattle.c_ints.specs.declared.types.IntTy.TheVariants as int
-use Rattle.c_typed.specs.Sameness.{same_int, same_type, same_flag, same_qualified, is_void, is_int, is_pointer, is_array, is_struct, is_scalar, is_plain_int, is_promoted, is_index, pointed, element_of, is_the, is_complete}
+use Rattle.c_typed.specs.Sameness.{same_int, same_type, same_flag, is_void, is_int, is_pointer, is_array, is_struct, is_scalar, is_plain_int, is_promoted, is_index, pointed, element_of, is_the, is_complete}
 use Rattle.c_typed.specs.Trees.{MemberTree, Program}
 use Rattle.c_typed.specs.Types.{type_bytes}
 use Rattle.c_typed.specs.declared.types.Qualified.{Qualified}
 use Rattle.c_typed.specs.declared.types.Ty.{Ty}
-use Rattle.c_typed.specs.declared.types.Ty.TheVariants.{Void, Int, Pointer, Array, Struct}
+use Rattle.c_typed.specs.declared.types.Ty.TheVariants.{Int}
 
 -- The value of a place: any but an array's (6.2.2.1).
 abbrev pub read_fits : Qualified → Ty → Bool

@@ -1,7 +1,6 @@
 -- Whether statements, functions, static objects and structures fit, and what makes a program sound.
 use Rattle.std.specs.Prelude.{ℕ, suc, ◌+◌, ◌-◌, ◌*◌, ◌^◌, ◌%◌, nat_eq, nat_lt, nat_le, ℤ, int_le, Bool, true, false, not, ◌&&◌, ◌||◌, if◌then◌else◌, List, [], ◌∷◌, length, Option, Some, None, is_some, slice_get}
 use Rattle.std.specs.List.{list_all}
-use Rattle.c_ints.specs.Quantity.{Quantity}
 use Rattle.c_typed.specs.Fits.{source_of, goes_to, fits, place_fits}
 use Rattle.c_typed.specs.Sameness.{same_type, is_void, is_array, is_struct, is_scalar, is_promoted, is_complete}
 use Rattle.c_typed.specs.Trees as tree
@@ -121,28 +120,28 @@ is_some_arm tree.NoArm = false
 is_some_arm (tree.AndArm arm arms) = true
 
 unfoldable mutual
-  -- A statement of a function fits; `leaves` says that it stands in a loop or a switch, `repeats` that it stands in a
-  -- loop (6.6.6.2, 6.6.6.3).
-  pub statement_fits : Program → FunctionTree → Bool → Bool → Statement → Bool
-  statement_fits p f leaves repeats (tree.Block statements line) = statements_fit p f leaves repeats statements
-  statement_fits p f leaves repeats (tree.Empty line) = true
-  statement_fits p f leaves repeats (tree.Expr value line) = fits p f Alone value
-  statement_fits p f leaves repeats (tree.Declare local line) = local_is_there f local
-  statement_fits p f leaves repeats (tree.InitScalar local value line) = first_value_fits p f (slice_get f.locals local) value
-  statement_fits p f leaves repeats (tree.InitList local items line) = list_fits p f (slice_get f.locals local) items
-  statement_fits p f leaves repeats (tree.If arms otherwise line) = is_some_arm arms && (arms_fit p f leaves repeats arms && last_fits p f leaves repeats otherwise)
-  statement_fits p f leaves repeats (tree.Loop shape begin condition step body line) = loop_fits shape (is_some begin) (is_some condition) (is_some step) && (any_fits p f begin && (any_condition_fits p f condition && (any_fits p f step && statement_fits p f true true body)))
-  statement_fits p f leaves repeats (tree.Switch value cases default statements line) = switch_rule p f value && (cases_fit (type_of value) (count_of statements) cases && (default_fits (count_of statements) default && statements_fit p f true repeats statements))
-  statement_fits p f leaves repeats (tree.Break line) = leaves
-  statement_fits p f leaves repeats (tree.Continue line) = repeats
-  statement_fits p f leaves repeats (tree.Return value line) = return_fits p f value
+  -- A statement of a function fits; `declares` says that it stands in a block, as declarators do, `leaves` that it
+  -- stands in a loop or a switch, `repeats` that it stands in a loop (6.6.2, 6.6.6.2, 6.6.6.3).
+  pub statement_fits : Program → FunctionTree → Bool → Bool → Bool → Statement → Bool
+  statement_fits p f declares leaves repeats (tree.Block statements line) = statements_fit p f true leaves repeats statements
+  statement_fits p f declares leaves repeats (tree.Empty line) = true
+  statement_fits p f declares leaves repeats (tree.Expr value line) = fits p f Alone value
+  statement_fits p f declares leaves repeats (tree.Declare local line) = declares && local_is_there f local
+  statement_fits p f declares leaves repeats (tree.InitScalar local value line) = declares && first_value_fits p f (slice_get f.locals local) value
+  statement_fits p f declares leaves repeats (tree.InitList local items line) = declares && list_fits p f (slice_get f.locals local) items
+  statement_fits p f declares leaves repeats (tree.If arms otherwise line) = is_some_arm arms && (arms_fit p f leaves repeats arms && last_fits p f leaves repeats otherwise)
+  statement_fits p f declares leaves repeats (tree.Loop shape begin condition step body line) = loop_fits shape (is_some begin) (is_some condition) (is_some step) && (any_fits p f begin && (any_condition_fits p f condition && (any_fits p f step && statement_fits p f false true true body)))
+  statement_fits p f declares leaves repeats (tree.Switch value cases default statements line) = switch_rule p f value && (cases_fit (type_of value) (count_of statements) cases && (default_fits (count_of statements) default && statements_fit p f false true repeats statements))
+  statement_fits p f declares leaves repeats (tree.Break line) = leaves
+  statement_fits p f declares leaves repeats (tree.Continue line) = repeats
+  statement_fits p f declares leaves repeats (tree.Return value line) = return_fits p f value
 
-  pub statements_fit : Program → FunctionTree → Bool → Bool → Statements → Bool
-  statements_fit p f leaves repeats tree.NoStatement = true
-  statements_fit p f leaves repeats (tree.AndStatement s ss) = statement_fits p f leaves repeats s && statements_fit p f leaves repeats ss
+  pub statements_fit : Program → FunctionTree → Bool → Bool → Bool → Statements → Bool
+  statements_fit p f declares leaves repeats tree.NoStatement = true
+  statements_fit p f declares leaves repeats (tree.AndStatement s ss) = statement_fits p f declares leaves repeats s && statements_fit p f declares leaves repeats ss
 
   pub arm_fits : Program → FunctionTree → Bool → Bool → Arm → Bool
-  arm_fits p f leaves repeats (tree.OneArm condition chosen line) = condition_fits p f condition && statement_fits p f leaves repeats chosen
+  arm_fits p f leaves repeats (tree.OneArm condition chosen line) = condition_fits p f condition && statement_fits p f false leaves repeats chosen
 
   pub arms_fit : Program → FunctionTree → Bool → Bool → Arms → Bool
   arms_fit p f leaves repeats tree.NoArm = true
@@ -150,7 +149,7 @@ unfoldable mutual
 
   pub last_fits : Program → FunctionTree → Bool → Bool → LastArm → Bool
   last_fits p f leaves repeats tree.NoLast = true
-  last_fits p f leaves repeats (tree.Last s) = statement_fits p f leaves repeats s
+  last_fits p f leaves repeats (tree.Last s) = statement_fits p f false leaves repeats s
 
 -- A number of bytes is exact below 2 to the 40. Beyond that only its rest modulo 65,536 is kept, which is what `sizeof`
 -- shows of it; no object is as large.
@@ -185,10 +184,15 @@ members_fit p size before (m ∷ ms) = nat_eq m.offset before && (type_is_there 
 abbrev pub structure_fits : Program → StructureTree → Bool
 structure_fits p s = members_fit p s.size 0 s.members
 
--- A first byte of a static object is a number, or byte 0 or 1 of the address of a static object that is there.
+-- a static object that is there and isn't const: no pointer leads to a const one
+abbrev pub is_changeable : Option StaticTree → Bool
+is_changeable None = false
+is_changeable (Some s) = not s.ty.constant
+
+-- A first byte of a static object is a number, or byte 0 or 1 of the address of a static object that isn't const.
 abbrev pub byte_fits : Program → InitialByte → Bool
 byte_fits p (initial.Number number) = true
-byte_fits p (initial.Address object byte) = is_some (slice_get p.statics object) && nat_lt byte 2
+byte_fits p (initial.Address object byte) = is_changeable (slice_get p.statics object) && nat_lt byte 2
 
 -- First bytes lie within the object, in rising order.
 abbrev pub initial_fits : Program → ℕ → ℕ → List Initial → Bool
@@ -209,7 +213,7 @@ abbrev pub result_fits : Program → Ty → Bool
 result_fits p ty = (is_scalar ty || is_void ty) && type_is_there p ty
 
 abbrev pub function_fits : Program → FunctionTree → Bool
-function_fits p f = result_fits p f.result && (list_all (param_fits p) f.params && (list_all (local_fits p) f.locals && statements_fit p f false false f.body))
+function_fits p f = result_fits p f.result && (list_all (param_fits p) f.params && (list_all (local_fits p) f.locals && statements_fit p f true false false f.body))
 
 -- What a node names is there, and its types fit.
 abbrev pub is_sound : Program → Bool

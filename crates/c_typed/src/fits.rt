@@ -80,6 +80,32 @@ fn source_of(expr: &TExpr) -> Option<Ty>
     }
 }
 
+// Whether a value was converted without a cast.
+#[tactic(auto, using(crate::proofs::FitSights::all_is_converted))]
+fn is_converted(expr: &TExpr) -> bool
+    ensures { result ≡ stated.is_converted (expression_of expr.now) }
+{
+    match expr {
+        TExpr::Convert { .. } => true,
+        TExpr::Constant { .. }
+        | TExpr::Read { .. }
+        | TExpr::Address { .. }
+        | TExpr::Cast { .. }
+        | TExpr::Unary { .. }
+        | TExpr::Binary { .. }
+        | TExpr::Offset { .. }
+        | TExpr::Difference { .. }
+        | TExpr::Logical { .. }
+        | TExpr::Conditional { .. }
+        | TExpr::Comma { .. }
+        | TExpr::Assign { .. }
+        | TExpr::StructAssign { .. }
+        | TExpr::Update { .. }
+        | TExpr::Step { .. }
+        | TExpr::Call { .. } => false,
+    }
+}
+
 fn keeps_from(p: &Tables, from: Option<Ty>, to: Ty) -> bool
     ensures { result ≡ stated.keeps_from (tables_of p.now) from to }
 {
@@ -230,6 +256,17 @@ fn array_reach(address: &TExpr) -> Option<bool>
     }
 }
 
+/// Whether a register of the device has this lowest address.
+#[tactic(auto, unfolding(crate::specs::Fits::is_device))]
+fn is_device(register: u8) -> bool
+    ensures { result ≡ stated.is_device register }
+{
+    match pic_chip::register_name(register) {
+        Some(_) => true,
+        None => false,
+    }
+}
+
 fn register_type() -> Qualified
     ensures { result ≡ stated.register_type }
 {
@@ -267,7 +304,13 @@ fn declared_type(p: &Tables, f: &Function, object: Object) -> Option<Qualified>
         Object::Static(number) => static_type(p, number),
         Object::Param(number) => variable_type(&f.params, number),
         Object::Local(number) => variable_type(&f.locals, number),
-        Object::Register(_) => Some(register_type()),
+        Object::Register(number) => {
+            if is_device(number) {
+                Some(register_type())
+            } else {
+                None
+            }
+        }
     }
 }
 
@@ -409,7 +452,7 @@ fn rule_holds(p: &Tables, standing: Standing, expr: &TExpr) -> bool
         TExpr::Read { place, ty, .. } => read_fits(place.ty(), *ty),
         TExpr::Address { place, ty, .. } => leads_fits(p, standing, place, *ty),
         TExpr::Convert { operand, ty, .. } => {
-            convert_fits(p, is_null(operand), operand.ty(), *ty)
+            !is_converted(operand) && convert_fits(p, is_null(operand), operand.ty(), *ty)
         }
         TExpr::Cast { operand, ty, .. } => cast_fits(p, is_null(operand), operand.ty(), *ty),
         TExpr::Unary {
@@ -487,7 +530,7 @@ fn place_rule_holds(p: &Tables, f: &Function, place: &TPlace) -> bool
 {
     match place {
         TPlace::Name { object, ty, .. } => name_fits(p, f, *object, *ty),
-        TPlace::Bit { register, bit, .. } => (*register as u16) < 256 && *bit < 8,
+        TPlace::Bit { register, bit, .. } => is_device(*register) && *bit < 8,
         TPlace::Member {
             whole,
             member,

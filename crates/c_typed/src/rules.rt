@@ -124,7 +124,7 @@ pub(crate) fn unary_fits(op: UnOp, from: Ty, ty: Ty) -> bool
     }
 }
 
-fn is_shift(op: BinOp) -> bool
+pub(crate) fn is_shift(op: BinOp) -> bool
     ensures { result ≡ shifts op }
 {
     match op {

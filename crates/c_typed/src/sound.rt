@@ -242,20 +242,29 @@ fn switch_rule(p: &Tables, f: &Function, value: &TExpr) -> bool
     is_promoted(value.ty()) && fits(p, f, Standing::Used, value)
 }
 
-/// Whether a statement of a function fits; `leaves` says that it stands in a loop or a switch, `repeats`
-/// that it stands in a loop.
+/// Whether a statement of a function fits; `declares` says that it stands in a block, `leaves` that it stands
+/// in a loop or a switch, `repeats` that it stands in a loop.
 #[cycle(sound)]
 #[tactic(auto, using(crate::proofs::SoundSights::all_statement_fits))]
-fn statement_fits(p: &Tables, f: &Function, leaves: bool, repeats: bool, statement: &TStmt) -> bool
-    ensures { result ≡ stated.statement_fits (tables_of p.now) (function_of f.now) leaves repeats (statement_of statement.now) }
+fn statement_fits(
+    p: &Tables,
+    f: &Function,
+    declares: bool,
+    leaves: bool,
+    repeats: bool,
+    statement: &TStmt,
+) -> bool
+    ensures { result ≡ stated.statement_fits (tables_of p.now) (function_of f.now) declares leaves repeats (statement_of statement.now) }
 {
     match statement {
-        TStmt::Block { statements, .. } => statements_fit(p, f, leaves, repeats, statements),
+        TStmt::Block { statements, .. } => statements_fit(p, f, true, leaves, repeats, statements),
         TStmt::Empty { .. } => true,
         TStmt::Expr { value, .. } => fits(p, f, Standing::Alone, value),
-        TStmt::Declare { local, .. } => local_is_there(f, *local),
-        TStmt::InitScalar { local, value, .. } => first_value_fits(p, f, *local, value),
-        TStmt::InitList { local, items, .. } => list_fits(p, f, *local, items),
+        TStmt::Declare { local, .. } => declares && local_is_there(f, *local),
+        TStmt::InitScalar { local, value, .. } => {
+            declares && first_value_fits(p, f, *local, value)
+        }
+        TStmt::InitList { local, items, .. } => declares && list_fits(p, f, *local, items),
         TStmt::If {
             arms,
             otherwise,
@@ -277,7 +286,7 @@ fn statement_fits(p: &Tables, f: &Function, leaves: bool, repeats: bool, stateme
                 && any_fits(p, f, begin)
                 && any_condition_fits(p, f, condition)
                 && any_fits(p, f, step)
-                && statement_fits(p, f, true, true, body)
+                && statement_fits(p, f, false, true, true, body)
         }
         TStmt::Switch {
             value,
@@ -289,7 +298,7 @@ fn statement_fits(p: &Tables, f: &Function, leaves: bool, repeats: bool, stateme
             switch_rule(p, f, value)
                 && cases_fit(value.ty(), count_of(statements), cases)
                 && default_fits(count_of(statements), *default)
-                && statements_fit(p, f, true, repeats, statements)
+                && statements_fit(p, f, false, true, repeats, statements)
         }
         TStmt::Break { .. } => leaves,
         TStmt::Continue { .. } => repeats,
@@ -309,7 +318,7 @@ fn last_fits(
     ensures { result ≡ stated.last_fits (tables_of p.now) (function_of f.now) leaves repeats (last_arm_of last.now) }
 {
     match last {
-        Some(statement) => statement_fits(p, f, leaves, repeats, statement),
+        Some(statement) => statement_fits(p, f, false, leaves, repeats, statement),
         None => true,
     }
 }
@@ -319,14 +328,15 @@ fn last_fits(
 pub(crate) fn statements_fit(
     p: &Tables,
     f: &Function,
+    declares: bool,
     leaves: bool,
     repeats: bool,
     statements: &[TStmt],
 ) -> bool
-    ensures { result ≡ stated.statements_fit (tables_of p.now) (function_of f.now) leaves repeats (statements_of (map statement_of statements.now)) }
+    ensures { result ≡ stated.statements_fit (tables_of p.now) (function_of f.now) declares leaves repeats (statements_of (map statement_of statements.now)) }
 {
     for statement in statements {
-        if !statement_fits(p, f, leaves, repeats, statement) {
+        if !statement_fits(p, f, declares, leaves, repeats, statement) {
             return false;
         }
     }
@@ -350,5 +360,5 @@ fn arms_fit(p: &Tables, f: &Function, leaves: bool, repeats: bool, arms: &[TArm]
 fn arm_fits(p: &Tables, f: &Function, leaves: bool, repeats: bool, arm: &TArm) -> bool
     ensures { result ≡ stated.arm_fits (tables_of p.now) (function_of f.now) leaves repeats (arm_of arm.now) }
 {
-    condition_fits(p, f, &arm.condition) && statement_fits(p, f, leaves, repeats, &arm.then)
+    condition_fits(p, f, &arm.condition) && statement_fits(p, f, false, leaves, repeats, &arm.then)
 }

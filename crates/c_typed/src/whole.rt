@@ -64,11 +64,11 @@ fn structure_is_there(p: &Tables, number: u32) -> bool
 }
 
 #[tactic(auto, using(crate::proofs::Lookups::see_static))]
-fn static_is_there(p: &Tables, number: u32) -> bool
-    ensures { result ≡ is_some (slice_get (tables_of p.now).statics number) }
+fn is_changeable(p: &Tables, number: u32) -> bool
+    ensures { result ≡ stated.is_changeable (slice_get (tables_of p.now).statics number) }
 {
     match p.statics.get(number as usize) {
-        Some(_) => true,
+        Some(object) => !object.ty.constant,
         None => false,
     }
 }
@@ -126,7 +126,7 @@ fn byte_fits(p: &Tables, byte: InitialByte) -> bool
 {
     match byte {
         InitialByte::Number(_) => true,
-        InitialByte::Address { object, byte } => static_is_there(p, object) && byte < 2,
+        InitialByte::Address { object, byte } => is_changeable(p, object) && byte < 2,
     }
 }
 
@@ -207,7 +207,7 @@ fn function_fits(p: &Tables, function: &Function) -> bool
     result_fits(p, function.result)
         && params_fit(p, &function.params)
         && locals_fit(p, &function.locals)
-        && statements_fit(p, function, false, false, &function.body)
+        && statements_fit(p, function, true, false, false, &function.body)
 }
 
 fn target_fits(p: &Tables, target: &Qualified) -> bool

@@ -66,8 +66,8 @@ fn copies_under(
 /// The copies of a program, in the order in which their frames are placed, or the first reason why it has
 /// none: a broken rule on the roots, then a recursion, whether a root reaches it or not, then a depth over
 /// the eight words of the return stack.
+#[tactic(auto, using(c_typed::proofs::Facts::few_functions))]
 pub fn copies(alloc: Global, p: &Typed) -> Result<Copies, GraphError>
-    requires { length p.now.functions.items ≤ 2 ^ 28 }
     ensures roots { TellsRoots result (broken_root (program_of p.now)) }
     ensures recursion { TellsRecursion (program_of p.now) result }
     ensures depth { TellsDepth (program_of p.now) result }

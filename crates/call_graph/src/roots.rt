@@ -5,6 +5,7 @@ ghost use Rattle.c_typed.specs.Chains.{graph_of};
 ghost use Rattle.call_graph.specs.Copies.{first_from, root_of};
 ghost use Rattle.call_graph.specs.Rows.{rows_of};
 ghost use Rattle.c_typed.specs.Roots as stated;
+ghost use Rattle.c_typed.specs.Sameness as typing;
 ghost use Rattle.c_typed.specs.Views.{function_of, variable_of, program_of};
 ghost use Rattle.pic_chip.specs.declared.Root.TheVariants as entry;
 
@@ -18,7 +19,7 @@ pub struct Roots {
 }
 
 fn is_void(ty: Ty) -> bool
-    ensures { result ≡ stated.is_void ty }
+    ensures { result ≡ typing.is_void ty }
 {
     match ty {
         Ty::Void => true,

@@ -6,10 +6,10 @@ use Rattle.c_ints.specs.Quantity.{Quantity}
 use Rattle.c_ints.specs.Range.{pattern}
 use Rattle.c_ints.specs.declared.operators.BinOp.TheVariants as binop
 use Rattle.c_ints.specs.declared.types.IntTy.TheVariants.{UInt}
+use Rattle.c_typed.specs.Folding.{bits}
 use Rattle.core_code.specs.Tree as code
 use Rattle.core_code.specs.declared.code.Byte.{Byte}
 use Rattle.lower_expr.specs.Bytes.{beyond, little_beyond, byte_at, behind}
-use Rattle.lower_expr.specs.Folding.{bits}
 use Rattle.lower_expr.specs.Layout.{static_number}
 use Rattle.lower_expr.specs.Puts.{test_size, operator, copies, sets, zeros}
 use Rattle.lower_expr.specs.Rows.{multiples, odd_part, structure_bytes, advances, taken, given}

@@ -1,5 +1,4 @@
 pub mod Bytes
-pub mod Folding
 pub mod Layout
 pub mod Lowering
 pub mod Puts

@@ -2,6 +2,7 @@
 use Rattle.std.specs.Prelude.{ℕ, Bool, true, false, ◌&&◌, List, [], ◌∷◌, ◌++◌}
 use Rattle.c_ints.specs.Range.{bytes_of}
 use Rattle.c_ints.specs.declared.operators.BinOp.{BinOp}
+use Rattle.c_typed.specs.Folding.{bits, constant_bits}
 use Rattle.c_typed.specs.Trees as tree
 use Rattle.c_typed.specs.Trees.{Expression, Expressions, Place}
 use Rattle.c_typed.specs.Types.{type_of, place_type, is_constant}
@@ -11,7 +12,6 @@ use Rattle.core_code.specs.Tree as code
 use Rattle.core_code.specs.Tree.{Tree}
 use Rattle.core_code.specs.declared.code.Byte.TheVariants.{Frame, Result}
 use Rattle.lower_expr.specs.Bytes.{beyond, operation_type}
-use Rattle.lower_expr.specs.Folding.{bits, constant_bits}
 use Rattle.lower_expr.specs.Layout.{Layout, width, value_width, place_width, object_byte, copy_of}
 use Rattle.lower_expr.specs.Puts.{sets, choice}
 use Rattle.lower_expr.specs.Rows.{widened, tested, unary_row, logical_row, is_shift, binary_row, offset_row, difference_row, member_row, address_row, value_row, assigned_row, update_row, step_row, called_row, struct_row}

@@ -1,10 +1,10 @@
 //! Reads of places, and what gives them values.
 
 ghost use Rattle.std.specs.Prelude.{◌≡◌, OnOk};
+ghost use Rattle.c_typed.specs.Folding.{constant_bits};
 ghost use Rattle.c_typed.specs.Types.{place_type};
 ghost use Rattle.c_typed.specs.Views.{expression_of, place_of};
 ghost use Rattle.core_code.specs.declared.code.Byte.TheVariants.{Frame};
-ghost use Rattle.lower_expr.specs.Folding.{constant_bits};
 ghost use Rattle.lower_expr.specs.Layout.{layout_of, width, value_width, place_width};
 ghost use Rattle.lower_expr.specs.Lowering.{shifts_by_constant, behind_pointer};
 ghost use Rattle.lower_expr.specs.Puts.{Appends};
@@ -12,7 +12,6 @@ ghost use Rattle.lower_expr.specs.Rows as row;
 ghost use Rattle.lower_expr.specs.Spots.{spot_of};
 
 use crate::bytes::{behind, beyond, operation_type};
-use crate::folding::constant_bits;
 use crate::offsets::put_moved;
 use crate::operators::{put_shift, put_widened, shifts_by_constant};
 use crate::places::{Locals, Spot, bytes_of_place, bytes_of_value, pointer_bytes, spot_of, width};
@@ -205,7 +204,7 @@ fn put_update_operator(
             operation_type(operation),
             at,
             right,
-            constant_bits(value),
+            value.constant_bits(),
             count,
         )
     } else {

@@ -6,13 +6,13 @@
 
 ghost use Rattle.std.specs.Prelude.{◌≡◌, OnOk, OnErr, IfOk, [], ◌∷◌, ◌++◌, map};
 ghost use Rattle.c_ints.specs.Range.{bytes_of};
+ghost use Rattle.c_typed.specs.Folding.{bits, constant_bits};
 ghost use Rattle.c_typed.specs.Types.{type_of};
 ghost use Rattle.c_typed.specs.Views.{expression_of, place_of, arguments_of};
 ghost use Rattle.core_code.specs.Tree as code;
 ghost use Rattle.core_code.specs.View.{trees_in};
 ghost use Rattle.core_code.specs.declared.code.Byte.TheVariants.{Frame};
 ghost use Rattle.lower_expr.specs.Bytes.{beyond, operation_type};
-ghost use Rattle.lower_expr.specs.Folding.{bits, constant_bits};
 ghost use Rattle.lower_expr.specs.Layout.{layout_of, value_width, object_byte};
 ghost use Rattle.lower_expr.specs.Lowering.{expr_code, address_code, pointer_code, change_code, shifts_by_constant, is_pointer, arguments_code, arguments_width};
 ghost use Rattle.lower_expr.specs.Puts.{Appends, sets};
@@ -23,7 +23,6 @@ use crate::assignments::{
     behind_pointer, put_address_of, put_assigned, put_step, put_update, put_value,
 };
 use crate::bytes::{beyond, frame_byte, operation_type};
-use crate::folding::constant_bits;
 use crate::offsets::{put_difference, put_member, put_offset};
 use crate::operators::{
     put_logical, put_shift, put_tested, put_unary_of, put_widened, shifts_by_constant,
@@ -85,7 +84,7 @@ fn put_binary_of(
             operation_type(ty),
             at,
             next,
-            constant_bits(right),
+            right.constant_bits(),
             size,
         )
     } else {

@@ -12,7 +12,6 @@
 mod assignments;
 mod bytes;
 mod expression;
-mod folding;
 mod offsets;
 mod operators;
 mod places;

@@ -1,28 +1,38 @@
 -- The device registers by bank.
 use Rattle.std.proofs.Common.{◌≡◌, ℕ, ◌+◌, ◌-◌, ◌*◌, ◌/◌, ◌%◌, ◌<◌, Bool, true, false, eqb, refl, sym, ap, ◌∙◌, arith, [], not}
-use Rattle.std.specs.Prelude.{slice_index_or, nat_eq, if◌then◌else◌, ◌||◌, ◌&&◌}
+use Rattle.std.specs.Prelude.{slice_index_or, nat_eq, nat_lt, if◌then◌else◌, ◌||◌, ◌&&◌}
 use Rattle.std.proofs.lemmas.Bool.{agree_below, agree_below_at, eqb-true}
 use Rattle.pic_chip.specs.Registers.{is_among, is_register, lowest}
+use Rattle.pic_chip.specs.Control.{is_stored}
 use Rattle.pic_chip.specs.Address.{Place, Device, Nothing, place}
 use Rattle.pic_chip.specs.Named.{devices}
 
 abbrev pub is_device : ℕ → ℕ → Bool
 is_device bank low = is_among (slice_index_or devices bank []) low
 
-device_test : (bank low : ℕ) → bank < 4 → low < 128 → nat_eq low 11 ≡ false → is_register (0x80 * bank + low) ≡ is_device bank low
+-- a register that is kept stands there
+abbrev is_kept : ℕ → ℕ → Bool
+is_kept bank low = nat_eq low 11 || (nat_eq low 12 && nat_lt bank 2)
+
+none_kept : (a b : Bool) → a ≡ false → b ≡ false → (a || b) ≡ false
+none_kept false false h k = refl
+none_kept true b h k = absurd (cc)
+none_kept a true h k = absurd (cc)
+
+device_test : (bank low : ℕ) → bank < 4 → low < 128 → is_kept bank low ≡ false → is_register (0x80 * bank + low) ≡ is_device bank low
 device_test bank low hb hl ho =
-    let f : ℕ → Bool = λ n. nat_eq (n % 128) 11 || is_register (0x80 * (n / 128) + n % 128) in
-    let g : ℕ → Bool = λ n. nat_eq (n % 128) 11 || is_device (n / 128) (n % 128) in
+    let f : ℕ → Bool = λ n. is_kept (n / 128) (n % 128) || is_register (0x80 * (n / 128) + n % 128) in
+    let g : ℕ → Bool = λ n. is_kept (n / 128) (n % 128) || is_device (n / 128) (n % 128) in
     let all : agree_below f g 512 ≡ true = refl in
     let d : (bank * 128 + low) / 128 ≡ bank = omega arith in
     let m : (bank * 128 + low) % 128 ≡ low = omega arith in
     let here : f (bank * 128 + low) ≡ g (bank * 128 + low) = agree_below_at f g 512 (bank * 128 + low) all (omega arith) in
     ap (λ b. b || is_register (0x80 * bank + low)) (sym ho)
-    ∙ ap (λ q. nat_eq low 11 || is_register (0x80 * q + low)) (sym d)
-    ∙ ap (λ r. nat_eq r 11 || is_register (0x80 * ((bank * 128 + low) / 128) + r)) (sym m)
+    ∙ ap (λ q. is_kept q low || is_register (0x80 * q + low)) (sym d)
+    ∙ ap (λ r. is_kept ((bank * 128 + low) / 128) r || is_register (0x80 * ((bank * 128 + low) / 128) + r)) (sym m)
     ∙ here
-    ∙ ap (λ r. nat_eq r 11 || is_device ((bank * 128 + low) / 128) r) m
-    ∙ ap (λ q. nat_eq low 11 || is_device q low) d
+    ∙ ap (λ r. is_kept ((bank * 128 + low) / 128) r || is_device ((bank * 128 + low) / 128) r) m
+    ∙ ap (λ q. is_kept q low || is_device q low) d
     ∙ ap (λ b. b || is_device bank low) ho
 
 device_lowest : (bank low : ℕ) → bank < 4 → low < 128 → is_device bank low ≡ true → lowest (0x80 * bank + low) ≡ 0x80 * (bank % 2) + low
@@ -45,9 +55,9 @@ chosen true false x y e h = absurd (cc)
 chosen false true x y e h = absurd (cc)
 
 -- the last two cases of the address table
-pub device_place : (bank low : ℕ) → bank < 4 → low < 128 → nat_eq low 11 ≡ false → (if is_register (0x80 * bank + low) then Device (lowest (0x80 * bank + low)) else Nothing) ≡ (if is_device bank low then Device (0x80 * (bank % 2) + low) else Nothing)
-device_place bank low hb hl ho =
-    chosen (is_register (0x80 * bank + low)) (is_device bank low) (lowest (0x80 * bank + low)) (0x80 * (bank % 2) + low) (device_test bank low hb hl ho) (device_lowest bank low hb hl)
+pub device_place : (bank low : ℕ) → bank < 4 → low < 128 → nat_eq low 11 ≡ false → (nat_eq low 12 && nat_lt bank 2) ≡ false → (if is_register (0x80 * bank + low) then Device (lowest (0x80 * bank + low)) else Nothing) ≡ (if is_device bank low then Device (0x80 * (bank % 2) + low) else Nothing)
+device_place bank low hb hl ho hp =
+    chosen (is_register (0x80 * bank + low)) (is_device bank low) (lowest (0x80 * bank + low)) (0x80 * (bank % 2) + low) (device_test bank low hb hl (none_kept (nat_eq low 11) (nat_eq low 12 && nat_lt bank 2) ho hp)) (device_lowest bank low hb hl)
 
 -- what holds of each bank and each low part of an address is computed at all 512 pairs
 at_pair : (g : ℕ → ℕ → Bool) → agree_below (λ n. g (n / 128) (n % 128)) (λ n. true) 512 ≡ true → (bank low : ℕ) → bank < 4 → low < 128 → g bank low ≡ true
@@ -63,7 +73,7 @@ implied true true true h e = absurd (cc)
 implied true false c h e = absurd (cc)
 implied false b c h e = absurd (cc)
 
-pub device_fits : (bank low : ℕ) → bank < 4 → low < 128 → is_device bank low ≡ true → (is_register (0x80 * (bank % 2) + low) ≡ true) × (nat_eq (0x80 * (bank % 2) + low) 0x0b ≡ false)
+pub device_fits : (bank low : ℕ) → bank < 4 → low < 128 → is_device bank low ≡ true → (is_register (0x80 * (bank % 2) + low) ≡ true) × (is_stored (0x80 * (bank % 2) + low) ≡ false)
 device_fits bank low hb hl hd =
-    implied (is_device bank low) (is_register (0x80 * (bank % 2) + low)) (nat_eq (0x80 * (bank % 2) + low) 0x0b)
-    (at_pair (λ b l. not (is_device b l) || (is_register (0x80 * (b % 2) + l) && not (nat_eq (0x80 * (b % 2) + l) 0x0b))) refl bank low hb hl) hd
+    implied (is_device bank low) (is_register (0x80 * (bank % 2) + low)) (is_stored (0x80 * (bank % 2) + low))
+    (at_pair (λ b l. not (is_device b l) || (is_register (0x80 * (b % 2) + l) && not (is_stored (0x80 * (b % 2) + l)))) refl bank low hb hl) hd

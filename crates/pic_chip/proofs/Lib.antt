@@ -7,4 +7,9 @@ pub mod Devices
 pub mod Done
 pub mod Growth
 pub mod Wanted
+pub mod OrLaws
+pub mod ControlLaws
+pub mod ChipControl
+pub mod WorldLaws
 pub mod Masks
+pub mod Risings

@@ -4,8 +4,9 @@ use Rattle.std.specs.Prelude.{if◌then◌else◌, ◌&&◌, nat_eq, Option, Som
 use Rattle.std.proofs.lemmas.Bool.{agree_below_at}
 use Rattle.pic_chip.specs.State.{State, AtPc, AtBank, AtFsr}
 use Rattle.pic_chip.specs.Registers.{is_register}
+use Rattle.pic_chip.specs.Control.{is_stored}
 use Rattle.pic_chip.specs.Act.{Derived, Write, Note, made, accesses, Act, Ask, Do, effect}
-use Rattle.pic_chip.specs.Address.{Place, Pcl, Status, Fsr, Pclath, Intcon, General, Device, Nothing, place, indirect, operand, in_every_bank, address_of}
+use Rattle.pic_chip.specs.Address.{Place, Pcl, Status, Fsr, Pclath, Intcon, Pir1, Pie1, General, Device, Nothing, place, indirect, operand, in_every_bank, address_of}
 use Rattle.pic_chip.specs.Instructions.{to, following, store, is_empty, contents, byte_row, test_row, write_row, note, write_note}
 use Rattle.pic_chip.specs.Named.{IsPlace, device_in}
 use Rattle.pic_chip.specs.Machine.{Feeds, wanted}
@@ -20,6 +21,8 @@ write_alone Status v s = refl
 write_alone Fsr v s = refl
 write_alone Pclath v s = refl
 write_alone Intcon v s = refl
+write_alone Pir1 v s = refl
+write_alone Pie1 v s = refl
 write_alone (General k) v s = refl
 write_alone (Device a) v s = refl
 write_alone Nothing v s = refl
@@ -34,11 +37,13 @@ read_wants Status h x d v s = write_wants d Status v s
 read_wants Fsr h x d v s = write_wants d Fsr v s
 read_wants Pclath h x d v s = write_wants d Pclath v s
 read_wants Intcon h x d v s = write_wants d Intcon v s
+read_wants Pir1 h x d v s = write_wants d Pir1 v s
+read_wants Pie1 h x d v s = write_wants d Pie1 v s
 read_wants (General k) h x d v s =
-    ap (λ b. if b && not (nat_eq (address_of k) 0x0b) then Some (address_of k) else wanted (made (write_note d (General k) v) s)) (general_is_none k h)
+    ap (λ b. if b && not (is_stored (address_of k)) then Some (address_of k) else wanted (made (write_note d (General k) v) s)) (general_is_none k h)
     ∙ write_wants d (General k) v s
 read_wants (Device a) h x d v s =
-    ap (λ b. if b && not (nat_eq a 0x0b) then Some a else wanted (made (write_note d (Device a) v) s)) h.0
+    ap (λ b. if b && not (is_stored a) then Some a else wanted (made (write_note d (Device a) v) s)) h.0
     ∙ ap (λ b. if not b then Some a else wanted (made (write_note d (Device a) v) s)) h.1
 read_wants Nothing h x d v s = write_wants d Nothing v s
 

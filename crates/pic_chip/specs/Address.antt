@@ -1,5 +1,5 @@
 -- What an address of data memory names (DS39582, register file map of the PIC16F877A).
-use Rattle.std.specs.Prelude.{ℕ, ◌+◌, ◌-◌, ◌*◌, ◌/◌, ◌%◌, Bool, ◌||◌, nat_eq, nat_lt, nat_le, if◌then◌else◌, slice_index}
+use Rattle.std.specs.Prelude.{ℕ, ◌+◌, ◌-◌, ◌*◌, ◌/◌, ◌%◌, Bool, ◌||◌, ◌&&◌, nat_eq, nat_lt, nat_le, if◌then◌else◌, slice_index}
 use Rattle.pic_chip.specs.State.{State, AtBank, AtFsr}
 use Rattle.pic_chip.specs.Act.{Act, Ask}
 use Rattle.pic_chip.specs.Registers.{is_register, lowest}
@@ -10,14 +10,16 @@ pub data Place : Type 0 where
   Fsr : Place
   Pclath : Place
   Intcon : Place
+  Pir1 : Place
+  Pie1 : Place
   -- the general byte of that number, in order of address
   General : (k : ℕ) → Place
-  -- the device register of that lowest address
+  -- another device register, by its lowest address
   Device : (address : ℕ) → Place
   -- it reads 0, and a write is dropped
   Nothing : Place
 
--- The place of a bank and the low seven bits of an address. The bytes 70h to 7Fh are the same in every bank;
+-- The place of a bank and the low seven bits of an address. PIR1 stands in bank 0 and PIE1 in bank 1. The bytes 70h to 7Fh are the same in every bank;
 -- the other general bytes begin at 20h in banks 0 and 1, and at 10h in banks 2 and 3.
 abbrev pub place : ℕ → ℕ → Place
 place bank low =
@@ -26,6 +28,7 @@ place bank low =
     if nat_eq low 4 then Fsr else
     if nat_eq low 10 then Pclath else
     if nat_eq low 11 then Intcon else
+    if nat_eq low 12 && nat_lt bank 2 then (if nat_eq bank 0 then Pir1 else Pie1) else
     if nat_le 0x70 low then General (low - 0x20) else
     if nat_le (if nat_lt bank 2 then 0x20 else 0x10) low then General (0x60 * bank + low - 0x20) else
     if is_register (0x80 * bank + low) then Device (lowest (0x80 * bank + low)) else Nothing

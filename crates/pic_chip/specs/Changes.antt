@@ -3,7 +3,7 @@ use Rattle.std.specs.Prelude.{ℕ, ◌≤◌, ◌+◌, ◌*◌, ◌/◌, ◌%◌
 use Rattle.pic_chip.specs.declared.processor.Flags.{Flags}
 use Rattle.pic_chip.specs.declared.processor.Flags.TheVariants.{Keep, OnlyZ, OnlyC, Sums}
 use Rattle.pic_chip.specs.State.{State}
-use Rattle.pic_chip.specs.Address.{Place, Pcl, Status, Fsr, Pclath, Intcon, General, Device, Nothing}
+use Rattle.pic_chip.specs.Address.{Place, Pcl, Status, Fsr, Pclath, Intcon, Pir1, Pie1, General, Device, Nothing}
 use Rattle.pic_chip.specs.Instructions.{bit, truth}
 
 -- One instruction adds at most one push, counting GIE as the interrupt that it may let in, one pop, and one input.
@@ -19,6 +19,8 @@ stored false Status v s = record s { bank = v / 32 }
 stored plain Fsr v s = record s { fsr = v }
 stored plain Pclath v s = record s { pclath = v % 32 }
 stored plain Intcon v s = record s { intcon = v }
+stored plain Pir1 v s = record s { pir1 = v }
+stored plain Pie1 v s = record s { pie1 = v }
 stored plain (General k) v s = record s { ram = slice_set s.ram k v }
 stored plain (Device address) v s = s
 stored plain Nothing v s = s

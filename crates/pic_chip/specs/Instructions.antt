@@ -3,9 +3,9 @@ use Rattle.std.specs.Prelude.{ℕ, ◌+◌, ◌-◌, ◌*◌, ◌/◌, ◌%◌, 
 use Rattle.pic_isa.specs.declared.Ins.{Ins}
 use Rattle.pic_isa.specs.declared.Ins.TheVariants.{Addwf, Andwf, Clrf, Clrw, Comf, Decf, Decfsz, Incf, Incfsz, Iorwf, Movf, Movwf, Nop, Rlf, Rrf, Subwf, Swapf, Xorwf, Bcf, Bsf, Btfsc, Btfss, Addlw, Andlw, Call, Clrwdt, Goto, Iorlw, Movlw, Retfie, Retlw, Return, Sleep, Sublw, Xorlw}
 use Rattle.pic_isa.specs.Lookup.{row_of}
-use Rattle.pic_chip.specs.State.{State, Part, AtW, AtPc, AtBank, AtZ, AtDc, AtC, AtFsr, AtPclath, AtIntcon, AtPushes, AtPops, AtTaken, Ram, Level}
+use Rattle.pic_chip.specs.State.{State, Part, AtW, AtPc, AtBank, AtZ, AtDc, AtC, AtFsr, AtPclath, AtIntcon, AtPir1, AtPie1, AtPushes, AtPops, AtTaken, Ram, Level}
 use Rattle.pic_chip.specs.Act.{Derived, Write, Note, Act, Ask, Do}
-use Rattle.pic_chip.specs.Address.{Place, Pcl, Status, Fsr, Pclath, Intcon, General, Device, Nothing, operand, address_of}
+use Rattle.pic_chip.specs.Address.{Place, Pcl, Status, Fsr, Pclath, Intcon, Pir1, Pie1, General, Device, Nothing, operand, address_of}
 
 -- ---- numbers made of parts of the state
 abbrev pub tail : List ℕ → List ℕ
@@ -45,7 +45,7 @@ truth false = 0
 
 -- ---- reads and writes of a place
 -- What a read gives, where this is the input list and the instruction stands at pc. A read of a device register
--- takes the next byte of the input list, or 0 past its end. PCL reads as the low byte of the following address.
+-- other than INTCON, PIR1 and PIE1 takes the next byte of the input list, or 0 past its end. PCL reads as the low byte of the following address.
 abbrev pub contents : List ℕ → ℕ → Place → Derived
 contents inputs pc Pcl = number ((pc + 1) % 256)
 contents inputs pc Status =
@@ -53,6 +53,8 @@ contents inputs pc Status =
 contents inputs pc Fsr = part AtFsr
 contents inputs pc Pclath = part AtPclath
 contents inputs pc Intcon = part AtIntcon
+contents inputs pc Pir1 = part AtPir1
+contents inputs pc Pie1 = part AtPie1
 contents inputs pc (General k) = part (Ram k)
 contents inputs pc (Device address) = of (slice_index inputs) (part AtTaken)
 contents inputs pc Nothing = number 0
@@ -64,7 +66,7 @@ after_read _ = []
 
 -- What a write changes. PCL takes the upper five bits from PCLATH, which has just these. STATUS keeps its
 -- flags where the instruction sets a flag by its own logic; `plain` says that it sets none. A write to a
--- device register is only recorded, as an access.
+-- device register other than INTCON, PIR1 and PIE1 is only recorded, as an access.
 abbrev pub store : Bool → Place → Derived → List Write
 store plain Pcl v = to AtPc (with_part AtPclath (λ high low. 256 * high + low) v) ∷ []
 store true Status v = to AtBank (of (λ x. x / 32) v) ∷ to AtZ (of (λ x. bit x 2) v) ∷ to AtDc (of (λ x. bit x 1) v) ∷ to AtC (of (λ x. bit x 0) v) ∷ []
@@ -72,6 +74,8 @@ store false Status v = to AtBank (of (λ x. x / 32) v) ∷ []
 store plain Fsr v = to AtFsr v ∷ []
 store plain Pclath v = to AtPclath (of (λ x. x % 32) v) ∷ []
 store plain Intcon v = to AtIntcon v ∷ []
+store plain Pir1 v = to AtPir1 v ∷ []
+store plain Pie1 v = to AtPie1 v ∷ []
 store plain (General k) v = to (Ram k) v ∷ []
 store plain (Device address) v = []
 store plain Nothing v = []
@@ -86,6 +90,8 @@ note write Status v = access write 3 v
 note write Fsr v = access write 4 v
 note write Pclath v = access write 10 v
 note write Intcon v = access write 11 v
+note write Pir1 v = access write 12 v
+note write Pie1 v = access write 0x8c v
 note write (General k) v = access write (address_of k) v
 note write (Device address) v = access write address v
 note write Nothing v = []

@@ -6,6 +6,7 @@ pub mod Address
 pub mod Instructions
 pub mod Control
 pub mod Interrupts
+pub mod Arrivals
 pub mod World
 pub mod Run
 pub mod Text

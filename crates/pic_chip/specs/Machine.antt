@@ -1,8 +1,9 @@
 -- The chip as its callers see it, and what one step of it is.
-use Rattle.std.specs.Prelude.{ℕ, ◌≡◌, slice_index, ◌≤◌, ◌+◌, ◌^◌, Bool, not, ◌&&◌, nat_eq, if◌then◌else◌, List, [], ◌∷◌, Option, Some, None, ℤ, pos, ◌-ℤ◌}
+use Rattle.std.specs.Prelude.{ℕ, ◌≡◌, slice_index, ◌≤◌, ◌+◌, ◌^◌, Bool, not, ◌&&◌, if◌then◌else◌, List, [], ◌∷◌, Option, Some, None, ℤ, pos, ◌-ℤ◌}
 use Rattle.pic_chip.specs.State.{State}
 use Rattle.pic_chip.specs.Act.{Made}
 use Rattle.pic_chip.specs.Registers.{is_register}
+use Rattle.pic_chip.specs.Control.{is_stored}
 use Rattle.pic_chip.specs.Instructions.{bit, fetched, is_modelled}
 
 -- the state, and the index of the next instruction, counted from 0 at reset
@@ -26,9 +27,9 @@ stop_at image s = if is_modelled (fetched image s) then None else Some s.pc
 abbrev pub index_after : List ℕ → State → ℕ → ℕ
 index_after image s index = if is_modelled (fetched image s) then index + 1 else index
 
--- a read of a device register other than INTCON
+-- a read of a device register other than INTCON, PIR1 and PIE1
 abbrev pub takes_input : Made → Bool
-takes_input a = not a.write && is_register a.address && not (nat_eq a.address 0x0b)
+takes_input a = not a.write && is_register a.address && not (is_stored a.address)
 
 -- the register that is read from the input list
 abbrev pub wanted : List Made → Option ℕ

@@ -1,9 +1,10 @@
 -- The program's own data as the definitions have it.
-use Rattle.std.specs.Prelude.{ℕ, ◌≡◌, ◌<◌, Bool, true, false, nat_eq, List, [], ◌∷◌, Option, Some, None}
+use Rattle.std.specs.Prelude.{ℕ, ◌≡◌, ◌<◌, Bool, true, false, List, [], ◌∷◌, Option, Some, None}
 use Rattle.pic_chip.specs.declared.place.Place.{Place as Named}
-use Rattle.pic_chip.specs.declared.place.Place.TheVariants.{PclReg, StatusReg, FsrReg, PclathReg, IntconReg, GeneralByte, DeviceReg, Nowhere}
+use Rattle.pic_chip.specs.declared.place.Place.TheVariants.{PclReg, StatusReg, FsrReg, PclathReg, IntconReg, Pir1Reg, Pie1Reg, GeneralByte, DeviceReg, Nowhere}
 use Rattle.pic_chip.specs.Registers.{is_register}
-use Rattle.pic_chip.specs.Address.{Place, Pcl, Status, Fsr, Pclath, Intcon, General, Device, Nothing}
+use Rattle.pic_chip.specs.Control.{is_stored}
+use Rattle.pic_chip.specs.Address.{Place, Pcl, Status, Fsr, Pclath, Intcon, Pir1, Pie1, General, Device, Nothing}
 
 abbrev pub named : Named → Place
 named PclReg = Pcl
@@ -11,21 +12,24 @@ named StatusReg = Status
 named FsrReg = Fsr
 named PclathReg = Pclath
 named IntconReg = Intcon
+named Pir1Reg = Pir1
+named Pie1Reg = Pie1
 named (GeneralByte k) = General k
 named (DeviceReg address) = Device address
 named Nowhere = Nothing
 
--- a general byte's number fits the memory, and a device register has an address of the table, INTCON's left out
+-- a general byte's number fits the memory, and a device register has an address of the table, those of INTCON, PIR1
+-- and PIE1 left out
 abbrev pub IsPlace : Place → Type 0
 IsPlace (General k) = k < 368
-IsPlace (Device address) = (is_register address ≡ true) × (nat_eq address 0x0b ≡ false)
+IsPlace (Device address) = (is_register address ≡ true) × (is_stored address ≡ false)
 IsPlace _ = Unit {0}
 
--- by bank, the low seven bits of the device registers other than INTCON
+-- by bank, the low seven bits of the device registers other than INTCON, PIR1 and PIE1
 abbrev pub devices : List (List ℕ)
 devices =
-    (0x01 ∷ 0x05 ∷ 0x06 ∷ 0x07 ∷ 0x08 ∷ 0x09 ∷ 0x0c ∷ 0x0d ∷ 0x0e ∷ 0x0f ∷ 0x10 ∷ 0x11 ∷ 0x12 ∷ 0x13 ∷ 0x14 ∷ 0x15 ∷ 0x16 ∷ 0x17 ∷ 0x18 ∷ 0x19 ∷ 0x1a ∷ 0x1e ∷ 0x1f ∷ []) ∷
-    (0x01 ∷ 0x05 ∷ 0x06 ∷ 0x07 ∷ 0x08 ∷ 0x09 ∷ 0x0c ∷ 0x0d ∷ 0x12 ∷ 0x18 ∷ 0x19 ∷ 0x1e ∷ 0x1f ∷ []) ∷
+    (0x01 ∷ 0x05 ∷ 0x06 ∷ 0x07 ∷ 0x08 ∷ 0x09 ∷ 0x0d ∷ 0x0e ∷ 0x0f ∷ 0x10 ∷ 0x11 ∷ 0x12 ∷ 0x13 ∷ 0x14 ∷ 0x15 ∷ 0x16 ∷ 0x17 ∷ 0x18 ∷ 0x19 ∷ 0x1a ∷ 0x1e ∷ 0x1f ∷ []) ∷
+    (0x01 ∷ 0x05 ∷ 0x06 ∷ 0x07 ∷ 0x08 ∷ 0x09 ∷ 0x0d ∷ 0x12 ∷ 0x18 ∷ 0x19 ∷ 0x1e ∷ 0x1f ∷ []) ∷
     (0x01 ∷ 0x06 ∷ []) ∷ (0x01 ∷ 0x06 ∷ []) ∷ []
 
 -- the register of a place, if it is a device register

@@ -9,8 +9,9 @@ use Rattle.pic_chip.specs.declared.Event.TheVariants as events
 use Rattle.pic_chip.specs.State.{State, reset}
 use Rattle.pic_chip.specs.Act.{Made, accesses, perform}
 use Rattle.pic_chip.specs.Registers.{is_register}
-use Rattle.pic_chip.specs.Instructions.{execute, fetched, is_return_from_interrupt}
-use Rattle.pic_chip.specs.Interrupts.{arriving, raised, begun, is_due}
+use Rattle.pic_chip.specs.Instructions.{execute, fetched, is_modelled, is_return_from_interrupt}
+use Rattle.pic_chip.specs.Control.{is_due}
+use Rattle.pic_chip.specs.Interrupts.{arriving, control_of, raised, begun}
 
 -- the unknown values after power-on fit their registers
 pub record IsStart (start : Start) : Type 0 where
@@ -63,6 +64,8 @@ registers_of (a ∷ rest) = if is_register a.address then a ∷ registers_of res
 -- What is known at a moment, which is a point between two instructions, before an interrupt is taken there.
 pub record Moment : Type 0 where
   pub state : State
+  -- the word of the last instruction was SLEEP or had no row: the run has ended
+  pub stopped : Bool
   -- an interrupt was taken, and no RETFIE has run since
   pub handling : Bool
   -- the program counter has stood at main's address
@@ -91,28 +94,34 @@ observed watch m =
 
 -- an interrupt is taken at this moment, where these flags arrive
 abbrev pub takes : ℕ → Moment → Bool
-takes mask m = is_due (raised mask m.state).intcon
+takes mask m = is_due (control_of (raised mask m.state))
 
 -- the next instruction is one of the handler's
 abbrev pub is_handling : ℕ → Moment → Bool
 is_handling mask m = m.handling || takes mask m
 
--- one instruction, at a boundary where the flags of the mask arrive
+-- One instruction, at a boundary where the flags of the mask arrive. At a word that isn't modelled the flags are set and
+-- a due interrupt is taken, and nothing else is done.
 abbrev pub stepped : List ℕ → List ℕ → List Range → ℕ → Moment → Moment
 stepped image inputs ranges mask m =
     let s = begun mask m.state in
     let made = accesses (execute image inputs) s in
     record m {
       state = perform (execute image inputs) s;
+      stopped = not (is_modelled (fetched image s));
       handling = is_handling mask m && not (is_return_from_interrupt (fetched image s));
       early = if m.met then m.early else m.early ++ registers_of made;
       trace = if m.met then m.trace ++ events_of ranges made else m.trace;
     }
 
 abbrev pub first_moment : Setting → Moment
-first_moment g = observed g.watch (record { state = reset g.start; handling = false; met = false; ended = false; early = []; trace = [] })
+first_moment g = observed g.watch (record { state = reset g.start; stopped = false; handling = false; met = false; ended = false; early = []; trace = [] })
+
+-- the next moment, where these flags arrive at this one; where the run has ended nothing comes behind it
+abbrev pub next_moment : List ℕ → List ℕ → Watch → ℕ → Moment → Moment
+next_moment image inputs watch mask m = if m.stopped then m else observed watch (stepped image inputs watch.ranges mask m)
 
 -- the moment after k instructions from reset
 unfoldable pub moment : Setting → ℕ → Moment
 moment g zero = first_moment g
-moment g (suc k) = observed g.watch (stepped g.image g.inputs g.watch.ranges (arriving g.arrivals k) (moment g k))
+moment g (suc k) = next_moment g.image g.inputs g.watch (arriving g.arrivals k) (moment g k)

@@ -41,6 +41,11 @@ fn access_to(place: Place, value: u8) -> Option<Access>
         Place::FsrReg => Some(Access { address: 4, value }),
         Place::PclathReg => Some(Access { address: 10, value }),
         Place::IntconReg => Some(Access { address: 11, value }),
+        Place::Pir1Reg => Some(Access { address: 12, value }),
+        Place::Pie1Reg => Some(Access {
+            address: 0x8c,
+            value,
+        }),
         Place::GeneralByte(k) => Some(Access {
             address: general_address(k),
             value,

@@ -12,7 +12,7 @@ use crate::access::StepEnd;
 use crate::place::{Place, place_at};
 use crate::processor::Processor;
 use crate::rows::{device_read, run};
-use crate::script::{Script, input_at, mask_at};
+use crate::script::{Script, input_at};
 use crate::{Image, Start};
 use pic_isa::{Ins, decode};
 use std::marker::Model;
@@ -49,8 +49,9 @@ impl Chip {
         }
     }
 
-    /// Sets the flags of a mask (bit 2 TMR0IF, bit 1 INTF, bit 0 RBIF; other bits count for
-    /// nothing), and then takes an interrupt if one is due.
+    /// Sets the flags of a mask, and then takes an interrupt if one is due. Bits 0 to 2 are RBIF,
+    /// INTF and TMR0IF, bits 3 to 10 are the flags of PIR1 from its bit 0 on, and the others count
+    /// for nothing.
     pub fn begin(&mut self, flags: u16)
         ensures state { self.new.state ≡ begun flags self.old.state }
         ensures index { self.new.index ≡ self.old.index }
@@ -61,8 +62,8 @@ impl Chip {
         }
     }
 
-    /// The device register other than INTCON, by its lowest address, that the next instruction
-    /// reads; `None` exactly where it reads none.
+    /// The device register other than INTCON, PIR1 and PIE1, by its lowest address, that the next
+    /// instruction reads; `None` exactly where it reads none.
     pub fn wants(&self, image: &Image) -> Option<u8>
         ensures { (inputs : List ℕ) → result ≡ wanted (accesses (execute image.now inputs) self.now.state) }
     {
@@ -72,8 +73,8 @@ impl Chip {
         }
     }
 
-    /// Runs one instruction. Where it reads a device register other than INTCON, it reads this
-    /// input byte. `Unmodelled` comes exactly where the word is SLEEP or no instruction's; the chip
+    /// Runs one instruction. Where it reads a device register other than INTCON, PIR1 and PIE1, it
+    /// reads this input byte. `Unmodelled` comes exactly where the word is SLEEP or no instruction's; the chip
     /// is then unchanged. The index is below 2^40.
     pub fn exec(&mut self, image: &Image, input: u8) -> StepEnd
         requires { self.old.index < 2 ^ 40 }
@@ -106,7 +107,7 @@ impl Chip {
         ensures stopped { stopped_at result ≡ stop_at image.now (begun (arriving script.now.arrivals.items self.old.index) self.old.state) }
         ensures index { self.new.index ≡ index_after image.now (begun (arriving script.now.arrivals.items self.old.index) self.old.state) self.old.index }
     {
-        self.begin(mask_at(&script.arrivals, self.index));
+        self.begin(script.mask_at(self.index));
         let input = input_at(&script.input, self.processor.taken());
         self.exec(image, input)
     }

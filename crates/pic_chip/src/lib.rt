@@ -22,7 +22,7 @@ pub use access::{Access, Accesses, StepEnd};
 pub use chip::Chip;
 pub use image::Image;
 pub use registers::{bit, register, register_name};
-pub use script::Script;
+pub use script::{Script, arrivals_in_any_order};
 pub use trace::Trace;
 
 /// Whose code a function copy belongs to: `main`, or the interrupt handler.
@@ -32,13 +32,24 @@ pub enum Root {
     Isr,
 }
 
-/// An interrupt flag of INTCON that the outside can set (Microchip data sheet DS39582, INTCON):
-/// the change of port B's upper half, the external pin, or the overflow of timer 0.
+/// An interrupt flag that the outside can set (Microchip data sheet DS39582, INTCON and PIR1). The
+/// first three are flags of INTCON: the change of port B's upper half, the external pin, and the
+/// overflow of timer 0. The others are the flags of PIR1 in the order of its bits: timers 1 and 2,
+/// capture and compare, the synchronous port, the serial transmitter and receiver, the converter,
+/// and the parallel port.
 #[derive(Clone, Copy, PartialEq, Eq, Debug)]
 pub enum Flag {
     Rbif,
     Intf,
     Tmr0if,
+    Tmr1if,
+    Tmr2if,
+    Ccp1if,
+    Sspif,
+    Txif,
+    Rcif,
+    Adif,
+    Pspif,
 }
 
 /// A flag that is set before the instruction of index `t`, counted from 0 at reset.

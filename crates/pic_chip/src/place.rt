@@ -1,5 +1,5 @@
 // What an address of data memory names (DS39582, register file map).
-ghost use Rattle.std.specs.Prelude.{◌≡◌, ◌<◌, ◌*◌, ◌+◌, ℕ, [], slice_index_or, nat_eq, false, if◌then◌else◌};
+ghost use Rattle.std.specs.Prelude.{◌≡◌, ◌<◌, ◌*◌, ◌+◌, ℕ, [], slice_index_or, nat_eq, nat_lt, ◌&&◌, false, if◌then◌else◌};
 ghost use Rattle.pic_chip.specs.Registers.{is_among, is_register, lowest};
 ghost use Rattle.pic_chip.specs.Address.{Device, Nothing, place as place_of, indirect as indirect_of, address_of};
 ghost use Rattle.pic_chip.specs.Named.{named, IsPlace, device_in, devices};
@@ -12,9 +12,11 @@ pub enum Place {
     FsrReg,
     PclathReg,
     IntconReg,
+    Pir1Reg,
+    Pie1Reg,
     /// A general byte, by its number in order of address.
     GeneralByte(u16),
-    /// A device register, by its lowest address.
+    /// Another device register, by its lowest address.
     DeviceReg(u8),
     Nowhere,
 }
@@ -36,6 +38,12 @@ pub fn place_at(bank: u8, low: u8) -> Place
         Place::PclathReg
     } else if low == 11 {
         Place::IntconReg
+    } else if low == 12 && bank < 2 {
+        if bank == 0 {
+            Place::Pir1Reg
+        } else {
+            Place::Pie1Reg
+        }
     } else if low >= 0x70 {
         Place::GeneralByte(low as u16 - 0x20)
     } else if low >= if bank < 2 { 0x20 } else { 0x10 } {
@@ -50,6 +58,7 @@ fn device_at(bank: u8, low: u8) -> Place
     requires bank { bank < 4 }
     requires low { low < 128 }
     requires other { nat_eq low 11 ≡ false }
+    requires peripheral { (nat_eq low 12 && nat_lt bank 2) ≡ false }
     ensures value { named result ≡ (if is_register (0x80 * bank + low) then Device (lowest (0x80 * bank + low)) else Nothing) }
     ensures fits { IsPlace (named result) }
 {
@@ -60,7 +69,7 @@ fn device_at(bank: u8, low: u8) -> Place
     }
 }
 
-// Whether a device register other than INTCON is there.
+// Whether a device register other than INTCON, PIR1 and PIE1 is there.
 fn is_device(bank: u8, low: u8) -> bool
     requires { bank < 4 }
     ensures { result ≡ is_among (slice_index_or devices bank []) low }
@@ -72,7 +81,6 @@ fn is_device(bank: u8, low: u8) -> bool
             || low == 0x07
             || low == 0x08
             || low == 0x09
-            || low == 0x0c
             || low == 0x0d
             || low == 0x0e
             || low == 0x0f
@@ -95,7 +103,6 @@ fn is_device(bank: u8, low: u8) -> bool
             || low == 0x07
             || low == 0x08
             || low == 0x09
-            || low == 0x0c
             || low == 0x0d
             || low == 0x12
             || low == 0x18
@@ -119,7 +126,7 @@ pub fn indirect(address: u16) -> Place
     }
 }
 
-/// The device register of a place, by its lowest address.
+/// The device register of a place, other than INTCON, PIR1 and PIE1, by its lowest address.
 pub fn device_of(place: Place) -> Option<u8>
     ensures { result ≡ device_in (named place) }
 {
@@ -130,6 +137,8 @@ pub fn device_of(place: Place) -> Option<u8>
         | Place::FsrReg
         | Place::PclathReg
         | Place::IntconReg
+        | Place::Pir1Reg
+        | Place::Pie1Reg
         | Place::Nowhere => None,
         Place::GeneralByte(_) => None,
     }

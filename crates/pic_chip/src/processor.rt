@@ -5,7 +5,8 @@ ghost use Rattle.pic_chip.specs.Act.{Act, effect, value_in, perform};
 ghost use Rattle.pic_chip.specs.Run.{IsStart};
 ghost use Rattle.pic_chip.specs.Address.{Place as AnyPlace, operand as operand_of};
 ghost use Rattle.pic_chip.specs.Instructions.{contents as contents_of, bit as bit_at, set_bit as with_bit, clear_bit as without_bit, to, of, part, number, page, following, plain_row, push as push_of, pop as pop_of};
-ghost use Rattle.pic_chip.specs.Interrupts.{raise as raise_of, is_due as due, enter as enter_of};
+ghost use Rattle.pic_chip.specs.Control.{is_due as due};
+ghost use Rattle.pic_chip.specs.Interrupts.{raise as raise_of, control_of, enter as enter_of};
 ghost use Rattle.pic_chip.specs.Named.{named, IsPlace, device_in};
 ghost use Rattle.pic_chip.specs.Machine.{Feeds};
 ghost use Rattle.pic_chip.specs.Changes.{Grows, stored, after_reading, flagged, finished, row_done, pushed, popped};
@@ -36,6 +37,8 @@ pub struct Processor {
     fsr: u8,
     pclath: u8,
     intcon: u8,
+    pir1: u8,
+    pie1: u8,
     ram: [u8; 368],
     stack: [u16; 8],
     pushes: u64,
@@ -51,11 +54,11 @@ impl Model for Processor {
 
     ghost Value = { State };
 
-    ghost view = { λ s. record { w = s.w; pc = s.pc; bank = s.bank; z = truth s.z; dc = truth s.dc; c = truth s.c; fsr = s.fsr; pclath = s.pclath; intcon = s.intcon; ram = s.ram; stack = s.stack; pushes = s.pushes; pops = s.pops; taken = s.taken } };
+    ghost view = { λ s. record { w = s.w; pc = s.pc; bank = s.bank; z = truth s.z; dc = truth s.dc; c = truth s.c; fsr = s.fsr; pclath = s.pclath; intcon = s.intcon; pir1 = s.pir1; pie1 = s.pie1; ram = s.ram; stack = s.stack; pushes = s.pushes; pops = s.pops; taken = s.taken } };
 
     ghost invariant = { λ s. (s.pc < 8192) × (s.bank < 8) × (s.pclath < 32) × are_places s.stack };
 
-    ghost inverse = { λ s. record { w = s.w; pc = s.pc; bank = s.bank; z = nat_eq s.z 1; dc = nat_eq s.dc 1; c = nat_eq s.c 1; fsr = s.fsr; pclath = s.pclath; intcon = s.intcon; ram = s.ram; stack = s.stack; pushes = s.pushes; pops = s.pops; taken = s.taken } };
+    ghost inverse = { λ s. record { w = s.w; pc = s.pc; bank = s.bank; z = nat_eq s.z 1; dc = nat_eq s.dc 1; c = nat_eq s.c 1; fsr = s.fsr; pclath = s.pclath; intcon = s.intcon; pir1 = s.pir1; pie1 = s.pie1; ram = s.ram; stack = s.stack; pushes = s.pushes; pops = s.pops; taken = s.taken } };
 
     ghost use Rattle.std.proofs.Common.{refl};
 
@@ -78,6 +81,8 @@ impl Processor {
             fsr: start.fsr,
             pclath: 0,
             intcon: 0,
+            pir1: 0,
+            pie1: 0,
             ram: start.ram,
             stack: [0; 8],
             pushes: 0,
@@ -117,6 +122,8 @@ impl Processor {
             Place::FsrReg => self.fsr,
             Place::PclathReg => self.pclath,
             Place::IntconReg => self.intcon,
+            Place::Pir1Reg => self.pir1,
+            Place::Pie1Reg => self.pie1,
             Place::GeneralByte(k) => self.ram[k as usize],
             Place::DeviceReg(_) => input,
             Place::Nowhere => 0,
@@ -141,6 +148,8 @@ impl Processor {
             Place::FsrReg => self.fsr = value,
             Place::PclathReg => self.pclath = value % 32,
             Place::IntconReg => self.intcon = value,
+            Place::Pir1Reg => self.pir1 = value,
+            Place::Pie1Reg => self.pie1 = value,
             Place::GeneralByte(k) => self.ram[k as usize] = value,
             Place::DeviceReg(_) => {}
             Place::Nowhere => {}
@@ -377,23 +386,27 @@ impl Processor {
         self.intcon = clear_bit(7, self.intcon);
     }
 
-    /// Sets the flags of the mask.
+    /// Sets the flags of the mask, in INTCON and PIR1.
     pub fn raise(&mut self, flags: u16)
         ensures state { self.new ≡ perform (raise_of flags) self.old }
         ensures gie { bit_at self.new.intcon 7 ≡ bit_at self.old.intcon 7 }
     {
         self.intcon |= (flags % 8) as u8;
+        self.pir1 |= (flags / 8 % 256) as u8;
     }
 
     /// Whether an interrupt is due.
+    #[tactic(auto, unfolding(crate::specs::Control::is_due))]
     pub fn is_due(&self) -> bool
-        ensures { result ≡ due self.now.intcon }
+        ensures value { result ≡ due (control_of self.now) }
+        ensures enabled { result ≡ true → bit_at self.now.intcon 7 ≡ 1 }
     {
         let x = self.intcon;
         bit(7, x) == 1
             && (bit(5, x) * bit(2, x) == 1
                 || bit(4, x) * bit(1, x) == 1
-                || bit(3, x) * bit(0, x) == 1)
+                || bit(3, x) * bit(0, x) == 1
+                || bit(6, x) == 1 && self.pir1 & self.pie1 != 0)
     }
 
     /// Takes an interrupt.

@@ -178,7 +178,7 @@ fn pass(processor: &mut Processor) -> Accesses
     no_access()
 }
 
-/// The device register other than INTCON that an instruction reads.
+/// The device register other than INTCON, PIR1 and PIE1 that an instruction reads.
 #[tactic(auto, using(crate::proofs::Wanted::write_row_wants))]
 pub fn device_read(processor: &Processor, i: Ins) -> Option<u8>
     requires { IsWellFormed i }

@@ -42,10 +42,7 @@ fn steps_are_those_worked_out(rt: HostRuntime) -> Result<(), Fail> {
     image.set(9, 0x0008); // RETURN
     let mut input = Vec::new(rt.alloc());
     input.push(0x5a)?;
-    let script = Script {
-        input,
-        arrivals: Vec::new(rt.alloc()),
-    };
+    let script = Script::new(input, Vec::new(rt.alloc()));
     let mut chip = fresh();
     assert_eq!(rt; chip.wants(&image), None);
     assert_eq!(rt;
@@ -96,10 +93,7 @@ fn an_interrupt_is_taken_between_two_instructions(rt: HostRuntime) -> Result<(),
         t: 2,
         flag: Flag::Intf,
     })?;
-    let script = Script {
-        input: Vec::new(rt.alloc()),
-        arrivals,
-    };
+    let script = Script::new(Vec::new(rt.alloc()), arrivals);
     let mut chip = fresh();
     assert_eq!(rt;
         step(&mut chip, &image, &script),
@@ -112,6 +106,65 @@ fn an_interrupt_is_taken_between_two_instructions(rt: HostRuntime) -> Result<(),
     assert_eq!(rt; (taken.pc(), taken.depth(), taken.index()), (4, 1, 2));
     assert_eq!(rt; step(&mut chip, &image, &script), done(None, None));
     assert_eq!(rt; (chip.pc(), chip.depth(), chip.index()), (2, 0, 3));
+    Ok(())
+}
+
+// A chip whose PIE1 has TMR1IE, and whose INTCON is this byte.
+fn with_timer_enabled(image: &mut Image, script: &Script, intcon: u16) -> Chip {
+    image.set(0, 0x1683); // BSF STATUS,5
+    image.set(1, 0x140c); // BSF PIE1,0
+    image.set(2, 0x1283); // BCF STATUS,5
+    image.set(3, 0x3000 + intcon % 256); // MOVLW
+    image.set(4, 0x008b); // MOVWF INTCON
+    image.set(5, 0x080c); // MOVF PIR1,W
+    let mut chip = fresh();
+    for _ in 0..5 {
+        step(&mut chip, image, script);
+    }
+    chip
+}
+
+#[test]
+fn a_peripheral_comes_through_its_enable_bits(rt: HostRuntime) -> Result<(), Fail> {
+    let mut image = Image::blank(rt.alloc())?;
+    let script = Script::new(Vec::new(rt.alloc()), Vec::new(rt.alloc()));
+    let mut enabled = with_timer_enabled(&mut image, &script, 0xc0);
+    enabled.begin(16);
+    assert_eq!(rt; (enabled.pc(), enabled.depth()), (5, 0));
+    enabled.begin(8);
+    assert_eq!(rt; (enabled.pc(), enabled.depth()), (4, 1));
+    let mut alone = with_timer_enabled(&mut image, &script, 0x80);
+    alone.begin(8);
+    assert_eq!(rt; (alone.pc(), alone.depth()), (5, 0));
+    assert_eq!(rt; alone.wants(&image), None);
+    assert_eq!(rt;
+        step(&mut alone, &image, &script),
+        done(access(0x0c, 0x01), None)
+    );
+    let mut closed = with_timer_enabled(&mut image, &script, 0x40);
+    closed.begin(8);
+    assert_eq!(rt; (closed.pc(), closed.depth()), (5, 0));
+    Ok(())
+}
+
+#[test]
+fn arrivals_are_put_in_order(rt: HostRuntime) -> Result<(), Fail> {
+    let mut arrivals = Vec::new(rt.alloc());
+    for (t, flag) in [
+        (7, Flag::Pspif),
+        (2, Flag::Rbif),
+        (7, Flag::Tmr0if),
+        (0, Flag::Adif),
+    ] {
+        arrivals.push(Arrival { t, flag })?;
+    }
+    let script = Script::new(Vec::new(rt.alloc()), arrivals);
+    assert_eq!(rt; (script.arrivals[0].t, script.arrivals[1].t), (0, 2));
+    assert_eq!(rt;
+        (script.mask_at(0), script.mask_at(1), script.mask_at(2)),
+        (0x200, 0, 1)
+    );
+    assert_eq!(rt; (script.mask_at(7), script.mask_at(8)), (0x404, 0));
     Ok(())
 }
 

@@ -14,8 +14,8 @@ use Rattle.c_expression.specs.Reader.{symbols_in}
 use Rattle.c_expression.specs.declared.error.ParseError.{ParseError}
 use Rattle.c_expression.specs.declared.error.ParseError.TheVariants as parse
 use Rattle.c_parse.specs.Limits.{open_after, run_after, judged, first_over, IsLimit}
-use Rattle.c_scope.specs.declared.error.CheckError.{CheckError}
-use Rattle.c_scope.specs.declared.error.CheckError.TheVariants as check
+use Rattle.c_operate.specs.declared.error.CheckError.{CheckError}
+use Rattle.c_operate.specs.declared.error.CheckError.TheVariants as check
 use Rattle.call_graph.specs.declared.types.GraphError.{GraphError}
 use Rattle.call_graph.specs.declared.types.GraphError.TheVariants as graph
 use Rattle.ram_place.specs.declared.placing.PlaceError.{PlaceError}

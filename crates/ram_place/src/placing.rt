@@ -1,6 +1,6 @@
 //! Where the static objects and the frames stand.
 
-ghost use Rattle.std.specs.Prelude.{◌≡◌, ℕ, ◌+◌, ◌<◌, ◌≤◌, ◌^◌, ◌||◌, ◌⊎◌, ◌++◌, ◌∷◌, [], true, false, length, map, slice_get, IfOk};
+ghost use Rattle.std.specs.Prelude.{◌≡◌, ℕ, ◌+◌, ◌<◌, ◌||◌, ◌⊎◌, ◌++◌, ◌∷◌, [], true, false, map, slice_get, IfOk};
 ghost use Rattle.c_typed.specs.Views.{program_of, static_of};
 ghost use Rattle.pic_map.specs.MapView.{object_of, frame_of};
 ghost use Rattle.call_graph.specs.Copies.{AreCopies};
@@ -191,8 +191,8 @@ fn covered(objects: &Objects, frames: &[FrameLine]) -> u16
 /// and then the frames in the order of the copies; each goes whole into one region, at the lowest address
 /// where it overlaps no static object and no earlier frame that may be live together with it. What has no
 /// bytes stands at 20h and overlaps nothing.
+#[tactic(auto, using(c_typed::proofs::Facts::few_functions))]
 pub fn place(alloc: Global, p: &Typed, copies: &Copies) -> Result<Placed, PlaceError>
-    requires small { length p.now.functions.items ≤ 2 ^ 28 }
     // The copies are those of the program.
     requires known { AreCopies (program_of p.now) copies.now.list.items }
     // The answer is that of the placing.
