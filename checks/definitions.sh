@@ -1,10 +1,12 @@
 #!/bin/sh
 # The definitions of all languages, run on the same programs, scripts and arrivals: what the specs of src_machine, core_code, sym_code
-# and pic_chip say that a program does. An interpreter of definitions runs them over what picc_show prints of the program. They have to
-# make the same events in the same order, as far as the source is defined; symbolic and byte code have to cost what their
-# bounds say; each block has to have no more words than are stated; and `picc trace` has to end at the undefined step that the
-# definitions meet. The programs: those of examples/, of crates/*_examples and of the vectors, where there are some, and random ones,
-# 60 or as many as the first word says, from the seed that the second one says.
+# and pic_chip say that a program does. checks/lib/interpreter.py runs them over what picc_show prints of the program. They have to
+# make the same events in the same order, as far as the source is defined, under schedules by the length of the trace, and under the
+# schedule that is read off a run of the chip with arrivals at any instruction. Between any two events each language has to cost no more
+# than the one above it allows; no block has more words than are stated for it; objects end with what was written; and `picc trace`
+# ends at the undefined step that the definitions meet. The programs: those of examples/ and of the crates that run programs, and
+# random ones, 60 from seed 1. `definitions.sh COUNT [SEED]` runs so many random ones, and the texts of all other examples and vectors too.
+# PICC names a program in place of the launcher, `-` for none; PROCESSES says how many processes work at the same time.
 set -u
 . "$(dirname -- "$0")/lib/common.sh" || exit 1
 if ! command -v python3 >/dev/null; then
@@ -16,5 +18,11 @@ fi
     wrong 'picc_show was not built'
     exit 1
 }
-PYTHONDONTWRITEBYTECODE=1 python3 "$top/checks/lib/definitions.py" "$show" "${PICC:-$top/picc}" "${1:-60}" "${2:-1}" "${PROCESSES:-2}" \
-    "$top"/examples/*.c "$top"/crates/*_examples/src/*.rt "${PICC_VECTORS:-$top/../shared/vectors}"/*.jsonl
+count=${1:-60}
+seed=${2:-1}
+if [ $# -eq 0 ]; then
+    set -- "$top"/examples/*.c "$top"/crates/run_examples/src/*.rt "$top"/crates/command_examples/src/*.rt
+else
+    set -- "$top"/examples/*.c "$top"/crates/*_examples/src/*.rt "${PICC_VECTORS:-$top/../shared/vectors}"/*.jsonl
+fi
+PYTHONDONTWRITEBYTECODE=1 python3 "$top/checks/lib/definitions.py" "$show" "${PICC:-$top/picc}" "$count" "$seed" "${PROCESSES:-2}" "$@"

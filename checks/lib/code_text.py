@@ -1,6 +1,6 @@
 """Reads the text that picc_show prints, and makes of it the values that the interpreter of definitions takes: a constructor is a
-tuple with its name first, a list a tuple, a record a Rec. The notation's grammar stands at the head of crates/code_text."""
-from antt_run import NONE, Rec, some
+tuple with its name first, a list a tuple, a record a Record. The notation's grammar stands at the head of crates/code_text."""
+from interpreter import NONE, Record, some
 
 
 class Line:
@@ -62,7 +62,7 @@ def type_of(part):
 
 
 def qualified(parts):
-    return Rec(ty=type_of(parts[-1]), constant='const' in parts[:-1], volatile='volatile' in parts[:-1])
+    return Record(ty=type_of(parts[-1]), constant='const' in parts[:-1], volatile='volatile' in parts[:-1])
 
 
 def codes(name):
@@ -75,7 +75,7 @@ def expression(x):
     h, p, b = x.head, x.parts, x.below
     ty, line = (type_of(p[-2]) if len(p) > 1 else None), p[-1]
     if h == 'Constant':
-        return (h, Rec(ty=ty[1], number=p[0]), line)
+        return (h, Record(ty=ty[1], number=p[0]), line)
     if h in ('Read', 'Address'):
         return (h, place(b[0]), ty, line)
     if h in ('Convert', 'Cast'):
@@ -153,7 +153,7 @@ def switch(x):
     cases, default, body = [], NONE, []
     for y in x.below[1:]:
         if y.head == 'Case':
-            cases.append(Rec(value=Rec(ty=(y.parts[1],), number=y.parts[0]), target=y.parts[2], line=y.parts[3]))
+            cases.append(Record(value=Record(ty=(y.parts[1],), number=y.parts[0]), target=y.parts[2], line=y.parts[3]))
         elif y.head == 'Default':
             default = some(y.parts[0])
         else:
@@ -197,33 +197,33 @@ def nodes(x):
 # ---- programs
 def initial(x):
     offset, byte = x.parts
-    return Rec(offset=offset, byte=byte if byte[0] == 'Number' else ('Address', byte[1], byte[2]))
+    return Record(offset=offset, byte=byte if byte[0] == 'Number' else ('Address', byte[1], byte[2]))
 
 
 def variable(x):
-    return Rec(name=codes(x.parts[0]), ty=qualified(x.parts[1:-1]), line=x.parts[-1])
+    return Record(name=codes(x.parts[0]), ty=qualified(x.parts[1:-1]), line=x.parts[-1])
 
 
 def function(x):
     p = x.parts
     below = {head: [y for y in x.below if y.head == head] for head in ('Param', 'Local', 'Body')}
-    return Rec(name=codes(p[0]), result=type_of(p[-2]), params=tuple(map(variable, below['Param'])),
+    return Record(name=codes(p[0]), result=type_of(p[-2]), params=tuple(map(variable, below['Param'])),
                locals=tuple(map(variable, below['Local'])), body=statements(below['Body'][0].below),
                interrupt='interrupt' in p[1:-2], line=p[-1])
 
 
 def static(x):
-    return Rec(name=codes(x.parts[0]), ty=qualified(x.parts[1:-1]), line=x.parts[-1], initial=tuple(map(initial, x.below)))
+    return Record(name=codes(x.parts[0]), ty=qualified(x.parts[1:-1]), line=x.parts[-1], initial=tuple(map(initial, x.below)))
 
 
 def structure(x):
-    return Rec(members=tuple(Rec(ty=qualified(y.parts[2:]), offset=y.parts[1]) for y in x.below), size=x.parts[0])
+    return Record(members=tuple(Record(ty=qualified(y.parts[2:]), offset=y.parts[1]) for y in x.below), size=x.parts[0])
 
 
 def program(x):
     of = lambda head: [y for y in x.below if y.head == head]
     structures = tuple(map(structure, of('Structure')))
-    return Rec(targets=tuple(qualified(y.parts) for y in of('Target')), structures=structures,
+    return Record(targets=tuple(qualified(y.parts) for y in of('Target')), structures=structures,
                sizes=tuple(s.size for s in structures), statics=tuple(map(static, of('Static'))),
                functions=tuple(map(function, of('Function'))))
 
@@ -305,10 +305,6 @@ def literal(part, own):
     return ('Number', part) if isinstance(part, int) else (part[0], byte(part[1], own))
 
 
-def truth(part):
-    return part == 'true'
-
-
 def instruction(x, own):
     h, p = x.head, x.parts
     if h == 'File':
@@ -326,9 +322,9 @@ def instruction(x, own):
     if h == 'Label':
         return (h, label(p[0]))
     if h == 'SelectBank':
-        return (h, byte(p[0], own))
+        return (h, (p[0],), p[1] == 1)
     if h == 'SelectPage':
-        return (h, target(p[0]))
+        return (h, (p[0],), target(p[1]))
     raise ValueError(h)
 
 
@@ -340,6 +336,22 @@ def blocks(x):
         own = block[1] if block[0] == 'Copy' else None
         made[block] = tuple(instruction(z, own) for z in y.below)
     return made
+
+
+def is_select(x):
+    return x[0] in ('SelectBank', 'SelectPage')
+
+
+def prices_in(block):
+    """For each instruction that is no select: one, and one for each select before it."""
+    prices, selects = [], 0
+    for x in block:
+        if is_select(x):
+            selects += 1
+        else:
+            prices.append(1 + selects)
+            selects = 0
+    return prices
 
 
 class Shown:
@@ -356,6 +368,8 @@ class Shown:
         self.bodies = {x.parts[0]: tuple(operation(y, x.parts[0]) for y in x.below) for x in core if x.head == 'Body'}
         self.plain = blocks(tops['Plain'])
         self.selected = blocks(tops['Selected'])
+        self.addresses = {name(x.parts[0]): x.parts[1][1] for x in tops['Selected'].below}
+        self.prices = {block: prices_in(self.selected[block]) for block in self.selected}
         image = tops['Image']
         self.main, self.halt = image.parts[0][1], image.parts[1][1]
         words = [0x3fff] * 8192
@@ -364,14 +378,21 @@ class Shown:
         self.image = tuple(words)
         self.handler = next((n for n, c in enumerate(self.copies) if c.root == ('Isr',)), None)
 
+    def page_of(self, block):
+        return self.addresses[block] // 2048
+
+    def price(self, block, index):
+        """What an instruction without selects costs, with those that stand before it in the code with selects."""
+        return self.prices[block][index]
+
     @staticmethod
     def standing(x):
         p = x.parts
-        return Rec(constant='const' in p[3:], name=codes(p[0]), address=p[1][1], size=p[2][1])
+        return Record(constant='const' in p[3:], name=codes(p[0]), address=p[1][1], size=p[2][1])
 
     @staticmethod
     def copy(x):
         root, function_, called, at, size, parameters = x.parts
         if function_[0] == 'Helper':
             function_ = ('Helper', (function_[1],))
-        return Rec(root=(root,), function=function_, name=codes(called), address=at[1], size=size[1], parameters=parameters[1])
+        return Record(root=(root,), function=function_, name=codes(called), address=at[1], size=size[1], parameters=parameters[1])

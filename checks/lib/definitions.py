@@ -1,5 +1,6 @@
 """Runs the definitions of all languages on the same programs, and compares them. Arguments: the program picc_show, picc or '-',
-how many random programs, the seed, how many processes, and the files of programs."""
+how many random programs, the seed, how many processes (0: none but this one, and what was never reached is told), and the files
+of programs."""
 import json
 import os
 import random
@@ -11,8 +12,8 @@ from collections import Counter
 from multiprocessing import Pool
 
 from code_text import Shown
-from machines import CHIP, FLAGS, Chip, Core, Source, Symbolic
-from antt_run import get
+from machines import FLAGS, Chip, Core, Source, Symbolic, layout_of
+from interpreter import REACHED, definition
 import programs
 
 STEPS, EVENTS = 40000, 150
@@ -51,36 +52,58 @@ def compared(above, below, names):
         raise Differs('%s is still, and %s goes on' % (names[1], names[0]))
 
 
-def costs(source, core, nodes, symbolic):
-    """At each event that both have: what the runs below have cost against the steps above."""
-    for i in range(min(len(source.events), len(core.events))):
-        k, (most, least) = source.marks[i], core.marks[i]
-        if most > 8192 * k:
-            raise Differs('event %d: most cost %d at %d steps' % (i, most, k))
-        if k > (least + 1) * nodes:
-            raise Differs('event %d: %d steps at least cost %d and %d nodes' % (i, k, least, nodes))
-    for i in range(min(len(core.events), len(symbolic.events))):
-        (most, least), cost = core.marks[i], symbolic.marks[i]
-        if not least <= cost <= most:
-            raise Differs('event %d: symbolic code costs %d, byte code %d to %d' % (i, cost, least, most))
+def rising(what, differences):
+    """A difference of counts never falls from one event to a later one."""
+    high = None
+    for i, d in differences:
+        if high is not None and d < high[1]:
+            raise Differs('%s: between events %d and %d it falls from %d to %d' % (what, high[0], i, high[1], d))
+        high = (i, d)
 
 
-def pace(source, core):
-    """From any event on: 8,192 of most cost a step."""
-    low = None
-    for i in range(min(len(source.events), len(core.events))):
-        room = 8192 * source.marks[i] - core.marks[i][0]
-        if low is not None and room < low[0]:
-            raise Differs('events %d to %d: more than 8192 a step' % (low[1], i))
-        low = (room, i)
+def costs(source, core, plain, selected, nodes):
+    """Between any two events a run costs at most no more than the one above it, and at least no less. No instruction has a moment
+    between the two events of a bit."""
+    both = [0] + [i + 1 for i in range(min(map(len, (source.events, core.events, plain.events, selected.events)))) if not core.marks[i][2]]
+    steps, most, least = [0] + source.marks, {}, {}
+    for name, run in (('core', core), ('plain', plain), ('selected', selected)):
+        most[name], least[name] = [0] + [mark[0] for mark in run.marks], [0] + [mark[1] for mark in run.marks]
+    rising('8192 a step less the most cost of byte code', [(i, 8192 * steps[i] - most['core'][i]) for i in both])
+    rising('the most cost of byte code less that of symbolic code', [(i, most['core'][i] - most['plain'][i]) for i in both])
+    rising('the most cost without selects less that with them', [(i, most['plain'][i] - most['selected'][i]) for i in both])
+    rising('the least cost of symbolic code less that of byte code', [(i, least['plain'][i] - least['core'][i]) for i in both])
+    rising('the least cost with selects less that without them', [(i, least['selected'][i] - least['plain'][i]) for i in both])
+    for i in both:
+        if steps[i] >= (least['core'][i] + 1) * nodes:
+            raise Differs('event %d: %d steps at least cost %d and %d nodes' % (i, steps[i], least['core'][i], nodes))
+
+
+def instructions(chip, selected):
+    """Where nothing arrives, the chip's instructions between two events are those that symbolic code counts."""
+    both = range(min(len(chip.events), len(selected.events)))
+    rising('the most cost of symbolic code less the instructions', [(i, selected.marks[i][0] - chip.marks[i]) for i in both])
+    rising('the instructions less the least cost of symbolic code', [(i, chip.marks[i] - selected.marks[i][1]) for i in both])
+
+
+def contents(shown, chip):
+    """Each byte of a static object that isn't const holds the last value written, or its first."""
+    at, held = definition('Rattle.pic_chip.specs.Address', 'byte_at'), definition('Rattle.sym_code.specs.Layout', 'shown')
+    last = {(e[1][1], e[1][2]): e[2] for e in chip.events if e[0] == 'Write' and e[1][0] == 'Static'}
+    layout = layout_of(shown)
+    for n, o in enumerate(shown.objects):
+        for k in range(o.size if chip.moment.met and not o.constant else 0):
+            wanted = last.get((n, k), held(layout, shown.first[n][k]))
+            found = at(chip.moment.state, o.address + k)
+            if found != wanted:
+                raise Differs('byte %d of object %d holds %d and not %d' % (k, n, found, wanted))
 
 
 def words(shown):
     """Each block has no more words than are stated for it."""
-    stated = get('Rattle.ram_place.specs.Sizes', 'block_words')
+    stated = definition('Rattle.ram_place.specs.Sizes', 'block_words')
     for name, block in shown.selected.items():
-        real = sum({'Label': 0, 'SelectBank': 2, 'SelectPage': 2}.get(x[0], 1) for x in block)
-        most = get('Rattle.c_typed.specs.Words', 'start_size')(shown.program) if name == ('Start',) else stated(shown.program, function_id(shown.copies[name[1]]))
+        real = sum(x[0] != 'Label' for x in block)
+        most = definition('Rattle.c_typed.specs.Words', 'start_size')(shown.program) if name == ('Start',) else stated(shown.program, function_id(shown.copies[name[1]]))
         if real > most:
             raise Differs('block %s has %d words, stated %d' % (name, real, most))
 
@@ -91,7 +114,7 @@ def function_id(copy):
 
 def script_text(inputs, pairs):
     lines = ['input ' + ' '.join('%02X' % b for b in inputs)] if inputs else []
-    return '\n'.join(lines + ['at %d %s' % (t, flag.upper()) for t, flag in pairs]) + '\n'
+    return '\n'.join(lines + ['at %d %s' % (t, flag.upper()) for t, flag in sorted(pairs)]) + '\n'
 
 
 def traced(picc, folder, text, inputs, pairs, source):
@@ -111,32 +134,34 @@ def traced(picc, folder, text, inputs, pairs, source):
         raise Differs('picc trace ends with %r, the definitions go on' % last)
 
 
-def random_script(rng):
-    inputs = tuple(rng.choice([0, 1, 2, 127, 128, 255, rng.randrange(256)]) for _ in range(rng.randrange(40)))
-    count = rng.choice([0, 0, 1, 2, 4, 8])
-    times = sorted(rng.randrange(1, CHIP_STEPS) for _ in range(count))
-    lengths = sorted(rng.randrange(EVENTS) for _ in range(count))
-    flags = [rng.choice(FLAGS) for _ in range(count)]
-    return inputs, list(zip(times, flags)), list(zip(lengths, flags))
+def random_inputs(rng):
+    return tuple(rng.choice([0, 1, 2, 127, 128, 255, rng.randrange(256)]) for _ in range(rng.randrange(40)))
+
+
+def random_pairs(rng, most):
+    """Times or lengths below a bound, in any order, each with a flag. Flags that programs enable come more often."""
+    count = rng.choice([1, 2, 4, 8, 12])
+    return [(rng.randrange(most), rng.choice(FLAGS[:3] * 4 + FLAGS)) for _ in range(count)]
 
 
 def follow(shown, inputs, pairs, rng, tally):
     """All languages above the chip under one schedule."""
     source = Source(shown, inputs, pairs).run(STEPS, EVENTS)
+    if isinstance(source.end, tuple) and source.end[0] != 'Undefined':
+        raise Differs('the source ends with %r' % (source.end,))
     core = Core(shown, inputs, pairs).run(STEPS * 2, len(source.events) + 20)
     compared(source, core, ('the source', 'byte code'))
-    plain = Symbolic(shown, inputs, pairs, rng, shown.plain).run(STEPS * 3, len(core.events) + 1)
-    selected = Symbolic(shown, inputs, pairs, rng, shown.selected).run(STEPS * 3, len(core.events) + 1)
+    plain = Symbolic(shown, inputs, pairs, rng, False).run(STEPS * 3, len(source.events) + 1)
+    selected = Symbolic(shown, inputs, pairs, rng, True).run(STEPS * 3, len(source.events) + 1)
     if not plain.splits:
         compared(source, plain, ('the source', 'symbolic code'))
-        compared(plain, selected, ('symbolic code', 'symbolic code with selects'))
-        costs(source, core, shown.nodes, selected)
-        pace(source, core)
+        compared(source, selected, ('the source', 'symbolic code with selects'))
+        costs(source, core, plain, selected, shown.nodes)
     for name, run in (('source', source), ('byte code', core), ('symbolic', plain), ('selected', selected)):
         tally[name + ' steps'] += run.steps
     tally['events'] += len(source.events)
     tally['ends ' + (source.end if isinstance(source.end, str) else source.end[1][0])] += 1
-    return source
+    return source, selected
 
 
 def on_chip(shown, inputs, arrivals, rng, tally):
@@ -144,19 +169,22 @@ def on_chip(shown, inputs, arrivals, rng, tally):
     chip = Chip(shown, inputs, arrivals, rng).run(CHIP_STEPS, EVENTS)
     tally['chip steps'] += chip.steps
     pairs = [(chip.length_at(t), flag) for t, flag in arrivals if t <= chip.steps]
-    source = follow(shown, inputs, pairs, rng, tally)
+    source, selected = follow(shown, inputs, pairs, rng, tally)
     common = min(len(chip.events), len(source.events))
     i = at_first(chip.events[:common], source.events[:common])
     if i < common:
         raise Differs('event %d: the chip %s, the source %s, read off %s' % (i, event_text(chip, i), event_text(source, i), pairs))
     if source.end == 'still' and len(chip.events) > len(source.events):
         raise Differs('the chip has events behind the end')
-    if chip.early:
+    if chip.moment.early:
         raise Differs('the chip accesses a register before main')
-    state = chip.moment.state
-    if not 0 <= state.pushes - state.pops <= 8:
-        raise Differs('the return stack runs over or under')
-    return source, pairs
+    if not isinstance(source.end, tuple):
+        if chip.depth or chip.moment.stopped:
+            raise Differs('the chip has %d words on its stack, or stops' % chip.depth)
+        contents(shown, chip)
+        if not arrivals:
+            instructions(chip, selected)
+    return source, pairs, chip
 
 
 def one(job):
@@ -173,12 +201,15 @@ def one(job):
         if ran.returncode != 0:
             return {}, '%s: picc_show ends with %d' % (label, ran.returncode)
         tally['programs'] += 1
-        inputs, arrivals, lengths = random_script(rng)
+        inputs, arrivals = random_inputs(rng), []
         try:
             shown = Shown(ran.stdout.decode('latin-1'))
             words(shown)
-            follow(shown, inputs, lengths, rng, tally)
-            source, pairs = on_chip(shown, inputs, arrivals, rng, tally)
+            source, pairs, chip = on_chip(shown, inputs, [], rng, tally)
+            if shown.handler is not None or rng.randrange(4) == 0:
+                follow(shown, inputs, random_pairs(rng, len(source.events) + 2), rng, tally)
+                arrivals = random_pairs(rng, chip.marks[-1] + 20 if chip.marks else 100)
+                source, pairs, _ = on_chip(shown, inputs, arrivals, rng, tally)
             if picc != '-':
                 traced(picc, folder, text, inputs, pairs, source)
         except Differs as error:
@@ -217,15 +248,27 @@ def jobs(show, picc, count, seed, files):
         yield show, picc, 'random program %d' % (seed + at), programs.program(random.Random(seed + at)), seed + at
 
 
+def results(processes, work):
+    """What each job gives, in order. Without processes of their own, what was never reached is told at the end."""
+    if processes > 0:
+        with Pool(processes) as pool:
+            yield from pool.imap(one, work, 4)
+        return
+    yield from map(one, work)
+    for name, counts in sorted(REACHED.items()):
+        never = [str(i + 1) for i, n in enumerate(counts) if n == 0]
+        if never:
+            print('definitions: never reached: %s, clause %s of %d' % (name, ' '.join(never), len(counts)))
+
+
 def main():
     show, picc, count, seed, processes = sys.argv[1], sys.argv[2], int(sys.argv[3]), int(sys.argv[4]), int(sys.argv[5])
     total, differ = Counter(), 0
-    with Pool(processes) as pool:
-        for tally, difference in pool.imap(one, jobs(show, picc, count, seed, sys.argv[6:]), 4):
-            total.update(tally)
-            if difference is not None:
-                differ += 1
-                print('definitions: ' + difference, flush=True)
+    for tally, difference in results(processes, jobs(show, picc, count, seed, sys.argv[6:])):
+        total.update(tally)
+        if difference is not None:
+            differ += 1
+            print('definitions: ' + difference, flush=True)
     print('definitions: ' + ', '.join('%d %s' % (n, what) for what, n in sorted(total.items())) + ', %d differ' % differ)
     return 1 if differ else 0
 

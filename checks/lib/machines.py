@@ -1,21 +1,18 @@
 """The machines of the definitions, over what picc_show tells of a program: the source, byte code, symbolic code and the chip. Each is
-run a step at a time, and keeps at which step each event of its trace was made, and what it had cost by then."""
-import os
+run a step at a time, and keeps at which step each event of its trace was made, and what had been counted by then."""
+from interpreter import Function, Memory, NONE, Record, declared, definition, some, value
 
-import antt_run
-from antt_run import A, Fn, Memory, NONE, Rec, get, some, value
-
-SOURCE, CORE, SYM, CHIP = ('Rattle.%s.specs.' % crate for crate in ('src_machine', 'core_code', 'sym_code', 'pic_chip'))
-FLAGS = tuple(antt_run.declared(CHIP + 'declared.Flag'))
+SOURCE, VALUES, CORE, SYM, CHIP = ('Rattle.%s.specs.' % crate for crate in ('src_machine', 'src_values', 'core_code', 'sym_code', 'pic_chip'))
+FLAGS = tuple(declared(CHIP + 'declared.Flag'))
 
 
 def arrivals_of(pairs):
-    return tuple(Rec(t=t, flag=(flag,)) for t, flag in pairs)
+    return tuple(Record(t=t, flag=(flag,)) for t, flag in pairs)
 
 
-def outside_of(path, inputs, pairs):
-    """What comes from outside, for pairs of a trace's length and a flag in order."""
-    return Rec(input=inputs, arrivals=arrivals_of(pairs))
+def outside_of(inputs, pairs):
+    """What comes from outside, for pairs of a trace's length and a flag."""
+    return definition(CHIP + 'World', 'outside_of')(inputs, arrivals_of(pairs))
 
 
 class Machine:
@@ -36,41 +33,51 @@ class Machine:
             self.events.append(show(event))
             self.marks.append(count)
 
+    def flat(self):
+        """Memory as a table, where a step made it of a function."""
+        m = self.state.memory
+        if not isinstance(m, Memory):
+            table = {k: m(*k) for k in self.keys} if self.first.n == 2 else {k: m(k) for k in self.keys}
+            self.state = self.state.updated(memory=Memory(self.first.n, table, self.first))
 
-def variable_keys(program, copy, number_of_copies=None):
-    function = program.functions[copy.function[1]]
-    own = Rec(root=copy.root, function=copy.function[1])
-    sizes = get('Rattle.c_typed.specs.Types', 'type_bytes')
-    for n, variable in enumerate(function.params + function.locals):
-        for at in range(sizes(program.sizes, variable.ty.ty)):
-            yield ('Variable', own, n), at
+
+def function_memory(n, m):
+    """The first memory, as a function of so many arguments."""
+    return Function(n, lambda *key: m(*key))
 
 
 class Source(Machine):
     def __init__(self, shown, inputs, pairs):
         super().__init__()
-        self.setting = Rec(program=shown.program, outside=outside_of(SOURCE, inputs, pairs))
-        self.step_of, self.counts = get(SOURCE + 'Step', 'step'), get(SOURCE + 'Step', 'counts')
-        content = Rec(main=shown.main, halt=shown.halt, objects=tuple(shown.objects), frames=tuple(shown.copies))
-        self.show = shown_by(lambda o: get(SOURCE + 'Shown', 'address_of')(shown.program, content, o), get(SOURCE + 'Shown', 'shown'))
-        self.state = get(SOURCE + 'Step', 'start')(self.setting)
-        self.first = self.state.memory
+        self.setting = Record(program=shown.program, outside=outside_of(inputs, pairs))
+        self.step_of, self.counts = definition(SOURCE + 'Step', 'step'), definition(SOURCE + 'Step', 'counts')
+        self.weight, self.enters = definition(SOURCE + 'Weights', 'weight'), definition(SOURCE + 'Step', 'enters')
+        content = Record(main=shown.main, halt=shown.halt, objects=tuple(shown.objects), frames=tuple(shown.copies))
+        address, show = definition(VALUES + 'Shown', 'address_of'), definition(VALUES + 'Shown', 'shown')
+        where = Function(1, lambda o: address(shown.program, content, o))
+        self.show = lambda event: show(where, event)
+        self.state = definition(SOURCE + 'Step', 'start')(self.setting)
+        self.first = function_memory(2, self.state.memory)
         self.keys = [(('Fixed', n), at) for n, o in enumerate(shown.objects) for at in range(o.size)]
         for copy in shown.copies:
             if copy.function[0] == 'User':
                 self.keys += variable_keys(shown.program, copy)
-        self.counted = 0
+        self.counted, self.light = 0, None
         self.flat()
 
-    def flat(self):
-        m = self.state.memory
-        if not isinstance(m, Memory):
-            self.state = self.state.upd(memory=Memory(2, {k: A(m, *k) for k in self.keys}, self.first))
-
     def step(self):
-        self.counted += self.counts(self.setting, self.state)
+        counts = self.counts(self.setting, self.state)
+        if counts:
+            self.light = None
+        else:
+            weight = self.weight(self.setting, self.state)
+            if self.light is not None and weight >= self.light:
+                self.end = ('Weight', ('grows',), weight)
+                return
+            self.light = weight
         next_ = self.step_of(self.setting, self.state)
         if next_[0] == 'Went':
+            self.counted += counts
             self.state = next_[1]
             self.flat()
             self.noted(self.state.world.trace, self.show, self.counted)
@@ -78,97 +85,118 @@ class Source(Machine):
             self.end = 'still'
         else:
             self.end = next_
-            self.counted -= 1
 
 
-def shown_by(address, show):
-    address = Fn(1, address)
-    return lambda event: show(address, event)
+def variable_keys(program, copy):
+    function, own = program.functions[copy.function[1]], Record(root=copy.root, function=copy.function[1])
+    size = definition('Rattle.c_typed.specs.Types', 'type_bytes')
+    for n, variable in enumerate(function.params + function.locals):
+        for at in range(size(program.sizes, variable.ty.ty)):
+            yield ('Variable', own, n), at
 
 
 class Core(Machine):
     def __init__(self, shown, inputs, pairs):
         super().__init__()
-        self.setting = Rec(program=core_program(shown), outside=outside_of(CORE, inputs, pairs))
-        self.step_of = get(CORE + 'Machine', 'core_step')
-        self.cost, self.least = get(CORE + 'Cost', 'step_cost'), get(CORE + 'Cost', 'step_least')
-        self.show = held_by(shown)
-        self.state = get(CORE + 'Machine', 'core_start')(self.setting)
-        self.first = self.state.memory
+        self.setting = Record(program=core_program(shown), outside=outside_of(inputs, pairs))
+        self.step_of = definition(CORE + 'Machine', 'core_step')
+        self.most_of, self.least_of = definition(CORE + 'Cost', 'step_most'), definition(CORE + 'Cost', 'step_least')
+        self.show = as_shown(shown)
+        self.state = definition(CORE + 'Machine', 'core_start')(self.setting)
+        self.first = function_memory(1, self.state.memory)
         self.keys = [('Static', n, at) for n, o in enumerate(shown.objects) for at in range(o.size)]
         self.keys += [('Frame', c, at) for c, copy in enumerate(shown.copies) for at in range(copy.size)]
         self.keys += [('Result', (root,), k) for root in ('Main', 'Isr') for k in range(4)]
-        self.most_cost = self.least_cost = 0
+        self.within = definition(CORE + 'Runs', 'is_within_bit')
+        self.most = self.least = 0
         self.flat()
-
-    def flat(self):
-        m = self.state.memory
-        if not isinstance(m, Memory):
-            self.state = self.state.upd(memory=Memory(1, {k: A(m, k) for k in self.keys}, self.first))
 
     def step(self):
         next_ = self.step_of(self.setting, self.state)
         if next_[0] == 'Goes':
-            self.most_cost += self.cost(self.setting, self.state)
-            self.least_cost += self.least(self.setting, self.state)
+            self.most += self.most_of(self.setting, self.state)
+            self.least += self.least_of(self.setting, self.state)
             self.state = next_[1]
             self.flat()
-            self.noted(self.state.world.trace, self.show, (self.most_cost, self.least_cost))
+            self.noted(self.state.world.trace, self.show, (self.most, self.least, self.within(self.state.code)))
         else:
-            self.end = next_[0].lower()
-
-
-def layout_of(shown):
-    frames = [copy.address for copy in shown.copies]
-    return Rec(objects=tuple(Rec(constant=o.constant, address=o.address, size=o.size) for o in shown.objects), frame=Fn(1, lambda c: frames[c]))
-
-
-def held_by(shown):
-    layout, held = layout_of(shown), get(SYM + 'Layout', 'shown')
-    names = {'ReadOf': 'Read', 'WriteOf': 'Write'}
-    return lambda e: ('End',) if e[0] == 'Ended' else (names[e[0]], e[1], held(layout, e[2]))
+            self.end = 'still' if next_[0] == 'Still' else 'stuck'
 
 
 def core_program(shown):
-    sizes = [copy.size for copy in shown.copies]
-    parameters = [copy.parameters for copy in shown.copies]
-    return Rec(body=Fn(1, lambda c: shown.bodies.get(c, ())), handler=NONE if shown.handler is None else some(shown.handler),
-               first=shown.first, is_watched=Fn(1, lambda n: not shown.objects[n].constant),
-               frame_bytes=Fn(1, lambda c: sizes[c]), parameter_bytes=Fn(1, lambda c: parameters[c]))
+    sizes, parameters = [copy.size for copy in shown.copies], [copy.parameters for copy in shown.copies]
+    called = {c: set(calls_in(body)) for c, body in shown.bodies.items()}
+    return Record(body=Function(1, lambda c: shown.bodies.get(c, ())), root=Function(1, lambda c: shown.copies[c].root), calls=Function(2, lambda c, d: d in called.get(c, ())),
+               handler=NONE if shown.handler is None else some(shown.handler), first=shown.first,
+               is_watched=Function(1, lambda n: not shown.objects[n].constant),
+               frame_bytes=Function(1, lambda c: sizes[c]), parameter_bytes=Function(1, lambda c: parameters[c]))
+
+
+def calls_in(tree):
+    """The copies that code calls."""
+    for part in tree:
+        if isinstance(part, tuple):
+            if part and part[0] == 'Call':
+                yield part[1]
+            else:
+                yield from calls_in(part)
+
+
+def layout_of(shown):
+    return Record(objects=tuple(Record(constant=o.constant, address=o.address, size=o.size) for o in shown.objects),
+               frames=tuple(Record(root=c.root, address=c.address, size=c.size) for c in shown.copies))
+
+
+def as_shown(shown):
+    """An event of byte code as the map shows it."""
+    layout, held = layout_of(shown), definition(SYM + 'Layout', 'shown')
+    return lambda e: ('End',) if e[0] == 'Ended' else (e[0][:-2], e[1], held(layout, e[2]))
+
+
+def random_registers(random):
+    bits = {name: random.randrange(2) for name in ('z', 'dc', 'c', 'rp0', 'rp1', 'irp', 'page_low', 'page_high')}
+    return Record(w=random.randrange(256), fsr=random.randrange(256), **bits)
 
 
 class Symbolic(Machine):
-    """Symbolic code with selects or without. Before main's first instruction statics hold their first bytes, all else anything."""
+    """Symbolic code with selects or without. Before main's first instruction statics hold their first bytes, all else anything; and
+    at each entry the handler's registers do."""
 
-    def __init__(self, shown, inputs, pairs, random, blocks):
+    def __init__(self, shown, inputs, pairs, random, banked):
         super().__init__()
-        layout = layout_of(shown)
-        program = Rec(block=Fn(1, lambda name: blocks.get(name, ())), handler=NONE if shown.handler is None else some(shown.handler), layout=layout)
-        self.setting = Rec(program=program, outside=outside_of(SYM, inputs, pairs))
-        self.step_of, self.cost_of = get(SYM + 'Machine', 'sym_step'), get(SYM + 'Cost', 'step_cost')
-        names = {'ReadOf': 'Read', 'WriteOf': 'Write'}
-        self.show = lambda e: ('End',) if e[0] == 'Ended' else (names[e[0]], e[1], e[2])
+        layout, blocks = layout_of(shown), shown.selected if banked else shown.plain
+        program = Record(block=Function(1, lambda name: blocks.get(name, ())), handler=NONE if shown.handler is None else some(shown.handler), layout=layout)
+        limits = {False: 8, True: 8}
+        self.setting = Record(program=program, banked=banked, page_of=Function(1, shown.page_of), limit=Function(1, lambda inside: limits[inside]))
+        self.outside = outside_of(inputs, pairs)
+        self.step_of, self.cost_of = definition(SYM + 'Machine', 'sym_step'), definition(SYM + 'Cost', 'step_cost')
+        self.least_prices = value(SYM + 'Cost', 'least_prices')
+        self.most_prices = definition(SYM + 'Cost', 'most_prices')(Function(2, shown.price if not banked else lambda name, index: 1))
+        self.show = lambda e: ('End',) if e[0] == 'Ended' else (e[0][:-2], e[1], e[2])
         table = {k: random.randrange(256) for k in range(368)}
-        general, address, held = get(SYM + 'Layout', 'general_at'), get(SYM + 'Layout', 'address_of'), get(SYM + 'Layout', 'shown')
+        general, address, held = definition(SYM + 'Layout', 'general_at'), definition(SYM + 'Layout', 'address_of'), definition(SYM + 'Layout', 'shown')
         for n, bytes_ in enumerate(shown.first):
             for at, byte in enumerate(bytes_):
                 table[general(address(layout, ('Static', n, at)))[1]] = held(layout, byte)
-        registers = Rec(w=random.randrange(256), z=random.randrange(2), dc=random.randrange(2), c=random.randrange(2), fsr=random.randrange(256), irp=random.randrange(2))
-        self.state = get(SYM + 'Machine', 'sym_start')(registers, Memory(1, table, Fn(1, lambda k: 0)))
-        self.cost, self.lengths = 0, {pair[0] for pair in pairs}
-        self.splits = False
+        start = definition(SYM + 'Machine', 'sym_start')
+        self.state = start(program, random_registers(random), Memory(1, table, Function(1, lambda k: 0)))
+        entries = {}
+        self.entry = Function(1, lambda k: entries[k] if k in entries else entries.setdefault(k, random_registers(random)))
+        self.most = self.least = 0
+        self.lengths, self.splits = {pair[0] for pair in pairs}, False
 
     def step(self):
         before = len(self.state.world.trace)
-        next_ = self.step_of(self.setting, self.state)
+        next_ = self.step_of(self.setting, self.entry, self.outside, self.state)
         if next_[0] == 'Goes':
-            self.cost += self.cost_of(self.setting, self.state)
+            self.most += self.cost_of(self.setting, self.most_prices, self.outside, self.state)
+            self.least += self.cost_of(self.setting, self.least_prices, self.outside, self.state)
             self.state = next_[1]
             after = len(self.state.world.trace)
             self.splits = self.splits or any(before < at < after for at in self.lengths)
-            self.noted(self.state.world.trace, self.show, self.cost)
+            self.noted(self.state.world.trace, self.show, (self.most, self.least))
         else:
-            self.end = next_[0].lower()
+            self.end = 'still' if next_[0] == 'Still' else 'stuck'
 
 
 class Chip(Machine):
@@ -177,27 +205,27 @@ class Chip(Machine):
     def __init__(self, shown, inputs, pairs, random):
         super().__init__()
         self.image, self.inputs = shown.image, inputs
-        ranges = tuple(Rec(constant=o.constant, address=o.address, size=o.size) for o in shown.objects)
-        self.watch = Rec(main=shown.main, halt=shown.halt, ranges=ranges)
-        start = Rec(w=random.randrange(256), fsr=random.randrange(256), flags=random.randrange(8), ram=tuple(random.randrange(256) for _ in range(368)))
-        setting = Rec(image=self.image, watch=self.watch, start=start, inputs=inputs, arrivals=arrivals_of(pairs))
-        self.moment = get(CHIP + 'Run', 'first_moment')(setting)
-        self.stepped, self.observed = get(CHIP + 'Run', 'stepped'), get(CHIP + 'Run', 'observed')
-        self.arriving, self.arrivals, self.times = get(CHIP + 'Interrupts', 'arriving'), setting.arrivals, {t for t, _ in pairs}
-        self.ranges, self.lengths, self.early = ranges, [0], False
-        self.quiet = 0
+        ranges = tuple(Record(constant=o.constant, address=o.address, size=o.size) for o in shown.objects)
+        self.watch = Record(main=shown.main, halt=shown.halt, ranges=ranges)
+        start = Record(w=random.randrange(256), fsr=random.randrange(256), flags=random.randrange(8), ram=tuple(random.randrange(256) for _ in range(368)))
+        setting = Record(image=self.image, watch=self.watch, start=start, inputs=inputs, arrivals=arrivals_of(pairs))
+        self.moment = definition(CHIP + 'Run', 'first_moment')(setting)
+        self.next_moment, self.arriving = definition(CHIP + 'Run', 'next_moment'), definition(CHIP + 'Interrupts', 'arriving')
+        self.arrivals, self.times = setting.arrivals, {t for t, _ in pairs}
+        self.lengths, self.depth, self.quiet = [0], 0, 0
 
     def step(self):
-        if self.moment.ended and self.steps > max(self.times, default=0):
-            self.quiet += 1
-            if self.quiet > 300:
-                self.end = 'quiet'
-                return
+        if self.moment.stopped or self.quiet > 300:
+            self.end = 'stopped' if self.moment.stopped else 'quiet'
+            return
+        self.quiet += self.moment.ended and self.steps > max(self.times, default=0)
         mask = self.arriving(self.arrivals, self.steps) if self.steps in self.times else 0
-        self.moment = self.observed(self.watch, self.stepped(self.image, self.inputs, self.ranges, mask, self.moment))
+        self.moment = self.next_moment(self.image, self.inputs, self.watch, mask, self.moment)
         self.lengths.append(len(self.moment.trace))
+        state = self.moment.state
+        if not 0 <= state.pushes - state.pops <= 8:
+            self.depth = state.pushes - state.pops
         self.noted(self.moment.trace, lambda e: e, self.steps + 1)
-        self.early = self.early or bool(self.moment.early)
 
     def length_at(self, t):
         return self.lengths[min(t, len(self.lengths) - 1)]

@@ -368,7 +368,7 @@ class Program:
         self.in_handler, kept = True, self.functions
         lines = self.locals(scope, 1, self.random.randrange(2))
         lines += self.block(scope, 1, 1, 1 + self.random.randrange(2))
-        clear = self.pick(['INTCON = INTCON & 0x78;', 'INTCON = 0x38;', 'INTF = 0; TMR0IF = 0; RBIF = 0;'])
+        clear = self.pick(['INTCON = INTCON & 0x78;', 'INTCON = 0x78;', 'INTF = 0; TMR0IF = 0; RBIF = 0;']) + self.pick([' PIR1 = 0;', ' PIR1 = PIR1 & 0xF0;', ' TMR1IF = 0; RCIF = 0;', ' PIE1 = 0;'])
         self.in_handler = False
         if kept and self.chance(40):
             self.budget = 1
@@ -379,10 +379,15 @@ class Program:
         scope = Scope(self.globals)
         self.budget = 5
         lines = self.locals(scope, 1, 1 + self.random.randrange(3))
+        body = self.block(scope, 2, 1, 2 + self.random.randrange(4))
         if has_handler:
-            lines.append('    INTCON = %s;' % self.pick(['0xB8', '0xF8', '0x90', '0xA0', '184']))
-        lines += self.block(scope, 2, 1, 2 + self.random.randrange(4))
-        self.text += ['void main(void)', '{'] + lines + ['}']
+            enable = self.pick(['0xB8', '0xF8', '0xF8', '0xA8', '184'])
+            lines.append('    INTCON = %s;' % enable)
+            if self.chance(40):
+                lines.append('    PIE1 = %d;' % self.pick([255, 1, 0x60]))
+            if self.chance(40):
+                body.insert(self.random.randrange(len(body) + 1), '    INTCON = 0x%X;' % self.random.randrange(256)) if self.chance(30) else None
+        self.text += ['void main(void)', '{'] + lines + body + ['}']
 
 
 def program(random):

@@ -4,8 +4,8 @@ use crate::listing::Listing;
 use crate::operations::put_byte;
 use std::alloc::AllocError;
 use sym_code::{
-    BitOperation, BlockName, FileOperation, Into, Label, Literal, LiteralOperation, Operand,
-    PlainOperation, Register, Saved, Sym, SymBlock, SymProgram, Target,
+    BankBit, BitOperation, BlockName, FileOperation, Into, Label, Literal, LiteralOperation, Operand,
+    PageBit, PlainOperation, Register, Saved, Sym, SymBlock, SymProgram, Target,
 };
 
 fn of_file(op: FileOperation) -> &'static str {
@@ -82,6 +82,21 @@ fn of_into(into: Into) -> &'static str {
     }
 }
 
+fn of_bank(bit: BankBit) -> &'static str {
+    match bit {
+        BankBit::Rp0 => "Rp0",
+        BankBit::Rp1 => "Rp1",
+        BankBit::Irp => "Irp",
+    }
+}
+
+fn of_page(bit: PageBit) -> &'static str {
+    match bit {
+        PageBit::Low => "Low",
+        PageBit::High => "High",
+    }
+}
+
 fn put_operand(out: &mut Listing, operand: Operand) -> Result<(), AllocError> {
     match operand {
         Operand::Byte(byte) => put_byte(out, byte),
@@ -140,8 +155,8 @@ fn head_of(sym: Sym) -> &'static str {
         Sym::Call(_) => "Call",
         Sym::Goto(_) => "Goto",
         Sym::Label(_) => "Label",
-        Sym::SelectBank(_) => "SelectBank",
-        Sym::SelectPage(_) => "SelectPage",
+        Sym::SelectBank(..) => "SelectBank",
+        Sym::SelectPage(..) => "SelectPage",
     }
 }
 
@@ -163,9 +178,16 @@ fn put_fields(out: &mut Listing, sym: Sym) -> Result<(), AllocError> {
             put_literal(out, value)
         }
         Sym::Plain(op) => out.word(of_plain(op)),
-        Sym::Call(target) | Sym::Goto(target) | Sym::SelectPage(target) => put_target(out, target),
+        Sym::Call(target) | Sym::Goto(target) => put_target(out, target),
         Sym::Label(label) => put_label(out, label),
-        Sym::SelectBank(byte) => put_byte(out, byte),
+        Sym::SelectBank(bit, value) => {
+            out.word(of_bank(bit))?;
+            out.number(value as u64)
+        }
+        Sym::SelectPage(bit, target) => {
+            out.word(of_page(bit))?;
+            put_target(out, target)
+        }
     }
 }
 
@@ -182,10 +204,11 @@ fn own_copy(name: BlockName) -> Option<u16> {
     }
 }
 
-fn put_block(out: &mut Listing, block: &SymBlock) -> Result<(), AllocError> {
+fn put_block(out: &mut Listing, block: &SymBlock, at: u16) -> Result<(), AllocError> {
     out.own = own_copy(block.name);
     out.begin(1, "Block")?;
     put_name(out, block.name)?;
+    out.numbered("at", at as u64)?;
     out.end()?;
     for sym in &block.list {
         put_instruction(out, *sym)?;
@@ -193,12 +216,17 @@ fn put_block(out: &mut Listing, block: &SymBlock) -> Result<(), AllocError> {
     Ok(())
 }
 
-/// The blocks of a program under a head.
-pub fn put_symbolic(out: &mut Listing, head: &str, program: &SymProgram) -> Result<(), AllocError> {
+/// The blocks of a program under a head, with the addresses at which they stand.
+pub fn put_symbolic(
+    out: &mut Listing,
+    head: &str,
+    program: &SymProgram,
+    at: &[u16],
+) -> Result<(), AllocError> {
     out.begin(0, head)?;
     out.end()?;
-    for block in &program.blocks {
-        put_block(out, block)?;
+    for (block, at) in program.blocks.iter().zip(at) {
+        put_block(out, block, *at)?;
     }
     Ok(())
 }

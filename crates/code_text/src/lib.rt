@@ -22,7 +22,7 @@
 //     Core      First byte ..., a line for each static object: a number, Low(object) or High(object)
 //               Body copy, root; its operations
 //     a byte    F(offset) of the own frame | Frame(copy, offset) | Static(object, offset) | Result(root, k) | Device(address)
-//     Plain     Block Start | Block Copy(number); its instructions, without selects, in the order of code
+//     Plain     Block Start | Copy(number), at(address); its instructions, without selects, in the order of code
 //     Selected  the same with selects
 //     Image     main(address), halt(address); a Word address, word for each word that isn't erased
 //
@@ -57,8 +57,8 @@ pub fn code_text(alloc: Global, front: &Front, built: &Built) -> Result<Vec<u8>,
     put_program(&mut out, &front.typed)?;
     put_placing(&mut out, front)?;
     put_core(&mut out, &codes.core)?;
-    put_symbolic(&mut out, "Plain", &codes.plain)?;
-    put_symbolic(&mut out, "Selected", &codes.selected)?;
+    put_symbolic(&mut out, "Plain", &codes.plain, &front.at)?;
+    put_symbolic(&mut out, "Selected", &codes.selected, &front.at)?;
     put_image(&mut out, built)?;
     Ok(out.text())
 }
