@@ -1,19 +1,21 @@
 -- From the levels under the roots to the copies of a program and its depth.
-use Rattle.std.proofs.Common.{◌≡◌, ℕ, ◌+◌, ◌-◌, ◌<◌, ◌≤◌, ◌⊎◌, inl, inr, List, [], Option, Some, None, length, get_or, map, replicate, refl, sym, ap, ◌∙◌, subst, arith}
+use Rattle.std.proofs.Common.{◌≡◌, ℕ, ◌+◌, ◌-◌, ◌^◌, ◌<◌, ◌≤◌, ◌⊎◌, inl, inr, List, [], Option, Some, None, length, get_or, map, replicate, refl, sym, ap, ◌∙◌, subst, arith}
 use Rattle.std.specs.Global.{Global}
 use Rattle.std.specs.List.{Contains}
 use Rattle.std.specs.Option.{MatchOption}
 use Rattle.std.specs.declared.vec.Vec.{Vec}
 use Rattle.std.proofs.lemmas.Bool.{cases_lt}
 use Rattle.std.proofs.lemmas.List.{get_or-append_right, get_or-map, length-append, length-map, length-replicate}
+use Rattle.c_typed.proofs.Facts.{few_functions}
 use Rattle.c_typed.specs.Chains.{graph_of, row_of, number_of, helper_number, Calls, IsLevel}
 use Rattle.c_typed.specs.Trees.{FunctionTree, Program}
-use Rattle.c_typed.specs.Views.{function_of}
+use Rattle.c_typed.specs.Views.{function_of, program_of}
 use Rattle.c_typed.specs.declared.calls.FnId.{FnId}
 use Rattle.c_typed.specs.declared.calls.FnId.TheVariants as callee
 use Rattle.c_typed.specs.declared.calls.Helper.{Helper}
 use Rattle.c_typed.specs.declared.calls.Helper.TheVariants.{Mul2, Mul4, Divu2, Divs2, Remu2, Rems2, Divu4, Divs4, Remu4, Rems4, Shl2, Shru2, Shrs2, Shl4, Shru4, Shrs4}
 use Rattle.c_typed.specs.declared.program.Function.{Function}
+use Rattle.c_typed.specs.declared.program.Typed.{Typed}
 use Rattle.call_graph.specs.Adding.{Adds, UnderRoot, UnderHandler, UnderRoots, Measures, MeasuresHandler}
 use Rattle.call_graph.specs.Copies.{IsOne, IsCopy, AreCopies, IsDepth, name_at, root_of}
 use Rattle.call_graph.specs.Levels.{HasLevel, IsFirstRecursive, IsLongest}
@@ -38,6 +40,14 @@ graph_size p =
 
 pub rows_size : (rows : List (Vec ℕ Global)) (p : Program) → rows_of rows ≡ graph_of p → length rows ≡ length p.functions + 16
 rows_size rows p is = sym (length-map rows (λ (v : Vec ℕ Global). v.items)) ∙ (ap length is ∙ graph_size p)
+
+-- A typed program's graph is short enough for numbers of 32 bits.
+pub few_rows : (p : Typed) (rows : List (Vec ℕ Global)) → rows_of rows ≡ graph_of (program_of p) → length rows < 2 ^ 32
+few_rows p rows is =
+    let size = rows_size rows (program_of p) is in
+    let count = length-map p.functions.items function_of in
+    let few = few_functions p in
+    omega (arith, size, count, few)
 
 pub named : (fs : List Function) (n : ℕ) (f : Function) → n < length fs → f ≡ get_or fs n f → get_or (map (λ (g : FunctionTree). g.name) (map function_of fs)) n [] ≡ f.name.items
 named fs n f lt is =

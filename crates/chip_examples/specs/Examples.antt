@@ -8,7 +8,7 @@ use Rattle.pic_chip.specs.Act.{perform, accesses}
 use Rattle.pic_chip.specs.Address.{Device, place, byte_at}
 use Rattle.pic_chip.specs.Instructions.{row}
 use Rattle.pic_chip.specs.Interrupts.{begun}
-use Rattle.pic_chip.specs.Text.{lines_of}
+use Rattle.text_lines.specs.Text.{lines_of}
 use Rattle.hex_image.specs.HexFile.{given_by, byte_at as given_at}
 
 -- power-on with W 90h, FSR A0h, no flag, and every general byte 0

@@ -1,6 +1,6 @@
 -- The digits of the library `hex` are those of our texts.
 use Rattle.std.proofs.Common.{◌≡◌, ℕ, ◌/◌, ◌%◌, List, [], ◌∷◌, refl, ap}
-use Rattle.pic_chip.specs.Text.{hex_digit, hex_pairs}
+use Rattle.text_lines.specs.Text.{hex_digit, hex_pairs}
 use Rattle.hex.specs.Hex.{encode_with, encode_upper}
 
 pub pairs_upper : (bytes : List ℕ) → encode_upper bytes ≡ hex_pairs bytes

@@ -6,11 +6,11 @@ use Rattle.std.proofs.Math.Seq.{take-append_seam}
 use Rattle.std.proofs.lemmas.Bool.{cases_lt, eq-eqb, eqb-true, and_parts}
 use Rattle.std.proofs.lemmas.List.Sums.{sum_by-append}
 use Rattle.pic_chip.specs.Words.{AreWords}
-use Rattle.pic_chip.specs.Text.{lines_of, split_lines, without_cr, hex_pairs, bytes_of}
+use Rattle.text_lines.specs.Text.{lines_of, split_lines, without_cr, hex_pairs, bytes_of}
 use Rattle.hex_image.specs.HexFile.{fields, fields_in, record_of, Given, from_address, in_front, with_record, given_by, times, byte_at, IsHexFile}
 use Rattle.hex_image.specs.HexText.{checksum, record_line, word_bytes, block, block_bytes, is_erased, block_text, blocks_text, hex_text}
-use Rattle.pic_chip.proofs.Digits.{AreBytes, pairs_back}
-use Rattle.pic_chip.proofs.Lines.{first_line, plain_pairs}
+use Rattle.text_lines.proofs.Digits.{AreBytes, pairs_back}
+use Rattle.text_lines.proofs.Lines.{first_line, plain_pairs}
 use Rattle.hex_image.proofs.Bytes.{times-append, byte-append, times_below, times_behind, times_once, byte_below, byte_behind, byte_there, length-word_bytes, low_byte, high_byte}
 use Rattle.hex_image.proofs.Written.{first_text, end_text, whole}
 

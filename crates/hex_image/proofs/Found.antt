@@ -2,7 +2,7 @@
 use Rattle.std.proofs.Common.{◌≡◌, ℕ, Option, Some, None, Result, Ok, Err, List, [], sym, ap, ◌∙◌, subst, arith}
 use Rattle.std.specs.Prelude.{IfOk, IfErr}
 use Rattle.std.proofs.lemmas.List.{ext_get_or}
-use Rattle.pic_chip.specs.Text.{lines_of}
+use Rattle.text_lines.specs.Text.{lines_of}
 use Rattle.hex_image.specs.HexFile.{Given, given_by, IsHexFile}
 use Rattle.pic_chip.specs.Words.{AreWords}
 use Rattle.hex_image.specs.HexText.{hex_text}

@@ -2,7 +2,7 @@
 use Rattle.std.proofs.Common.{◌≡◌, ℕ, ◌+◌, ◌-◌, ◌*◌, ◌<◌, ◌≤◌, Some, None, Result, Ok, Err, List, [], ◌∷◌, length, take, drop, slice_index, refl, sym, ap, ◌∙◌, subst, arith}
 use Rattle.std.specs.Prelude.{IsErrAnd}
 use Rattle.std.proofs.Math.Seq.{take-length}
-use Rattle.pic_chip.specs.Text.{lines_of, split_lines}
+use Rattle.text_lines.specs.Text.{lines_of, split_lines}
 use Rattle.hex_image.specs.HexFile.{Given}
 use Rattle.hex_image.specs.Reading.{Told, Data, line_bytes, record_of, told_in, placed, under, after_record, after_line, go_on, read_on}
 use Rattle.hex_image.specs.Answers.{Refuses, Gives}

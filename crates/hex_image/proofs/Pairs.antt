@@ -7,7 +7,7 @@ use Rattle.std.proofs.Math.Seq.{take-length}
 use Rattle.hex.specs.Hex.{hex_digit_value, digit_or_error, decode_pairs, decode_of, ◌>>=◌}
 use Rattle.hex.specs.declared.error.FromHexError.{FromHexError}
 use Rattle.hex.specs.declared.error.FromHexError.TheVariants.{OddLength, InvalidStringLength, InvalidHexCharacter, OutOfMemory}
-use Rattle.pic_chip.specs.Text.{digit_value, pair_onto, bytes_of}
+use Rattle.text_lines.specs.Text.{digit_value, pair_onto, bytes_of}
 use Rattle.hex_image.specs.Reading.{told, wrong_sum, record_of, pairs_in, line_bytes}
 use Rattle.hex_image.specs.declared.read.HexError.{HexError}
 use Rattle.hex_image.specs.declared.read.HexError.TheVariants.{BadRecord}

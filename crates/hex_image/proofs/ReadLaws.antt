@@ -3,7 +3,7 @@ use Rattle.std.proofs.Common.{◌≡◌, ℕ, zero, suc, ◌+◌, ◌*◌, ◌%�
 use Rattle.std.specs.Prelude.{if◌then◌else◌}
 use Rattle.std.specs.List.{sum}
 use Rattle.std.proofs.lemmas.Bool.{cases_eq, eq-eqb, ne_eqb, eqb-true, ltb-false, ltb-true}
-use Rattle.pic_chip.specs.Text.{bytes_of}
+use Rattle.text_lines.specs.Text.{bytes_of}
 use Rattle.hex_image.specs.HexFile.{HexRecord, has_kind, fields, fields_in, record_of, Given, from_address, in_front, with_record, given_by, times}
 use Rattle.hex_image.specs.Reading as reading
 use Rattle.hex_image.specs.Reading.{Told, Data, End, Upper, told, pairs_in, line_bytes, placed, Next, under, after_record, after_line, go_on, read_on}

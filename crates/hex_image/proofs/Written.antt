@@ -1,8 +1,8 @@
 -- The written text by its parts.
 use Rattle.std.proofs.Common.{◌≡◌, ℕ, ◌+◌, List, [], ◌∷◌, ◌++◌, refl, sym, ap, ◌∙◌, append_assoc, append-nil, add-one, codes}
-use Rattle.pic_chip.specs.Text.{hex_pairs}
+use Rattle.text_lines.specs.Text.{hex_pairs}
 use Rattle.hex_image.specs.HexText.{checksum, record_line, block, block_text, blocks_text, hex_text}
-use Rattle.pic_chip.proofs.Digits.{pairs_append}
+use Rattle.text_lines.proofs.Digits.{pairs_append}
 
 pub nothing_behind : (xs : List ℕ) → xs ≡ xs ++ []
 nothing_behind xs = sym (append-nil xs)

@@ -3,7 +3,7 @@
 -- byte at 2w + 1, as the programmers of the PIC16F877A write it.
 use Rattle.std.specs.Prelude.{◌≡◌, ℕ, ◌+◌, ◌*◌, ◌%◌, ◌<◌, ◌≤◌, ◌&&◌, ◌||◌, nat_eq, Bool, Option, Some, None, List, [], ◌∷◌, ◌++◌, if◌then◌else◌, slice_index, length, take}
 use Rattle.std.specs.List.{sum}
-use Rattle.pic_chip.specs.Text.{lines_of, bytes_of}
+use Rattle.text_lines.specs.Text.{lines_of, bytes_of}
 use Rattle.pic_chip.specs.Words.{AreWords}
 
 -- a record: its kind, its 16 bits of address, and its data

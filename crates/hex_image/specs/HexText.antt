@@ -1,7 +1,7 @@
 -- The one text that is written for an image.
 use Rattle.std.specs.Prelude.{ℕ, zero, suc, ◌+◌, ◌-◌, ◌*◌, ◌/◌, ◌%◌, nat_eq, Bool, List, [], ◌∷◌, ◌++◌, if◌then◌else◌, slice_index, codes}
 use Rattle.std.specs.List.{sum, list_all}
-use Rattle.pic_chip.specs.Text.{hex_pairs}
+use Rattle.text_lines.specs.Text.{hex_pairs}
 
 -- the byte that makes a record's sum 0 modulo 256
 abbrev pub checksum : List ℕ → ℕ

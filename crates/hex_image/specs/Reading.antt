@@ -2,7 +2,7 @@
 -- its kind, how many data bytes that kind has, and for each data byte in order its address.
 use Rattle.std.specs.Prelude.{ℕ, ◌+◌, ◌-◌, ◌*◌, ◌%◌, nat_eq, nat_lt, Option, Some, None, Result, Ok, Err, List, [], ◌∷◌, ◌++◌, if◌then◌else◌, slice_index, length, take}
 use Rattle.std.specs.List.{sum}
-use Rattle.pic_chip.specs.Text.{lines_of, bytes_of}
+use Rattle.text_lines.specs.Text.{lines_of, bytes_of}
 use Rattle.hex_image.specs.HexFile.{Given, times}
 use Rattle.hex_image.specs.HexText.{checksum}
 use Rattle.hex_image.specs.declared.read.HexError.{HexError}

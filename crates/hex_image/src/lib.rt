@@ -10,7 +10,7 @@ ghost use Rattle.std.specs.Prelude.{◌≡◌, ◌<◌, ◌↔◌, ◌++◌, ◌
 ghost use Rattle.hex_image.specs.HexFile.{IsHexFile};
 ghost use Rattle.hex_image.specs.Answers.{IsReadAs};
 ghost use Rattle.hex_image.specs.HexText as spec;
-ghost use Rattle.pic_chip.specs.Text.{hex_pairs};
+ghost use Rattle.text_lines.specs.Text.{hex_pairs};
 ghost use Rattle.pic_chip.specs.Words.{AreWords};
 
 mod given;

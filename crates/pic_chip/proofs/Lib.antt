@@ -1,7 +1,5 @@
 pub mod Words
 pub mod NameTables
-pub mod Digits
-pub mod Lines
 pub mod BitCases
 pub mod Devices
 pub mod Done

@@ -1,5 +1,6 @@
 pub mod Words
 pub mod State
+pub mod Roots
 pub mod Act
 pub mod Registers
 pub mod Address
@@ -9,7 +10,6 @@ pub mod Interrupts
 pub mod Arrivals
 pub mod World
 pub mod Run
-pub mod Text
 pub mod Named
 pub mod Truth
 pub mod Changes

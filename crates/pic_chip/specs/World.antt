@@ -8,6 +8,8 @@ use Rattle.pic_chip.specs.Interrupts.{arriving}
 use Rattle.pic_chip.specs.declared.Arrival.{Arrival}
 use Rattle.pic_chip.specs.declared.Cell.{Cell}
 use Rattle.pic_chip.specs.declared.Cell.TheVariants.{Device}
+use Rattle.pic_chip.specs.declared.Event.{Event}
+use Rattle.pic_chip.specs.declared.Event.TheVariants as events
 
 -- which flags arrive once the trace is so long, as a mask
 abbrev pub Schedule : Type 0
@@ -96,3 +98,9 @@ event_as f Ended = Ended
 
 unfoldable pub world_as : {A B : Type 0} → (A → B) → World A → World B
 world_as f w = record { control = w.control; inside = w.inside; taken = w.taken; trace = map (event_as f) w.trace }
+
+-- where bytes are numbers, an event is one of the chip's trace
+abbrev pub event_of : Happening ℕ → Event
+event_of (ReadOf cell v) = events.Read cell v
+event_of (WriteOf cell v) = events.Write cell v
+event_of Ended = events.End

@@ -1,7 +1,7 @@
 -- Where reading stops is the first bad line.
 use Rattle.std.proofs.Common.{◌≡◌, ℕ, ◌+◌, Option, Some, None, Result, Ok, Err, List, [], ◌∷◌, ◌++◌, length, refl, sym, ap, ◌∙◌, subst, arith}
 use Rattle.std.specs.Prelude.{codes}
-use Rattle.pic_chip.specs.Text.{lines_of, bytes_of}
+use Rattle.text_lines.specs.Text.{lines_of, bytes_of}
 use Rattle.text_lines.specs.Front.{after}
 use Rattle.pic_map.specs.declared.Map.{Map}
 use Rattle.pic_map.specs.declared.read.MapError.{MapError}

@@ -9,7 +9,7 @@ use Rattle.std.proofs.lemmas.List.{take-append-drop, take_at, drop_at, length-ta
 use Rattle.std.proofs.lemmas.List.Sums.{AllPass-from_list_all, list_all-from_AllPass}
 use Rattle.std.proofs.lemmas.Option.{cond_some}
 use Rattle.std.proofs.lemmas.Slice.Eq.{bytes_eq-Decides}
-use Rattle.pic_chip.specs.Text.{digit_value, bytes_of, pair_onto}
+use Rattle.text_lines.specs.Text.{digit_value, bytes_of, pair_onto}
 use Rattle.text_lines.specs.Front.{after}
 use Rattle.text_lines.proofs.Words.{after_is, after_again}
 use Rattle.pic_map.specs.Decimal.{number_text}

@@ -4,7 +4,7 @@ use Rattle.std.specs.Prelude.{codes, if◌then◌else◌}
 use Rattle.std.specs.Option.{option_map}
 use Rattle.std.specs.Cmp.Lexicographic.{pointwise}
 use Rattle.std.proofs.lemmas.Slice.Eq.{bytes_eq-Decides}
-use Rattle.pic_chip.specs.Text.{lines_of}
+use Rattle.text_lines.specs.Text.{lines_of}
 use Rattle.pic_chip.specs.declared.Root.{Root}
 use Rattle.pic_chip.specs.declared.Root.TheVariants.{Main, Isr}
 use Rattle.text_lines.specs.Front.{after}

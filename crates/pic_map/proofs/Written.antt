@@ -6,9 +6,9 @@ use Rattle.std.proofs.lemmas.Bool.{ne_eqb, lt-ltb, le-ltb, cases_lt, and_parts}
 use Rattle.std.proofs.lemmas.List.Sums.{list_all-from_AllPass}
 use Rattle.pic_chip.specs.declared.Root.{Root}
 use Rattle.pic_chip.specs.declared.Root.TheVariants.{Main, Isr}
-use Rattle.pic_chip.specs.Text.{hex_pairs, lines_of, split_lines, without_cr}
-use Rattle.pic_chip.proofs.Lines.{is_plain, first_line, plain_pairs}
-use Rattle.pic_chip.proofs.Digits.{pairs_back}
+use Rattle.text_lines.specs.Text.{hex_pairs, lines_of, split_lines, without_cr}
+use Rattle.text_lines.proofs.Lines.{is_plain, first_line, plain_pairs}
+use Rattle.text_lines.proofs.Digits.{pairs_back}
 use Rattle.std.specs.Fmt.{decimal}
 use Rattle.pic_map.specs.Decimal.{number_text}
 use Rattle.pic_map.specs.MapContent.{ObjectLine, FrameLine, MapContent}

@@ -1,6 +1,6 @@
 -- What a reader's answer says of a reading.
 use Rattle.std.specs.Prelude.{◌≡◌, ℕ, List, Result, Ok, Err}
-use Rattle.pic_chip.specs.Text.{lines_of}
+use Rattle.text_lines.specs.Text.{lines_of}
 use Rattle.pic_map.specs.declared.read.Stage.TheVariants.{Heading}
 use Rattle.pic_map.specs.Reading.{read_on, nothing}
 use Rattle.pic_map.specs.declared.Map.{Map}

@@ -2,7 +2,7 @@
 use Rattle.std.specs.Prelude.{ℕ, ◌<◌, IsTrue, is_some, Option, Some, None, List, [], ◌∷◌, ◌++◌, codes, length, decimal}
 use Rattle.std.specs.List.{slice_get}
 use Rattle.pic_chip.specs.Registers.{name_at}
-use Rattle.pic_chip.specs.Text.{hex_pairs}
+use Rattle.text_lines.specs.Text.{hex_pairs}
 use Rattle.pic_chip.specs.declared.Cell.{Cell}
 use Rattle.pic_chip.specs.declared.Cell.TheVariants.{Device, Static}
 use Rattle.pic_chip.specs.declared.Event.{Event}

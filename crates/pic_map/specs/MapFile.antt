@@ -1,7 +1,7 @@
 -- Which texts are map files, and of which content. This format is the project's own.
 use Rattle.std.specs.Prelude.{◌≡◌, ◌≢◌, ℕ, ◌+◌, ◌/◌, ◌%◌, ◌<◌, ◌≤◌, ◌&&◌, ◌||◌, Bool, true, false, nat_eq, nat_le, Option, Some, None, List, [], ◌∷◌, ◌++◌, length, codes}
 use Rattle.std.specs.List.{AllPass}
-use Rattle.pic_chip.specs.Text.{lines_of, bytes_of}
+use Rattle.text_lines.specs.Text.{lines_of, bytes_of}
 use Rattle.pic_chip.specs.declared.Root.{Root}
 use Rattle.pic_chip.specs.declared.Root.TheVariants.{Main, Isr}
 use Rattle.pic_map.specs.MapContent.{ObjectLine, FrameLine, MapContent}

@@ -1,6 +1,6 @@
 -- The one text that is written for a map: digits in upper case, and each line ends at LF.
 use Rattle.std.specs.Prelude.{ℕ, ◌/◌, ◌%◌, ◌<◌, ◌≤◌, List, [], ◌∷◌, ◌++◌, codes}
-use Rattle.pic_chip.specs.Text.{hex_pairs}
+use Rattle.text_lines.specs.Text.{hex_pairs}
 use Rattle.pic_map.specs.Decimal.{number_text}
 use Rattle.pic_map.specs.MapContent.{ObjectLine, FrameLine, MapContent}
 use Rattle.pic_map.specs.MapFile.{IsName, object_word, root_word}

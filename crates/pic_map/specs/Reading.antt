@@ -4,7 +4,7 @@ use Rattle.std.specs.Option.{option_map, option_and_then}
 use Rattle.std.specs.Cmp.Lexicographic.{pointwise}
 use Rattle.pic_chip.specs.declared.Root.{Root}
 use Rattle.pic_chip.specs.declared.Root.TheVariants.{Main, Isr}
-use Rattle.pic_chip.specs.Text.{bytes_of}
+use Rattle.text_lines.specs.Text.{bytes_of}
 use Rattle.text_lines.specs.Front.{after}
 use Rattle.pic_map.specs.MapContent.{ObjectLine, FrameLine, MapContent}
 use Rattle.pic_map.specs.MapFile.{is_name_byte}

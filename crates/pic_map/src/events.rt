@@ -3,7 +3,7 @@
 ghost use Rattle.std.specs.Prelude.{◌≡◌, ◌<◌, ◌++◌, ◌∷◌, [], IfOk, OnOk, codes, decimal};
 ghost use Rattle.std.specs.List.{slice_get};
 ghost use Rattle.pic_chip.specs.Registers.{name_at};
-ghost use Rattle.pic_chip.specs.Text.{hex_pairs};
+ghost use Rattle.text_lines.specs.Text.{hex_pairs};
 ghost use Rattle.pic_map.specs.EventText.{event_text, access_text, cell_text, name_or_none, object_name, CanBeShown};
 ghost use Rattle.pic_map.specs.MapText.{line as line_of};
 ghost use Rattle.pic_map.specs.MapView.{content_of};
@@ -76,7 +76,7 @@ fn push_byte(text: &mut Vec<u8>, map: &Map, object: u16, offset: u16) -> Result<
 }
 
 /// A space, two digits and LF.
-#[tactic(auto, unfolding(pic_chip::specs::Text::hex_pairs))]
+#[tactic(auto, unfolding(text_lines::specs::Text::hex_pairs))]
 fn push_value(text: &mut Vec<u8>, value: u8) -> Result<(), AllocError>
     ensures { OnOk result (text.new.items ≡ text.old.items ++ line_of (codes " " ++ hex_pairs (value ∷ []))) }
 {

@@ -7,7 +7,7 @@ ghost use Rattle.pic_map.specs.MapFile.{IsMapFile, is_name_byte};
 ghost use Rattle.pic_map.specs.Answers.{GivesMap, TellsBadLine, reading_of};
 ghost use Rattle.pic_map.specs.MapContent.{MapContent};
 ghost use Rattle.pic_map.specs.MapText.{AreInRange};
-ghost use Rattle.pic_chip.specs.Text.{lines_of, digit_value as value_of, bytes_of, without_cr};
+ghost use Rattle.text_lines.specs.Text.{lines_of, digit_value as value_of, bytes_of, without_cr};
 
 use crate::{FrameLine, Map, ObjLine};
 use pic_chip::Root;
@@ -290,7 +290,7 @@ fn place(tail: &[u8]) -> Option<(u16, u16)>
 }
 
 /// The number of four hexadecimal digits of either case, below a limit.
-#[tactic(auto, unfolding(pic_chip::specs::Text::bytes_of))]
+#[tactic(auto, unfolding(text_lines::specs::Text::bytes_of))]
 fn address(limit: u16, a: u8, b: u8, c: u8, d: u8) -> Option<u16>
     ensures { result ≡ reading.address_of limit (a ∷ b ∷ c ∷ d ∷ []) }
 {

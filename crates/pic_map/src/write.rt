@@ -3,7 +3,7 @@ ghost use Rattle.std.specs.Prelude.{◌≡◌, ◌<◌, ◌≤◌, ◌++◌, ◌
 ghost use Rattle.pic_map.specs.MapView.{content_of, object_of, frame_of};
 ghost use Rattle.pic_map.specs.MapText as spec;
 ghost use Rattle.pic_map.specs.MapFile.{IsMapFile, object_word, root_word};
-ghost use Rattle.pic_chip.specs.Text.{hex_digit as digit_of};
+ghost use Rattle.text_lines.specs.Text.{hex_digit as digit_of};
 
 use crate::{FrameLine, Map, ObjLine};
 use itoa::Buffer;
@@ -108,7 +108,7 @@ fn push_place(text: &mut Vec<u8>, address: u16, size: u16) -> Result<(), AllocEr
 }
 
 /// Four hexadecimal digits.
-#[tactic(auto, unfolding(pic_chip::specs::Text::hex_pairs))]
+#[tactic(auto, unfolding(text_lines::specs::Text::hex_pairs))]
 fn push_address(text: &mut Vec<u8>, address: u16) -> Result<(), AllocError>
     ensures { OnOk result (text.new.items ≡ text.old.items ++ spec.address_text address) }
 {

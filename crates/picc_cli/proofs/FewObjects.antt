@@ -2,7 +2,7 @@
 use Rattle.std.proofs.Common.{◌≡◌, ℕ, suc, ◌+◌, ◌*◌, ◌≤◌, Bool, true, false, List, [], ◌∷◌, ◌++◌, length, map, codes, nat_eq, ap, arith}
 use Rattle.std.proofs.lemmas.List.{length-append}
 use Rattle.std.specs.Prelude.{if◌then◌else◌}
-use Rattle.pic_chip.specs.Text.{split_lines, without_cr, onto_first}
+use Rattle.text_lines.specs.Text.{split_lines, without_cr, onto_first}
 use Rattle.pic_map.specs.MapContent.{ObjectLine, MapContent}
 use Rattle.pic_map.specs.MapFile.{object_word, AreObjectLines, IsMapFile}
 

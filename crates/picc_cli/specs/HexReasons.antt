@@ -2,7 +2,7 @@
 use Rattle.std.specs.Prelude.{ℕ, ◌/◌, ◌%◌, List, [], ◌∷◌, ◌++◌, codes}
 use Rattle.hex_image.specs.declared.read.HexError.{HexError}
 use Rattle.hex_image.specs.declared.read.HexError.TheVariants.{NoMemory, BadRecord, Checksum, UnknownType, Outside, Twice, NoEnd}
-use Rattle.pic_chip.specs.Text.{hex_pairs}
+use Rattle.text_lines.specs.Text.{hex_pairs}
 
 -- two upper case digits
 abbrev pub byte_text : ℕ → List ℕ

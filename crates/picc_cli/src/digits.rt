@@ -1,6 +1,6 @@
 // Hexadecimal numbers in printed lines, in upper case.
 ghost use Rattle.std.specs.Prelude.{◌≡◌, ◌++◌, ◌<◌, OnOk};
-ghost use Rattle.pic_chip.specs.Text.{hex_digit as digit_of};
+ghost use Rattle.text_lines.specs.Text.{hex_digit as digit_of};
 ghost use Rattle.picc_cli.specs.HexReasons.{byte_text, word_text};
 
 use std::alloc::AllocError;
@@ -16,7 +16,7 @@ fn hex_digit(value: u8) -> u8
 }
 
 /// Appends a byte in two digits.
-#[tactic(auto, unfolding(pic_chip::specs::Text::hex_pairs))]
+#[tactic(auto, unfolding(text_lines::specs::Text::hex_pairs))]
 pub fn push_byte(text: &mut Vec<u8>, byte: u8) -> Result<(), AllocError>
     ensures { OnOk result (text.new.items ≡ text.old.items ++ byte_text byte) }
 {
@@ -24,7 +24,7 @@ pub fn push_byte(text: &mut Vec<u8>, byte: u8) -> Result<(), AllocError>
 }
 
 /// Appends a number of 16 bits in four digits.
-#[tactic(auto, unfolding(pic_chip::specs::Text::hex_pairs))]
+#[tactic(auto, unfolding(text_lines::specs::Text::hex_pairs))]
 pub fn push_word(text: &mut Vec<u8>, word: u16) -> Result<(), AllocError>
     ensures { OnOk result (text.new.items ≡ text.old.items ++ word_text word) }
 {

@@ -1,7 +1,7 @@
 -- What the reader's answer says of the text.
 use Rattle.std.proofs.Common.{ℕ, Result, Ok, Err, List, sym, ◌∙◌}
 use Rattle.std.specs.Result.{IfOk}
-use Rattle.pic_chip.specs.Text.{lines_of}
+use Rattle.text_lines.specs.Text.{lines_of}
 use Rattle.pic_chip.specs.declared.script.Script.{Script}
 use Rattle.schedule.specs.declared.read.ScriptError.{ScriptError}
 use Rattle.schedule.specs.declared.read.ScriptError.TheVariants.{NoMemory, BadLine}

@@ -1,7 +1,7 @@
 -- What a reader's answer says of a reading.
 use Rattle.std.specs.Prelude.{◌≡◌, ℕ, ◌++◌, Bool, true, false, Option, Some, None, List, Result, Ok, Err}
 use Rattle.std.specs.Option.{option_map}
-use Rattle.pic_chip.specs.Text.{lines_of}
+use Rattle.text_lines.specs.Text.{lines_of}
 use Rattle.pic_chip.specs.declared.script.Script.{Script}
 use Rattle.schedule.specs.Reading.{read_on, nothing}
 use Rattle.schedule.specs.ScriptFile.{ScriptContent, content_of, IsFirstBadLine}

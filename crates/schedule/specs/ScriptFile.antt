@@ -1,7 +1,7 @@
 -- Which texts are script files, and of which content. This format is the project's own.
 use Rattle.std.specs.Prelude.{◌≡◌, ℕ, ◌+◌, ◌-◌, ◌*◌, ◌<◌, ◌≤◌, ◌^◌, ◌&&◌, Bool, nat_le, Option, Some, None, List, [], ◌∷◌, ◌++◌, length, codes}
 use Rattle.std.specs.List.{AllPass}
-use Rattle.pic_chip.specs.Text.{lines_of, digit_value}
+use Rattle.text_lines.specs.Text.{lines_of, digit_value}
 use Rattle.pic_chip.specs.declared.Arrival.{Arrival}
 use Rattle.pic_chip.specs.declared.Flag.{Flag}
 use Rattle.pic_chip.specs.declared.Flag.TheVariants.{Rbif, Intf, Tmr0if}

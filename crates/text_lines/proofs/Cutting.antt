@@ -3,7 +3,7 @@ use Rattle.std.proofs.Common.{◌≡◌, ℕ, suc, ◌+◌, ◌-◌, ◌<◌, �
 use Rattle.std.specs.Prelude.{if◌then◌else◌}
 use Rattle.std.specs.Cmp.Lexicographic.{pointwise}
 use Rattle.std.proofs.Math.Seq.{take-length}
-use Rattle.pic_chip.specs.Text.{lines_of, split_lines, without_cr, onto_first}
+use Rattle.text_lines.specs.Text.{lines_of, split_lines, without_cr, onto_first}
 use Rattle.text_lines.specs.Front.{line_length}
 
 split_first : (c : ℕ) (text : List ℕ) → split_lines (c ∷ text) ≡ take (line_length (c ∷ text)) (c ∷ text) ∷ split_lines (drop 1 (drop (line_length (c ∷ text)) (c ∷ text)))

@@ -1,2 +1,4 @@
 pub mod Cutting
 pub mod Words
+pub mod Lines
+pub mod Digits

@@ -5,7 +5,7 @@
 #![tactic(auto)]
 
 ghost use Rattle.std.specs.Prelude.{◌≡◌, ◌<◌, ◌≤◌, ◌+◌, ◌∷◌, [], length, IfSome, IfNone};
-ghost use Rattle.pic_chip.specs.Text.{lines_of, digit_value as value_of, without_cr};
+ghost use Rattle.text_lines.specs.Text.{lines_of, digit_value as value_of, without_cr};
 ghost use Rattle.text_lines.specs.Front.{line_length};
 
 /// The first line, without its end, and what stands behind it. A line ends at LF or at the end of the

@@ -1,7 +1,7 @@
 use Rattle.std.proofs.Common.{refl, [], ◌∷◌, arith}
 use Rattle.std.specs.Prelude.{codes}
 use Rattle.std.proofs.lemmas.List.Sums.{AllPass-from_list_all}
-use Rattle.pic_chip.specs.Text.{split_lines, without_cr, bytes_of}
+use Rattle.text_lines.specs.Text.{split_lines, without_cr, bytes_of}
 use Rattle.pic_map.specs.MapFile.{is_name_byte}
 use Rattle.pic_map.proofs.worked_example.Goals as goal
 

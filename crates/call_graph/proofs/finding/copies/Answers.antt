@@ -2,8 +2,11 @@ use Rattle.std.proofs.Common.{ap, ◌∙◌}
 use Rattle.c_typed.specs.Views.{program_of}
 use Rattle.call_graph.specs.Levels.{IsAcyclic, IsFirstRecursive}
 use Rattle.call_graph.specs.Rows.{rows_of}
-use Rattle.call_graph.proofs.Results.{at_none, at_some, recursion_told}
+use Rattle.call_graph.proofs.Results.{at_none, at_some, few_rows, recursion_told}
 use Rattle.call_graph.proofs.finding.copies.Goals as goal
+
+pub recursive-requires : goal.recursive-requires
+recursive-requires c = few_rows c.args.p.now c.as_slice-graph.result.now (ap rows_of c.as_slice-graph.ensures.value ∙ c.in_ok-rows.ensures)
 
 pub copies_under-requires-clause-acyclic : goal.copies_under-requires-clause-acyclic
 copies_under-requires-clause-acyclic c = at_none c.in_ok-number.field-0 (IsAcyclic (rows_of c.as_slice-graph.result.now)) (λ number. IsFirstRecursive (rows_of c.as_slice-graph.result.now) number) c.in_ok-number.ensures c.in-None.is

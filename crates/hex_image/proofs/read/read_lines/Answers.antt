@@ -1,5 +1,5 @@
 use Rattle.std.proofs.Common.{Ok, ◌∙◌, ◌+◌, ap, sym, arith}
-use Rattle.pic_chip.specs.Text.{lines_of}
+use Rattle.text_lines.specs.Text.{lines_of}
 use Rattle.hex_image.proofs.Leading.{passed, step_on, step_ends, step_refused, no_end}
 use Rattle.hex_image.proofs.read.read_lines.Goals as goal
 

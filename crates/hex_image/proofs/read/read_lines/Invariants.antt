@@ -1,5 +1,5 @@
 use Rattle.std.proofs.Common.{◌≡◌, ◌≤◌, ◌+◌, length}
-use Rattle.pic_chip.specs.Text.{lines_of}
+use Rattle.text_lines.specs.Text.{lines_of}
 use Rattle.hex_image.specs.Reading.{read_on, reading_of}
 use Rattle.hex_image.proofs.read.read_lines.Given as goal
 

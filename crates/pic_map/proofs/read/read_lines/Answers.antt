@@ -1,6 +1,6 @@
 use Rattle.std.proofs.Common.{◌≡◌, ◌∙◌, sym, ap, arith, []}
 use Rattle.std.specs.Option.{option_map}
-use Rattle.pic_chip.specs.Text.{lines_of, split_lines}
+use Rattle.text_lines.specs.Text.{lines_of, split_lines}
 use Rattle.pic_map.specs.MapView.{content_of}
 use Rattle.pic_map.specs.declared.read.Stage.TheVariants.{Ended}
 use Rattle.pic_map.specs.Reading.{read_on}

@@ -1,5 +1,5 @@
 use Rattle.std.proofs.Common.{◌≡◌, ◌≤◌, ◌+◌, length}
-use Rattle.pic_chip.specs.Text.{lines_of}
+use Rattle.text_lines.specs.Text.{lines_of}
 use Rattle.pic_map.specs.MapView.{content_of}
 use Rattle.pic_map.specs.Answers.{reading_of}
 use Rattle.pic_map.specs.Reading.{read_on}

@@ -1,5 +1,5 @@
 use Rattle.std.proofs.Common.{sym, subst}
-use Rattle.pic_chip.specs.Text.{hex_pairs}
+use Rattle.text_lines.specs.Text.{hex_pairs}
 use Rattle.pic_map.specs.MapFile.{IsMapFile}
 use Rattle.pic_map.specs.MapView.{content_of}
 use Rattle.pic_map.proofs.Written.{whole, is_file}

@@ -1,5 +1,5 @@
 use Rattle.std.proofs.Common.{◌≡◌, ◌+◌, ◌∙◌, sym, ap, []}
-use Rattle.pic_chip.specs.Text.{lines_of, split_lines}
+use Rattle.text_lines.specs.Text.{lines_of, split_lines}
 use Rattle.schedule.specs.Reading.{after_line, read_on}
 use Rattle.schedule.specs.ScriptFile.{content_of}
 use Rattle.schedule.proofs.Going.{step_bad, not_good, at_the_end}

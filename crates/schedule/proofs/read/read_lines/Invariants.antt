@@ -1,5 +1,5 @@
 use Rattle.std.proofs.Common.{◌≡◌, ◌≤◌, ◌+◌, length}
-use Rattle.pic_chip.specs.Text.{lines_of}
+use Rattle.text_lines.specs.Text.{lines_of}
 use Rattle.schedule.specs.Answers.{reading_of}
 use Rattle.schedule.specs.Reading.{read_on}
 use Rattle.schedule.specs.ScriptFile.{content_of}

@@ -2,7 +2,7 @@
 use Rattle.std.proofs.Common.{◌≡◌, ℕ, zero, suc, ◌/◌, ◌%◌, Bool, true, false, ◌&&◌, not, List, [], ◌∷◌, ◌++◌, map, refl, sym, ap, ◌∙◌, slice_index, nat_eq, codes}
 use Rattle.std.proofs.lemmas.Bool.{and_parts}
 use Rattle.std.specs.List.{list_all}
-use Rattle.pic_chip.specs.Text.{hex_digit, hex_pairs, split_lines, without_cr, lines_of, onto_first}
+use Rattle.text_lines.specs.Text.{hex_digit, hex_pairs, split_lines, without_cr, lines_of, onto_first}
 
 -- a character that ends no line
 abbrev pub is_plain : ℕ → Bool

@@ -1,7 +1,7 @@
 -- Digits: what is written as pairs reads back.
 use Rattle.std.proofs.Common.{◌≡◌, ℕ, ◌+◌, ◌*◌, ◌/◌, ◌%◌, ◌<◌, true, Option, Some, None, unwrap_or, List, [], ◌∷◌, ◌++◌, refl, ap, arith, nat_eq}
 use Rattle.std.proofs.lemmas.Bool.{agree_below_at, eqb-true}
-use Rattle.pic_chip.specs.Text.{hex_digit, hex_pairs, digit_value, bytes_of}
+use Rattle.text_lines.specs.Text.{hex_digit, hex_pairs, digit_value, bytes_of}
 
 pub pairs_append : (xs ys : List ℕ) → hex_pairs (xs ++ ys) ≡ hex_pairs xs ++ hex_pairs ys
 unfolding hex_pairs
