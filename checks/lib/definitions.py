@@ -9,7 +9,7 @@ import subprocess
 import sys
 import tempfile
 from collections import Counter
-from multiprocessing import Pool
+from concurrent.futures import ProcessPoolExecutor
 
 from code_text import Shown
 from machines import FLAGS, Chip, Core, Source, Symbolic, layout_of
@@ -251,8 +251,8 @@ def jobs(show, picc, count, seed, files):
 def results(processes, work):
     """What each job gives, in order. Without processes of their own, what was never reached is told at the end."""
     if processes > 0:
-        with Pool(processes) as pool:
-            yield from pool.imap(one, work, 4)
+        with ProcessPoolExecutor(processes) as pool:
+            yield from pool.map(one, work, chunksize=4)
         return
     yield from map(one, work)
     for name, counts in sorted(REACHED.items()):

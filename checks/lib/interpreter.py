@@ -501,7 +501,7 @@ def standard(name):
     key = 'std_' + name.replace('ℤ', 'Z')
     if key not in SCOPE:
         count, body = STANDARD[name]
-        SCOPE[key], SCOPE[key + '_body'], COUNTS[key] = Function(count, body), body, count
+        SCOPE[key], SCOPE[key + '__body'], COUNTS[key] = Function(count, body), body, count
     return key
 
 
@@ -524,13 +524,13 @@ def translated(there, name):
 
 
 def finish(crate, name, key):
-    count, body = COUNTS[key], SCOPE[key + '_body']
+    count, body = COUNTS[key], SCOPE[key + '__body']
     if name in KEPT and count > 0:
-        body = SCOPE[key + '_body'] = with_answers_kept(body)
+        body = SCOPE[key + '__body'] = with_answers_kept(body)
     SCOPE[key] = Function(count, body) if count > 0 else body()
     if (crate, name) in WRITES:
-        SCOPE[key + '_write'] = lambda m, *rest: m.written(*rest) if isinstance(m, Memory) else Function(count, body, (m,) + rest)
-        COUNTS[key + '_write'] = WRITES[crate, name]
+        SCOPE[key + '__write'] = lambda m, *rest: m.written(*rest) if isinstance(m, Memory) else Function(count, body, (m,) + rest)
+        COUNTS[key + '__write'] = WRITES[crate, name]
 
 
 def with_answers_kept(function):
@@ -553,8 +553,8 @@ def python_of(there, key, clauses):
     """The source of the Python function that a definition becomes."""
     count = COUNTS[key]
     arguments = ['a%d' % i for i in range(count)]
-    lines = ['def %s_body(%s):' % (key, ', '.join(arguments))]
-    SCOPE[key + '_reached'] = REACHED[key] = [0] * len(clauses)
+    lines = ['def %s__body(%s):' % (key, ', '.join(arguments))]
+    SCOPE[key + '__reached'] = REACHED[key] = [0] * len(clauses)
     for number, (patterns, expression) in enumerate(clauses):
         if len(patterns) != count:
             raise SyntaxError('the clauses of %s have several numbers of patterns' % key)
@@ -565,7 +565,7 @@ def python_of(there, key, clauses):
         if tests:
             lines.append('    if %s:' % ' and '.join(tests))
             pad = '        '
-        lines.append('%s%s_reached[%d] += 1' % (pad, key, number))
+        lines.append('%s%s__reached[%d] += 1' % (pad, key, number))
         lines += ['%s%s = %s' % (pad, local(name), value) for name, value in names]
         lines.append('%sreturn %s' % (pad, python(expression, there, {name for name, _ in names})))
     return '\n'.join(lines + ['    no_clause(%r)' % key])
@@ -682,10 +682,10 @@ def python_name(there, scope, name):
 def python_application(there, scope, function, arguments):
     f, xs = python(function, there, scope), [python(x, there, scope) for x in arguments]
     made = ', '.join(xs)
-    if COUNTS.get(f + '_write') == len(xs):
-        return '%s_write(%s)' % (f, made)
+    if COUNTS.get(f + '__write') == len(xs):
+        return '%s__write(%s)' % (f, made)
     if COUNTS.get(f) == len(xs):
-        return '%s_body(%s)' % (f, made)
+        return '%s__body(%s)' % (f, made)
     if f.startswith('new_') and SCOPE[f].count == len(xs):
         return '(%r, %s)' % (f[4:].rpartition('_')[0], made)
     return 'applied(%s, %s)' % (f, made)

@@ -37,8 +37,8 @@ class Machine:
         """Memory as a table, where a step made it of a function."""
         m = self.state.memory
         if not isinstance(m, Memory):
-            table = {k: m(*k) for k in self.keys} if self.first.n == 2 else {k: m(k) for k in self.keys}
-            self.state = self.state.updated(memory=Memory(self.first.n, table, self.first))
+            table = {k: m(*k) for k in self.keys} if self.first.count == 2 else {k: m(k) for k in self.keys}
+            self.state = self.state.updated(memory=Memory(self.first.count, table, self.first))
 
 
 def function_memory(n, m):
