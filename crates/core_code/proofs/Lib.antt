@@ -1,3 +1,2 @@
 pub mod Views
 mod Examples
-pub mod Worlds

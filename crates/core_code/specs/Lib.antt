@@ -1,10 +1,9 @@
 pub mod Tree
 pub mod View
-pub mod World
 pub mod Bytes
 pub mod Values
+pub mod Operands
 pub mod Machine
-pub mod Programs
+pub mod FirstBytes
 pub mod Cost
-pub mod Correct
-pub mod Framed
+pub mod Runs

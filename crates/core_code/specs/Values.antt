@@ -11,7 +11,7 @@ use Rattle.c_ints.specs.declared.operators.UnOp.{UnOp}
 use Rattle.c_ints.specs.declared.operators.UnOp.TheVariants.{Bang}
 use Rattle.c_ints.specs.declared.types.IntTy.{IntTy}
 use Rattle.c_ints.specs.declared.types.IntTy.TheVariants.{Int, UInt, UChar}
-use Rattle.core_code.specs.Bytes.{Object, Fixed, FrameOf, Held, Place, Memory, same_object, behind, is_private}
+use Rattle.core_code.specs.Bytes.{Object, Fixed, FrameOf, Held, Place, Memory, same_object, behind}
 use Rattle.core_code.specs.Bytes as bytes
 use Rattle.core_code.specs.declared.code.Byte.{Byte}
 
@@ -45,7 +45,7 @@ joined (bytes.Part a f false) (bytes.Part b g true) = if same_object a b && nat_
 joined _ _ = None
 
 unfoldable pub pointer_in : Memory → Byte → Option Place
-pointer_in m byte = if is_private byte then joined (m byte) (m (behind byte 1)) else None
+pointer_in m byte = joined (m byte) (m (behind byte 1))
 
 abbrev pub or_number : Option Place → Option Value → Option Value
 or_number (Some x) number = Some (Pointer x)
@@ -54,11 +54,9 @@ or_number None number = number
 abbrev pub pointer_if : Bool → Memory → Byte → Option Place
 pointer_if two m byte = if two then pointer_in m byte else None
 
--- The value of a type in the bytes from this one on. Operands lie in frames and results.
+-- the value of a type in the bytes from this one on
 unfoldable pub value_in : IntTy → Memory → Byte → Option Value
-value_in ty m byte =
-    if is_private byte then or_number (pointer_if (nat_eq (bytes_of ty) 2) m byte) (option_map (λ n. Number (cut_to ty (pos n))) (number_in m byte (bytes_of ty)))
-    else None
+value_in ty m byte = or_number (pointer_if (nat_eq (bytes_of ty) 2) m byte) (option_map (λ n. Number (cut_to ty (pos n))) (number_in m byte (bytes_of ty)))
 
 -- Whether one of so many bytes isn't 0. A pointer to an object is never null.
 abbrev pub truth_of : Option Place → Option ℕ → Option Bool
@@ -66,7 +64,7 @@ truth_of (Some x) number = Some true
 truth_of None number = option_map (λ n. not (nat_eq n 0)) number
 
 unfoldable pub truth_in : Memory → Byte → ℕ → Option Bool
-truth_in m byte size = if is_private byte then truth_of (pointer_if (nat_eq size 2) m byte) (number_in m byte size) else None
+truth_in m byte size = truth_of (pointer_if (nat_eq size 2) m byte) (number_in m byte size)
 
 abbrev pub truth_value : Bool → Value
 truth_value holds = Number (cut_to Int (truth holds))

@@ -1,5 +1,5 @@
 -- Operations on the bytes of a value, one for each byte.
-use Rattle.std.specs.Prelude.{ℕ, zero, suc, ◌≡◌, List, [], ◌∷◌, ◌++◌, min}
+use Rattle.std.specs.Prelude.{ℕ, zero, suc, ◌≡◌, Bool, if◌then◌else◌, List, [], ◌∷◌, ◌++◌, min}
 use Rattle.c_ints.specs.declared.operators.BinOp.{BinOp}
 use Rattle.c_ints.specs.declared.types.IntTy.{IntTy}
 use Rattle.core_code.specs.Tree as code
@@ -17,6 +17,9 @@ Appends old new code = trees_in new ≡ trees_in old ++ code
 unfoldable pub copies : Byte → Byte → ℕ → List Tree
 copies to from zero = []
 copies to from (suc k) = copies to from k ++ code.Copy (behind to k) (behind from k) ∷ []
+
+abbrev pub copies_if : Bool → Byte → Byte → ℕ → List Tree
+copies_if wanted to from count = if wanted then copies to from count else []
 
 -- So many bytes become those of a number.
 unfoldable pub sets : Byte → ℕ → ℕ → List Tree

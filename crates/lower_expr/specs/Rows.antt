@@ -1,5 +1,5 @@
 -- The code of each kind of node, from that of its parts, whose values stand at their places.
-use Rattle.std.specs.Prelude.{ℕ, zero, suc, ◌/◌, ◌%◌, nat_eq, nat_lt, Bool, true, false, if◌then◌else◌, List, [], ◌∷◌, ◌++◌, Option, Some, None}
+use Rattle.std.specs.Prelude.{ℕ, zero, suc, ◌/◌, ◌%◌, nat_eq, nat_lt, Bool, true, false, ◌&&◌, if◌then◌else◌, List, [], ◌∷◌, ◌++◌, Option, Some, None}
 use Rattle.c_ints.specs.declared.operators.BinOp.{BinOp}
 use Rattle.c_ints.specs.declared.operators.BinOp.TheVariants as binop
 use Rattle.c_ints.specs.declared.operators.UnOp.{UnOp}
@@ -18,8 +18,11 @@ use Rattle.core_code.specs.Tree.{Tree, many}
 use Rattle.core_code.specs.declared.code.Byte.{Byte}
 use Rattle.core_code.specs.declared.code.Byte.TheVariants.{Frame, Result}
 use Rattle.lower_expr.specs.Bytes.{behind, beyond, is_wider, number_type, operation_type}
-use Rattle.lower_expr.specs.Puts.{copies, sets, operator, choice}
+use Rattle.lower_expr.specs.Puts.{copies, copies_if, sets, operator, choice}
 use Rattle.lower_expr.specs.Spots.{pointer_bytes}
+use Rattle.lower_expr.specs.declared.assignments.Change.{Change}
+use Rattle.lower_expr.specs.declared.assignments.Change.TheVariants.{Plain, Elements, By}
+use Rattle.lower_expr.specs.declared.assignments.Update.{Update}
 use Rattle.lower_expr.specs.declared.places.Spot.{Spot}
 use Rattle.lower_expr.specs.declared.places.Spot.TheVariants.{Fixed, Bit, Computed}
 use Rattle.lower_expr.specs.declared.structures.Side.{Side}
@@ -95,11 +98,13 @@ abbrev pub offset_row : BinOp → Byte → Bool → ℕ → List Tree
 offset_row op at true size = moved op at (behind at 2) (behind at 4) size
 offset_row op at false size = moved_right at size
 
--- two pointers into one object
+-- Two pointers into one object. Elements that are more than an int can count are larger than any object, so there is no
+-- distance between them.
+abbrev pub quotient_row : Byte → ℕ → List Tree
+quotient_row at size = if nat_eq size 1 then [] else (sets (behind at 2) size 2 ++ operator binop.Div intty.Int at (behind at 2) ∷ [])
+
 abbrev pub difference_row : Byte → ℕ → List Tree
-difference_row at size =
-    operator binop.Sub UInt at (behind at 2) ∷ []
-    ++ (if nat_eq size 1 then [] else (sets (behind at 2) size 2 ++ operator binop.Div intty.Int at (behind at 2) ∷ []))
+difference_row at size = if nat_lt 32767 size then sets at 0 2 else (operator binop.Sub UInt at (behind at 2) ∷ [] ++ quotient_row at size)
 
 -- a member of what a pointer points to
 abbrev pub member_row : Byte → ℕ → Byte → List Tree
@@ -137,37 +142,55 @@ written_row (Fixed to) root pointer from count = copies to from count
 written_row (Bit register bit) root pointer from count = bit_row root register bit from
 written_row Computed root pointer from count = code.Store pointer from count ∷ []
 
--- A value that stands behind the pointer to its place comes to stand at the front.
-abbrev pub kept_row : Spot → Byte → Byte → ℕ → List Tree
-kept_row (Fixed to) at value count = []
-kept_row (Bit register bit) at value count = []
-kept_row Computed at value count = copies at value count
+-- A value that stands behind the pointer to its place comes to stand at the front, if it is wanted.
+abbrev pub kept_row : Bool → Spot → Byte → Byte → ℕ → List Tree
+kept_row wanted (Fixed to) at value count = []
+kept_row wanted (Bit register bit) at value count = []
+kept_row wanted Computed at value count = copies_if wanted at value count
 
-abbrev pub assigned_row : Spot → Root → Byte → ℕ → List Tree
-assigned_row spot root at count =
-    written_row spot root at (behind at (pointer_bytes spot)) count ++ kept_row spot at (behind at (pointer_bytes spot)) count
+abbrev pub assigned_row : Bool → Spot → Root → Byte → ℕ → List Tree
+assigned_row wanted spot root at count =
+    written_row spot root at (behind at (pointer_bytes spot)) count ++ kept_row wanted spot at (behind at (pointer_bytes spot)) count
 
--- the operator of an update, on integers or on a pointer
-abbrev pub changed_row : BinOp → Ty → ℕ → Byte → Byte → List Tree
-changed_row op (Pointer target) size at right = moved op at right (behind at 2) size
-changed_row op Void size at right = operator op UInt at right ∷ []
-changed_row op (Int ty) size at right = operator op ty at right ∷ []
-changed_row op (Array element length bytes) size at right = operator op UInt at right ∷ []
-changed_row op (Struct number) size at right = operator op UInt at right ∷ []
+-- ---- updates
+-- how the operator of an update takes its right operand
+abbrev pub change_by : Ty → ℕ → Change
+change_by (Pointer target) size = Elements size
+change_by Void size = Plain
+change_by (Int ty) size = Plain
+change_by (Array element length bytes) size = Plain
+change_by (Struct number) size = Plain
 
-abbrev pub update_operator : Bool → BinOp → Ty → ℕ → Byte → Byte → ℕ → ℕ → List Tree
-update_operator true op operation size at right count bytes = shift_row op (operation_type operation) at right count bytes ∷ []
-update_operator false op operation size at right count bytes = changed_row op operation size at right
+abbrev pub change_of : Bool → Ty → ℕ → ℕ → Change
+change_of constant operation size number = if constant then By number else change_by operation size
 
--- An update: the place's value is read behind the right operand, changed, and written.
-abbrev pub update_at : Spot → Root → ℕ → Ty → Ty → Byte → Byte → List Tree → List Tree
-update_at spot root bytes from operation at left change =
-    read_row spot at left bytes ++ widened from operation left ++ change ++ written_row spot root at left bytes ++ copies at left bytes
+abbrev pub change_row : Change → BinOp → IntTy → Byte → Byte → ℕ → List Tree
+change_row Plain op ty at right count = operator op ty at right ∷ []
+change_row (Elements size) op ty at right count = moved op at right (behind at 2) size
+change_row (By number) op ty at right count = shift_row op ty at right number count ∷ []
 
-abbrev pub update_row : Bool → BinOp → Spot → Root → Byte → ℕ → ℕ → Ty → Ty → ℕ → ℕ → List Tree
-update_row constant op spot root at count bytes from operation size number =
-    update_at spot root bytes from operation at (behind (behind at (pointer_bytes spot)) count)
-    (update_operator constant op operation size (behind (behind at (pointer_bytes spot)) count) (behind at (pointer_bytes spot)) number count)
+abbrev pub given_byte : Bool → Byte → Byte → Byte
+given_byte keeps old new = if keeps then old else new
+
+-- The place's value is read to `left`, changed there, and written. The value of the whole, if it is wanted, is the new one
+-- or the old one, which is kept for it at `old`.
+abbrev pub update_at : Update → Spot → Root → ℕ → Ty → Byte → Byte → Byte → Byte → List Tree
+update_at u spot root bytes from at right left old =
+    read_row spot at left bytes
+    ++ widened from u.operation left
+    ++ copies_if (u.is_wanted && u.keeps_old) old left bytes
+    ++ change_row u.change u.op (operation_type u.operation) left right u.count
+    ++ written_row spot root at left bytes
+    ++ copies_if u.is_wanted at (given_byte u.keeps_old old left) bytes
+
+-- An update of a place of so many bytes, to which the pointer at `at` points if it is computed. Behind that stand the right
+-- operand, the place's value and the old value.
+abbrev pub update_row : Update → Spot → Root → Byte → ℕ → Ty → List Tree
+update_row u spot root at bytes from =
+    update_at u spot root bytes from at
+    (behind at (pointer_bytes spot))
+    (behind (behind at (pointer_bytes spot)) u.count)
+    (behind (behind (behind at (pointer_bytes spot)) u.count) u.count)
 
 abbrev pub step_operator : StepOp → BinOp
 step_operator PreIncrement = binop.Add
@@ -182,6 +205,7 @@ keeps_old PreDecrement = false
 keeps_old PostIncrement = true
 keeps_old PostDecrement = true
 
+-- a pointer goes on by the bytes of an element
 abbrev pub step_number : Ty → ℕ → ℕ
 step_number (Pointer target) size = size
 step_number Void size = 1
@@ -189,34 +213,14 @@ step_number (Int ty) size = 1
 step_number (Array element length bytes) size = 1
 step_number (Struct number) size = 1
 
-abbrev pub old_row : Bool → Byte → Byte → ℕ → List Tree
-old_row keeps to from count = if keeps then copies to from count else []
-
-abbrev pub given_byte : Bool → Byte → Byte → Byte
-given_byte keeps old new = if keeps then old else new
-
--- The constant at `right`, the place's value at `left`, and for a postfix form that value once more at `old`.
-abbrev pub step_at : StepOp → Spot → Root → ℕ → ℕ → Ty → Ty → ℕ → Byte → Byte → Byte → Byte → List Tree
-step_at op spot root count bytes from operation size at right left old =
-    sets right (step_number operation size) count
-    ++ read_row spot at left bytes
-    ++ widened from operation left
-    ++ old_row (keeps_old op) old left bytes
-    ++ operator (step_operator op) (operation_type operation) left right ∷ []
-    ++ written_row spot root at left bytes
-    ++ copies at (given_byte (keeps_old op) old left) bytes
-
-abbrev pub step_row : StepOp → Spot → Root → Byte → ℕ → ℕ → Ty → Ty → ℕ → List Tree
-step_row op spot root at count bytes from operation size =
-    step_at op spot root count bytes from operation size at
-    (behind at (pointer_bytes spot))
-    (behind (behind at (pointer_bytes spot)) count)
-    (behind (behind (behind at (pointer_bytes spot)) count) count)
+-- a step by this number: an update whose right operand is a constant
+abbrev pub step_row : Update → ℕ → Spot → Root → Byte → ℕ → Ty → List Tree
+step_row u number spot root at bytes from = sets (behind at (pointer_bytes spot)) number u.count ++ update_row u spot root at bytes from
 
 -- A call whose arguments stand at `at`.
-abbrev pub called_row : Root → ℕ → Byte → ℕ → ℕ → List Tree
-called_row root callee at arguments count =
-    copies (Frame callee 0) at arguments ++ code.Call callee ∷ [] ++ copies at (Result root 0) count
+abbrev pub called_row : Bool → Root → ℕ → Byte → ℕ → ℕ → List Tree
+called_row wanted root callee at arguments count =
+    copies (Frame callee 0) at arguments ++ code.Call callee ∷ [] ++ copies_if wanted at (Result root 0) count
 
 -- Byte `i` of a structure, a side at a time: a pointer points to that byte by now.
 abbrev pub side_of : Spot → Byte → Side

@@ -1,23 +1,21 @@
 //! Reads of places, and what gives them values.
 
 ghost use Rattle.std.specs.Prelude.{◌≡◌, OnOk};
-ghost use Rattle.c_typed.specs.Folding.{constant_bits};
-ghost use Rattle.c_typed.specs.Types.{place_type};
 ghost use Rattle.c_typed.specs.Views.{expression_of, place_of};
-ghost use Rattle.core_code.specs.declared.code.Byte.TheVariants.{Frame};
-ghost use Rattle.lower_expr.specs.Layout.{layout_of, width, value_width, place_width};
+ghost use Rattle.c_typed.specs.Folding.{constant_bits};
+ghost use Rattle.lower_expr.specs.Layout.{layout_of};
+ghost use Rattle.lower_expr.specs.Lowering as lowering;
 ghost use Rattle.lower_expr.specs.Lowering.{shifts_by_constant, behind_pointer};
 ghost use Rattle.lower_expr.specs.Puts.{Appends};
 ghost use Rattle.lower_expr.specs.Rows as row;
-ghost use Rattle.lower_expr.specs.Spots.{spot_of};
 
 use crate::bytes::{behind, beyond, operation_type};
 use crate::offsets::put_moved;
 use crate::operators::{put_shift, put_widened, shifts_by_constant};
-use crate::places::{Locals, Spot, bytes_of_place, bytes_of_value, pointer_bytes, spot_of, width};
+use crate::places::{Locals, Spot, bytes_of_value, pointer_bytes, spot_of, width};
 use crate::puts::{
-    put_address, put_bit_read, put_bit_write, put_copies, put_load, put_number, put_operator,
-    put_set, put_store,
+    put_address, put_bit_read, put_bit_write, put_copies, put_copies_if, put_load, put_number,
+    put_operator, put_set, put_store,
 };
 use c_ints::{BinOp, IntTy};
 use c_typed::{StepOp, TExpr, TPlace, Ty};
@@ -127,119 +125,97 @@ pub(crate) fn put_value(
     }
 }
 
-/// The value behind a pointer at `at`, if there is one, goes to the place, and comes to stand at `at`.
+/// The value behind a pointer at `at`, if there is one, goes to the place, and comes to stand at `at` if it is wanted.
 #[inline(never)]
 #[tactic(auto, using(std::proofs::lemmas::List::append_assoc))]
 pub(crate) fn put_assigned(
     out: &mut Vec<Core>,
+    wanted: bool,
     spot: Spot,
     root: Root,
     at: Byte,
     count: u16,
 ) -> Result<(), AllocError>
-    ensures { OnOk result (Appends out.old.items out.new.items (row.assigned_row spot root at count)) }
+    ensures { OnOk result (Appends out.old.items out.new.items (row.assigned_row wanted spot root at count)) }
 {
     let value = behind(at, pointer_bytes(spot));
     put_written(out, spot, root, at, value, count)?;
-    put_kept(out, spot, at, value, count)
+    put_kept(out, wanted, spot, at, value, count)
 }
 
 #[inline(never)]
 #[tactic(auto, using(crate::proofs::Numbers::append_nothing))]
 fn put_kept(
     out: &mut Vec<Core>,
+    wanted: bool,
     spot: Spot,
     at: Byte,
     value: Byte,
     count: u16,
 ) -> Result<(), AllocError>
-    ensures { OnOk result (Appends out.old.items out.new.items (row.kept_row spot at value count)) }
+    ensures { OnOk result (Appends out.old.items out.new.items (row.kept_row wanted spot at value count)) }
 {
     match spot {
         Spot::Fixed(_) | Spot::Bit { .. } => Ok(()),
-        Spot::Computed => put_copies(out, at, value, count),
+        Spot::Computed => put_copies_if(out, wanted, at, value, count),
     }
 }
 
-// An operator of an update: of integers, or of a pointer to elements of so many bytes.
-#[inline(never)]
-fn put_changed(
-    out: &mut Vec<Core>,
-    op: BinOp,
-    operation: Ty,
-    size: u64,
-    at: Byte,
-    right: Byte,
-) -> Result<(), AllocError>
-    ensures { OnOk result (Appends out.old.items out.new.items (row.changed_row op operation size at right)) }
+/// How the operator of an update takes its right operand: as it stands there, as a number of elements of so many bytes
+/// by which a pointer moves, or as the number by which a value is shifted.
+#[derive(Clone, Copy, PartialEq, Eq, Debug)]
+pub(crate) enum Change {
+    Plain,
+    Elements(u64),
+    By(u32),
+}
+
+/// An update of a place: the operator and the type of the operation, the bytes of its right operand, whether the old
+/// value is what the whole gives, and whether that is wanted.
+#[derive(Clone, Copy, PartialEq, Eq, Debug)]
+pub(crate) struct Update {
+    pub op: BinOp,
+    pub change: Change,
+    pub operation: Ty,
+    pub count: u16,
+    pub keeps_old: bool,
+    pub is_wanted: bool,
+}
+
+fn change_of(op: BinOp, value: &TExpr, operation: Ty, size: u64) -> Change
+    ensures { result ≡ row.change_of (shifts_by_constant op (expression_of value.now)) operation size (constant_bits (expression_of value.now)) }
 {
-    match operation {
-        Ty::Pointer(_) => put_moved(out, op, at, right, behind(at, 2), size),
-        Ty::Void | Ty::Int(_) | Ty::Array { .. } | Ty::Struct(_) => {
-            put_operator(out, op, operation_type(operation), at, right)
+    if shifts_by_constant(op, value) {
+        Change::By(value.constant_bits())
+    } else {
+        match operation {
+            Ty::Pointer(_) => Change::Elements(size),
+            Ty::Void | Ty::Int(_) | Ty::Array { .. } | Ty::Struct(_) => Change::Plain,
         }
     }
 }
 
-// The operator of an update, whose right operand is at `right`, and whose left one at `at`.
+/// An update by the value of an expression, of a pointer to elements of so many bytes or of an integer.
 #[inline(never)]
-fn put_update_operator(
-    alloc: Global,
-    out: &mut Vec<Core>,
-    op: BinOp,
-    value: &TExpr,
-    operation: Ty,
-    size: u64,
-    at: Byte,
-    right: Byte,
-    count: u16,
-) -> Result<(), AllocError>
-    ensures { OnOk result (Appends out.old.items out.new.items (row.update_operator (shifts_by_constant op (expression_of value.now)) op operation size at right (constant_bits (expression_of value.now)) count)) }
-{
-    if shifts_by_constant(op, value) {
-        put_shift(
-            alloc,
-            out,
-            op,
-            operation_type(operation),
-            at,
-            right,
-            value.constant_bits(),
-            count,
-        )
-    } else {
-        put_changed(out, op, operation, size, at, right)
-    }
-}
-
-/// An update whose right operand stands at its place, behind a pointer if there is one.
-#[inline(never)]
-#[tactic(auto, using(std::proofs::lemmas::List::append_assoc))]
-pub(crate) fn put_update(
-    alloc: Global,
-    out: &mut Vec<Core>,
-    place: &TPlace,
-    op: BinOp,
-    value: &TExpr,
-    operation: Ty,
-    size: u64,
-    copy: u16,
-    base: u16,
+pub(crate) fn update_of(
+    wanted: bool,
     places: &Locals,
-) -> Result<(), AllocError>
-    ensures { OnOk result (Appends out.old.items out.new.items (row.update_row (shifts_by_constant op (expression_of value.now)) op (spot_of (layout_of places.now) copy (place_of place.now)) (layout_of places.now).root (Frame copy base) (value_width (layout_of places.now) (expression_of value.now)) (place_width (layout_of places.now) (place_of place.now)) (place_type (place_of place.now)).ty operation size (constant_bits (expression_of value.now)))) }
+    op: BinOp,
+    place: &TPlace,
+    value: &TExpr,
+    operation: Ty,
+    size: u64,
+) -> Update
+    ensures { result ≡ lowering.update_of wanted (layout_of places.now) op (place_of place.now) (expression_of value.now) operation size }
 {
-    let spot = spot_of(place, copy, places);
-    let at = Byte::Frame { copy, offset: base };
-    let right = behind(at, pointer_bytes(spot));
-    let count = bytes_of_value(places, value);
-    let left = behind(right, count as u64);
-    let bytes = bytes_of_place(places, place);
-    put_read(out, spot, at, left, bytes)?;
-    put_widened(out, place.ty().ty, operation, left)?;
-    put_update_operator(alloc, out, op, value, operation, size, left, right, count)?;
-    put_written(out, spot, places.root, at, left, bytes)?;
-    put_copies(out, at, left, bytes)
+    Update {
+        op,
+        change: change_of(op, value, operation, size),
+        operation,
+        count: bytes_of_value(places, value),
+        keeps_old: false,
+        is_wanted: wanted,
+    }
 }
 
 fn step_operator(op: StepOp) -> BinOp
@@ -260,32 +236,39 @@ fn keeps_old(op: StepOp) -> bool
     }
 }
 
-// The number that a step adds or takes away: 1, or of a pointer the bytes of an element.
-fn step_number(operation: Ty, size: u64) -> u64
-    ensures { result ≡ row.step_number operation size }
+/// A step, which is an update by a constant.
+#[inline(never)]
+pub(crate) fn step_of(wanted: bool, places: &Locals, op: StepOp, operation: Ty) -> Update
+    ensures { result ≡ lowering.step_of wanted (layout_of places.now) op operation }
 {
-    match operation {
-        Ty::Pointer(_) => size,
-        Ty::Void | Ty::Int(_) | Ty::Array { .. } | Ty::Struct(_) => 1,
+    Update {
+        op: step_operator(op),
+        change: Change::Plain,
+        operation,
+        count: width(places, operation),
+        keeps_old: keeps_old(op),
+        is_wanted: wanted,
     }
 }
 
-// The old value of so many bytes at `from` is kept at `to`, if it is what the step gives.
+// The operator of an update, whose right operand of so many bytes is at `right`, and whose left one at `at`.
 #[inline(never)]
-#[tactic(auto, using(crate::proofs::Numbers::append_nothing))]
-fn put_old(
+fn put_change(
+    alloc: Global,
     out: &mut Vec<Core>,
-    keeps: bool,
-    to: Byte,
-    from: Byte,
+    change: Change,
+    op: BinOp,
+    ty: IntTy,
+    at: Byte,
+    right: Byte,
     count: u16,
 ) -> Result<(), AllocError>
-    ensures { OnOk result (Appends out.old.items out.new.items (row.old_row keeps to from count)) }
+    ensures { OnOk result (Appends out.old.items out.new.items (row.change_row change op ty at right count)) }
 {
-    if keeps {
-        put_copies(out, to, from, count)
-    } else {
-        Ok(())
+    match change {
+        Change::Plain => put_operator(out, op, ty, at, right),
+        Change::Elements(size) => put_moved(out, op, at, right, behind(at, 2), size),
+        Change::By(number) => put_shift(alloc, out, op, ty, at, right, number, count),
     }
 }
 
@@ -295,39 +278,71 @@ fn given_byte(keeps: bool, old: Byte, new: Byte) -> Byte
     if keeps { old } else { new }
 }
 
-/// A step of a place, to which the pointer at `base` points if it is computed.
+/// An update of the place at `spot`, of so many bytes and this type, to which the pointer at `at` points if it is
+/// computed. Its right operand stands behind that.
+#[inline(never)]
+#[tactic(auto, using(std::proofs::lemmas::List::append_assoc))]
+pub(crate) fn put_update(
+    alloc: Global,
+    out: &mut Vec<Core>,
+    update: Update,
+    spot: Spot,
+    root: Root,
+    at: Byte,
+    bytes: u16,
+    from: Ty,
+) -> Result<(), AllocError>
+    ensures { OnOk result (Appends out.old.items out.new.items (row.update_row update spot root at bytes from)) }
+{
+    let right = behind(at, pointer_bytes(spot));
+    let left = behind(right, update.count as u64);
+    let old = behind(left, update.count as u64);
+    let ty = operation_type(update.operation);
+    let keeps = update.is_wanted && update.keeps_old;
+    put_read(out, spot, at, left, bytes)?;
+    put_widened(out, from, update.operation, left)?;
+    put_copies_if(out, keeps, old, left, bytes)?;
+    put_change(
+        alloc,
+        out,
+        update.change,
+        update.op,
+        ty,
+        left,
+        right,
+        update.count,
+    )?;
+    put_written(out, spot, root, at, left, bytes)?;
+    let given = given_byte(update.keeps_old, old, left);
+    put_copies_if(out, update.is_wanted, at, given, bytes)
+}
+
+/// The number that a step adds or takes away: 1, or of a pointer the bytes of an element.
+pub(crate) fn step_number(operation: Ty, size: u64) -> u64
+    ensures { result ≡ row.step_number operation size }
+{
+    match operation {
+        Ty::Pointer(_) => size,
+        Ty::Void | Ty::Int(_) | Ty::Array { .. } | Ty::Struct(_) => 1,
+    }
+}
+
+/// A step by this number of such a place.
 #[inline(never)]
 #[tactic(auto, using(std::proofs::lemmas::List::append_assoc))]
 pub(crate) fn put_step(
+    alloc: Global,
     out: &mut Vec<Core>,
-    place: &TPlace,
-    op: StepOp,
-    operation: Ty,
-    size: u64,
-    copy: u16,
-    base: u16,
-    places: &Locals,
+    step: Update,
+    number: u64,
+    spot: Spot,
+    root: Root,
+    at: Byte,
+    bytes: u16,
+    from: Ty,
 ) -> Result<(), AllocError>
-    ensures { OnOk result (Appends out.old.items out.new.items (row.step_row op (spot_of (layout_of places.now) copy (place_of place.now)) (layout_of places.now).root (Frame copy base) (width (layout_of places.now) operation) (place_width (layout_of places.now) (place_of place.now)) (place_type (place_of place.now)).ty operation size)) }
+    ensures { OnOk result (Appends out.old.items out.new.items (row.step_row step number spot root at bytes from)) }
 {
-    let spot = spot_of(place, copy, places);
-    let at = Byte::Frame { copy, offset: base };
-    let right = behind(at, pointer_bytes(spot));
-    let count = width(places, operation);
-    let left = behind(right, count as u64);
-    let old = behind(left, count as u64);
-    let bytes = bytes_of_place(places, place);
-    put_number(out, right, step_number(operation, size), count)?;
-    put_read(out, spot, at, left, bytes)?;
-    put_widened(out, place.ty().ty, operation, left)?;
-    put_old(out, keeps_old(op), old, left, bytes)?;
-    put_operator(
-        out,
-        step_operator(op),
-        operation_type(operation),
-        left,
-        right,
-    )?;
-    put_written(out, spot, places.root, at, left, bytes)?;
-    put_copies(out, at, given_byte(keeps_old(op), old, left), bytes)
+    put_number(out, behind(at, pointer_bytes(spot)), number, step.count)?;
+    put_update(alloc, out, step, spot, root, at, bytes, from)
 }

@@ -4,31 +4,36 @@
 //! returned before the recursion goes on, hence `inline(never)`: a tree of thousands of levels stays within the call
 //! stack.
 
-ghost use Rattle.std.specs.Prelude.{◌≡◌, OnOk, OnErr, IfOk, [], ◌∷◌, ◌++◌, map};
+ghost use Rattle.std.specs.Prelude.{◌≡◌, true, OnOk, OnErr, IfOk, [], ◌∷◌, ◌++◌, map};
 ghost use Rattle.c_ints.specs.Range.{bytes_of};
-ghost use Rattle.c_typed.specs.Folding.{bits, constant_bits};
-ghost use Rattle.c_typed.specs.Types.{type_of};
+ghost use Rattle.c_typed.specs.Types.{type_of, place_type};
 ghost use Rattle.c_typed.specs.Views.{expression_of, place_of, arguments_of};
 ghost use Rattle.core_code.specs.Tree as code;
 ghost use Rattle.core_code.specs.View.{trees_in};
 ghost use Rattle.core_code.specs.declared.code.Byte.TheVariants.{Frame};
 ghost use Rattle.lower_expr.specs.Bytes.{beyond, operation_type};
-ghost use Rattle.lower_expr.specs.Layout.{layout_of, value_width, object_byte};
+ghost use Rattle.c_typed.specs.Folding.{bits, constant_bits};
+ghost use Rattle.lower_expr.specs.Layout.{layout_of, value_width, place_width, object_byte};
 ghost use Rattle.lower_expr.specs.Lowering.{expr_code, address_code, pointer_code, change_code, shifts_by_constant, is_pointer, arguments_code, arguments_width};
 ghost use Rattle.lower_expr.specs.Puts.{Appends, sets};
 ghost use Rattle.lower_expr.specs.Rows as row;
 ghost use Rattle.lower_expr.specs.Spots.{spot_of};
 
 use crate::assignments::{
-    behind_pointer, put_address_of, put_assigned, put_step, put_update, put_value,
+    Update, behind_pointer, put_address_of, put_assigned, put_step, put_update, put_value,
+    step_number, step_of, update_of,
 };
 use crate::bytes::{beyond, frame_byte, operation_type};
 use crate::offsets::{put_difference, put_member, put_offset};
 use crate::operators::{
     put_logical, put_shift, put_tested, put_unary_of, put_widened, shifts_by_constant,
 };
-use crate::places::{Locals, Spot, bytes_of_value, copy_of, object_byte, spot_of, width};
-use crate::puts::{put_address, put_call, put_copies, put_if, put_number, put_operator};
+use crate::places::{
+    Locals, Spot, bytes_of_place, bytes_of_value, copy_of, object_byte, spot_of, width,
+};
+use crate::puts::{
+    put_address, put_call, put_copies, put_copies_if, put_if, put_number, put_operator,
+};
 use crate::structures::put_struct_assign;
 use c_ints::{BinOp, Value, size};
 use c_typed::{LogicalOp, Object, TExpr, TPlace, Ty};
@@ -36,21 +41,22 @@ use core_code::{Byte, Core};
 use pic_chip::Root;
 use std::alloc::{AllocError, Global};
 
-/// Appends code that leaves the value of an expression at the offset `base` of the frame of a function copy, lowest
-/// byte first. Without memory for it the code stays as it was.
+/// Appends code that evaluates an expression, and where its value is wanted leaves it at the offset `base` of the frame
+/// of a function copy, lowest byte first. Without memory for it the code stays as it was.
 pub fn lower_expr(
     alloc: Global,
     e: &TExpr,
     copy: u16,
     base: u16,
+    wanted: bool,
     places: &Locals,
     out: &mut Vec<Core>,
 ) -> Result<(), AllocError>
-    ensures code { OnOk result (Appends out.old.items out.new.items (expr_code (layout_of places.now) copy base (expression_of e.now))) }
+    ensures code { OnOk result (Appends out.old.items out.new.items (expr_code (layout_of places.now) copy base wanted (expression_of e.now))) }
     ensures refused { OnErr result (out.new.items ≡ out.old.items) }
 {
     let mut code = Vec::new(alloc);
-    expression(alloc, e, copy, base, places, &mut code)?;
+    expression(alloc, e, copy, base, wanted, places, &mut code)?;
     out.append(&mut code)
 }
 
@@ -124,20 +130,71 @@ fn put_connected(
 #[tactic(auto, using(std::proofs::lemmas::List::append_assoc))]
 fn put_called(
     out: &mut Vec<Core>,
+    wanted: bool,
     root: Root,
     callee: u16,
     at: Byte,
     arguments: u16,
     count: u16,
 ) -> Result<(), AllocError>
-    ensures { OnOk result (Appends out.old.items out.new.items (row.called_row root callee at arguments count)) }
+    ensures { OnOk result (Appends out.old.items out.new.items (row.called_row wanted root callee at arguments count)) }
 {
     put_copies(out, frame_byte(callee, 0), at, arguments)?;
     put_call(out, callee)?;
-    put_copies(out, at, Byte::Result { root, k: 0 }, count)
+    put_copies_if(out, wanted, at, Byte::Result { root, k: 0 }, count)
 }
 
-/// The value of an expression at `base`.
+#[inline(never)]
+fn put_updated(
+    alloc: Global,
+    out: &mut Vec<Core>,
+    update: Update,
+    place: &TPlace,
+    copy: u16,
+    base: u16,
+    places: &Locals,
+) -> Result<(), AllocError>
+    ensures { OnOk result (Appends out.old.items out.new.items (row.update_row update (spot_of (layout_of places.now) copy (place_of place.now)) (layout_of places.now).root (Frame copy base) (place_width (layout_of places.now) (place_of place.now)) (place_type (place_of place.now)).ty)) }
+{
+    put_update(
+        alloc,
+        out,
+        update,
+        spot_of(place, copy, places),
+        places.root,
+        frame_byte(copy, base),
+        bytes_of_place(places, place),
+        place.ty().ty,
+    )
+}
+
+#[inline(never)]
+fn put_stepped(
+    alloc: Global,
+    out: &mut Vec<Core>,
+    step: Update,
+    number: u64,
+    place: &TPlace,
+    copy: u16,
+    base: u16,
+    places: &Locals,
+) -> Result<(), AllocError>
+    ensures { OnOk result (Appends out.old.items out.new.items (row.step_row step number (spot_of (layout_of places.now) copy (place_of place.now)) (layout_of places.now).root (Frame copy base) (place_width (layout_of places.now) (place_of place.now)) (place_type (place_of place.now)).ty)) }
+{
+    put_step(
+        alloc,
+        out,
+        step,
+        number,
+        spot_of(place, copy, places),
+        places.root,
+        frame_byte(copy, base),
+        bytes_of_place(places, place),
+        place.ty().ty,
+    )
+}
+
+/// An expression, with its value at `base` if it is wanted.
 #[cycle(expression)]
 #[inline(never)]
 #[tactic(auto, using(crate::proofs::Sights::all_codes, std::proofs::lemmas::List::append_assoc))]
@@ -146,10 +203,11 @@ pub(crate) fn expression(
     e: &TExpr,
     copy: u16,
     base: u16,
+    wanted: bool,
     places: &Locals,
     out: &mut Vec<Core>,
 ) -> Result<(), AllocError>
-    ensures { OnOk result (Appends out.old.items out.new.items (expr_code (layout_of places.now) copy base (expression_of e.now))) }
+    ensures { OnOk result (Appends out.old.items out.new.items (expr_code (layout_of places.now) copy base wanted (expression_of e.now))) }
 {
     match e {
         TExpr::Constant { value, .. } => put_constant(out, frame_byte(copy, base), value),
@@ -163,7 +221,7 @@ pub(crate) fn expression(
             put_address_of(out, spot_of(place, copy, places), frame_byte(copy, base))
         }
         TExpr::Convert { operand, ty, .. } | TExpr::Cast { operand, ty, .. } => {
-            expression(alloc, operand, copy, base, places, out)?;
+            expression(alloc, operand, copy, base, true, places, out)?;
             put_widened(out, operand.ty(), *ty, frame_byte(copy, base))
         }
         TExpr::Unary {
@@ -172,7 +230,7 @@ pub(crate) fn expression(
             ty,
             ..
         } => {
-            expression(alloc, operand, copy, base, places, out)?;
+            expression(alloc, operand, copy, base, true, places, out)?;
             let size = bytes_of_value(places, operand);
             put_unary_of(
                 alloc,
@@ -189,7 +247,7 @@ pub(crate) fn expression(
             right,
             ..
         } => {
-            expression(alloc, left, copy, base, places, out)?;
+            expression(alloc, left, copy, base, true, places, out)?;
             let next = beyond(base, bytes_of_value(places, left) as u64);
             lower_change(alloc, *op, right, copy, next, places, out)?;
             put_binary_of(
@@ -210,8 +268,8 @@ pub(crate) fn expression(
             size,
             ..
         } => {
-            expression(alloc, left, copy, base, places, out)?;
-            expression(alloc, right, copy, beyond(base, 2), places, out)?;
+            expression(alloc, left, copy, base, true, places, out)?;
+            expression(alloc, right, copy, beyond(base, 2), true, places, out)?;
             put_offset(
                 out,
                 *op,
@@ -226,8 +284,8 @@ pub(crate) fn expression(
             size,
             ..
         } => {
-            expression(alloc, left, copy, base, places, out)?;
-            expression(alloc, right, copy, beyond(base, 2), places, out)?;
+            expression(alloc, left, copy, base, true, places, out)?;
+            expression(alloc, right, copy, beyond(base, 2), true, places, out)?;
             put_difference(out, frame_byte(copy, base), *size)
         }
         TExpr::Logical {
@@ -236,8 +294,8 @@ pub(crate) fn expression(
             right,
             ..
         } => {
-            expression(alloc, left, copy, base, places, out)?;
-            let other = branch(alloc, right, copy, base, places)?;
+            expression(alloc, left, copy, base, true, places, out)?;
+            let other = branch(alloc, right, copy, base, true, places)?;
             put_connected(
                 alloc,
                 out,
@@ -254,15 +312,15 @@ pub(crate) fn expression(
             otherwise,
             ..
         } => {
-            expression(alloc, condition, copy, base, places, out)?;
-            let yes = branch(alloc, then, copy, base, places)?;
-            let no = branch(alloc, otherwise, copy, base, places)?;
+            expression(alloc, condition, copy, base, true, places, out)?;
+            let yes = branch(alloc, then, copy, base, wanted, places)?;
+            let no = branch(alloc, otherwise, copy, base, wanted, places)?;
             let size = bytes_of_value(places, condition);
             put_if(alloc, out, frame_byte(copy, base), size, yes, no)
         }
         TExpr::Comma { left, right, .. } => {
-            expression(alloc, left, copy, base, places, out)?;
-            expression(alloc, right, copy, base, places, out)
+            expression(alloc, left, copy, base, false, places, out)?;
+            expression(alloc, right, copy, base, wanted, places, out)
         }
         TExpr::Assign {
             place,
@@ -272,10 +330,11 @@ pub(crate) fn expression(
         } => {
             lower_pointer(alloc, place, copy, base, places, out)?;
             let next = behind_pointer(place, copy, base, places);
-            expression(alloc, value, copy, next, places, out)?;
+            expression(alloc, value, copy, next, true, places, out)?;
             let spot = spot_of(place, copy, places);
             put_assigned(
                 out,
+                wanted,
                 spot,
                 places.root,
                 frame_byte(copy, base),
@@ -304,9 +363,8 @@ pub(crate) fn expression(
             lower_pointer(alloc, place, copy, base, places, out)?;
             let next = behind_pointer(place, copy, base, places);
             lower_change(alloc, *op, value, copy, next, places, out)?;
-            put_update(
-                alloc, out, place, *op, value, *operation, *size, copy, base, places,
-            )
+            let update = update_of(wanted, places, *op, place, value, *operation, *size);
+            put_updated(alloc, out, update, place, copy, base, places)
         }
         TExpr::Step {
             op,
@@ -316,7 +374,9 @@ pub(crate) fn expression(
             ..
         } => {
             lower_pointer(alloc, place, copy, base, places, out)?;
-            put_step(out, place, *op, *operation, *size, copy, base, places)
+            let step = step_of(wanted, places, *op, *operation);
+            let number = step_number(*operation, *size);
+            put_stepped(alloc, out, step, number, place, copy, base, places)
         }
         TExpr::Call {
             function,
@@ -327,7 +387,15 @@ pub(crate) fn expression(
             let bytes = lower_arguments(alloc, arguments, copy, base, places, out)?;
             let callee = copy_of(places, *function);
             let at = frame_byte(copy, base);
-            put_called(out, places.root, callee, at, bytes, width(places, *ty))
+            put_called(
+                out,
+                wanted,
+                places.root,
+                callee,
+                at,
+                bytes,
+                width(places, *ty),
+            )
         }
     }
 }
@@ -340,12 +408,13 @@ fn branch(
     e: &TExpr,
     copy: u16,
     base: u16,
+    wanted: bool,
     places: &Locals,
 ) -> Result<Vec<Core>, AllocError>
-    ensures { IfOk result (λ code. trees_in code.items ≡ expr_code (layout_of places.now) copy base (expression_of e.now)) }
+    ensures { IfOk result (λ code. trees_in code.items ≡ expr_code (layout_of places.now) copy base wanted (expression_of e.now)) }
 {
     let mut part = Vec::new(alloc);
-    expression(alloc, e, copy, base, places, &mut part)?;
+    expression(alloc, e, copy, base, wanted, places, &mut part)?;
     Ok(part)
 }
 
@@ -362,12 +431,12 @@ fn lower_change(
     places: &Locals,
     out: &mut Vec<Core>,
 ) -> Result<(), AllocError>
-    ensures { OnOk result (Appends out.old.items out.new.items (change_code (shifts_by_constant op (expression_of value.now)) (expr_code (layout_of places.now) copy base (expression_of value.now)))) }
+    ensures { OnOk result (Appends out.old.items out.new.items (change_code (shifts_by_constant op (expression_of value.now)) (expr_code (layout_of places.now) copy base true (expression_of value.now)))) }
 {
     if shifts_by_constant(op, value) {
         Ok(())
     } else {
-        expression(alloc, value, copy, base, places, out)
+        expression(alloc, value, copy, base, true, places, out)
     }
 }
 
@@ -420,7 +489,7 @@ pub fn lower_address(
                 },
             )
         }
-        TPlace::Deref { pointer, .. } => expression(alloc, pointer, copy, base, places, out),
+        TPlace::Deref { pointer, .. } => expression(alloc, pointer, copy, base, true, places, out),
     }
 }
 
@@ -462,6 +531,7 @@ fn lower_arguments(
             argument,
             copy,
             beyond(base, before as u64),
+            true,
             places,
             out,
         )?;

@@ -1,8 +1,8 @@
 // Expressions of the typed tree become structured byte code.
 //
 // In: a typed expression, the function copy that it stands in, where the copy's variables stand in its frame, and the
-// offset from which the frame is free. Out: operations that leave the expression's value at that offset, behind those
-// that are there.
+// offset from which the frame is free. Out: operations that evaluate the expression, and leave its value at that offset
+// where it is wanted, behind those that are there.
 // The promise: the operations are those of specs/Lowering.antt, a recursion on the tree, and without memory for them
 // nothing is added.
 // Values of operands stand one behind the other from that offset on. Evaluation goes from left to right: a place, then

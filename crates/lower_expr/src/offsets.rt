@@ -112,18 +112,30 @@ pub(crate) fn put_offset(
     }
 }
 
-/// Two pointers, one behind the other at `at`, become the number of elements between them.
-#[inline(never)]
-#[tactic(auto, using(crate::proofs::Numbers::append_nothing, std::proofs::lemmas::List::append_assoc))]
-pub(crate) fn put_difference(out: &mut Vec<Core>, at: Byte, size: u64) -> Result<(), AllocError>
-    ensures { OnOk result (Appends out.old.items out.new.items (row.difference_row at size)) }
+// The number of bytes at `at` becomes that of elements.
+#[tactic(auto, using(crate::proofs::Numbers::append_nothing))]
+fn put_quotient(out: &mut Vec<Core>, at: Byte, size: u64) -> Result<(), AllocError>
+    ensures { OnOk result (Appends out.old.items out.new.items (row.quotient_row at size)) }
 {
-    put_operator(out, BinOp::Sub, IntTy::UInt, at, behind(at, 2))?;
     if size == 1 {
         return Ok(());
     }
     put_number(out, behind(at, 2), size, 2)?;
     put_operator(out, BinOp::Div, IntTy::Int, at, behind(at, 2))
+}
+
+/// Two pointers, one behind the other at `at`, become the number of elements between them. No object is as large as an
+/// element whose bytes no int can count, and there the number is 0.
+#[inline(never)]
+#[tactic(auto, using(std::proofs::lemmas::List::append_assoc))]
+pub(crate) fn put_difference(out: &mut Vec<Core>, at: Byte, size: u64) -> Result<(), AllocError>
+    ensures { OnOk result (Appends out.old.items out.new.items (row.difference_row at size)) }
+{
+    if size > 0x7fff {
+        return put_number(out, at, 0, 2);
+    }
+    put_operator(out, BinOp::Sub, IntTy::UInt, at, behind(at, 2))?;
+    put_quotient(out, at, size)
 }
 
 /// The pointer at `at` comes to point to a member, so many bytes behind the start of what it pointed to. The number

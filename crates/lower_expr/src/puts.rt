@@ -266,6 +266,25 @@ pub fn put_copies(out: &mut Vec<Core>, to: Byte, from: Byte, count: u16) -> Resu
     Ok(())
 }
 
+/// The same if the copy is wanted.
+#[inline(never)]
+#[tactic(auto, using(crate::proofs::Numbers::append_nothing))]
+pub(crate) fn put_copies_if(
+    out: &mut Vec<Core>,
+    wanted: bool,
+    to: Byte,
+    from: Byte,
+    count: u16,
+) -> Result<(), AllocError>
+    ensures { OnOk result (Appends out.old.items out.new.items (stated.copies_if wanted to from count)) }
+{
+    if wanted {
+        put_copies(out, to, from, count)
+    } else {
+        Ok(())
+    }
+}
+
 /// So many bytes become those of a number, lowest first.
 #[inline(never)]
 #[tactic(auto, using(crate::proofs::Numbers::sets_none, crate::proofs::Numbers::sets_more, crate::proofs::Numbers::append_nothing, std::proofs::lemmas::List::append_assoc))]

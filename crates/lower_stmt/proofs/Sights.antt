@@ -13,7 +13,7 @@ use Rattle.c_typed.specs.Trees as tree
 use Rattle.c_typed.specs.Views.{expression_of, item_of, statement_of, statements_of, arm_of, arms_of, last_arm_of}
 use Rattle.core_code.specs.Tree.{Tree}
 use Rattle.lower_stmt.specs.Declarators.{scalar_code, list_code}
-use Rattle.lower_stmt.specs.Ground.{Ground, local_byte, value_code}
+use Rattle.lower_stmt.specs.Ground.{Ground, local_byte, effect_code}
 use Rattle.lower_stmt.specs.Jumps.{in_while, in_body}
 use Rattle.lower_stmt.specs.Statements.{stmt_code, stmts_code, arms_code, arm_code, last_code, switch_code, while_code, do_code, for_code, break_code, continue_code, return_code, arm_choice}
 use Rattle.lower_stmt.specs.declared.jumps.Jumps.{Jumps}
@@ -26,7 +26,7 @@ pub code_empty : (g : Ground) (j : Jumps) (line : _) → stmt_code g j (statemen
 unfolding stmt_code
 code_empty g j line = ap (stmt_code g j) (show_statement_empty line)
 
-pub code_expr : (g : Ground) (j : Jumps) (value : _) (line : _) → stmt_code g j (statement_of (TStmt.Expr value line)) ≡ value_code g (expression_of value)
+pub code_expr : (g : Ground) (j : Jumps) (value : _) (line : _) → stmt_code g j (statement_of (TStmt.Expr value line)) ≡ effect_code g (expression_of value)
 unfolding stmt_code
 code_expr g j value line = ap (stmt_code g j) (show_statement_expr value line)
 

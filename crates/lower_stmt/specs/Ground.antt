@@ -1,5 +1,5 @@
 -- What the code of all statements of a body stands on.
-use Rattle.std.specs.Prelude.{ℕ, List, map, slice_index}
+use Rattle.std.specs.Prelude.{ℕ, true, false, List, map, slice_index}
 use Rattle.c_typed.specs.Trees.{Expression}
 use Rattle.c_typed.specs.Views.{size_of, variable_of}
 use Rattle.c_typed.specs.Words.{variable_bytes}
@@ -40,9 +40,12 @@ local_bytes g local = slice_index g.bytes local
 abbrev pub width : Ground → Expression → ℕ
 width g e = value_width g.layout e
 
--- code that leaves a value in the first temporary bytes
+-- code that leaves a value in the first temporary bytes, and code of an expression whose value isn't wanted
 abbrev pub value_code : Ground → Expression → List Tree
-value_code g e = expr_code g.layout g.copy g.base e
+value_code g e = expr_code g.layout g.copy g.base true e
+
+abbrev pub effect_code : Ground → Expression → List Tree
+effect_code g e = expr_code g.layout g.copy g.base false e
 
 -- the lowest byte of the result under the copy's root
 abbrev pub result_byte : Ground → Byte

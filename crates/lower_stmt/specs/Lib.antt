@@ -5,5 +5,7 @@ pub mod Frames
 pub mod Ground
 pub mod Jumps
 pub mod Labels
+pub mod Nesting
+pub mod Programs
 pub mod Statements
 pub mod Switches

@@ -10,15 +10,16 @@ use Rattle.core_code.specs.Tree as core
 use Rattle.core_code.specs.Tree.{Tree, many}
 use Rattle.lower_expr.specs.Puts.{copies, choice, test_size}
 use Rattle.lower_stmt.specs.Declarators.{scalar_code, list_code}
-use Rattle.lower_stmt.specs.Ground.{Ground, first, result_byte, local_byte, width, value_code}
+use Rattle.lower_stmt.specs.Ground.{Ground, first, result_byte, local_byte, width, value_code, effect_code}
 use Rattle.lower_stmt.specs.Jumps.{in_while, in_body, in_segment}
 use Rattle.lower_stmt.specs.Labels.{labels_of, has, segments_before}
-use Rattle.lower_stmt.specs.Switches.{comparisons, closed, opened, begun_with, reached, for_labels}
+use Rattle.lower_stmt.specs.Switches.{Segments, comparisons, begun_with, no_segments, cut, joined, around, for_labels}
 use Rattle.lower_stmt.specs.declared.jumps.Jumps.{Jumps}
 
+-- what a `for` begins with, and its step
 abbrev pub any_code : Ground → Option Expression → List Tree
 any_code g None = []
-any_code g (Some e) = value_code g e
+any_code g (Some e) = effect_code g e
 
 -- A condition of a loop leaves it where its value is 0.
 abbrev pub condition_code : Ground → Option Expression → List Tree
@@ -72,13 +73,13 @@ unfoldable mutual
   pub stmt_code : Ground → Jumps → Statement → List Tree
   stmt_code g j (tree.Block statements line) = stmts_code g j statements
   stmt_code g j (tree.Empty line) = []
-  stmt_code g j (tree.Expr value line) = value_code g value
+  stmt_code g j (tree.Expr value line) = effect_code g value
   stmt_code g j (tree.Declare local line) = []
   stmt_code g j (tree.InitScalar local value line) = scalar_code g (local_byte g local) value
   stmt_code g j (tree.InitList local items line) = list_code g local items
   stmt_code g j (tree.If arms otherwise line) = arms_code g j (last_code g j otherwise) arms
   stmt_code g j (tree.Loop shape begin condition step body line) = loop_code g shape begin condition step (stmt_code g (jumps_in shape) body)
-  stmt_code g j (tree.Switch value cases default statements line) = value_code g value ++ for_labels (labels_of cases default) (segments_code g j (labels_of cases default) (segments_in statements (labels_of cases default)) 0 0 (comparisons g value cases default (labels_of cases default) (segments_in statements (labels_of cases default))) statements)
+  stmt_code g j (tree.Switch value cases default statements line) = value_code g value ++ for_labels (labels_of cases default) (around (comparisons g value cases default (labels_of cases default) (segments_in statements (labels_of cases default))) (segments_code g j (labels_of cases default) (segments_in statements (labels_of cases default)) 0 0 statements))
   stmt_code g j (tree.Break line) = break_code j
   stmt_code g j (tree.Continue line) = continue_code j
   stmt_code g j (tree.Return value line) = return_code g value
@@ -100,15 +101,14 @@ unfoldable mutual
   last_code g j tree.NoLast = []
   last_code g j (tree.Last s) = stmt_code g j s
 
-  -- The statements of a switch's body from number i on, where so many of `count` segments have begun, and `code` stands in the
-  -- loop of the last of these.
-  pub segments_code : Ground → Jumps → List ℕ → ℕ → ℕ → ℕ → List Tree → Statements → List Tree
-  segments_code g j labels count i begun code tree.NoStatement = closed (begun_with (has labels i) begun) (opened (has labels i) begun code)
-  segments_code g j labels count i begun code (tree.AndStatement s ss) = segments_code g j labels count (i + 1) (begun_with (has labels i) begun) (opened (has labels i) begun code ++ reached (begun_with (has labels i) begun) (stmt_code g (in_segment j (count - begun_with (has labels i) begun)) s)) ss
+  -- The segments of a switch's body from statement i on, where so many of `count` have begun.
+  pub segments_code : Ground → Jumps → List ℕ → ℕ → ℕ → ℕ → Statements → Segments
+  segments_code g j labels count i begun tree.NoStatement = cut (has labels i) no_segments
+  segments_code g j labels count i begun (tree.AndStatement s ss) = cut (has labels i) (joined (stmt_code g (in_segment j (count - begun_with (has labels i) begun)) s) (segments_code g j labels count (i + 1) (begun_with (has labels i) begun) ss))
 
 -- What stands behind the value of a switch with these labels, and a whole switch.
 abbrev pub labelled_code : Ground → Jumps → Expression → List TCase → Option ℕ → List ℕ → Statements → List Tree
-labelled_code g j value cases default labels statements = segments_code g j labels (segments_in statements labels) 0 0 (comparisons g value cases default labels (segments_in statements labels)) statements
+labelled_code g j value cases default labels statements = around (comparisons g value cases default labels (segments_in statements labels)) (segments_code g j labels (segments_in statements labels) 0 0 statements)
 
 abbrev pub switch_code : Ground → Jumps → Expression → List TCase → Option ℕ → Statements → List Tree
 switch_code g j value cases default statements = value_code g value ++ for_labels (labels_of cases default) (labelled_code g j value cases default (labels_of cases default) statements)

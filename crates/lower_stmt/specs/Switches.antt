@@ -43,23 +43,35 @@ abbrev pub comparisons : Ground → Expression → List TCase → Option ℕ →
 comparisons g value cases default labels count =
     cases_code g (operation_type (type_of value)) (width g value) labels cases ++ core.Exit (otherwise_segment labels count default) ∷ []
 
--- What stands in a loop: a segment, where one has begun, ends by leaving it.
-abbrev pub ended : ℕ → List Tree → List Tree
-ended begun code = if nat_eq begun 0 then code else (code ++ core.Exit 0 ∷ [])
+-- ---- segments
+-- What the statements from some place of the body on give: the rest of the segment that they begin in, and the segments
+-- behind it.
+pub record Segments : Type 0 where
+  pub running : List Tree
+  pub later : List (List Tree)
 
-abbrev pub closed : ℕ → List Tree → List Tree
-closed begun code = core.Loop (many (ended begun code)) ∷ []
+abbrev pub no_segments : Segments
+no_segments = record { running = []; later = [] }
 
--- The code behind which the next statement stands: where a segment begins, the loop of what there is.
-abbrev pub opened : Bool → ℕ → List Tree → List Tree
-opened begins begun code = if begins then closed begun code else code
+-- the code of one more statement in front
+abbrev pub joined : List Tree → Segments → Segments
+joined code s = record s { running = code ++ s.running }
+
+-- A segment begins in front, if a label stands there.
+abbrev pub cut : Bool → Segments → Segments
+cut begins s = if begins then record { running = []; later = s.running ∷ s.later } else s
 
 abbrev pub begun_with : Bool → ℕ → ℕ
 begun_with begins begun = if begins then begun + 1 else begun
 
--- Statements before the first label are never reached.
-abbrev pub reached : ℕ → List Tree → List Tree
-reached begun code = if nat_eq begun 0 then [] else code
+-- Each segment stands behind what leads to it, in a loop that ends by leaving it.
+abbrev pub nest : List Tree → List (List Tree) → List Tree
+nest inner [] = inner
+nest inner (segment ∷ segments) = nest (core.Loop (many (inner ++ segment ++ core.Exit 0 ∷ [])) ∷ []) segments
+
+-- The comparisons in a loop, and round it those of all segments. Statements before the first label are never reached.
+abbrev pub around : List Tree → Segments → List Tree
+around comparisons s = nest (core.Loop (many comparisons) ∷ []) s.later
 
 -- A switch without labels only has its value.
 abbrev pub for_labels : List ℕ → List Tree → List Tree

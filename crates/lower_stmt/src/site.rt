@@ -58,7 +58,32 @@ pub fn value_bytes(site: &Site, value: &TExpr) -> u16
 pub fn put_value(site: &Site, value: &TExpr, out: &mut Vec<Core>) -> Result<(), AllocError>
     ensures { OnOk result (Appends out.old.items out.new.items (ground.value_code (ground_of site.now) (expression_of value.now))) }
 {
-    lower_expr(site.alloc, value, site.copy, site.base, site.places, out)
+    lower_expr(
+        site.alloc,
+        value,
+        site.copy,
+        site.base,
+        true,
+        site.places,
+        out,
+    )
+}
+
+/// Adds code of an expression whose value isn't wanted.
+#[inline(never)]
+#[tactic(auto, unfolding(crate::specs::Ground::ground_of))]
+pub fn put_effect(site: &Site, value: &TExpr, out: &mut Vec<Core>) -> Result<(), AllocError>
+    ensures { OnOk result (Appends out.old.items out.new.items (ground.effect_code (ground_of site.now) (expression_of value.now))) }
+{
+    lower_expr(
+        site.alloc,
+        value,
+        site.copy,
+        site.base,
+        false,
+        site.places,
+        out,
+    )
 }
 
 /// The same of an expression that may be left out.
@@ -67,7 +92,7 @@ pub fn put_any(site: &Site, value: &Option<TExpr>, out: &mut Vec<Core>) -> Resul
     ensures { OnOk result (Appends out.old.items out.new.items (code.any_code (ground_of site.now) (option_map expression_of value.now))) }
 {
     match value {
-        Some(value) => put_value(site, value, out),
+        Some(value) => put_effect(site, value, out),
         None => Ok(()),
     }
 }

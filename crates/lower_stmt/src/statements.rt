@@ -10,6 +10,7 @@ ghost use Rattle.core_code.specs.View.{trees_in};
 ghost use Rattle.lower_expr.specs.Puts.{Appends};
 ghost use Rattle.lower_stmt.specs.Ground.{ground_of};
 ghost use Rattle.lower_stmt.specs.Jumps as jumping;
+ghost use Rattle.lower_stmt.specs.Nesting as nesting;
 ghost use Rattle.lower_stmt.specs.Statements as code;
 ghost use Rattle.lower_stmt.specs.Switches as switches;
 
@@ -17,7 +18,9 @@ use crate::declarators::{put_list, put_scalar};
 use crate::emitting::{again, exit, put_all, put_choice};
 use crate::jumps::Jumps;
 use crate::labels::{has, labels_of, segments_before};
-use crate::site::{Site, first, local_byte, put_any, put_value, result_byte, value_bytes};
+use crate::site::{
+    Site, first, local_byte, put_any, put_effect, put_value, result_byte, value_bytes,
+};
 use crate::switches::{begun_with, opened, put_closed, put_comparisons};
 use c_typed::{LoopForm, TArm, TCase, TExpr, TStmt};
 use core_code::Core;
@@ -104,7 +107,7 @@ fn put_statement(
     match statement {
         TStmt::Block { statements, .. } => put_statements(site, jumps, statements, out),
         TStmt::Empty { .. } | TStmt::Declare { .. } => Ok(()),
-        TStmt::Expr { value, .. } => put_value(site, value, out),
+        TStmt::Expr { value, .. } => put_effect(site, value, out),
         TStmt::InitScalar { local, value, .. } => {
             put_scalar(site, local_byte(site, *local), value, out)
         }
@@ -307,7 +310,7 @@ fn put_reached(
     statement: &TStmt,
     out: &mut Vec<Core>,
 ) -> Result<(), AllocError>
-    ensures { OnOk result (Appends out.old.items out.new.items (switches.reached begun (code.stmt_code (ground_of site.now) (jumping.in_segment jumps behind) (statement_of statement.now)))) }
+    ensures { OnOk result (Appends out.old.items out.new.items (nesting.reached begun (code.stmt_code (ground_of site.now) (jumping.in_segment jumps behind) (statement_of statement.now)))) }
 {
     if begun == 0 {
         Ok(())

@@ -9,6 +9,7 @@ ghost use Rattle.c_typed.specs.Views.{expression_of};
 ghost use Rattle.core_code.specs.View.{trees_in};
 ghost use Rattle.lower_expr.specs.Puts.{Appends};
 ghost use Rattle.lower_stmt.specs.Ground.{ground_of};
+ghost use Rattle.lower_stmt.specs.Nesting as nesting;
 ghost use Rattle.lower_stmt.specs.Switches as switches;
 
 use crate::emitting::{exit, put_choice};
@@ -127,7 +128,7 @@ pub fn put_comparisons(
 #[inline(never)]
 #[tactic(auto, using(core_code::proofs::Views::tree_exit))]
 fn put_end(begun: usize, code: &mut Vec<Core>) -> Result<(), AllocError>
-    ensures { OnOk result (trees_in code.new.items ≡ switches.ended begun (trees_in code.old.items)) }
+    ensures { OnOk result (trees_in code.new.items ≡ nesting.ended begun (trees_in code.old.items)) }
 {
     if begun == 0 {
         Ok(())
@@ -145,7 +146,7 @@ pub fn put_closed(
     code: Vec<Core>,
     out: &mut Vec<Core>,
 ) -> Result<(), AllocError>
-    ensures { OnOk result (Appends out.old.items out.new.items (switches.closed begun (trees_in code.items))) }
+    ensures { OnOk result (Appends out.old.items out.new.items (nesting.closed begun (trees_in code.items))) }
 {
     let mut body = code;
     put_end(begun, &mut body)?;
@@ -160,7 +161,7 @@ pub fn opened(
     begun: usize,
     code: Vec<Core>,
 ) -> Result<Vec<Core>, AllocError>
-    ensures { IfOk result (λ next. trees_in next.items ≡ switches.opened begins begun (trees_in code.items)) }
+    ensures { IfOk result (λ next. trees_in next.items ≡ nesting.opened begins begun (trees_in code.items)) }
 {
     if begins {
         let mut next = Vec::new(alloc);

@@ -4,7 +4,7 @@ use crate::comparing::{Case, case_agrees};
 use std::alloc::Global;
 use std::test::Fail;
 
-const TEXTS: [&str; 30] = [
+const TEXTS: [&str; 34] = [
     "void main(void){}",
     "void main(void){PORTB=5;}",
     "void main(void){unsigned char a=200;unsigned char b=100;PORTB=(a+b)>>1;}",
@@ -35,6 +35,10 @@ const TEXTS: [&str; 30] = [
     "char c;void main(void){int x;int y=x=3;PORTB=(c=300,y)+(x?y:0);PORTB=x&&y||c;PORTC=!x||(x=0)||y++;}",
     "int x;void g(void){x+=1;}void f(void){g();g();}void main(void){f();g();f();if(x==5)PORTB=1;}",
     "void main(void){{int a=1;{int a=2;PORTB=a;}PORTB=a;}{int b[3]={1,2,3};PORTC=b[0]+b[1]*b[2];}}",
+    "struct s{char a[65535],b;};unsigned char x;void main(void){struct s*p=(void*)&x;PORTB=(p-p)+1;}",
+    "struct s{char b[65535];};unsigned char a[2];void main(void){struct s*p=(void*)a;struct s*q=(void*)(a+1);PORTB=(q-p)+1;}",
+    "int x;int f(void){x++;return x;}void main(void){int*p=&x;*p=3,*p+=2;x?f():x--;(void)f();x++,++x;f();for(*p=0;x<3;(*p)++)PORTC=x;x&&f();PORTB=(x++,*p=7,x);PORTB=x;}",
+    "int x;void main(void){for(x=-2;x<7;x++)switch(x){PORTA=9;case 4:case 2:PORTB=1;if(x==4)continue;default:PORTB=2;break;case 0:PORTC=x;case 5:}}",
 ];
 
 #[test]

@@ -1,18 +1,23 @@
 -- Runs of small blocks, computed.
-use Rattle.std.proofs.Common.{◌≡◌, false, ℕ, zero, suc, List, [], ◌∷◌, Some, refl}
-use Rattle.pic_chip.specs.declared.Arrival.{Arrival}
+use Rattle.std.proofs.Common.{◌≡◌, true, false, ℕ, zero, suc, nat_eq, if◌then◌else◌, List, [], ◌∷◌, Some, refl}
+use Rattle.pic_chip.specs.Control as control
+use Rattle.pic_chip.specs.Control.{stored, with_stored, raised_by}
+use Rattle.pic_chip.specs.World.{Outside, Schedule, ReadOf, WriteOf, Ended, arrived, is_due, entered, left, device_value, after_device_read, after_device_write, sets_gie}
 use Rattle.pic_chip.specs.declared.Cell.TheVariants as cells
-use Rattle.pic_chip.specs.declared.Flag.TheVariants.{Intf}
-use Rattle.core_code.specs.World.{ReadOf, WriteOf, Ended, arrived, is_due, entered, left, noted, device_value, after_device_read, after_device_write, sets_gie}
+use Rattle.pic_chip.specs.declared.Root.TheVariants.{Main, Isr}
 use Rattle.core_code.specs.declared.code.Byte.TheVariants as bytes
-use Rattle.sym_code.specs.Cost.{cost_by, step_cost}
-use Rattle.sym_code.specs.Layout.{Layout, address_of, general_at}
-use Rattle.sym_code.specs.Machine.{Setting, Machine, Still, Stuck, reached, contents, after_read, after_write, execute, sym_step, sym_run, sym_start}
-use Rattle.sym_code.specs.Registers.{result_with, flags_with, skips_with, after_row}
-use Rattle.sym_code.specs.declared.code.BitOperation.TheVariants.{Bcf, Bsf, Btfsc, Btfss}
+use Rattle.sym_code.specs.Cost.{step_cost, cost_by}
+use Rattle.sym_code.specs.Effect.{Setting, access_of, effect_of, effect}
+use Rattle.sym_code.specs.Layout.{DataLayout, address_of, general_at, owner}
+use Rattle.sym_code.specs.Machine.{Machine, Entry, Stops, Still, acted, sym_step, sym_run, sym_start}
+use Rattle.sym_code.specs.Programs.{stand}
+use Rattle.sym_code.specs.Registers.{Registers, result_with, flags_with, skips_with, after_row}
+use Rattle.sym_code.specs.Runs.{sym_most, sym_least}
+use Rattle.sym_code.specs.declared.code.BankBit.TheVariants.{Rp1}
+use Rattle.sym_code.specs.declared.code.BitOperation.TheVariants.{Bcf, Bsf, Btfss}
 use Rattle.sym_code.specs.declared.code.BlockName.{BlockName}
 use Rattle.sym_code.specs.declared.code.BlockName.TheVariants.{Start, Copy}
-use Rattle.sym_code.specs.declared.code.FileOperation.TheVariants.{Incf}
+use Rattle.sym_code.specs.declared.code.FileOperation.TheVariants.{Incf, Movf}
 use Rattle.sym_code.specs.declared.code.Into.TheVariants as into
 use Rattle.sym_code.specs.declared.code.Label.TheVariants.{Inner, Halt, Restore}
 use Rattle.sym_code.specs.declared.code.Literal.TheVariants as literals
@@ -24,21 +29,48 @@ use Rattle.sym_code.specs.declared.code.Sym.{Sym}
 use Rattle.sym_code.specs.declared.code.Sym.TheVariants.{File, Movwf, Bit, Literal, Goto, Label, SelectBank}
 use Rattle.sym_code.specs.declared.code.Target.TheVariants as targets
 
--- static object 0 has two bytes from 20h on, object 1 two from 110h on, and each frame stands at 30h
-abbrev layout : Layout
-layout = record { objects = record { constant = false; address = 0x20; size = 2 } ∷ record { constant = false; address = 0x110; size = 2 } ∷ []; frame = λ copy. 0x30 }
+-- Static object 0 has two bytes from 20h on, object 1 two from 110h on. The frame of main has four bytes from 30h on, that
+-- of the handler, copy 1, four from 34h on.
+abbrev layout : DataLayout
+layout = record {
+  objects = record { constant = false; address = 0x20; size = 2 } ∷ record { constant = false; address = 0x110; size = 2 } ∷ [];
+  frames = record { root = Main; address = 0x30; size = 4 } ∷ record { root = Isr; address = 0x34; size = 4 } ∷ [];
+}
 
--- main, and a handler as copy 1
 abbrev blocks : List Sym → List Sym → BlockName → List Sym
 blocks main handler Start = []
 blocks main handler (Copy zero) = main
 blocks main handler (Copy (suc n)) = handler
 
-abbrev setting : List Sym → List Sym → List ℕ → List Arrival → Setting
-setting main handler input arrivals = record { program = record { block = blocks main handler; handler = Some 1; layout = layout }; outside = record { input = input; arrivals = arrivals } }
+-- code without selects
+abbrev setting : List Sym → List Sym → Setting
+setting main handler = record {
+  program = record { block = blocks main handler; handler = Some 1; layout = layout };
+  banked = false;
+  page_of = λ block. 0;
+  limit = λ inside. 3;
+}
 
-abbrev begun : Machine
-begun = sym_start (record { w = 0; z = 0; dc = 0; c = 0; fsr = 0; irp = 0 }) (λ k. 0xff)
+-- the same code, where selects count
+abbrev selecting : List Sym → Setting
+selecting main = record (setting main []) { banked = true }
+
+-- the external flag comes at this length of the trace, and nothing else
+abbrev external_at : ℕ → Outside
+external_at n = record { input = 7 ∷ []; schedule = λ k. if nat_eq k n then 2 else 0 }
+
+abbrev nothing : Registers
+nothing = record { w = 0; z = 0; dc = 0; c = 0; fsr = 0; rp0 = 0; rp1 = 0; irp = 0; page_low = 0; page_high = 0 }
+
+-- the handler finds 99 in W
+abbrev entry : Entry
+entry k = record nothing { w = 99 }
+
+abbrev begun : Setting → Machine
+begun g = sym_start g.program nothing (λ k. 0xff)
+
+abbrev run : Setting → ℕ → ℕ → Machine
+run g arrival n = sym_run g entry (external_at arrival) n (begun g)
 
 abbrev device : ℕ → Operand
 device address = operands.Byte (bytes.Device address)
@@ -48,49 +80,85 @@ to_halt = Goto (targets.Label Halt)
 
 -- PORTB, at 06, gets 5.
 abbrev writing : Setting
-writing = setting (Literal Movlw (literals.Number 5) ∷ Movwf (device 6) ∷ to_halt ∷ []) [] [] []
+writing = setting (Literal Movlw (literals.Number 5) ∷ Movwf (device 6) ∷ to_halt ∷ []) []
 
-written : (sym_run writing 3 begun).world.trace ≡ WriteOf (cells.Device 6) 5 ∷ Ended ∷ []
-unfolding sym_run sym_step execute reached contents after_read after_write after_row arrived is_due noted device_value after_device_read after_device_write sets_gie
+written : (run writing 9 3).world.trace ≡ WriteOf (cells.Device 6) 5 ∷ Ended ∷ []
+unfolding sym_run sym_step acted effect effect_of access_of stand after_row raised_by control.is_due stored with_stored arrived is_due device_value after_device_read after_device_write sets_gie
 written = refl
 
-written_still : sym_step writing (sym_run writing 3 begun) ≡ Still
-unfolding sym_run sym_step execute reached contents after_read after_write after_row arrived is_due noted device_value after_device_read after_device_write sets_gie
+written_still : sym_step writing entry (external_at 9) (run writing 9 3) ≡ Still
+unfolding sym_run sym_step acted effect effect_of access_of stand after_row raised_by control.is_due stored with_stored arrived is_due device_value after_device_read after_device_write sets_gie
 written_still = refl
 
 -- The second byte of object 1 is reached through INDF, with IRP set. It is 255, so adding 1 gives 0 and sets Z, and the
--- write to PORTC, at 07, is skipped. A select is two instructions, and a label none.
+-- write to PORTC, at 07, is skipped. A select is one instruction and a label none; INCF of a watched byte makes two events,
+-- and so two steps.
 abbrev pointing : Setting
 pointing = setting (
-    SelectBank (bytes.Static 1 1) ∷ Literal Movlw (literals.Low (bytes.Static 1 1)) ∷ Movwf (operands.Register register.Fsr)
+    SelectBank Rp1 true ∷ Literal Movlw (literals.Low (bytes.Static 1 1)) ∷ Movwf (operands.Register register.Fsr)
     ∷ Bit Bsf (operands.Register register.Status) 7 ∷ File Incf (operands.Register register.Indf) into.File
-    ∷ Bit Btfss (operands.Register register.Status) 2 ∷ Movwf (device 7) ∷ Label (Inner 0) ∷ to_halt ∷ []) [] [] []
+    ∷ Bit Btfss (operands.Register register.Status) 2 ∷ Movwf (device 7) ∷ Label (Inner 0) ∷ to_halt ∷ []) []
 
-pointed : (sym_run pointing 8 begun).world.trace ≡ ReadOf (cells.Static 1 1) 0xff ∷ WriteOf (cells.Static 1 1) 0 ∷ Ended ∷ []
-unfolding sym_run sym_step execute reached address_of general_at contents after_read after_write result_with flags_with skips_with after_row arrived is_due noted device_value after_device_read after_device_write sets_gie
+pointed : (run pointing 9 8).world.trace ≡ ReadOf (cells.Static 1 1) 0xff ∷ WriteOf (cells.Static 1 1) 0 ∷ Ended ∷ []
+unfolding sym_run sym_step acted effect effect_of access_of address_of general_at owner stand result_with flags_with skips_with after_row raised_by control.is_due stored with_stored arrived is_due device_value after_device_read after_device_write sets_gie
 pointed = refl
 
-pointed_cost : cost_by pointing begun 8 ≡ 8
-unfolding cost_by step_cost sym_run sym_step execute reached address_of general_at contents after_read after_write result_with flags_with skips_with after_row arrived is_due noted device_value after_device_read after_device_write sets_gie
-pointed_cost = refl
+pointed_least : sym_least pointing entry (external_at 9) (begun pointing) 8 ≡ 7
+unfolding cost_by step_cost sym_run sym_step acted effect effect_of access_of address_of general_at owner stand result_with flags_with skips_with after_row raised_by control.is_due stored with_stored arrived is_due device_value after_device_read after_device_write sets_gie
+pointed_least = refl
 
--- A skip before a select: stuck, since a select is two words.
-abbrev selecting : Setting
-selecting = setting (Bit Btfsc (operands.Register register.Status) 2 ∷ SelectBank (bytes.Static 1 1) ∷ to_halt ∷ []) [] [] []
+-- where each instruction costs one more than its number
+pointed_most : sym_most pointing (λ block index. suc index) entry (external_at 9) (begun pointing) 8 ≡ 30
+unfolding cost_by step_cost sym_run sym_step acted effect effect_of access_of address_of general_at owner stand result_with flags_with skips_with after_row raised_by control.is_due stored with_stored arrived is_due device_value after_device_read after_device_write sets_gie
+pointed_most = refl
 
-selecting_stuck : sym_step selecting begun ≡ Stuck
-unfolding sym_step execute reached arrived is_due
-selecting_stuck = refl
+-- A byte of bank 2 without its bank: stuck where selects count, and only there. With RP1 set it is read.
+abbrev a_byte : Sym
+a_byte = File Movf (operands.Byte (bytes.Static 1 0)) into.W
 
--- INTE and GIE are set, and the external flag comes after that event. The handler is called there whole, writes 1 to
--- PORTC and clears the flag; W is main's again behind it.
+unselected : sym_step (selecting (a_byte ∷ to_halt ∷ [])) entry (external_at 9) (begun (selecting (a_byte ∷ to_halt ∷ []))) ≡ Stops
+unfolding sym_step acted effect effect_of access_of address_of general_at owner stand raised_by control.is_due stored arrived is_due
+unselected = refl
+
+selected : (run (selecting (SelectBank Rp1 true ∷ a_byte ∷ to_halt ∷ [])) 9 2).world.trace ≡ ReadOf (cells.Static 1 0) 0xff ∷ []
+unfolding sym_run sym_step acted effect effect_of access_of address_of general_at owner stand result_with flags_with skips_with raised_by control.is_due stored with_stored arrived is_due device_value after_device_read
+selected = refl
+
+-- Main writes to the handler's frame: stuck.
+abbrev trespassing : Setting
+trespassing = setting (Movwf (operands.Byte (bytes.Frame 1 0)) ∷ to_halt ∷ []) []
+
+refused : sym_step trespassing entry (external_at 9) (begun trespassing) ≡ Stops
+unfolding sym_step acted effect effect_of access_of address_of general_at owner stand raised_by control.is_due stored arrived is_due
+refused = refl
+
+-- An instruction behind which nothing stands: stuck at once.
+abbrev running_off : Setting
+running_off = setting (Literal Movlw (literals.Number 5) ∷ Label (Inner 0) ∷ []) []
+
+ran_off : sym_step running_off entry (external_at 9) (begun running_off) ≡ Stops
+unfolding sym_step acted effect effect_of access_of stand after_row raised_by control.is_due stored arrived is_due
+ran_off = refl
+
+-- INTE and GIE are set, and PORTD, at 08, is copied to PORTB. The external flag comes at a length of the trace. The handler
+-- is entered whole there, writes what it finds in W to PORTC and clears the flag; W is main's again behind it.
 abbrev interrupting : Setting
-interrupting = setting (Literal Movlw (literals.Number 0x90) ∷ Movwf (device 0x0b) ∷ Movwf (device 6) ∷ to_halt ∷ [])
-    (Literal Movlw (literals.Number 1) ∷ Movwf (device 7) ∷ Bit Bcf (device 0x0b) 1 ∷ Goto (targets.Label Restore) ∷ [])
-    [] (record { t = 1; flag = Intf } ∷ [])
+interrupting = setting (Literal Movlw (literals.Number 0x90) ∷ Movwf (device 0x0b) ∷ File Movf (device 8) into.W ∷ Movwf (device 6) ∷ to_halt ∷ [])
+    (Movwf (device 7) ∷ Bit Bcf (device 0x0b) 1 ∷ Goto (targets.Label Restore) ∷ [])
 
-interrupted : (sym_run interrupting 9 begun).world.trace ≡
-    WriteOf (cells.Device 0x0b) 0x90 ∷ WriteOf (cells.Device 7) 1 ∷ ReadOf (cells.Device 0x0b) 0x12 ∷ WriteOf (cells.Device 0x0b) 0x10
-    ∷ WriteOf (cells.Device 6) 0x90 ∷ Ended ∷ []
-unfolding sym_run sym_step execute reached contents after_read after_write after_row arrived is_due entered left noted device_value after_device_read after_device_write sets_gie
+interrupted : (run interrupting 1 10).world.trace ≡
+    WriteOf (cells.Device 0x0b) 0x90 ∷ WriteOf (cells.Device 7) 99 ∷ ReadOf (cells.Device 0x0b) 0x12 ∷ WriteOf (cells.Device 0x0b) 0x10
+    ∷ ReadOf (cells.Device 8) 7 ∷ WriteOf (cells.Device 6) 7 ∷ Ended ∷ []
+unfolding sym_run sym_step acted effect effect_of access_of stand result_with flags_with skips_with after_row raised_by control.is_due control.entered control.left stored with_stored arrived is_due entered left device_value after_device_read after_device_write sets_gie
 interrupted = refl
+
+-- between the read of PORTD and the write to PORTB
+between : (run interrupting 2 10).world.trace ≡
+    WriteOf (cells.Device 0x0b) 0x90 ∷ ReadOf (cells.Device 8) 7
+    ∷ WriteOf (cells.Device 7) 99 ∷ ReadOf (cells.Device 0x0b) 0x12 ∷ WriteOf (cells.Device 0x0b) 0x10 ∷ WriteOf (cells.Device 6) 7 ∷ Ended ∷ []
+unfolding sym_run sym_step acted effect effect_of access_of stand result_with flags_with skips_with after_row raised_by control.is_due control.entered control.left stored with_stored arrived is_due entered left device_value after_device_read after_device_write sets_gie
+between = refl
+
+between_most : sym_most interrupting (λ block index. 1) entry (external_at 2) (begun interrupting) 10 ≡ 208
+unfolding cost_by step_cost sym_run sym_step acted effect effect_of access_of stand result_with flags_with skips_with after_row raised_by control.is_due control.entered control.left stored with_stored arrived is_due entered left device_value after_device_read after_device_write sets_gie
+between_most = refl

@@ -1,33 +1,46 @@
--- How many instructions of the chip each step of symbolic code takes.
-use Rattle.std.specs.Prelude.{ℕ, zero, suc, ◌+◌, if◌then◌else◌, Option, Some, None}
+-- How many instructions of the chip the steps of symbolic code take, by the prices of its instructions and of what saves
+-- and restores main's context.
+use Rattle.std.specs.Prelude.{ℕ, zero, suc, ◌+◌, Bool, if◌then◌else◌, Option, Some, None}
+use Rattle.pic_chip.specs.World.{Outside, is_due}
 use Rattle.core_code.specs.Cost.{context_cost}
-use Rattle.core_code.specs.World.{arrived, is_due}
-use Rattle.sym_code.specs.Machine.{Setting, Machine, Position, fetched, sym_run}
-use Rattle.sym_code.specs.declared.code.Label.TheVariants.{Restore}
-use Rattle.sym_code.specs.declared.code.Sym.{Sym}
-use Rattle.sym_code.specs.declared.code.Sym.TheVariants.{Goto, Label, SelectBank, SelectPage}
-use Rattle.sym_code.specs.declared.code.Target.TheVariants as targets
+use Rattle.sym_code.specs.Effect.{Setting, Thread, Memory, Rest, Effect, Leaves, effect}
+use Rattle.sym_code.specs.Machine.{Machine, Entry, running, settled, sym_run}
+use Rattle.sym_code.specs.Programs.{Position}
+use Rattle.sym_code.specs.declared.code.BlockName.{BlockName}
 
--- a select is two instructions, and the jump out of the handler restores main's context
-abbrev pub cost_of : Sym → ℕ
-cost_of (Label label) = 0
-cost_of (SelectBank byte) = 2
-cost_of (SelectPage target) = 2
-cost_of (Goto (targets.Label Restore)) = 1 + context_cost
-cost_of _ = 1
+pub record Prices : Type 0 where
+  -- of the instruction of this number in a block
+  pub word : BlockName → ℕ → ℕ
+  pub enter : ℕ
+  -- besides the jump with which the handler ends
+  pub leave : ℕ
 
-abbrev pub cost_if : Option Sym → ℕ
-cost_if None = 0
-cost_if (Some s) = cost_of s
+-- at least: an instruction is one, and an entry takes one
+abbrev pub least_prices : Prices
+least_prices = record { word = λ block index. 1; enter = 1; leave = 0 }
 
-abbrev pub cost_at : Setting → Option Position → ℕ
-cost_at g None = 0
-cost_at g (Some p) = cost_if (fetched g.program p)
+-- At most: an instruction costs what is given for its place, which is more than one where selects will stand before it.
+abbrev pub most_prices : (BlockName → ℕ → ℕ) → Prices
+most_prices price = record { word = price; enter = context_cost; leave = context_cost }
 
-unfoldable pub step_cost : Setting → Machine → ℕ
-step_cost g t = if is_due (arrived g.outside t.world) then context_cost else cost_at g t.at
+-- a main that has ended costs nothing
+abbrev pub instruction_cost : Prices → Option Position → Effect → ℕ
+instruction_cost c None effect = 0
+instruction_cost c (Some p) Leaves = c.word p.block p.index + c.leave
+instruction_cost c (Some p) effect = c.word p.block p.index
+
+-- an instruction of two events is paid at its first one
+abbrev pub thread_cost : Setting → Prices → Bool → Thread → Memory → Option Rest → ℕ
+thread_cost g c inside th m None = instruction_cost c th.at (effect g inside th m)
+thread_cost g c inside th m (Some rest) = 0
+
+abbrev pub step_cost_at : Setting → Prices → Machine → ℕ
+step_cost_at g c t = if is_due t.world then c.enter else thread_cost g c t.world.inside (running t) t.memory (running t).rest
+
+unfoldable pub step_cost : Setting → Prices → Outside → Machine → ℕ
+step_cost g c o t = step_cost_at g c (settled o t)
 
 -- of the first n steps from here together
-unfoldable pub cost_by : Setting → Machine → ℕ → ℕ
-cost_by g t zero = 0
-cost_by g t (suc n) = cost_by g t n + step_cost g (sym_run g n t)
+unfoldable pub cost_by : Setting → Prices → Entry → Outside → ℕ → Machine → ℕ
+cost_by g c e o zero t = 0
+cost_by g c e o (suc n) t = cost_by g c e o n t + step_cost g c o (sym_run g e o n t)

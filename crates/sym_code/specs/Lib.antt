@@ -1,6 +1,11 @@
 pub mod WellFormed
+pub mod Touching
 pub mod Registers
 pub mod Layout
+pub mod Programs
+pub mod Effect
 pub mod Machine
 pub mod Cost
+pub mod Runs
+pub mod Quiet
 pub mod Correct

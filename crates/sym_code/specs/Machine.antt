@@ -1,342 +1,152 @@
--- What symbolic code does: an instruction is one step, with a handler that is entered whole directly after an event. Data
--- memory is the chip's: a byte's name stands for the address that the layout gives it. Positions in blocks stand in
--- place of addresses of program memory, so bank and page bits are no part of it, and selects change nothing. Saving and
--- restoring main's context is the machine's here, and the start block's on the chip. Where no rule applies the machine is
--- stuck. g is the setting, p where the instruction stands, t the machine.
-use Rattle.std.specs.Prelude.{ℕ, zero, suc, ◌+◌, ◌*◌, ◌<◌, ◌≤◌, Bool, true, false, nat_eq, if◌then◌else◌, List, [], ◌∷◌, length, drop, Contains, Option, Some, None, option_map, slice_get}
-use Rattle.pic_isa.specs.declared.Ins.TheVariants as ins
-use Rattle.pic_chip.specs.Instructions.{bit, set_bit, clear_bit}
-use Rattle.pic_chip.specs.Run.{object_at}
-use Rattle.pic_chip.specs.declared.Arrival.{Arrival}
-use Rattle.pic_chip.specs.declared.Cell.{Cell}
-use Rattle.core_code.specs.World.{Outside, World, Happening, ReadOf, WriteOf, Ended, arrived, is_due, entered, left, noted, device_value, after_device_read, after_device_write, sets_gie, world_at_start}
-use Rattle.core_code.specs.declared.code.Byte.TheVariants as bytes
-use Rattle.sym_code.specs.Layout.{Layout, address_of, address_byte, general_at, saved_address}
-use Rattle.sym_code.specs.Registers.{Registers, result_with, flags_with, skips_with, literal_row, after_row, status_bit, with_status_bit}
-use Rattle.sym_code.specs.declared.code.BitOperation.{BitOperation}
-use Rattle.sym_code.specs.declared.code.BitOperation.TheVariants.{Bcf, Bsf, Btfsc, Btfss}
-use Rattle.sym_code.specs.declared.code.BlockName.{BlockName}
-use Rattle.sym_code.specs.declared.code.BlockName.TheVariants.{Start, Copy}
-use Rattle.sym_code.specs.declared.code.FileOperation.{FileOperation}
-use Rattle.sym_code.specs.declared.code.Into.{Into}
-use Rattle.sym_code.specs.declared.code.Into.TheVariants as into
-use Rattle.sym_code.specs.declared.code.Label.{Label}
-use Rattle.sym_code.specs.declared.code.Label.TheVariants.{Inner, Halt, Restore}
-use Rattle.sym_code.specs.declared.code.Literal.{Literal}
-use Rattle.sym_code.specs.declared.code.Literal.TheVariants as literals
-use Rattle.sym_code.specs.declared.code.LiteralOperation.{LiteralOperation}
-use Rattle.sym_code.specs.declared.code.LiteralOperation.TheVariants.{Retlw}
-use Rattle.sym_code.specs.declared.code.Operand.{Operand}
-use Rattle.sym_code.specs.declared.code.Operand.TheVariants as operands
-use Rattle.sym_code.specs.declared.code.PlainOperation.{PlainOperation}
-use Rattle.sym_code.specs.declared.code.PlainOperation.TheVariants.{Clrw, Nop, Retfie, Return}
-use Rattle.sym_code.specs.declared.code.Register.TheVariants.{Indf, Status, Fsr, Pclath}
-use Rattle.sym_code.specs.declared.code.Sym.{Sym}
-use Rattle.sym_code.specs.declared.code.Sym.TheVariants as sym
-use Rattle.sym_code.specs.declared.code.SymBlock.{SymBlock}
-use Rattle.sym_code.specs.declared.code.Target.{Target}
-use Rattle.sym_code.specs.declared.code.Target.TheVariants as targets
-
--- ---- programs
-abbrev pub same_name : BlockName → BlockName → Bool
-same_name Start Start = true
-same_name (Copy c) (Copy d) = nat_eq c d
-same_name _ _ = false
-
-abbrev pub same_label : Label → Label → Bool
-same_label (Inner n) (Inner m) = nat_eq n m
-same_label Halt Halt = true
-same_label Restore Restore = true
-same_label _ _ = false
-
--- the code of the block of a name
-abbrev pub block_in : List SymBlock → BlockName → List Sym
-block_in [] name = []
-block_in (b ∷ bs) name = if same_name b.name name then b.list.items else block_in bs name
-
-pub record Program : Type 0 where
-  pub block : BlockName → List Sym
-  -- the handler's copy; main's is copy 0
-  pub handler : Option ℕ
-  pub layout : Layout
-
-pub record Setting : Type 0 where
-  pub program : Program
-  pub outside : Outside
-
--- ---- the machine
--- the general bytes by their numbers
-abbrev pub Memory : Type 0
-Memory = ℕ → ℕ
-
-abbrev pub with_byte : Memory → ℕ → ℕ → Memory
-with_byte m k v other = if nat_eq other k then v else m other
-
--- an instruction of a block, by its number there
-pub record Position : Type 0 where
-  pub block : BlockName
-  pub index : ℕ
-
--- what a return goes back to: behind a call, or where the handler interrupted main, with main's registers; none: main
--- had ended
-pub data Waiting : Type 0 where
-  Back : Position → Waiting
-  Interrupted : Option Position → Registers → Waiting
+-- What symbolic code does: an instruction is one step, and one that makes two events is two, so that no step makes more than
+-- one. The handler is entered whole directly after an event. Main
+-- and the handler are two threads over one memory, which is the chip's. Positions in blocks stand in place of addresses
+-- of program memory. Saving and restoring main's context is the machine's here, and the start block's on the chip; so
+-- what the handler finds in the registers comes from outside. A step that would go to where no instruction stands is
+-- stuck at once.
+-- g is the setting, e the handler's registers at its entries, o the outside, t the machine.
+use Rattle.std.specs.Prelude.{ℕ, zero, suc, ◌+◌, Bool, true, false, if◌then◌else◌, List, [], ◌∷◌, ◌++◌, Option, Some, None}
+use Rattle.pic_chip.specs.World.{Outside, World, ReadOf, WriteOf, Ended, arrived, is_due, entered, left, noted, device_value, after_device_read, after_device_write, sets_gie, world_at_start}
+use Rattle.sym_code.specs.Effect.{Setting, Thread, Memory, Write, written, write, Loud, Port, Shared, Effect, Stuck, Quiet, Reads, Writes, Leaves, Ends, Rests, effect}
+use Rattle.sym_code.specs.Programs.{Program, Position, front, lands}
+use Rattle.sym_code.specs.Registers.{Registers}
+use Rattle.sym_code.specs.declared.code.BlockName.TheVariants.{Copy}
+pub use Rattle.sym_code.specs.Programs.{same_name, same_label}
 
 pub record Machine : Type 0 where
-  -- the next instruction; none: main has ended
-  pub at : Option Position
-  pub stack : List Waiting
-  pub registers : Registers
+  pub main : Thread
+  pub isr : Thread
+  -- how often the handler was entered
+  pub entries : ℕ
   pub memory : Memory
+  -- it also says whether the handler runs
   pub world : World ℕ
+
+-- what the handler finds in the registers, by the number of the entry
+abbrev pub Entry : Type 0
+Entry = ℕ → Registers
 
 pub data Next : Type 0 where
   Goes : Machine → Next
-  Stuck : Next
+  Stops : Next
   -- main has ended, and no handler is due
   Still : Next
 
-abbrev pub position : BlockName → ℕ → Position
-position name n = record { block = name; index = n }
-
--- the code goes on there, or behind this instruction
-abbrev pub goes_to : Position → Machine → Next
-goes_to p t = Goes (record t { at = Some p })
-
-abbrev pub next_to : Position → Position
-next_to p = position p.block (p.index + 1)
-
-abbrev pub goes : Position → Machine → Next
-goes p t = goes_to (next_to p) t
-
--- ---- what an operand is
--- FSR, a device register, or a general byte by its number and address
-pub data Reached : Type 0 where
-  TheFsr : Reached
-  Register : ℕ → Reached
-  General : ℕ → ℕ → Reached
-
-abbrev pub in_memory : ℕ → Option Reached
-in_memory address = option_map (λ k. General k address) (general_at address)
-
--- INDF is the general byte whose address IRP and FSR make. STATUS and PCLATH are read and written as a whole by the
--- start block alone, where it saves and restores main's context.
-unfoldable pub reached : Layout → Registers → Operand → Option Reached
-reached l r (operands.Byte (bytes.Device address)) = Some (Register address)
-reached l r (operands.Byte byte) = in_memory (address_of l byte)
-reached l r (operands.Register Indf) = in_memory (256 * r.irp + r.fsr)
-reached l r (operands.Register Fsr) = Some TheFsr
-reached l r (operands.Register Status) = None
-reached l r (operands.Register Pclath) = None
-reached l r (operands.Saved s) = in_memory (saved_address s)
-
--- ---- reads and writes
--- an access to a static object that isn't const is an event
-abbrev pub noting : (Cell → Happening ℕ) → Option Cell → World ℕ → World ℕ
-noting event None w = w
-noting event (Some cell) w = noted (event cell) w
-
+-- ---- events
 abbrev pub itself : ℕ → ℕ
 itself n = n
 
-unfoldable pub contents : Setting → Reached → Machine → ℕ
-contents g TheFsr t = t.registers.fsr
-contents g (Register address) t = device_value g.outside address t.world
-contents g (General k address) t = t.memory k
+abbrev pub value_by : Outside → Memory → World ℕ → Loud → ℕ
+value_by o m w (Port address) = device_value o address w
+value_by o m w (Shared k cell) = m k
 
-unfoldable pub after_read : Setting → Reached → Machine → Machine
-after_read g TheFsr t = t
-after_read g (Register address) t = record t { world = after_device_read itself g.outside address t.world }
-after_read g (General k address) t = record t { world = noting (λ cell. ReadOf cell (t.memory k)) (object_at g.program.layout.objects 0 address) t.world }
+abbrev pub read_by : Outside → Memory → World ℕ → Loud → World ℕ
+read_by o m w (Port address) = after_device_read itself o address w
+read_by o m w (Shared k cell) = noted (ReadOf cell (m k)) w
 
--- a byte is written; none where the handler would set GIE
-unfoldable pub after_write : Setting → Reached → ℕ → Machine → Option Machine
-after_write g TheFsr v t = Some (record t { registers = record t.registers { fsr = v } })
-after_write g (Register address) v t = if sets_gie address v t.world then None else Some (record t { world = after_device_write itself address v t.world })
-after_write g (General k address) v t = Some (record t { memory = with_byte t.memory k v; world = noting (λ cell. WriteOf cell v) (object_at g.program.layout.objects 0 address) t.world })
+abbrev pub write_by : Loud → ℕ → Option Write
+write_by (Port address) v = None
+write_by (Shared k cell) v = write k v
 
--- ---- skips
--- How many places behind a skip the code goes on: past labels, and past the next word. A select is two words, and no
--- skip goes past one of them.
-abbrev pub past_word : List Sym → Option ℕ
-past_word [] = None
-past_word (sym.Label l ∷ rest) = option_map (λ n. n + 1) (past_word rest)
-past_word (sym.SelectBank byte ∷ rest) = None
-past_word (sym.SelectPage target ∷ rest) = None
-past_word (_ ∷ rest) = Some 1
+abbrev pub wrote_by : World ℕ → Loud → ℕ → World ℕ
+wrote_by w (Port address) v = after_device_write itself address v w
+wrote_by w (Shared k cell) v = noted (WriteOf cell v) w
 
-abbrev pub skips_to : Position → Option ℕ → Machine → Next
-skips_to p None t = Stuck
-skips_to p (Some n) t = goes_to (position p.block (p.index + 1 + n)) t
+-- the handler would set GIE
+abbrev pub is_forbidden : World ℕ → Loud → ℕ → Bool
+is_forbidden w (Port address) v = sets_gie address v w
+is_forbidden w (Shared k cell) v = false
 
-abbrev pub goes_or_skips : Setting → Position → Bool → Machine → Next
-goes_or_skips g p skips t = if skips then skips_to p (past_word (drop (p.index + 1) (g.program.block p.block))) t else goes p t
+-- ---- what an effect makes
+-- the thread, a byte that is written, and the world
+pub record Made : Type 0 where
+  pub thread : Thread
+  pub write : Option Write
+  pub world : World ℕ
 
--- ---- instructions on a file register
-abbrev pub with_result : Setting → Into → Reached → ℕ → Machine → Option Machine
-with_result g into.W r v t = Some (record t { registers = record t.registers { w = v } })
-with_result g into.File r v t = after_write g r v t
+abbrev pub made_write : World ℕ → Loud → ℕ → Thread → Option Made
+made_write w b v th = if is_forbidden w b v then None else Some (record { thread = th; write = write_by b v; world = wrote_by w b v })
 
-abbrev pub then_next : Setting → Position → Bool → Option Machine → Next
-then_next g p skips None = Stuck
-then_next g p skips (Some t) = goes_or_skips g p skips t
+abbrev pub made : Outside → Memory → World ℕ → Effect → Option Made
+made o m w Stuck = None
+made o m w (Quiet th x) = Some (record { thread = th; write = x; world = w })
+made o m w (Reads b next) = Some (record { thread = next (value_by o m w b); write = None; world = read_by o m w b })
+made o m w (Writes b v th) = made_write w b v th
+made o m w Leaves = None
+made o m w (Ends th) = None
+made o m w Rests = None
 
-abbrev pub file : Setting → Position → FileOperation → Into → Option Reached → Machine → Next
-file g p op dest None t = Stuck
-file g p op dest (Some r) t =
-    let x = contents g r t in
-    let u = after_read g r t in
-    then_next g p (skips_with t.registers op x) (with_result g dest r (result_with t.registers op x) (record u { registers = flags_with t.registers op x }))
+abbrev pub lands_at : Program → Option Position → Bool
+lands_at q None = false
+lands_at q (Some p) = lands q p
 
--- MOVWF and CLRF write and don't read; CLRF sets Z
-abbrev pub write : Setting → Position → Option Reached → ℕ → Machine → Next
-write g p None v t = Stuck
-write g p (Some r) v t = then_next g p false (after_write g r v t)
+-- a thread goes only to where an instruction stands
+abbrev pub checked : Program → Option Made → Option Made
+checked q None = None
+checked q (Some x) = if lands_at q x.thread.at then Some x else None
 
--- a bit of a file register
-abbrev pub bit_of : Setting → Position → BitOperation → Reached → ℕ → ℕ → Machine → Next
-bit_of g p Bcf r b x t = then_next g p false (after_write g r (clear_bit b x) t)
-bit_of g p Bsf r b x t = then_next g p false (after_write g r (set_bit b x) t)
-bit_of g p Btfsc r b x t = goes_or_skips g p (nat_eq (bit x b) 0) t
-bit_of g p Btfss r b x t = goes_or_skips g p (nat_eq (bit x b) 1) t
+-- the thread that runs
+abbrev pub running : Machine → Thread
+running t = if t.world.inside then t.isr else t.main
 
-abbrev pub file_bit : Setting → Position → BitOperation → ℕ → Option Reached → Machine → Next
-file_bit g p op b None t = Stuck
-file_bit g p op b (Some r) t = bit_of g p op r b (contents g r t) (after_read g r t)
+abbrev pub moved : Machine → Option Made → Next
+moved t None = Stops
+moved t (Some x) = Goes (record t {
+  main = if t.world.inside then t.main else x.thread;
+  isr = if t.world.inside then x.thread else t.isr;
+  memory = written x.write t.memory;
+  world = x.world;
+})
 
--- a flag or IRP
-abbrev pub with_registers : Machine → Option Registers → Option Machine
-with_registers t None = None
-with_registers t (Some r) = Some (record t { registers = r })
+-- An effect is applied. Main ends with an event. Behind the handler main goes on as it was.
+unfoldable pub acted : Setting → Outside → Machine → Effect → Next
+acted g o t Leaves = Goes (record t { world = left t.world })
+acted g o t (Ends th) = Goes (record t { main = th; world = noted Ended t.world })
+acted g o t Rests = Still
+acted g o t e = moved t (checked g.program (made o t.memory t.world e))
 
-abbrev pub skips_if : Setting → Position → ℕ → Option ℕ → Machine → Next
-skips_if g p v None t = Stuck
-skips_if g p v (Some x) t = goes_or_skips g p (nat_eq x v) t
+abbrev pub act : Setting → Outside → Machine → Next
+act g o t = acted g o t (effect g t.world.inside (running t) t.memory)
 
-abbrev pub flag : Setting → Position → BitOperation → ℕ → Machine → Next
-flag g p Bcf b t = then_next g p false (with_registers t (with_status_bit t.registers b 0))
-flag g p Bsf b t = then_next g p false (with_registers t (with_status_bit t.registers b 1))
-flag g p Btfsc b t = skips_if g p 0 (status_bit t.registers b) t
-flag g p Btfss b t = skips_if g p 1 (status_bit t.registers b) t
+-- ---- entries
+abbrev pub at_entry : Program → ℕ → Registers → Thread
+at_entry q handler r = record { rest = None; at = Some (front q (Copy handler)); stack = []; registers = r }
 
-abbrev pub bits : Setting → Position → BitOperation → Operand → ℕ → Machine → Next
-bits g p op (operands.Register Status) b t = flag g p op b t
-bits g p op operand b t = file_bit g p op b (reached g.program.layout t.registers operand) t
+abbrev pub with_entry : Thread → Machine → Machine
+with_entry th t = record t { isr = th; entries = t.entries + 1; world = entered t.world }
 
--- ---- jumps, calls and returns
-abbrev pub label_from : List Sym → Label → ℕ → Option ℕ
-label_from [] label n = None
-label_from (sym.Label l ∷ rest) label n = if same_label l label then Some n else label_from rest label (n + 1)
-label_from (_ ∷ rest) label n = label_from rest label (n + 1)
-
--- where a target stands
-abbrev pub place_of : Setting → Position → Target → Option Position
-place_of g p (targets.Block name) = Some (position name 0)
-place_of g p (targets.Label label) = option_map (position p.block) (label_from (g.program.block p.block) label 0)
-
--- Main ends with an event.
-abbrev pub halt : List Waiting → Machine → Next
-halt [] t = Goes (record t { at = None; world = noted Ended t.world })
-halt _ t = Stuck
-
--- What the handler interrupted goes on, with its registers.
-abbrev pub restore : List Waiting → Machine → Next
-restore (Interrupted p r ∷ s) t = Goes (record t { at = p; stack = s; registers = r; world = left t.world })
-restore _ t = Stuck
-
-abbrev pub jump_to : Option Position → Machine → Next
-jump_to None t = Stuck
-jump_to (Some q) t = goes_to q t
-
-abbrev pub goto : Setting → Position → Target → Machine → Next
-goto g p (targets.Label Halt) t = halt t.stack t
-goto g p (targets.Label Restore) t = restore t.stack t
-goto g p target t = jump_to (place_of g p target) t
-
-abbrev pub call : Setting → Position → Target → Machine → Next
-call g p target t = jump_to (place_of g p target) (record t { stack = Back (next_to p) ∷ t.stack })
-
-abbrev pub back : List Waiting → Machine → Next
-back (Back p ∷ s) t = goes_to p (record t { stack = s })
-back _ t = Stuck
-
--- ---- literals and instructions without an operand
-abbrev pub literal_value : Layout → Literal → ℕ
-literal_value l (literals.Number n) = n
-literal_value l (literals.Low byte) = address_byte false (address_of l byte)
-literal_value l (literals.High byte) = address_byte true (address_of l byte)
-
-abbrev pub with_literal : LiteralOperation → ℕ → Machine → Machine
-with_literal op k t = record t { registers = after_row (literal_row op k) t.registers }
-
-abbrev pub literal : Position → LiteralOperation → Machine → Next
-literal p Retlw t = back t.stack t
-literal p _ t = goes p t
-
-abbrev pub plain : Position → PlainOperation → Machine → Next
-plain p Clrw t = goes p (record t { registers = after_row ins.Clrw t.registers })
-plain p Nop t = goes p t
-plain p Retfie t = Stuck
-plain p Return t = back t.stack t
-
--- ---- one instruction; a label and a select change nothing
-unfoldable pub execute : Setting → Position → Sym → Machine → Next
-execute g p (sym.File op operand dest) t = file g p op dest (reached g.program.layout t.registers operand) t
-execute g p (sym.Movwf operand) t = write g p (reached g.program.layout t.registers operand) t.registers.w t
-execute g p (sym.Clrf operand) t = write g p (reached g.program.layout t.registers operand) 0 (record t { registers = record t.registers { z = 1 } })
-execute g p (sym.Bit op operand b) t = bits g p op operand b t
-execute g p (sym.Literal op value) t = literal p op (with_literal op (literal_value g.program.layout value) t)
-execute g p (sym.Plain op) t = plain p op t
-execute g p (sym.Call target) t = call g p target t
-execute g p (sym.Goto target) t = goto g p target t
-execute g p (sym.Label label) t = goes p t
-execute g p (sym.SelectBank byte) t = goes p t
-execute g p (sym.SelectPage target) t = goes p t
-
-abbrev pub fetched : Program → Position → Option Sym
-fetched g p = slice_get (g.block p.block) p.index
-
-abbrev pub execute_if : Setting → Position → Option Sym → Machine → Next
-execute_if g p None t = Stuck
-execute_if g p (Some s) t = execute g p s t
-
-abbrev pub act : Setting → Option Position → Machine → Next
-act g None t = Still
-act g (Some p) t = execute_if g p (fetched g.program p) t
+abbrev pub enter : Setting → Entry → Option ℕ → Machine → Next
+enter g e None t = Stops
+enter g e (Some h) t = if lands g.program (front g.program (Copy h)) then Goes (with_entry (at_entry g.program h (e t.entries)) t) else Stops
 
 -- ---- steps and runs
--- The handler is entered whole: where main stands and its registers are kept.
-abbrev pub enter : Option ℕ → Machine → Next
-enter None t = Stuck
-enter (Some h) t = Goes (record t { at = Some (position (Copy h) 0); stack = Interrupted t.at t.registers ∷ t.stack; world = entered t.world })
+-- the flags that arrive at this length are set
+abbrev pub settled : Outside → Machine → Machine
+settled o t = record t { world = arrived o t.world }
 
-abbrev pub sym_step_at : Setting → Machine → Next
-sym_step_at g t = if is_due t.world then enter g.program.handler t else act g t.at t
+abbrev pub sym_step_at : Setting → Entry → Outside → Machine → Next
+sym_step_at g e o t = if is_due t.world then enter g e g.program.handler t else act g o t
 
 -- One step: arrivals first, then the handler if it is due, otherwise the next instruction.
-unfoldable pub sym_step : Setting → Machine → Next
-sym_step g t = sym_step_at g (record t { world = arrived g.outside t.world })
-
-abbrev pub goes_on : Next → Bool
-goes_on (Goes t) = true
-goes_on Stuck = false
-goes_on Still = false
+unfoldable pub sym_step : Setting → Entry → Outside → Machine → Next
+sym_step g e o t = sym_step_at g e o (settled o t)
 
 abbrev pub gone : Machine → Next → Machine
 gone t (Goes u) = u
-gone t Stuck = t
+gone t Stops = t
 gone t Still = t
 
 -- the machine after so many steps from here
-unfoldable pub sym_run : Setting → ℕ → Machine → Machine
-sym_run g zero t = t
-sym_run g (suc n) t = let u = sym_run g n t in gone u (sym_step g u)
+unfoldable pub sym_run : Setting → Entry → Outside → ℕ → Machine → Machine
+sym_run g e o zero t = t
+sym_run g e o (suc n) t = let u = sym_run g e o n t in gone u (sym_step g e o u)
 
 -- at the front of main, with these registers and this memory
-abbrev pub sym_start : Registers → Memory → Machine
-sym_start r m = record { at = Some (position (Copy 0) 0); stack = []; registers = r; memory = m; world = world_at_start }
-
--- Schedules that count: no arrival falls between two events of one instruction.
-abbrev pub Counts : Setting → Machine → Type 0
-Counts g t = (n : ℕ) (a : Arrival) → Contains g.outside.arrivals a → length (sym_run g n t).world.trace < a.t → length (sym_run g (suc n) t).world.trace ≤ a.t
+abbrev pub sym_start : Program → Registers → Memory → Machine
+sym_start q r m = record {
+  main = record { rest = None; at = Some (front q (Copy 0)); stack = []; registers = r };
+  isr = record { rest = None; at = None; stack = []; registers = r };
+  entries = 0;
+  memory = m;
+  world = world_at_start;
+}

@@ -1,7 +1,6 @@
--- W, the flags, FSR and IRP, and what instructions make of them. Results and flags are those of the chip's table of
--- instructions. STATUS is in its parts; its bank bits RP1 and RP0 and PCLATH are no part of the state here, since
--- operands and targets have names.
-use Rattle.std.specs.Prelude.{ℕ, Bool, nat_eq, if◌then◌else◌, List, [], ◌∷◌, map, Option, Some, None}
+-- W, FSR, STATUS in its parts and the page bits of PCLATH, and what instructions make of them. Results and flags are
+-- those of the chip's table of instructions.
+use Rattle.std.specs.Prelude.{ℕ, ◌+◌, ◌*◌, ◌<◌, Bool, nat_eq, if◌then◌else◌, List, [], ◌∷◌, map, Option, Some, None}
 use Rattle.pic_isa.specs.declared.Ins.{Ins}
 use Rattle.pic_isa.specs.declared.Ins.TheVariants as ins
 use Rattle.pic_chip.specs.Act.{Derived, Write, Act, Ask, Do}
@@ -10,10 +9,14 @@ use Rattle.pic_chip.specs.Operations.{result_of, flags_of, next_of}
 use Rattle.pic_chip.specs.State.{Part, AtW, AtZ, AtDc, AtC, AtFsr}
 use Rattle.pic_chip.specs.declared.operation.Operation.{Operation}
 use Rattle.pic_chip.specs.declared.operation.Operation.TheVariants as does
+use Rattle.sym_code.specs.declared.code.BankBit.{BankBit}
+use Rattle.sym_code.specs.declared.code.BankBit.TheVariants.{Rp0, Rp1, Irp}
 use Rattle.sym_code.specs.declared.code.FileOperation.{FileOperation}
 use Rattle.sym_code.specs.declared.code.FileOperation.TheVariants.{Addwf, Andwf, Comf, Decf, Decfsz, Incf, Incfsz, Iorwf, Movf, Rlf, Rrf, Subwf, Swapf, Xorwf}
 use Rattle.sym_code.specs.declared.code.LiteralOperation.{LiteralOperation}
 use Rattle.sym_code.specs.declared.code.LiteralOperation.TheVariants.{Addlw, Andlw, Iorlw, Movlw, Retlw, Sublw, Xorlw}
+use Rattle.sym_code.specs.declared.code.PageBit.{PageBit}
+use Rattle.sym_code.specs.declared.code.PageBit.TheVariants.{Low, High}
 
 pub record Registers : Type 0 where
   pub w : ℕ
@@ -21,7 +24,43 @@ pub record Registers : Type 0 where
   pub dc : ℕ
   pub c : ℕ
   pub fsr : ℕ
+  -- the bits that select a bank: RP0 and RP1 for names, IRP for addresses in FSR
+  pub rp0 : ℕ
+  pub rp1 : ℕ
   pub irp : ℕ
+  -- the bits that select a page: 3 and 4 of PCLATH
+  pub page_low : ℕ
+  pub page_high : ℕ
+
+-- each part is within its size
+pub record Fits (r : Registers) : Type 0 where
+  pub w : r.w < 256
+  pub flags : (r.z < 2) × (r.dc < 2) × (r.c < 2)
+  pub pointer : r.fsr < 256
+  pub banks : (r.rp0 < 2) × (r.rp1 < 2) × (r.irp < 2)
+  pub pages : (r.page_low < 2) × (r.page_high < 2)
+
+-- ---- what is selected
+abbrev pub bank : Registers → ℕ
+bank r = 2 * r.rp1 + r.rp0
+
+abbrev pub page : Registers → ℕ
+page r = 2 * r.page_high + r.page_low
+
+-- what FSR and IRP point to
+abbrev pub pointer : Registers → ℕ
+pointer r = 256 * r.irp + r.fsr
+
+abbrev pub with_bank_bit : Registers → BankBit → ℕ → Registers
+with_bank_bit r Rp0 v = record r { rp0 = v }
+with_bank_bit r Rp1 v = record r { rp1 = v }
+with_bank_bit r Irp v = record r { irp = v }
+
+abbrev pub with_page_bit : Registers → PageBit → ℕ → Registers
+with_page_bit r Low v = record r { page_low = v }
+with_page_bit r High v = record r { page_high = v }
+
+-- ---- parts by the names of the table
 
 abbrev pub part_of : Registers → Part → ℕ
 part_of r AtW = r.w
@@ -92,7 +131,7 @@ writes_in (Do e) = e.writes
 unfoldable pub after_row : Ins → Registers → Registers
 after_row i r = written (writes_in (row [] 0 i)) r r
 
--- ---- bits of STATUS: IRP 7, Z 2, DC 1, C 0; the others are named by no instruction
+-- ---- bits of STATUS: IRP 7, Z 2, DC 1, C 0; of the others, RP0 and RP1 are written by selects alone
 abbrev pub status_bit : Registers → ℕ → Option ℕ
 status_bit r bit =
     if nat_eq bit 0 then Some r.c else

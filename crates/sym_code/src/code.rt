@@ -121,8 +121,24 @@ pub enum Target {
     Label(Label),
 }
 
-/// A symbolic instruction: one of the chip, whose operands have names; a label, which is no instruction; or a select,
-/// which is two instructions.
+/// A bit of STATUS that selects banks: RP0 and RP1, bits 5 and 6, by the 7 low bits of an address in an instruction, and
+/// IRP, bit 7, by an address in FSR.
+#[derive(Clone, Copy, PartialEq, Eq, Debug)]
+pub enum BankBit {
+    Rp0,
+    Rp1,
+    Irp,
+}
+
+/// A bit of PCLATH that selects pages of program memory: bit 3 and bit 4.
+#[derive(Clone, Copy, PartialEq, Eq, Debug)]
+pub enum PageBit {
+    Low,
+    High,
+}
+
+/// A symbolic instruction: one of the chip, whose operands have names; a label, which is no instruction; or a select of
+/// one bit, which is a BCF or BSF.
 #[derive(Clone, Copy, PartialEq, Eq, Debug)]
 pub enum Sym {
     File {
@@ -145,10 +161,10 @@ pub enum Sym {
     Call(Target),
     Goto(Target),
     Label(Label),
-    /// RP1 and RP0 become those of the bank of a byte.
-    SelectBank(Byte),
-    /// Bits 4 and 3 of PCLATH become those of the page of a target.
-    SelectPage(Target),
+    /// A bit of STATUS gets a value.
+    SelectBank(BankBit, bool),
+    /// A bit of PCLATH becomes that of the page of the block that a target lies in.
+    SelectPage(PageBit, Target),
 }
 
 /// The instructions of a block in order.

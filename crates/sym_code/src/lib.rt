@@ -6,8 +6,10 @@
 #![tactic(auto)]
 
 mod code;
+mod touching;
 
 pub use code::{
-    BitOperation, BlockName, FileOperation, Into, Label, Literal, LiteralOperation, Operand,
-    PlainOperation, Register, Saved, Sym, SymBlock, SymProgram, Target,
+    BankBit, BitOperation, BlockName, FileOperation, Into, Label, Literal, LiteralOperation,
+    Operand, PageBit, PlainOperation, Register, Saved, Sym, SymBlock, SymProgram, Target,
 };
+pub use touching::{is_bit_write, is_file, touches};
