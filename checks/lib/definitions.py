@@ -62,9 +62,8 @@ def rising(what, differences):
 
 
 def costs(source, core, plain, selected, nodes):
-    """Between any two events a run costs at most no more than the one above it, and at least no less. No instruction has a moment
-    between the two events of a bit."""
-    both = [0] + [i + 1 for i in range(min(map(len, (source.events, core.events, plain.events, selected.events)))) if not core.marks[i][2]]
+    """Between any two events a run costs at most no more than the one above it, and at least no less."""
+    both = range(min(map(len, (source.events, core.events, plain.events, selected.events))) + 1)
     steps, most, least = [0] + source.marks, {}, {}
     for name, run in (('core', core), ('plain', plain), ('selected', selected)):
         most[name], least[name] = [0] + [mark[0] for mark in run.marks], [0] + [mark[1] for mark in run.marks]
@@ -96,6 +95,15 @@ def contents(shown, chip):
             found = at(chip.moment.state, o.address + k)
             if found != wanted:
                 raise Differs('byte %d of object %d holds %d and not %d' % (k, n, found, wanted))
+
+
+def code(shown, program):
+    """The byte code that is printed is that which the definitions make."""
+    for c, copy in enumerate(shown.copies):
+        if copy.function[0] == 'User' and program.body(c) != shown.bodies[c]:
+            raise Differs('the byte code of copy %d is not that of the definitions' % c)
+    if program.first != shown.first:
+        raise Differs('first bytes %r are not %r' % (shown.first, program.first))
 
 
 def words(shown):
@@ -149,14 +157,15 @@ def follow(shown, inputs, pairs, rng, tally):
     source = Source(shown, inputs, pairs).run(STEPS, EVENTS)
     if isinstance(source.end, tuple) and source.end[0] != 'Undefined':
         raise Differs('the source ends with %r' % (source.end,))
-    core = Core(shown, inputs, pairs).run(STEPS * 2, len(source.events) + 20)
+    core = Core(shown, inputs, pairs)
+    code(shown, core.setting.program)
+    core.run(STEPS * 2, len(source.events) + 20)
     compared(source, core, ('the source', 'byte code'))
     plain = Symbolic(shown, inputs, pairs, rng, False).run(STEPS * 3, len(source.events) + 1)
     selected = Symbolic(shown, inputs, pairs, rng, True).run(STEPS * 3, len(source.events) + 1)
-    if not plain.splits:
-        compared(source, plain, ('the source', 'symbolic code'))
-        compared(source, selected, ('the source', 'symbolic code with selects'))
-        costs(source, core, plain, selected, shown.nodes)
+    compared(source, plain, ('the source', 'symbolic code'))
+    compared(source, selected, ('the source', 'symbolic code with selects'))
+    costs(source, core, plain, selected, shown.nodes)
     for name, run in (('source', source), ('byte code', core), ('symbolic', plain), ('selected', selected)):
         tally[name + ' steps'] += run.steps
     tally['events'] += len(source.events)

@@ -1,5 +1,7 @@
 """The machines of the definitions, over what picc_show tells of a program: the source, byte code, symbolic code and the chip. Each is
 run a step at a time, and keeps at which step each event of its trace was made, and what had been counted by then."""
+import functools
+
 from interpreter import Function, Memory, NONE, Record, declared, definition, some, value
 
 SOURCE, VALUES, CORE, SYM, CHIP = ('Rattle.%s.specs.' % crate for crate in ('src_machine', 'src_values', 'core_code', 'sym_code', 'pic_chip'))
@@ -107,7 +109,6 @@ class Core(Machine):
         self.keys = [('Static', n, at) for n, o in enumerate(shown.objects) for at in range(o.size)]
         self.keys += [('Frame', c, at) for c, copy in enumerate(shown.copies) for at in range(copy.size)]
         self.keys += [('Result', (root,), k) for root in ('Main', 'Isr') for k in range(4)]
-        self.within = definition(CORE + 'Runs', 'is_within_bit')
         self.most = self.least = 0
         self.flat()
 
@@ -118,28 +119,20 @@ class Core(Machine):
             self.least += self.least_of(self.setting, self.state)
             self.state = next_[1]
             self.flat()
-            self.noted(self.state.world.trace, self.show, (self.most, self.least, self.within(self.state.code)))
+            self.noted(self.state.world.trace, self.show, (self.most, self.least))
         else:
             self.end = 'still' if next_[0] == 'Still' else 'stuck'
 
 
 def core_program(shown):
-    sizes, parameters = [copy.size for copy in shown.copies], [copy.parameters for copy in shown.copies]
-    called = {c: set(calls_in(body)) for c, body in shown.bodies.items()}
-    return Record(body=Function(1, lambda c: shown.bodies.get(c, ())), root=Function(1, lambda c: shown.copies[c].root), calls=Function(2, lambda c, d: d in called.get(c, ())),
-               handler=NONE if shown.handler is None else some(shown.handler), first=shown.first,
-               is_watched=Function(1, lambda n: not shown.objects[n].constant),
-               frame_bytes=Function(1, lambda c: sizes[c]), parameter_bytes=Function(1, lambda c: parameters[c]))
+    """The program of byte code that the definitions make of the typed program and its copies, each part of it worked out once."""
+    copies = tuple(Record(root=c.root, function=c.function, level=0) for c in shown.copies)
+    made = definition('Rattle.lower_stmt.specs.Programs', 'core_of')(shown.program, copies)
+    return Record(**{name: once(part) if isinstance(part, Function) else part for name, part in made.__dict__.items()})
 
 
-def calls_in(tree):
-    """The copies that code calls."""
-    for part in tree:
-        if isinstance(part, tuple):
-            if part and part[0] == 'Call':
-                yield part[1]
-            else:
-                yield from calls_in(part)
+def once(function):
+    return Function(function.count, functools.lru_cache(None)(function))
 
 
 def layout_of(shown):
@@ -183,17 +176,13 @@ class Symbolic(Machine):
         entries = {}
         self.entry = Function(1, lambda k: entries[k] if k in entries else entries.setdefault(k, random_registers(random)))
         self.most = self.least = 0
-        self.lengths, self.splits = {pair[0] for pair in pairs}, False
 
     def step(self):
-        before = len(self.state.world.trace)
         next_ = self.step_of(self.setting, self.entry, self.outside, self.state)
         if next_[0] == 'Goes':
             self.most += self.cost_of(self.setting, self.most_prices, self.outside, self.state)
             self.least += self.cost_of(self.setting, self.least_prices, self.outside, self.state)
             self.state = next_[1]
-            after = len(self.state.world.trace)
-            self.splits = self.splits or any(before < at < after for at in self.lengths)
             self.noted(self.state.world.trace, self.show, (self.most, self.least))
         else:
             self.end = 'still' if next_[0] == 'Still' else 'stuck'
