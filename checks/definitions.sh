@@ -1,0 +1,28 @@
+#!/bin/sh
+# The definitions of all languages, run on the same programs, scripts and arrivals: what the specs of src_machine, core_code, sym_code
+# and pic_chip say that a program does. checks/lib/interpreter.py runs them over what picc_show prints of the program. They have to
+# make the same events in the same order, as far as the source is defined, under schedules by the length of the trace, and under the
+# schedule that is read off a run of the chip with arrivals at any instruction. Between any two events each language has to cost no more
+# than the one above it allows; no block has more words than are stated for it; objects end with what was written; and `picc trace`
+# ends at the undefined step that the definitions meet. The programs: those of examples/ and of the crates that run programs, and
+# random ones, 60 from seed 1. `definitions.sh COUNT [SEED]` runs so many random ones, and the texts of all other examples and vectors too.
+# PICC names a program in place of the launcher, `-` for none; PROCESSES says how many processes work at the same time.
+set -u
+. "$(dirname -- "$0")/lib/common.sh" || exit 1
+if ! command -v python3 >/dev/null; then
+    printf '%s: skipped, since python3 is not installed\n' "$script"
+    exit 0
+fi
+. "$top/checks/lib/show.sh" || exit 1
+[ -x "$show" ] || {
+    wrong 'picc_show was not built'
+    exit 1
+}
+count=${1:-60}
+seed=${2:-1}
+if [ $# -eq 0 ]; then
+    set -- "$top"/examples/*.c "$top"/crates/run_examples/src/*.rt "$top"/crates/command_examples/src/*.rt
+else
+    set -- "$top"/examples/*.c "$top"/crates/*_examples/src/*.rt "${PICC_VECTORS:-$top/../shared/vectors}"/*.jsonl
+fi
+PYTHONDONTWRITEBYTECODE=1 python3 "$top/checks/lib/definitions.py" "$show" "${PICC:-$top/picc}" "$count" "$seed" "${PROCESSES:-2}" "$@"

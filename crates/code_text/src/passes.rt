@@ -1,0 +1,28 @@
+//! The code of a program in each language below C.
+
+use bank_page::selects;
+use core_code::CoreProgram;
+use lower_stmt::lower;
+use picc_core::{Front, joined};
+use std::alloc::{AllocError, Global};
+use sym_code::SymProgram;
+
+/// Byte code, and symbolic code without selects and with them.
+#[derive(Drop)]
+pub struct Codes {
+    pub core: CoreProgram,
+    pub plain: SymProgram,
+    pub selected: SymProgram,
+}
+
+/// The code that a text is compiled to, of which this is known.
+pub fn codes(alloc: Global, front: &Front) -> Result<Codes, AllocError> {
+    let core = lower(alloc, &front.typed, &front.copies)?;
+    let plain = joined(alloc, &core, &front.copies, &front.placed)?;
+    let selected = selects(alloc, &plain, &front.placed)?;
+    Ok(Codes {
+        core,
+        plain,
+        selected,
+    })
+}

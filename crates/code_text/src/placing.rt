@@ -1,0 +1,77 @@
+//! Where objects and frames stand.
+
+use crate::listing::Listing;
+use crate::names::{of_helper, of_root};
+use c_typed::{FnId, Typed};
+use call_graph::FnCopy;
+use pic_map::{FrameLine, ObjLine};
+use picc_core::Front;
+use std::alloc::AllocError;
+
+fn put_place(out: &mut Listing, name: &[u8], address: u16, size: u16) -> Result<(), AllocError> {
+    out.name(name)?;
+    out.numbered("at", address as u64)?;
+    out.numbered("bytes", size as u64)
+}
+
+fn put_object(out: &mut Listing, object: &ObjLine) -> Result<(), AllocError> {
+    out.begin(1, "Object")?;
+    put_place(out, &object.name, object.address, object.size)?;
+    if object.fixed {
+        out.word("const")?;
+    }
+    out.end()
+}
+
+/// How many bytes of the frame are those of parameters. A helper has none.
+fn parameter_bytes(typed: &Typed, function: FnId) -> u64 {
+    let mut bytes: u64 = 0;
+    if let FnId::User(number) = function {
+        if let Some(function) = typed.functions.get(number as usize) {
+            for variable in &function.params {
+                bytes = bytes.saturating_add(typed.bytes_of(variable.ty.ty));
+            }
+        }
+    }
+    bytes
+}
+
+fn put_function(out: &mut Listing, function: FnId) -> Result<(), AllocError> {
+    match function {
+        FnId::User(number) => out.numbered("User", number as u64),
+        FnId::Helper(helper) => {
+            out.open("Helper")?;
+            out.word(of_helper(helper))?;
+            out.close()
+        }
+    }
+}
+
+fn put_copy(
+    out: &mut Listing,
+    typed: &Typed,
+    copy: FnCopy,
+    frame: &FrameLine,
+) -> Result<(), AllocError> {
+    out.begin(1, "Copy")?;
+    out.word(of_root(copy.root))?;
+    put_function(out, copy.function)?;
+    put_place(out, &frame.name, frame.address, frame.size)?;
+    out.numbered("parameters", parameter_bytes(typed, copy.function))?;
+    out.end()
+}
+
+/// The static objects, and the copies with their frames.
+pub fn put_placing(out: &mut Listing, front: &Front) -> Result<(), AllocError> {
+    out.begin(0, "Objects")?;
+    out.end()?;
+    for object in &front.placed.objects {
+        put_object(out, object)?;
+    }
+    out.begin(0, "Copies")?;
+    out.end()?;
+    for (copy, frame) in front.copies.list.iter().zip(&front.placed.frames) {
+        put_copy(out, &front.typed, *copy, frame)?;
+    }
+    Ok(())
+}
