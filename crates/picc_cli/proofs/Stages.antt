@@ -19,7 +19,7 @@ use Rattle.pic_map.specs.MapContent.{watch_of}
 use Rattle.picc_core.specs.Headline.{setting_of}
 use Rattle.picc_cli.specs.PortProgram.{IsFine, AllFit, address, event_of, events_of}
 use Rattle.picc_cli.specs.PortCode.{HasCode, select, main_address, halt_address, map_of}
-use Rattle.picc_cli.proofs.Ticks.{IsCalm, flagged, gie_stays, behind, steps, bank_of, stores, shows, selects, select_notes}
+use Rattle.picc_cli.proofs.Ticks.{IsCalm, flagged, gie_stays, goes, behind, steps, bank_of, stores, shows, selects, select_notes}
 
 -- The run is at reset, at one of the three words of an assignment, at main's address where that is the halt
 -- address too, or has ended.
@@ -169,7 +169,7 @@ module _ (assignments : List Assignment) (image inputs : List ℕ) (few : length
       let f : IsFine a = fine assignments i a fit found.1 in
       let words = code.each i a found.1 in
       let e = effect (row inputs (5 + 3 * i) (Movlw a.value)) (flagged mask m.state) in
-      let one = steps image inputs (5 + 3 * i) mask (Movlw a.value) m code.modelled (omega arith) at.calm.gie at.handling at.pc f.1 words.load in
+      let one = steps image inputs (5 + 3 * i) mask (Movlw a.value) m at.calm.gie at.handling at.pc f.1 words.load in
       let away : (behind mask m e).state.pc ≢ halt_address assignments = omega arith in
       let two = passes assignments (behind mask m e) at.met away in
       subst (Stands assignments (suc k)) (sym (ap (observed (watch assignments)) one ∙ two)) (record {
@@ -181,7 +181,7 @@ module _ (assignments : List Assignment) (image inputs : List ℕ) (few : length
           ended = at.ended;
           trace = trace_on mask m e at.met ∙ append-nil m.trace ∙ at.trace;
           early = early_on mask m e at.met ∙ at.early;
-          stopped = refl;
+          stopped = at.stopped;
           handling = refl;
           calm = calm_on mask m.state ((5 + 3 * i + 1) % 8192) a.value at.calm;
           holds = λ b h. let same : a ≡ b = cc (found.1, h) in ap (λ (x : Assignment). x.value) same;
@@ -201,7 +201,7 @@ module _ (assignments : List Assignment) (image inputs : List ℕ) (few : length
       let words = code.each i a found.1 in
       let t = flagged mask m.state in
       let e = effect (row inputs p (select a.side)) t in
-      let one = steps image inputs p mask (select a.side) m code.modelled (omega arith) at.calm.gie at.handling at.pc (fits_select a.side) words.bank in
+      let one = steps image inputs p mask (select a.side) m at.calm.gie at.handling at.pc (fits_select a.side) words.bank in
       let chosen = selects inputs a.side p t (calm_on mask m.state m.state.pc m.state.w at.calm) in
       let pc = chosen.pc in
       let away : (behind mask m e).state.pc ≢ halt_address assignments = omega arith in
@@ -215,7 +215,7 @@ module _ (assignments : List Assignment) (image inputs : List ℕ) (few : length
           ended = at.ended;
           trace = trace_on mask m e at.met ∙ ap (λ es. m.trace ++ es) (select_notes inputs a.side p t) ∙ append-nil m.trace ∙ at.trace;
           early = early_on mask m e at.met ∙ at.early;
-          stopped = refl;
+          stopped = at.stopped;
           handling = refl;
           calm = chosen.calm;
           holds = λ b h.
@@ -237,7 +237,7 @@ module _ (assignments : List Assignment) (image inputs : List ℕ) (few : length
       let held = at.holds a found.1 in
       let shape = stores inputs a.side a.port a.value p t f.0 held.1 in
       let e : Effect = record { writes = to AtPc (following p) ∷ []; notes = record { write = true; address = address a; value = part AtW } ∷ [] } in
-      let one = steps image inputs p mask (Movwf (a.port + 5)) m code.modelled (omega arith) at.calm.gie at.handling at.pc (omega arith) words.store ∙ ap (behind mask m) shape in
+      let one = steps image inputs p mask (Movwf (a.port + 5)) m at.calm.gie at.handling at.pc (omega arith) words.store ∙ ap (behind mask m) shape in
       let b = behind mask m e in
       let trace : b.trace ≡ take (suc i) (events_of assignments) =
       trace_on mask m e at.met ∙ ap (λ es. m.trace ++ es) (shows a.side a.port a.value t f.0 held.0) ∙ ap (λ es. es ++ event_of a ∷ []) at.trace ∙ next_event assignments i a found.1 in
@@ -252,7 +252,7 @@ module _ (assignments : List Assignment) (image inputs : List ℕ) (few : length
           ended = at.ended;
           trace = trace;
           early = early_on mask m e at.met ∙ at.early;
-          stopped = refl;
+          stopped = at.stopped;
           handling = refl;
           calm = calm_on mask m.state ((p + 1) % 8192) m.state.w at.calm;
           holds = tt;
@@ -270,7 +270,7 @@ module _ (assignments : List Assignment) (image inputs : List ℕ) (few : length
           ended = refl;
           trace = ap (λ es. es ++ events.End ∷ []) (trace ∙ ap (λ n. take n (events_of assignments)) all) ∙ last_event assignments ∙ ap (λ n. take n (events_of assignments)) (sym (add-one (length assignments)));
           early = early_on mask m e at.met ∙ at.early;
-          stopped = refl;
+          stopped = at.stopped;
           handling = refl;
           calm = calm_on mask m.state ((p + 1) % 8192) m.state.w at.calm;
           holds = tt;
@@ -285,7 +285,7 @@ module _ (assignments : List Assignment) (image inputs : List ℕ) (few : length
   starts : (k mask : ℕ) (m : Moment) → At assignments AtReset k m → Stands assignments (suc k) (next mask m)
   starts k mask m at =
       let e = effect (row inputs 0 (Goto main_address)) (flagged mask m.state) in
-      let one = steps image inputs 0 mask (Goto main_address) m code.modelled (omega arith) at.calm.gie at.handling at.pc (omega arith) code.from_reset in
+      let one = steps image inputs 0 mask (Goto main_address) m at.calm.gie at.handling at.pc (omega arith) code.from_reset in
       let page = at.calm.page in
       let b = behind mask m e in
       let here : b.state.pc ≡ main_address = omega arith in
@@ -296,12 +296,12 @@ module _ (assignments : List Assignment) (image inputs : List ℕ) (few : length
       let some = λ (h : 0 < length assignments).
       (let x : Stands assignments (suc k) (next mask m) = subst (Stands assignments (suc k)) (sym (ap (observed (watch assignments)) one ∙ two)) (record {
         stage = ToLoad 0;
-        at = record { when = (h, omega arith); pc = here; met = refl; ended = at.ended; trace = trace; early = early; stopped = refl; handling = refl; calm = calm; holds = tt };
+        at = record { when = (h, omega arith); pc = here; met = refl; ended = at.ended; trace = trace; early = early; stopped = at.stopped; handling = refl; calm = calm; holds = tt };
       }) in x) in
       let none = λ (h : length assignments ≤ 0).
       (let x : Stands assignments (suc k) (next mask m) = subst (Stands assignments (suc k)) (sym (ap (observed (watch assignments)) one ∙ two)) (record {
         stage = AtOnce;
-        at = record { when = (omega arith, omega arith); pc = omega arith; met = refl; ended = at.ended; trace = trace; early = early; stopped = refl; handling = refl; calm = calm; holds = tt };
+        at = record { when = (omega arith, omega arith); pc = omega arith; met = refl; ended = at.ended; trace = trace; early = early; stopped = at.stopped; handling = refl; calm = calm; holds = tt };
       }) in x) in
       ⊎_elim some none (cases_lt 0 (length assignments))
 
@@ -310,7 +310,7 @@ module _ (assignments : List Assignment) (image inputs : List ℕ) (few : length
   ends_at_once k mask m at =
       let halt = halt_address assignments in
       let e = effect (row inputs halt (Goto halt)) (flagged mask m.state) in
-      let one = steps image inputs halt mask (Goto halt) m code.modelled (omega arith) at.calm.gie at.handling at.pc halt_small code.halt in
+      let one = steps image inputs halt mask (Goto halt) m at.calm.gie at.handling at.pc halt_small code.halt in
       let page = at.calm.page in
       let b = behind mask m e in
       let here : b.state.pc ≡ halt = omega arith in
@@ -324,7 +324,7 @@ module _ (assignments : List Assignment) (image inputs : List ℕ) (few : length
           ended = refl;
           trace = ap (λ es. es ++ events.End ∷ []) (trace_on mask m e at.met ∙ append-nil m.trace ∙ at.trace ∙ ap (λ n. take n (events_of assignments)) (sym empty)) ∙ last_event assignments ∙ ap (λ n. take n (events_of assignments)) (sym (add-one (length assignments)));
           early = early_on mask m e at.met ∙ at.early;
-          stopped = refl;
+          stopped = at.stopped;
           handling = refl;
           calm = calm_on mask m.state (m.state.pclath / 8 % 4 * 2048 + halt) m.state.w at.calm;
           holds = tt;
@@ -336,7 +336,7 @@ module _ (assignments : List Assignment) (image inputs : List ℕ) (few : length
   idles k mask m at =
       let halt = halt_address assignments in
       let e = effect (row inputs halt (Goto halt)) (flagged mask m.state) in
-      let one = steps image inputs halt mask (Goto halt) m code.modelled (omega arith) at.calm.gie at.handling at.pc halt_small code.halt in
+      let one = steps image inputs halt mask (Goto halt) m at.calm.gie at.handling at.pc halt_small code.halt in
       let page = at.calm.page in
       let b = behind mask m e in
       let here : b.state.pc ≡ halt = omega arith in
@@ -350,7 +350,7 @@ module _ (assignments : List Assignment) (image inputs : List ℕ) (few : length
           ended = at.ended;
           trace = trace_on mask m e at.met ∙ append-nil m.trace ∙ at.trace;
           early = early_on mask m e at.met ∙ at.early;
-          stopped = refl;
+          stopped = at.stopped;
           handling = refl;
           calm = calm_on mask m.state (m.state.pclath / 8 % 4 * 2048 + halt) m.state.w at.calm;
           holds = tt;
@@ -388,9 +388,20 @@ module _ (assignments : List Assignment) (image inputs : List ℕ) (few : length
           };
         }
 
-    -- the run has not ended
-    goes : (mask : ℕ) (m : Moment) → m.stopped ≡ false → next_moment image inputs (watch assignments) mask m ≡ next mask m
-    goes mask m on = ap (λ (b : Bool). if b then m else next mask m) on
+    low : (k : ℕ) (stage : Stage) → IsWhen assignments stage k → place_of assignments stage < 8192
+    low k AtReset w = omega arith
+    low k (ToLoad i) w = omega arith
+    low k (ToSelect i) w = omega arith
+    low k (ToStore i) w = omega arith
+    low k AtOnce w = omega arith
+    low k Halted w = omega arith
+
+    -- the run goes on
+    on : (k mask : ℕ) (m : Moment) (stage : Stage) → At assignments stage k m → next_moment image inputs (watch assignments) mask m ≡ next mask m
+    on k mask m stage at =
+        let here = at.pc in
+        let small = low k stage at.when in
+        ap (λ (b : Bool). if b then record m { stopped = true } else next mask m) (goes image mask m code.modelled at.calm.gie at.stopped (omega arith))
 
     pub stands : (k : ℕ) → Stands assignments k (moment run k)
     unfolding moment
@@ -399,4 +410,4 @@ module _ (assignments : List Assignment) (image inputs : List ℕ) (few : length
         let before = stands k in
         let mask = arriving arrivals k in
         let m = moment run k in
-        subst (Stands assignments (suc k)) (sym (goes mask m before.at.stopped)) (goes_on k mask m before.stage before.at)
+        subst (Stands assignments (suc k)) (sym (on k mask m before.stage before.at)) (goes_on k mask m before.stage before.at)

@@ -12,7 +12,7 @@ use Rattle.pic_chip.specs.Act.{Effect, effect, perform, apply, made, accesses}
 use Rattle.pic_chip.specs.Instructions.{to, part, row, act_of, execute, fetched, is_modelled, is_return_from_interrupt, bit, following}
 use Rattle.pic_chip.specs.Control.{is_due}
 use Rattle.pic_chip.specs.Interrupts.{raised, begun, control_of}
-use Rattle.pic_chip.specs.Run.{Moment, stepped, takes, is_handling, events_of, registers_of}
+use Rattle.pic_chip.specs.Run.{Moment, ends_at, stepped, takes, is_handling, events_of, registers_of}
 use Rattle.picc_cli.specs.declared.program.Side.{Side}
 use Rattle.picc_cli.specs.declared.program.Side.TheVariants.{Port, Tris}
 use Rattle.picc_cli.specs.PortProgram.{address, event_of}
@@ -54,35 +54,35 @@ behind mask m e =
     let t = flagged mask m.state in
     record m {
       state = apply e.writes t t;
-      stopped = false;
       handling = false;
       early = if m.met then m.early else m.early ++ registers_of (made e.notes t);
       trace = if m.met then m.trace ++ events_of [] (made e.notes t) else m.trace;
     }
 
--- the word that stands there is modelled
-goes : (image : List ℕ) (p : ℕ) (t : State) → ((at : ℕ) → at < 8192 → is_modelled (row_of (slice_index image at)) ≡ true) → t.pc ≡ p → p < 8192 → not (is_modelled (fetched image t)) ≡ false
-goes image p t modelled at low = ap (λ q. not (is_modelled (row_of (slice_index image q)))) at ∙ ap not (modelled p low)
+-- the run goes on where its word is one of an instruction
+pub goes : (image : List ℕ) (mask : ℕ) (m : Moment) → ((at : ℕ) → at < 8192 → is_modelled (row_of (slice_index image at)) ≡ true) → bit m.state.intcon 7 ≡ 0 → m.stopped ≡ false → m.state.pc < 8192
+    → ends_at image mask m ≡ false
+goes image mask m modelled gie on low =
+    ap (λ b. b || not (is_modelled (fetched image (begun mask m.state)))) on
+    ∙ ap (λ s. not (is_modelled (fetched image s))) (calm_begins mask m.state gie)
+    ∙ ap not (modelled m.state.pc low)
 
-pub steps : (image inputs : List ℕ) (p mask : ℕ) (i : Ins) (m : Moment) → ((at : ℕ) → at < 8192 → is_modelled (row_of (slice_index image at)) ≡ true) → p < 8192
-    → bit m.state.intcon 7 ≡ 0 → m.handling ≡ false → m.state.pc ≡ p → IsWellFormed i → slice_index image p ≡ word_of i
+pub steps : (image inputs : List ℕ) (p mask : ℕ) (i : Ins) (m : Moment) → bit m.state.intcon 7 ≡ 0 → m.handling ≡ false → m.state.pc ≡ p → IsWellFormed i → slice_index image p ≡ word_of i
     → stepped image inputs [] mask m ≡ behind mask m (effect (row inputs p i) (flagged mask m.state))
-steps image inputs p mask i m modelled low gie calm at fits h =
+steps image inputs p mask i m gie calm at fits h =
     let t = flagged mask m.state in
     let word : slice_index image t.pc ≡ word_of i = ap (slice_index image) at ∙ h in
     let e : effect (execute image inputs) t ≡ effect (row inputs p i) t = fetches image inputs t i fits word ∙ ap (λ q. effect (row inputs q i) t) at in
-    let after = λ (s : State) (stopped handling : Bool).
+    let after = λ (s : State) (handling : Bool).
     (let made = accesses (execute image inputs) s in
     let x : Moment = record m {
       state = perform (execute image inputs) s;
-      stopped = stopped;
       handling = handling && not (is_return_from_interrupt (fetched image s));
       early = if m.met then m.early else m.early ++ registers_of made;
       trace = if m.met then m.trace ++ events_of [] made else m.trace;
     } in x) in
     let due : is_handling mask m ≡ false = ap (λ b. b || takes mask m) calm ∙ not_due mask m.state gie in
-    ap (λ s. after s (not (is_modelled (fetched image s))) (is_handling mask m)) (calm_begins mask m.state gie)
-    ∙ ap (λ b. after t b (is_handling mask m)) (goes image p t modelled at low) ∙ ap (after t false) due ∙ ap (behind mask m) e
+    ap (λ s. after s (is_handling mask m)) (calm_begins mask m.state gie) ∙ ap (after t) due ∙ ap (behind mask m) e
 
 -- ---- what the four instructions do
 abbrev pub bank_of : Side → ℕ
