@@ -25,7 +25,7 @@ class Program:
         self.tags, self.functions, self.names = [], [], 0
         self.text = []
         self.globals = Scope()
-        self.in_loop, self.in_handler, self.budget = 0, False, 0
+        self.in_loop, self.in_handler, self.in_function, self.budget = 0, False, None, 0
 
     def chance(self, percent):
         return self.random.randrange(100) < percent
@@ -132,16 +132,25 @@ class Program:
             name, _, length = self.pick(scope.arrays)
             if name not in scope.fixed:
                 return '%s[%s]' % (name, self.index(scope, length, depth))
-        if way == 24 and len(scope.pointers) > 1:
+        if way == 24 and scope.pointers:
             return self.pointers(scope)
+        if way == 24 and any(a[0] not in scope.fixed for a in scope.arrays):
+            return self.inside(scope)
         if way == 25 and scope.arrays:
             return 'sizeof %s' % self.pick(scope.arrays)[0]
         return self.leaf(scope)
 
     def pointers(self, scope):
+        """Two pointers to one type are compared, or one is subtracted from the other."""
         p = self.pick(scope.pointers)
         q = self.pick([x for x in scope.pointers if x[1] == p[1]])
-        return self.pick(['%s==%s', '%s!=%s', '!%.0s%s', '%s&&%s']) % (p[0], q[0])
+        return self.pick(['%s==%s', '%s!=%s', '!%.0s%s', '%s&&%s', '%s==0||%s', '%s-%s', '%s<=%s']) % ((p[0], q[0]) if self.chance(20) else (p[0], p[0]))
+
+    def inside(self, scope):
+        """The difference of two places of one array, or which stands first."""
+        name, _, length = self.pick([a for a in scope.arrays if a[0] not in scope.fixed])
+        i, j = self.random.randrange(length + 1), self.random.randrange(length)
+        return self.pick(['(%s+%d)-(%s+%d)', '(%s+%d)<(%s+%d)', '(%s+%d)>=(%s+%d)', '&%s[%d]-&%s[%d]']) % (name, min(i, length - 1), name, j)
 
     def call(self, scope, depth):
         self.budget -= 1
@@ -161,7 +170,9 @@ class Program:
         ways = ['&' + s[0] for s in scope.scalars if s[1] == ty and s[0] not in scope.fixed]
         ways += ['%s+%d' % (a[0], self.random.randrange(a[2])) for a in scope.arrays if a[1] == ty and a[0] not in scope.fixed]
         ways += [p[0] for p in scope.pointers if p[1] == ty]
-        return self.pick(ways) if ways else None
+        for name, tag in scope.structures:
+            ways += ['&%s.%s' % (name, field) if not length else '%s.%s' % (name, field) for field, kind, length in dict(self.tags)[tag] if kind == ty]
+        return self.pick(ways + ['0'] * self.chance(2)) if ways else None
 
     # ---- statements
     def block(self, scope, depth, indent, count):
@@ -197,8 +208,11 @@ class Program:
             return self.loop(scope, depth, indent)
         if way < 25:
             return self.switch(scope, depth, indent)
-        if way < 27 and self.functions and not self.in_handler and self.budget > 0:
+        if way < 26 and self.functions and not self.in_handler and self.budget > 0:
             return ['%s%s;' % (pad, self.call(scope, 2))]
+        if way == 26 and self.in_function and self.chance(60):
+            result = '' if self.in_function == 'void' else ' ' + self.expression(scope, 1)
+            return ['%sif (%s) return%s;' % (pad, self.expression(scope, 1), result)]
         if way == 27 and self.in_loop:
             return ['%sif (%s) %s;' % (pad, self.expression(scope, 1), self.pick(['break', 'continue']))]
         if way == 28:
@@ -218,7 +232,9 @@ class Program:
             return [pad + ';']
         p = self.pick(scope.pointers)
         to = self.address(scope, p[1])
-        return [pad + ('%s = %s;' % (p[0], to) if to and p[0] not in scope.fixed else ';')]
+        if self.chance(25):
+            return [pad + self.pick(['%s++; %s--;', '%s += 1; --%s;', '++%s; %s -= 1;', '%s--; %s++;' if self.chance(20) else '%s = %s + 0;']) % (p[0], p[0])]
+        return [pad + ('%s = %s;' % (p[0], to) if to else ';')]
 
     def branch(self, scope, depth, indent):
         pad = '    ' * indent
@@ -292,13 +308,21 @@ class Program:
             elif way == 7:
                 lines.append('%schar %s[4] = "%s";' % (pad, name, self.pick(['', 'a', 'xyz', 'abcd'])))
                 scope.arrays.append((name, 'char', 4))
+            elif way == 8 and scope.structures and self.chance(30):
+                other, tag = self.pick(scope.structures)
+                lines.append('%sstruct %s *%s = &%s;' % (pad, tag, name, other))
+                scope.structures.append(('(*%s)' % name, tag))
             elif way == 8 and self.tags:
                 tag = self.pick(self.tags)[0]
                 others = [s for s in scope.structures if s[1] == tag]
                 first = dict(self.tags)[tag][0]
                 value = self.pick(others)[0] if others and self.chance(50) else ('{{%s}}' if first[2] else '{%s}') % self.expression(scope, 1)
-                lines.append('%sstruct %s %s = %s;' % (pad, tag, name, value))
-                scope.structures.append((name, tag))
+                if others and self.chance(30):
+                    lines.append('%sstruct %s %s[2] = {%s,%s};' % (pad, tag, name, self.pick(others)[0], self.pick(others)[0]))
+                    scope.structures.append((name + '[%d]' % self.random.randrange(2), tag))
+                else:
+                    lines.append('%sstruct %s %s = %s;' % (pad, tag, name, value))
+                    scope.structures.append((name, tag))
             else:
                 to = self.address(scope, ty)
                 if to:
@@ -356,11 +380,12 @@ class Program:
                 params.append(('pointer', ty))
                 scope.pointers.append((p, ty))
                 shown.append('%s *%s' % (ty, p))
-        self.budget = 2
-        lines = self.locals(scope, 1, self.random.randrange(2)) + self.block(scope, 1, 1, 1 + self.random.randrange(2))
+        self.budget, self.in_function = 2, result
+        lines = self.locals(scope, 1, self.random.randrange(3)) + self.block(scope, 1, 1, 1 + self.random.randrange(2))
         if result != 'void' and self.chance(95):
             lines.append('    return %s;' % self.expression(scope, 2))
         self.text += ['%s %s(%s)' % (result, name, ','.join(shown) or 'void'), '{'] + lines + ['}']
+        self.in_function = None
         self.functions.append((name, result, params))
 
     def handler(self):

@@ -4,8 +4,8 @@ use crate::listing::Listing;
 use crate::operations::put_byte;
 use std::alloc::AllocError;
 use sym_code::{
-    BankBit, BitOperation, BlockName, FileOperation, Into, Label, Literal, LiteralOperation, Operand,
-    PageBit, PlainOperation, Register, Saved, Sym, SymBlock, SymProgram, Target,
+    BankBit, BitOperation, BlockName, FileOperation, Into, Label, Literal, LiteralOperation,
+    Operand, PageBit, PlainOperation, Register, Saved, Sym, SymBlock, SymProgram, Target,
 };
 
 fn of_file(op: FileOperation) -> &'static str {

@@ -43,7 +43,7 @@ mod words;
 use crate::instructions::put_symbolic;
 use crate::listing::Listing;
 use crate::operations::put_core;
-use crate::passes::codes;
+use crate::passes::compiled;
 use crate::placing::put_placing;
 use crate::types::put_program;
 use crate::words::put_image;
@@ -52,7 +52,7 @@ use std::alloc::{AllocError, Global};
 
 /// The text of all languages of a program.
 pub fn code_text(alloc: Global, front: &Front, built: &Built) -> Result<Vec<u8>, AllocError> {
-    let codes = codes(alloc, front)?;
+    let codes = compiled(alloc, front)?;
     let mut out = Listing::new(alloc);
     put_program(&mut out, &front.typed)?;
     put_placing(&mut out, front)?;

@@ -16,7 +16,7 @@ pub struct Codes {
 }
 
 /// The code that a text is compiled to, of which this is known.
-pub fn codes(alloc: Global, front: &Front) -> Result<Codes, AllocError> {
+pub fn compiled(alloc: Global, front: &Front) -> Result<Codes, AllocError> {
     let core = lower(alloc, &front.typed, &front.copies)?;
     let plain = joined(alloc, &core, &front.copies, &front.placed)?;
     let selected = selects(alloc, &plain, &front.placed)?;

@@ -84,8 +84,8 @@ fn in_code_order(
     Ok(SymProgram { blocks: list })
 }
 
-/// The symbolic code of a program, with its selects.
-fn symbolic(
+/// The symbolic code of a program without selects: the start block, and behind it the blocks of the copies in the order of code.
+pub fn joined(
     alloc: Global,
     core: &CoreProgram,
     copies: &Copies,
@@ -95,7 +95,17 @@ fn symbolic(
     put_functions(&mut blocks, select(alloc, core, copies)?)?;
     put_helpers(alloc, &mut blocks, copies)?;
     let start = start_block(alloc, placed, core, handler_of(copies))?;
-    let program = in_code_order(alloc, start, blocks, copies)?;
+    in_code_order(alloc, start, blocks, copies)
+}
+
+/// The same with its selects.
+fn symbolic(
+    alloc: Global,
+    core: &CoreProgram,
+    copies: &Copies,
+    placed: &Placed,
+) -> Result<SymProgram, AllocError> {
+    let program = joined(alloc, core, copies, placed)?;
     selects(alloc, &program, placed)
 }
 

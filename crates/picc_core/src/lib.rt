@@ -16,8 +16,7 @@ mod stages;
 
 pub use agreeing::{Agreed, agree};
 pub use c_check::{Kind, RootKind};
-pub use code_order::code_numbers;
-pub use compiling::compile;
+pub use compiling::{compile, joined};
 pub use known::{Built, Front};
 pub use refusal::{CompileError, LimitKind, Refusal};
 pub use src_machine::Undef;
