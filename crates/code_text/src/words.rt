@@ -1,5 +1,7 @@
 //! The words of program memory.
 
+ghost use Rattle.std.specs.Prelude.{◌<◌};
+
 use crate::listing::Listing;
 use pic_chip::Image;
 use picc_core::Built;
