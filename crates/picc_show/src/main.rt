@@ -6,6 +6,9 @@
 // printed; 9 without memory.
 #![tactic(auto)]
 
+ghost use Rattle.std.specs.Prelude.{◌≡◌};
+ghost use Rattle.host_io.specs.Host.{Closed};
+
 use code_text::code_text;
 use host_io::{Host, HostError, RealHost, read_whole};
 use picc_core::{Built, CompileError, Front, compile, front};
@@ -56,7 +59,9 @@ fn show<H: Host>(alloc: Global, host: &mut H, text: &[u8]) -> u8 {
     }
 }
 
-fn run<H: Host>(alloc: Global, host: &mut H, words: &[String]) -> u8 {
+fn run<H: Host>(alloc: Global, host: &mut H, words: &[String]) -> u8
+    requires { H.open_file host.old ≡ Closed }
+{
     let [name] = words else {
         return print(host, b"usage: picc_show IN\n", 2);
     };
