@@ -4,8 +4,8 @@
 # make the same events in the same order, as far as the source is defined, under schedules by the length of the trace, and under the
 # schedule that is read off a run of the chip with arrivals at any instruction. Between any two events each language has to cost no more
 # than the one above it allows; no block has more words than are stated for it; objects end with what was written; and `picc trace`
-# ends at the undefined step that the definitions meet. The programs: those of examples/ and of the crates that run programs, and
-# random ones, 60 from seed 1. `definitions.sh COUNT [SEED]` runs so many random ones, and the texts of all other examples and vectors too.
+# ends at the undefined step that the definitions meet. The programs: three small ones of examples/, and eight random ones from seed
+# 1. `definitions.sh COUNT [SEED]` runs so many random ones, and the texts of examples/, of all crates of examples and of vectors too.
 # PICC names a program in place of the launcher, `-` for none; PROCESSES says how many processes work at the same time.
 set -u
 . "$(dirname -- "$0")/lib/common.sh" || exit 1
@@ -18,10 +18,10 @@ fi
     wrong 'picc_show was not built'
     exit 1
 }
-count=${1:-60}
+count=${1:-8}
 seed=${2:-1}
 if [ $# -eq 0 ]; then
-    set -- "$top"/examples/*.c "$top"/crates/run_examples/src/*.rt "$top"/crates/command_examples/src/*.rt
+    set -- "$top"/examples/led.c "$top"/examples/pins.c "$top"/examples/two_copies.c
 else
     set -- "$top"/examples/*.c "$top"/crates/*_examples/src/*.rt "${PICC_VECTORS:-$top/../shared/vectors}"/*.jsonl
 fi
