@@ -1,7 +1,7 @@
 -- The answer as a function of the list, and what it is at the front of a block that begins with a jump.
 use Rattle.std.proofs.Common.{◌≡◌, Bool, true, false, not, ◌&&◌, ◌||◌, List, [], ◌∷◌, ◌++◌, length, ◌<◌, Option, Some, None, is_none, refl, sym, ap, ◌∙◌, subst, append-nil, append_assoc, arith}
 use Rattle.core_code.specs.declared.code.Byte.{Byte}
-use Rattle.ram_place.specs.declared.placing.Placed.{Placed}
+use Rattle.pic_map.specs.declared.Placed.{Placed}
 use Rattle.sym_code.specs.declared.code.BlockName.{BlockName}
 use Rattle.sym_code.specs.declared.code.Sym.{Sym}
 use Rattle.sym_code.specs.declared.code.Sym.TheVariants as syms

@@ -1,7 +1,7 @@
 -- What is to be selected before a run of skips and the instruction behind them.
 use Rattle.std.specs.Prelude.{ℕ, ◌/◌, nat_eq, ◌||◌, List, [], ◌∷◌, Option, Some, None, if◌then◌else◌}
 use Rattle.core_code.specs.declared.code.Byte.{Byte}
-use Rattle.ram_place.specs.declared.placing.Placed.{Placed}
+use Rattle.pic_map.specs.declared.Placed.{Placed}
 use Rattle.sym_code.specs.declared.code.Sym.{Sym}
 use Rattle.code_place.specs.Addresses.{address_of}
 use Rattle.bank_page.specs.Kinds.{is_select, is_label, is_skip, byte_of, target_of}

@@ -2,7 +2,7 @@
 use Rattle.std.specs.Prelude.{◌≡◌, ◌≤◌, ℕ, ◌/◌, Bool, true, false, not, ◌&&◌, ◌||◌, List, [], ◌∷◌, ◌++◌, map, Option, Some, None, option_map, is_none, if◌then◌else◌}
 use Rattle.std.specs.List.{filter}
 use Rattle.core_code.specs.declared.code.Byte.{Byte}
-use Rattle.ram_place.specs.declared.placing.Placed.{Placed}
+use Rattle.pic_map.specs.declared.Placed.{Placed}
 use Rattle.sym_code.specs.declared.code.BlockName.{BlockName}
 use Rattle.sym_code.specs.declared.code.Sym.{Sym}
 use Rattle.sym_code.specs.declared.code.Sym.TheVariants as syms

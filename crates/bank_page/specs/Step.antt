@@ -1,6 +1,6 @@
 -- What becomes of one instruction.
 use Rattle.std.specs.Prelude.{◌≡◌, ℕ, ◌/◌, ◌%◌, nat_eq, Bool, true, false, ◌||◌, List, [], ◌∷◌, ◌++◌, Option, Some, None, if◌then◌else◌}
-use Rattle.ram_place.specs.declared.placing.Placed.{Placed}
+use Rattle.pic_map.specs.declared.Placed.{Placed}
 use Rattle.sym_code.specs.declared.code.BankBit.TheVariants as bank_bits
 use Rattle.sym_code.specs.declared.code.BlockName.{BlockName}
 use Rattle.sym_code.specs.declared.code.PageBit.TheVariants as page_bits

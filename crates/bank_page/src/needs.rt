@@ -8,7 +8,7 @@ ghost use Rattle.code_place.specs.Addresses as addresses;
 use crate::known::{writes_pclath, writes_status};
 use code_place::address_of;
 use core_code::Byte;
-use ram_place::Placed;
+use pic_map::Placed;
 use sym_code::{BankBit, BitOperation, FileOperation, Operand, Sym, Target, touches};
 
 /// What must be selected before an instruction: a bank, and the page of a target.

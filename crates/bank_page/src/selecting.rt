@@ -10,7 +10,7 @@ ghost use Rattle.sym_code.specs.WellFormed.{is_well_formed, are_well_formed};
 
 use crate::known::Known;
 use crate::needs::{Needs, is_label, is_select, is_skip, needs_in};
-use ram_place::Placed;
+use pic_map::Placed;
 use std::alloc::{AllocError, Global};
 use sym_code::{BankBit, PageBit, Sym, SymBlock, SymProgram, Target};
 

@@ -1,8 +1,8 @@
 use crate::selects;
 use core_code::Byte;
-use pic_chip::Root;
+use pic_world::Root;
 use pic_map::FrameLine;
-use ram_place::Placed;
+use pic_map::Placed;
 use std::alloc::{AllocError, Global};
 use sym_code::{
     BankBit, BitOperation, BlockName, Label, Operand, PageBit, PlainOperation, Sym, SymBlock,

@@ -34,7 +34,7 @@ pub struct Scopes {
 }
 
 fn builtin(name: &[u8]) -> Option<Binding> {
-    if let Some(address) = pic_chip::register(name) {
+    if let Some(address) = pic_world::register(name) {
         let ty = Qualified {
             ty: Ty::Int(IntTy::UChar),
             constant: false,
@@ -46,7 +46,7 @@ fn builtin(name: &[u8]) -> Option<Binding> {
             fixed: true,
         });
     }
-    let (register, bit) = pic_chip::bit(name)?;
+    let (register, bit) = pic_world::bit(name)?;
     Some(Binding::Bit { register, bit })
 }
 

@@ -16,7 +16,7 @@ use Rattle.c_typed.specs.declared.standing.Standing.TheVariants.{Used, Pointed, 
 use Rattle.c_typed.specs.declared.types.Qualified.{Qualified}
 use Rattle.c_typed.specs.declared.types.Ty.{Ty}
 use Rattle.c_typed.specs.declared.types.Ty.TheVariants.{Int, Array}
-use Rattle.pic_chip.specs.Registers.{name_at}
+use Rattle.pic_world.specs.Registers.{name_at}
 
 -- A null constant: the constant 0, cast to a pointer type or not (6.2.2.3).
 unfoldable pub is_null : Expression → Bool

@@ -261,7 +261,7 @@ fn array_reach(address: &TExpr) -> Option<bool>
 fn is_device(register: u8) -> bool
     ensures { result ≡ stated.is_device register }
 {
-    match pic_chip::register_name(register) {
+    match pic_world::register_name(register) {
         Some(_) => true,
         None => false,
     }

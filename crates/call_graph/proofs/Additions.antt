@@ -14,8 +14,8 @@ use Rattle.call_graph.specs.Adding.{Adds, UnderRoot, AtLevel, UnderHandler, Unde
 use Rattle.call_graph.specs.Copies.{IsOne, StandsBefore, root_place}
 use Rattle.call_graph.specs.declared.levels.Levels.{Levels}
 use Rattle.call_graph.specs.declared.types.FnCopy.{FnCopy}
-use Rattle.pic_chip.specs.declared.Root.{Root}
-use Rattle.pic_chip.specs.declared.Root.TheVariants as root
+use Rattle.pic_world.specs.declared.Root.{Root}
+use Rattle.pic_world.specs.declared.Root.TheVariants as root
 
 helpers : List Helper
 helpers = Mul2 ∷ Mul4 ∷ Divu2 ∷ Divs2 ∷ Remu2 ∷ Rems2 ∷ Divu4 ∷ Divs4 ∷ Remu4 ∷ Rems4 ∷ Shl2 ∷ Shru2 ∷ Shrs2 ∷ Shl4 ∷ Shru4 ∷ Shrs4 ∷ []

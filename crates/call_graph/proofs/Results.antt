@@ -25,8 +25,8 @@ use Rattle.call_graph.specs.declared.types.FnCopy.{FnCopy}
 use Rattle.call_graph.proofs.Additions.{numbered}
 use Rattle.call_graph.proofs.Callers.{none_calls}
 use Rattle.call_graph.proofs.Marking.{in_none}
-use Rattle.pic_chip.specs.declared.Root.{Root}
-use Rattle.pic_chip.specs.declared.Root.TheVariants as root
+use Rattle.pic_world.specs.declared.Root.{Root}
+use Rattle.pic_world.specs.declared.Root.TheVariants as root
 
 -- how many numbers a program's graph has
 pub graph_size : (p : Program) → length (graph_of p) ≡ length p.functions + 16

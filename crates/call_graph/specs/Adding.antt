@@ -6,8 +6,8 @@ use Rattle.call_graph.specs.Copies.{IsOne, StandsBefore}
 use Rattle.call_graph.specs.Levels.{AreLevels, IsLongest}
 use Rattle.call_graph.specs.declared.levels.Levels.{Levels}
 use Rattle.call_graph.specs.declared.types.FnCopy.{FnCopy}
-use Rattle.pic_chip.specs.declared.Root.{Root}
-use Rattle.pic_chip.specs.declared.Root.TheVariants as root
+use Rattle.pic_world.specs.declared.Root.{Root}
+use Rattle.pic_world.specs.declared.Root.TheVariants as root
 
 -- The copies that pass a test are added to a list, in order.
 pub record Adds (functions : ℕ) (P : FnCopy → Type 0) (old new : List FnCopy) : Type 0 where

@@ -10,8 +10,8 @@ use Rattle.c_typed.specs.declared.calls.FnId.{FnId}
 use Rattle.c_typed.specs.declared.calls.FnId.TheVariants as callee
 use Rattle.call_graph.specs.Levels.{IsLongest}
 use Rattle.call_graph.specs.declared.types.FnCopy.{FnCopy}
-use Rattle.pic_chip.specs.declared.Root.{Root}
-use Rattle.pic_chip.specs.declared.Root.TheVariants as root
+use Rattle.pic_world.specs.declared.Root.{Root}
+use Rattle.pic_world.specs.declared.Root.TheVariants as root
 
 -- the number of the first function from this number on that passes a test
 abbrev pub first_from : (FunctionTree → Bool) → List FunctionTree → ℕ → Option ℕ

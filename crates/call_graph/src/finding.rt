@@ -8,7 +8,7 @@ ghost use Rattle.call_graph.specs.Answers.{TellsRoots, TellsRecursion, TellsDept
 ghost use Rattle.call_graph.specs.Copies.{AreCopies, root_of, name_at};
 ghost use Rattle.call_graph.specs.Levels.{IsAcyclic};
 ghost use Rattle.call_graph.specs.Rows.{rows_of};
-ghost use Rattle.pic_chip.specs.declared.Root.TheVariants as entry;
+ghost use Rattle.pic_world.specs.declared.Root.TheVariants as entry;
 
 use crate::graph::graph_of;
 use crate::levels::{levels_from, recursive};

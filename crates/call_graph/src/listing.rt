@@ -9,7 +9,7 @@ ghost use Rattle.call_graph.specs.Rows.{rows_of};
 use crate::graph::id_of;
 use crate::levels::{Levels, is_level, levels_from};
 use crate::types::FnCopy;
-use pic_chip::Root;
+use pic_world::Root;
 use std::alloc::{AllocError, Global};
 
 // Adds the copies of a root that have this level.

@@ -7,7 +7,7 @@ ghost use Rattle.call_graph.specs.Rows.{rows_of};
 ghost use Rattle.c_typed.specs.Roots as stated;
 ghost use Rattle.c_typed.specs.Sameness as typing;
 ghost use Rattle.c_typed.specs.Views.{function_of, variable_of, program_of};
-ghost use Rattle.pic_chip.specs.declared.Root.TheVariants as entry;
+ghost use Rattle.pic_world.specs.declared.Root.TheVariants as entry;
 
 use c_typed::{Function, RootKind, Ty, Typed, Variable};
 

@@ -4,7 +4,7 @@ ghost use Rattle.std.specs.Prelude.{◌≡◌};
 ghost use Rattle.call_graph.specs.declared.types.GraphError.TheVariants.{NoMemory};
 
 use c_typed::{FnId, RootKind};
-use pic_chip::Root;
+use pic_world::Root;
 use std::alloc::AllocError;
 
 /// A copy of a function or helper: the root that reaches it, and its level, which is the length of the

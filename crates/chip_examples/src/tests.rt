@@ -1,6 +1,7 @@
 // Small images, assembled by hand, run by the chip's steps. What is wanted was worked out by hand from the data sheet of
 // the PIC16F877A (Microchip DS39582).
-use pic_chip::{Arrival, Chip, Flag, Image, Script, Start, StepEnd};
+use pic_chip::{Chip, Image, Start, StepEnd};
+use pic_world::{Arrival, Flag, Script};
 use std::alloc::{AllocError, Global};
 use std::process::Abort;
 use std::test::Fail;

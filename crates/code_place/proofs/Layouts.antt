@@ -5,7 +5,7 @@ use Rattle.core_code.specs.declared.code.Byte.{Byte}
 use Rattle.core_code.specs.declared.code.Byte.TheVariants as bytes
 use Rattle.pic_map.specs.declared.FrameLine.{FrameLine}
 use Rattle.pic_map.specs.declared.ObjLine.{ObjLine}
-use Rattle.ram_place.specs.declared.placing.Placed.{Placed}
+use Rattle.pic_map.specs.declared.Placed.{Placed}
 use Rattle.sym_code.specs.Layout as layouts
 use Rattle.sym_code.specs.Layout.{no_range, no_frame}
 use Rattle.code_place.specs.Addresses.{in_memory, object_byte, frame_byte, address_of}

@@ -4,10 +4,10 @@
 use Rattle.std.specs.Prelude.{ℕ, ◌+◌, nat_lt, nat_eq, Bool, true, false, ◌||◌, Option, Some, None, slice_get, if◌then◌else◌}
 use Rattle.core_code.specs.declared.code.Byte.{Byte}
 use Rattle.core_code.specs.declared.code.Byte.TheVariants as bytes
-use Rattle.pic_chip.specs.declared.Root.{Root}
+use Rattle.pic_world.specs.declared.Root.{Root}
 use Rattle.pic_map.specs.declared.ObjLine.{ObjLine}
 use Rattle.pic_map.specs.declared.FrameLine.{FrameLine}
-use Rattle.ram_place.specs.declared.placing.Placed.{Placed}
+use Rattle.pic_map.specs.declared.Placed.{Placed}
 use Rattle.sym_code.specs.Layout.{result_address, saved_address}
 use Rattle.sym_code.specs.declared.code.Operand.{Operand}
 use Rattle.sym_code.specs.declared.code.Operand.TheVariants as operands

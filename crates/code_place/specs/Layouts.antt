@@ -3,7 +3,7 @@ use Rattle.std.specs.Prelude.{ℕ, ◌/◌, List, map, Option}
 use Rattle.pic_chip.specs.Run.{Range}
 use Rattle.pic_map.specs.declared.FrameLine.{FrameLine}
 use Rattle.pic_map.specs.declared.ObjLine.{ObjLine}
-use Rattle.ram_place.specs.declared.placing.Placed.{Placed}
+use Rattle.pic_map.specs.declared.Placed.{Placed}
 use Rattle.sym_code.specs.Layout.{DataLayout, FrameRange}
 use Rattle.sym_code.specs.Programs.{Program, block_in}
 use Rattle.sym_code.specs.declared.code.BlockName.{BlockName}

@@ -16,7 +16,7 @@ use crate::marks::{Marks, inner_labels, marks_of};
 use crate::words::Scope;
 use pic_chip::Image;
 use pic_isa::{Ins, encode};
-use ram_place::Placed;
+use pic_map::Placed;
 use std::alloc::{AllocError, Global};
 use sym_code::{BlockName, SymBlock, SymProgram};
 

@@ -14,7 +14,7 @@ ghost use Rattle.code_place.specs.Sizes.{words_of_one};
 use crate::address::{address_of, file_address};
 use crate::marks::Marks;
 use pic_isa::Ins;
-use ram_place::Placed;
+use pic_map::Placed;
 use std::collections::BTreeMap;
 use sym_code::{
     BankBit, BitOperation, FileOperation, Literal, LiteralOperation, Operand, PageBit,

@@ -2,7 +2,7 @@
 
 use c_ints::{BinOp, IntTy, UnOp};
 use c_typed::{Helper, LogicalOp, LoopForm, StepOp};
-use pic_chip::Root;
+use pic_world::Root;
 
 pub fn of_root(root: Root) -> &'static str {
     match root {

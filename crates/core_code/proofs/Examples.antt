@@ -1,11 +1,11 @@
 -- Runs of small programs, computed.
 use Rattle.std.proofs.Common.{◌≡◌, ℕ, zero, suc, Bool, true, false, nat_eq, List, [], ◌∷◌, Some, refl}
-use Rattle.pic_chip.specs.Control.{raised_by, is_due as is_due_by, entered as entered_by, left as left_by, stored, with_stored}
-use Rattle.pic_chip.specs.World.{ReadOf, WriteOf, Ended, outside_of, arrived, is_due, entered, left, device_value, after_device_read, after_device_write, sets_gie}
-use Rattle.pic_chip.specs.declared.Cell.TheVariants as cells
-use Rattle.pic_chip.specs.declared.Flag.TheVariants.{Intf}
-use Rattle.pic_chip.specs.declared.Root.{Root}
-use Rattle.pic_chip.specs.declared.Root.TheVariants.{Main, Isr}
+use Rattle.pic_world.specs.Control.{raised_by, is_due as is_due_by, entered as entered_by, left as left_by, stored, with_stored}
+use Rattle.pic_world.specs.World.{ReadOf, WriteOf, Ended, outside_of, arrived, is_due, entered, left, device_value, after_device_read, after_device_write, sets_gie}
+use Rattle.pic_world.specs.declared.Cell.TheVariants as cells
+use Rattle.pic_world.specs.declared.Flag.TheVariants.{Intf}
+use Rattle.pic_world.specs.declared.Root.{Root}
+use Rattle.pic_world.specs.declared.Root.TheVariants.{Main, Isr}
 use Rattle.c_ints.specs.declared.operators.BinOp.TheVariants.{Add, Sub, Mul, Lt}
 use Rattle.c_ints.specs.declared.types.IntTy.TheVariants.{SChar, UChar, Int, UInt}
 use Rattle.core_code.specs.Bytes.{Number, Part, Fixed}

@@ -7,7 +7,7 @@ use Rattle.c_ints.specs.declared.operators.BinOp.{BinOp}
 use Rattle.c_ints.specs.declared.operators.BinOp.TheVariants as ops
 use Rattle.c_ints.specs.declared.operators.UnOp.{UnOp}
 use Rattle.c_ints.specs.declared.operators.UnOp.TheVariants as unary
-use Rattle.pic_chip.specs.World.{arrived, is_due}
+use Rattle.pic_world.specs.World.{arrived, is_due}
 use Rattle.core_code.specs.Bytes.{Object, Fixed, FrameOf, is_private}
 use Rattle.core_code.specs.Machine.{Setting, Machine, Task, Do, Put, PutBit, PutBack, Join, LoadFrom, StoreTo, Over, Waiting, InLoop, InCall, InHandler}
 use Rattle.core_code.specs.Operands.{number_left}

@@ -1,7 +1,7 @@
 -- What a run of byte code is compared by, at each of its moments: the trace, whether the next step goes, whether main has
 -- ended and nothing is due, and the bounds of the instructions that the steps so far take together.
 use Rattle.std.specs.Prelude.{ℕ, zero, suc, ◌+◌, Bool, List}
-use Rattle.pic_chip.specs.World.{Happening}
+use Rattle.pic_world.specs.World.{Happening}
 use Rattle.core_code.specs.Bytes.{Held}
 use Rattle.core_code.specs.Cost.{step_most, step_least}
 use Rattle.core_code.specs.Machine.{Setting, core_step, core_moment, goes_on, is_still}

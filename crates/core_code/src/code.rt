@@ -1,7 +1,7 @@
 //! Bytes by name, operations on them, and the code of a program.
 
 use c_ints::{BinOp, IntTy, UnOp};
-use pic_chip::Root;
+use pic_world::Root;
 
 /// A byte of data memory by name. Objects and frames have no addresses yet.
 #[derive(Clone, Copy, PartialEq, Eq, Debug)]

@@ -2,7 +2,8 @@
 //! that a second board of the same kind leads to, which is asked beside the chip's own steps.
 ghost use Rattle.std.specs.Prelude.{◌≡◌, None};
 
-use pic_chip::{Accesses, Chip, Image, Script, Start, StepEnd, register_name};
+use pic_chip::{Accesses, Chip, Image, Start, StepEnd};
+use pic_world::{Script, register_name};
 use pic_map::Tracer;
 use pic_sim::{Board, Exchange, SimEnd, simulate};
 use picc_core::{Built, compile};
@@ -177,7 +178,7 @@ fn run_over(
     }
     let mut tracer = Tracer::new(&built.map);
     let _ = tracer.at(chip.pc());
-    let mut trace = pic_chip::Trace::new(alloc);
+    let mut trace = pic_world::Trace::new(alloc);
     trace.reserve(2 * n as usize + 1)?;
     let mut board: Box<dyn Board> = Box::new(alloc, board)?;
     Ok(simulate(

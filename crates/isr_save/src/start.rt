@@ -7,7 +7,7 @@ ghost use Rattle.sym_code.specs.WellFormed.{are_well_formed};
 ghost use Rattle.sym_code.specs.declared.code.BlockName.TheVariants.{Start};
 
 use core_code::{Byte, CoreProgram, FirstByte};
-use ram_place::Placed;
+use pic_map::Placed;
 use std::alloc::{AllocError, Global};
 use sym_code::{
     BlockName, FileOperation, Into, Label, Literal, LiteralOperation, Operand, PlainOperation,

@@ -1,7 +1,7 @@
 use crate::start_block;
 use core_code::{Byte, CoreProgram, FirstByte};
 use pic_map::ObjLine;
-use ram_place::Placed;
+use pic_map::Placed;
 use std::alloc::{AllocError, Global};
 use sym_code::{
     BlockName, FileOperation, Into, Label, Literal, LiteralOperation, Operand, PlainOperation,

@@ -11,7 +11,7 @@ use Rattle.core_code.specs.declared.code.Byte.{Byte}
 use Rattle.core_code.specs.declared.code.Byte.TheVariants.{Static, Frame, Device}
 use Rattle.lower_expr.specs.Bytes.{beyond}
 use Rattle.lower_expr.specs.declared.places.Locals.{Locals}
-use Rattle.pic_chip.specs.declared.Root.{Root}
+use Rattle.pic_world.specs.declared.Root.{Root}
 
 pub record Layout : Type 0 where
   pub root : Root

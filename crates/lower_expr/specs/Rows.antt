@@ -27,7 +27,7 @@ use Rattle.lower_expr.specs.declared.places.Spot.{Spot}
 use Rattle.lower_expr.specs.declared.places.Spot.TheVariants.{Fixed, Bit, Computed}
 use Rattle.lower_expr.specs.declared.structures.Side.{Side}
 use Rattle.lower_expr.specs.declared.structures.Side.TheVariants.{Here, Pointed}
-use Rattle.pic_chip.specs.declared.Root.{Root}
+use Rattle.pic_world.specs.declared.Root.{Root}
 
 -- Conversions: only one to more bytes is code.
 abbrev pub wider : IntTy → IntTy → Byte → List Tree

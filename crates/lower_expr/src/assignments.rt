@@ -20,7 +20,7 @@ use crate::puts::{
 use c_ints::{BinOp, IntTy};
 use c_typed::{StepOp, TExpr, TPlace, Ty};
 use core_code::{Byte, Core};
-use pic_chip::Root;
+use pic_world::Root;
 use std::alloc::{AllocError, Global};
 
 /// The offset at which what follows the address of a place begins.

@@ -38,7 +38,7 @@ use crate::structures::put_struct_assign;
 use c_ints::{BinOp, Value, size};
 use c_typed::{LogicalOp, Object, TExpr, TPlace, Ty};
 use core_code::{Byte, Core};
-use pic_chip::Root;
+use pic_world::Root;
 use std::alloc::{AllocError, Global};
 
 /// Appends code that evaluates an expression, and where its value is wanted leaves it at the offset `base` of the frame

@@ -9,7 +9,7 @@ ghost use Rattle.lower_expr.specs.Spots as spots;
 use crate::bytes::{behind, beyond};
 use c_typed::{Object, Structure, TExpr, TPlace, Ty, bytes_of};
 use core_code::Byte;
-use pic_chip::Root;
+use pic_world::Root;
 
 /// What a function copy's code stands on: its root, the offset in its frame of each parameter and local, of each
 /// function of the program the number of that function's copy under this root (if the root reaches it), and the

@@ -17,7 +17,7 @@ use crate::puts::{put_copies, put_copy, put_load, put_operator, put_set, put_sto
 use c_ints::{BinOp, IntTy};
 use c_typed::TPlace;
 use core_code::{Byte, Core};
-use pic_chip::Root;
+use pic_world::Root;
 use std::alloc::{AllocError, Global};
 
 /// Where a structure is: from this byte on, or where the pointer in two bytes points to.

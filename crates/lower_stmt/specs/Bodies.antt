@@ -14,7 +14,7 @@ use Rattle.lower_stmt.specs.Frames.{ground_for}
 use Rattle.lower_stmt.specs.Ground.{Ground}
 use Rattle.lower_stmt.specs.Jumps.{outside}
 use Rattle.lower_stmt.specs.Statements.{stmts_code}
-use Rattle.pic_chip.specs.declared.Root.{Root}
+use Rattle.pic_world.specs.declared.Root.{Root}
 
 -- the code of a copy, by its number
 pub record BodyTree : Type 0 where

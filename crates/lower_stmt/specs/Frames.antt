@@ -9,8 +9,8 @@ use Rattle.call_graph.specs.declared.types.FnCopy.{FnCopy}
 use Rattle.lower_expr.specs.Bytes.{beyond}
 use Rattle.lower_expr.specs.Layout.{Layout}
 use Rattle.lower_stmt.specs.Ground.{Ground}
-use Rattle.pic_chip.specs.declared.Root.{Root}
-use Rattle.pic_chip.specs.declared.Root.TheVariants.{Main, Isr}
+use Rattle.pic_world.specs.declared.Root.{Root}
+use Rattle.pic_world.specs.declared.Root.TheVariants.{Main, Isr}
 
 -- the offsets of variables that stand one behind the other, and the offset behind them
 abbrev pub offsets_from : List ℕ → ℕ → List VariableTree → List ℕ

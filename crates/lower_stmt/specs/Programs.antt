@@ -13,8 +13,8 @@ use Rattle.core_code.specs.FirstBytes.{first_held}
 use Rattle.core_code.specs.Machine.{Program}
 use Rattle.core_code.specs.Tree.{Tree}
 use Rattle.lower_stmt.specs.Bodies.{code_of, first_bytes}
-use Rattle.pic_chip.specs.declared.Root.{Root}
-use Rattle.pic_chip.specs.declared.Root.TheVariants.{Main, Isr}
+use Rattle.pic_world.specs.declared.Root.{Root}
+use Rattle.pic_world.specs.declared.Root.TheVariants.{Main, Isr}
 
 -- the function with this number, and that of a copy; a helper is none
 abbrev pub function_at : typed.Program → FnId → Option FunctionTree

@@ -8,7 +8,7 @@ ghost use Rattle.lower_stmt.specs.Frames as laws;
 use c_typed::{FnId, Function, Structure, Typed, Variable, bytes_of};
 use call_graph::FnCopy;
 use lower_expr::{Locals, beyond};
-use pic_chip::Root;
+use pic_world::Root;
 use std::alloc::{AllocError, Global};
 
 // The offsets of variables that stand one behind the other from `start` on.

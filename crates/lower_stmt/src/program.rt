@@ -18,7 +18,7 @@ use c_typed::{FnId, Function, Typed};
 use call_graph::{Copies, FnCopy};
 use core_code::{Body, Core, CoreProgram};
 use lower_expr::{Locals, put_leave};
-use pic_chip::Root;
+use pic_world::Root;
 use std::alloc::{AllocError, Global};
 
 #[tactic(auto, unfolding(crate::specs::Ground::ground_of))]

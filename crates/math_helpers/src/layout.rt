@@ -4,7 +4,7 @@ ghost use Rattle.std.specs.Prelude.{◌≡◌};
 ghost use Rattle.math_helpers.specs.Layouts.{bytes_of, bits_of, operand_at};
 
 use core_code::Byte;
-use pic_chip::Root;
+use pic_world::Root;
 use sym_code::Operand;
 
 /// How many bytes an operand has.

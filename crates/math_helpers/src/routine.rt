@@ -11,7 +11,7 @@ use crate::layout::{RoutineLayout, Width};
 use crate::product::put_product;
 use crate::shift::{Direction, put_shift};
 use c_typed::Helper;
-use pic_chip::Root;
+use pic_world::Root;
 use std::alloc::{AllocError, Global};
 use sym_code::{BlockName, SymBlock};
 

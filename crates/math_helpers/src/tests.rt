@@ -3,7 +3,7 @@
 use crate::helper;
 use c_typed::Helper;
 use core_code::Byte;
-use pic_chip::Root;
+use pic_world::Root;
 use std::test::Fail;
 use sym_code::{
     BitOperation, BlockName, FileOperation, Into, Literal, Operand, PlainOperation, Register, Sym,

@@ -2,7 +2,7 @@
 use Rattle.std.proofs.Common.{◌≡◌, ℕ, ◌+◌, ◌-◌, ◌*◌, ◌/◌, ◌%◌, ◌^◌, ◌<◌, Bool, true, false, eqb, refl, sym, ap, ◌∙◌, arith}
 use Rattle.std.specs.Prelude.{bit_and, bit_or}
 use Rattle.std.proofs.lemmas.Bool.{agree_below, agree_below_at, eqb-true}
-use Rattle.pic_chip.specs.Instructions.{bit, set_bit, clear_bit}
+use Rattle.pic_world.specs.Bits.{bit, set_bit, clear_bit}
 
 -- what holds of each byte and each place is computed at all 2,048 pairs
 pub at_each : (g h : ℕ → ℕ → ℕ) → agree_below (λ n. eqb (g (n / 256) (n % 256)) (h (n / 256) (n % 256))) (λ n. true) 2048 ≡ true → (b x : ℕ) → b < 8 → x < 256 → g b x ≡ h b x

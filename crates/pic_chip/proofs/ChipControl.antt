@@ -1,7 +1,7 @@
 -- What the chip's acts do to the registers by which interrupts come.
 use Rattle.std.proofs.Common.{◌≡◌, ℕ, List, refl}
 use Rattle.pic_isa.specs.declared.Ins.TheVariants.{Retfie}
-use Rattle.pic_chip.specs.Control.{raised_by, entered, left}
+use Rattle.pic_world.specs.Control.{raised_by, entered, left}
 use Rattle.pic_chip.specs.State.{State}
 use Rattle.pic_chip.specs.Act.{perform}
 use Rattle.pic_chip.specs.Instructions.{row}

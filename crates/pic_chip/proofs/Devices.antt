@@ -2,8 +2,8 @@
 use Rattle.std.proofs.Common.{◌≡◌, ℕ, ◌+◌, ◌-◌, ◌*◌, ◌/◌, ◌%◌, ◌<◌, Bool, true, false, eqb, refl, sym, ap, ◌∙◌, arith, [], not}
 use Rattle.std.specs.Prelude.{slice_index_or, nat_eq, nat_lt, if◌then◌else◌, ◌||◌, ◌&&◌}
 use Rattle.std.proofs.lemmas.Bool.{agree_below, agree_below_at, eqb-true}
-use Rattle.pic_chip.specs.Registers.{is_among, is_register, lowest}
-use Rattle.pic_chip.specs.Control.{is_stored}
+use Rattle.pic_world.specs.Registers.{is_among, is_register, lowest}
+use Rattle.pic_world.specs.Control.{is_stored}
 use Rattle.pic_chip.specs.Address.{Place, Device, Nothing, place}
 use Rattle.pic_chip.specs.Named.{devices}
 

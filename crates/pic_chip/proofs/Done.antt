@@ -6,7 +6,8 @@ use Rattle.pic_chip.specs.declared.processor.Flags.TheVariants.{Keep, OnlyZ, Onl
 use Rattle.pic_chip.specs.State.{State, AtPc, AtIntcon, get, put}
 use Rattle.pic_chip.specs.Act.{Derived, Write, Note, Made, made, accesses, Act, Do, value_in, apply, effect, perform}
 use Rattle.pic_chip.specs.Address.{Place, Pcl, Status, Fsr, Pclath, Intcon, General, Device, Nothing, operand}
-use Rattle.pic_chip.specs.Instructions.{contents, after_read, store, result_to, byte_row, test_row, write_row, is_empty, to, number, note, write_note, push, pop, plain_row, of, bit, clear_bit, skipping, following}
+use Rattle.pic_world.specs.Bits.{bit, clear_bit}
+use Rattle.pic_chip.specs.Instructions.{contents, after_read, store, result_to, byte_row, test_row, write_row, is_empty, to, number, note, write_note, push, pop, plain_row, of, skipping, following}
 use Rattle.pic_chip.specs.Interrupts.{enter}
 use Rattle.pic_chip.specs.Changes.{Grows, stored, after_reading, flagged, keeps_flags, finished, row_done, pushed, popped}
 

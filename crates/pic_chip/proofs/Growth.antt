@@ -4,7 +4,7 @@ use Rattle.pic_chip.specs.declared.processor.Flags.{Flags}
 use Rattle.pic_chip.specs.declared.processor.Flags.TheVariants.{Keep, OnlyZ, OnlyC, Sums}
 use Rattle.pic_chip.specs.State.{State}
 use Rattle.pic_chip.specs.Address.{Place, Status, Device}
-use Rattle.pic_chip.specs.Instructions.{bit}
+use Rattle.pic_world.specs.Bits.{bit}
 use Rattle.pic_chip.specs.Changes.{Grows, stored, after_reading, flagged, keeps_flags, finished, row_done}
 
 -- the counts are the same

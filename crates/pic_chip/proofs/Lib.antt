@@ -1,13 +1,7 @@
 pub mod Words
-pub mod NameTables
 pub mod BitCases
 pub mod Devices
 pub mod Done
 pub mod Growth
 pub mod Wanted
-pub mod OrLaws
-pub mod ControlLaws
 pub mod ChipControl
-pub mod WorldLaws
-pub mod Masks
-pub mod Risings

@@ -3,8 +3,8 @@ use Rattle.std.proofs.Common.{◌≡◌, ℕ, ◌+◌, ◌*◌, ◌/◌, ◌%◌
 use Rattle.std.specs.Prelude.{if◌then◌else◌, ◌&&◌, nat_eq, Option, Some, None}
 use Rattle.std.proofs.lemmas.Bool.{agree_below_at}
 use Rattle.pic_chip.specs.State.{State, AtPc, AtBank, AtFsr}
-use Rattle.pic_chip.specs.Registers.{is_register}
-use Rattle.pic_chip.specs.Control.{is_stored}
+use Rattle.pic_world.specs.Registers.{is_register}
+use Rattle.pic_world.specs.Control.{is_stored}
 use Rattle.pic_chip.specs.Act.{Derived, Write, Note, made, accesses, Act, Ask, Do, effect}
 use Rattle.pic_chip.specs.Address.{Place, Pcl, Status, Fsr, Pclath, Intcon, Pir1, Pie1, General, Device, Nothing, place, indirect, operand, in_every_bank, address_of}
 use Rattle.pic_chip.specs.Instructions.{to, following, store, is_empty, contents, byte_row, test_row, write_row, note, write_note}

@@ -5,6 +5,7 @@ use Rattle.pic_isa.specs.declared.Ins.TheVariants.{Addwf, Andwf, Clrf, Clrw, Com
 use Rattle.pic_isa.specs.Lookup.{row_of}
 use Rattle.pic_chip.specs.State.{State, Part, AtW, AtPc, AtBank, AtZ, AtDc, AtC, AtFsr, AtPclath, AtIntcon, AtPir1, AtPie1, AtPushes, AtPops, AtTaken, Ram, Level}
 use Rattle.pic_chip.specs.Act.{Derived, Write, Note, Act, Ask, Do}
+use Rattle.pic_world.specs.Bits.{bit, set_bit, clear_bit, truth}
 use Rattle.pic_chip.specs.Address.{Place, Pcl, Status, Fsr, Pclath, Intcon, Pir1, Pie1, General, Device, Nothing, operand, address_of}
 
 -- ---- numbers made of parts of the state
@@ -28,20 +29,6 @@ with_part p g v = record { from = p ∷ v.from; by = λ xs. g (slice_index xs 0)
 
 abbrev pub to : Part → Derived → Write
 to p v = record { to = p; value = v }
-
--- ---- bits
-abbrev pub bit : ℕ → ℕ → ℕ
-bit x b = x / 2 ^ b % 2
-
-abbrev pub set_bit : ℕ → ℕ → ℕ
-set_bit b x = x + (1 - bit x b) * 2 ^ b
-
-abbrev pub clear_bit : ℕ → ℕ → ℕ
-clear_bit b x = x - bit x b * 2 ^ b
-
-abbrev pub truth : Bool → ℕ
-truth true = 1
-truth false = 0
 
 -- ---- reads and writes of a place
 -- What a read gives, where this is the input list and the instruction stands at pc. A read of a device register

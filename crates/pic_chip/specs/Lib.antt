@@ -1,14 +1,9 @@
 pub mod Words
 pub mod State
-pub mod Roots
 pub mod Act
-pub mod Registers
 pub mod Address
 pub mod Instructions
-pub mod Control
 pub mod Interrupts
-pub mod Arrivals
-pub mod World
 pub mod Run
 pub mod Named
 pub mod Truth
@@ -16,4 +11,3 @@ pub mod Changes
 pub mod Seen
 pub mod Operations
 pub mod Machine
-pub mod TraceRoom

@@ -2,9 +2,10 @@
 use Rattle.std.specs.Prelude.{ℕ, ◌≡◌, slice_index, ◌≤◌, ◌+◌, ◌^◌, Bool, not, ◌&&◌, if◌then◌else◌, List, [], ◌∷◌, Option, Some, None, ℤ, pos, ◌-ℤ◌}
 use Rattle.pic_chip.specs.State.{State}
 use Rattle.pic_chip.specs.Act.{Made}
-use Rattle.pic_chip.specs.Registers.{is_register}
-use Rattle.pic_chip.specs.Control.{is_stored}
-use Rattle.pic_chip.specs.Instructions.{bit, fetched, is_modelled}
+use Rattle.pic_world.specs.Registers.{is_register}
+use Rattle.pic_world.specs.Control.{is_stored}
+use Rattle.pic_world.specs.Bits.{bit}
+use Rattle.pic_chip.specs.Instructions.{fetched, is_modelled}
 
 -- the state, and the index of the next instruction, counted from 0 at reset
 pub record Machine : Type 0 where

@@ -2,8 +2,8 @@
 use Rattle.std.specs.Prelude.{ℕ, ◌≡◌, ◌<◌, Bool, true, false, List, [], ◌∷◌, Option, Some, None}
 use Rattle.pic_chip.specs.declared.place.Place.{Place as Named}
 use Rattle.pic_chip.specs.declared.place.Place.TheVariants.{PclReg, StatusReg, FsrReg, PclathReg, IntconReg, Pir1Reg, Pie1Reg, GeneralByte, DeviceReg, Nowhere}
-use Rattle.pic_chip.specs.Registers.{is_register}
-use Rattle.pic_chip.specs.Control.{is_stored}
+use Rattle.pic_world.specs.Registers.{is_register}
+use Rattle.pic_world.specs.Control.{is_stored}
 use Rattle.pic_chip.specs.Address.{Place, Pcl, Status, Fsr, Pclath, Intcon, Pir1, Pie1, General, Device, Nothing}
 
 abbrev pub named : Named → Place

@@ -1,7 +1,7 @@
 -- What the processor's fields are to their values.
 use Rattle.std.specs.Prelude.{ℕ, Bool, true, false, nat_eq, ◌≡◌, ◌<◌, List, slice_index}
 use Rattle.std.proofs.Common.{refl}
-use Rattle.pic_chip.specs.Instructions.{truth}
+use Rattle.pic_world.specs.Bits.{truth}
 
 pub same_truth : (b : Bool) → nat_eq (truth b) 1 ≡ b
 same_truth true = refl

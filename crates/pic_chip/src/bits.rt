@@ -1,6 +1,6 @@
 // Single bits of a byte.
 ghost use Rattle.std.specs.Prelude.{◌≡◌, ◌<◌, ℕ};
-ghost use Rattle.pic_chip.specs.Instructions.{bit as bit_at, set_bit as with_bit, clear_bit as without_bit, truth};
+ghost use Rattle.pic_world.specs.Bits.{bit as bit_at, set_bit as with_bit, clear_bit as without_bit, truth};
 
 /// The bit of this place, 0 or 1.
 pub fn bit(place: u8, byte: u8) -> u8

@@ -4,8 +4,9 @@ ghost use Rattle.pic_chip.specs.State.{State, AtW, AtPc, AtIntcon, reset as rese
 ghost use Rattle.pic_chip.specs.Act.{Act, effect, value_in, perform};
 ghost use Rattle.pic_chip.specs.Run.{IsStart};
 ghost use Rattle.pic_chip.specs.Address.{Place as AnyPlace, operand as operand_of};
-ghost use Rattle.pic_chip.specs.Instructions.{contents as contents_of, bit as bit_at, set_bit as with_bit, clear_bit as without_bit, to, of, part, number, page, following, plain_row, push as push_of, pop as pop_of};
-ghost use Rattle.pic_chip.specs.Control.{is_due as due};
+ghost use Rattle.pic_world.specs.Bits.{bit as bit_at, set_bit as with_bit, clear_bit as without_bit};
+ghost use Rattle.pic_chip.specs.Instructions.{contents as contents_of, to, of, part, number, page, following, plain_row, push as push_of, pop as pop_of};
+ghost use Rattle.pic_world.specs.Control.{is_due as due};
 ghost use Rattle.pic_chip.specs.Interrupts.{raise as raise_of, control_of, enter as enter_of};
 ghost use Rattle.pic_chip.specs.Named.{named, IsPlace, device_in};
 ghost use Rattle.pic_chip.specs.Machine.{Feeds};
@@ -49,7 +50,7 @@ pub struct Processor {
 impl Model for Processor {
     ghost use Rattle.std.specs.Prelude.{◌<◌, nat_eq};
     ghost use Rattle.pic_chip.specs.State.{State};
-    ghost use Rattle.pic_chip.specs.Instructions.{truth};
+    ghost use Rattle.pic_world.specs.Bits.{truth};
     ghost use Rattle.pic_chip.specs.Truth.{same_truth, are_places};
 
     ghost Value = { State };
@@ -396,7 +397,7 @@ impl Processor {
     }
 
     /// Whether an interrupt is due.
-    #[tactic(auto, unfolding(crate::specs::Control::is_due))]
+    #[tactic(auto, unfolding(pic_world::specs::Control::is_due))]
     pub fn is_due(&self) -> bool
         ensures value { result ≡ due (control_of self.now) }
         ensures enabled { result ≡ true → bit_at self.now.intcon 7 ≡ 1 }

@@ -14,7 +14,7 @@ use Rattle.text_lines.specs.Front.{after}
 use Rattle.text_lines.proofs.Words.{after_is, after_again}
 use Rattle.pic_map.specs.Decimal.{number_text}
 use Rattle.pic_map.specs.MapFile.{IsAddress, IsName, HasPlace, IsPointLine, is_name_byte}
-use Rattle.pic_map.specs.Reading.{below, number_of, address_of, is_digit, size_of, both, place_of, name_length, Placed, placed_of, point_of}
+use Rattle.pic_map.specs.Reading.{below, number_of, address_of, is_digit, size_of, both, place_of, name_length, NameAndPlace, placed_of, point_of}
 
 -- ---- numbers below a limit
 pub below_is : (limit : ℕ) (o : Option ℕ) (n : ℕ) → below limit o ≡ Some n → (o ≡ Some n) × (n < limit)
@@ -256,14 +256,14 @@ pub mapped : {A B : Type 0} (f : A → B) (o : Option A) (p : B) → option_map 
 mapped f None p e = absurd (cc e)
 mapped f (Some q) p e = (q, refl, cc e)
 
-abbrev pub made : List ℕ → ℕ × ℕ → Placed
+abbrev pub made : List ℕ → ℕ × ℕ → NameAndPlace
 made name p = record { name = name; address = p.0; size = p.1 }
 
 -- a text that begins with this
-abbrev pub IsPlacedText : List ℕ → Placed → Type 0
-IsPlacedText text p = (tail : List ℕ) × (text ≡ p.name ++ tail) × IsName p.name × HasPlace tail p.address p.size
+abbrev pub IsNameAndPlace : List ℕ → NameAndPlace → Type 0
+IsNameAndPlace text p = (tail : List ℕ) × (text ≡ p.name ++ tail) × IsName p.name × HasPlace tail p.address p.size
 
-pub placed_is : (text : List ℕ) (p : Placed) → placed_of text ≡ Some p → IsPlacedText text p
+pub placed_is : (text : List ℕ) (p : NameAndPlace) → placed_of text ≡ Some p → IsNameAndPlace text p
 unfolding placed_of
 placed_is text p h =
     let n = name_length text in
@@ -272,7 +272,7 @@ placed_is text p h =
     let within = name_within text in
     let long : length (take n text) ≡ n = length-take-le n text within in
     let some : n ≢ 0 = eqb-false n 0 t.0 in
-    subst (IsPlacedText text) f (
+    subst (IsNameAndPlace text) f (
       drop n text,
       sym (take-append-drop n text),
       record { some = omega (arith, long, some); bytes = AllPass-from_list_all is_name_byte (take n text) (all_names text) },

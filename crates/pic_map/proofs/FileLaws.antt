@@ -5,8 +5,8 @@ use Rattle.std.specs.Option.{option_map}
 use Rattle.std.specs.Cmp.Lexicographic.{pointwise}
 use Rattle.std.proofs.lemmas.Slice.Eq.{bytes_eq-Decides}
 use Rattle.text_lines.specs.Text.{lines_of}
-use Rattle.pic_chip.specs.declared.Root.{Root}
-use Rattle.pic_chip.specs.declared.Root.TheVariants.{Main, Isr}
+use Rattle.pic_world.specs.declared.Root.{Root}
+use Rattle.pic_world.specs.declared.Root.TheVariants.{Main, Isr}
 use Rattle.text_lines.specs.Front.{after}
 use Rattle.text_lines.proofs.Words.{after_is, after_again}
 use Rattle.pic_map.specs.MapContent.{ObjectLine, FrameLine, MapContent}

@@ -2,7 +2,7 @@
 use Rattle.std.proofs.Common.{◌≡◌, ℕ, ◌≤◌, Bool, true, false, ◌||◌, Some, None, List, [], ◌∷◌, map, refl, sym, ap, ◌∙◌, arith, nat_eq, nat_lt}
 use Rattle.std.proofs.lemmas.Bool.{eqb-true, ltb-true, eq-eqb}
 use Rattle.std.specs.Prelude.{if◌then◌else◌, is_some}
-use Rattle.pic_chip.specs.Registers.{Register, registers, register_at, name_in, name_at, is_among, is_register, lowest, or_itself}
+use Rattle.pic_world.specs.Registers.{Register, registers, register_at, name_in, name_at, is_among, is_register, lowest, or_itself}
 
 -- what stands at its own address has a name there, and what has a name there is a register
 own : (rs : List Register) (address : ℕ) → or_itself address (register_at rs address) ≡ address → is_some (name_in rs address) ≡ is_some (register_at rs address)

@@ -1,12 +1,12 @@
 -- The line that is printed for an event, by the names of a map. Its form is the project's own.
 use Rattle.std.specs.Prelude.{ℕ, ◌<◌, IsTrue, is_some, Option, Some, None, List, [], ◌∷◌, ◌++◌, codes, length, decimal}
 use Rattle.std.specs.List.{slice_get}
-use Rattle.pic_chip.specs.Registers.{name_at}
+use Rattle.pic_world.specs.Registers.{name_at}
 use Rattle.text_lines.specs.Text.{hex_pairs}
-use Rattle.pic_chip.specs.declared.Cell.{Cell}
-use Rattle.pic_chip.specs.declared.Cell.TheVariants.{Device, Static}
-use Rattle.pic_chip.specs.declared.Event.{Event}
-use Rattle.pic_chip.specs.declared.Event.TheVariants.{Read, Write, End}
+use Rattle.pic_world.specs.declared.Cell.{Cell}
+use Rattle.pic_world.specs.declared.Cell.TheVariants.{Device, Static}
+use Rattle.pic_world.specs.declared.Event.{Event}
+use Rattle.pic_world.specs.declared.Event.TheVariants.{Read, Write, End}
 use Rattle.pic_map.specs.MapContent.{ObjectLine, MapContent}
 use Rattle.pic_map.specs.MapText.{line}
 

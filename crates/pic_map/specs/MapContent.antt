@@ -1,7 +1,7 @@
 -- What a map file tells: where main begins and ends, and where the static objects and the frames of the
 -- function copies stand.
 use Rattle.std.specs.Prelude.{ℕ, ◌+◌, Bool, ◌&&◌, nat_lt, List, map}
-use Rattle.pic_chip.specs.declared.Root.{Root}
+use Rattle.pic_world.specs.declared.Root.{Root}
 use Rattle.pic_chip.specs.Run.{Range, Watch}
 
 -- a static object; `constant` for one that is const

@@ -1,6 +1,6 @@
 -- A map file written out by hand, with a CR, lower case digits and no last LF.
 use Rattle.std.specs.Prelude.{ℕ, true, false, List, [], ◌∷◌, ◌++◌, codes}
-use Rattle.pic_chip.specs.declared.Root.TheVariants.{Main}
+use Rattle.pic_world.specs.declared.Root.TheVariants.{Main}
 use Rattle.pic_map.specs.MapContent.{MapContent}
 
 abbrev pub example_text : List ℕ

@@ -2,8 +2,8 @@
 use Rattle.std.specs.Prelude.{◌≡◌, ◌≢◌, ℕ, ◌+◌, ◌/◌, ◌%◌, ◌<◌, ◌≤◌, ◌&&◌, ◌||◌, Bool, true, false, nat_eq, nat_le, Option, Some, None, List, [], ◌∷◌, ◌++◌, length, codes}
 use Rattle.std.specs.List.{AllPass}
 use Rattle.text_lines.specs.Text.{lines_of, bytes_of}
-use Rattle.pic_chip.specs.declared.Root.{Root}
-use Rattle.pic_chip.specs.declared.Root.TheVariants.{Main, Isr}
+use Rattle.pic_world.specs.declared.Root.{Root}
+use Rattle.pic_world.specs.declared.Root.TheVariants.{Main, Isr}
 use Rattle.pic_map.specs.MapContent.{ObjectLine, FrameLine, MapContent}
 use Rattle.pic_map.specs.Decimal.{number_text}
 

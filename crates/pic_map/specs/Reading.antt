@@ -2,8 +2,8 @@
 use Rattle.std.specs.Prelude.{ℕ, ◌+◌, ◌-◌, ◌*◌, ◌&&◌, Bool, true, false, nat_eq, nat_lt, nat_le, Option, Some, None, Result, Ok, Err, List, [], ◌∷◌, ◌++◌, length, take, drop, codes, if◌then◌else◌}
 use Rattle.std.specs.Option.{option_map, option_and_then}
 use Rattle.std.specs.Cmp.Lexicographic.{pointwise}
-use Rattle.pic_chip.specs.declared.Root.{Root}
-use Rattle.pic_chip.specs.declared.Root.TheVariants.{Main, Isr}
+use Rattle.pic_world.specs.declared.Root.{Root}
+use Rattle.pic_world.specs.declared.Root.TheVariants.{Main, Isr}
 use Rattle.text_lines.specs.Text.{bytes_of}
 use Rattle.text_lines.specs.Front.{after}
 use Rattle.pic_map.specs.MapContent.{ObjectLine, FrameLine, MapContent}
@@ -53,19 +53,19 @@ unfoldable pub name_length : List ℕ → ℕ
 name_length [] = 0
 name_length (c ∷ text) = if is_name_byte c then name_length text + 1 else 0
 
-pub record Placed : Type 0 where
+pub record NameAndPlace : Type 0 where
   pub name : List ℕ
   pub address : ℕ
   pub size : ℕ
 
 -- a name with its place
-unfoldable pub placed_of : List ℕ → Option Placed
+unfoldable pub placed_of : List ℕ → Option NameAndPlace
 placed_of text =
     let n = name_length text in
     if nat_eq n 0 then None else option_map (λ p. record { name = take n text; address = p.0; size = p.1 }) (place_of (drop n text))
 
 -- ---- the lines
-abbrev pub object_with : Bool → Option Placed → Option ObjectLine
+abbrev pub object_with : Bool → Option NameAndPlace → Option ObjectLine
 object_with constant placed = option_map (λ p. record { constant = constant; name = p.name; address = p.address; size = p.size }) placed
 
 abbrev pub object_behind : Option (List ℕ) → Option (List ℕ) → Option ObjectLine
@@ -76,7 +76,7 @@ object_behind None None = None
 unfoldable pub object_of : List ℕ → Option ObjectLine
 object_of line = object_behind (after (codes "static ") line) (after (codes "const ") line)
 
-abbrev pub frame_with : Root → Option Placed → Option FrameLine
+abbrev pub frame_with : Root → Option NameAndPlace → Option FrameLine
 frame_with root placed = option_map (λ p. record { root = root; name = p.name; address = p.address; size = p.size }) placed
 
 abbrev pub frame_behind : Option (List ℕ) → Option (List ℕ) → Option FrameLine

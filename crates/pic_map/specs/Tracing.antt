@@ -1,8 +1,8 @@
 -- How a run of the chip is watched moment by moment: what is remembered of the moments so far, and the events
 -- that a moment and an access add to the trace.
 use Rattle.std.specs.Prelude.{ℕ, Bool, true, not, ◌&&◌, nat_eq, if◌then◌else◌, Option, Some, None, List, [], ◌∷◌}
-use Rattle.pic_chip.specs.declared.Event.{Event}
-use Rattle.pic_chip.specs.declared.Event.TheVariants.{End}
+use Rattle.pic_world.specs.declared.Event.{Event}
+use Rattle.pic_world.specs.declared.Event.TheVariants.{End}
 use Rattle.pic_chip.specs.Run.{Watch, cell_at, event_at}
 use Rattle.pic_map.specs.MapContent.{watch_of}
 use Rattle.pic_map.specs.MapView.{content_of}

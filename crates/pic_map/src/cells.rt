@@ -1,14 +1,14 @@
 //! What stands at an address, by a map.
 
 ghost use Rattle.std.specs.Prelude.{◌≡◌, ◌≤◌, Some, None, if◌then◌else◌, length, map};
-ghost use Rattle.pic_chip.specs.declared.Cell.TheVariants.{Device};
-ghost use Rattle.pic_chip.specs.Registers.{is_register, lowest};
+ghost use Rattle.pic_world.specs.declared.Cell.TheVariants.{Device};
+ghost use Rattle.pic_world.specs.Registers.{is_register, lowest};
 ghost use Rattle.pic_chip.specs.Run.{cell_at as cell_of, object_at as object_of_run};
 ghost use Rattle.pic_map.specs.MapContent.{range_of};
 ghost use Rattle.pic_map.specs.MapView.{object_of};
 
 use crate::ObjLine;
-use pic_chip::{Cell, register_name};
+use pic_world::{Cell, register_name};
 
 /// What an access to this address is about. The address is the lowest of its register.
 pub fn cell_at(lines: &[ObjLine], address: u16) -> Option<Cell>

@@ -2,7 +2,7 @@
 
 ghost use Rattle.std.specs.Prelude.{◌≡◌, ◌<◌, ◌++◌, ◌∷◌, [], IfOk, OnOk, codes, decimal};
 ghost use Rattle.std.specs.List.{slice_get};
-ghost use Rattle.pic_chip.specs.Registers.{name_at};
+ghost use Rattle.pic_world.specs.Registers.{name_at};
 ghost use Rattle.text_lines.specs.Text.{hex_pairs};
 ghost use Rattle.pic_map.specs.EventText.{event_text, access_text, cell_text, name_or_none, object_name, CanBeShown};
 ghost use Rattle.pic_map.specs.MapText.{line as line_of};
@@ -11,7 +11,7 @@ ghost use Rattle.pic_map.specs.MapView.{content_of};
 use crate::Map;
 use crate::write::hex_digit;
 use itoa::Buffer;
-use pic_chip::{Cell, Event, register_name};
+use pic_world::{Cell, Event, register_name};
 use std::alloc::{AllocError, Global};
 
 /// The line of an event, with its LF: `R CELL VV`, `W CELL VV` or `End`, where VV is the byte in two upper

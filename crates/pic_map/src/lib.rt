@@ -19,7 +19,7 @@ mod tracer;
 mod write;
 
 pub use events::event_line;
-use pic_chip::Root;
+use pic_world::Root;
 pub use read::{MapError, read_map};
 pub use tracer::Tracer;
 pub use write::write_map;
@@ -41,6 +41,15 @@ pub struct FrameLine {
     pub name: Vec<u8>,
     pub address: u16,
     pub size: u16,
+}
+
+/// Where everything stands: the lines for the static objects in order of declaration, and for the frames of the function
+/// copies in their order; and how many addresses they cover.
+#[derive(Drop)]
+pub struct Placed {
+    pub objects: Vec<ObjLine>,
+    pub frames: Vec<FrameLine>,
+    pub ram: u16,
 }
 
 /// What a map file tells: the addresses of program memory, below 2000h, at which main begins and halts;

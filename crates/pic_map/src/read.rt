@@ -10,7 +10,7 @@ ghost use Rattle.pic_map.specs.MapText.{AreInRange};
 ghost use Rattle.text_lines.specs.Text.{lines_of, digit_value as value_of, bytes_of, without_cr};
 
 use crate::{FrameLine, Map, ObjLine};
-use pic_chip::Root;
+use pic_world::Root;
 use std::alloc::{AllocError, Global};
 use text_lines::{digit_value, next_line};
 use thiserror::Error;
@@ -29,7 +29,7 @@ pub enum Stage {
 
 /// A name with an address of data memory and a size.
 #[derive(Clone, Copy)]
-struct Placed<'a> {
+struct NameAndPlace<'a> {
     name: &'a [u8],
     address: u16,
     size: u16,
@@ -172,7 +172,7 @@ fn object(alloc: Global, fixed: bool, text: &[u8]) -> Result<Option<ObjLine>, Al
     ensures { IfOk result (λ object. reading.object_with fixed (reading.placed_of text.now) ≡ option_map object_of object) }
 {
     let Some(
-        Placed {
+        NameAndPlace {
             name,
             address,
             size,
@@ -206,7 +206,7 @@ fn frame(alloc: Global, root: Root, text: &[u8]) -> Result<Option<FrameLine>, Al
     ensures { IfOk result (λ frame. reading.frame_with root (reading.placed_of text.now) ≡ option_map frame_of frame) }
 {
     let Some(
-        Placed {
+        NameAndPlace {
             name,
             address,
             size,
@@ -235,7 +235,7 @@ fn point(word: &[u8], line: &[u8]) -> Option<u16>
 }
 
 #[tactic(auto, unfolding(crate::specs::Reading::placed_of))]
-fn name_and_place(text: &[u8]) -> Option<Placed>
+fn name_and_place(text: &[u8]) -> Option<NameAndPlace>
     ensures { reading.placed_of text.now ≡ option_map (λ p. record { name = p.name.now; address = p.address; size = p.size }) result }
 {
     let length = name_length(text);
@@ -244,7 +244,7 @@ fn name_and_place(text: &[u8]) -> Option<Placed>
     }
     let (name, tail) = text.split_at(length);
     let (address, size) = place(tail)?;
-    Some(Placed {
+    Some(NameAndPlace {
         name,
         address,
         size,

@@ -4,7 +4,7 @@ ghost use Rattle.pic_map.specs.EventText.{CanBeShown, HasName};
 ghost use Rattle.pic_map.specs.MapView.{content_of};
 
 use super::*;
-use pic_chip::{Cell, Event, Root};
+use pic_world::{Cell, Event, Root};
 use std::alloc::Global;
 use std::test::Fail;
 
@@ -150,7 +150,7 @@ fn has_name(map: &Map, cell: Cell) -> bool
     ensures { IsTrue result → HasName (content_of map.now) cell }
 {
     match cell {
-        Cell::Device { address } => pic_chip::register_name(address).is_some(),
+        Cell::Device { address } => pic_world::register_name(address).is_some(),
         Cell::Static { object, .. } => (object as usize) < map.objects.len(),
     }
 }

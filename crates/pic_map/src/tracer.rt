@@ -4,7 +4,8 @@ ghost use Rattle.std.specs.Prelude.{◌≡◌, ◌≤◌, length};
 
 use crate::Map;
 use crate::cells::cell_at;
-use pic_chip::{Access, Event};
+use pic_chip::Access;
+use pic_world::Event;
 
 /// Watches a run of the chip by a map: whether main was met, and whether it has ended.
 #[derive(Clone, Copy)]
@@ -17,7 +18,7 @@ pub struct Tracer<'a> {
 
 impl<'a> Tracer<'a> {
     ghost use Rattle.std.specs.Prelude.{◌≡◌, ◌++◌, ◌≤◌, false, length};
-    ghost use Rattle.pic_chip.specs.Registers.{lowest};
+    ghost use Rattle.pic_world.specs.Registers.{lowest};
     ghost use Rattle.pic_chip.specs.Run.{Moment, observed};
     ghost use Rattle.pic_map.specs.MapContent.{watch_of};
     ghost use Rattle.pic_map.specs.MapView.{content_of};

@@ -7,7 +7,7 @@ ghost use Rattle.text_lines.specs.Text.{hex_digit as digit_of};
 
 use crate::{FrameLine, Map, ObjLine};
 use itoa::Buffer;
-use pic_chip::Root;
+use pic_world::Root;
 use std::alloc::{AllocError, Global};
 
 /// The digits, by the number that each stands for.

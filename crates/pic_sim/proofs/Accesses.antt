@@ -7,11 +7,12 @@ use Rattle.pic_isa.specs.declared.Ins.{Ins}
 use Rattle.pic_isa.specs.declared.Ins.TheVariants.{Addwf, Andwf, Clrf, Clrw, Comf, Decf, Decfsz, Incf, Incfsz, Iorwf, Movf, Movwf, Nop, Rlf, Rrf, Subwf, Swapf, Xorwf, Bcf, Bsf, Btfsc, Btfss, Addlw, Andlw, Call, Clrwdt, Goto, Iorlw, Movlw, Retfie, Retlw, Return, Sleep, Sublw, Xorlw}
 use Rattle.pic_isa.specs.Lookup.{row_of, no_row, groups, byte_rows, bit_rows, jump_rows, literal_rows, control_row, clear_row, dest_bit}
 use Rattle.pic_chip.specs.State.{State, AtW, AtPc, AtBank, AtZ, AtC, AtFsr, AtIntcon, AtPir1, put}
-use Rattle.pic_chip.specs.Registers.{Register, registers, register_at, is_among, is_register, lowest, or_itself}
+use Rattle.pic_world.specs.Registers.{Register, registers, register_at, is_among, is_register, lowest, or_itself}
 use Rattle.pic_chip.specs.Act.{Derived, Write, Note, Effect, Made, made, accesses, Act, Ask, Do, value_in, apply, effect, perform}
 use Rattle.pic_chip.specs.Address.{Place, Pcl, Status, Fsr, Pclath, Intcon, Pir1, Pie1, General, Device, Nothing, place, indirect, operand, in_every_bank, address_of}
-use Rattle.pic_chip.specs.Instructions.{contents, after_read, store, result_to, byte_row, test_row, write_row, plain_row, is_empty, to, of, part, with_part, number, bit, set_bit, clear_bit, access, note, write_note, following, skipping, z_of, sum, sum_flags, difference, difference_flags, complement, increment, decrement, swap, is_zero, page, push, pop, row, act_of, execute, fetched, is_modelled}
-use Rattle.pic_chip.specs.Control.{is_stored, is_due}
+use Rattle.pic_world.specs.Bits.{bit, set_bit, clear_bit}
+use Rattle.pic_chip.specs.Instructions.{contents, after_read, store, result_to, byte_row, test_row, write_row, plain_row, is_empty, to, of, part, with_part, number, access, note, write_note, following, skipping, z_of, sum, sum_flags, difference, difference_flags, complement, increment, decrement, swap, is_zero, page, push, pop, row, act_of, execute, fetched, is_modelled}
+use Rattle.pic_world.specs.Control.{is_stored, is_due}
 use Rattle.pic_chip.specs.Interrupts.{control_of, enter, raised, begun}
 use Rattle.pic_chip.specs.Machine.{wanted, takes_input}
 use Rattle.pic_sim.specs.declared.board.Exchange.{Exchange}

@@ -3,11 +3,11 @@ use Rattle.std.proofs.Common.{◌≡◌, ℕ, zero, suc, ◌+◌, ◌*◌, ◌/�
 use Rattle.std.specs.Prelude.{bit_or, nat_eq, if◌then◌else◌}
 use Rattle.std.specs.Int.Bits.{or_zero_l, or_zero_r}
 use Rattle.std.proofs.lemmas.Bool.{agree_below_at, eqb-true, eq-eqb}
-use Rattle.pic_chip.specs.declared.Arrival.{Arrival}
-use Rattle.pic_chip.specs.declared.Flag.{Flag}
-use Rattle.pic_chip.specs.declared.Flag.TheVariants.{Rbif, Intf, Tmr0if, Tmr1if, Tmr2if, Ccp1if, Sspif, Txif, Rcif, Adif, Pspif}
-use Rattle.pic_chip.specs.Interrupts.{arriving, flag_bit, flags}
-use Rattle.pic_chip.proofs.OrLaws.{or_assoc}
+use Rattle.pic_world.specs.declared.Arrival.{Arrival}
+use Rattle.pic_world.specs.declared.Flag.{Flag}
+use Rattle.pic_world.specs.declared.Flag.TheVariants.{Rbif, Intf, Tmr0if, Tmr1if, Tmr2if, Ccp1if, Sspif, Txif, Rcif, Adif, Pspif}
+use Rattle.pic_world.specs.Arrivals.{arriving, flag_bit, flags}
+use Rattle.pic_world.proofs.OrLaws.{or_assoc}
 use Rattle.pic_sim.specs.Going.{HasBytes, HasMasks}
 use Rattle.pic_sim.specs.FromReset.{bytes_of, arrival, flags_among, flags_at, arrivals_of, AnswersAreInput, MasksAreArrivals}
 

@@ -1,7 +1,7 @@
 -- Runs over a board as runs from reset.
 use Rattle.std.specs.Prelude.{if◌then◌else◌, ◌||◌}
 use Rattle.std.proofs.Common.{◌≡◌, ℕ, Bool, true, refl, zero, suc, ◌+◌, sym, ap, ◌∙◌, subst, add-zero, arith}
-use Rattle.pic_chip.specs.Interrupts.{arriving}
+use Rattle.pic_world.specs.Arrivals.{arriving}
 use Rattle.pic_chip.specs.Machine.{Machine}
 use Rattle.pic_chip.specs.Run.{Setting, Moment, moment, ends_at, next_moment, observed, stepped}
 use Rattle.pic_map.specs.Tracing.{Tracing}

@@ -4,7 +4,7 @@ use Rattle.std.specs.Prelude.{if◌then◌else◌, ◌&&◌, ◌||◌}
 use Rattle.std.proofs.lemmas.Bool.{eqb-true, eqb-false}
 use Rattle.pic_chip.specs.Act.{Made, accesses}
 use Rattle.pic_chip.specs.Instructions.{execute, fetched, is_modelled}
-use Rattle.pic_chip.specs.Interrupts.{arriving}
+use Rattle.pic_world.specs.Arrivals.{arriving}
 use Rattle.pic_chip.specs.Machine.{stop_at, takes_input}
 use Rattle.pic_chip.specs.Run.{Moment, observed, stepped, next_moment}
 use Rattle.pic_map.specs.Tracing.{Tracing}

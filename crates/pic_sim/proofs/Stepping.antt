@@ -1,15 +1,16 @@
 -- One instruction over a board, from its parts.
 use Rattle.std.proofs.Common.{◌≡◌, ℕ, ◌+◌, ◌%◌, Bool, true, false, not, List, [], ◌∷◌, ◌++◌, refl, sym, ap, ◌∙◌, subst, append-nil, append_assoc, length, slice_index, Option, Some, None, nat_eq, IsSome, IfSome}
 use Rattle.std.specs.Prelude.{if◌then◌else◌, ◌&&◌, ◌||◌}
-use Rattle.pic_chip.specs.declared.Event.{Event}
-use Rattle.pic_chip.specs.declared.Event.TheVariants as events
+use Rattle.pic_world.specs.declared.Event.{Event}
+use Rattle.pic_world.specs.declared.Event.TheVariants as events
 use Rattle.pic_chip.specs.declared.access.Accesses.{Accesses}
 use Rattle.pic_chip.specs.declared.access.StepEnd.{StepEnd}
 use Rattle.pic_chip.specs.declared.access.StepEnd.TheVariants.{Done, Unmodelled}
 use Rattle.pic_chip.specs.State.{State}
 use Rattle.pic_chip.specs.Act.{Made, accesses, perform}
 use Rattle.pic_chip.specs.Instructions.{execute, fetched, is_modelled}
-use Rattle.pic_chip.specs.Interrupts.{arriving, begun}
+use Rattle.pic_world.specs.Arrivals.{arriving}
+use Rattle.pic_chip.specs.Interrupts.{begun}
 use Rattle.pic_chip.specs.Machine.{Machine, stop_at, index_after, Feeds, wanted}
 use Rattle.pic_chip.specs.Run.{Watch, Range, Moment, observed, stepped, cell_at, event_at, events_of}
 use Rattle.pic_chip.specs.Seen.{accesses_in, stopped_at, seen}

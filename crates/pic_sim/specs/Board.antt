@@ -1,9 +1,9 @@
 -- What a board keeps, and what it is asked.
 use Rattle.std.specs.Prelude.{ℕ, Bool, not, ◌&&◌, List}
-use Rattle.pic_chip.specs.Registers.{is_register}
-use Rattle.pic_chip.specs.Control.{is_stored}
-use Rattle.pic_chip.specs.declared.Arrival.{Arrival}
-use Rattle.pic_chip.specs.declared.script.Script.{Script}
+use Rattle.pic_world.specs.Registers.{is_register}
+use Rattle.pic_world.specs.Control.{is_stored}
+use Rattle.pic_world.specs.declared.Arrival.{Arrival}
+use Rattle.pic_world.specs.declared.script.Script.{Script}
 use Rattle.pic_sim.specs.declared.board.Exchange.{Exchange}
 
 -- All that a board answered and was told, each list in order.

@@ -1,9 +1,9 @@
 -- Runs over a board as runs from reset.
 use Rattle.std.specs.Prelude.{ℕ, ◌+◌, ◌/◌, ◌%◌, ◌≡◌, true, false, nat_eq, if◌then◌else◌, List, [], ◌∷◌, ◌++◌, length, Some}
-use Rattle.pic_chip.specs.declared.Arrival.{Arrival}
-use Rattle.pic_chip.specs.declared.Flag.{Flag}
+use Rattle.pic_world.specs.declared.Arrival.{Arrival}
+use Rattle.pic_world.specs.declared.Flag.{Flag}
 use Rattle.pic_chip.specs.State.{reset}
-use Rattle.pic_chip.specs.Interrupts.{flag_bit, flags, arriving}
+use Rattle.pic_world.specs.Arrivals.{flag_bit, flags, arriving}
 use Rattle.pic_chip.specs.Run.{Setting, Moment, moment}
 use Rattle.pic_map.specs.Tracing.{looked}
 use Rattle.pic_sim.specs.declared.board.Exchange.{Exchange}

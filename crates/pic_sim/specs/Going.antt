@@ -1,11 +1,12 @@
 -- What a run over a board is. The definitions of one instruction and of a moment are those of the chip's run from
 -- reset; here a run goes on from any moment, with any input list and any flags that arrive.
 use Rattle.std.specs.Prelude.{ℕ, zero, suc, ◌+◌, ◌%◌, ◌≡◌, ◌<◌, ◌≤◌, true, false, ◌&&◌, if◌then◌else◌, List, [], ◌∷◌, ◌++◌, length, slice_index, Option, Some, None}
-use Rattle.pic_chip.specs.declared.Event.{Event}
+use Rattle.pic_world.specs.declared.Event.{Event}
 use Rattle.pic_chip.specs.State.{State}
 use Rattle.pic_chip.specs.Act.{Made, accesses}
 use Rattle.pic_chip.specs.Instructions.{execute}
-use Rattle.pic_chip.specs.Interrupts.{arriving, begun}
+use Rattle.pic_world.specs.Arrivals.{arriving}
+use Rattle.pic_chip.specs.Interrupts.{begun}
 use Rattle.pic_chip.specs.Machine.{Machine, stop_at, takes_input}
 use Rattle.pic_chip.specs.Run.{Watch, Moment, ends_at, next_moment}
 use Rattle.pic_map.specs.Tracing.{Tracing}

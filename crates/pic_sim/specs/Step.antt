@@ -1,11 +1,12 @@
 -- One instruction over a board, in parts.
 use Rattle.std.specs.Prelude.{ℕ, ◌+◌, ◌%◌, ◌≡◌, if◌then◌else◌, List, [], ◌∷◌, ◌++◌, length, Option, Some, None, IsSome, IsTrue}
-use Rattle.pic_chip.specs.declared.Event.{Event}
+use Rattle.pic_world.specs.declared.Event.{Event}
 use Rattle.pic_chip.specs.declared.access.StepEnd.{StepEnd}
 use Rattle.pic_chip.specs.Act.{Made, accesses, perform}
-use Rattle.pic_chip.specs.Registers.{lowest}
+use Rattle.pic_world.specs.Registers.{lowest}
 use Rattle.pic_chip.specs.Instructions.{execute}
-use Rattle.pic_chip.specs.Interrupts.{arriving, begun}
+use Rattle.pic_world.specs.Arrivals.{arriving}
+use Rattle.pic_chip.specs.Interrupts.{begun}
 use Rattle.pic_chip.specs.Machine.{Machine, stop_at, index_after}
 use Rattle.pic_chip.specs.Run.{Moment, events_of, observed, stepped}
 use Rattle.pic_chip.specs.Seen.{accesses_in, stopped_at}

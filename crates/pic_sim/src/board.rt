@@ -1,10 +1,10 @@
 //! What stands around the chip.
 
 ghost use Rattle.std.specs.Prelude.{◌≡◌, ◌≤◌, ◌+◌, ◌++◌, ◌∷◌, [], ℕ, Option, Some, IsTrue, IsSome, IfOk, IfSome, OnOk, OnErr, length, slice_index};
-ghost use Rattle.pic_chip.specs.Interrupts.{arriving};
+ghost use Rattle.pic_world.specs.Arrivals.{arriving};
 ghost use Rattle.pic_sim.specs.Board.{Lists, Followed, followed, is_outside};
 
-use pic_chip::Script;
+use pic_world::Script;
 use std::alloc::AllocError;
 
 /// A byte that went between the chip and a device register, which is named by its lowest address.

@@ -1,9 +1,9 @@
 //! Runs of the chip over a board.
 
 ghost use Rattle.std.specs.Prelude.{◌≡◌, ◌<◌, ◌≤◌, ◌+◌, ◌*◌, ◌^◌, ◌++◌, ◌∷◌, [], false, IsTrue, IfOk, IfSome, IfNone, OnOk, OnErr, MatchOption, Some, length, option_to_list};
-ghost use Rattle.pic_chip.specs.Registers.{lowest};
-ghost use Rattle.pic_chip.specs.Control.{is_stored as kept};
-ghost use Rattle.pic_chip.specs.Interrupts.{arriving};
+ghost use Rattle.pic_world.specs.Registers.{lowest};
+ghost use Rattle.pic_world.specs.Control.{is_stored as kept};
+ghost use Rattle.pic_world.specs.Arrivals.{arriving};
 ghost use Rattle.pic_chip.specs.Seen.{accesses_in, made_by, seen};
 ghost use Rattle.pic_map.specs.Tracing.{tracing_of, looked, told, list_of};
 ghost use Rattle.pic_sim.specs.Board.{is_outside};
@@ -11,7 +11,8 @@ ghost use Rattle.pic_sim.specs.Going.{HasBytes, MayGrow, Went, point, writes_of}
 ghost use Rattle.pic_sim.specs.Step.{given_of, IsWanted, AreLowest, shown_all, slack, Acted, Steps, Ends};
 
 use crate::board::{Board, Exchange};
-use pic_chip::{Access, Accesses, Chip, Event, Image, StepEnd, Trace, register_name};
+use pic_chip::{Access, Accesses, Chip, Image, StepEnd};
+use pic_world::{Event, Trace, register_name};
 use pic_map::Tracer;
 use std::alloc::AllocError;
 

@@ -2,13 +2,13 @@
 
 ghost use Rattle.std.specs.Prelude.{◌≡◌, ◌≤◌, ◌+◌, ◌++◌, ◌∷◌, [], ℕ, Option, Some, IsTrue, IfOk, OnOk, OnErr, length, slice_index};
 ghost use Rattle.std.specs.Vec.{vec_len, vec_capacity};
-ghost use Rattle.pic_chip.specs.Interrupts.{arriving};
+ghost use Rattle.pic_world.specs.Arrivals.{arriving};
 ghost use Rattle.pic_sim.specs.Board.{followed, is_outside};
 ghost use Rattle.pic_sim.specs.ScriptBoard.{lists_of, script_of, space};
 
 use crate::board::{Board, Exchange};
-use pic_chip::Script;
-use pic_chip::script::input_at;
+use pic_world::Script;
+use pic_world::script::input_at;
 use std::alloc::{AllocError, Global};
 
 /// A board whose answers are those of a script: the input byte whose number is the count of bytes given so far, and 0

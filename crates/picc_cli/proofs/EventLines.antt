@@ -3,7 +3,7 @@ use Rattle.std.proofs.Common.{◌≡◌, ℕ, ◌+◌, ◌<◌, ◌≤◌, Optio
 use Rattle.std.proofs.Math.ListN.{get_or}
 use Rattle.std.proofs.lemmas.List.{take_more, take_all, take-append-drop}
 use Rattle.host_io.specs.Host.{PrintsPrefix}
-use Rattle.pic_chip.specs.declared.Event.{Event}
+use Rattle.pic_world.specs.declared.Event.{Event}
 use Rattle.pic_map.specs.EventText.{CanBeShown, event_text}
 use Rattle.pic_map.specs.MapContent.{MapContent}
 use Rattle.picc_cli.specs.Lines.{event_lines}

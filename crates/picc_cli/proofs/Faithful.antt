@@ -3,12 +3,12 @@ use Rattle.std.proofs.Common.{◌≡◌, ℕ, zero, suc, ◌+◌, ◌-◌, ◌*�
 use Rattle.std.specs.Prelude.{◌||◌, slice_get, Contains}
 use Rattle.std.proofs.lemmas.List.{length-take, length-take-le, take_min}
 use Rattle.std.proofs.lemmas.Bool.{cases_lt}
-use Rattle.pic_chip.specs.declared.Arrival.{Arrival}
+use Rattle.pic_world.specs.declared.Arrival.{Arrival}
 use Rattle.pic_chip.specs.declared.Start.{Start}
-use Rattle.pic_chip.specs.declared.Event.{Event}
-use Rattle.pic_chip.specs.Interrupts.{arriving}
+use Rattle.pic_world.specs.declared.Event.{Event}
+use Rattle.pic_world.specs.Arrivals.{arriving}
 use Rattle.pic_chip.specs.Run.{IsStart, Setting, moment, is_handling, takes}
-use Rattle.pic_chip.specs.declared.Root.TheVariants.{Main}
+use Rattle.pic_world.specs.declared.Root.TheVariants.{Main}
 use Rattle.picc_cli.specs.declared.program.Assignment.{Assignment}
 use Rattle.pic_map.specs.MapContent.{FrameLine, ObjectLine}
 use Rattle.picc_core.specs.Headline.{IsFrontOf, ComesTo, HasNext, Follows, IsFaithful, setting_of, is_guarded}

@@ -1,7 +1,7 @@
 -- What is known of a command by its end.
 use Rattle.std.proofs.Common.{◌≡◌, ℕ, inl, inr, false, Option, Some, None, IsSome, IfSome, List, [], ◌∷◌, Result, Ok, Err, OnOk, is_err, sym, ap, ◌∙◌, subst, arith}
 use Rattle.host_io.specs.Host.{Kind, Contents, PrintsPrefix}
-use Rattle.pic_chip.specs.declared.Event.{Event}
+use Rattle.pic_world.specs.declared.Event.{Event}
 use Rattle.pic_chip.specs.Machine.{Machine}
 use Rattle.pic_map.specs.MapContent.{MapContent, watch_of}
 use Rattle.pic_map.specs.Tracing.{Tracing, looked}

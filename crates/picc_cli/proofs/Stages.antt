@@ -4,13 +4,13 @@ use Rattle.std.specs.Prelude.{nat_eq, ◌&&◌, if◌then◌else◌, slice_get}
 use Rattle.std.proofs.lemmas.Bool.{ne_eqb, eq-eqb, cases_lt}
 use Rattle.pic_isa.specs.declared.Ins.TheVariants.{Movlw, Movwf, Goto}
 use Rattle.pic_isa.specs.Table.{IsWellFormed}
-use Rattle.pic_chip.specs.declared.Arrival.{Arrival}
+use Rattle.pic_world.specs.declared.Arrival.{Arrival}
 use Rattle.pic_chip.specs.declared.Start.{Start}
-use Rattle.pic_chip.specs.declared.Event.TheVariants as events
+use Rattle.pic_world.specs.declared.Event.TheVariants as events
 use Rattle.pic_chip.specs.State.{State, AtPc, AtW}
 use Rattle.pic_chip.specs.Act.{Effect, effect, made}
 use Rattle.pic_chip.specs.Instructions.{row, to, following, part}
-use Rattle.pic_chip.specs.Interrupts.{arriving}
+use Rattle.pic_world.specs.Arrivals.{arriving}
 use Rattle.pic_chip.specs.Run.{IsStart, events_of as shown, Setting, Watch, Moment, moment, first_moment, next_moment, observed, stepped}
 use Rattle.picc_cli.specs.declared.program.Assignment.{Assignment}
 use Rattle.picc_cli.specs.declared.program.Side.{Side}

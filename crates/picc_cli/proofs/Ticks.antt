@@ -9,8 +9,9 @@ use Rattle.pic_isa.specs.Lookup.{row_of}
 use Rattle.pic_isa.proofs.Rows.{of_word}
 use Rattle.pic_chip.specs.State.{State, AtPc, AtW}
 use Rattle.pic_chip.specs.Act.{Effect, effect, perform, apply, made, accesses}
-use Rattle.pic_chip.specs.Instructions.{to, part, row, act_of, execute, fetched, is_modelled, is_return_from_interrupt, bit, following}
-use Rattle.pic_chip.specs.Control.{is_due}
+use Rattle.pic_world.specs.Bits.{bit}
+use Rattle.pic_chip.specs.Instructions.{to, part, row, act_of, execute, fetched, is_modelled, is_return_from_interrupt, following}
+use Rattle.pic_world.specs.Control.{is_due}
 use Rattle.pic_chip.specs.Interrupts.{raised, begun, control_of}
 use Rattle.pic_chip.specs.Run.{Moment, ends_at, stepped, takes, is_handling, events_of, registers_of}
 use Rattle.picc_cli.specs.declared.program.Side.{Side}

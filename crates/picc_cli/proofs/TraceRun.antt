@@ -2,7 +2,7 @@
 use Rattle.std.proofs.Common.{◌≡◌, ℕ, ◌+◌, ◌<◌, ◌≤◌, inl, inr, Option, Some, None, List, [], ◌∷◌, ◌++◌, refl, sym, ap, ◌∙◌, subst, arith, append_assoc, append-nil, option_map}
 use Rattle.std.proofs.lemmas.List.{length-append}
 use Rattle.host_io.specs.Host.{PrintsPrefix}
-use Rattle.pic_chip.specs.declared.Event.{Event}
+use Rattle.pic_world.specs.declared.Event.{Event}
 use Rattle.pic_map.specs.EventText.{CanBeShown, event_text}
 use Rattle.pic_map.specs.MapContent.{MapContent}
 use Rattle.picc_cli.specs.declared.tracing.Ended.{Ended}

@@ -1,7 +1,7 @@
 -- How a simulation ends: what is known of its files, what it prints, and its exit status.
 use Rattle.std.specs.Prelude.{ℕ, ◌≡◌, ◌⊎◌, Bool, true, false, IsTrue, Option, Some, None, List, [], ◌∷◌, ◌++◌, codes, option_map}
 use Rattle.host_io.specs.Host.{Kind, Contents, Lacks, PrintsPrefix}
-use Rattle.pic_chip.specs.declared.Event.{Event}
+use Rattle.pic_world.specs.declared.Event.{Event}
 use Rattle.pic_map.specs.MapContent.{MapContent}
 use Rattle.picc_cli.specs.declared.simulating.Ended.{Ended}
 use Rattle.picc_cli.specs.declared.simulating.Ended.TheVariants.{Done, Unmodelled, NoHex, NoMap, NoScript, CannotPrint, NoMemory}

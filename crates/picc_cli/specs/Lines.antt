@@ -1,6 +1,6 @@
 -- Lines that a command prints.
 use Rattle.std.specs.Prelude.{ℕ, List, [], ◌∷◌, ◌++◌, codes, decimal}
-use Rattle.pic_chip.specs.declared.Event.{Event}
+use Rattle.pic_world.specs.declared.Event.{Event}
 use Rattle.pic_map.specs.EventText.{event_text}
 use Rattle.pic_map.specs.MapContent.{MapContent}
 use Rattle.src_values.specs.declared.objects.Undef.{Undef}

@@ -1,9 +1,9 @@
 -- Programs that assign constants to ports, and what they mean.
 use Rattle.std.specs.Prelude.{ℕ, ◌+◌, ◌*◌, ◌<◌, ◌≤◌, ◌≡◌, ◌⊎◌, true, List, [], ◌∷◌, ◌++◌, length, take, codes, if◌then◌else◌, nat_lt, ◌/◌, ◌%◌}
-use Rattle.pic_chip.specs.declared.Root.TheVariants.{Main}
-use Rattle.pic_chip.specs.declared.Cell.TheVariants as cells
-use Rattle.pic_chip.specs.declared.Event.{Event}
-use Rattle.pic_chip.specs.declared.Event.TheVariants as events
+use Rattle.pic_world.specs.declared.Root.TheVariants.{Main}
+use Rattle.pic_world.specs.declared.Cell.TheVariants as cells
+use Rattle.pic_world.specs.declared.Event.{Event}
+use Rattle.pic_world.specs.declared.Event.TheVariants as events
 use Rattle.picc_cli.specs.declared.program.Assignment.{Assignment}
 use Rattle.picc_cli.specs.declared.program.Side.{Side}
 use Rattle.picc_cli.specs.declared.program.Side.TheVariants.{Port, Tris}

@@ -2,7 +2,7 @@
 -- grown, and what was printed of the run.
 use Rattle.std.specs.Prelude.{ℕ, ◌≡◌, ◌⊎◌, false, List, [], ◌++◌, replicate, Option, Some, None, IsSome, option_map}
 use Rattle.host_io.specs.Host.{Contents, PrintsPrefix}
-use Rattle.pic_chip.specs.declared.Event.{Event}
+use Rattle.pic_world.specs.declared.Event.{Event}
 use Rattle.pic_chip.specs.declared.Start.{Start}
 use Rattle.pic_chip.specs.Machine.{Machine}
 use Rattle.pic_chip.specs.State.{reset}

@@ -4,7 +4,7 @@ use Rattle.call_graph.specs.Copies.{AreCopies}
 use Rattle.call_graph.specs.declared.types.FnCopy.{FnCopy}
 use Rattle.c_typed.specs.Trees.{Program}
 use Rattle.host_io.specs.Host.{Kind, Contents, Lacks, PrintsPrefix}
-use Rattle.pic_chip.specs.declared.Event.{Event}
+use Rattle.pic_world.specs.declared.Event.{Event}
 use Rattle.pic_map.specs.EventText.{CanBeShown, event_text}
 use Rattle.pic_map.specs.MapContent.{MapContent}
 use Rattle.picc_core.specs.Answers.{Tells}

@@ -8,7 +8,7 @@ ghost use Rattle.picc_cli.specs.Built.{IsBuilt, IsRefused};
 use crate::code::assembled;
 use crate::program::{Assignment, read_program};
 use hex_image::write_hex;
-use pic_chip::Root;
+use pic_world::Root;
 use pic_map::{FrameLine, Map, write_map};
 use std::alloc::{AllocError, Global};
 

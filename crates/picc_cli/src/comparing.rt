@@ -14,7 +14,7 @@ use crate::refusal::push_counted;
 use crate::say::{say, say_line, say_located, say_refusal};
 use crate::tracing::undef_text;
 use host_io::{Host, HostError, read_whole};
-use pic_chip::Script;
+use pic_world::Script;
 use picc_core::{Agreed, CompileError, Refusal, agree, compile};
 use src_machine::Undef;
 use std::alloc::{AllocError, Global};

@@ -11,7 +11,7 @@ ghost use Rattle.ram_place.specs.Placement.{IsPlacing};
 
 use crate::tracing::Ended;
 use host_io::{Host, HostError};
-use pic_chip::{Cell, Event, Script, register_name};
+use pic_world::{Cell, Event, Script, register_name};
 use pic_map::{Map, event_line};
 use picc_core::Front;
 use src_machine::{Source, SrcEnd};

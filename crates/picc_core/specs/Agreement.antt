@@ -3,8 +3,8 @@ use Rattle.std.specs.Prelude.{ℕ, ◌+◌, ◌*◌, ◌≡◌, ◌<◌, ◌≤�
 use Rattle.c_typed.specs.TreeNodes.{nodes_of}
 use Rattle.c_typed.specs.Trees.{Program}
 use Rattle.pic_chip.specs.Run.{Setting, moment}
-use Rattle.pic_chip.specs.World.{outside_of}
-use Rattle.pic_chip.specs.declared.Event.{Event}
+use Rattle.pic_world.specs.World.{outside_of}
+use Rattle.pic_world.specs.declared.Event.{Event}
 use Rattle.schedule.specs.Off.{read_off, runs_begun}
 use Rattle.src_machine.specs.Runs.{Fault, after, fault_after, is_idle_after, main_steps_after, runs_after}
 use Rattle.src_values.specs.Objects.{Setting as SourceSetting}

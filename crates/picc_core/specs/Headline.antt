@@ -1,18 +1,18 @@
 -- The headline: what an image does on the chip is a run of the source program that calls the handler whole.
 use Rattle.std.specs.Prelude.{ℕ, ◌+◌, ◌-◌, ◌*◌, ◌≡◌, ◌≢◌, ◌<◌, ◌≤◌, Bool, true, false, ◌&&◌, nat_eq, if◌then◌else◌, List, [], ◌∷◌, length, take, slice_index, slice_index_or, slice_get, Some, Contains}
-use Rattle.pic_chip.specs.declared.Arrival.{Arrival}
-use Rattle.pic_chip.specs.declared.Root.{Root}
-use Rattle.pic_chip.specs.declared.Root.TheVariants.{Main, Isr}
+use Rattle.pic_world.specs.declared.Arrival.{Arrival}
+use Rattle.pic_world.specs.declared.Root.{Root}
+use Rattle.pic_world.specs.declared.Root.TheVariants.{Main, Isr}
 use Rattle.pic_chip.specs.declared.Start.{Start}
-use Rattle.pic_chip.specs.declared.Cell.TheVariants as cells
-use Rattle.pic_chip.specs.declared.Event.{Event}
-use Rattle.pic_chip.specs.declared.Event.TheVariants as events
+use Rattle.pic_world.specs.declared.Cell.TheVariants as cells
+use Rattle.pic_world.specs.declared.Event.{Event}
+use Rattle.pic_world.specs.declared.Event.TheVariants as events
 use Rattle.pic_chip.specs.Address.{byte_at}
 use Rattle.pic_chip.specs.Instructions.{is_modelled}
 use Rattle.pic_isa.specs.Lookup.{row_of}
-use Rattle.pic_chip.specs.Interrupts.{arriving}
+use Rattle.pic_world.specs.Arrivals.{arriving}
 use Rattle.pic_chip.specs.Run.{IsStart, Setting, moment, is_handling}
-use Rattle.pic_chip.specs.World.{Outside, outside_of}
+use Rattle.pic_world.specs.World.{Outside, outside_of}
 use Rattle.pic_map.specs.MapContent.{ObjectLine, FrameLine, MapContent, watch_of}
 use Rattle.ram_place.specs.Memory.{AreDisjoint}
 use Rattle.schedule.specs.Off.{read_off}

@@ -7,7 +7,7 @@ use Rattle.c_typed.specs.Trees.{Program, StaticTree}
 use Rattle.c_typed.specs.Types.{type_bytes}
 use Rattle.call_graph.specs.Copies.{AreCopies}
 use Rattle.call_graph.specs.declared.types.FnCopy.{FnCopy}
-use Rattle.pic_chip.specs.World.{Outside}
+use Rattle.pic_world.specs.World.{Outside}
 use Rattle.pic_map.specs.MapContent.{ObjectLine, FrameLine, MapContent}
 use Rattle.ram_place.specs.Placement.{IsPlacing, MayBeLive}
 use Rattle.src_machine.specs.Control.{Outcome, Undefined}

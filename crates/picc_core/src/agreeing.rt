@@ -5,7 +5,7 @@ ghost use Rattle.picc_core.specs.Agreement.{events_in};
 
 use crate::known::Built;
 use crate::source_run::{Fault, FaultAt, Going, SourceRun, Stretch, StretchEnd};
-use pic_chip::{Arrival, Flag, Script};
+use pic_world::{Arrival, Flag, Script};
 use schedule::{Off, read_off};
 use src_machine::Undef;
 use std::alloc::{AllocError, Global};

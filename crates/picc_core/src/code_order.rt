@@ -4,7 +4,7 @@ ghost use Rattle.std.specs.Prelude.{IfOk};
 ghost use Rattle.std.specs.List.Sorted.{IsPermutation};
 
 use call_graph::{Copies, FnCopy, FnId};
-use pic_chip::Root;
+use pic_world::Root;
 use std::alloc::{AllocError, Global};
 
 /// Where a copy's block stands: the copies of main's root first, within a root the functions in order of definition,

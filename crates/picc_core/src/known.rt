@@ -4,7 +4,7 @@ use c_check::Typed;
 use call_graph::Copies;
 use pic_chip::Image;
 use pic_map::Map;
-use ram_place::Placed;
+use pic_map::Placed;
 
 /// What is known of a text that isn't refused: its typed tree, the copies of its functions, and where objects and
 /// frames stand. `at` has the address of each block of code: the start block; the copies of main's root in order of

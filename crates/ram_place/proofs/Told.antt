@@ -26,7 +26,7 @@ use Rattle.ram_place.specs.Memory.{is_taken, covers, Stands, HasNoPlace}
 use Rattle.ram_place.specs.Placement.{objects_have, IsTaken, IsTakenFor, AreObjects, AreFrames, IsPlacing, LacksObject, LacksFrame}
 use Rattle.ram_place.specs.declared.live.Graph.{Graph}
 use Rattle.ram_place.specs.declared.placing.Objects.{Objects}
-use Rattle.ram_place.specs.declared.placing.Placed.{Placed}
+use Rattle.pic_map.specs.declared.Placed.{Placed}
 use Rattle.ram_place.specs.declared.placing.PlaceError.{PlaceError}
 use Rattle.ram_place.specs.declared.placing.PlaceError.TheVariants.{NoMemory, Ram}
 use Rattle.ram_place.proofs.Connected.{got_of, rows_length}

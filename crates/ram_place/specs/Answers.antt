@@ -13,7 +13,7 @@ use Rattle.ram_place.specs.Memory.{is_taken, Stands, HasNoPlace}
 use Rattle.ram_place.specs.Placement.{object_line, frame_line, objects_have, AreObjects, AreFrames, IsPlacing, LacksObject, LacksFrame, LacksFrameBehind}
 use Rattle.ram_place.specs.Sizes as sizes
 use Rattle.ram_place.specs.declared.placing.Objects.{Objects}
-use Rattle.ram_place.specs.declared.placing.Placed.{Placed}
+use Rattle.pic_map.specs.declared.Placed.{Placed}
 use Rattle.ram_place.specs.declared.placing.PlaceError.{PlaceError}
 use Rattle.ram_place.specs.declared.placing.PlaceError.TheVariants.{NoMemory, Ram}
 

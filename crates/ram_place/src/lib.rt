@@ -14,4 +14,5 @@ mod room;
 mod words;
 
 pub use frame::{block_words, frame_bytes, start_words};
-pub use placing::{PlaceError, Placed, place};
+pub use pic_map::Placed;
+pub use placing::{PlaceError, place};

@@ -13,7 +13,7 @@ ghost use Rattle.ram_place.specs.Placement.{MayBeLive, LiveFramesHave};
 use crate::memory::{Span, Taken};
 use c_typed::Typed;
 use call_graph::{FnCopy, graph_of, number_of, reached, reversed};
-use pic_chip::Root;
+use pic_world::Root;
 use pic_map::FrameLine;
 use std::alloc::{AllocError, Global};
 

@@ -16,17 +16,8 @@ use crate::memory::{Span, Taken};
 use crate::naming::{copied, name_of};
 use c_typed::{Static, Typed, bytes_of};
 use call_graph::{Copies, FnCopy};
-use pic_map::{FrameLine, ObjLine};
+use pic_map::{FrameLine, ObjLine, Placed};
 use std::alloc::{AllocError, Global};
-
-/// Where everything stands: the map's lines for the static objects in order of declaration, and for the
-/// frames of the copies in their order; and how many addresses they cover.
-#[derive(Drop)]
-pub struct Placed {
-    pub objects: Vec<ObjLine>,
-    pub frames: Vec<FrameLine>,
-    pub ram: u16,
-}
 
 /// Why there is no placing: the static object of that name, or the frame of the function of that name,
 /// has no address.

@@ -3,7 +3,7 @@
 use crate::chip_run::chip_run;
 use crate::comparing::built;
 use crate::interrupts::{IDLE, KEY, TWO_COPIES};
-use pic_chip::{Arrival, Flag, Script};
+use pic_world::{Arrival, Flag, Script};
 use picc_core::{Agreed, Built, Undef, agree};
 use std::alloc::{AllocError, Global};
 use std::test::Fail;

@@ -1,8 +1,7 @@
 //! The run of an image on the chip, with its events by name.
 
-use pic_chip::{
-    Access, Accesses, Arrival, Cell, Chip, Event, Image, Script, Start, StepEnd, register_name,
-};
+use pic_chip::{Access, Accesses, Chip, Image, Start, StepEnd};
+use pic_world::{Arrival, Cell, Event, Script, register_name};
 use pic_map::Map;
 use std::alloc::{AllocError, Global};
 

@@ -1,7 +1,8 @@
 //! A program's run on the chip beside that of its source.
 
 use crate::chip_run::chip_run;
-use pic_chip::{Arrival, Event, Image, Script};
+use pic_chip::Image;
+use pic_world::{Arrival, Event, Script};
 use picc_core::{Built, compile};
 use src_machine::{Source, SrcEnd};
 use std::alloc::Global;

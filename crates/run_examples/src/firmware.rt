@@ -1,7 +1,7 @@
 //! The firmware of examples/ on the chip, beside its source. `checks/examples.sh` shows that the texts are those files.
 
 use crate::comparing::{built, goes_as};
-use pic_chip::{Arrival, Flag, Script};
+use pic_world::{Arrival, Flag, Script};
 use std::alloc::{AllocError, Global};
 use std::test::Fail;
 

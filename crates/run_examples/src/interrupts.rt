@@ -1,7 +1,7 @@
 //! Arrivals between any two instructions.
 
 use crate::comparing::{agrees, built, goes_as};
-use pic_chip::{Arrival, Flag, Script};
+use pic_world::{Arrival, Flag, Script};
 use picc_core::Built;
 use std::alloc::Global;
 use std::test::Fail;

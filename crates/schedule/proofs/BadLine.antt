@@ -1,7 +1,7 @@
 -- Where reading stops is the first bad line.
 use Rattle.std.proofs.Common.{◌≡◌, ℕ, ◌+◌, Option, Some, None, Result, Ok, Err, List, [], ◌∷◌, ◌++◌, length, refl, sym, ap, ◌∙◌, arith}
 use Rattle.text_lines.specs.Text.{lines_of}
-use Rattle.pic_chip.specs.declared.script.Script.{Script}
+use Rattle.pic_world.specs.declared.script.Script.{Script}
 use Rattle.schedule.specs.declared.read.ScriptError.{ScriptError}
 use Rattle.schedule.specs.declared.read.ScriptError.TheVariants.{NoMemory, BadLine}
 use Rattle.schedule.specs.Answers.{GivesScript, TellsBadLine, reading_of}

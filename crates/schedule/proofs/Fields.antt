@@ -8,10 +8,10 @@ use Rattle.std.proofs.lemmas.List.{take-append-drop, take_at, drop_at, length-ta
 use Rattle.std.proofs.lemmas.List.Sums.{AllPass-from_list_all, list_all-from_AllPass}
 use Rattle.std.proofs.lemmas.Option.{cond_some}
 use Rattle.std.proofs.lemmas.Slice.Eq.{bytes_eq-Decides}
-use Rattle.pic_chip.specs.declared.Arrival.{Arrival}
-use Rattle.pic_chip.specs.declared.Flag.{Flag}
-use Rattle.pic_chip.specs.declared.Flag.TheVariants.{Rbif, Intf, Tmr0if, Tmr1if, Tmr2if, Ccp1if, Sspif, Txif, Rcif, Adif, Pspif}
-use Rattle.pic_chip.specs.Interrupts.{flags}
+use Rattle.pic_world.specs.declared.Arrival.{Arrival}
+use Rattle.pic_world.specs.declared.Flag.{Flag}
+use Rattle.pic_world.specs.declared.Flag.TheVariants.{Rbif, Intf, Tmr0if, Tmr1if, Tmr2if, Ccp1if, Sspif, Txif, Rcif, Adif, Pspif}
+use Rattle.pic_world.specs.Arrivals.{flags}
 use Rattle.schedule.specs.ScriptFile.{byte_value, AreBytes, is_digit, number_onto, IsTime, flag_word}
 use Rattle.schedule.specs.Reading.{byte_onto, bytes_in, digits_length, time_onto, flag_among, flag_in, arrival_of, arrival_in}
 

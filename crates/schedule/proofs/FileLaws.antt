@@ -4,10 +4,10 @@ use Rattle.std.specs.Prelude.{codes, if◌then◌else◌}
 use Rattle.std.specs.List.{slice_get}
 use Rattle.std.proofs.lemmas.Bool.{le-ltb, ltb-false}
 use Rattle.text_lines.specs.Text.{lines_of}
-use Rattle.pic_chip.specs.declared.Arrival.{Arrival}
+use Rattle.pic_world.specs.declared.Arrival.{Arrival}
 use Rattle.text_lines.specs.Front.{after}
 use Rattle.text_lines.proofs.Words.{after_is, after_again}
-use Rattle.pic_chip.specs.Arrivals.{IsRising}
+use Rattle.pic_world.specs.Arrivals.{IsRising}
 use Rattle.schedule.specs.ScriptFile as file
 use Rattle.schedule.specs.ScriptFile.{ScriptContent, Piece, IsLine, AreLines, inputs_of, arrivals_of, AreScriptLines, IsScriptFile}
 use Rattle.schedule.specs.Reading.{bytes_in, arrival_in, with_input, with_arrival, time_of, last_time, by_word, after_line, go_on, read_on, nothing}

@@ -2,7 +2,7 @@
 use Rattle.std.proofs.Common.{ℕ, Result, Ok, Err, List, sym, ◌∙◌}
 use Rattle.std.specs.Result.{IfOk}
 use Rattle.text_lines.specs.Text.{lines_of}
-use Rattle.pic_chip.specs.declared.script.Script.{Script}
+use Rattle.pic_world.specs.declared.script.Script.{Script}
 use Rattle.schedule.specs.declared.read.ScriptError.{ScriptError}
 use Rattle.schedule.specs.declared.read.ScriptError.TheVariants.{NoMemory, BadLine}
 use Rattle.schedule.specs.Answers.{GivesScript, reading_of}

@@ -2,7 +2,7 @@
 use Rattle.std.specs.Prelude.{◌≡◌, ℕ, ◌++◌, Bool, true, false, Option, Some, None, List, Result, Ok, Err}
 use Rattle.std.specs.Option.{option_map}
 use Rattle.text_lines.specs.Text.{lines_of}
-use Rattle.pic_chip.specs.declared.script.Script.{Script}
+use Rattle.pic_world.specs.declared.script.Script.{Script}
 use Rattle.schedule.specs.Reading.{read_on, nothing}
 use Rattle.schedule.specs.ScriptFile.{ScriptContent, content_of, IsFirstBadLine}
 use Rattle.schedule.specs.declared.read.ScriptError.{ScriptError}

@@ -1,9 +1,9 @@
 -- What is read off a run of the chip: where its arrivals fall in its trace, at which moments no run of the handler is under way,
 -- and how many runs of it have begun.
 use Rattle.std.specs.Prelude.{ℕ, zero, suc, ◌+◌, ◌-◌, Bool, not, ◌&&◌, nat_le, nat_lt, if◌then◌else◌, List, [], ◌∷◌, length}
-use Rattle.pic_chip.specs.declared.Arrival.{Arrival}
-use Rattle.pic_chip.specs.declared.Event.{Event}
-use Rattle.pic_chip.specs.Interrupts.{arriving}
+use Rattle.pic_world.specs.declared.Arrival.{Arrival}
+use Rattle.pic_world.specs.declared.Event.{Event}
+use Rattle.pic_world.specs.Arrivals.{arriving}
 use Rattle.pic_chip.specs.Run.{Setting, moment, is_handling, takes}
 
 -- ---- of the traces at all moments, and the arrivals

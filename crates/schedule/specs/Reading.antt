@@ -2,9 +2,9 @@
 use Rattle.std.specs.Prelude.{ℕ, ◌+◌, ◌-◌, ◌*◌, ◌^◌, ◌&&◌, ◌||◌, nat_eq, nat_lt, nat_le, Option, Some, None, Result, Ok, Err, List, [], ◌∷◌, ◌++◌, length, take, drop, codes, if◌then◌else◌}
 use Rattle.std.specs.List.{slice_get}
 use Rattle.std.specs.Str.{bytes_eq}
-use Rattle.pic_chip.specs.declared.Arrival.{Arrival}
-use Rattle.pic_chip.specs.declared.Flag.{Flag}
-use Rattle.pic_chip.specs.Interrupts.{flags}
+use Rattle.pic_world.specs.declared.Arrival.{Arrival}
+use Rattle.pic_world.specs.declared.Flag.{Flag}
+use Rattle.pic_world.specs.Arrivals.{flags}
 use Rattle.text_lines.specs.Front.{after}
 use Rattle.schedule.specs.ScriptFile.{ScriptContent, byte_value, is_digit, flag_word}
 

@@ -1,6 +1,6 @@
 -- A script file written out by hand, with an empty line, a CR, lower case digits and no last LF.
 use Rattle.std.specs.Prelude.{ℕ, List, [], ◌∷◌, ◌++◌, codes}
-use Rattle.pic_chip.specs.declared.Flag.TheVariants.{Rbif, Intf, Tmr0if}
+use Rattle.pic_world.specs.declared.Flag.TheVariants.{Rbif, Intf, Tmr0if}
 use Rattle.schedule.specs.ScriptFile.{ScriptContent}
 
 abbrev pub example_text : List ℕ

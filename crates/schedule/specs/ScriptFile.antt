@@ -2,11 +2,11 @@
 use Rattle.std.specs.Prelude.{◌≡◌, ℕ, ◌+◌, ◌-◌, ◌*◌, ◌<◌, ◌≤◌, ◌^◌, ◌&&◌, Bool, nat_le, Option, Some, None, List, [], ◌∷◌, ◌++◌, length, codes}
 use Rattle.std.specs.List.{AllPass}
 use Rattle.text_lines.specs.Text.{lines_of, digit_value}
-use Rattle.pic_chip.specs.declared.Arrival.{Arrival}
-use Rattle.pic_chip.specs.declared.Flag.{Flag}
-use Rattle.pic_chip.specs.declared.Flag.TheVariants.{Rbif, Intf, Tmr0if, Tmr1if, Tmr2if, Ccp1if, Sspif, Txif, Rcif, Adif, Pspif}
-use Rattle.pic_chip.specs.declared.script.Script.{Script}
-use Rattle.pic_chip.specs.Arrivals.{IsRising}
+use Rattle.pic_world.specs.declared.Arrival.{Arrival}
+use Rattle.pic_world.specs.declared.Flag.{Flag}
+use Rattle.pic_world.specs.declared.Flag.TheVariants.{Rbif, Intf, Tmr0if, Tmr1if, Tmr2if, Ccp1if, Sspif, Txif, Rcif, Adif, Pspif}
+use Rattle.pic_world.specs.declared.script.Script.{Script}
+use Rattle.pic_world.specs.Arrivals.{IsRising}
 
 -- the bytes that reads of device registers take, and the flags that arrive, in order
 pub record ScriptContent : Type 0 where

@@ -4,7 +4,8 @@ ghost use Rattle.std.specs.Prelude.{◌≡◌, ◌<◌, ◌≤◌, ◌+◌, ◌*
 ghost use Rattle.pic_map.specs.Tracing.{list_of};
 ghost use Rattle.schedule.specs.Watching.{ahead};
 
-use pic_chip::{Accesses, Arrival, Chip, Event, Image, Script, Start, StepEnd};
+use pic_chip::{Accesses, Chip, Image, Start, StepEnd};
+use pic_world::{Arrival, Event, Script};
 use pic_isa::{Ins, decode};
 use pic_map::{Map, Tracer};
 use std::alloc::{AllocError, Global};

@@ -5,7 +5,7 @@ ghost use Rattle.schedule.specs.Answers.{GivesScript, TellsBadLine, Goes, Puts, 
 ghost use Rattle.schedule.specs.ScriptFile.{ScriptContent, IsScriptFile, content_of, byte_value, number_onto};
 ghost use Rattle.schedule.specs.Reading as reading;
 
-use pic_chip::{Arrival, Flag, Script};
+use pic_world::{Arrival, Flag, Script};
 use std::alloc::{AllocError, Global};
 use text_lines::{digit_value, next_line};
 use thiserror::Error;

@@ -1,6 +1,6 @@
 // Texts worked out by hand: what is read, and at which line reading stops.
 use super::*;
-use pic_chip::Flag;
+use pic_world::Flag;
 use std::test::Fail;
 
 /// Input over two lines, an empty line, CR, leading zeros, equal times, and no last LF.

@@ -1,7 +1,7 @@
 -- The blocks of a program: one for each copy that is no helper, in the order of the copies.
 use Rattle.std.specs.Prelude.{ℕ, ◌+◌, nat_eq, Bool, true, false, if◌then◌else◌, List, [], ◌∷◌, ◌++◌, map, Option, Some, None}
 use Rattle.std.specs.List.{position}
-use Rattle.pic_chip.specs.declared.Root.TheVariants.{Isr}
+use Rattle.pic_world.specs.declared.Root.TheVariants.{Isr}
 use Rattle.c_typed.specs.declared.calls.FnId.{FnId}
 use Rattle.c_typed.specs.declared.calls.FnId.TheVariants as callee
 use Rattle.call_graph.specs.declared.types.FnCopy.{FnCopy}

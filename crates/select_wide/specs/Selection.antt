@@ -1,6 +1,6 @@
 -- The code of the operations that are neither byte-sized nor control.
 use Rattle.std.specs.Prelude.{ℕ, Bool, if◌then◌else◌, List, [], ◌∷◌, Option, Some, None}
-use Rattle.pic_chip.specs.declared.Root.{Root}
+use Rattle.pic_world.specs.declared.Root.{Root}
 use Rattle.c_ints.specs.declared.operators.BinOp.{BinOp}
 use Rattle.c_ints.specs.declared.operators.BinOp.TheVariants as binop
 use Rattle.c_ints.specs.declared.types.IntTy.{IntTy}

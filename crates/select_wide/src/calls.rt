@@ -10,7 +10,7 @@ use c_ints::{BinOp, IntTy};
 use c_typed::{FnId, Helper};
 use call_graph::{FnCopy, number_of};
 use core_code::Byte;
-use pic_chip::Root;
+use pic_world::Root;
 use select_code::behind;
 use std::alloc::AllocError;
 use sym_code::{BlockName, Sym, SymBlock, Target};

@@ -6,7 +6,7 @@ ghost use Rattle.select_code.specs.Pieces.{byte_behind};
 ghost use Rattle.select_wide.specs.Moves.{copies_code, stores_code, clears_code};
 
 use core_code::Byte;
-use pic_chip::Root;
+use pic_world::Root;
 use select_code::{behind, put_copy, put_set, put_store};
 use std::alloc::AllocError;
 use sym_code::SymBlock;

@@ -19,7 +19,7 @@ use crate::sums::{put_bits, put_difference, put_sum};
 use c_ints::{BinOp, IntTy, size};
 use call_graph::{Copies, FnCopy, FnId};
 use core_code::{Body, Byte, Core, CoreProgram};
-use pic_chip::Root;
+use pic_world::Root;
 use select_code::{Ending, Wide, select_body};
 use std::alloc::{AllocError, Global};
 use sym_code::{BlockName, FileOperation, SymBlock, SymProgram};

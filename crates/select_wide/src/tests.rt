@@ -5,7 +5,7 @@ use c_ints::{BinOp, IntTy};
 use c_typed::Helper;
 use call_graph::{Copies, FnCopy, FnId};
 use core_code::{Body, Byte, Core, CoreProgram};
-use pic_chip::Root;
+use pic_world::Root;
 use select_code::Wide;
 use std::alloc::{AllocError, Global};
 use std::test::Fail;

@@ -8,9 +8,10 @@ use c_pre::tokens;
 use c_token::raw;
 use call_graph::{Copies, FnCopy, FnId, GraphError, copies};
 use code_place::{PageError, pages};
-use pic_chip::Root;
+use pic_world::Root;
 use picc_core::front;
-use ram_place::{PlaceError, Placed, block_words, place, start_words};
+use pic_map::Placed;
+use ram_place::{PlaceError, block_words, place, start_words};
 use std::alloc::{AllocError, Global};
 use std::test::Fail;
 

@@ -1,11 +1,11 @@
 -- Worked examples: the events and the undefined steps on the right were worked out by hand.
 use Rattle.std.specs.Prelude.{ℕ, ◌≡◌, List, [], ◌∷◌, Option, Some, None}
 use Rattle.c_typed.specs.Trees.{Program}
-use Rattle.pic_chip.specs.World.{Happening, ReadOf, WriteOf, Ended, outside_of}
-use Rattle.pic_chip.specs.declared.Arrival.{Arrival}
-use Rattle.pic_chip.specs.declared.Cell.TheVariants.{Device, Static}
-use Rattle.pic_chip.specs.declared.Flag.TheVariants.{Intf}
-use Rattle.pic_chip.specs.declared.Root.TheVariants.{Main}
+use Rattle.pic_world.specs.World.{Happening, ReadOf, WriteOf, Ended, outside_of}
+use Rattle.pic_world.specs.declared.Arrival.{Arrival}
+use Rattle.pic_world.specs.declared.Cell.TheVariants.{Device, Static}
+use Rattle.pic_world.specs.declared.Flag.TheVariants.{Intf}
+use Rattle.pic_world.specs.declared.Root.TheVariants.{Main}
 use Rattle.source_examples.specs.Programs as programs
 use Rattle.src_machine.specs.Runs.{Fault, after, fault_after}
 use Rattle.src_values.specs.Objects.{Setting}

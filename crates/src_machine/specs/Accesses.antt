@@ -8,7 +8,7 @@ use Rattle.c_typed.specs.declared.expression.StepOp.{StepOp}
 use Rattle.c_typed.specs.declared.expression.StepOp.TheVariants.{PreIncrement, PreDecrement, PostIncrement, PostDecrement}
 use Rattle.c_typed.specs.declared.types.Ty.{Ty}
 use Rattle.c_typed.specs.declared.types.Ty.TheVariants as types
-use Rattle.pic_chip.specs.World.{World, device_value}
+use Rattle.pic_world.specs.World.{World, device_value}
 use Rattle.src_machine.specs.Control.{Focus, Eval, Find, Holds, Past, Fetch, Skim, Write, PutBit, CopyRead, CopyWrite, Spell, Blank, Got, At, Stores, Copies, Stage, Fills, AtItem, Items, Blanks, Pending, In, Doing, Outcome, Went, Undefined, Lost, state, line_at, active}
 use Rattle.src_values.specs.Accesses.{Taking, Takes, Breaks, Putting, Puts, Refuses, take_byte, put_byte, device_taken, device_put, with_bit, is_covered}
 use Rattle.src_values.specs.Data.{Datum}

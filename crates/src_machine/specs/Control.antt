@@ -5,7 +5,7 @@ use Rattle.std.specs.Prelude.{ℕ, List, [], ◌∷◌, Option}
 use Rattle.c_typed.specs.Trees as tree
 use Rattle.c_typed.specs.Trees.{Expression, Expressions, Place, Item, Statement, Statements, Arm, Arms}
 use Rattle.c_typed.specs.declared.statement.TCase.{TCase}
-use Rattle.pic_chip.specs.World.{Happening, World}
+use Rattle.pic_world.specs.World.{Happening, World}
 use Rattle.src_values.specs.Data.{Datum}
 use Rattle.src_values.specs.Objects.{Memory}
 use Rattle.src_values.specs.declared.objects.Byte.{Byte}

@@ -7,7 +7,7 @@ use Rattle.c_typed.specs.Types.{place_type}
 use Rattle.c_typed.specs.declared.types.Qualified.{Qualified}
 use Rattle.c_typed.specs.declared.types.Ty.{Ty}
 use Rattle.c_typed.specs.declared.types.Ty.TheVariants as types
-use Rattle.pic_chip.specs.World.{World}
+use Rattle.pic_world.specs.World.{World}
 use Rattle.src_machine.specs.Accesses.{goes, fetching, behind}
 use Rattle.src_machine.specs.Control.{Eval, Find, Holds, Found, CopyRead, Calls, Got, Nothing, At, Copies, Args, Passed, Stage, AtItem, Items, Pending, In, To, Doing, Outcome, Undefined, Lost}
 use Rattle.src_values.specs.Data.{Datum}

@@ -7,7 +7,7 @@ use Rattle.c_typed.specs.Words.{step_operator}
 use Rattle.c_typed.specs.declared.expression.LogicalOp.{LogicalOp}
 use Rattle.c_typed.specs.declared.expression.LogicalOp.TheVariants.{And, Or}
 use Rattle.c_typed.specs.declared.statement.TCase.{TCase}
-use Rattle.pic_chip.specs.World.{World}
+use Rattle.pic_world.specs.World.{World}
 use Rattle.src_machine.specs.Accesses.{goes, fetching, behind, is_postfix}
 use Rattle.src_machine.specs.Control.{Eval, Holds, Found, Run, Past, Write, Leaves, Compares, Got, Nothing, One, At, AtWith, Stores, Args, Stage, Tests, Begins, Steps, Turns, Picks, Chooses, Fills, AtItem, Items, Pending, In, To, Doing, Before, Outcome, Undefined, Lost, active}
 use Rattle.src_machine.specs.Expressions.{arguments}

@@ -1,7 +1,7 @@
 -- Runs: by micro-steps from any state, and from the start of a program by the steps that count.
 use Rattle.std.specs.Prelude.{ℕ, zero, suc, ◌+◌, Bool, true, false, not, ◌&&◌, ◌||◌, if◌then◌else◌, Option, Some, None}
-use Rattle.pic_chip.specs.declared.Root.{Root}
-use Rattle.pic_chip.specs.declared.Root.TheVariants.{Main, Isr}
+use Rattle.pic_world.specs.declared.Root.{Root}
+use Rattle.pic_world.specs.declared.Root.TheVariants.{Main, Isr}
 use Rattle.src_machine.specs.Control.{State, Outcome, Went, Undefined, Idle, Lost}
 use Rattle.src_machine.specs.Step.{step, counts, enters, start}
 use Rattle.src_machine.specs.Weights.{weight}

@@ -4,7 +4,7 @@ use Rattle.c_typed.specs.Trees as tree
 use Rattle.c_typed.specs.Trees.{Expression, Statement, Arms, LastArm}
 use Rattle.c_typed.specs.declared.statement.LoopForm.{LoopForm}
 use Rattle.c_typed.specs.declared.statement.LoopForm.TheVariants.{While, Do, For}
-use Rattle.pic_chip.specs.World.{World, Ended, noted, left}
+use Rattle.pic_world.specs.World.{World, Ended, noted, left}
 use Rattle.src_machine.specs.Accesses.{goes, items}
 use Rattle.src_machine.specs.Control.{Eval, Holds, Run, Past, Leaves, Over, Got, Called, Stage, Tests, Begins, Steps, Turns, Picks, Pending, In, Doing, Before, Returns, Resumes, Outcome, Went, Lost, state}
 use Rattle.src_values.specs.Data.{Datum}

@@ -2,9 +2,9 @@
 use Rattle.std.specs.Prelude.{ℕ, ◌+◌, Bool, true, false, ◌&&◌, nat_lt, if◌then◌else◌, List, [], ◌∷◌, Option, Some, None}
 use Rattle.c_typed.specs.Trees as tree
 use Rattle.c_typed.specs.Trees.{Expression, Program}
-use Rattle.pic_chip.specs.World.{World, arrived, is_due, entered, world_at_start}
-use Rattle.pic_chip.specs.declared.Root.{Root}
-use Rattle.pic_chip.specs.declared.Root.TheVariants.{Main, Isr}
+use Rattle.pic_world.specs.World.{World, arrived, is_due, entered, world_at_start}
+use Rattle.pic_world.specs.declared.Root.{Root}
+use Rattle.pic_world.specs.declared.Root.TheVariants.{Main, Isr}
 use Rattle.src_machine.specs.Accesses.{goes, fetch, skim, write, put_bit, copy_read, copy_write, spell, blank}
 use Rattle.src_machine.specs.Control.{Focus, Eval, Find, Holds, Found, Run, Past, Fetch, Skim, Write, PutBit, CopyRead, CopyWrite, Spell, Blank, Calls, Leaves, Compares, Over, Got, Passed, Called, Pending, In, Before, Returns, Resumes, State, state, Outcome, Went, Undefined, Idle, Lost}
 use Rattle.src_machine.specs.Counting.{counted_line}

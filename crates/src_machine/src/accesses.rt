@@ -5,7 +5,7 @@ use crate::control::{Code, Focus, Got, Pending, Stage};
 use crate::counting::statement_line;
 use crate::machine::{Machine, Outcome, undefined};
 use c_typed::{StepOp, TExpr, TItem, TStmt, Ty};
-use pic_chip::{Event, Script};
+use pic_world::{Event, Script};
 use src_values::accesses::{Fits, Reach, Taken, is_covered, with_bit};
 use src_values::objects::ReadBytes;
 use src_values::values::{byte_count, byte_of, kept_in, lowest_bit, next_byte, value_from};

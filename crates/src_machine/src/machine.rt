@@ -2,7 +2,7 @@
 
 use crate::control::{Focus, Got, Pending};
 use c_typed::{Function, TExpr, Typed};
-use pic_chip::{Event, Root, Script};
+use pic_world::{Event, Root, Script};
 use pic_map::Map;
 use src_values::memory::Memory;
 use src_values::world::World;

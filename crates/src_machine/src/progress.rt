@@ -5,7 +5,7 @@ ghost use Rattle.src_machine.specs.Progress.{main_steps_of, runs_of, undefined_i
 
 use crate::machine::{Machine, SrcEnd, Taker};
 use c_typed::Typed;
-use pic_chip::Script;
+use pic_world::Script;
 use pic_map::Map;
 use src_values::Undef;
 use std::alloc::{AllocError, Global};

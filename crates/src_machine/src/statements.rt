@@ -3,7 +3,7 @@
 use crate::control::{Code, Focus, Got, Pending, Stage};
 use crate::machine::{Machine, Outcome, undefined};
 use c_typed::{LoopForm, TArm, TExpr, TStmt};
-use pic_chip::Event;
+use pic_world::Event;
 use src_values::values::truth_of;
 use src_values::{CopyOf, Datum, Object, Undef};
 

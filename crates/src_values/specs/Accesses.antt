@@ -3,11 +3,11 @@ use Rattle.std.specs.Prelude.{ℕ, ◌+◌, Bool, true, false, not, ◌&&◌, na
 use Rattle.c_typed.specs.Sound.{item_start}
 use Rattle.c_typed.specs.Trees.{Item, Program}
 use Rattle.c_typed.specs.Words.{item_bytes}
-use Rattle.pic_chip.specs.Instructions.{bit, set_bit, clear_bit}
-use Rattle.pic_chip.specs.World.{Happening, ReadOf, WriteOf, World, noted, device_value, after_device_read, after_device_write, sets_gie}
-use Rattle.pic_chip.specs.declared.Cell.{Cell}
-use Rattle.pic_chip.specs.declared.Cell.TheVariants.{Device, Static}
-use Rattle.pic_chip.specs.declared.Root.{Root}
+use Rattle.pic_world.specs.Bits.{bit, set_bit, clear_bit}
+use Rattle.pic_world.specs.World.{Happening, ReadOf, WriteOf, World, noted, device_value, after_device_read, after_device_write, sets_gie}
+use Rattle.pic_world.specs.declared.Cell.{Cell}
+use Rattle.pic_world.specs.declared.Cell.TheVariants.{Device, Static}
+use Rattle.pic_world.specs.declared.Root.{Root}
 use Rattle.src_values.specs.Objects.{Setting, Memory, object_bytes, is_watched, is_alive, breaks_isolation, with_byte}
 use Rattle.src_values.specs.Values.{number_in}
 use Rattle.src_values.specs.declared.objects.Byte.{Byte}

@@ -1,9 +1,9 @@
 -- Objects, how many bytes they have, which of them are active, and where pointers move.
 use Rattle.std.specs.Prelude.{ℕ, ◌+◌, Bool, true, false, not, ◌&&◌, ◌||◌, nat_eq, nat_lt, if◌then◌else◌, ℤ, pos, ◌+ℤ◌, int_lt, unsigned_abs, List, [], ◌∷◌, ◌++◌, length, Option, Some, None, slice_get}
 use Rattle.std.specs.Ordering.{int_eq}
-use Rattle.pic_chip.specs.World.{Outside}
-use Rattle.pic_chip.specs.declared.Root.{Root}
-use Rattle.pic_chip.specs.declared.Root.TheVariants as roots
+use Rattle.pic_world.specs.World.{Outside}
+use Rattle.pic_world.specs.declared.Root.{Root}
+use Rattle.pic_world.specs.declared.Root.TheVariants as roots
 use Rattle.c_typed.specs.Roots.{is_main, is_handler}
 use Rattle.c_typed.specs.Trees as tree
 use Rattle.c_typed.specs.Trees.{FunctionTree, Program, Statements, StaticTree, VariableTree}

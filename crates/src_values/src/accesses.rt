@@ -5,7 +5,7 @@ use crate::objects::{Byte, Object, Pointer, ReadBytes, Spot, Undef};
 use crate::values::{fits_behind, number_in};
 use crate::world::World;
 use c_typed::{TItem, Ty, Typed};
-use pic_chip::{Cell, Event, Root, Script};
+use pic_world::{Cell, Event, Root, Script};
 
 /// Which bytes a read may meet: any, or those that follow these as a type.
 #[derive(Clone, Copy)]

@@ -3,7 +3,7 @@
 use crate::objects::{Byte, CopyOf, Datum, Object};
 use crate::values::{byte_count, byte_of};
 use c_typed::{Function, InitialByte, Static, Typed, Variable};
-use pic_chip::Root;
+use pic_world::Root;
 use pic_map::{FrameLine, Map};
 use std::alloc::{AllocError, Global};
 

@@ -1,7 +1,7 @@
 //! What a run of the source is about: objects, pointers to them, bytes and values.
 
 use c_ints::{IntTy, Value};
-use pic_chip::Root;
+use pic_world::Root;
 
 /// A copy of a function: the one that belongs to a root, of the function of this number in
 /// `Typed::functions`.

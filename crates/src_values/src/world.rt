@@ -1,7 +1,7 @@
 //! What main, the handler and the outside share.
 
-use pic_chip::Script;
-use pic_chip::script::input_at;
+use pic_world::Script;
+use pic_world::script::input_at;
 
 // The lowest addresses of the registers by which interrupts come (Microchip data sheet DS39582).
 const INTCON: u8 = 0x0b;

@@ -1,10 +1,10 @@
 -- Runs of small blocks, computed.
 use Rattle.std.proofs.Common.{◌≡◌, true, false, ℕ, zero, suc, nat_eq, if◌then◌else◌, List, [], ◌∷◌, Some, refl}
-use Rattle.pic_chip.specs.Control as control
-use Rattle.pic_chip.specs.Control.{stored, with_stored, raised_by}
-use Rattle.pic_chip.specs.World.{Outside, ReadOf, WriteOf, Ended, arrived, is_due, entered, left, device_value, after_device_read, after_device_write, sets_gie}
-use Rattle.pic_chip.specs.declared.Cell.TheVariants as cells
-use Rattle.pic_chip.specs.declared.Root.TheVariants.{Main, Isr}
+use Rattle.pic_world.specs.Control as control
+use Rattle.pic_world.specs.Control.{stored, with_stored, raised_by}
+use Rattle.pic_world.specs.World.{Outside, ReadOf, WriteOf, Ended, arrived, is_due, entered, left, device_value, after_device_read, after_device_write, sets_gie}
+use Rattle.pic_world.specs.declared.Cell.TheVariants as cells
+use Rattle.pic_world.specs.declared.Root.TheVariants.{Main, Isr}
 use Rattle.core_code.specs.declared.code.Byte.TheVariants as bytes
 use Rattle.sym_code.specs.Cost.{step_cost, cost_by}
 use Rattle.sym_code.specs.Effect.{Setting, access_of, effect_of, effect}

@@ -1,7 +1,7 @@
 -- How many instructions of the chip the steps of symbolic code take, by the prices of its instructions and of what saves
 -- and restores main's context.
 use Rattle.std.specs.Prelude.{ℕ, zero, suc, ◌+◌, Bool, if◌then◌else◌, Option, Some, None}
-use Rattle.pic_chip.specs.World.{Outside, is_due}
+use Rattle.pic_world.specs.World.{Outside, is_due}
 use Rattle.core_code.specs.Cost.{context_cost}
 use Rattle.sym_code.specs.Effect.{Setting, Thread, Memory, Rest, Effect, Leaves, effect}
 use Rattle.sym_code.specs.Machine.{Machine, Entry, running, settled, sym_run}

@@ -5,11 +5,11 @@
 use Rattle.std.specs.Prelude.{ℕ, ◌/◌, ◌%◌, Bool, true, false, not, ◌&&◌, ◌||◌, nat_eq, nat_lt, if◌then◌else◌, List, [], ◌∷◌, length, Option, Some, None}
 use Rattle.pic_isa.specs.declared.Ins.TheVariants as ins
 use Rattle.pic_chip.specs.Address.{in_every_bank}
-use Rattle.pic_chip.specs.Instructions.{bit, set_bit, clear_bit, truth}
-use Rattle.pic_chip.specs.Registers.{is_register, lowest}
-use Rattle.pic_chip.specs.declared.Cell.{Cell}
-use Rattle.pic_chip.specs.declared.Root.{Root}
-use Rattle.pic_chip.specs.declared.Root.TheVariants.{Main, Isr}
+use Rattle.pic_world.specs.Bits.{bit, set_bit, clear_bit, truth}
+use Rattle.pic_world.specs.Registers.{is_register, lowest}
+use Rattle.pic_world.specs.declared.Cell.{Cell}
+use Rattle.pic_world.specs.declared.Root.{Root}
+use Rattle.pic_world.specs.declared.Root.TheVariants.{Main, Isr}
 use Rattle.core_code.specs.declared.code.Byte.TheVariants as bytes
 use Rattle.sym_code.specs.Layout.{DataLayout, address_of, address_byte, general_at, Owner, Watched, Constant, Of, Nobody, owner}
 use Rattle.sym_code.specs.Programs.{Program, Position, block_of, fetched, behind, onward, place_of}

@@ -3,9 +3,9 @@ use Rattle.std.specs.Prelude.{ℕ, ◌+◌, ◌/◌, ◌%◌, ◌≡◌, ◌≢�
 use Rattle.pic_chip.specs.Address as chip
 use Rattle.pic_chip.specs.Address.{Place, General, place}
 use Rattle.pic_chip.specs.Run.{Range, covers, object_at}
-use Rattle.pic_chip.specs.declared.Cell.{Cell}
-use Rattle.pic_chip.specs.declared.Root.{Root}
-use Rattle.pic_chip.specs.declared.Root.TheVariants.{Main, Isr}
+use Rattle.pic_world.specs.declared.Cell.{Cell}
+use Rattle.pic_world.specs.declared.Root.{Root}
+use Rattle.pic_world.specs.declared.Root.TheVariants.{Main, Isr}
 use Rattle.core_code.specs.Bytes as bytes
 use Rattle.core_code.specs.Bytes.{Held, byte_in, same_root}
 use Rattle.core_code.specs.declared.code.Byte.{Byte}

@@ -6,7 +6,7 @@
 -- stuck at once.
 -- g is the setting, e the handler's registers at its entries, o the outside, t the machine.
 use Rattle.std.specs.Prelude.{ℕ, zero, suc, ◌+◌, Bool, false, if◌then◌else◌, [], Option, Some, None}
-use Rattle.pic_chip.specs.World.{Outside, World, ReadOf, WriteOf, Ended, arrived, is_due, entered, left, noted, device_value, after_device_read, after_device_write, sets_gie, world_at_start}
+use Rattle.pic_world.specs.World.{Outside, World, ReadOf, WriteOf, Ended, arrived, is_due, entered, left, noted, device_value, after_device_read, after_device_write, sets_gie, world_at_start}
 use Rattle.sym_code.specs.Effect.{Setting, Thread, Memory, Write, written, write, Loud, Port, Shared, Effect, Stuck, Quiet, Reads, Writes, Leaves, Ends, Rests, effect}
 use Rattle.sym_code.specs.Programs.{Program, Position, front, lands}
 use Rattle.sym_code.specs.Registers.{Registers}

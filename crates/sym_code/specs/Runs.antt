@@ -1,6 +1,6 @@
 -- What can be said of a run of symbolic code at each moment, which is the point after so many of its steps.
 use Rattle.std.specs.Prelude.{ℕ, Bool, true, false, List}
-use Rattle.pic_chip.specs.World.{Outside, Happening}
+use Rattle.pic_world.specs.World.{Outside, Happening}
 use Rattle.sym_code.specs.Cost.{least_prices, most_prices, cost_by}
 use Rattle.sym_code.specs.Effect.{Setting}
 use Rattle.sym_code.specs.Machine.{Machine, Entry, Next, Goes, Stops, Still, sym_step, sym_run}

@@ -1,6 +1,6 @@
 use Rattle.std.proofs.Common.{refl}
 use Rattle.text_lines.specs.Text.{split_lines, without_cr, bytes_of}
-use Rattle.pic_chip.specs.Control.{is_due}
+use Rattle.pic_world.specs.Control.{is_due}
 use Rattle.hex_image.specs.HexFile.{given_by, from_address, byte_at}
 use Rattle.chip_examples.proofs.worked_examples.Goals as goal
 

@@ -2,7 +2,7 @@ use Rattle.std.proofs.Common.{refl, [], ◌∷◌, arith}
 use Rattle.std.specs.Prelude.{codes}
 use Rattle.std.proofs.lemmas.List.Sums.{AllPass-from_list_all}
 use Rattle.text_lines.specs.Text.{split_lines, without_cr}
-use Rattle.pic_chip.specs.declared.Flag.TheVariants.{Rbif, Intf, Tmr0if}
+use Rattle.pic_world.specs.declared.Flag.TheVariants.{Rbif, Intf, Tmr0if}
 use Rattle.schedule.specs.ScriptFile.{Blank, Input, At, is_digit, number_onto}
 use Rattle.schedule.proofs.worked_example.Goals as goal
 

@@ -1,7 +1,7 @@
 use Rattle.std.proofs.Common.{refl}
-use Rattle.pic_chip.specs.Control.{stored, with_stored, raised_by, is_due, entered, left}
-use Rattle.pic_chip.specs.World as world
-use Rattle.pic_chip.specs.World.{arrived, device_value, after_device_read, after_device_write, sets_gie}
+use Rattle.pic_world.specs.Control.{stored, with_stored, raised_by, is_due, entered, left}
+use Rattle.pic_world.specs.World as world
+use Rattle.pic_world.specs.World.{arrived, device_value, after_device_read, after_device_write, sets_gie}
 use Rattle.source_examples.proofs.worked_runs.Goals as goal
 use Rattle.src_machine.specs.Control.{active}
 use Rattle.src_machine.specs.Counting.{counted_line}

@@ -2,7 +2,7 @@ use Rattle.std.proofs.Common.{◌≡◌, ℕ, ap, ◌∙◌, ◌+◌, ◌%◌}
 use Rattle.std.specs.Prelude.{nat_eq}
 use Rattle.std.proofs.lemmas.Nat.{and_comm, or_comm, xor_comm}
 use Rattle.pic_chip.specs.State.{State}
-use Rattle.pic_chip.specs.Instructions.{truth}
+use Rattle.pic_world.specs.Bits.{truth}
 use Rattle.pic_chip.proofs.rows.run.Goals as goal
 
 -- W and Z of a result

@@ -1,6 +1,7 @@
 use Rattle.std.proofs.Common.{◌≡◌, ℕ, ap, ◌∙◌, sym, ◌+◌, ◌%◌}
 use Rattle.std.specs.Prelude.{if◌then◌else◌, nat_eq}
-use Rattle.pic_chip.specs.Instructions.{contents, test_row, bit}
+use Rattle.pic_world.specs.Bits.{bit}
+use Rattle.pic_chip.specs.Instructions.{contents, test_row}
 use Rattle.pic_chip.specs.Named.{named, device_in}
 use Rattle.pic_chip.specs.Act.{accesses}
 use Rattle.pic_chip.specs.Machine.{wanted}

@@ -1,5 +1,5 @@
 use Rattle.std.proofs.Common.{◌∙◌, ◌++◌, List, ap, sym, append_assoc, true, false}
-use Rattle.pic_chip.specs.declared.Event.{Event}
+use Rattle.pic_world.specs.declared.Event.{Event}
 use Rattle.pic_chip.specs.Seen.{made_by}
 use Rattle.pic_map.specs.Tracing.{tracing_of, list_of}
 use Rattle.pic_sim.specs.Step.{shown_all}

@@ -1,7 +1,8 @@
 use Rattle.std.proofs.Common.{◌≡◌, ℕ, List, ap, ◌∙◌, sym, slice_index}
 use Rattle.pic_chip.specs.Act.{perform, accesses}
 use Rattle.pic_chip.specs.Instructions.{execute}
-use Rattle.pic_chip.specs.Interrupts.{arriving, begun}
+use Rattle.pic_world.specs.Arrivals.{arriving}
+use Rattle.pic_chip.specs.Interrupts.{begun}
 use Rattle.pic_chip.specs.Machine.{Machine, feeds_each, wanted}
 use Rattle.pic_chip.proofs.chip.Chip.step.Goals as goal
 

@@ -1,6 +1,6 @@
 use Rattle.std.proofs.Common.{◌≡◌, ℕ, ap, ◌∙◌, sym}
 use Rattle.pic_chip.specs.State.{State}
-use Rattle.pic_chip.specs.Instructions.{clear_bit}
+use Rattle.pic_world.specs.Bits.{clear_bit}
 use Rattle.pic_chip.specs.Changes.{pushed}
 use Rattle.pic_chip.proofs.Done.{enter_done}
 use Rattle.pic_chip.proofs.processor.Processor.enter.Goals as goal

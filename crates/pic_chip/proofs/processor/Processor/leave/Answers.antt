@@ -1,5 +1,5 @@
 use Rattle.std.proofs.Common.{◌≡◌, ap, ◌∙◌, sym}
-use Rattle.pic_chip.specs.Instructions.{set_bit}
+use Rattle.pic_world.specs.Bits.{set_bit}
 use Rattle.pic_chip.specs.Changes.{popped}
 use Rattle.pic_chip.proofs.Done.{pop_done}
 use Rattle.pic_chip.proofs.processor.Processor.leave.Goals as goal

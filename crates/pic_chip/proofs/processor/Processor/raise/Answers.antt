@@ -1,6 +1,6 @@
 use Rattle.std.proofs.Common.{arith, ◌<◌, ◌≡◌, ap, ◌∙◌, ◌%◌}
 use Rattle.pic_chip.specs.State.{State}
-use Rattle.pic_chip.specs.Instructions.{bit}
+use Rattle.pic_world.specs.Bits.{bit}
 use Rattle.pic_chip.proofs.BitCases.{or_below_8}
 use Rattle.pic_chip.proofs.processor.Processor.raise.Goals as goal
 

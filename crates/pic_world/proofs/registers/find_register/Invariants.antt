@@ -1,0 +1,9 @@
+use Rattle.std.proofs.Common.{◌≡◌, length, map, []}
+use Rattle.pic_world.specs.Registers.{register_in}
+use Rattle.pic_world.proofs.registers.find_register.Given as goal
+
+abbrev pub invariant-loop-table : goal.invariant-loop-table
+invariant-loop-table l = register_in (map (λ r. (r.0.now, r.1, [])) l.table) l.name ≡ register_in (map (λ r. (r.0.now, r.1, [])) l.initial.table) l.name
+
+abbrev pub decreases-loop-table : goal.decreases-loop-table
+decreases-loop-table l = length l.table
