@@ -14,7 +14,7 @@ use Rattle.sym_code.specs.declared.code.Operand.TheVariants as operands
 use Rattle.sym_code.specs.declared.code.Sym.{Sym}
 use Rattle.sym_code.specs.declared.code.Sym.TheVariants as syms
 use Rattle.sym_code.specs.declared.code.Target.{Target}
-use Rattle.code_place.specs.Addresses.{is_common}
+use Rattle.sym_code.specs.Words.{is_common}
 
 abbrev pub is_rp : BankBit → Bool
 is_rp bank_bits.Rp0 = true

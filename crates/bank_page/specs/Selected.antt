@@ -10,7 +10,7 @@ use Rattle.sym_code.specs.declared.code.SymBlock.{SymBlock}
 use Rattle.sym_code.specs.declared.code.Target.{Target}
 use Rattle.sym_code.specs.Programs.{block_of}
 use Rattle.code_place.specs.Addresses.{address_of}
-use Rattle.code_place.specs.Sizes.{words_in, most_words}
+use Rattle.sym_code.specs.Words.{words_in, most_words}
 use Rattle.bank_page.specs.Kinds.{is_select, is_label, is_skip, byte_of, target_of}
 use Rattle.bank_page.specs.Known.{nothing, is_bit, is_page, knows, seen_after}
 use Rattle.bank_page.specs.Step.{rp0_of, rp1_of, page_selects}

@@ -4,7 +4,7 @@ ghost use Rattle.std.specs.Prelude.{◌≡◌, ◌≤◌, ◌++◌, ◌∷◌, [
 ghost use Rattle.std.specs.List.{All, AllZip};
 ghost use Rattle.bank_page.specs.Known.{learned};
 ghost use Rattle.bank_page.specs.Selected as kept;
-ghost use Rattle.code_place.specs.Sizes.{words_in, most_words};
+ghost use Rattle.sym_code.specs.Words.{words_in, most_words};
 ghost use Rattle.bank_page.specs.Step as stated;
 ghost use Rattle.sym_code.specs.WellFormed.{is_well_formed, are_well_formed};
 

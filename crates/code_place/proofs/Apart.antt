@@ -11,7 +11,7 @@ use Rattle.sym_code.specs.declared.code.Target.{Target}
 use Rattle.code_place.specs.Image.{Holds}
 use Rattle.code_place.specs.Instructions.{rows, words}
 use Rattle.code_place.specs.Places.{target_for, HoldsBlocks, HoldsInstructions}
-use Rattle.code_place.specs.Sizes.{words_of_one, words_in}
+use Rattle.sym_code.specs.Words.{words_of_one, words_in}
 use Rattle.code_place.proofs.Written.{count_one}
 
 front_of : (image : List ℕ) (at : ℕ) (xs ys : List ℕ) → Holds image at (xs ++ ys) → Holds image at xs

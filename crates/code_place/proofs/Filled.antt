@@ -10,7 +10,8 @@ use Rattle.code_place.specs.Image.{written, Holds}
 use Rattle.code_place.specs.Instructions.{words}
 use Rattle.code_place.specs.Marks.{target_by, AreMarks}
 use Rattle.code_place.specs.Places.{target_for, HaveAddresses, HoldsBlocks, IsErasedElsewhere, BlocksHaveAddresses}
-use Rattle.code_place.specs.Sizes.{words_in, Stands, Fit}
+use Rattle.sym_code.specs.Words.{words_in}
+use Rattle.code_place.specs.Sizes.{Stands, Fit}
 use Rattle.code_place.specs.declared.marks.Marks.{Marks}
 use Rattle.code_place.proofs.Blocks.{written_length, read_other, read_put}
 use Rattle.code_place.proofs.Marked.{by_marks}

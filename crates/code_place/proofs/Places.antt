@@ -8,7 +8,7 @@ use Rattle.sym_code.specs.declared.code.Sym.{Sym}
 use Rattle.sym_code.specs.declared.code.SymBlock.{SymBlock}
 use Rattle.code_place.proofs.Maps.{or_none}
 use Rattle.code_place.specs.Places.{label_of, is_label, at_if, label_at, first_place}
-use Rattle.code_place.specs.Sizes.{words_of_one, words_in}
+use Rattle.sym_code.specs.Words.{words_of_one, words_in}
 
 or_assoc : (a b c : Option ℕ) → option_or (option_or a b) c ≡ option_or a (option_or b c)
 or_assoc None b c = refl

@@ -2,7 +2,8 @@
 use Rattle.std.proofs.Common.{◌≡◌, ℕ, ◌+◌, ◌<◌, ◌≤◌, List, length, get_or, Option, Some, slice_get, refl, sym, ap, ◌∙◌, subst, arith}
 use Rattle.std.proofs.lemmas.Option.{slice_get_read}
 use Rattle.sym_code.specs.declared.code.SymBlock.{SymBlock}
-use Rattle.code_place.specs.Sizes.{words_in, HasRoom, Stands, Fit}
+use Rattle.sym_code.specs.Words.{words_in}
+use Rattle.code_place.specs.Sizes.{HasRoom, Stands, Fit}
 
 within : (start words : ℕ) (next : Option ℕ) → HasRoom start words next → start + words ≤ 8192
 within start words next room =

@@ -14,7 +14,7 @@ use Rattle.sym_code.specs.declared.code.Sym.TheVariants as syms
 use Rattle.sym_code.specs.declared.code.SymBlock.{SymBlock}
 use Rattle.sym_code.specs.declared.code.Target.TheVariants as targets
 use Rattle.code_place.specs.Places.{label_of, is_label, at_if, label_at, first_place, block_place, label_place, LabelStands, LabelStandsIn, BlockStands, TargetsStand}
-use Rattle.code_place.specs.Sizes.{words_of_one, words_in}
+use Rattle.sym_code.specs.Words.{words_of_one, words_in}
 
 untrue : false ≡ true → ⊥
 untrue e = cc

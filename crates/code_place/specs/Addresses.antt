@@ -44,10 +44,3 @@ abbrev pub file_address : Placed → Operand → Option ℕ
 file_address placed (operands.Byte b) = address_of placed b
 file_address placed (operands.Register r) = Some (register_address r)
 file_address placed (operands.Saved s) = Some (saved_address s)
-
--- the byte is in every bank: a result, INTCON, or a register of the core by its lowest address
-abbrev pub is_common : Byte → Bool
-is_common (bytes.Static object offset) = false
-is_common (bytes.Frame copy offset) = false
-is_common (bytes.Result r k) = true
-is_common (bytes.Device address) = nat_eq address 0x02 || nat_eq address 0x03 || nat_eq address 0x04 || nat_eq address 0x0a || nat_eq address 0x0b

@@ -18,7 +18,7 @@ use Rattle.sym_code.specs.declared.code.Target.TheVariants as targets
 use Rattle.code_place.specs.Addresses.{address_of, file_address}
 use Rattle.code_place.specs.Image.{Holds}
 use Rattle.code_place.specs.Instructions.{rows, words}
-use Rattle.code_place.specs.Sizes.{words_of_one, words_in}
+use Rattle.sym_code.specs.Words.{words_of_one, words_in}
 
 -- ---- labels and blocks
 abbrev pub label_of : Sym → Option Label

@@ -7,7 +7,8 @@ ghost use Rattle.code_place.specs.Instructions as stated;
 ghost use Rattle.code_place.specs.Marks.{target_in, target_by};
 ghost use Rattle.code_place.specs.Places.{block_place, label_place, HaveAddresses, HoldsBlocks, HoldsInstructions, IsErasedElsewhere, BlocksHaveAddresses, TargetsStand};
 ghost use Rattle.code_place.specs.Rows.{list_of, MayBeWellFormed};
-ghost use Rattle.code_place.specs.Sizes.{words_in, Fit};
+ghost use Rattle.sym_code.specs.Words.{words_in};
+ghost use Rattle.code_place.specs.Sizes.{Fit};
 ghost use Rattle.sym_code.specs.declared.code.BlockName.TheVariants.{Copy};
 ghost use Rattle.sym_code.specs.declared.code.Label.TheVariants.{Halt};
 

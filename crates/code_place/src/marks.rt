@@ -9,7 +9,8 @@ ghost use Rattle.sym_code.specs.declared.code.Label.TheVariants.{Inner, Halt, Re
 ghost use Rattle.code_place.specs.Marks.{block_in, target_in, AreMarks, AreInner};
 ghost use Rattle.code_place.specs.Places as stated;
 ghost use Rattle.code_place.specs.Places.{is_label, at_if, label_at};
-ghost use Rattle.code_place.specs.Sizes.{words_in, Fit};
+ghost use Rattle.sym_code.specs.Words.{words_in};
+ghost use Rattle.code_place.specs.Sizes.{Fit};
 
 use crate::fitting::words_of_one;
 use std::alloc::{AllocError, Global};

@@ -9,7 +9,7 @@ ghost use Rattle.code_place.specs.Instructions as stated;
 ghost use Rattle.code_place.specs.Marks.{target_in};
 ghost use Rattle.code_place.specs.Places.{HasAddress, HasLiteral};
 ghost use Rattle.code_place.specs.Rows.{list_of, MayBeWellFormed};
-ghost use Rattle.code_place.specs.Sizes.{words_of_one};
+ghost use Rattle.sym_code.specs.Words.{words_of_one};
 
 use crate::address::{address_of, file_address};
 use crate::marks::Marks;

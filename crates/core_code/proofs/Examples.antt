@@ -38,6 +38,7 @@ program main first handler = record {
   body = bodies main first handler;
   root = roots;
   calls = main_calls;
+  helped = λ copy op ty. true;
   handler = Some 2;
   first = (Number 7 ∷ Number 0 ∷ []) ∷ (Number 9 ∷ Number 8 ∷ []) ∷ [];
   is_watched = λ n. nat_eq n 0;

@@ -30,6 +30,8 @@ pub record Program : Type 0 where
   pub root : ℕ → Root
   -- the body of the first copy may call the second one
   pub calls : ℕ → ℕ → Bool
+  -- the body of a copy may use the helper of this operator: there is a copy of it
+  pub helped : ℕ → BinOp → IntTy → Bool
   pub handler : Option ℕ
   -- what each static object begins as, and whether accesses to it are events: it isn't const
   pub first : List (List Held)
@@ -202,8 +204,16 @@ abbrev pub can_pass : Option ℕ → ℕ → Bool
 can_pass None callee = true
 can_pass (Some other) callee = nat_eq other callee
 
+-- main's copy and the handler's are called by nobody
+abbrev pub is_copy : Option ℕ → ℕ → Bool
+is_copy None c = false
+is_copy (Some other) c = nat_eq other c
+
+abbrev pub is_entry : Program → ℕ → Bool
+is_entry q c = nat_eq c 0 || is_copy q.handler c
+
 abbrev pub may_call : Program → ℕ → Option ℕ → ℕ → Bool
-may_call q p a callee = q.calls p callee && can_pass a callee
+may_call q p a callee = q.calls p callee && same_root (q.root p) (q.root callee) && not (is_entry q callee) && can_pass a callee
 
 -- Memory as a copy finds it that gets its first parameter or is called without one: no byte of its frame has a value.
 abbrev pub opened : Option ℕ → ℕ → Memory → Memory
@@ -212,7 +222,7 @@ opened (Some other) callee m = m
 
 abbrev pub pass : Program → ℕ → ℕ → Held → List Task → ℕ → Option ℕ → List Waiting → Memory → World Held → Next
 pass q callee offset held c p a s m w =
-    when (may_call q p a callee && nat_lt offset (q.parameter_bytes callee)) (goes c p (Some callee) s (with_byte (opened a callee m) (Frame callee offset) held) w)
+    when (may_call q p a callee && nat_lt offset (q.parameter_bytes callee) && nat_lt offset (q.frame_bytes callee)) (goes c p (Some callee) s (with_byte (opened a callee m) (Frame callee offset) held) w)
 
 -- a byte of another copy's frame is a parameter
 abbrev pub is_others : ℕ → Byte → Bool
@@ -272,7 +282,7 @@ has_operands q p op ty x y = is_own q p x (bytes_of ty) && is_own q p y (bytes_o
 
 abbrev pub binary_at : Program → Option ℕ → BinOp → IntTy → Byte → Byte → Byte → List Task → ℕ → Option ℕ → List Waiting → Memory → World Held → Next
 binary_at q count op ty to x y c p a s m w =
-    when (fits_together op ty count to x y && has_operands q p op ty x y && fits_call a (is_helped op count))
+    when (fits_together op ty count to x y && has_operands q p op ty x y && fits_call a (is_helped op count) && (not (is_helped op count) || q.helped p op ty))
     (writes q to (operated (extent q p s) op ty (value_in ty m x) (value_in (right_type op ty) m y)) c p a s (after_helper q p (is_helped op count) m) w)
 
 -- the count of a shift is known where it was set before
@@ -409,10 +419,11 @@ core_step_at g c p a s m w = if is_due w then enter g.program g.program.handler 
 unfoldable pub core_step : Setting → Machine → Next
 core_step g t = core_step_at g t.code t.copy t.passing t.stack t.memory (arrived g.outside t.world)
 
+-- it isn't stuck
 abbrev pub goes_on : Next → Bool
 goes_on (Goes t) = true
 goes_on Stuck = false
-goes_on Still = false
+goes_on Still = true
 
 abbrev pub is_still : Next → Bool
 is_still (Goes t) = false

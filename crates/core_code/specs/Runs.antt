@@ -1,4 +1,4 @@
--- What a run of byte code is compared by, at each of its moments: the trace, whether the next step goes, whether main has
+-- What a run of byte code is compared by, at each of its moments: the trace, whether the next step isn't stuck, whether main has
 -- ended and nothing is due, and the bounds of the instructions that the steps so far take together.
 use Rattle.std.specs.Prelude.{ℕ, zero, suc, ◌+◌, Bool, List}
 use Rattle.pic_world.specs.World.{Happening}

@@ -11,7 +11,7 @@ use Rattle.sym_code.specs.declared.code.Literal.TheVariants as values
 use Rattle.sym_code.specs.declared.code.Operand.TheVariants as operands
 use Rattle.sym_code.specs.declared.code.Sym.{Sym}
 use Rattle.sym_code.specs.declared.code.Sym.TheVariants as syms
-use Rattle.code_place.specs.Sizes.{most_of_one, most_words}
+use Rattle.sym_code.specs.Words.{most_of_one, most_words}
 use Rattle.isr_save.specs.Start.{reset, saving, restoring, vector, literal, byte_code, object_code, objects_code, main, start_code, bytes_of}
 
 chosen : (b : Bool) (xs ys : List Sym) → most_words xs ≤ 4 → most_words ys ≤ 4 → most_words (if b then xs else ys) ≤ 4

@@ -1,7 +1,7 @@
 //! The start block.
 
 ghost use Rattle.std.specs.Prelude.{◌≡◌, ◌++◌, ◌+◌, ◌*◌, ◌≤◌, ◌∷◌, [], true, OnOk, IfOk};
-ghost use Rattle.code_place.specs.Sizes.{most_words};
+ghost use Rattle.sym_code.specs.Words.{most_words};
 ghost use Rattle.isr_save.specs.Start as stated;
 ghost use Rattle.sym_code.specs.WellFormed.{are_well_formed};
 ghost use Rattle.sym_code.specs.declared.code.BlockName.TheVariants.{Start};

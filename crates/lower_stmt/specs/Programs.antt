@@ -1,12 +1,14 @@
 -- The program of byte code that a typed program with its copies becomes: what its machine runs.
-use Rattle.std.specs.Prelude.{ℕ, ◌+◌, Bool, true, false, not, ◌&&◌, nat_eq, if◌then◌else◌, List, [], ◌∷◌, Option, Some, None, map, slice_get}
+use Rattle.std.specs.Prelude.{ℕ, Bool, true, false, not, ◌&&◌, nat_eq, List, [], Option, Some, None, is_some, map, slice_get}
 use Rattle.std.specs.List.{list_any}
-use Rattle.c_typed.specs.Calls.{statements_calls}
+use Rattle.c_typed.specs.Calls.{int_helper, statements_calls}
 use Rattle.c_typed.specs.Room.{frame_size, variables_bytes}
 use Rattle.c_typed.specs.Trees.{StaticTree, FunctionTree}
 use Rattle.c_typed.specs.Trees as typed
 use Rattle.c_typed.specs.declared.calls.FnId.{FnId}
-use Rattle.c_typed.specs.declared.calls.FnId.TheVariants.{User, Helper}
+use Rattle.c_typed.specs.declared.calls.FnId.TheVariants as callee
+use Rattle.c_typed.specs.declared.calls.Helper.{Helper}
+use Rattle.call_graph.specs.Numbers.{handler_at, copy_of}
 use Rattle.call_graph.specs.declared.types.FnCopy.{FnCopy}
 use Rattle.core_code.specs.Bytes.{Held, same_root}
 use Rattle.core_code.specs.FirstBytes.{first_held}
@@ -14,12 +16,12 @@ use Rattle.core_code.specs.Machine.{Program}
 use Rattle.core_code.specs.Tree.{Tree}
 use Rattle.lower_stmt.specs.Bodies.{code_of, first_bytes}
 use Rattle.pic_world.specs.declared.Root.{Root}
-use Rattle.pic_world.specs.declared.Root.TheVariants.{Main, Isr}
+use Rattle.pic_world.specs.declared.Root.TheVariants.{Main}
 
 -- the function with this number, and that of a copy; a helper is none
 abbrev pub function_at : typed.Program → FnId → Option FunctionTree
-function_at p (User function) = slice_get p.functions function
-function_at p (Helper helper) = None
+function_at p (callee.User function) = slice_get p.functions function
+function_at p (callee.Helper helper) = None
 
 abbrev pub function_in : typed.Program → Option FnCopy → Option FunctionTree
 function_in p None = None
@@ -27,8 +29,8 @@ function_in p (Some copy) = function_at p copy.function
 
 -- ---- what the machine asks of each copy
 abbrev pub body_for : typed.Program → List FnCopy → ℕ → Root → FnId → List Tree
-body_for p copies number root (User function) = code_of p copies number root (slice_get p.functions function)
-body_for p copies number root (Helper helper) = []
+body_for p copies number root (callee.User function) = code_of p copies number root (slice_get p.functions function)
+body_for p copies number root (callee.Helper helper) = []
 
 abbrev pub body_in : typed.Program → List FnCopy → ℕ → Option FnCopy → List Tree
 body_in p copies number None = []
@@ -38,14 +40,14 @@ abbrev pub root_in : Option FnCopy → Root
 root_in None = Main
 root_in (Some copy) = copy.root
 
--- the handler's copy is the first one under its root
-abbrev pub handler_from : List FnCopy → ℕ → Option ℕ
-handler_from [] number = None
-handler_from (copy ∷ copies) number = if same_root copy.root Isr then Some number else handler_from copies (number + 1)
+-- there is a copy of this helper under the root
+abbrev pub has_routine : List FnCopy → Root → Option Helper → Bool
+has_routine copies root None = false
+has_routine copies root (Some h) = is_some (copy_of copies root h)
 
 -- The first function calls the one of the other copy. No operation of byte code calls a helper.
 abbrev pub is_function : FnId → FnId → Bool
-is_function (User f) (User g) = nat_eq f g
+is_function (callee.User f) (callee.User g) = nat_eq f g
 is_function _ _ = false
 
 abbrev pub calls_function : Option FunctionTree → FnId → Bool
@@ -74,7 +76,8 @@ core_of p copies = record {
   body = λ c. body_in p copies c (slice_get copies c);
   root = λ c. root_in (slice_get copies c);
   calls = λ c d. may_call p (slice_get copies c) (slice_get copies d);
-  handler = handler_from copies 0;
+  helped = λ c op ty. has_routine copies (root_in (slice_get copies c)) (int_helper op false ty);
+  handler = handler_at copies;
   first = statics_held p;
   is_watched = λ n. isnt_const (slice_get p.statics n);
   frame_bytes = λ c. size_or_none (frame_size p.sizes) (function_in p (slice_get copies c));

@@ -1,6 +1,6 @@
 -- What a map file tells: where main begins and ends, and where the static objects and the frames of the
 -- function copies stand.
-use Rattle.std.specs.Prelude.{ℕ, ◌+◌, Bool, ◌&&◌, nat_lt, List, map}
+use Rattle.std.specs.Prelude.{ℕ, Bool, List, map}
 use Rattle.pic_world.specs.declared.Root.{Root}
 use Rattle.pic_chip.specs.Run.{Range, Watch}
 
@@ -30,7 +30,3 @@ range_of line = record { constant = line.constant; address = line.address; size 
 -- what is watched of a run by this map
 abbrev pub watch_of : MapContent → Watch
 watch_of content = record { main = content.main; halt = content.halt; ranges = map range_of content.objects }
-
--- two pieces of memory, by address and size, have a byte in common
-abbrev pub overlap : ℕ → ℕ → ℕ → ℕ → Bool
-overlap a m b n = nat_lt a (b + n) && nat_lt b (a + m)

@@ -87,13 +87,13 @@ frame_size (a ∷ rest) = 3
 abbrev pub frames_of : List Assignment → List FrameLine
 frames_of assignments = record { root = Main; name = codes "main"; address = 0x20; size = frame_size assignments } ∷ []
 
--- The nodes are the function and its block, and for each assignment the statement, the assignment, its place,
--- its constant and the conversion.
+-- The nodes are the function, and for each assignment the statement, the assignment, its place, its constant and the
+-- conversion.
 abbrev pub source_of : List Assignment → Source
 source_of assignments = record {
   IsMapped = λ objects frames. (objects ≡ []) × (frames ≡ frames_of assignments);
   live_together = λ i j. Unit {0};
   initial = [];
-  nodes = 2 + 5 * length assignments;
+  nodes = 1 + 5 * length assignments;
   run = λ outside. run_of assignments;
 }

@@ -2,13 +2,16 @@
 use Rattle.std.specs.Prelude.{ℕ, ◌+◌, ◌*◌, ◌≡◌, ◌<◌, ◌≤◌, ◌⊎◌, true, List, length, Some, None}
 use Rattle.c_typed.specs.TreeNodes.{nodes_of}
 use Rattle.c_typed.specs.Trees.{Program}
-use Rattle.pic_chip.specs.Run.{Setting, moment}
+use Rattle.call_graph.specs.declared.types.FnCopy.{FnCopy}
+use Rattle.pic_chip.specs.Run.{Setting}
+use Rattle.pic_map.specs.MapContent.{MapContent}
+use Rattle.run_links.specs.Runs.{IsFrontOf}
 use Rattle.pic_world.specs.World.{outside_of}
-use Rattle.pic_world.specs.declared.Event.{Event}
 use Rattle.schedule.specs.Off.{read_off, runs_begun}
 use Rattle.src_machine.specs.Runs.{Fault, after, fault_after, is_idle_after, main_steps_after, runs_after}
 use Rattle.src_values.specs.Objects.{Setting as SourceSetting}
-use Rattle.picc_core.specs.SourceOf.{setting_of}
+use Rattle.picc_core.specs.Headline.{Source, trace_at, run_at, IsClean}
+use Rattle.picc_core.specs.SourceOf.{setting_of, source_of}
 use Rattle.picc_core.specs.declared.agreeing.Agreed.{Agreed}
 use Rattle.picc_core.specs.declared.agreeing.Agreed.TheVariants.{Same, Undefined}
 
@@ -17,32 +20,30 @@ abbrev pub events_in : Agreed → ℕ
 events_in (Same events) = events
 events_in (Undefined kind line) = 0
 
--- Of a program and a run of the chip.
-module _ (p : Program) (g : Setting) where
-  abbrev pub trace_at : ℕ → List Event
-  trace_at n = (moment g n).trace
+-- Of a program whose copies these are, seen by a map, and a run of the chip.
+module _ (p : Program) (copies : List FnCopy) (content : MapContent) (g : Setting) where
+  abbrev pub source : Source
+  source = source_of p copies content
 
   -- the source run whose handler is called where the arrivals up to moment m fall in the chip's trace
   abbrev pub run_under : ℕ → SourceSetting
-  run_under m = setting_of p (outside_of g.inputs (read_off trace_at m g.arrivals))
+  run_under m = setting_of p (outside_of g.inputs (read_off (trace_at source content g) m g.arrivals))
 
   -- ---- moment by moment
   -- Its step of number k counts for moment m: it is among the first (m + 1) * nodes, and begins while its trace is no longer
   -- than the chip's.
   pub record Counts (m k : ℕ) : Type 0 where
     pub early : k < (m + 1) * nodes_of p
-    pub short : length (after (run_under m) k).world.trace ≤ length (trace_at m)
-
-  abbrev pub IsCleanAt : ℕ → Type 0
-  IsCleanAt m = (k : ℕ) → Counts m k → fault_after (run_under m) k ≡ None
+    pub short : length (after (run_under m) k).world.trace ≤ length (trace_at source content g m)
 
   -- of the moments up to n the first one for which a step that counts is undefined, and why
   pub record IsFirstFault (n : ℕ) (fault : Fault) : Type 0 where
     pub at : ℕ
     pub within : at ≤ n
-    pub before : (m : ℕ) → m < at → IsCleanAt m
+    pub before : (m : ℕ) → m < at → IsClean source content g m
     pub step : ℕ
     pub counts : Counts at step
+    pub earlier : (k : ℕ) → k < step → fault_after (run_under at) k ≡ None
     pub is : fault_after (run_under at) step ≡ Some fault
 
   -- ---- the run under all arrivals up to n
@@ -60,8 +61,15 @@ module _ (p : Program) (g : Setting) where
     pub is : fault_after (run_under n) step ≡ Some fault
 
   -- ---- the answer for moment n
+  -- the chip's trace at moment n stands at the front of the source's
+  abbrev pub IsPrefix : ℕ → Type 0
+  IsPrefix n = (k : ℕ) × IsFrontOf (trace_at source content g n) ((run_at source content g n).trace k)
+
+  -- An undefined step is told exactly where one counts up to n, or is met before the end of the run under all arrivals; of
+  -- several the first. Otherwise it is told how many events the chip has made, and they are the source's.
   abbrev pub Tells : ℕ → Agreed → Type 0
-  Tells n (Same events) = ((m : ℕ) → m ≤ n → IsCleanAt m) × ((fault : Fault) → Meets n fault → ⊥) × (events ≡ length (trace_at n))
+  Tells n (Same events) =
+      IsClean source content g n × ((fault : Fault) → Meets n fault → ⊥) × (events ≡ length (trace_at source content g n)) × IsPrefix n
   Tells n (Undefined kind line) =
       IsFirstFault n (record { kind = kind; line = line })
-      ⊎ (((m : ℕ) → m ≤ n → IsCleanAt m) × Meets n (record { kind = kind; line = line }))
+      ⊎ (IsClean source content g n × Meets n (record { kind = kind; line = line }))

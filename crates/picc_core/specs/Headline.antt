@@ -1,5 +1,5 @@
 -- The headline: what an image does on the chip is a run of the source program that calls the handler whole.
-use Rattle.std.specs.Prelude.{ℕ, ◌+◌, ◌-◌, ◌*◌, ◌≡◌, ◌≢◌, ◌<◌, ◌≤◌, Bool, true, false, ◌&&◌, nat_eq, if◌then◌else◌, List, [], ◌∷◌, length, take, slice_index, slice_index_or, slice_get, Some, Contains}
+use Rattle.std.specs.Prelude.{ℕ, ◌+◌, ◌-◌, ◌*◌, ◌≡◌, ◌≢◌, ◌<◌, ◌≤◌, Bool, true, false, ◌&&◌, nat_eq, if◌then◌else◌, List, [], ◌∷◌, length, slice_index, slice_index_or, slice_get, Some, Contains}
 use Rattle.pic_world.specs.declared.Arrival.{Arrival}
 use Rattle.pic_world.specs.declared.Root.{Root}
 use Rattle.pic_world.specs.declared.Root.TheVariants.{Main, Isr}
@@ -15,6 +15,7 @@ use Rattle.pic_chip.specs.Run.{IsStart, Setting, moment, is_handling}
 use Rattle.pic_world.specs.World.{Outside, outside_of}
 use Rattle.pic_map.specs.MapContent.{ObjectLine, FrameLine, MapContent, watch_of}
 use Rattle.ram_place.specs.Memory.{AreDisjoint}
+use Rattle.run_links.specs.Runs.{IsFrontOf}
 use Rattle.schedule.specs.Off.{read_off}
 
 -- ---- the source
@@ -43,10 +44,6 @@ pub record Source : Type 1 where
   pub run : Outside → SourceRun
 
 -- ---- words
--- xs stands at the front of ys
-abbrev pub IsFrontOf : List Event → List Event → Type 0
-IsFrontOf xs ys = take (length xs) ys ≡ xs
-
 -- after j micro-steps, and not before, the trace has this length
 pub record ComesTo (trace : ℕ → List Event) (long j : ℕ) : Type 0 where
   pub here : length (trace j) ≡ long

@@ -4,7 +4,7 @@ use Rattle.std.proofs.lemmas.Bool.{cases_lt}
 use Rattle.std.proofs.lemmas.List.{length-map}
 use Rattle.std.proofs.Math.Nat.{add-mul}
 use Rattle.run_links.specs.Runs.{Run, IsFrontOf, Goes}
-use Rattle.run_links.specs.Laws.{Composes, LagComposes, HasPace, IsNotStuck}
+use Rattle.run_links.specs.Laws.{Composes, SlowComposes, LagComposes, HasPace, Counts, IsNotStuck}
 
 map_map : {E F G : Type 0} (f : E → F) (g : F → G) (xs : List E) → map g (map f xs) ≡ map (λ e. g (f e)) xs
 map_map f g [] = refl
@@ -21,21 +21,23 @@ compose E F G f g a b c n first second = record {
       let p = first.fast i j l m in
       let q = second.fast (first.at i) (first.at j) (first.rises i j l m) (first.rises j n m (omega arith)) in
       omega arith;
-  slow = λ i j l m.
-      let p = first.slow i j l m in
-      let q = second.slow (first.at i) (first.at j) (first.rises i j l m) (first.rises j n m (omega arith)) in
-      omega arith;
   rests = λ r. second.rests (first.rests r);
 }
+
+pub slow_composes : (E F G : Type 0) → SlowComposes E F G
+slow_composes E F G f g a b c n first second one other i j l m =
+    let p = one i j l m in
+    let q = other (first.at i) (first.at j) (first.rises i j l m) (first.rises j n m (omega arith)) in
+    omega arith
 
 times_mono : (x y k : ℕ) → x ≤ y → x * k ≤ y * k
 times_mono x y k le = let q : y ≡ x + (y - x) = omega arith in let p = ap (λ z. z * k) q ∙ add-mul x (y - x) k in omega arith
 
 pub lag_composes : (F G : Type 0) → LagComposes F G
-lag_composes F G g b c nodes steps m zero_least within second =
+lag_composes F G g b c nodes steps m zero_least within second slow =
     ⊎_elim
     (λ lt.
-    let s = second.slow 0 m (omega arith) (omega arith) in
+    let s = slow 0 m (omega arith) (omega arith) in
     let le : b.least m ≤ c.least (second.at m) = omega arith in
     let p = times_mono (b.least m + 1) (c.least (second.at m) + 1) nodes (omega arith) in
     inl (omega arith))
@@ -73,23 +75,32 @@ front_length xs ys e = let q : length (take (length xs) ys) ≡ length xs = ap l
 pub not_stuck : (E F : Type 0) → IsNotStuck E F
 not_stuck E F f a b steps nodes m long run followed within reaches clean k cheap short =
     let r = reaches ((m + 1) * nodes) in
+    -- at an undefined step the trace is longer already
+    let halted : (i : ℕ) → Goes a i → steps i < (m + 1) * nodes → a.goes i ≡ false → b.goes k ≡ true =
+        λ i before counted there.
+        let link = followed i before in
+        let far : long < length (a.trace i) =
+        ⊎_elim (λ l. l) (λ ge. let q = clean i counted ge in absurd (cc)) (cases_lt long (length (a.trace i))) in
+        ⊎_elim (λ l. link.goes k l)
+        (λ ge.
+        let q = front_length (b.trace (link.at i)) (b.trace k) (run.grows (link.at i) k ge) in
+        let s : length (b.trace (link.at i)) ≡ length (a.trace i) = ap length (link.same i (omega arith)) ∙ length-map (a.trace i) f in
+        absurd (omega arith))
+        (cases_lt k (link.at i)) in
     ⊎_elim
     (λ d.
     let link = followed r.0 d in
+    let rests : b.rests (link.at r.0) ≡ true → b.goes k ≡ true =
+        λ still. ⊎_elim (λ l. link.goes k l) (λ ge. run.waits (link.at r.0) k ge still) (cases_lt k (link.at r.0)) in
+    ⊎_elim
+    (λ far.
     ⊎_elim
     (λ lt.
-    let c = dear (b.least (link.at r.0)) m nodes (let s = r.1 in omega arith) in
+    let c = dear (b.least (link.at r.0)) m nodes (omega arith) in
     ⊎_elim (λ l. link.goes k l) (λ ge. let q = run.longer (link.at r.0) k ge in absurd (omega arith)) (cases_lt k (link.at r.0)))
-    (λ still. ⊎_elim (λ l. link.goes k l) (λ ge. run.waits (link.at r.0) k ge still) (cases_lt k (link.at r.0)))
+    rests
     (within r.0 d))
-    (λ u.
-    let link = followed u.step u.before in
-    let far : long < length (a.trace u.step) =
-    ⊎_elim (λ l. l) (λ ge. let q = clean u.step (r.2 u.step u.early) ge in let p = u.there in absurd (cc)) (cases_lt long (length (a.trace u.step))) in
-    ⊎_elim (λ l. link.goes k l)
-    (λ ge.
-    let q = front_length (b.trace (link.at u.step)) (b.trace k) (run.grows (link.at u.step) k ge) in
-    let s : length (b.trace (link.at u.step)) ≡ length (a.trace u.step) = ap length (link.same u.step (omega arith)) ∙ length-map (a.trace u.step) f in
-    absurd (omega arith))
-    (cases_lt k (link.at u.step)))
+    (λ ends. ⊎_elim (λ still. rests (link.rests still)) (λ stops. halted r.0 d stops.0 stops.1) ends)
+    r.2)
+    (λ u. halted u.step u.before (r.1 u.step u.early) u.there)
     (walk a r.0)

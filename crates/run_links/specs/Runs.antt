@@ -32,8 +32,8 @@ pub record IsRun {E : Type 0} (r : Run E) : Type 0 where
 
 -- The first n steps of run a are followed by run b: to each moment of a belongs one of b, and these rise. At each of
 -- them the traces agree, an event of a seen as `show` has it; b isn't stuck before it; and between any two of them b costs
--- at most no more than a, and at least no less. Costs are compared between any two moments, since a cost from the start
--- alone would let a slow start pay for a later burst.
+-- at most no more than a. Costs are compared between any two moments, since a cost from the start alone would let a slow
+-- start pay for a later burst.
 pub record Follows {E F : Type 0} (show : E → F) (a : Run E) (b : Run F) (n : ℕ) : Type 0 where
   pub at : ℕ → ℕ
   pub starts : at 0 ≡ 0
@@ -41,11 +41,15 @@ pub record Follows {E F : Type 0} (show : E → F) (a : Run E) (b : Run F) (n : 
   pub goes : (k : ℕ) → k < at n → b.goes k ≡ true
   pub same : (i : ℕ) → i ≤ n → b.trace (at i) ≡ map show (a.trace i)
   pub fast : (i j : ℕ) → i ≤ j → j ≤ n → b.most (at j) + a.most i ≤ b.most (at i) + a.most j
-  pub slow : (i j : ℕ) → i ≤ j → j ≤ n → b.least (at i) + a.least j ≤ b.least (at j) + a.least i
   pub rests : a.rests n ≡ true → b.rests (at n) ≡ true
 
+-- Between any two moments b costs at least no less than a. So it is where nothing is left out: a pass that makes code shorter
+-- has a bound of its own in its place.
+abbrev pub IsSlow : {E F : Type 0} (show : E → F) (a : Run E) (b : Run F) (n : ℕ) → Follows show a b n → Type 0
+IsSlow show a b n link = (i j : ℕ) → i ≤ j → j ≤ n → b.least (link.at i) + a.least j ≤ b.least (link.at j) + a.least i
+
 -- Code that takes no instruction stands for at most so many steps of the language (`nodes`, those of the program): by the
--- moment `at` of run b, `steps` steps were counted. Or b rests there.
+-- moment `at` of run b, fewer steps than this were counted. Or b rests there.
 abbrev pub IsWithin : {F : Type 0} → Run F → ℕ → ℕ → ℕ → Type 0
 IsWithin b nodes steps at = (steps < (b.least at + 1) * nodes) ⊎ (b.rests at ≡ true)
 

@@ -7,11 +7,12 @@
 // not stuck as long as the first one is defined.
 #![tactic(auto)]
 
-ghost use Rattle.run_links.specs.Laws.{Composes, LagComposes, HasPrefix, HasPace, IsNotStuck};
+ghost use Rattle.run_links.specs.Laws.{Composes, SlowComposes, LagComposes, HasPrefix, HasPace, IsNotStuck};
 
 /// A run that follows one which follows another follows that one, and code without cost stands for no more of its steps.
 pub fn links_compose<E, F, G>()
     ensures follows { Composes E F G }
+    ensures slow { SlowComposes E F G }
     ensures lags { LagComposes F G }
 {}
 

@@ -20,16 +20,17 @@ lengths_before trace n (a ∷ arrivals) =
     if nat_lt 0 a.t && nat_le a.t n then length (trace (a.t - 1)) ∷ lengths_before trace n arrivals else lengths_before trace n arrivals
 
 -- ---- of a run
--- No run of the handler is under way: no interrupt was taken whose RETFIE hasn't run since, and none is taken here.
+-- The run hasn't ended, and no run of the handler is under way: no interrupt was taken whose RETFIE hasn't run since, and none
+-- is taken here.
 abbrev pub is_free : Setting → ℕ → Bool
-is_free g k = not (is_handling (arriving g.arrivals k) (moment g k))
+is_free g k = not (moment g k).stopped && not (is_handling (arriving g.arrivals k) (moment g k))
 
 -- The last such moment up to n; at reset no interrupt is enabled.
 unfoldable pub last_free : Setting → ℕ → ℕ
 last_free g zero = 0
 last_free g (suc n) = if is_free g (suc n) then suc n else last_free g n
 
--- how many interrupts were taken before moment n
+-- how many interrupts were taken before moment n; behind the end of the run none is
 unfoldable pub runs_begun : Setting → ℕ → ℕ
 runs_begun g zero = 0
-runs_begun g (suc k) = runs_begun g k + (if takes (arriving g.arrivals k) (moment g k) then 1 else 0)
+runs_begun g (suc k) = runs_begun g k + (if not (moment g k).stopped && takes (arriving g.arrivals k) (moment g k) then 1 else 0)

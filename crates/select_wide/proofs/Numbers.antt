@@ -4,7 +4,7 @@ use Rattle.std.proofs.lemmas.List.{take_more}
 use Rattle.core_code.specs.View.{tree_of, trees_in}
 use Rattle.core_code.specs.declared.code.Byte.{Byte}
 use Rattle.core_code.specs.declared.code.Core.{Core}
-use Rattle.select_wide.specs.Selection.{number_behind, number_from, number_left}
+use Rattle.core_code.specs.Operands.{number_behind, number_from, number_left}
 
 number_more : (byte : Byte) (left : Option ℕ) (cs : List Core) (c : Core) → number_from byte left (trees_in (cs ++ c ∷ [])) ≡ number_behind byte (number_from byte left (trees_in cs)) (tree_of c)
 number_more byte left [] c = refl

@@ -1,9 +1,8 @@
 -- The blocks of a program: one for each copy that is no helper, in the order of the copies.
 use Rattle.std.specs.Prelude.{ℕ, ◌+◌, nat_eq, Bool, true, false, if◌then◌else◌, List, [], ◌∷◌, ◌++◌, map, Option, Some, None}
-use Rattle.std.specs.List.{position}
-use Rattle.pic_world.specs.declared.Root.TheVariants.{Isr}
 use Rattle.c_typed.specs.declared.calls.FnId.{FnId}
 use Rattle.c_typed.specs.declared.calls.FnId.TheVariants as callee
+use Rattle.call_graph.specs.Numbers.{handler_at}
 use Rattle.call_graph.specs.declared.types.FnCopy.{FnCopy}
 use Rattle.core_code.specs.View.{trees_in}
 use Rattle.core_code.specs.declared.code.Body.{Body}
@@ -14,7 +13,6 @@ use Rattle.sym_code.specs.declared.code.SymBlock.{SymBlock}
 use Rattle.select_code.specs.Selected.{body_code}
 use Rattle.select_code.specs.declared.control.Ending.{Ending}
 use Rattle.select_code.specs.declared.control.Ending.TheVariants.{Halt, Restore, Return}
-use Rattle.core_code.specs.Bytes.{same_root}
 use Rattle.select_wide.specs.Selection.{wide_code}
 
 abbrev pub is_user : FnId → Bool
@@ -25,10 +23,6 @@ is_user (callee.Helper h) = false
 abbrev pub body_at : List Body → ℕ → Option Body
 body_at [] number = None
 body_at (body ∷ bodies) number = if nat_eq body.copy number then Some body else body_at bodies number
-
--- the handler's copy is the first under its root
-abbrev pub handler_at : List FnCopy → Option ℕ
-handler_at list = position (λ copy. same_root copy.root Isr) list
 
 abbrev pub is_number : Option ℕ → ℕ → Bool
 is_number None number = false

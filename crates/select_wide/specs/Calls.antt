@@ -1,14 +1,11 @@
--- Calls of helpers, and which copy a helper has.
-use Rattle.std.specs.Prelude.{ℕ, nat_eq, Bool, false, ◌&&◌, List, [], ◌∷◌, ◌++◌, Option, Some, None}
-use Rattle.std.specs.List.{position}
+-- Calls of helpers.
+use Rattle.std.specs.Prelude.{ℕ, List, [], ◌∷◌, ◌++◌, Option, Some, None}
 use Rattle.pic_world.specs.declared.Root.{Root}
 use Rattle.c_ints.specs.declared.operators.BinOp.{BinOp}
 use Rattle.c_ints.specs.declared.types.IntTy.{IntTy}
 use Rattle.c_typed.specs.Calls.{int_helper}
-use Rattle.c_typed.specs.Chains.{helper_number}
-use Rattle.c_typed.specs.declared.calls.FnId.{FnId}
-use Rattle.c_typed.specs.declared.calls.FnId.TheVariants as callee
 use Rattle.c_typed.specs.declared.calls.Helper.{Helper}
+use Rattle.call_graph.specs.Numbers.{copy_of}
 use Rattle.call_graph.specs.declared.types.FnCopy.{FnCopy}
 use Rattle.core_code.specs.declared.code.Byte.{Byte}
 use Rattle.core_code.specs.declared.code.Byte.TheVariants.{Frame, Result}
@@ -18,18 +15,6 @@ use Rattle.sym_code.specs.declared.code.Sym.TheVariants as sym
 use Rattle.sym_code.specs.declared.code.Target.TheVariants.{Block}
 use Rattle.select_code.specs.Pieces.{byte_behind}
 use Rattle.select_wide.specs.Moves.{copies_code}
-use Rattle.core_code.specs.Bytes.{same_root}
-
-abbrev pub is_helper : Helper → FnId → Bool
-is_helper helper (callee.User f) = false
-is_helper helper (callee.Helper other) = nat_eq (helper_number other) (helper_number helper)
-
-abbrev pub is_copy_of : Root → Helper → FnCopy → Bool
-is_copy_of root helper copy = same_root copy.root root && is_helper helper copy.function
-
--- the number of a helper's copy under a root
-abbrev pub copy_of : List FnCopy → Root → Helper → Option ℕ
-copy_of list root helper = position (is_copy_of root helper) list
 
 abbrev pub enter_code : ℕ → List Sym
 enter_code copy = sym.Call (Block (Copy copy)) ∷ []

@@ -6,12 +6,12 @@ use Rattle.c_ints.specs.declared.operators.BinOp.TheVariants as binop
 use Rattle.c_ints.specs.declared.types.IntTy.{IntTy}
 use Rattle.c_ints.specs.Range.{bytes_of}
 use Rattle.call_graph.specs.declared.types.FnCopy.{FnCopy}
+use Rattle.core_code.specs.Operands.{number_left}
 use Rattle.core_code.specs.Tree as tree
 use Rattle.core_code.specs.Tree.{Tree}
 use Rattle.core_code.specs.declared.code.Byte.{Byte}
 use Rattle.sym_code.specs.declared.code.FileOperation.TheVariants.{Andwf, Iorwf, Xorwf}
 use Rattle.sym_code.specs.declared.code.Sym.{Sym}
-use Rattle.core_code.specs.Bytes.{same_byte}
 use Rattle.select_wide.specs.Sums.{chain_code, sum_code, bits_code}
 use Rattle.select_wide.specs.Comparisons.{equality_code, order_code}
 use Rattle.select_wide.specs.Single.{is_signed, unary_code, widening_code}
@@ -21,19 +21,6 @@ use Rattle.select_wide.specs.Calls.{helped_code}
 use Rattle.select_wide.specs.declared.operands.Chain.TheVariants.{Difference}
 use Rattle.select_wide.specs.declared.operands.Way.{Way}
 use Rattle.select_wide.specs.declared.operands.Way.TheVariants.{Left, Right, SignedRight}
-
--- what a run of `Set`s leaves in a byte, with one operation more
-abbrev pub number_behind : Byte → Option ℕ → Tree → Option ℕ
-number_behind byte left (tree.Set to value) = if same_byte to byte then Some value else left
-number_behind byte left _ = None
-
-abbrev pub number_from : Byte → Option ℕ → List Tree → Option ℕ
-number_from byte left [] = left
-number_from byte left (t ∷ ts) = number_from byte (number_behind byte left t) ts
-
--- the number that a run of `Set`s at the end of some operations leaves in a byte
-abbrev pub number_left : List Tree → Byte → Option ℕ
-number_left ts byte = number_from byte None ts
 
 abbrev pub way_of : BinOp → Bool → Way
 way_of binop.Shl signed = Left

@@ -2,7 +2,8 @@
 
 ghost use Rattle.std.specs.Prelude.{◌≡◌, ◌++◌, Some, OnOk, IfOk, false};
 ghost use Rattle.c_typed.specs.Calls.{int_helper, by_type};
-ghost use Rattle.select_wide.specs.Calls.{is_helper, is_copy_of, copy_of, enter_code, helper_call_code};
+ghost use Rattle.call_graph.specs.Numbers.{is_helper, is_copy_of, copy_of};
+ghost use Rattle.select_wide.specs.Calls.{enter_code, helper_call_code};
 
 use crate::moves::{is_same_root, put_copies};
 use crate::operands::Operands;

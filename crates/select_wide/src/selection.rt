@@ -4,9 +4,11 @@ ghost use Rattle.std.specs.Prelude.{◌≡◌, ◌++◌, Some, OnOk, IfOk, IfSom
 ghost use Rattle.c_ints.specs.Range.{bytes_of};
 ghost use Rattle.core_code.specs.View.{tree_of, trees_in};
 ghost use Rattle.sym_code.specs.declared.code.BlockName.TheVariants.{Copy};
-ghost use Rattle.select_wide.specs.Blocks.{is_user, body_at, handler_at, is_number, ending_at, block_code, code_by, block_at, blocks_from, views_of};
+ghost use Rattle.call_graph.specs.Numbers.{handler_at};
+ghost use Rattle.select_wide.specs.Blocks.{is_user, body_at, is_number, ending_at, block_code, code_by, block_at, blocks_from, views_of};
 ghost use Rattle.select_wide.specs.Calls.{helped_code};
-ghost use Rattle.select_wide.specs.Selection.{number_behind, number_left, way_of, shifted_code, binary_code, wide_code};
+ghost use Rattle.core_code.specs.Operands.{number_behind, number_left};
+ghost use Rattle.select_wide.specs.Selection.{way_of, shifted_code, binary_code, wide_code};
 
 use crate::calls::{copy_of, helper_of, put_helper_call};
 use crate::comparisons::{put_equality, put_order};

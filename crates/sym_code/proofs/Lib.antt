@@ -1,2 +1,3 @@
 pub mod Lists
 mod Examples
+pub mod WellFormed

@@ -132,11 +132,12 @@ pub record IsLaidOut (reaches : ℕ → ℕ → Bool) (l : DataLayout) : Type 0 
   pub frames_apart : (c d : ℕ) → c < length l.frames → d < length l.frames → c ≢ d → may_meet l reaches c d ≡ true
       → are_apart (frame l c).address (frame l c).size (frame l d).address (frame l d).size ≡ true
 
--- The layout is one of objects with these first bytes, watched or const, and of copies with such frames and roots.
+-- The layout is one of objects with these first bytes, watched or const, and of copies with such roots and frames, which are as
+-- large at least: that of a helper has more than byte code knows of.
 pub record IsOf (first : List (List Held)) (is_watched : ℕ → Bool) (copies : ℕ) (frame_bytes : ℕ → ℕ) (root : ℕ → Root) (l : DataLayout) : Type 0 where
   pub objects : length l.objects ≡ length first
   pub sizes : (n : ℕ) → n < length first → (object l n).size ≡ length (slice_index_or first n [])
   pub constants : (n : ℕ) → n < length first → (object l n).constant ≡ not (is_watched n)
   pub frames : length l.frames ≡ copies
-  pub frame_sizes : (c : ℕ) → c < copies → (frame l c).size ≡ frame_bytes c
+  pub frame_sizes : (c : ℕ) → c < copies → frame_bytes c ≤ (frame l c).size
   pub roots : (c : ℕ) → c < copies → (frame l c).root ≡ root c

@@ -1,5 +1,6 @@
 pub mod WellFormed
 pub mod Touching
+pub mod Words
 pub mod Registers
 pub mod Layout
 pub mod Programs

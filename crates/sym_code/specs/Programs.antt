@@ -94,7 +94,9 @@ label_from [] label n = None
 label_from (sym.Label l ∷ rest) label n = if same_label l label then Some n else label_from rest label (n + 1)
 label_from (s ∷ rest) label n = label_from rest label (n + 1)
 
--- where a target stands
+-- Where a target stands. Main's end and the handler's are no places: what jumps there ends a thread.
 abbrev pub place_of : Program → Position → Target → Option Position
 place_of q p (targets.Block name) = Some (front q name)
-place_of q p (targets.Label label) = option_map (λ n. stand q (position p.block n)) (label_from (q.block p.block) label 0)
+place_of q p (targets.Label Halt) = None
+place_of q p (targets.Label Restore) = None
+place_of q p (targets.Label (Inner n)) = option_map (λ k. stand q (position p.block k)) (label_from (q.block p.block) (Inner n) 0)

@@ -3,7 +3,7 @@ use Rattle.code_place.specs.Image.{written}
 use Rattle.code_place.specs.Instructions.{words}
 use Rattle.code_place.specs.Marks.{target_in}
 use Rattle.code_place.specs.Places.{HaveAddresses}
-use Rattle.code_place.specs.Sizes.{words_in}
+use Rattle.sym_code.specs.Words.{words_in}
 use Rattle.code_place.proofs.assembly.put_block.Given as goal
 
 abbrev pub invariant-loop-sym : goal.invariant-loop-sym

@@ -1,5 +1,5 @@
 use Rattle.std.proofs.Common.{◌≡◌, ◌≤◌, take}
-use Rattle.code_place.specs.Sizes.{words_in}
+use Rattle.sym_code.specs.Words.{words_in}
 use Rattle.code_place.proofs.fitting.real_words.Given as goal
 
 abbrev pub invariant-loop-sym : goal.invariant-loop-sym

@@ -3,7 +3,7 @@ use Rattle.std.specs.BTreeMap.{get}
 use Rattle.std.specs.Ordering.{nat_cmp}
 use Rattle.sym_code.specs.declared.code.Label.TheVariants.{Inner}
 use Rattle.code_place.specs.Places.{label_at}
-use Rattle.code_place.specs.Sizes.{words_in}
+use Rattle.sym_code.specs.Words.{words_in}
 use Rattle.code_place.proofs.marks.inner_labels.Given as goal
 
 abbrev pub invariant-loop-sym : goal.invariant-loop-sym

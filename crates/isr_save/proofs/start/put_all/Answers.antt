@@ -1,4 +1,4 @@
-use Rattle.code_place.proofs.Written.{well_formed_at}
+use Rattle.sym_code.proofs.WellFormed.{well_formed_at}
 use Rattle.isr_save.proofs.start.put_all.Goals as goal
 
 pub put-requires : goal.put-requires

@@ -1,6 +1,6 @@
 use Rattle.std.proofs.Common.{◌≡◌, take}
 use Rattle.core_code.specs.View.{trees_in}
-use Rattle.select_wide.specs.Selection.{number_left}
+use Rattle.core_code.specs.Operands.{number_left}
 use Rattle.select_wide.proofs.selection.number_left.Given as goal
 
 abbrev pub invariant-loop-part : goal.invariant-loop-part

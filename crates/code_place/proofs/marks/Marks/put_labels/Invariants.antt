@@ -4,7 +4,7 @@ use Rattle.sym_code.specs.declared.code.BlockName.{BlockName}
 use Rattle.sym_code.specs.declared.code.Label.TheVariants.{Halt, Restore}
 use Rattle.code_place.specs.Marks.{block_in}
 use Rattle.code_place.specs.Places.{label_at}
-use Rattle.code_place.specs.Sizes.{words_in}
+use Rattle.sym_code.specs.Words.{words_in}
 use Rattle.code_place.proofs.marks.Marks.put_labels.Given as goal
 
 abbrev pub invariant-loop-sym : goal.invariant-loop-sym
