@@ -9,7 +9,8 @@ use Rattle.sym_code.specs.declared.code.Sym.{Sym}
 use Rattle.sym_code.specs.declared.code.Sym.TheVariants as syms
 use Rattle.sym_code.specs.declared.code.Target.{Target}
 use Rattle.code_place.specs.Addresses.{address_of}
-use Rattle.bank_page.specs.Kinds.{is_select, is_label, is_skip, byte_of, target_of}
+use Rattle.sym_code.specs.Selects.{is_select}
+use Rattle.bank_page.specs.Kinds.{is_label, is_skip, byte_of, target_of}
 use Rattle.bank_page.specs.Known.{writes_status, writes_pclath}
 use Rattle.bank_page.specs.Needs.{both_banks, banked_at, banked, with_bank, both, needs_one, needs_in}
 use Rattle.bank_page.specs.Selected.{has_bank, reaches_byte, reaches_target, is_right}

@@ -6,7 +6,8 @@ use Rattle.sym_code.specs.declared.code.BlockName.{BlockName}
 use Rattle.sym_code.specs.declared.code.Sym.{Sym}
 use Rattle.sym_code.specs.declared.code.Sym.TheVariants as syms
 use Rattle.sym_code.specs.declared.code.Target.{Target}
-use Rattle.bank_page.specs.Kinds.{is_select, is_label, is_skip, byte_of, target_of}
+use Rattle.sym_code.specs.Selects.{is_select}
+use Rattle.bank_page.specs.Kinds.{is_label, is_skip, byte_of, target_of}
 use Rattle.bank_page.specs.Known.{writes_status, writes_pclath}
 use Rattle.bank_page.specs.Needs.{banked, needs_one, needs_in}
 use Rattle.bank_page.specs.Selected.{front, is_quiet, are_quiet, KeepsFront}

@@ -5,7 +5,8 @@ use Rattle.std.proofs.lemmas.List.{map-append, take_more, take_all}
 use Rattle.std.proofs.lemmas.List.Elements.{All-push, AllZip-push}
 use Rattle.pic_map.specs.declared.Placed.{Placed}
 use Rattle.sym_code.specs.declared.code.SymBlock.{SymBlock}
-use Rattle.bank_page.specs.Selected.{bare, NoSelectBehindSkip, reaches_all, is_lean_all, names_of, bare_lists, IsApart, Reaches, IsLean, KeepsFrontOf, IsWithin}
+use Rattle.sym_code.specs.Selects.{bare}
+use Rattle.bank_page.specs.Selected.{NoSelectBehindSkip, reaches_all, is_lean_all, names_of, bare_lists, IsApart, Reaches, IsLean, KeepsFrontOf, IsWithin}
 
 -- What holds of the blocks that are made of the first of a list.
 pub record Blocks (placed : Placed) (list : List SymBlock) (i : ℕ) (made : List SymBlock) : Type 0 where

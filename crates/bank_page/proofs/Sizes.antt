@@ -13,7 +13,8 @@ use Rattle.sym_code.specs.declared.code.Target.{Target}
 use Rattle.sym_code.specs.Words.{is_common}
 use Rattle.code_place.specs.Addresses.{address_of}
 use Rattle.sym_code.specs.Words.{words_of_one, words_in, most_of_operand, most_of_one, most_words}
-use Rattle.bank_page.specs.Kinds.{is_select, is_label, is_skip, byte_named, byte_of, target_of}
+use Rattle.sym_code.specs.Selects.{is_select}
+use Rattle.bank_page.specs.Kinds.{is_label, is_skip, byte_named, byte_of, target_of}
 use Rattle.bank_page.specs.Known.{knows, learned, writes_status, writes_pclath}
 use Rattle.bank_page.specs.Needs.{both_banks, banked_at, banked, needs_in}
 use Rattle.bank_page.specs.Selected.{front}

@@ -10,13 +10,15 @@ use Rattle.sym_code.specs.declared.code.Sym.{Sym}
 use Rattle.sym_code.specs.declared.code.Sym.TheVariants as syms
 use Rattle.sym_code.specs.declared.code.Target.{Target}
 use Rattle.sym_code.specs.WellFormed.{is_well_formed, are_well_formed}
-use Rattle.bank_page.specs.Kinds.{is_select, is_label, is_skip}
+use Rattle.sym_code.specs.Selects.{is_select}
+use Rattle.bank_page.specs.Kinds.{is_label, is_skip}
 use Rattle.sym_code.specs.Programs.{same_name, block_of}
 use Rattle.sym_code.specs.declared.code.BankBit.TheVariants as bank_bits
 use Rattle.sym_code.specs.declared.code.PageBit.TheVariants as page_bits
 use Rattle.bank_page.specs.Known.{after, left, writes_status, writes_pclath, same_bit, is_bit, is_page, knows, learned, seen_after}
 use Rattle.bank_page.specs.Needs.{needs_in}
-use Rattle.bank_page.specs.Selected.{bare, Place, Free, Behind, Broken, place_after, walk, NoSelectBehindSkip, reaches_target, is_right, is_lean, front, seen, all_pass}
+use Rattle.sym_code.specs.Selects.{bare}
+use Rattle.bank_page.specs.Selected.{Place, Free, Behind, Broken, place_after, walk, NoSelectBehindSkip, reaches_target, is_right, is_lean, front, seen, all_pass}
 use Rattle.bank_page.specs.Step.{rp0_of, rp1_of, bank_selects, page_selects, unknown, missing, behind_selects, behind_bank, missing_for, known_with, passed, NextFor, Next}
 use Rattle.bank_page.specs.declared.known.Known.{Known}
 use Rattle.bank_page.specs.declared.needs.Needs.{Needs}

@@ -3,8 +3,6 @@
 use Rattle.std.specs.Prelude.{Bool, true, false, Option, Some, None, if◌then◌else◌}
 use Rattle.core_code.specs.declared.code.Byte.{Byte}
 use Rattle.sym_code.specs.Touching.{touches}
-use Rattle.sym_code.specs.declared.code.BankBit.{BankBit}
-use Rattle.sym_code.specs.declared.code.BankBit.TheVariants as bank_bits
 use Rattle.sym_code.specs.declared.code.BitOperation.{BitOperation}
 use Rattle.sym_code.specs.declared.code.BitOperation.TheVariants as bit_ops
 use Rattle.sym_code.specs.declared.code.FileOperation.{FileOperation}
@@ -15,17 +13,6 @@ use Rattle.sym_code.specs.declared.code.Sym.{Sym}
 use Rattle.sym_code.specs.declared.code.Sym.TheVariants as syms
 use Rattle.sym_code.specs.declared.code.Target.{Target}
 use Rattle.sym_code.specs.Words.{is_common}
-
-abbrev pub is_rp : BankBit → Bool
-is_rp bank_bits.Rp0 = true
-is_rp bank_bits.Rp1 = true
-is_rp bank_bits.Irp = false
-
--- A select of RP0, RP1 or a bit of the page. One of IRP is an instruction like any other: no access by name needs it.
-abbrev pub is_select : Sym → Bool
-is_select (syms.SelectBank bit on) = is_rp bit
-is_select (syms.SelectPage bit target) = true
-is_select _ = false
 
 abbrev pub is_label : Sym → Bool
 is_label (syms.Label label) = true

@@ -16,7 +16,7 @@ use Rattle.sym_code.specs.declared.code.PlainOperation.TheVariants as plain_ops
 use Rattle.sym_code.specs.declared.code.Register.TheVariants as registers
 use Rattle.sym_code.specs.declared.code.Sym.{Sym}
 use Rattle.sym_code.specs.declared.code.Sym.TheVariants as syms
-use Rattle.bank_page.specs.Kinds.{is_select}
+use Rattle.sym_code.specs.Selects.{is_select}
 use Rattle.bank_page.specs.declared.known.Known.{Known}
 
 abbrev pub nothing : Known

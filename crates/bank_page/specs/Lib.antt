@@ -3,3 +3,4 @@ pub mod Known
 pub mod Needs
 pub mod Selected
 pub mod Step
+pub mod Links

@@ -4,7 +4,8 @@ use Rattle.core_code.specs.declared.code.Byte.{Byte}
 use Rattle.pic_map.specs.declared.Placed.{Placed}
 use Rattle.sym_code.specs.declared.code.Sym.{Sym}
 use Rattle.code_place.specs.Addresses.{address_of}
-use Rattle.bank_page.specs.Kinds.{is_select, is_label, is_skip, byte_of, target_of}
+use Rattle.sym_code.specs.Selects.{is_select}
+use Rattle.bank_page.specs.Kinds.{is_label, is_skip, byte_of, target_of}
 use Rattle.bank_page.specs.Known.{writes_status, writes_pclath}
 use Rattle.bank_page.specs.declared.needs.Needs.{Needs}
 

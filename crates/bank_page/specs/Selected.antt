@@ -1,6 +1,5 @@
 -- What the answer of `selects` keeps.
 use Rattle.std.specs.Prelude.{◌≡◌, ◌≤◌, ℕ, ◌/◌, Bool, true, false, not, ◌&&◌, ◌||◌, List, [], ◌∷◌, ◌++◌, map, Option, Some, None, option_map, is_none, if◌then◌else◌}
-use Rattle.std.specs.List.{filter}
 use Rattle.core_code.specs.declared.code.Byte.{Byte}
 use Rattle.pic_map.specs.declared.Placed.{Placed}
 use Rattle.sym_code.specs.declared.code.BlockName.{BlockName}
@@ -11,15 +10,12 @@ use Rattle.sym_code.specs.declared.code.Target.{Target}
 use Rattle.sym_code.specs.Programs.{block_of}
 use Rattle.code_place.specs.Addresses.{address_of}
 use Rattle.sym_code.specs.Words.{words_in, most_words}
-use Rattle.bank_page.specs.Kinds.{is_select, is_label, is_skip, byte_of, target_of}
+use Rattle.sym_code.specs.Selects.{is_select, bare}
+use Rattle.bank_page.specs.Kinds.{is_label, is_skip, byte_of, target_of}
 use Rattle.bank_page.specs.Known.{nothing, is_bit, is_page, knows, seen_after}
 use Rattle.bank_page.specs.Step.{rp0_of, rp1_of, page_selects}
 use Rattle.bank_page.specs.declared.known.Known.{Known}
 use Rattle.bank_page.specs.declared.selecting.State.{State}
-
--- the list with its selects taken out
-abbrev pub bare : List Sym → List Sym
-bare list = filter (λ s. not (is_select s)) list
 
 -- Where the next instruction of a list stands: behind a skip, or not; or a select already stood behind a skip.
 pub data Place : Type 0 where

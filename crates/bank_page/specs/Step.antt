@@ -7,7 +7,8 @@ use Rattle.sym_code.specs.declared.code.PageBit.TheVariants as page_bits
 use Rattle.sym_code.specs.declared.code.Sym.{Sym}
 use Rattle.sym_code.specs.declared.code.Sym.TheVariants as syms
 use Rattle.sym_code.specs.declared.code.Target.{Target}
-use Rattle.bank_page.specs.Kinds.{is_select, is_label, is_skip}
+use Rattle.sym_code.specs.Selects.{is_select}
+use Rattle.bank_page.specs.Kinds.{is_label, is_skip}
 use Rattle.bank_page.specs.Known.{after, knows, learned}
 use Rattle.bank_page.specs.Needs.{needs_in}
 use Rattle.bank_page.specs.declared.known.Known.{Known}

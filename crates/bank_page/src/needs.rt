@@ -1,6 +1,7 @@
 //! What instructions need to be selected.
 
 ghost use Rattle.std.specs.Prelude.{◌≡◌, IsTrue};
+ghost use Rattle.sym_code.specs.Selects.{is_rp, is_select};
 ghost use Rattle.bank_page.specs.Kinds as kinds;
 ghost use Rattle.bank_page.specs.Needs as stated;
 ghost use Rattle.code_place.specs.Addresses as addresses;
@@ -19,7 +20,7 @@ pub struct Needs {
 }
 
 fn is_rp(bit: BankBit) -> bool
-    ensures { result ≡ kinds.is_rp bit }
+    ensures { result ≡ is_rp bit }
 {
     match bit {
         BankBit::Rp0 => true,
@@ -30,7 +31,7 @@ fn is_rp(bit: BankBit) -> bool
 
 /// Whether the instruction selects a bank or a page. One that sets IRP is an instruction like any other.
 pub fn is_select(sym: Sym) -> bool
-    ensures { result ≡ kinds.is_select sym }
+    ensures { result ≡ is_select sym }
 {
     match sym {
         Sym::SelectBank(bit, _) => is_rp(bit),

@@ -3,6 +3,7 @@
 ghost use Rattle.std.specs.Prelude.{◌≡◌, ◌≤◌, ◌++◌, ◌∷◌, [], true, List, IfOk};
 ghost use Rattle.std.specs.List.{All, AllZip};
 ghost use Rattle.bank_page.specs.Known.{learned};
+ghost use Rattle.sym_code.specs.Selects.{bare};
 ghost use Rattle.bank_page.specs.Selected as kept;
 ghost use Rattle.sym_code.specs.Words.{words_in, most_words};
 ghost use Rattle.bank_page.specs.Step as stated;
@@ -106,7 +107,7 @@ fn put_selected(out: &mut SymBlock, placed: &Placed, list: &[Sym]) -> Result<(),
     requires fits { are_well_formed list.now ≡ true }
     requires empty { out.old.list.items ≡ [] }
     ensures name { out.new.name ≡ out.old.name }
-    ensures bare { IfOk result (λ _. kept.bare out.new.list.items ≡ kept.bare list.now) }
+    ensures bare { IfOk result (λ _. bare out.new.list.items ≡ bare list.now) }
     ensures apart { IfOk result (λ _. kept.NoSelectBehindSkip out.new.list.items) }
     ensures right { IfOk result (λ _. kept.reaches_all placed.now out.new ≡ true) }
     ensures lean { IfOk result (λ _. kept.is_lean_all out.new ≡ true) }
@@ -127,7 +128,7 @@ fn put_selected(out: &mut SymBlock, placed: &Placed, list: &[Sym]) -> Result<(),
 
 fn selected(alloc: Global, block: &SymBlock, placed: &Placed) -> Result<SymBlock, AllocError>
     ensures name { IfOk result (λ made. made.name ≡ block.now.name) }
-    ensures bare { IfOk result (λ made. kept.bare made.list.items ≡ kept.bare block.now.list.items) }
+    ensures bare { IfOk result (λ made. bare made.list.items ≡ bare block.now.list.items) }
     ensures apart { IfOk result (λ made. kept.NoSelectBehindSkip made.list.items) }
     ensures right { IfOk result (λ made. kept.reaches_all placed.now made ≡ true) }
     ensures lean { IfOk result (λ made. kept.is_lean_all made ≡ true) }

@@ -4,6 +4,7 @@ use Rattle.std.specs.Prelude.{ℕ, zero, suc, ◌+◌, Bool, List}
 use Rattle.pic_world.specs.World.{Happening}
 use Rattle.core_code.specs.Bytes.{Held}
 use Rattle.core_code.specs.Cost.{step_most, step_least}
+use Rattle.run_links.specs.Runs.{Run}
 use Rattle.core_code.specs.Machine.{Setting, core_step, core_moment, goes_on, is_still}
 
 abbrev pub trace_at : Setting → ℕ → List (Happening Held)
@@ -23,3 +24,7 @@ most_by g (suc n) = most_by g n + step_most g (core_moment g n)
 unfoldable pub least_by : Setting → ℕ → ℕ
 least_by g zero = 0
 least_by g (suc n) = least_by g n + step_least g (core_moment g n)
+
+-- the run of a program of byte code
+abbrev pub run_of : Setting → Run (Happening Held)
+run_of g = record { trace = trace_at g; goes = goes_at g; rests = is_still_at g; most = most_by g; least = least_by g }

@@ -6,9 +6,9 @@ use Rattle.c_typed.specs.Room.{frame_size, variables_bytes}
 use Rattle.c_typed.specs.Trees.{StaticTree, FunctionTree}
 use Rattle.c_typed.specs.Trees as typed
 use Rattle.c_typed.specs.declared.calls.FnId.{FnId}
-use Rattle.c_typed.specs.declared.calls.FnId.TheVariants as callee
+use Rattle.c_typed.specs.declared.calls.FnId.TheVariants as callees
 use Rattle.c_typed.specs.declared.calls.Helper.{Helper}
-use Rattle.call_graph.specs.Numbers.{handler_at, copy_of}
+use Rattle.call_graph.specs.Numbers.{handler_at, is_helper, copy_of}
 use Rattle.call_graph.specs.declared.types.FnCopy.{FnCopy}
 use Rattle.core_code.specs.Bytes.{Held, same_root}
 use Rattle.core_code.specs.FirstBytes.{first_held}
@@ -20,8 +20,8 @@ use Rattle.pic_world.specs.declared.Root.TheVariants.{Main}
 
 -- the function with this number, and that of a copy; a helper is none
 abbrev pub function_at : typed.Program → FnId → Option FunctionTree
-function_at p (callee.User function) = slice_get p.functions function
-function_at p (callee.Helper helper) = None
+function_at p (callees.User function) = slice_get p.functions function
+function_at p (callees.Helper helper) = None
 
 abbrev pub function_in : typed.Program → Option FnCopy → Option FunctionTree
 function_in p None = None
@@ -29,8 +29,8 @@ function_in p (Some copy) = function_at p copy.function
 
 -- ---- what the machine asks of each copy
 abbrev pub body_for : typed.Program → List FnCopy → ℕ → Root → FnId → List Tree
-body_for p copies number root (callee.User function) = code_of p copies number root (slice_get p.functions function)
-body_for p copies number root (callee.Helper helper) = []
+body_for p copies number root (callees.User function) = code_of p copies number root (slice_get p.functions function)
+body_for p copies number root (callees.Helper helper) = []
 
 abbrev pub body_in : typed.Program → List FnCopy → ℕ → Option FnCopy → List Tree
 body_in p copies number None = []
@@ -40,14 +40,9 @@ abbrev pub root_in : Option FnCopy → Root
 root_in None = Main
 root_in (Some copy) = copy.root
 
--- there is a copy of this helper under the root
-abbrev pub has_routine : List FnCopy → Root → Option Helper → Bool
-has_routine copies root None = false
-has_routine copies root (Some h) = is_some (copy_of copies root h)
-
 -- The first function calls the one of the other copy. No operation of byte code calls a helper.
 abbrev pub is_function : FnId → FnId → Bool
-is_function (callee.User f) (callee.User g) = nat_eq f g
+is_function (callees.User f) (callees.User g) = nat_eq f g
 is_function _ _ = false
 
 abbrev pub calls_function : Option FunctionTree → FnId → Bool
@@ -58,6 +53,16 @@ abbrev pub may_call : typed.Program → Option FnCopy → Option FnCopy → Bool
 may_call p None callee = false
 may_call p (Some copy) None = false
 may_call p (Some copy) (Some callee) = same_root copy.root callee.root && calls_function (function_at p copy.function) callee.function
+
+-- The function has an operator with this helper, of which there is a copy under the root.
+abbrev pub calls_helper : Option FunctionTree → Helper → Bool
+calls_helper None h = false
+calls_helper (Some f) h = list_any (is_helper h) (statements_calls f.body)
+
+abbrev pub may_use : typed.Program → List FnCopy → Option FnCopy → Option Helper → Bool
+may_use p copies None h = false
+may_use p copies (Some copy) None = false
+may_use p copies (Some copy) (Some h) = calls_helper (function_at p copy.function) h && is_some (copy_of copies copy.root h)
 
 abbrev pub size_or_none : (FunctionTree → ℕ) → Option FunctionTree → ℕ
 size_or_none size None = 0
@@ -76,7 +81,7 @@ core_of p copies = record {
   body = λ c. body_in p copies c (slice_get copies c);
   root = λ c. root_in (slice_get copies c);
   calls = λ c d. may_call p (slice_get copies c) (slice_get copies d);
-  helped = λ c op ty. has_routine copies (root_in (slice_get copies c)) (int_helper op false ty);
+  helped = λ c op ty. may_use p copies (slice_get copies c) (int_helper op false ty);
   handler = handler_at copies;
   first = statics_held p;
   is_watched = λ n. isnt_const (slice_get p.statics n);

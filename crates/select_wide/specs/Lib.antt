@@ -8,3 +8,4 @@ pub mod Shifts
 pub mod Calls
 pub mod Selection
 pub mod Blocks
+pub mod Links

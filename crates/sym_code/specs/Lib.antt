@@ -1,6 +1,7 @@
 pub mod WellFormed
 pub mod Touching
 pub mod Words
+pub mod Selects
 pub mod Registers
 pub mod Layout
 pub mod Programs

@@ -1,6 +1,7 @@
 -- What can be said of a run of symbolic code at each moment, which is the point after so many of its steps.
 use Rattle.std.specs.Prelude.{ℕ, Bool, true, false, List}
 use Rattle.pic_world.specs.World.{Outside, Happening}
+use Rattle.run_links.specs.Runs.{Run}
 use Rattle.sym_code.specs.Cost.{least_prices, most_prices, cost_by}
 use Rattle.sym_code.specs.Effect.{Setting}
 use Rattle.sym_code.specs.Machine.{Machine, Entry, Next, Goes, Stops, Still, sym_step, sym_run}
@@ -34,3 +35,8 @@ sym_most g price e o t n = cost_by g (most_prices price) e o n t
 
 abbrev pub sym_least : Setting → Entry → Outside → Machine → ℕ → ℕ
 sym_least g e o t n = cost_by g least_prices e o n t
+
+-- the run of symbolic code from here on
+abbrev pub run_of : Setting → (BlockName → ℕ → ℕ) → Entry → Outside → Machine → Run (Happening ℕ)
+run_of g price e o t =
+    record { trace = sym_trace g e o t; goes = sym_goes g e o t; rests = sym_rests g e o t; most = sym_most g price e o t; least = sym_least g e o t }

@@ -1,0 +1,164 @@
+-- What an image keeps on the chip, with interrupts between any two instructions: the trace of an early run of its symbolic code, in
+-- which the handler is entered whole directly behind an event.
+use Rattle.std.specs.Prelude.{ℕ, ◌+◌, ◌-◌, ◌≡◌, ◌<◌, ◌≤◌, Bool, true, false, List, [], ◌∷◌, ◌++◌, length, map, Option, Some, None, slice_index}
+use Rattle.std.specs.Global.{Global}
+use Rattle.std.specs.List.{All, Contains}
+use Rattle.std.specs.declared.vec.Vec.{Vec}
+use Rattle.pic_world.specs.World.{Outside, Happening, outside_of, event_of}
+use Rattle.pic_world.specs.Arrivals.{arriving}
+use Rattle.pic_world.specs.declared.Arrival.{Arrival}
+use Rattle.pic_world.specs.declared.Cell.{Cell}
+use Rattle.pic_world.specs.declared.Root.TheVariants.{Main, Isr}
+use Rattle.pic_chip.specs.Run as chip
+use Rattle.pic_chip.specs.Run.{IsStart, moment, is_handling, Watch}
+use Rattle.pic_map.specs.declared.Placed.{Placed}
+use Rattle.run_links.specs.Runs.{Run}
+use Rattle.schedule.specs.Off.{read_off}
+use Rattle.core_code.specs.Bytes.{Held}
+use Rattle.core_code.specs.FirstBytes.{first_held}
+use Rattle.core_code.specs.declared.code.FirstByte.{FirstByte}
+use Rattle.sym_code.specs.Correct.{IsBegun, AreEntries}
+use Rattle.sym_code.specs.Effect.{Setting, Memory}
+use Rattle.sym_code.specs.Layout.{IsLaidOut, Owner, owner, Watched, Of}
+use Rattle.sym_code.specs.Machine.{Entry, sym_start, sym_run}
+use Rattle.sym_code.specs.Programs.{block_in}
+use Rattle.sym_code.specs.Registers.{Registers}
+use Rattle.sym_code.specs.Runs.{run_of}
+use Rattle.sym_code.specs.Selects.{bare}
+use Rattle.sym_code.specs.Words.{words_in}
+use Rattle.sym_code.specs.declared.code.BlockName.{BlockName}
+use Rattle.sym_code.specs.declared.code.BlockName.TheVariants.{Start, Copy}
+use Rattle.sym_code.specs.declared.code.Label.TheVariants.{Halt}
+use Rattle.sym_code.specs.declared.code.Sym.{Sym}
+use Rattle.sym_code.specs.declared.code.Sym.TheVariants as syms
+use Rattle.sym_code.specs.declared.code.SymBlock.{SymBlock}
+use Rattle.sym_code.specs.declared.code.Target.TheVariants as targets
+use Rattle.code_place.specs.Layouts.{program_of, page_of}
+use Rattle.code_place.specs.Places.{HoldsInstructions, BlocksHaveAddresses}
+use Rattle.code_place.specs.Marks.{TargetsStand, block_place, label_place}
+use Rattle.code_place.specs.Sizes.{Fit}
+use Rattle.isr_save.specs.Start.{saving, restoring, start_code}
+
+-- ---- what is given
+-- the selects of a target's page, both, in either order, or as many as are needed
+abbrev pub are_page_selects : List Sym → Bool
+are_page_selects [] = true
+are_page_selects (syms.SelectPage bit target ∷ rest) = are_page_selects rest
+are_page_selects (_ ∷ rest) = false
+
+-- The vector stands behind four words: it saves main's context, goes to the handler, and behind the label `Restore` gives the
+-- context back.
+pub record HasVector (list : List Sym) (handler : ℕ) : Type 0 where
+  pub before : List Sym
+  pub four : words_in before ≡ 4
+  pub selects : List Sym
+  pub of_page : are_page_selects selects ≡ true
+  pub behind : List Sym
+  pub whole : list ≡ before ++ saving ++ selects ++ (syms.Goto (targets.Block (Copy handler)) ∷ []) ++ restoring ++ behind
+
+abbrev pub HasVectorFor : List Sym → Option ℕ → Type 0
+HasVectorFor list None = Unit {0}
+HasVectorFor list (Some handler) = HasVector list handler
+
+-- an image that these blocks make, with their selects
+-- what the objects begin as
+abbrev pub held_in : List (Vec FirstByte Global) → List (List Held)
+held_in statics = map (λ (object : Vec FirstByte Global). map first_held object.items) statics
+
+pub record IsAssembled (blocks : List SymBlock) (at : List ℕ) (placed : Placed) (handler : Option ℕ) (statics : List (Vec FirstByte Global)) (image : List ℕ) (watch : Watch) (g : Setting) : Type 0 where
+  pub code : g.program ≡ program_of blocks handler placed
+  pub banked : g.banked ≡ true
+  pub pages : g.page_of ≡ page_of blocks at
+  pub fit : Fit blocks at
+  pub words : HoldsInstructions placed blocks at image
+  pub named : BlocksHaveAddresses placed blocks at
+  pub targets : TargetsStand blocks at
+  pub main : block_place blocks at (Copy 0) ≡ Some watch.main
+  pub halt : label_place blocks at Halt ≡ Some watch.halt
+  -- the start block stands at 0000h
+  pub starts : block_place blocks at Start ≡ Some 0
+  pub start : bare (block_in blocks Start) ≡ start_code handler statics
+  pub vector : HasVectorFor (block_in blocks Start) handler
+  pub ranges : watch.ranges ≡ g.program.layout.objects
+  -- objects and frames have their places, and both chains of calls and the interrupt fit the return stack
+  pub reaches : ℕ → ℕ → Bool
+  pub laid_out : IsLaidOut reaches g.program.layout
+  pub depth : g.limit false + 1 + g.limit true ≤ 8
+
+-- ---- the early run
+abbrev pub one_each : BlockName → ℕ → ℕ
+one_each name n = 1
+
+-- how many instructions more than a stretch of the early run the chip may take for it: those of one return from the handler
+abbrev pub slack : ℕ
+slack = 192
+
+-- it is the first moment at which a trace has this length
+pub record ComesTo {E : Type 0} (run : Run E) (long at : ℕ) : Type 0 where
+  pub here : length (run.trace at) ≡ long
+  pub before : (i : ℕ) → i < at → length (run.trace i) < long
+
+-- whose frame a byte is of: main's stay while the handler runs, and the handler's while main does
+abbrev pub is_kept : Bool → Owner → Bool
+is_kept true (Of Main) = true
+is_kept false (Of Isr) = true
+is_kept handling _ = false
+
+module _ (g : Setting) (c : chip.Setting) where
+  -- what comes from outside: the inputs, and the arrivals up to moment n where they fall in the chip's trace
+  abbrev pub outside_at : ℕ → Outside
+  outside_at n = outside_of c.inputs (read_off (λ k. (moment c k).trace) n c.arrivals)
+
+  abbrev pub early : Entry → Registers → Memory → ℕ → Run (Happening ℕ)
+  early e r m n = run_of g one_each e (outside_at n) (sym_start g.program r m)
+
+  -- Under the schedule read off up to each moment k + 1 no step is stuck that comes after at most k instructions, while its trace is
+  -- no longer than the chip's at moment k.
+  abbrev pub IsRunning : Entry → Registers → Memory → ℕ → Type 0
+  IsRunning e r m n =
+      (k i : ℕ) → k < n → (early e r m (k + 1)).least i ≤ k → length ((early e r m (k + 1)).trace i) ≤ length (moment c k).trace
+      → (early e r m (k + 1)).goes i ≡ true
+
+  -- no flag arrives behind moment t and up to moment n
+  abbrev pub IsQuiet : ℕ → ℕ → Type 0
+  IsQuiet t n = (a : Arrival) → Contains c.arrivals a → t < a.t → n < a.t
+
+  -- ---- what is kept
+  -- At moment n the early run has come to one of its own, this one or a later one: their traces are the same, and behind main's
+  -- first instruction so is each byte of a static object that isn't const.
+  pub record IsMet (e : Entry) (r : Registers) (m : Memory) (n least : ℕ) : Type 0 where
+    pub at : ℕ
+    pub behind : least ≤ at
+    pub trace : (moment c n).trace ≡ map event_of ((early e r m n).trace at)
+    pub bytes : (k : ℕ) (cell : Cell) → (moment c n).met ≡ true → owner g.program.layout k ≡ Watched cell
+        → slice_index (moment c n).state.ram k ≡ (sym_run g e (outside_at n) at (sym_start g.program r m)).memory k
+
+  -- From these registers and bytes on, which main finds, and with these registers, which the handler finds at its entries.
+  pub record Arrives (e : Entry) (r : Registers) (m : Memory) : Type 0 where
+    pub meets : (n : ℕ) → IsRunning e r m n → IsMet e r m n 0
+    -- Where no flag arrives any more, the chip takes no more instructions for a stretch than the early run, and a few.
+    pub pace : (n t i j : ℕ) → IsRunning e r m n → t ≤ n → IsQuiet t n → ComesTo (early e r m n) (length (moment c t).trace) i
+        → (early e r m n).most j + slack ≤ (early e r m n).most i + (n - t) → IsMet e r m n j
+    pub no_underflow : (n k : ℕ) → IsRunning e r m n → k ≤ n → (moment c k).state.pops ≤ (moment c k).state.pushes
+    pub no_overflow : (n k : ℕ) → IsRunning e r m n → k ≤ n → (moment c k).state.pushes ≤ (moment c k).state.pops + 8
+    pub frames : (n k b : ℕ) → IsRunning e r m n → k < n → (moment c k).met ≡ true
+        → is_kept (is_handling (arriving c.arrivals k) (moment c k)) (owner g.program.layout b) ≡ true
+        → slice_index (moment c (k + 1)).state.ram b ≡ slice_index (moment c k).state.ram b
+
+-- What is kept from reset on: main is met soon, with its objects holding their first bytes, and no device register is accessed before.
+pub record IsKept (g : Setting) (first : List (List Held)) (c : chip.Setting) : Type 0 where
+  pub start_up : (moment c 4096).met ≡ true
+  pub no_early_access : (n : ℕ) → (moment c n).early ≡ []
+  pub entry : Entry
+  pub registers : Registers
+  pub memory : Memory
+  pub entries : AreEntries entry
+  pub begun : IsBegun first g.program.layout registers memory
+  pub arrives : Arrives g c entry registers memory
+
+-- what start block, words and context promise together: for every start, input list and arrival list
+abbrev pub Arriving : Type 0
+Arriving =
+    (blocks : List SymBlock) (at : List ℕ) (placed : Placed) (handler : Option ℕ) (statics : List (Vec FirstByte Global)) (g : Setting) (c : chip.Setting)
+    → IsAssembled blocks at placed handler statics c.image c.watch g → IsStart c.start → All (λ byte. byte < 256) c.inputs
+    → IsKept g (held_in statics) c

@@ -1,0 +1,109 @@
+-- What selection and the helpers keep together: symbolic code follows byte code.
+use Rattle.std.specs.Prelude.{ℕ, ◌+◌, ◌≡◌, ◌<◌, ◌≤◌, Bool, true, false, List, [], ◌∷◌, ◌++◌, length, Some, slice_get}
+use Rattle.std.specs.List.{All, Contains}
+use Rattle.pic_world.specs.World.{Outside, event_as}
+use Rattle.pic_world.specs.declared.Root.{Root}
+use Rattle.pic_world.specs.declared.Root.TheVariants.{Main, Isr}
+use Rattle.run_links.specs.Runs.{Goes, Follows, IsSlow}
+use Rattle.c_ints.specs.declared.operators.BinOp.{BinOp}
+use Rattle.c_ints.specs.declared.types.IntTy.{IntTy}
+use Rattle.c_typed.specs.Calls.{int_helper}
+use Rattle.c_typed.specs.declared.calls.FnId.TheVariants as callee
+use Rattle.c_typed.specs.declared.calls.Helper.{Helper}
+use Rattle.call_graph.specs.Numbers.{handler_at, copy_of}
+use Rattle.call_graph.specs.declared.types.FnCopy.{FnCopy}
+use Rattle.core_code.specs.Bytes.{Held, Unset, Number, Part, Fixed, FrameOf}
+use Rattle.core_code.specs.Machine.{Program}
+use Rattle.core_code.specs.Runs as core
+use Rattle.core_code.specs.Tree.{Tree, Leave}
+use Rattle.core_code.specs.View.{trees_in}
+use Rattle.core_code.specs.declared.code.Body.{Body}
+use Rattle.sym_code.specs.Correct.{IsBegun, AreEntries}
+use Rattle.sym_code.specs.Effect.{Setting, Memory}
+use Rattle.sym_code.specs.Layout.{IsLaidOut, IsOf, frame, shown}
+use Rattle.sym_code.specs.Machine.{Entry, sym_start}
+use Rattle.sym_code.specs.Registers.{Registers}
+use Rattle.sym_code.specs.Runs as sym
+use Rattle.sym_code.specs.declared.code.BlockName.{BlockName}
+use Rattle.sym_code.specs.declared.code.BlockName.TheVariants.{Copy}
+use Rattle.sym_code.specs.declared.code.Sym.{Sym}
+use Rattle.sym_code.specs.declared.code.Sym.TheVariants.{Label, Literal, Plain}
+use Rattle.math_helpers.specs.Routines.{helper_code}
+use Rattle.math_helpers.specs.Shape.{frame_size, ArePriced}
+use Rattle.select_wide.specs.Blocks.{is_user, body_at, code_by}
+
+-- ---- what is given
+-- a number fits into a byte, and a pointer points to an object that is there
+abbrev pub IsFirst : ℕ → Held → Type 0
+IsFirst objects Unset = Unit {0}
+IsFirst objects (Number n) = n < 256
+IsFirst objects (Part (Fixed n) offset high) = n < objects
+IsFirst objects (Part (FrameOf c) offset high) = ⊥
+
+-- The body of a copy that is no helper: it is that of its number, and ends by leaving.
+pub record IsBody (q : Program) (bodies : List Body) (c : ℕ) : Type 0 where
+  pub body : Body
+  pub there : body_at bodies c ≡ Some body
+  pub code : q.body c ≡ trees_in body.code.items
+  pub root : q.root c ≡ body.root
+  pub front : List Tree
+  pub leaves : q.body c ≡ front ++ Leave ∷ []
+
+-- the most that an instruction costs with the selects before it: two for a byte's bank or a target's page
+abbrev pub dearest : Sym → ℕ
+dearest (Label label) = 0
+dearest (Literal op value) = 1
+dearest (Plain op) = 1
+dearest _ = 3
+
+abbrev pub is_inside : Root → Bool
+is_inside Main = false
+is_inside Isr = true
+
+-- Calls go up by levels, and so few of them wait at a time as the limit says.
+pub record HasLevels (q : Program) (copies : List FnCopy) (limit : Bool → ℕ) (level : ℕ → ℕ) : Type 0 where
+  pub calls : (c d : ℕ) → q.calls c d ≡ true → level c < level d
+  pub helpers : (c d : ℕ) (op : BinOp) (ty : IntTy) (h : Helper) → q.helped c op ty ≡ true → int_helper op false ty ≡ Some h → copy_of copies (q.root c) h ≡ Some d → level c < level d
+  pub within : (c : ℕ) → c < length copies → level c ≤ limit (is_inside (q.root c))
+
+-- ---- a program of symbolic code that was selected for one of byte code
+pub record IsSelected (q : Program) (copies : List FnCopy) (bodies : List Body) (reaches : ℕ → ℕ → Bool) (g : Setting) (price : BlockName → ℕ → ℕ) : Type 0 where
+  -- each body has its block, and each helper its routine
+  pub bodies_there : (c : ℕ) (copy : FnCopy) → slice_get copies c ≡ Some copy → is_user copy.function ≡ true → IsBody q bodies c
+  pub blocks : (c : ℕ) (copy : FnCopy) → slice_get copies c ≡ Some copy → is_user copy.function ≡ true → g.program.block (Copy c) ≡ code_by copies c (body_at bodies c)
+  pub routines : (c : ℕ) (copy : FnCopy) (h : Helper) → slice_get copies c ≡ Some copy → copy.function ≡ callee.Helper h → g.program.block (Copy c) ≡ helper_code h copy.root c
+  pub roots : (c : ℕ) (copy : FnCopy) → slice_get copies c ≡ Some copy → q.root c ≡ copy.root
+  pub handler : q.handler ≡ handler_at copies
+  pub same_handler : g.program.handler ≡ q.handler
+  pub no_selects : g.banked ≡ false
+  -- the first bytes
+  pub first : All (All (IsFirst (length q.first))) q.first
+  -- each object and frame has its place, and frames that may be live together are apart
+  pub layout : IsOf q.first q.is_watched (length copies) q.frame_bytes q.root g.program.layout
+  pub routine_frames : (c : ℕ) (copy : FnCopy) (h : Helper) → slice_get copies c ≡ Some copy → copy.function ≡ callee.Helper h → frame_size h ≤ (frame g.program.layout c).size
+  pub laid_out : IsLaidOut reaches g.program.layout
+  pub reach_on : (c d e : ℕ) → reaches c d ≡ true → reaches d e ≡ true → reaches c e ≡ true
+  pub reach_called : (c d : ℕ) → q.calls c d ≡ true → reaches c d ≡ true
+  pub reach_routine : (c d : ℕ) (op : BinOp) (ty : IntTy) (h : Helper) → q.helped c op ty ≡ true → int_helper op false ty ≡ Some h → copy_of copies (q.root c) h ≡ Some d → reaches c d ≡ true
+  -- the return stack suffices
+  pub level : ℕ → ℕ
+  pub levels : HasLevels q copies g.limit level
+  -- what instructions cost
+  pub prices : (c i : ℕ) (s : Sym) → slice_get (g.program.block (Copy c)) i ≡ Some s → price (Copy c) i ≤ dearest s
+  pub routine_prices : (c : ℕ) (copy : FnCopy) (h : Helper) → slice_get copies c ≡ Some copy → copy.function ≡ callee.Helper h → ArePriced (price (Copy c)) (helper_code h copy.root c)
+
+-- ---- what is kept
+-- Under every schedule, from anything that main may find and whatever the handler finds at its entries, as long as byte code isn't
+-- stuck.
+abbrev pub SelectionKeeps : Program → Setting → (BlockName → ℕ → ℕ) → Type 0
+SelectionKeeps q g price =
+    (o : Outside) → All (λ byte. byte < 256) o.input → (e : Entry) (r : Registers) (m : Memory) → AreEntries e → IsBegun q.first g.program.layout r m
+    → (n : ℕ) → Goes (core.run_of (record { program = q; outside = o })) n
+    → (link : Follows (event_as (shown g.program.layout)) (core.run_of (record { program = q; outside = o })) (sym.run_of g price e o (sym_start g.program r m)) n)
+    × IsSlow (event_as (shown g.program.layout)) (core.run_of (record { program = q; outside = o })) (sym.run_of g price e o (sym_start g.program r m)) n link
+
+-- what selection promises
+abbrev pub Selects : Type 0
+Selects =
+    (q : Program) (copies : List FnCopy) (bodies : List Body) (reaches : ℕ → ℕ → Bool) (g : Setting) (price : BlockName → ℕ → ℕ)
+    → IsSelected q copies bodies reaches g price → SelectionKeeps q g price
