@@ -7,3 +7,4 @@ pub mod Agreement
 pub mod Headline
 pub mod SourceOf
 pub mod Accepted
+pub mod Joined

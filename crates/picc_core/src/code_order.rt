@@ -10,7 +10,7 @@ use std::alloc::{AllocError, Global};
 /// Where a copy's block stands: the copies of main's root first, within a root the functions in order of definition,
 /// and the helpers behind them.
 #[derive(Clone, Copy, PartialEq, Eq, PartialOrd, Ord, Debug)]
-struct Rank {
+pub struct Rank {
     is_handlers: bool,
     is_helper: bool,
     number: u32,
@@ -41,19 +41,7 @@ pub fn code_order(alloc: Global, copies: &Copies) -> Result<Vec<FnCopy>, AllocEr
     Ok(order)
 }
 
-fn rank_at(copies: &Copies, number: u16) -> Option<Rank> {
+/// Where the block of the copy with this number stands.
+pub fn rank_at(copies: &Copies, number: u16) -> Option<Rank> {
     copies.list.get(number as usize).map(|copy| rank_of(*copy))
-}
-
-/// The numbers of the copies in the order of code. A copy whose number is over 65,535 has none.
-pub fn code_numbers(alloc: Global, copies: &Copies) -> Result<Vec<u16>, AllocError> {
-    let mut numbers = Vec::new(alloc);
-    for number in 0..=u16::MAX {
-        if copies.list.len() <= number as usize {
-            break;
-        }
-        numbers.push(number)?;
-    }
-    numbers.sort_by_key(|number| rank_at(copies, *number))?;
-    Ok(numbers)
 }

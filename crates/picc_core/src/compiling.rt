@@ -17,97 +17,15 @@ ghost use Rattle.picc_core.specs.declared.refusal.LimitKind.TheVariants as kinds
 ghost use Rattle.picc_core.specs.declared.refusal.Refusal.{Refusal};
 ghost use Rattle.picc_core.specs.declared.refusal.Refusal.TheVariants as refusals;
 
-use crate::code_order::code_numbers;
+use crate::joining::symbolic;
 use crate::known::{Built, Front};
 use crate::map_range::can_be_written;
 use crate::refusal::CompileError;
 use crate::stages::front;
-use bank_page::selects;
-use call_graph::{Copies, FnId};
 use code_place::assemble;
-use core_code::CoreProgram;
-use isr_save::start_block;
 use lower_stmt::lower;
-use math_helpers::helper;
-use pic_world::Root;
 use pic_map::Map;
-use pic_map::Placed;
-use select_wide::select;
 use std::alloc::{AllocError, Global};
-use std::collections::BTreeMap;
-use sym_code::{BlockName, SymBlock, SymProgram};
-
-/// The blocks of the copies, by number.
-type Blocks = BTreeMap<u16, SymBlock>;
-
-/// The number of the handler's copy, if there is a handler: it is the first of its root.
-fn handler_of(copies: &Copies) -> Option<u16> {
-    let place = copies.list.iter().position(|copy| copy.root == Root::Isr)?;
-    u16::try_from(place).ok()
-}
-
-fn put_functions(blocks: &mut Blocks, program: SymProgram) -> Result<(), AllocError> {
-    for block in program.blocks {
-        if let BlockName::Copy(number) = block.name {
-            blocks.insert(number, block)?;
-        }
-    }
-    Ok(())
-}
-
-fn put_helpers(alloc: Global, blocks: &mut Blocks, copies: &Copies) -> Result<(), AllocError> {
-    for number in 0..=u16::MAX {
-        let Some(copy) = copies.list.get(number as usize) else {
-            return Ok(());
-        };
-        if let FnId::Helper(routine) = copy.function {
-            blocks.insert(number, helper(alloc, routine, copy.root, number)?)?;
-        }
-    }
-    Ok(())
-}
-
-/// The start block, and behind it the blocks of the copies in the order of code.
-fn in_code_order(
-    alloc: Global,
-    start: SymBlock,
-    mut blocks: Blocks,
-    copies: &Copies,
-) -> Result<SymProgram, AllocError> {
-    let mut list = Vec::new(alloc);
-    list.push(start)?;
-    for number in code_numbers(alloc, copies)? {
-        if let Some(block) = blocks.remove(&number) {
-            list.push(block)?;
-        }
-    }
-    Ok(SymProgram { blocks: list })
-}
-
-/// The symbolic code of a program without selects: the start block, and behind it the blocks of the copies in the order of code.
-pub fn joined(
-    alloc: Global,
-    core: &CoreProgram,
-    copies: &Copies,
-    placed: &Placed,
-) -> Result<SymProgram, AllocError> {
-    let mut blocks = BTreeMap::new(alloc);
-    put_functions(&mut blocks, select(alloc, core, copies)?)?;
-    put_helpers(alloc, &mut blocks, copies)?;
-    let start = start_block(alloc, placed, core, handler_of(copies))?;
-    in_code_order(alloc, start, blocks, copies)
-}
-
-/// The same with its selects.
-fn symbolic(
-    alloc: Global,
-    core: &CoreProgram,
-    copies: &Copies,
-    placed: &Placed,
-) -> Result<SymProgram, AllocError> {
-    let program = joined(alloc, core, copies, placed)?;
-    selects(alloc, &program, placed)
-}
 
 /// The image and the map of what is known of a text.
 fn built(alloc: Global, front: Front) -> Result<Built, AllocError>

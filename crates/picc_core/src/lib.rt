@@ -8,6 +8,7 @@
 mod agreeing;
 mod code_order;
 mod compiling;
+mod joining;
 mod known;
 mod map_range;
 mod refusal;
@@ -16,7 +17,8 @@ mod stages;
 
 pub use agreeing::{Agreed, agree};
 pub use c_check::{Kind, RootKind};
-pub use compiling::{compile, joined};
+pub use compiling::compile;
+pub use joining::joined;
 pub use known::{Built, Front};
 pub use refusal::{CompileError, LimitKind, Refusal};
 pub use src_machine::Undef;

@@ -30,7 +30,7 @@ mod single;
 mod sums;
 
 pub use calls::helper_of;
-pub use selection::select;
+pub use selection::{handler_at, select};
 
 #[cfg(test)]
 mod tests;

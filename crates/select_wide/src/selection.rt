@@ -216,8 +216,8 @@ fn body_of(bodies: &[Body], number: u16) -> Option<&Body>
     None
 }
 
-// The handler's copy is the first under its root.
-fn handler_at(list: &[FnCopy]) -> Option<usize>
+/// The number of the handler's copy, which is the first under its root; none where there is no handler.
+pub fn handler_at(list: &[FnCopy]) -> Option<usize>
     ensures { result ≡ handler_at list.now }
 {
     list.iter()

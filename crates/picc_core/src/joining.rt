@@ -1,0 +1,101 @@
+//! The blocks of a program, joined to its symbolic code.
+
+ghost use Rattle.std.specs.Prelude.{◌≡◌, ◌++◌, IfOk, OnOk};
+ghost use Rattle.std.specs.List.Sorted.{IsPermutation};
+ghost use Rattle.select_wide.specs.Blocks.{views_of};
+ghost use Rattle.picc_core.specs.Joined.{helper_at, helpers_from, IsNumbered, IsJoined};
+
+use crate::code_order::rank_at;
+use bank_page::selects;
+use call_graph::{Copies, FnCopy, FnId};
+use core_code::CoreProgram;
+use isr_save::start_block;
+use math_helpers::helper;
+use pic_map::Placed;
+use select_wide::{handler_at, select};
+use std::alloc::{AllocError, Global};
+use sym_code::{BlockName, SymBlock, SymProgram};
+
+// The number of a copy as blocks have it.
+fn numbered(number: Option<usize>) -> Result<Option<u16>, AllocError>
+    ensures { IfOk result (IsNumbered number) }
+{
+    match number {
+        Some(number) if number <= 0xFFFF => Ok(Some(number as u16)),
+        Some(_) => Err(AllocError),
+        None => Ok(None),
+    }
+}
+
+// One more block, where the copy with this number is a helper's.
+#[tactic(auto, using(crate::proofs::Joined::helper_put, crate::proofs::Joined::none_put))]
+fn put_helper(
+    alloc: Global,
+    copy: FnCopy,
+    number: usize,
+    blocks: &mut Vec<SymBlock>,
+) -> Result<(), AllocError>
+    ensures { OnOk result (views_of blocks.new.items ≡ views_of blocks.old.items ++ helper_at number copy) }
+{
+    if number > 0xFFFF {
+        return Err(AllocError);
+    }
+    if let FnId::Helper(routine) = copy.function {
+        blocks.push(helper(alloc, routine, copy.root, number as u16)?)?;
+    }
+    Ok(())
+}
+
+// The blocks of the helpers behind some others, in the order of their copies.
+fn put_helpers(
+    alloc: Global,
+    list: &[FnCopy],
+    blocks: &mut Vec<SymBlock>,
+) -> Result<(), AllocError>
+    ensures { OnOk result (views_of blocks.new.items ≡ views_of blocks.old.items ++ helpers_from 0 list.now) }
+{
+    for number in 0..list.len() {
+        put_helper(alloc, list[number], number, blocks)?;
+    }
+    Ok(())
+}
+
+// The blocks in the order of code.
+fn in_code_order(mut blocks: Vec<SymBlock>, copies: &Copies) -> Result<Vec<SymBlock>, AllocError>
+    ensures { IfOk result (λ order. IsPermutation blocks.items order.items) }
+{
+    blocks.sort_by_key(|block| match block.name {
+        BlockName::Start => None,
+        BlockName::Copy(number) => rank_at(copies, number),
+    })?;
+    Ok(blocks)
+}
+
+/// The symbolic code of a program without selects: the start block, and behind it the blocks of the copies in the order of code.
+pub fn joined(
+    alloc: Global,
+    core: &CoreProgram,
+    copies: &Copies,
+    placed: &Placed,
+) -> Result<SymProgram, AllocError>
+    // Each copy has its block, a function the one that is selected for its body and a helper its routine, and none is lost.
+    ensures whole { IfOk result (λ program. IsJoined core.now copies.now.list.items program.blocks.items) }
+{
+    let handler = numbered(handler_at(&copies.list))?;
+    let mut blocks = select(alloc, core, copies)?.blocks;
+    put_helpers(alloc, &copies.list, &mut blocks)?;
+    let mut order = in_code_order(blocks, copies)?;
+    order.insert(0, start_block(alloc, placed, core, handler)?)?;
+    Ok(SymProgram { blocks: order })
+}
+
+/// The same with its selects.
+pub fn symbolic(
+    alloc: Global,
+    core: &CoreProgram,
+    copies: &Copies,
+    placed: &Placed,
+) -> Result<SymProgram, AllocError> {
+    let program = joined(alloc, core, copies, placed)?;
+    selects(alloc, &program, placed)
+}
