@@ -4,6 +4,7 @@ ghost use Rattle.std.specs.Prelude.{◌≡◌, IsTrue};
 ghost use Rattle.sym_code.specs.Selects.{is_rp, is_select};
 ghost use Rattle.bank_page.specs.Kinds as kinds;
 ghost use Rattle.bank_page.specs.Needs as stated;
+ghost use Rattle.sym_code.specs.Words.{is_common};
 ghost use Rattle.code_place.specs.Addresses as addresses;
 
 use crate::known::{writes_pclath, writes_status};
@@ -84,7 +85,7 @@ pub fn is_skip(sym: Sym) -> bool
 // Whether the byte is in every bank (Microchip data sheet DS39582, register file map): the results, INTCON, and the registers
 // of the core.
 fn is_common(byte: Byte) -> bool
-    ensures { result ≡ addresses.is_common byte }
+    ensures { result ≡ is_common byte }
 {
     match byte {
         Byte::Static { .. } => false,

@@ -1,6 +1,7 @@
 //! How many words symbolic code has, and whether blocks fit where they stand.
 
 ghost use Rattle.std.specs.Prelude.{◌≡◌, ◌+◌, ◌<◌, ◌≤◌, IsTrue};
+ghost use Rattle.sym_code.specs.Words.{words_of_one, words_in};
 ghost use Rattle.code_place.specs.Sizes as stated;
 
 use crate::{MEMORY_WORDS, PAGE_WORDS};
@@ -8,7 +9,7 @@ use sym_code::{Sym, SymBlock, SymProgram};
 
 /// How many words a symbolic instruction becomes.
 pub fn words_of_one(sym: Sym) -> u64
-    ensures value { result ≡ stated.words_of_one sym }
+    ensures value { result ≡ words_of_one sym }
     ensures few { result ≤ 1 }
 {
     match sym {
@@ -19,7 +20,7 @@ pub fn words_of_one(sym: Sym) -> u64
 
 /// How many words a block becomes: a label none, and each instruction one.
 pub fn real_words(block: &SymBlock) -> u64
-    ensures exact { result ≡ stated.words_in block.now.list.items }
+    ensures exact { result ≡ words_in block.now.list.items }
 {
     let mut words = 0;
     for sym in &block.list {

@@ -1,6 +1,6 @@
 -- What selection and the helpers keep together: symbolic code follows byte code.
-use Rattle.std.specs.Prelude.{ℕ, ◌+◌, ◌≡◌, ◌<◌, ◌≤◌, Bool, true, false, List, [], ◌∷◌, ◌++◌, length, Some, slice_get}
-use Rattle.std.specs.List.{All, Contains}
+use Rattle.std.specs.Prelude.{ℕ, ◌+◌, ◌≡◌, ◌<◌, ◌≤◌, Bool, true, false, List, [], ◌∷◌, ◌++◌, length, take, drop, Some, slice_get}
+use Rattle.std.specs.List.{All, sum_by}
 use Rattle.pic_world.specs.World.{Outside, event_as}
 use Rattle.pic_world.specs.declared.Root.{Root}
 use Rattle.pic_world.specs.declared.Root.TheVariants.{Main, Isr}
@@ -29,7 +29,7 @@ use Rattle.sym_code.specs.declared.code.BlockName.TheVariants.{Copy}
 use Rattle.sym_code.specs.declared.code.Sym.{Sym}
 use Rattle.sym_code.specs.declared.code.Sym.TheVariants.{Label, Literal, Plain}
 use Rattle.math_helpers.specs.Routines.{helper_code}
-use Rattle.math_helpers.specs.Shape.{frame_size, ArePriced}
+use Rattle.math_helpers.specs.Shape.{frame_size, is_straight, sum_from, ArePriced}
 use Rattle.select_wide.specs.Blocks.{is_user, body_at, code_by}
 
 -- ---- what is given
@@ -55,6 +55,11 @@ dearest (Label label) = 0
 dearest (Literal op value) = 1
 dearest (Plain op) = 1
 dearest _ = 3
+
+-- Wherever some instructions stand one behind the other, and the last of them is no skip, before which the selects of the following
+-- one would stand, they cost no more than this together.
+abbrev pub AreDear : (ℕ → ℕ) → List Sym → Type 0
+AreDear price list = (n : ℕ) (part : List Sym) → take (length part) (drop n list) ≡ part → is_straight part ≡ true → sum_from price n part ≤ sum_by dearest part
 
 abbrev pub is_inside : Root → Bool
 is_inside Main = false
@@ -89,7 +94,7 @@ pub record IsSelected (q : Program) (copies : List FnCopy) (bodies : List Body) 
   pub level : ℕ → ℕ
   pub levels : HasLevels q copies g.limit level
   -- what instructions cost
-  pub prices : (c i : ℕ) (s : Sym) → slice_get (g.program.block (Copy c)) i ≡ Some s → price (Copy c) i ≤ dearest s
+  pub prices : (c : ℕ) (copy : FnCopy) → slice_get copies c ≡ Some copy → is_user copy.function ≡ true → AreDear (price (Copy c)) (g.program.block (Copy c))
   pub routine_prices : (c : ℕ) (copy : FnCopy) (h : Helper) → slice_get copies c ≡ Some copy → copy.function ≡ callee.Helper h → ArePriced (price (Copy c)) (helper_code h copy.root c)
 
 -- ---- what is kept
