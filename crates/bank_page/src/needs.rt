@@ -5,7 +5,6 @@ ghost use Rattle.sym_code.specs.Selects.{is_rp, is_select};
 ghost use Rattle.bank_page.specs.Kinds as kinds;
 ghost use Rattle.bank_page.specs.Needs as stated;
 ghost use Rattle.sym_code.specs.Words.{is_common};
-ghost use Rattle.code_place.specs.Addresses as addresses;
 
 use crate::known::{writes_pclath, writes_status};
 use code_place::address_of;
