@@ -23,10 +23,11 @@ use Rattle.src_values.specs.declared.objects.Spot.{Spot}
 use Rattle.src_values.specs.declared.objects.Spot.TheVariants as spots
 use Rattle.src_values.specs.declared.objects.Undef.TheVariants.{Unset}
 
--- the value of an operator, or why it is undefined
+-- the value of an operator, or why it is undefined; or no rule is there
 abbrev pub answered : Answer → ℕ → List Pending → CopyOf → Memory → World Byte → Outcome
 answered (answers.Gives v) line k c m w = goes c (Holds v) k m w
 answered (answers.Fails kind) line k c m w = Undefined kind line
+answered answers.Strays line k c m w = Lost
 
 -- a value that is used goes on with this; a missing one is undefined
 abbrev pub used : Datum → ℕ → Outcome → Outcome
@@ -59,6 +60,7 @@ truth_given (Some holds) line k c m w = goes c (Holds (truth_value holds)) k m w
 abbrev pub changes : Answer → Expression → Spot → Bool → Datum → ℕ → List Pending → CopyOf → Memory → World Byte → Outcome
 changes (answers.Gives v) e spot keeps old line k c m w = goes c (Write spot v 0) (In e (Stores spot (if keeps then old else v)) ∷ k) m w
 changes (answers.Fails kind) e spot keeps old line k c m w = Undefined kind line
+changes answers.Strays e spot keeps old line k c m w = Lost
 
 -- ---- an expression takes the value of a part
 abbrev pub take_in : Setting → Expression → Got → Datum → List Pending → CopyOf → Memory → World Byte → Outcome

@@ -6,7 +6,7 @@ use crate::machine::{Machine, Outcome, undefined};
 use c_ints::BinOp;
 use c_typed::{LogicalOp, StepOp, TExpr};
 use src_values::pointers::difference;
-use src_values::values::{converted, one_in, truth_of, truth_value, unary_answer};
+use src_values::values::{Answer, converted, one_in, truth_of, truth_value, unary_answer};
 use src_values::{Datum, Pointer, Spot, Undef};
 
 /// Whether the left operand of `&&` or `||` decides.
@@ -25,11 +25,12 @@ fn step_operator(op: StepOp) -> BinOp {
 }
 
 impl<'a> Machine<'a> {
-    // The value of an operator, or why it is undefined.
-    fn answered(&mut self, answer: Result<Datum, Undef>, line: u32) -> Outcome {
+    // The value of an operator, or why it is undefined; or no rule is there.
+    fn answered(&mut self, answer: Answer, line: u32) -> Outcome {
         match answer {
-            Ok(value) => self.go(Focus::Holds(value)),
-            Err(kind) => undefined(kind, line),
+            Answer::Gives(value) => self.go(Focus::Holds(value)),
+            Answer::Fails(kind) => undefined(kind, line),
+            Answer::Strays => Outcome::Lost,
         }
     }
 
@@ -123,12 +124,12 @@ impl<'a> Machine<'a> {
         &mut self,
         expr: &'a TExpr,
         spot: Spot,
-        answer: Result<Datum, Undef>,
+        answer: Answer,
         kept: Option<Datum>,
         line: u32,
     ) -> Outcome {
         match answer {
-            Ok(value) => {
+            Answer::Gives(value) => {
                 let stays = match kept {
                     Some(old) => old,
                     None => value,
@@ -136,7 +137,8 @@ impl<'a> Machine<'a> {
                 let focus = Focus::Write { spot, value, at: 0 };
                 self.go_waiting(focus, Pending::In(expr, Got::Stores(spot, stays)))
             }
-            Err(kind) => undefined(kind, line),
+            Answer::Fails(kind) => undefined(kind, line),
+            Answer::Strays => Outcome::Lost,
         }
     }
 
