@@ -170,9 +170,12 @@ impl<'a> Machine<'a> {
                 }
                 _ => Outcome::Lost,
             },
-            Stage::Turns | Stage::Chooses | Stage::Fills | Stage::Items(_) | Stage::Blanks => {
-                Outcome::Lost
-            }
+            Stage::Turns
+            | Stage::InArm(_)
+            | Stage::Chooses
+            | Stage::Fills
+            | Stage::Items(_)
+            | Stage::Blanks => Outcome::Lost,
         }
     }
 

@@ -110,8 +110,10 @@ impl<'a> Machine<'a> {
                 line,
                 ..
             } => match truth_of(value) {
-                Some(true) => self.go(Focus::Eval(then)),
-                Some(false) => self.go(Focus::Eval(otherwise)),
+                Some(true) => self.go_waiting(Focus::Eval(then), Pending::In(expr, Got::Chosen)),
+                Some(false) => {
+                    self.go_waiting(Focus::Eval(otherwise), Pending::In(expr, Got::Chosen))
+                }
                 None => undefined(Undef::Unset, *line),
             },
             TExpr::Comma { right, .. } => self.go(Focus::Eval(right)),
@@ -192,10 +194,19 @@ impl<'a> Machine<'a> {
         }
     }
 
+    // The operand that a condition chose has its value.
+    fn take_chosen(&mut self, expr: &'a TExpr, value: Datum) -> Outcome {
+        match expr {
+            TExpr::Conditional { .. } => self.go(Focus::Holds(value)),
+            _ => Outcome::Lost,
+        }
+    }
+
     /// An expression takes the value of a part.
     pub(crate) fn take_in(&mut self, expr: &'a TExpr, got: Got, value: Datum) -> Outcome {
         match got {
             Got::Nothing => self.take_condition(expr, value),
+            Got::Chosen => self.take_chosen(expr, value),
             Got::One(left) => self.take_right(expr, left, value),
             Got::At(spot) => self.take_at(expr, spot, value),
             Got::AtWith(spot, right) => self.take_old(expr, spot, right, value),
