@@ -89,8 +89,8 @@ pub data Stage : Type 0 where
   Fills : Stage
   -- the value or the place of an item of a list; these items follow it
   AtItem : Item → List Item → Stage
-  -- the bytes of an item before these
-  Items : List Item → Stage
+  -- the bytes of an item; these items follow it
+  Items : Item → List Item → Stage
   -- the bytes without an item
   Blanks : Stage
 

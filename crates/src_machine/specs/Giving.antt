@@ -140,7 +140,7 @@ take_for s (tree.Expr e line) Tests v k c m w = goes c Past k m w
 take_for s (tree.InitScalar local e line) Tests v k c m w =
     used v line (goes c (Write (behind (local_of s.program c local) 0) v 0) (Doing (tree.InitScalar local e line) Fills ∷ k) m w)
 take_for s (tree.InitList local all line) (AtItem (tree.Scalar offset e) rest) v k c m w =
-    used v line (goes c (Write (behind (local_of s.program c local) offset) v 0) (Doing (tree.InitList local all line) (Items rest) ∷ k) m w)
+    used v line (goes c (Write (behind (local_of s.program c local) offset) v 0) (Doing (tree.InitList local all line) (Items (tree.Scalar offset e) rest) ∷ k) m w)
 take_for s (tree.If chain otherwise line) (Picks (tree.OneArm condition chosen at) more) v k c m w =
     branch (truth_of v) at
     (goes c (Run chosen) (Doing (tree.If chain otherwise line) (InArm more) ∷ k) m w)

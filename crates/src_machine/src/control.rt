@@ -145,7 +145,7 @@ pub(crate) enum Stage {
     Fills,
     /// The value or the place of the item of this number.
     AtItem(usize),
-    /// The bytes of the item before the one of this number.
+    /// The bytes of the item of this number.
     Items(usize),
     /// The bytes without an item.
     Blanks,

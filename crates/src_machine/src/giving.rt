@@ -94,12 +94,11 @@ impl<'a> Machine<'a> {
         match items.get(at) {
             Some(TItem::Scalar { offset, .. }) => {
                 let spot = behind(self.local_of(local), *offset);
-                let rest = Stage::Items(at.saturating_add(1));
                 self.used(
                     value,
                     line,
                     Focus::Write { spot, value, at: 0 },
-                    Pending::Doing(code, rest),
+                    Pending::Doing(code, Stage::Items(at)),
                 )
             }
             _ => Outcome::Lost,
