@@ -186,15 +186,14 @@ fn block_object(
     outline: Outline,
     name: &[u8],
     line: u32,
-) -> Result<Option<TStmt>, CheckError> {
+    statements: &mut Vec<TStmt>,
+) -> Result<(), CheckError> {
     let ty = object_type(&checker.types, specified, outline, init.is_some(), line)?;
     let declarator = checker.body.next_declarator();
     if specified.storage == Storage::Static {
-        block_static(init, checker, declarator, name, ty, line)?;
-        Ok(None)
+        block_static(init, checker, declarator, name, ty, line)
     } else {
-        let statement = local_object(init, checker, specified, name, ty, line)?;
-        Ok(Some(statement))
+        local_object(init, checker, specified, name, ty, line, statements)
     }
 }
 
@@ -209,10 +208,7 @@ fn block_declarator(
     let name = &declared.declarator.name.bytes;
     let init = value_given(&declared.init);
     checker.scopes.refuse_again(name, line)?;
-    if let Some(statement) = block_object(init, checker, specified, outline, name, line)? {
-        statements.push(statement)?;
-    }
-    Ok(())
+    block_object(init, checker, specified, outline, name, line, statements)
 }
 
 /// A declaration of a block: what its declarators do comes behind the statements.

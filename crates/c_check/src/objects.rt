@@ -133,7 +133,7 @@ pub(crate) fn block_static(
     static_object(init, checker, map_name, name, ty, line)
 }
 
-/// A local: what its declarator does.
+/// A local: what its declarator does comes behind the statements.
 pub(crate) fn local_object(
     init: Option<&Init>,
     checker: &mut Checker,
@@ -141,13 +141,15 @@ pub(crate) fn local_object(
     name: &[u8],
     ty: Qualified,
     line: u32,
-) -> Result<TStmt, CheckError> {
+    statements: &mut Vec<TStmt>,
+) -> Result<(), CheckError> {
     let fixed = specified.storage == Storage::Register;
     let local = checker.body.add_local(name, ty, line)?;
     let object = Object::Local(local);
     bind_object(&mut checker.scopes, name, object, ty, fixed)?;
     let Some(init) = init else {
-        return Ok(TStmt::Declare { local, line });
+        statements.push(TStmt::Declare { local, line })?;
+        return Ok(());
     };
     let mut sink = Sink::new(checker.alloc, false, line);
     initialize(init, checker, whole_of(ty), false, &mut sink)?;
@@ -155,10 +157,11 @@ pub(crate) fn local_object(
     bind_object(&mut checker.scopes, name, object, ty, fixed)?;
     checker.body.complete_local(local, ty);
     if is_expression(init) || ty.ty.is_scalar() {
-        first_item(checker.alloc, local, ty, sink, line)
+        first_item(checker.alloc, local, ty, sink, line, statements)
     } else {
         let items = sink.items;
-        Ok(TStmt::InitList { local, items, line })
+        statements.push(TStmt::InitList { local, items, line })?;
+        Ok(())
     }
 }
 
@@ -169,17 +172,22 @@ fn is_expression(init: &Init) -> bool {
     }
 }
 
-// What the declarator of a local does that begins as one value: an integer or a pointer, or a structure.
+// What the declarator of a local does that begins as one value: an integer or a pointer, or a structure, which is assigned
+// once the local is unset.
 fn first_item(
     alloc: Global,
     local: u32,
     ty: Qualified,
     sink: Sink,
     line: u32,
-) -> Result<TStmt, CheckError> {
+    statements: &mut Vec<TStmt>,
+) -> Result<(), CheckError> {
     let mut items = sink.items;
     match items.pop() {
-        Some(TItem::Scalar { value, .. }) => Ok(TStmt::InitScalar { local, value, line }),
+        Some(TItem::Scalar { value, .. }) => {
+            statements.push(TStmt::InitScalar { local, value, line })?;
+            Ok(())
+        }
         Some(TItem::Struct { from, size, .. }) => {
             let place = TPlace::Name {
                 object: Object::Local(local),
@@ -192,7 +200,9 @@ fn first_item(
                 size,
                 line,
             };
-            Ok(TStmt::Expr { value, line })
+            statements.push(TStmt::Declare { local, line })?;
+            statements.push(TStmt::Expr { value, line })?;
+            Ok(())
         }
         _ => refused(Kind::Initializer, line),
     }

@@ -17,7 +17,7 @@ struct Worked {
 #[test]
 fn traces_of_programs(rt: HostRuntime) -> Result<(), Failure> {
     let alloc = rt.alloc();
-    let cases: [Worked; 18] = [
+    let cases: [Worked; 19] = [
         // one write
         Worked {
             text: "void main(void){PORTB=5;}",
@@ -129,6 +129,13 @@ fn traces_of_programs(rt: HostRuntime) -> Result<(), Failure> {
             script: "",
             status: 4,
             printed: "W q.0 22\nW q.1 00\nR q.0 22\nR q.1 00\na.c:1: undefined: inactive\n",
+        },
+        // a structure is unset again when its declarator is reached again
+        Worked {
+            text: "struct s{char a;};struct s g;\nvoid main(void){struct s*q;unsigned char i;q=&g;\nfor(i=0;i<2;i++){struct s b=*q;q=&b;}\nPORTB=1;}",
+            script: "",
+            status: 4,
+            printed: "R g.0 00\na.c:3: undefined: unset\n",
         },
         // a const table
         Worked {

@@ -5,9 +5,10 @@ use Rattle.c_ints.specs.declared.operators.BinOp.TheVariants as ops
 use Rattle.c_ints.specs.declared.types.IntTy.{IntTy}
 use Rattle.c_ints.specs.declared.types.IntTy.TheVariants as int
 use Rattle.c_typed.specs.Trees as tree
-use Rattle.c_typed.specs.Trees.{Expression, Place, Statement, Statements, FunctionTree, StaticTree, VariableTree, Program}
+use Rattle.c_typed.specs.Trees.{Expression, Place, Statement, Statements, Arm, FunctionTree, StaticTree, VariableTree, Program}
 use Rattle.c_typed.specs.declared.expression.Object.TheVariants as names
 use Rattle.c_typed.specs.declared.expression.StepOp.TheVariants as steps
+use Rattle.c_typed.specs.declared.statement.LoopForm.TheVariants as forms
 use Rattle.c_typed.specs.declared.program.Initial.{Initial}
 use Rattle.c_typed.specs.declared.program.InitialByte.TheVariants as initial
 use Rattle.c_typed.specs.declared.types.Qualified.{Qualified}
@@ -105,6 +106,39 @@ static_of ty bytes = record { name = codes "x"; ty = plain ty; initial = bytes; 
 
 abbrev pub program_of : List StaticTree → List FunctionTree → Program
 program_of statics functions = record { targets = plain uchar ∷ plain to_uchar ∷ []; structures = []; sizes = []; statics = statics; functions = functions }
+
+-- ---- choices
+abbrev pub for_ever : Statement → Statement
+for_ever body = tree.Loop forms.For None None None body 1
+
+abbrev pub block : List Statement → Statement
+block ts = tree.Block (statements ts) 1
+
+abbrev pub arm : Expression → Statement → Arm
+arm condition chosen = tree.OneArm condition chosen 1
+
+abbrev pub input_at : ℕ → Expression
+input_at address = tree.Read (device address) uchar 1
+
+abbrev pub choose : Expression → Expression → Expression → Expression
+choose condition chosen otherwise = tree.Conditional condition chosen otherwise sint 1
+
+-- void main(void) { for (;;) if (PORTA) PORTB = 1; else if (1) { PORTB = PORTA ? 3 : PORTC ? 4 : 5; break; } }
+abbrev pub chooses : Program
+chooses = program_of []
+    (main_of []
+    (for_ever
+    (tree.If
+    (tree.AndArm (arm (input_at 5) (portb (byte 1)))
+    (tree.AndArm (arm (number int.Int (pos 1))
+    (block
+    (portb (as_uchar (choose (input_at 5) (number int.Int (pos 3)) (choose (input_at 7) (number int.Int (pos 4)) (number int.Int (pos 5)))))
+    ∷ tree.Break 1
+    ∷ [])))
+    tree.NoArm))
+    tree.NoLast 1)
+    ∷ [])
+    ∷ [])
 
 -- ---- handler and main together
 -- INTF = 0;
@@ -235,3 +269,33 @@ sets_gie = program_of [] (handler_of (intcon (byte 0x90) ∷ []) ∷ main_of [] 
 -- no handler: void main(void) { INTCON = 0x90; }
 abbrev pub enables_nothing : Program
 enables_nothing = program_of [] (main_of [] (intcon (byte 0x90) ∷ []) ∷ [])
+
+-- ---- a structure, and row 2 of the targets
+abbrev pub structure : Ty
+structure = types.Struct 0
+
+abbrev pub to_structure : Ty
+to_structure = types.Pointer 2
+
+abbrev pub address_in_q : Place → Statement
+address_in_q place = put (local_at 0 to_structure) to_structure (tree.Address place to_structure 1)
+
+-- struct s { unsigned char a; }; struct s x;
+-- void main(void) { struct s *q; q = &x; for (;;) { struct s b = *q; q = &b; } }
+abbrev pub declares_again : Program
+declares_again = record {
+  targets = plain uchar ∷ plain to_uchar ∷ plain structure ∷ [];
+  structures = record { members = record { ty = plain uchar; offset = 0 } ∷ []; size = 1 } ∷ [];
+  sizes = 1 ∷ [];
+  statics = static_of structure [] ∷ [];
+  functions = main_of (variable to_structure ∷ variable structure ∷ [])
+      (tree.Declare 0 1
+      ∷ address_in_q (static_at 0 structure)
+      ∷ for_ever
+      (block
+      (tree.Declare 1 1
+      ∷ tree.Expr (tree.StructAssign (local_at 1 structure) (tree.Deref (tree.Read (local_at 0 to_structure) to_structure 1) (plain structure) 1) 1 1) 1
+      ∷ address_in_q (local_at 1 structure)
+      ∷ []))
+      ∷ []) ∷ [];
+}

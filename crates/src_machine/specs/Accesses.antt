@@ -80,7 +80,7 @@ abbrev pub items : Setting → Statement → Object → List Item → List Pendi
 items s t object [] k c m w = goes c (Blank 0 (object_bytes s.program object)) (Doing t Blanks ∷ k) m w
 items s t object (tree.Scalar offset value ∷ rest) k c m w = goes c (Eval value) (Doing t (AtItem (tree.Scalar offset value) rest) ∷ k) m w
 items s t object (tree.Struct offset from size ∷ rest) k c m w = goes c (Find from) (Doing t (AtItem (tree.Struct offset from size) rest) ∷ k) m w
-items s t object (tree.Text offset text size ∷ rest) k c m w = goes c (Spell (behind object offset) text size) (Doing t (Items rest) ∷ k) m w
+items s t object (tree.Text offset text size ∷ rest) k c m w = goes c (Spell (behind object offset) text size) (Doing t (Items (tree.Text offset text size) rest) ∷ k) m w
 
 -- ---- what follows a write
 abbrev pub is_postfix : StepOp → Bool
@@ -101,7 +101,7 @@ stored_in e _ k c m w = Lost
 
 abbrev pub stored_for : Setting → Statement → Stage → List Pending → CopyOf → Memory → World Byte → Outcome
 stored_for s (tree.InitScalar local e line) Fills k c m w = goes c Past k m w
-stored_for s (tree.InitList local all line) (Items rest) k c m w = items s (tree.InitList local all line) (local_of s.program c local) rest k c m w
+stored_for s (tree.InitList local all line) (Items item rest) k c m w = items s (tree.InitList local all line) (local_of s.program c local) rest k c m w
 stored_for s (tree.InitList local all line) Blanks k c m w = goes c Past k m w
 stored_for s _ _ k c m w = Lost
 

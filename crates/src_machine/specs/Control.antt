@@ -51,6 +51,8 @@ pub data Focus : Type 0 where
 pub data Got : Type 0 where
   -- its first part is under way
   Nothing : Got
+  -- its condition has decided, and the operand that it chose is under way
+  Chosen : Got
   -- its left operand has this value, and the right one is under way
   One : Datum → Got
   -- its place was found; what follows it is under way
@@ -79,14 +81,16 @@ pub data Stage : Type 0 where
   Turns : Stage
   -- an arm's condition; these arms follow it
   Picks : Arm → Arms → Stage
+  -- the statement of an arm that was chosen, or the one behind the last `else`; these arms follow it
+  InArm : Arms → Stage
   -- the comparison with labels
   Chooses : Stage
   -- the write of the value that a local begins with
   Fills : Stage
   -- the value or the place of an item of a list; these items follow it
   AtItem : Item → List Item → Stage
-  -- the bytes of an item before these
-  Items : List Item → Stage
+  -- the bytes of an item; these items follow it
+  Items : Item → List Item → Stage
   -- the bytes without an item
   Blanks : Stage
 

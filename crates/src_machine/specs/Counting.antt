@@ -1,7 +1,8 @@
 -- Which micro-steps count as steps of the source, and at which line: an operator applied, a byte accessed, a switch
 -- label compared, a statement begun, a function called, the end of a function's body. The others only lead from one
 -- part of the tree to the next.
-use Rattle.std.specs.Prelude.{ℕ, zero, suc, Bool, true, false, ◌&&◌, nat_eq, nat_lt, if◌then◌else◌, List, [], ◌∷◌, length, Option, Some, None, slice_get}
+use Rattle.std.specs.Prelude.{ℕ, zero, suc, Bool, true, false, not, ◌||◌, nat_lt, List, [], ◌∷◌, length, Option, Some, None}
+use Rattle.c_typed.specs.Sameness.{same_type, is_array, pointed}
 use Rattle.c_typed.specs.Trees as tree
 use Rattle.c_typed.specs.Trees.{Expression, Item, Place, Program, Statement}
 use Rattle.c_typed.specs.Types.{place_type, type_bytes}
@@ -9,7 +10,6 @@ use Rattle.c_typed.specs.declared.expression.LogicalOp.{LogicalOp}
 use Rattle.c_typed.specs.declared.statement.TCase.{TCase}
 use Rattle.c_typed.specs.declared.types.Qualified.{Qualified}
 use Rattle.c_typed.specs.declared.types.Ty.{Ty}
-use Rattle.c_typed.specs.declared.types.Ty.TheVariants as types
 use Rattle.src_machine.specs.Accesses.{covered_from, read_type, written_bytes}
 use Rattle.src_machine.specs.Control as control
 use Rattle.src_machine.specs.Control.{Focus, Got, Nothing, One, At, AtWith, Pending, In, To, Doing, Before, Returns, Resumes, expression_line, line_at}
@@ -24,25 +24,16 @@ counted_if true line = Some line
 counted_if false line = None
 
 -- ---- a place was found
-abbrev pub or_void : Option Qualified → Ty
-or_void None = types.Void
-or_void (Some q) = q.ty
-
-abbrev pub pointed : List Qualified → Ty → Ty
-pointed targets (types.Pointer target) = or_void (slice_get targets target)
-pointed targets _ = types.Void
-
-abbrev pub is_that_array : ℕ → ℕ → ℕ → Ty → Bool
-is_that_array element length size (types.Array e l s) = nat_eq e element && (nat_eq l length && nat_eq s size)
-is_that_array element length size _ = false
+abbrev pub has_type : Option Qualified → Ty → Bool
+has_type None ty = false
+has_type (Some q) ty = same_type q.ty ty
 
 -- `&` is an operator. An array that becomes the pointer to its first element takes no step.
-abbrev pub is_operator : List Qualified → Ty → Ty → Bool
-is_operator targets (types.Array element length size) ty = is_that_array element length size (pointed targets ty)
-is_operator targets _ ty = true
+abbrev pub is_operator : Program → Ty → Ty → Bool
+is_operator p place ty = not (is_array place) || has_type (pointed p ty) place
 
 abbrev pub found_counts_in : Program → Expression → Got → Option ℕ
-found_counts_in p (tree.Address place ty line) Nothing = counted_if (is_operator p.targets (place_type place).ty ty) line
+found_counts_in p (tree.Address place ty line) Nothing = counted_if (is_operator p (place_type place).ty ty) line
 found_counts_in p (tree.StructAssign place from size line) (At to) = Some line
 found_counts_in p _ _ = None
 

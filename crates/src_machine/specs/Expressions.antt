@@ -88,7 +88,7 @@ found_to s _ spot k c m w = Lost
 -- the structure that an item of a list begins with
 abbrev pub found_for : Setting → Statement → Stage → Spot → List Pending → CopyOf → Memory → World Byte → Outcome
 found_for s (tree.InitList local all line) (AtItem (tree.Struct offset from size) rest) spot k c m w =
-    goes c (CopyRead (behind (local_of s.program c local) offset) spot size) (Doing (tree.InitList local all line) (Items rest) ∷ k) m w
+    goes c (CopyRead (behind (local_of s.program c local) offset) spot size) (Doing (tree.InitList local all line) (Items (tree.Struct offset from size) rest) ∷ k) m w
 found_for s _ _ spot k c m w = Lost
 
 abbrev pub found : Setting → Spot → List Pending → CopyOf → Memory → World Byte → Outcome

@@ -9,7 +9,7 @@ use Rattle.c_typed.specs.declared.expression.LogicalOp.TheVariants.{And, Or}
 use Rattle.c_typed.specs.declared.statement.TCase.{TCase}
 use Rattle.pic_world.specs.World.{World}
 use Rattle.src_machine.specs.Accesses.{goes, fetching, behind, is_postfix}
-use Rattle.src_machine.specs.Control.{Eval, Holds, Found, Run, Past, Write, Leaves, Compares, Got, Nothing, One, At, AtWith, Stores, Args, Stage, Tests, Begins, Steps, Turns, Picks, Chooses, Fills, AtItem, Items, Pending, In, To, Doing, Before, Outcome, Undefined, Lost, active}
+use Rattle.src_machine.specs.Control.{Eval, Holds, Found, Run, Past, Write, Leaves, Compares, Got, Nothing, Chosen, One, At, AtWith, Stores, Args, Stage, Tests, Begins, Steps, Turns, Picks, InArm, Chooses, Fills, AtItem, Items, Pending, In, To, Doing, Before, Outcome, Undefined, Lost, active}
 use Rattle.src_machine.specs.Expressions.{arguments}
 use Rattle.src_machine.specs.Statements.{arms, test, turn, unwound}
 use Rattle.src_values.specs.Data.{Datum}
@@ -23,10 +23,11 @@ use Rattle.src_values.specs.declared.objects.Spot.{Spot}
 use Rattle.src_values.specs.declared.objects.Spot.TheVariants as spots
 use Rattle.src_values.specs.declared.objects.Undef.TheVariants.{Unset}
 
--- the value of an operator, or why it is undefined
+-- the value of an operator, or why it is undefined; or no rule is there
 abbrev pub answered : Answer → ℕ → List Pending → CopyOf → Memory → World Byte → Outcome
 answered (answers.Gives v) line k c m w = goes c (Holds v) k m w
 answered (answers.Fails kind) line k c m w = Undefined kind line
+answered answers.Strays line k c m w = Lost
 
 -- a value that is used goes on with this; a missing one is undefined
 abbrev pub used : Datum → ℕ → Outcome → Outcome
@@ -59,6 +60,7 @@ truth_given (Some holds) line k c m w = goes c (Holds (truth_value holds)) k m w
 abbrev pub changes : Answer → Expression → Spot → Bool → Datum → ℕ → List Pending → CopyOf → Memory → World Byte → Outcome
 changes (answers.Gives v) e spot keeps old line k c m w = goes c (Write spot v 0) (In e (Stores spot (if keeps then old else v)) ∷ k) m w
 changes (answers.Fails kind) e spot keeps old line k c m w = Undefined kind line
+changes answers.Strays e spot keeps old line k c m w = Lost
 
 -- ---- an expression takes the value of a part
 abbrev pub take_in : Setting → Expression → Got → Datum → List Pending → CopyOf → Memory → World Byte → Outcome
@@ -73,7 +75,11 @@ take_in s (tree.Difference left right size line) Nothing v k c m w = goes c (Eva
 take_in s (tree.Difference left right size line) (One u) v k c m w = answered (difference_answer size u v) line k c m w
 take_in s (tree.Logical op left right line) Nothing v k c m w = logical (tree.Logical op left right line) op v (truth_of v) right line k c m w
 take_in s (tree.Logical op left right line) (One u) v k c m w = truth_given (truth_of v) line k c m w
-take_in s (tree.Conditional condition chosen otherwise ty line) Nothing v k c m w = branch (truth_of v) line (goes c (Eval chosen) k m w) (goes c (Eval otherwise) k m w)
+take_in s (tree.Conditional condition chosen otherwise ty line) Nothing v k c m w =
+    branch (truth_of v) line
+    (goes c (Eval chosen) (In (tree.Conditional condition chosen otherwise ty line) Chosen ∷ k) m w)
+    (goes c (Eval otherwise) (In (tree.Conditional condition chosen otherwise ty line) Chosen ∷ k) m w)
+take_in s (tree.Conditional condition chosen otherwise ty line) Chosen v k c m w = goes c (Holds v) k m w
 take_in s (tree.Comma left right ty line) Nothing v k c m w = goes c (Eval right) k m w
 take_in s (tree.Assign place value ty line) (At spot) v k c m w = used v line (goes c (Write spot v 0) (In (tree.Assign place value ty line) (Stores spot v) ∷ k) m w)
 take_in s (tree.Update op place value operation size ty line) (At spot) v k c m w = goes c (fetching spot ty s.program.sizes) (In (tree.Update op place value operation size ty line) (AtWith spot v) ∷ k) m w
@@ -134,9 +140,11 @@ take_for s (tree.Expr e line) Tests v k c m w = goes c Past k m w
 take_for s (tree.InitScalar local e line) Tests v k c m w =
     used v line (goes c (Write (behind (local_of s.program c local) 0) v 0) (Doing (tree.InitScalar local e line) Fills ∷ k) m w)
 take_for s (tree.InitList local all line) (AtItem (tree.Scalar offset e) rest) v k c m w =
-    used v line (goes c (Write (behind (local_of s.program c local) offset) v 0) (Doing (tree.InitList local all line) (Items rest) ∷ k) m w)
+    used v line (goes c (Write (behind (local_of s.program c local) offset) v 0) (Doing (tree.InitList local all line) (Items (tree.Scalar offset e) rest) ∷ k) m w)
 take_for s (tree.If chain otherwise line) (Picks (tree.OneArm condition chosen at) more) v k c m w =
-    branch (truth_of v) at (goes c (Run chosen) k m w) (arms (tree.If chain otherwise line) more otherwise k c m w)
+    branch (truth_of v) at
+    (goes c (Run chosen) (Doing (tree.If chain otherwise line) (InArm more) ∷ k) m w)
+    (arms (tree.If chain otherwise line) more otherwise k c m w)
 take_for s (tree.Loop shape first condition step body line) Begins v k c m w = test (tree.Loop shape first condition step body line) condition body k c m w
 take_for s (tree.Loop shape first condition step body line) Steps v k c m w = test (tree.Loop shape first condition step body line) condition body k c m w
 take_for s (tree.Loop shape first condition step body line) Tests v k c m w =

@@ -6,7 +6,7 @@ use Rattle.c_typed.specs.declared.statement.LoopForm.{LoopForm}
 use Rattle.c_typed.specs.declared.statement.LoopForm.TheVariants.{While, Do, For}
 use Rattle.pic_world.specs.World.{World, Ended, noted, left}
 use Rattle.src_machine.specs.Accesses.{goes, items}
-use Rattle.src_machine.specs.Control.{Eval, Holds, Run, Past, Leaves, Over, Got, Called, Stage, Tests, Begins, Steps, Turns, Picks, Pending, In, Doing, Before, Returns, Resumes, Outcome, Went, Lost, state}
+use Rattle.src_machine.specs.Control.{Eval, Holds, Run, Past, Leaves, Over, Got, Called, Stage, Tests, Begins, Steps, Turns, Picks, InArm, Pending, In, Doing, Before, Returns, Resumes, Outcome, Went, Lost, state}
 use Rattle.src_values.specs.Data.{Datum}
 use Rattle.src_values.specs.Data.{Missing}
 use Rattle.src_values.specs.Objects.{Setting, Memory, local_of, cleared}
@@ -38,18 +38,19 @@ loops For t first condition body k c m w = first_of t first condition body k c m
 loops Do t first condition body k c m w = turn t body k c m w
 
 -- ---- if: t is the whole chain
-abbrev pub last : LastArm → List Pending → CopyOf → Memory → World Byte → Outcome
-last tree.NoLast k c m w = goes c Past k m w
-last (tree.Last t) k c m w = goes c (Run t) k m w
+abbrev pub last : Statement → LastArm → List Pending → CopyOf → Memory → World Byte → Outcome
+last t tree.NoLast k c m w = goes c Past k m w
+last t (tree.Last chosen) k c m w = goes c (Run chosen) (Doing t (InArm tree.NoArm) ∷ k) m w
 
 abbrev pub arms : Statement → Arms → LastArm → List Pending → CopyOf → Memory → World Byte → Outcome
-arms t tree.NoArm otherwise k c m w = last otherwise k c m w
+arms t tree.NoArm otherwise k c m w = last t otherwise k c m w
 arms t (tree.AndArm (tree.OneArm condition chosen line) more) otherwise k c m w = goes c (Eval condition) (Doing t (Picks (tree.OneArm condition chosen line) more) ∷ k) m w
 
 -- ---- jumps
 -- to behind the nearest loop or switch
 abbrev pub break_at : List Pending → CopyOf → Memory → World Byte → Outcome
 break_at (Doing t Turns ∷ k) c m w = goes c Past k m w
+break_at (Doing t (InArm more) ∷ k) c m w = break_at k c m w
 break_at (Before ss ∷ k) c m w = break_at k c m w
 break_at _ c m w = Lost
 
@@ -57,6 +58,7 @@ break_at _ c m w = Lost
 abbrev pub continue_at : List Pending → CopyOf → Memory → World Byte → Outcome
 continue_at (Doing (tree.Loop shape first condition step body line) Turns ∷ k) c m w = goes c Past (Doing (tree.Loop shape first condition step body line) Turns ∷ k) m w
 continue_at (Doing (tree.Switch e cases default ss line) Turns ∷ k) c m w = continue_at k c m w
+continue_at (Doing t (InArm more) ∷ k) c m w = continue_at k c m w
 continue_at (Before ss ∷ k) c m w = continue_at k c m w
 continue_at _ c m w = Lost
 
@@ -64,13 +66,15 @@ continue_at _ c m w = Lost
 abbrev pub unwound : List Pending → List Pending
 unwound (Before ss ∷ k) = unwound k
 unwound (Doing t Turns ∷ k) = unwound k
+unwound (Doing t (InArm more) ∷ k) = unwound k
 unwound k = k
 
 -- ---- the end of a statement
--- the body of a loop or of a switch has ended
+-- the body of a loop or of a switch, or an arm, has ended
 abbrev pub turned : Statement → Stage → List Pending → CopyOf → Memory → World Byte → Outcome
 turned (tree.Loop shape first condition step body line) Turns k c m w = next_of (tree.Loop shape first condition step body line) step condition body k c m w
 turned (tree.Switch e cases default ss line) Turns k c m w = goes c Past k m w
+turned (tree.If chain otherwise line) (InArm more) k c m w = goes c Past k m w
 turned _ _ k c m w = Lost
 
 -- Main ends with an event; a function ends without a value; behind the handler what it interrupted goes on.

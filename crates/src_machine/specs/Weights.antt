@@ -99,8 +99,8 @@ step_weight (Some e) = expression_weight e + 1
 unfoldable pub stage_weight : Statement → Stage → ℕ
 stage_weight (tree.InitScalar local e line) Tests = 2
 stage_weight (tree.InitList local all line) (AtItem item rest) = items_weight rest + 2
-stage_weight (tree.InitList local all line) (Items rest) = items_weight rest + 1
-stage_weight (tree.If chain otherwise line) (Picks (tree.OneArm condition chosen at) more) = declarator_weight chosen + arms_weight more otherwise + 1
+stage_weight (tree.InitList local all line) (Items item rest) = items_weight rest + 1
+stage_weight (tree.If chain otherwise line) (Picks (tree.OneArm condition chosen at) more) = declarator_weight chosen + arms_weight more otherwise + 2
 stage_weight (tree.Loop shape first condition step body line) Begins = test_weight condition + 1
 stage_weight (tree.Loop shape first condition step body line) Steps = test_weight condition + 1
 stage_weight (tree.Loop shape first condition step body line) Turns = step_weight step + test_weight condition + 1

@@ -220,8 +220,7 @@ impl<'a> Machine<'a> {
                     text: bytes,
                     left: *size,
                 };
-                let next = at.saturating_add(1);
-                self.go_waiting(focus, Pending::Doing(code, Stage::Items(next)))
+                self.go_waiting(focus, Pending::Doing(code, Stage::Items(at)))
             }
         }
     }
@@ -236,7 +235,7 @@ impl<'a> Machine<'a> {
             Some(TStmt::InitList { local, items, .. }) => match stage {
                 Stage::Items(at) => {
                     let object = self.local_of(*local);
-                    self.items(code, object, items, at)
+                    self.items(code, object, items, at.saturating_add(1))
                 }
                 Stage::Blanks => self.go(Focus::Past),
                 _ => Outcome::Lost,

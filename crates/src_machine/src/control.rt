@@ -105,6 +105,8 @@ pub(crate) enum Focus<'a> {
 pub(crate) enum Got {
     /// Its first part is under way.
     Nothing,
+    /// Its condition has decided, and the operand that it chose is under way.
+    Chosen,
     /// Its left operand has this value, and the right one is under way.
     One(Datum),
     /// Its place was found; what follows it is under way.
@@ -124,7 +126,7 @@ pub(crate) enum Got {
 }
 
 /// What is under way of a statement.
-#[derive(Clone, Copy, PartialEq, Eq)]
+#[derive(Clone, Copy)]
 pub(crate) enum Stage {
     /// The value that it begins with, or a loop's condition.
     Tests,
@@ -135,13 +137,15 @@ pub(crate) enum Stage {
     Turns,
     /// The condition of the arm of this number.
     Picks(usize),
+    /// The statement of the arm before the one of this number, or the one behind the last `else`.
+    InArm(usize),
     /// The comparison with labels.
     Chooses,
     /// The write of the value that a local begins with.
     Fills,
     /// The value or the place of the item of this number.
     AtItem(usize),
-    /// The bytes of the item before the one of this number.
+    /// The bytes of the item of this number.
     Items(usize),
     /// The bytes without an item.
     Blanks,

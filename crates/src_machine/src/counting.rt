@@ -62,7 +62,12 @@ fn value_counts_in(expr: &TExpr, got: Got, value: Datum) -> Option<u32> {
             TExpr::Update { line, .. } => Some(*line),
             _ => None,
         },
-        Got::Stores(_, _) | Got::Copies | Got::Args(_) | Got::Passed(_) | Got::Called => None,
+        Got::Chosen
+        | Got::Stores(_, _)
+        | Got::Copies
+        | Got::Args(_)
+        | Got::Passed(_)
+        | Got::Called => None,
     }
 }
 

@@ -136,10 +136,9 @@ impl<'a> Machine<'a> {
             Some(TItem::Struct { offset, size, .. }) => {
                 let to = behind(self.local_of(*local), *offset);
                 let left = *size;
-                let rest = Stage::Items(at.saturating_add(1));
                 self.go_waiting(
                     Focus::CopyRead { to, from, left },
-                    Pending::Doing(code, rest),
+                    Pending::Doing(code, Stage::Items(at)),
                 )
             }
             _ => Outcome::Lost,

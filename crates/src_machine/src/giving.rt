@@ -94,12 +94,11 @@ impl<'a> Machine<'a> {
         match items.get(at) {
             Some(TItem::Scalar { offset, .. }) => {
                 let spot = behind(self.local_of(local), *offset);
-                let rest = Stage::Items(at.saturating_add(1));
                 self.used(
                     value,
                     line,
                     Focus::Write { spot, value, at: 0 },
-                    Pending::Doing(code, rest),
+                    Pending::Doing(code, Stage::Items(at)),
                 )
             }
             _ => Outcome::Lost,
@@ -170,9 +169,12 @@ impl<'a> Machine<'a> {
                 }
                 _ => Outcome::Lost,
             },
-            Stage::Turns | Stage::Chooses | Stage::Fills | Stage::Items(_) | Stage::Blanks => {
-                Outcome::Lost
-            }
+            Stage::Turns
+            | Stage::InArm(_)
+            | Stage::Chooses
+            | Stage::Fills
+            | Stage::Items(_)
+            | Stage::Blanks => Outcome::Lost,
         }
     }
 

@@ -6,7 +6,7 @@ use crate::machine::{Machine, Outcome, undefined};
 use c_ints::BinOp;
 use c_typed::{LogicalOp, StepOp, TExpr};
 use src_values::pointers::difference;
-use src_values::values::{converted, one_in, truth_of, truth_value, unary_answer};
+use src_values::values::{Answer, converted, one_in, truth_of, truth_value, unary_answer};
 use src_values::{Datum, Pointer, Spot, Undef};
 
 /// Whether the left operand of `&&` or `||` decides.
@@ -25,11 +25,12 @@ fn step_operator(op: StepOp) -> BinOp {
 }
 
 impl<'a> Machine<'a> {
-    // The value of an operator, or why it is undefined.
-    fn answered(&mut self, answer: Result<Datum, Undef>, line: u32) -> Outcome {
+    // The value of an operator, or why it is undefined; or no rule is there.
+    fn answered(&mut self, answer: Answer, line: u32) -> Outcome {
         match answer {
-            Ok(value) => self.go(Focus::Holds(value)),
-            Err(kind) => undefined(kind, line),
+            Answer::Gives(value) => self.go(Focus::Holds(value)),
+            Answer::Fails(kind) => undefined(kind, line),
+            Answer::Strays => Outcome::Lost,
         }
     }
 
@@ -109,8 +110,10 @@ impl<'a> Machine<'a> {
                 line,
                 ..
             } => match truth_of(value) {
-                Some(true) => self.go(Focus::Eval(then)),
-                Some(false) => self.go(Focus::Eval(otherwise)),
+                Some(true) => self.go_waiting(Focus::Eval(then), Pending::In(expr, Got::Chosen)),
+                Some(false) => {
+                    self.go_waiting(Focus::Eval(otherwise), Pending::In(expr, Got::Chosen))
+                }
                 None => undefined(Undef::Unset, *line),
             },
             TExpr::Comma { right, .. } => self.go(Focus::Eval(right)),
@@ -123,12 +126,12 @@ impl<'a> Machine<'a> {
         &mut self,
         expr: &'a TExpr,
         spot: Spot,
-        answer: Result<Datum, Undef>,
+        answer: Answer,
         kept: Option<Datum>,
         line: u32,
     ) -> Outcome {
         match answer {
-            Ok(value) => {
+            Answer::Gives(value) => {
                 let stays = match kept {
                     Some(old) => old,
                     None => value,
@@ -136,7 +139,8 @@ impl<'a> Machine<'a> {
                 let focus = Focus::Write { spot, value, at: 0 };
                 self.go_waiting(focus, Pending::In(expr, Got::Stores(spot, stays)))
             }
-            Err(kind) => undefined(kind, line),
+            Answer::Fails(kind) => undefined(kind, line),
+            Answer::Strays => Outcome::Lost,
         }
     }
 
@@ -190,10 +194,19 @@ impl<'a> Machine<'a> {
         }
     }
 
+    // The operand that a condition chose has its value.
+    fn take_chosen(&mut self, expr: &'a TExpr, value: Datum) -> Outcome {
+        match expr {
+            TExpr::Conditional { .. } => self.go(Focus::Holds(value)),
+            _ => Outcome::Lost,
+        }
+    }
+
     /// An expression takes the value of a part.
     pub(crate) fn take_in(&mut self, expr: &'a TExpr, got: Got, value: Datum) -> Outcome {
         match got {
             Got::Nothing => self.take_condition(expr, value),
+            Got::Chosen => self.take_chosen(expr, value),
             Got::One(left) => self.take_right(expr, left, value),
             Got::At(spot) => self.take_at(expr, spot, value),
             Got::AtWith(spot, right) => self.take_old(expr, spot, right, value),

@@ -68,7 +68,10 @@ impl<'a> Machine<'a> {
                 Pending::Doing(code, Stage::Picks(at)),
             ),
             None => match otherwise {
-                Some(last) => self.go(Focus::Run(Code::Boxed(last))),
+                Some(last) => self.go_waiting(
+                    Focus::Run(Code::Boxed(last)),
+                    Pending::Doing(code, Stage::InArm(at)),
+                ),
                 None => self.go(Focus::Past),
             },
         }
@@ -86,9 +89,13 @@ impl<'a> Machine<'a> {
         let Some(arm) = arms.get(at) else {
             return Outcome::Lost;
         };
+        let next = at.saturating_add(1);
         match truth_of(value) {
-            Some(true) => self.go(Focus::Run(Code::InArm(arms, at))),
-            Some(false) => self.arms(code, arms, at.saturating_add(1), otherwise),
+            Some(true) => self.go_waiting(
+                Focus::Run(Code::InArm(arms, at)),
+                Pending::Doing(code, Stage::InArm(next)),
+            ),
+            Some(false) => self.arms(code, arms, next, otherwise),
             None => undefined(Undef::Unset, arm.line),
         }
     }
@@ -98,7 +105,7 @@ impl<'a> Machine<'a> {
         for _ in 0..self.stack.len() {
             match self.stack.pop() {
                 Some(Pending::Doing(_, Stage::Turns)) => return self.go(Focus::Past),
-                Some(Pending::Before(_, _)) => {}
+                Some(Pending::Before(_, _)) | Some(Pending::Doing(_, Stage::InArm(_))) => {}
                 _ => break,
             }
         }
@@ -114,7 +121,7 @@ impl<'a> Machine<'a> {
                         return self.go(Focus::Past);
                     }
                 }
-                Some(Pending::Before(_, _)) => {}
+                Some(Pending::Before(_, _)) | Some(Pending::Doing(_, Stage::InArm(_))) => {}
                 _ => break,
             }
             let _ = self.stack.pop();
@@ -126,7 +133,9 @@ impl<'a> Machine<'a> {
     pub(crate) fn unwind(&mut self) {
         for _ in 0..self.stack.len() {
             match self.stack.last() {
-                Some(Pending::Before(_, _)) | Some(Pending::Doing(_, Stage::Turns)) => {
+                Some(Pending::Before(_, _))
+                | Some(Pending::Doing(_, Stage::Turns))
+                | Some(Pending::Doing(_, Stage::InArm(_))) => {
                     let _ = self.stack.pop();
                 }
                 _ => break,
@@ -147,10 +156,7 @@ impl<'a> Machine<'a> {
     }
 
     // The body of a loop or of a switch has ended.
-    fn turned(&mut self, code: Code<'a>, stage: Stage) -> Outcome {
-        if stage != Stage::Turns {
-            return Outcome::Lost;
-        }
+    fn turned(&mut self, code: Code<'a>) -> Outcome {
         match code.statement() {
             Some(
                 TStmt::Loop {
@@ -165,6 +171,23 @@ impl<'a> Machine<'a> {
         }
     }
 
+    // The statement of an arm has ended.
+    fn armed(&mut self, code: Code<'a>) -> Outcome {
+        match code.statement() {
+            Some(TStmt::If { .. }) => self.go(Focus::Past),
+            _ => Outcome::Lost,
+        }
+    }
+
+    // A part of a statement has ended.
+    fn ended(&mut self, code: Code<'a>, stage: Stage) -> Outcome {
+        match stage {
+            Stage::Turns => self.turned(code),
+            Stage::InArm(_) => self.armed(code),
+            _ => Outcome::Lost,
+        }
+    }
+
     /// The end of a statement. Main ends with an event; a function ends without a value; behind the handler
     /// what it interrupted goes on.
     pub(crate) fn proceed(&mut self) -> Outcome {
@@ -175,7 +198,7 @@ impl<'a> Machine<'a> {
         };
         match top {
             Pending::Before(statements, at) => self.statements(statements, at),
-            Pending::Doing(code, stage) => self.turned(code, stage),
+            Pending::Doing(code, stage) => self.ended(code, stage),
             Pending::Returns(copy) => self.go_waiting(
                 Focus::Leaves(Datum::Missing),
                 Pending::Returns(copy),

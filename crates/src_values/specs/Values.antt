@@ -27,10 +27,12 @@ use Rattle.src_values.specs.declared.objects.Spot.TheVariants as spots
 use Rattle.src_values.specs.declared.objects.Undef.{Undef}
 use Rattle.src_values.specs.declared.objects.Undef.TheVariants.{Division, Overflow, Shift, Unset, Outside, Inactive, Order, Past}
 
--- what an operator gives, or why it is undefined
+-- what an operator gives; or why it is undefined; or no rule is there for operands of this sort, which those of a typed
+-- program never are
 pub data Answer : Type 0 where
   Gives : Datum → Answer
   Fails : Undef → Answer
+  Strays : Answer
 
 abbrev pub truth_value : Bool → Datum
 truth_value holds = Number (cut_to int.Int (truth holds))
@@ -114,7 +116,7 @@ fits_behind _ read byte = true
 -- ---- conversions
 abbrev pub as_integer : IntTy → Datum → Answer
 as_integer ty (Number q) = Gives (Number (cut_to ty q.number))
-as_integer ty (Pointer x) = Fails Unset
+as_integer ty (Pointer x) = Strays
 as_integer ty Missing = Fails Unset
 
 -- A pointer keeps its value; the only integer that becomes one is the constant 0.
@@ -127,8 +129,8 @@ unfoldable pub converted : Ty → Datum → Answer
 converted types.Void v = Gives Missing
 converted (types.Int ty) v = as_integer ty v
 converted (types.Pointer target) v = as_pointer v
-converted (types.Array element length size) v = Fails Unset
-converted (types.Struct number) v = Fails Unset
+converted (types.Array element length size) v = Strays
+converted (types.Struct number) v = Strays
 
 -- ---- conditions
 abbrev pub is_null : Place → Bool
@@ -209,7 +211,9 @@ on_pointers p active op x y = order op x y
 abbrev pub on_values : Program → List CopyOf → BinOp → Datum → Datum → Answer
 on_values p active op (Number a) (Number b) = number_or_overflow (outcome op a b)
 on_values p active op (Pointer x) (Pointer y) = on_pointers p active op x y
-on_values p active op _ _ = Fails Unset
+on_values p active op Missing u = Fails Unset
+on_values p active op v Missing = Fails Unset
+on_values p active op v u = Strays
 
 abbrev pub unless_bad : Option Undef → Answer → Answer
 unless_bad (Some kind) answer = Fails kind
@@ -236,23 +240,29 @@ distance op size count = if is_minus op then neg_ℤ (count *ℤ pos size) else 
 unfoldable pub offset_answer : Program → BinOp → ℕ → Datum → Datum → Answer
 offset_answer p op size (Pointer x) (Number q) = pointer_or_outside (moved p x (distance op size q.number))
 offset_answer p op size (Number q) (Pointer x) = pointer_or_outside (moved p x (distance op size q.number))
-offset_answer p op size _ _ = Fails Unset
+offset_answer p op size Missing u = Fails Unset
+offset_answer p op size v Missing = Fails Unset
+offset_answer p op size v u = Strays
 
 -- how many elements lie between two pointers
 unfoldable pub difference_answer : ℕ → Datum → Datum → Answer
 difference_answer size (Pointer (Into a f)) (Pointer (Into b g)) =
     if same_object a b then Gives (Number (cut_to int.Int (int_div (pos f -ℤ pos g) (pos size)))) else Fails Order
 difference_answer size (Pointer x) (Pointer y) = Fails Order
-difference_answer size _ _ = Fails Unset
+difference_answer size Missing u = Fails Unset
+difference_answer size v Missing = Fails Unset
+difference_answer size v u = Strays
 
 -- ---- compound assignments
 abbrev pub then_converted : Ty → Answer → Answer
 then_converted ty (Gives v) = converted ty v
 then_converted ty (Fails kind) = Fails kind
+then_converted ty Strays = Strays
 
 abbrev pub operated : Program → List CopyOf → BinOp → Ty → Answer → Datum → Answer
 operated p active op ty (Gives v) u = binary_answer p active op ty v u
 operated p active op ty (Fails kind) u = Fails kind
+operated p active op ty Strays u = Strays
 
 abbrev pub changed_by : Program → List CopyOf → BinOp → ℕ → Ty → Datum → Datum → Answer
 changed_by p active op size (types.Pointer target) old u = offset_answer p op size old u

@@ -2,7 +2,9 @@
 
 use crate::memory::Memory;
 use crate::objects::{Datum, Number, Object, Pointer, Undef};
-use crate::values::{bad_right, compared, converted, number, on_numbers, truth_value};
+use crate::values::{
+    Answer, astray, bad_right, compared, converted, number, on_numbers, truth_value,
+};
 use c_ints::{BinOp, IntTy};
 use c_typed::Ty;
 
@@ -62,39 +64,53 @@ impl Memory {
         }
     }
 
-    // Whether two pointers are equal.
-    fn same(&self, alive: bool, x: Pointer, y: Pointer) -> Result<bool, Undef> {
+    // Whether two pointers are equal; `turned` for !=.
+    fn equality(&self, alive: bool, turned: bool, x: Pointer, y: Pointer) -> Answer {
         match x {
             Pointer::Null => match y {
-                Pointer::Null => Ok(true),
-                Pointer::Into { .. } => Ok(false),
+                Pointer::Null => Answer::Gives(truth_value(!turned)),
+                Pointer::Into { .. } => Answer::Gives(truth_value(turned)),
             },
             Pointer::Into {
                 object: a,
                 offset: f,
             } => match y {
-                Pointer::Null => Ok(false),
+                Pointer::Null => Answer::Gives(truth_value(turned)),
                 Pointer::Into {
                     object: b,
                     offset: g,
                 } => {
                     if a == b {
-                        return Ok(f == g);
+                        return Answer::Gives(truth_value((f == g) != turned));
                     }
                     match self.apart(alive, a, f, b, g) {
-                        Some(kind) => Err(kind),
-                        None => Ok(false),
+                        Some(kind) => Answer::Fails(kind),
+                        None => Answer::Gives(truth_value(turned)),
                     }
                 }
             },
         }
     }
 
-    fn on_pointers(&self, alive: bool, op: BinOp, x: Pointer, y: Pointer) -> Result<Datum, Undef> {
+    fn on_pointers(&self, alive: bool, op: BinOp, x: Pointer, y: Pointer) -> Answer {
         match op {
-            BinOp::Eq => Ok(truth_value(self.same(alive, x, y)?)),
-            BinOp::Ne => Ok(truth_value(!self.same(alive, x, y)?)),
+            BinOp::Eq => self.equality(alive, false, x, y),
+            BinOp::Ne => self.equality(alive, true, x, y),
             _ => ordered(op, x, y),
+        }
+    }
+
+    fn on_values(&self, alive: bool, op: BinOp, left: Datum, right: Datum) -> Answer {
+        match left {
+            Datum::Number(a) => match right {
+                Datum::Number(b) => on_numbers(op, a, b),
+                _ => astray(right),
+            },
+            Datum::Pointer(x) => match right {
+                Datum::Pointer(y) => self.on_pointers(alive, op, x, y),
+                _ => astray(right),
+            },
+            Datum::Missing => Answer::Fails(Undef::Unset),
         }
     }
 
@@ -107,53 +123,37 @@ impl Memory {
         ty: Ty,
         left: Datum,
         right: Datum,
-    ) -> Result<Datum, Undef> {
-        if let Some(kind) = bad_right(op, ty, right) {
-            return Err(kind);
-        }
-        match left {
-            Datum::Number(a) => match right {
-                Datum::Number(b) => on_numbers(op, a, b),
-                _ => Err(Undef::Unset),
-            },
-            Datum::Pointer(x) => match right {
-                Datum::Pointer(y) => self.on_pointers(alive, op, x, y),
-                _ => Err(Undef::Unset),
-            },
-            Datum::Missing => Err(Undef::Unset),
+    ) -> Answer {
+        match bad_right(op, ty, right) {
+            Some(kind) => Answer::Fails(kind),
+            None => self.on_values(alive, op, left, right),
         }
     }
 
-    fn moved_by(
-        &self,
-        op: BinOp,
-        size: u64,
-        pointer: Pointer,
-        count: Number,
-    ) -> Result<Datum, Undef> {
+    fn moved_by(&self, op: BinOp, size: u64, pointer: Pointer, count: Number) -> Answer {
         let (down, bytes) = distance(op, size, count);
         let moved = match bytes {
             Some(bytes) => self.moved(pointer, down, bytes),
             None => None,
         };
         match moved {
-            Some(pointer) => Ok(Datum::Pointer(pointer)),
-            None => Err(Undef::Outside),
+            Some(pointer) => Answer::Gives(Datum::Pointer(pointer)),
+            None => Answer::Fails(Undef::Outside),
         }
     }
 
     /// A pointer moved by an integer's number of elements; the integer may stand first.
-    pub fn offset(&self, op: BinOp, size: u64, left: Datum, right: Datum) -> Result<Datum, Undef> {
+    pub fn offset(&self, op: BinOp, size: u64, left: Datum, right: Datum) -> Answer {
         match left {
             Datum::Pointer(pointer) => match right {
                 Datum::Number(count) => self.moved_by(op, size, pointer, count),
-                _ => Err(Undef::Unset),
+                _ => astray(right),
             },
             Datum::Number(count) => match right {
                 Datum::Pointer(pointer) => self.moved_by(op, size, pointer, count),
-                _ => Err(Undef::Unset),
+                _ => astray(right),
             },
-            Datum::Missing => Err(Undef::Unset),
+            Datum::Missing => Answer::Fails(Undef::Unset),
         }
     }
 
@@ -167,17 +167,23 @@ impl Memory {
         ty: Ty,
         old: Datum,
         right: Datum,
-    ) -> Result<Datum, Undef> {
-        let value = match operation {
-            Ty::Pointer(_) => self.offset(op, size, old, right)?,
-            _ => self.binary(true, op, operation, converted(operation, old)?, right)?,
+    ) -> Answer {
+        let answer = match operation {
+            Ty::Pointer(_) => self.offset(op, size, old, right),
+            _ => match converted(operation, old) {
+                Answer::Gives(left) => self.binary(true, op, operation, left, right),
+                answer => answer,
+            },
         };
-        converted(ty, value)
+        match answer {
+            Answer::Gives(value) => converted(ty, value),
+            answer => answer,
+        }
     }
 }
 
 // < and its like on pointers, by their places in one object.
-fn ordered(op: BinOp, x: Pointer, y: Pointer) -> Result<Datum, Undef> {
+fn ordered(op: BinOp, x: Pointer, y: Pointer) -> Answer {
     match x {
         Pointer::Into {
             object: a,
@@ -186,25 +192,26 @@ fn ordered(op: BinOp, x: Pointer, y: Pointer) -> Result<Datum, Undef> {
             Pointer::Into {
                 object: b,
                 offset: g,
-            } if a == b => Ok(truth_value(compared(op, f, g))),
-            _ => Err(Undef::Order),
+            } if a == b => Answer::Gives(truth_value(compared(op, f, g))),
+            _ => Answer::Fails(Undef::Order),
         },
-        Pointer::Null => Err(Undef::Order),
+        Pointer::Null => Answer::Fails(Undef::Order),
     }
 }
 
 /// How many elements lie between two pointers.
-pub fn difference(size: u64, left: Datum, right: Datum) -> Result<Datum, Undef> {
+pub fn difference(size: u64, left: Datum, right: Datum) -> Answer {
     match left {
         Datum::Pointer(x) => match right {
             Datum::Pointer(y) => between(size, x, y),
-            _ => Err(Undef::Unset),
+            _ => astray(right),
         },
-        _ => Err(Undef::Unset),
+        Datum::Number(_) => astray(right),
+        Datum::Missing => Answer::Fails(Undef::Unset),
     }
 }
 
-fn between(size: u64, x: Pointer, y: Pointer) -> Result<Datum, Undef> {
+fn between(size: u64, x: Pointer, y: Pointer) -> Answer {
     match x {
         Pointer::Into {
             object: a,
@@ -213,9 +220,9 @@ fn between(size: u64, x: Pointer, y: Pointer) -> Result<Datum, Undef> {
             Pointer::Into {
                 object: b,
                 offset: g,
-            } if a == b => Ok(elements_between(f, g, size)),
-            _ => Err(Undef::Order),
+            } if a == b => Answer::Gives(elements_between(f, g, size)),
+            _ => Answer::Fails(Undef::Order),
         },
-        Pointer::Null => Err(Undef::Order),
+        Pointer::Null => Answer::Fails(Undef::Order),
     }
 }

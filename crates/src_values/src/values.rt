@@ -7,6 +7,15 @@ use crate::objects::{Byte, Datum, Number, Object, Pointer, ReadBytes, Spot, Unde
 use c_ints::{BinOp, IntTy, UnOp, Value, apply, convert, promote, size, unary};
 use c_typed::Ty;
 
+/// What an operator gives; or why it is undefined; or no rule is there for operands of this sort, which those of
+/// a typed program never are.
+#[derive(Clone, Copy)]
+pub enum Answer {
+    Gives(Datum),
+    Fails(Undef),
+    Strays,
+}
+
 /// The number of a type with these bits, cut to its width.
 pub fn number(ty: IntTy, bits: u32) -> Datum {
     Datum::Number(as_number(Value::new(ty, bits)))
@@ -124,29 +133,32 @@ pub fn fits_behind(ty: Ty, read: ReadBytes, byte: Byte) -> bool {
     }
 }
 
-fn as_integer(ty: IntTy, value: Datum) -> Result<Datum, Undef> {
+fn as_integer(ty: IntTy, value: Datum) -> Answer {
     match value {
-        Datum::Number(number) => Ok(Datum::Number(as_number(convert(number.value(), ty)))),
-        Datum::Pointer(_) | Datum::Missing => Err(Undef::Unset),
+        Datum::Number(number) => {
+            Answer::Gives(Datum::Number(as_number(convert(number.value(), ty))))
+        }
+        Datum::Pointer(_) => Answer::Strays,
+        Datum::Missing => Answer::Fails(Undef::Unset),
     }
 }
 
 // The only integer that becomes a pointer is the constant 0.
-fn as_pointer(value: Datum) -> Result<Datum, Undef> {
+fn as_pointer(value: Datum) -> Answer {
     match value {
-        Datum::Number(_) => Ok(Datum::Pointer(Pointer::Null)),
-        Datum::Pointer(pointer) => Ok(Datum::Pointer(pointer)),
-        Datum::Missing => Err(Undef::Unset),
+        Datum::Number(_) => Answer::Gives(Datum::Pointer(Pointer::Null)),
+        Datum::Pointer(pointer) => Answer::Gives(Datum::Pointer(pointer)),
+        Datum::Missing => Answer::Fails(Undef::Unset),
     }
 }
 
 /// The value in this type. A missing value has no other type than void.
-pub fn converted(ty: Ty, value: Datum) -> Result<Datum, Undef> {
+pub fn converted(ty: Ty, value: Datum) -> Answer {
     match ty {
-        Ty::Void => Ok(Datum::Missing),
+        Ty::Void => Answer::Gives(Datum::Missing),
         Ty::Int(ty) => as_integer(ty, value),
         Ty::Pointer(_) => as_pointer(value),
-        Ty::Array { .. } | Ty::Struct(_) => Err(Undef::Unset),
+        Ty::Array { .. } | Ty::Struct(_) => Answer::Strays,
     }
 }
 
@@ -167,11 +179,13 @@ pub fn truth_of(value: Datum) -> Option<bool> {
 }
 
 /// What a unary operator gives.
-pub fn unary_answer(op: UnOp, value: Datum) -> Result<Datum, Undef> {
+pub fn unary_answer(op: UnOp, value: Datum) -> Answer {
     match value {
-        Datum::Number(number) => Ok(Datum::Number(as_number(unary(op, number.value())))),
-        Datum::Pointer(pointer) => Ok(truth_value(is_null(pointer))),
-        Datum::Missing => Err(Undef::Unset),
+        Datum::Number(number) => {
+            Answer::Gives(Datum::Number(as_number(unary(op, number.value()))))
+        }
+        Datum::Pointer(pointer) => Answer::Gives(truth_value(is_null(pointer))),
+        Datum::Missing => Answer::Fails(Undef::Unset),
     }
 }
 
@@ -229,10 +243,18 @@ fn applied(op: BinOp, a: Value, b: Value) -> Option<Value> {
 }
 
 /// What an operator gives on integers, where the divisor isn't 0 and the count fits.
-pub fn on_numbers(op: BinOp, a: Number, b: Number) -> Result<Datum, Undef> {
+pub fn on_numbers(op: BinOp, a: Number, b: Number) -> Answer {
     match applied(op, a.value(), b.value()) {
-        Some(value) => Ok(Datum::Number(as_number(value))),
-        None => Err(Undef::Overflow),
+        Some(value) => Answer::Gives(Datum::Number(as_number(value))),
+        None => Answer::Fails(Undef::Overflow),
+    }
+}
+
+/// What an operator answers of an operand that isn't of its sort: a missing one is unset.
+pub fn astray(value: Datum) -> Answer {
+    match value {
+        Datum::Missing => Answer::Fails(Undef::Unset),
+        Datum::Number(_) | Datum::Pointer(_) => Answer::Strays,
     }
 }
 

@@ -5,7 +5,7 @@ use Rattle.pic_world.specs.World.{arrived, device_value, after_device_read, afte
 use Rattle.source_examples.proofs.worked_runs.Goals as goal
 use Rattle.src_machine.specs.Control.{active}
 use Rattle.src_machine.specs.Counting.{counted_line}
-use Rattle.src_machine.specs.Runs.{ready_within, ready, take, after, fault_after}
+use Rattle.src_machine.specs.Runs.{run, steps_by, ready_within, ready, take, after, fault_after, is_idle_after, main_steps_after, runs_after}
 use Rattle.src_machine.specs.Step.{act, step, enters, counts, start}
 use Rattle.src_machine.specs.Weights.{expression_weight, arguments_weight, place_weight, part_weight, declarator_weight, statements_weight, stage_weight, weight}
 use Rattle.src_values.specs.Accesses.{take_byte, put_byte, is_covered}
@@ -15,12 +15,23 @@ use Rattle.src_values.specs.Values.{number_from, value_from, fits_behind, conver
 pub returns : goal.returns
 unfolding stored with_stored raised_by is_due entered left
     arrived world.is_due world.entered world.left device_value after_device_read after_device_write sets_gie
-    active counted_line ready_within ready take after fault_after act step enters counts start
+    active counted_line run steps_by ready_within ready take after fault_after is_idle_after main_steps_after runs_after act step enters counts start
     expression_weight arguments_weight place_weight part_weight declarator_weight statements_weight stage_weight weight
     take_byte put_byte is_covered object_bytes is_watched is_alive breaks_isolation moved
     number_from value_from fits_behind converted truth_of unary_answer binary_answer offset_answer difference_answer change_answer kept_in
 returns c = record {
   torn_read = refl;
+  torn_before = refl;
+  torn_not_begun = refl;
+  torn_begun = refl;
+  torn_handler = refl;
+  torn_main = refl;
+  torn_runs = refl;
+  torn_not_ended = refl;
+  torn_ended = refl;
+  chosen = refl;
+  chosen_moment = refl;
+  chosen_steps = refl;
   lost_flag = refl;
   flag_before = refl;
   pending_flag = refl;
@@ -29,6 +40,8 @@ returns c = record {
   overflow = refl;
   shift = refl;
   unset = refl;
+  unset_again = refl;
+  set_before = refl;
   outside = refl;
   order = refl;
   past = refl;
