@@ -14,7 +14,7 @@ use Rattle.sym_code.specs.declared.code.SymBlock.{SymBlock}
 use Rattle.select_code.specs.Selected.{body_code}
 use Rattle.select_code.specs.declared.control.Ending.{Ending}
 use Rattle.select_code.specs.declared.control.Ending.TheVariants.{Halt, Restore, Return}
-use Rattle.core_code.specs.Bytes.{same_root}
+use Rattle.pic_world.specs.Roots.{same_root}
 use Rattle.select_wide.specs.Selection.{wide_code}
 
 abbrev pub is_user : FnId → Bool

@@ -18,7 +18,7 @@ use Rattle.sym_code.specs.declared.code.Sym.TheVariants as sym
 use Rattle.sym_code.specs.declared.code.Target.TheVariants.{Block}
 use Rattle.select_code.specs.Pieces.{byte_behind}
 use Rattle.select_wide.specs.Moves.{copies_code}
-use Rattle.core_code.specs.Bytes.{same_root}
+use Rattle.pic_world.specs.Roots.{same_root}
 
 abbrev pub is_helper : Helper → FnId → Bool
 is_helper helper (callee.User f) = false
