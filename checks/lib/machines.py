@@ -4,8 +4,9 @@ import functools
 
 from interpreter import Function, Memory, NONE, Record, declared, definition, some, value
 
-SOURCE, VALUES, CORE, SYM, CHIP = ('Rattle.%s.specs.' % crate for crate in ('src_machine', 'src_values', 'core_code', 'sym_code', 'pic_chip'))
-FLAGS = tuple(declared(CHIP + 'declared.Flag'))
+SOURCE, MEMORY, CORE, SYM, CHIP, WORLD = (
+    'Rattle.%s.specs.' % crate for crate in ('src_machine', 'src_memory', 'core_code', 'sym_code', 'pic_chip', 'pic_world'))
+FLAGS = tuple(declared(WORLD + 'declared.Flag'))
 
 
 def arrivals_of(pairs):
@@ -14,7 +15,7 @@ def arrivals_of(pairs):
 
 def outside_of(inputs, pairs):
     """What comes from outside, for pairs of a trace's length and a flag."""
-    return definition(CHIP + 'World', 'outside_of')(inputs, arrivals_of(pairs))
+    return definition(WORLD + 'World', 'outside_of')(inputs, arrivals_of(pairs))
 
 
 class Machine:
@@ -55,7 +56,7 @@ class Source(Machine):
         self.step_of, self.counts = definition(SOURCE + 'Step', 'step'), definition(SOURCE + 'Step', 'counts')
         self.weight, self.enters = definition(SOURCE + 'Weights', 'weight'), definition(SOURCE + 'Step', 'enters')
         content = Record(main=shown.main, halt=shown.halt, objects=tuple(shown.objects), frames=tuple(shown.copies))
-        address, show = definition(VALUES + 'Shown', 'address_of'), definition(VALUES + 'Shown', 'shown')
+        address, show = definition(MEMORY + 'Shown', 'address_of'), definition(MEMORY + 'Shown', 'shown')
         where = Function(1, lambda o: address(shown.program, content, o))
         self.show = lambda event: show(where, event)
         self.state = definition(SOURCE + 'Step', 'start')(self.setting)

@@ -35,6 +35,11 @@ abbrev pub has : (FunctionTree → Bool) → List FunctionTree → Bool
 has test [] = false
 has test (f ∷ fs) = test f || has test fs
 
+-- the number of the first function from this number on that passes a test
+abbrev pub first_from : (FunctionTree → Bool) → List FunctionTree → ℕ → Option ℕ
+first_from test [] number = None
+first_from test (f ∷ fs) number = if test f then Some number else first_from test fs (number + 1)
+
 abbrev pub is_handler : FunctionTree → Bool
 is_handler f = f.interrupt
 

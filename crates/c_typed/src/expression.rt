@@ -3,6 +3,7 @@
 ghost use Rattle.std.specs.Prelude.{◌≡◌};
 ghost use Rattle.c_typed.specs.Types.{type_of, place_type, form_of, is_constant};
 ghost use Rattle.c_typed.specs.Views.{expression_of, place_of};
+ghost use Rattle.c_typed.specs.Words.{step_operator};
 
 use crate::types::{Qualified, Ty};
 use c_ints::{BinOp, IntTy, UnOp, Value};
@@ -34,6 +35,18 @@ pub enum StepOp {
     PreDecrement,
     PostIncrement,
     PostDecrement,
+}
+
+impl StepOp {
+    /// The operator of the update that a step is.
+    pub fn operator(self) -> BinOp
+        ensures { result ≡ step_operator self }
+    {
+        match self {
+            StepOp::PreIncrement | StepOp::PostIncrement => BinOp::Add,
+            StepOp::PreDecrement | StepOp::PostDecrement => BinOp::Sub,
+        }
+    }
 }
 
 /// An expression that has a value (ISO/IEC 9899:1990, 6.3).

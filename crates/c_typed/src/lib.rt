@@ -23,7 +23,7 @@ mod tables;
 mod types;
 mod whole;
 
-pub use calls::{FnId, Helper};
+pub use calls::{FnId, Helper, int_helper};
 pub use expression::{LogicalOp, Object, PlaceForm, StepOp, TExpr, TPlace};
 pub use folding::Folded;
 pub use program::{Function, Initial, InitialByte, RootKind, Static, Typed, Variable};

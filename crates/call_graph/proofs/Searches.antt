@@ -1,12 +1,11 @@
 -- Loops that look for an element of a list that passes a test.
 use Rattle.std.proofs.Common.{◌≡◌, ℕ, ◌+◌, ◌<◌, ◌≤◌, Bool, true, false, ◌||◌, if◌then◌else◌, List, [], ◌∷◌, Option, Some, None, length, get_or, map, drop, sym, ap, ◌∙◌, arith, ◌&&◌}
-use Rattle.call_graph.specs.Copies.{first_from}
 use Rattle.call_graph.specs.Rows.{rows_of}
 use Rattle.std.specs.Global.{Global}
 use Rattle.std.specs.declared.vec.Vec.{Vec}
 use Rattle.std.proofs.lemmas.List.{at_drop_more, drop_all}
 use Rattle.c_typed.specs.declared.program.Function.{Function}
-use Rattle.c_typed.specs.Roots.{has, how_many, holds, is_called, is_root, is_root_called}
+use Rattle.c_typed.specs.Roots.{first_from, has, how_many, holds, is_called, is_root, is_root_called}
 use Rattle.c_typed.specs.Trees.{FunctionTree}
 use Rattle.c_typed.specs.Views.{function_of}
 

@@ -4,7 +4,7 @@
 use Rattle.std.specs.Prelude.{◌≡◌, ℕ, ◌+◌, ◌<◌, ◌⊎◌, ◌↔◌, Bool, if◌then◌else◌, List, [], ◌∷◌, Option, Some, None, length, map, get_or}
 use Rattle.std.specs.List.{Contains, AllPairs}
 use Rattle.c_typed.specs.Chains.{graph_of, number_of, IsLevel}
-use Rattle.c_typed.specs.Roots.{is_main, is_handler}
+use Rattle.c_typed.specs.Roots.{is_main, is_handler, first_from}
 use Rattle.c_typed.specs.Trees.{FunctionTree, Program}
 use Rattle.c_typed.specs.declared.calls.FnId.{FnId}
 use Rattle.c_typed.specs.declared.calls.FnId.TheVariants as callee
@@ -12,11 +12,6 @@ use Rattle.call_graph.specs.Levels.{IsLongest}
 use Rattle.call_graph.specs.declared.types.FnCopy.{FnCopy}
 use Rattle.pic_world.specs.declared.Root.{Root}
 use Rattle.pic_world.specs.declared.Root.TheVariants as root
-
--- the number of the first function from this number on that passes a test
-abbrev pub first_from : (FunctionTree → Bool) → List FunctionTree → ℕ → Option ℕ
-first_from test [] number = None
-first_from test (f ∷ fs) number = if test f then Some number else first_from test fs (number + 1)
 
 -- the number of main, and that of the handler, where there is one
 abbrev pub root_of : Program → Root → Option ℕ

@@ -5,75 +5,9 @@ ghost use Rattle.std.specs.Option.{option_map};
 ghost use Rattle.c_typed.specs.Calls as stated;
 ghost use Rattle.c_typed.specs.Views.{expression_of, place_of, item_of, statement_of, arm_of, arguments_of, statements_of, arms_of};
 
-use c_ints::{BinOp, IntTy};
-use c_typed::{FnId, Helper, TArm, TExpr, TItem, TPlace, TStmt, Ty};
+use c_ints::BinOp;
+use c_typed::{FnId, Helper, TArm, TExpr, TItem, TPlace, TStmt, Ty, int_helper};
 use std::alloc::AllocError;
-
-// The helper for a type: signed and unsigned of 2 bytes, signed and unsigned of 4 bytes.
-fn by_type(s2: Helper, u2: Helper, s4: Helper, u4: Helper, ty: IntTy) -> Option<Helper>
-    ensures { result ≡ stated.by_type s2 u2 s4 u4 ty }
-{
-    match ty {
-        IntTy::Char | IntTy::SChar | IntTy::UChar => None,
-        IntTy::Short | IntTy::Int => Some(s2),
-        IntTy::UShort | IntTy::UInt => Some(u2),
-        IntTy::Long => Some(s4),
-        IntTy::ULong => Some(u4),
-    }
-}
-
-fn int_helper(op: BinOp, constant: bool, ty: IntTy) -> Option<Helper>
-    ensures { result ≡ stated.int_helper op constant ty }
-{
-    match op {
-        BinOp::Mul => by_type(Helper::Mul2, Helper::Mul2, Helper::Mul4, Helper::Mul4, ty),
-        BinOp::Div => by_type(
-            Helper::Divs2,
-            Helper::Divu2,
-            Helper::Divs4,
-            Helper::Divu4,
-            ty,
-        ),
-        BinOp::Rem => by_type(
-            Helper::Rems2,
-            Helper::Remu2,
-            Helper::Rems4,
-            Helper::Remu4,
-            ty,
-        ),
-        BinOp::Shl => {
-            if constant {
-                None
-            } else {
-                by_type(Helper::Shl2, Helper::Shl2, Helper::Shl4, Helper::Shl4, ty)
-            }
-        }
-        BinOp::Shr => {
-            if constant {
-                None
-            } else {
-                by_type(
-                    Helper::Shrs2,
-                    Helper::Shru2,
-                    Helper::Shrs4,
-                    Helper::Shru4,
-                    ty,
-                )
-            }
-        }
-        BinOp::Add
-        | BinOp::Sub
-        | BinOp::Lt
-        | BinOp::Gt
-        | BinOp::Le
-        | BinOp::Ge
-        | BinOp::Eq
-        | BinOp::Ne
-        | BinOp::And
-        | BinOp::Xor
-        | BinOp::Or => None,
-    }
-}
 
 fn helper_for(op: BinOp, constant: bool, ty: Ty) -> Option<Helper>
     ensures { result ≡ stated.helper_for op constant ty }

@@ -2,7 +2,7 @@
 
 ghost use Rattle.std.specs.Prelude.{◌≡◌, ◌<◌, ◌≤◌, ◌^◌, ◌&&◌, length, map, IfNone, IfOk, MatchResult, false, Some, None};
 ghost use Rattle.c_typed.specs.Chains.{graph_of};
-ghost use Rattle.call_graph.specs.Copies.{first_from, root_of};
+ghost use Rattle.call_graph.specs.Copies.{root_of};
 ghost use Rattle.call_graph.specs.Rows.{rows_of};
 ghost use Rattle.c_typed.specs.Roots as stated;
 ghost use Rattle.c_typed.specs.Sameness as typing;
@@ -111,7 +111,7 @@ fn has_bad_handler(functions: &[Function]) -> bool
 
 fn main_of(functions: &[Function]) -> Option<u32>
     requires { length functions.now ≤ 2 ^ 28 }
-    ensures first { result ≡ first_from stated.is_main (map function_of functions.now) 0 }
+    ensures first { result ≡ stated.first_from stated.is_main (map function_of functions.now) 0 }
     ensures none { IfNone result (stated.has stated.is_main (map function_of functions.now) ≡ false) }
 {
     for (number, function) in functions.iter().enumerate() {
@@ -124,7 +124,7 @@ fn main_of(functions: &[Function]) -> Option<u32>
 
 fn handler_of(functions: &[Function]) -> Option<u32>
     requires { length functions.now ≤ 2 ^ 28 }
-    ensures { result ≡ first_from stated.is_handler (map function_of functions.now) 0 }
+    ensures { result ≡ stated.first_from stated.is_handler (map function_of functions.now) 0 }
 {
     for (number, function) in functions.iter().enumerate() {
         if function.interrupt {

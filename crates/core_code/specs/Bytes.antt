@@ -1,8 +1,8 @@
 -- What a byte of data memory holds before objects have addresses: nothing yet, a number, or the low or high byte of a
 -- pointer to a byte of an object.
 use Rattle.std.specs.Prelude.{ℕ, zero, suc, ◌+◌, Bool, true, false, not, ◌&&◌, ◌||◌, nat_eq, nat_le, if◌then◌else◌, Option, Some, None}
+use Rattle.pic_world.specs.Roots.{same_root}
 use Rattle.pic_world.specs.declared.Root.{Root}
-use Rattle.pic_world.specs.declared.Root.TheVariants.{Main, Isr}
 use Rattle.core_code.specs.declared.code.Byte.{Byte}
 use Rattle.core_code.specs.declared.code.Byte.TheVariants.{Static, Frame, Result, Device}
 
@@ -16,12 +16,6 @@ pub data Held : Type 0 where
   Unset : Held
   Number : ℕ → Held
   Part : Object → ℕ → Bool → Held
-
-abbrev pub same_root : Root → Root → Bool
-same_root Main Main = true
-same_root Main Isr = false
-same_root Isr Main = false
-same_root Isr Isr = true
 
 abbrev pub same_object : Object → Object → Bool
 same_object (Fixed n) (Fixed m) = nat_eq n m

@@ -11,11 +11,12 @@ use Rattle.c_ints.specs.declared.operators.UnOp.{UnOp}
 use Rattle.c_ints.specs.declared.types.IntTy.{IntTy}
 use Rattle.pic_world.specs.Bits.{bit, set_bit, clear_bit}
 use Rattle.pic_world.specs.Registers.{is_register, lowest}
+use Rattle.pic_world.specs.Roots.{same_root}
 use Rattle.pic_world.specs.World.{Outside, World, Happening, ReadOf, WriteOf, Ended, arrived, is_due, entered, left, noted, device_value, after_device_read, after_device_write, sets_gie, world_at_start}
 use Rattle.pic_world.specs.declared.Cell.TheVariants as cells
 use Rattle.pic_world.specs.declared.Root.{Root}
 use Rattle.pic_world.specs.declared.Root.TheVariants.{Main, Isr}
-use Rattle.core_code.specs.Bytes.{Object, Fixed, FrameOf, Held, Place, Memory, Unset, Number, same_root, byte_in, place_of, behind, is_private, with_byte, with_bytes, without_frame, without_results}
+use Rattle.core_code.specs.Bytes.{Object, Fixed, FrameOf, Held, Place, Memory, Unset, Number, byte_in, place_of, behind, is_private, with_byte, with_bytes, without_frame, without_results}
 use Rattle.core_code.specs.Operands.{number_left, is_helped, fits_unary, fits_together}
 use Rattle.core_code.specs.Tree as tree
 use Rattle.core_code.specs.Tree.{Tree, list_of}

@@ -6,6 +6,7 @@ use Rattle.c_typed.specs.Folding.{bits, constant_bits}
 use Rattle.c_typed.specs.Trees as tree
 use Rattle.c_typed.specs.Trees.{Expression, Expressions, Place}
 use Rattle.c_typed.specs.Types.{type_of, place_type, is_constant}
+use Rattle.c_typed.specs.Words.{step_operator}
 use Rattle.c_typed.specs.declared.expression.StepOp.{StepOp}
 use Rattle.c_typed.specs.declared.types.Ty.{Ty}
 use Rattle.c_typed.specs.declared.types.Ty.TheVariants.{Void, Int, Pointer, Array, Struct}
@@ -15,7 +16,7 @@ use Rattle.core_code.specs.declared.code.Byte.TheVariants.{Frame, Result}
 use Rattle.lower_expr.specs.Bytes.{beyond, operation_type}
 use Rattle.lower_expr.specs.Layout.{Layout, width, value_width, place_width, object_byte, copy_of}
 use Rattle.lower_expr.specs.Puts.{sets, choice}
-use Rattle.lower_expr.specs.Rows.{widened, tested, unary_row, logical_row, is_shift, binary_row, offset_row, difference_row, member_row, address_row, value_row, assigned_row, change_of, update_row, step_operator, step_number, keeps_old, step_row, called_row, struct_row}
+use Rattle.lower_expr.specs.Rows.{widened, tested, unary_row, logical_row, is_shift, binary_row, offset_row, difference_row, member_row, address_row, value_row, assigned_row, change_of, update_row, step_number, keeps_old, step_row, called_row, struct_row}
 use Rattle.lower_expr.specs.Spots.{spot_of, pointer_bytes}
 use Rattle.lower_expr.specs.declared.assignments.Change.TheVariants.{Plain}
 use Rattle.lower_expr.specs.declared.assignments.Update.{Update}

@@ -192,12 +192,6 @@ update_row u spot root at bytes from =
     (behind (behind at (pointer_bytes spot)) u.count)
     (behind (behind (behind at (pointer_bytes spot)) u.count) u.count)
 
-abbrev pub step_operator : StepOp → BinOp
-step_operator PreIncrement = binop.Add
-step_operator PreDecrement = binop.Sub
-step_operator PostIncrement = binop.Add
-step_operator PostDecrement = binop.Sub
-
 -- the value before the step is what the step gives
 abbrev pub keeps_old : StepOp → Bool
 keeps_old PreIncrement = false

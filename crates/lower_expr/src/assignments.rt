@@ -218,15 +218,6 @@ pub(crate) fn update_of(
     }
 }
 
-fn step_operator(op: StepOp) -> BinOp
-    ensures { result ≡ row.step_operator op }
-{
-    match op {
-        StepOp::PreIncrement | StepOp::PostIncrement => BinOp::Add,
-        StepOp::PreDecrement | StepOp::PostDecrement => BinOp::Sub,
-    }
-}
-
 fn keeps_old(op: StepOp) -> bool
     ensures { result ≡ row.keeps_old op }
 {
@@ -242,7 +233,7 @@ pub(crate) fn step_of(wanted: bool, places: &Locals, op: StepOp, operation: Ty) 
     ensures { result ≡ lowering.step_of wanted (layout_of places.now) op operation }
 {
     Update {
-        op: step_operator(op),
+        op: op.operator(),
         change: Change::Plain,
         operation,
         count: width(places, operation),

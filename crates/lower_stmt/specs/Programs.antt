@@ -10,7 +10,8 @@ use Rattle.c_typed.specs.declared.calls.FnId.TheVariants as callees
 use Rattle.c_typed.specs.declared.calls.Helper.{Helper}
 use Rattle.call_graph.specs.Numbers.{handler_at, is_helper, copy_of}
 use Rattle.call_graph.specs.declared.types.FnCopy.{FnCopy}
-use Rattle.core_code.specs.Bytes.{Held, same_root}
+use Rattle.core_code.specs.Bytes.{Held}
+use Rattle.pic_world.specs.Roots.{same_root}
 use Rattle.core_code.specs.FirstBytes.{first_held}
 use Rattle.core_code.specs.Machine.{Program}
 use Rattle.core_code.specs.Tree.{Tree}

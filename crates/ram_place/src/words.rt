@@ -183,15 +183,6 @@ fn update_words(
     plus(plus(stored, times(12, bytes)), computed_words(form))
 }
 
-fn step_operator(op: StepOp) -> BinOp
-    ensures { result ≡ stated.step_operator op }
-{
-    match op {
-        StepOp::PreIncrement | StepOp::PostIncrement => BinOp::Add,
-        StepOp::PreDecrement | StepOp::PostDecrement => BinOp::Sub,
-    }
-}
-
 fn kept_words(op: StepOp, place: u64) -> u64
     ensures { result ≡ capped (stated.kept_words op place) }
 {
@@ -204,7 +195,7 @@ fn kept_words(op: StepOp, place: u64) -> u64
 fn step_words(op: StepOp, form: PlaceForm, place: u64, operation: Ty, bytes: u64, size: u64) -> u64
     ensures { result ≡ capped (stated.step_words op form place operation bytes size) }
 {
-    let updated = update_words(step_operator(op), true, form, place, operation, bytes, size);
+    let updated = update_words(op.operator(), true, form, place, operation, bytes, size);
     plus(plus(updated, kept_words(op, place)), 8)
 }
 

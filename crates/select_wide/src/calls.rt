@@ -1,13 +1,11 @@
 //! Operators that the chip has no instructions for: calls of helpers.
 
 ghost use Rattle.std.specs.Prelude.{◌≡◌, ◌++◌, Some, OnOk, IfOk, false};
-ghost use Rattle.c_typed.specs.Calls.{int_helper, by_type};
 ghost use Rattle.call_graph.specs.Numbers.{is_helper, is_copy_of, copy_of};
 ghost use Rattle.select_wide.specs.Calls.{enter_code, helper_call_code};
 
 use crate::moves::{is_same_root, put_copies};
 use crate::operands::Operands;
-use c_ints::{BinOp, IntTy};
 use c_typed::{FnId, Helper};
 use call_graph::{FnCopy, number_of};
 use core_code::Byte;
@@ -15,62 +13,6 @@ use pic_world::Root;
 use select_code::behind;
 use std::alloc::AllocError;
 use sym_code::{BlockName, Sym, SymBlock, Target};
-
-// One of four: for signed and unsigned values of two bytes, and for signed and unsigned ones of four bytes.
-fn by_type(s2: Helper, u2: Helper, s4: Helper, u4: Helper, ty: IntTy) -> Option<Helper>
-    ensures { result ≡ by_type s2 u2 s4 u4 ty }
-{
-    match ty {
-        IntTy::Char | IntTy::SChar | IntTy::UChar => None,
-        IntTy::Short | IntTy::Int => Some(s2),
-        IntTy::UShort | IntTy::UInt => Some(u2),
-        IntTy::Long => Some(s4),
-        IntTy::ULong => Some(u4),
-    }
-}
-
-/// The helper for an operator on values of a type; for a shift, that by a count which isn't constant. Types of one byte
-/// have none: the operands were promoted. `None` also for the operators that the chip has instructions for.
-pub fn helper_of(op: BinOp, ty: IntTy) -> Option<Helper>
-    ensures { result ≡ int_helper op false ty }
-{
-    match op {
-        BinOp::Mul => by_type(Helper::Mul2, Helper::Mul2, Helper::Mul4, Helper::Mul4, ty),
-        BinOp::Div => by_type(
-            Helper::Divs2,
-            Helper::Divu2,
-            Helper::Divs4,
-            Helper::Divu4,
-            ty,
-        ),
-        BinOp::Rem => by_type(
-            Helper::Rems2,
-            Helper::Remu2,
-            Helper::Rems4,
-            Helper::Remu4,
-            ty,
-        ),
-        BinOp::Shl => by_type(Helper::Shl2, Helper::Shl2, Helper::Shl4, Helper::Shl4, ty),
-        BinOp::Shr => by_type(
-            Helper::Shrs2,
-            Helper::Shru2,
-            Helper::Shrs4,
-            Helper::Shru4,
-            ty,
-        ),
-        BinOp::Add
-        | BinOp::Sub
-        | BinOp::Lt
-        | BinOp::Gt
-        | BinOp::Le
-        | BinOp::Ge
-        | BinOp::Eq
-        | BinOp::Ne
-        | BinOp::And
-        | BinOp::Xor
-        | BinOp::Or => None,
-    }
-}
 
 fn is_helper(helper: Helper, function: FnId) -> bool
     ensures { result ≡ is_helper helper function }

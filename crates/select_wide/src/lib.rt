@@ -29,7 +29,6 @@ mod shifts;
 mod single;
 mod sums;
 
-pub use calls::helper_of;
 pub use selection::{handler_at, select};
 
 #[cfg(test)]

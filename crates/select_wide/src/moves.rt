@@ -1,7 +1,8 @@
 //! Names of bytes, and several bytes that become others, W, or 0.
 
 ghost use Rattle.std.specs.Prelude.{◌≡◌, ◌++◌, OnOk, min};
-ghost use Rattle.core_code.specs.Bytes.{same_byte, same_root};
+ghost use Rattle.core_code.specs.Bytes.{same_byte};
+ghost use Rattle.pic_world.specs.Roots.{same_root};
 ghost use Rattle.select_code.specs.Pieces.{byte_behind};
 ghost use Rattle.select_wide.specs.Moves.{copies_code, stores_code, clears_code};
 

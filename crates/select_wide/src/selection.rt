@@ -10,7 +10,7 @@ ghost use Rattle.select_wide.specs.Calls.{helped_code};
 ghost use Rattle.core_code.specs.Operands.{number_behind, number_left};
 ghost use Rattle.select_wide.specs.Selection.{way_of, shifted_code, binary_code, wide_code};
 
-use crate::calls::{copy_of, helper_of, put_helper_call};
+use crate::calls::{copy_of, put_helper_call};
 use crate::comparisons::{put_equality, put_order};
 use crate::moves::{is_same, is_same_root};
 use crate::operands::{Operands, Way};
@@ -19,6 +19,7 @@ use crate::shifts::put_shift;
 use crate::single::{is_signed, put_unary, put_widening};
 use crate::sums::{put_bits, put_difference, put_sum};
 use c_ints::{BinOp, IntTy, size};
+use c_typed::int_helper;
 use call_graph::{Copies, FnCopy, FnId};
 use core_code::{Body, Byte, Core, CoreProgram};
 use pic_world::Root;
@@ -99,7 +100,7 @@ fn put_helped(
     ensures put { OnOk result (out.new.list.items ≡ out.old.list.items ++ helped_code selector.now.list.now selector.now.root op ty o.to o.left o.right o.width count) }
     ensures name { out.new.name ≡ out.old.name }
 {
-    match helper_of(op, ty) {
+    match int_helper(op, false, ty) {
         Some(helper) => {
             let copy = copy_of(selector.list, selector.root, helper)?;
             put_helper_call(copy, selector.root, o, count, out)

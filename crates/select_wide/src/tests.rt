@@ -1,8 +1,8 @@
 // Lists of instructions written by hand from the instruction table of the data sheet DS39582.
+use crate::select;
 use crate::selection::Selector;
-use crate::{helper_of, select};
 use c_ints::{BinOp, IntTy};
-use c_typed::Helper;
+use c_typed::{Helper, int_helper};
 use call_graph::{Copies, FnCopy, FnId};
 use core_code::{Body, Byte, Core, CoreProgram};
 use pic_world::Root;
@@ -204,10 +204,19 @@ fn a_shift_by_nine_moves_a_byte_and_a_bit(rt: HostRuntime) -> Result<(), Fail> {
 
 #[test]
 fn helpers_go_by_width_and_sign(rt: HostRuntime) {
-    assert_eq!(rt; helper_of(BinOp::Mul, IntTy::UInt), Some(Helper::Mul2));
-    assert_eq!(rt; helper_of(BinOp::Rem, IntTy::Long), Some(Helper::Rems4));
-    assert_eq!(rt; helper_of(BinOp::Shr, IntTy::ULong), Some(Helper::Shru4));
-    assert_eq!(rt; helper_of(BinOp::Add, IntTy::Long), None);
+    assert_eq!(rt;
+        int_helper(BinOp::Mul, false, IntTy::UInt),
+        Some(Helper::Mul2)
+    );
+    assert_eq!(rt;
+        int_helper(BinOp::Rem, false, IntTy::Long),
+        Some(Helper::Rems4)
+    );
+    assert_eq!(rt;
+        int_helper(BinOp::Shr, false, IntTy::ULong),
+        Some(Helper::Shru4)
+    );
+    assert_eq!(rt; int_helper(BinOp::Add, false, IntTy::Long), None);
 }
 
 #[test]

@@ -1,22 +1,22 @@
 -- Where a value goes: the node that waits for it takes it (ISO/IEC 9899:1990, 6.3 and 6.6).
-use Rattle.std.specs.Prelude.{ℕ, zero, suc, Bool, true, false, not, if◌then◌else◌, List, [], ◌∷◌, ◌++◌, Option, Some, None}
-use Rattle.std.specs.Ordering.{int_eq}
+use Rattle.std.specs.Prelude.{ℕ, zero, suc, Bool, true, false, if◌then◌else◌, List, [], ◌∷◌, ◌++◌, Option, Some, None}
 use Rattle.c_typed.specs.Trees as tree
 use Rattle.c_typed.specs.Trees.{Expression, Place, Statement, Statements}
 use Rattle.c_typed.specs.Words.{step_operator}
 use Rattle.c_typed.specs.declared.expression.LogicalOp.{LogicalOp}
-use Rattle.c_typed.specs.declared.expression.LogicalOp.TheVariants.{And, Or}
 use Rattle.c_typed.specs.declared.statement.TCase.{TCase}
 use Rattle.pic_world.specs.World.{World}
-use Rattle.src_machine.specs.Accesses.{goes, fetching, behind, is_postfix}
-use Rattle.src_machine.specs.Control.{Eval, Holds, Found, Run, Past, Write, Leaves, Compares, Got, Nothing, Chosen, One, At, AtWith, Stores, Args, Stage, Tests, Begins, Steps, Turns, Picks, InArm, Chooses, Fills, AtItem, Items, Pending, In, To, Doing, Before, Outcome, Undefined, Lost, active}
+use Rattle.src_machine.specs.Accesses.{goes, fetching}
 use Rattle.src_machine.specs.Expressions.{arguments}
+use Rattle.src_machine.specs.State.{Outcome, Undefined, Lost}
 use Rattle.src_machine.specs.Statements.{arms, test, turn, unwound}
+use Rattle.src_memory.specs.Memory.{Setting, Memory}
+use Rattle.src_values.specs.Control.{Eval, Holds, Found, Run, Past, Write, Leaves, Compares, Got, Nothing, Chosen, One, At, AtWith, Stores, Args, Stage, Tests, Begins, Steps, Turns, Picks, InArm, Chooses, Fills, AtItem, Items, Pending, In, To, Doing, Before, active}
 use Rattle.src_values.specs.Data.{Datum}
 use Rattle.src_values.specs.Data.{Number, Pointer, Missing}
-use Rattle.src_values.specs.Objects.{Setting, Memory, local_of}
+use Rattle.src_values.specs.Objects.{behind, local_of}
 use Rattle.src_values.specs.Values as answers
-use Rattle.src_values.specs.Values.{Answer, converted, truth_of, truth_value, unary_answer, binary_answer, offset_answer, difference_answer, change_answer, one_in}
+use Rattle.src_values.specs.Values.{is_postfix, Answer, converted, truth_of, truth_value, unary_answer, binary_answer, offset_answer, difference_answer, change_answer, one_in, decides, is_case}
 use Rattle.src_values.specs.declared.objects.Byte.{Byte}
 use Rattle.src_values.specs.declared.objects.CopyOf.{CopyOf}
 use Rattle.src_values.specs.declared.objects.Spot.{Spot}
@@ -40,11 +40,6 @@ abbrev pub branch : Option Bool → ℕ → Outcome → Outcome → Outcome
 branch None line first second = Undefined Unset line
 branch (Some true) line first second = first
 branch (Some false) line first second = second
-
--- && and ||: the right operand counts only where the left one doesn't decide
-abbrev pub decides : LogicalOp → Bool → Bool
-decides And holds = not holds
-decides Or holds = holds
 
 abbrev pub logical : Expression → LogicalOp → Datum → Option Bool → Expression → ℕ → List Pending → CopyOf → Memory → World Byte → Outcome
 logical e op v None right line k c m w = Undefined Unset line
@@ -113,11 +108,6 @@ jump t target ss k c m w = goes c Past (Before (statements_behind target ss) ∷
 abbrev pub jump_if_any : Statement → Option ℕ → Statements → List Pending → CopyOf → Memory → World Byte → Outcome
 jump_if_any t None ss k c m w = goes c Past k m w
 jump_if_any t (Some target) ss k c m w = jump t target ss k c m w
-
-abbrev pub is_case : Datum → TCase → Bool
-is_case (Number q) label = int_eq q.number label.value.number
-is_case (Pointer x) label = false
-is_case Missing label = false
 
 abbrev pub compares_in : Statement → Statements → Option ℕ → Datum → List TCase → List Pending → CopyOf → Memory → World Byte → Outcome
 compares_in t ss default v [] k c m w = jump_if_any t default ss k c m w

@@ -1,9 +1,8 @@
-pub mod Control
+pub mod State
 pub mod Accesses
 pub mod Expressions
 pub mod Statements
 pub mod Giving
-pub mod Counting
 pub mod Step
 pub mod Weights
 pub mod Runs

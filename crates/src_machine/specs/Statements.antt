@@ -1,15 +1,17 @@
 -- How statements begin, and what follows them (ISO/IEC 9899:1990, 6.6).
-use Rattle.std.specs.Prelude.{ℕ, List, [], ◌∷◌, Option, Some, None}
+use Rattle.std.specs.Prelude.{List, [], ◌∷◌, Option, Some, None}
 use Rattle.c_typed.specs.Trees as tree
 use Rattle.c_typed.specs.Trees.{Expression, Statement, Arms, LastArm}
 use Rattle.c_typed.specs.declared.statement.LoopForm.{LoopForm}
 use Rattle.c_typed.specs.declared.statement.LoopForm.TheVariants.{While, Do, For}
 use Rattle.pic_world.specs.World.{World, Ended, noted, left}
 use Rattle.src_machine.specs.Accesses.{goes, items}
-use Rattle.src_machine.specs.Control.{Eval, Holds, Run, Past, Leaves, Over, Got, Called, Stage, Tests, Begins, Steps, Turns, Picks, InArm, Pending, In, Doing, Before, Returns, Resumes, Outcome, Went, Lost, state}
+use Rattle.src_machine.specs.State.{Outcome, Went, Lost, state}
+use Rattle.src_memory.specs.Memory.{Setting, Memory, cleared}
+use Rattle.src_values.specs.Control.{Eval, Holds, Run, Past, Leaves, Over, Called, Stage, Tests, Begins, Steps, Turns, Picks, InArm, Pending, In, Doing, Before, Returns, Resumes}
 use Rattle.src_values.specs.Data.{Datum}
 use Rattle.src_values.specs.Data.{Missing}
-use Rattle.src_values.specs.Objects.{Setting, Memory, local_of, cleared}
+use Rattle.src_values.specs.Objects.{local_of}
 use Rattle.src_values.specs.declared.objects.Byte.{Byte}
 use Rattle.src_values.specs.declared.objects.CopyOf.{CopyOf}
 

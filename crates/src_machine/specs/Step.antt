@@ -6,14 +6,16 @@ use Rattle.pic_world.specs.World.{World, arrived, is_due, entered, world_at_star
 use Rattle.pic_world.specs.declared.Root.{Root}
 use Rattle.pic_world.specs.declared.Root.TheVariants.{Main, Isr}
 use Rattle.src_machine.specs.Accesses.{goes, fetch, skim, write, put_bit, copy_read, copy_write, spell, blank}
-use Rattle.src_machine.specs.Control.{Focus, Eval, Find, Holds, Found, Run, Past, Fetch, Skim, Write, PutBit, CopyRead, CopyWrite, Spell, Blank, Calls, Leaves, Compares, Over, Got, Passed, Called, Pending, In, Before, Returns, Resumes, State, state, Outcome, Went, Undefined, Idle, Lost}
-use Rattle.src_machine.specs.Counting.{counted_line}
 use Rattle.src_machine.specs.Expressions.{eval, find, found}
 use Rattle.src_machine.specs.Giving.{give, compares}
+use Rattle.src_machine.specs.State.{State, state, Outcome, Went, Undefined, Idle, Lost}
 use Rattle.src_machine.specs.Statements.{begin, leave, proceed}
-use Rattle.src_values.specs.Data.{Datum}
+use Rattle.src_memory.specs.Memory.{Setting, Memory, fresh, first_memory}
+use Rattle.src_values.specs.Control.{Focus, Eval, Find, Holds, Found, Run, Past, Fetch, Skim, Write, PutBit, CopyRead, CopyWrite, Spell, Blank, Calls, Leaves, Compares, Over, Got, Passed, Called, Pending, In, Before, Returns, Resumes}
+use Rattle.src_values.specs.Counting.{counted_line}
 use Rattle.src_values.specs.Data as datum
-use Rattle.src_values.specs.Objects.{Setting, Memory, function_at, handler_in, main_of, same_object, fresh, first_memory}
+use Rattle.src_values.specs.Data.{Datum}
+use Rattle.src_values.specs.Objects.{function_at, handler_in, main_of, same_object}
 use Rattle.src_values.specs.Values.{byte_count, byte_of}
 use Rattle.src_values.specs.declared.objects.Byte.{Byte}
 use Rattle.src_values.specs.declared.objects.CopyOf.{CopyOf}

@@ -2,10 +2,11 @@
 -- doesn't count, in programs where a loop's body is no declarator.
 use Rattle.std.specs.Prelude.{ℕ, ◌+◌, if◌then◌else◌, List, [], ◌∷◌, Option, Some, None}
 use Rattle.c_typed.specs.Trees as tree
-use Rattle.c_typed.specs.Trees.{Expression, Expressions, Place, Item, Statement, Statements, Arm, Arms, LastArm}
-use Rattle.src_machine.specs.Control.{Focus, Eval, Find, Run, Got, Nothing, One, At, AtWith, Stores, Copies, Args, Passed, Called, Stage, Tests, Begins, Steps, Turns, Picks, Chooses, Fills, AtItem, Items, Blanks, Pending, In, To, Doing, Before, Returns, Resumes, State}
+use Rattle.c_typed.specs.Trees.{Expression, Expressions, Place, Item, Statement, Statements, Arms, LastArm}
+use Rattle.src_machine.specs.State.{State}
 use Rattle.src_machine.specs.Step.{counts}
-use Rattle.src_values.specs.Objects.{Setting}
+use Rattle.src_memory.specs.Memory.{Setting}
+use Rattle.src_values.specs.Control.{Focus, Eval, Find, Run, Got, Nothing, At, AtWith, Args, Passed, Stage, Tests, Begins, Steps, Turns, Picks, Chooses, AtItem, Items, Pending, In, To, Doing, Before, Returns, Resumes}
 
 -- ---- expressions and places, from their beginning to their value
 unfoldable mutual

@@ -1,51 +1,17 @@
 //! How values are read and written, byte by byte: each byte is a step. The node that a value belongs to waits below,
 //! until all bytes are done.
 
-use crate::control::{Code, Focus, Got, Pending, Stage};
-use crate::counting::statement_line;
 use crate::machine::{Machine, Outcome, undefined};
-use c_typed::{StepOp, TExpr, TItem, TStmt, Ty};
+use c_typed::{TExpr, TItem, TStmt, Ty};
 use pic_world::{Event, Script};
-use src_values::accesses::{Fits, Reach, Taken, is_covered, with_bit};
+use src_memory::accesses::{Fits, Reach, Taken, with_bit};
+use src_values::control::{Code, Focus, Got, Pending, Stage, line_at, list_at, read_type};
+use src_values::lists::covered_from;
+use src_values::names::{local_of, object_bytes};
 use src_values::objects::ReadBytes;
-use src_values::values::{byte_count, byte_of, kept_in, lowest_bit, next_byte, value_from};
+use src_values::pointers::{behind, next_byte};
+use src_values::values::{answer_of, byte_of, lowest_bit, value_from, written_bytes};
 use src_values::{Byte, CopyOf, Datum, Object, Pointer, Spot, Undef};
-
-/// Whether the value of `++` or `--` is the old one.
-pub(crate) fn is_postfix(op: StepOp) -> bool {
-    match op {
-        StepOp::PostIncrement | StepOp::PostDecrement => true,
-        StepOp::PreIncrement | StepOp::PreDecrement => false,
-    }
-}
-
-// The value of an expression behind the write of its place: what the place holds afterwards, or the old value.
-fn answer_of(expr: &TExpr, spot: Spot, value: Datum) -> Datum {
-    match expr {
-        TExpr::Step { op, .. } if is_postfix(*op) => value,
-        _ => kept_in(spot, value),
-    }
-}
-
-/// The byte so many behind the start of an object.
-pub(crate) fn behind(object: Object, offset: u64) -> Spot {
-    Spot::Memory(Pointer::Into { object, offset })
-}
-
-/// How many bytes a write of a value has: one where a bit is written.
-pub(crate) fn written_bytes(spot: Spot, value: Datum) -> u8 {
-    match spot {
-        Spot::Bit { .. } => 1,
-        Spot::Device(_) | Spot::Memory(_) => byte_count(value),
-    }
-}
-
-fn is_over(focus: &Focus) -> bool {
-    match focus {
-        Focus::Over => true,
-        _ => false,
-    }
-}
 
 impl<'a> Machine<'a> {
     // Whether a copy waits for a call or for the handler.
@@ -58,7 +24,7 @@ impl<'a> Machine<'a> {
                     }
                 }
                 Pending::Resumes(other) => {
-                    if *other == copy && !is_over(&self.interrupted) {
+                    if *other == copy && !self.interrupted.is_over() {
                         return true;
                     }
                 }
@@ -73,7 +39,7 @@ impl<'a> Machine<'a> {
         match object {
             Object::Fixed(_) => true,
             Object::Variable { copy, .. } => {
-                (copy == self.copy && !is_over(&self.focus)) || self.is_waiting(copy)
+                (copy == self.copy && !self.focus.is_over()) || self.is_waiting(copy)
             }
         }
     }
@@ -101,19 +67,6 @@ impl<'a> Machine<'a> {
         self.memory.put_byte(&mut self.world, reach, spot, byte)
     }
 
-    // The line of the node that waits.
-    pub(crate) fn line_at(&self) -> u32 {
-        match self.stack.last() {
-            Some(Pending::In(expr, _)) => expr.line(),
-            Some(Pending::To(place)) => place.line(),
-            Some(Pending::Doing(code, _)) => match code.statement() {
-                Some(statement) => statement_line(statement),
-                None => 0,
-            },
-            _ => 0,
-        }
-    }
-
     // Goes on behind an access with the event that it made.
     fn after(&mut self, event: Option<Event>, focus: Focus<'a>) -> Outcome {
         self.focus = focus;
@@ -123,7 +76,7 @@ impl<'a> Machine<'a> {
     fn after_putting(&mut self, access: Result<Option<Event>, Undef>, focus: Focus<'a>) -> Outcome {
         match access {
             Ok(event) => self.after(event, focus),
-            Err(kind) => undefined(kind, self.line_at()),
+            Err(kind) => undefined(kind, line_at(self.stack.last())),
         }
     }
 
@@ -141,14 +94,6 @@ impl<'a> Machine<'a> {
         Focus::Skim { spot, left, last }
     }
 
-    /// The type that the node which waits reads its place as.
-    pub(crate) fn read_type(&self) -> Ty {
-        match self.stack.last() {
-            Some(Pending::In(expr, _)) => expr.ty(),
-            _ => Ty::Void,
-        }
-    }
-
     // A value was read. It is that of a node that only reads; others go on with it.
     fn fetched(&mut self, value: Datum) -> Outcome {
         if let Some(Pending::In(expr, Got::At(_))) = self.stack.last() {
@@ -160,7 +105,7 @@ impl<'a> Machine<'a> {
     }
 
     pub(crate) fn fetch(&mut self, spot: Spot, read: ReadBytes, script: &Script) -> Outcome {
-        let ty = self.read_type();
+        let ty = read_type(self.stack.last());
         if self.program.bytes_of(ty) <= read.count() as u64 {
             return self.fetched(value_from(ty, read));
         }
@@ -170,7 +115,7 @@ impl<'a> Machine<'a> {
                 let read = read.and(taken.byte);
                 self.after(taken.event, Focus::Fetch { spot, read })
             }
-            Err(kind) => undefined(kind, self.line_at()),
+            Err(kind) => undefined(kind, line_at(self.stack.last())),
         }
     }
 
@@ -187,7 +132,7 @@ impl<'a> Machine<'a> {
                 };
                 self.after(taken.event, focus)
             }
-            Err(kind) => undefined(kind, self.line_at()),
+            Err(kind) => undefined(kind, line_at(self.stack.last())),
         }
     }
 
@@ -200,7 +145,7 @@ impl<'a> Machine<'a> {
         at: usize,
     ) -> Outcome {
         let Some(item) = items.get(at) else {
-            let left = self.memory.size(object);
+            let left = object_bytes(self.program, object);
             return self.go_waiting(
                 Focus::Blank { at: 0, left },
                 Pending::Doing(code, Stage::Blanks),
@@ -234,7 +179,7 @@ impl<'a> Machine<'a> {
             },
             Some(TStmt::InitList { local, items, .. }) => match stage {
                 Stage::Items(at) => {
-                    let object = self.local_of(*local);
+                    let object = local_of(self.program, self.copy, *local);
                     self.items(code, object, items, at.saturating_add(1))
                 }
                 Stage::Blanks => self.go(Focus::Past),
@@ -307,7 +252,7 @@ impl<'a> Machine<'a> {
                 };
                 self.after(taken.event, focus)
             }
-            Err(kind) => undefined(kind, self.line_at()),
+            Err(kind) => undefined(kind, line_at(self.stack.last())),
         }
     }
 
@@ -335,39 +280,21 @@ impl<'a> Machine<'a> {
         self.after_putting(access, focus)
     }
 
-    /// How many bytes from this one on have an item of the list, of so many.
-    pub(crate) fn covered_from(&self, items: &[TItem], at: u64, left: u64) -> u64 {
-        for count in 0..left {
-            if !is_covered(self.program, items, at.saturating_add(count)) {
-                return count;
-            }
-        }
-        left
-    }
-
-    // The list that waits, and its local.
-    pub(crate) fn list_at(&self) -> Option<(u32, &'a Vec<TItem>)> {
-        match self.stack.last() {
-            Some(Pending::Doing(code, _)) => match code.statement() {
-                Some(TStmt::InitList { local, items, .. }) => Some((*local, items)),
-                _ => None,
-            },
-            _ => None,
-        }
-    }
-
     /// The next byte without an item becomes 0.
     pub(crate) fn blank(&mut self, at: u64, left: u64) -> Outcome {
-        let Some((local, items)) = self.list_at() else {
+        let Some((local, items)) = list_at(self.stack.last()) else {
             return Outcome::Lost;
         };
-        let covered = self.covered_from(items, at, left);
+        let covered = covered_from(self.program, items, at, left);
         let at = at.saturating_add(covered);
         let left = left.saturating_sub(covered);
         if left == 0 {
             return self.stored();
         }
-        let access = self.put_byte(behind(self.local_of(local), at), Byte::Number(0));
+        let access = self.put_byte(
+            behind(local_of(self.program, self.copy, local), at),
+            Byte::Number(0),
+        );
         let focus = Focus::Blank {
             at: at.saturating_add(1),
             left: left - 1,

@@ -1,35 +1,15 @@
 //! How expressions and places begin, and what follows a place that was found: the left operand comes first, and the node
 //! waits for it.
 
-use crate::accesses::behind;
-use crate::control::{Code, Focus, Got, Pending, Stage};
 use crate::machine::{Machine, Outcome, undefined};
-use c_typed::{Object as Name, TExpr, TItem, TPlace, TStmt};
+use c_typed::{TExpr, TItem, TPlace, TStmt};
+use src_values::control::{Code, Focus, Got, Pending, Stage};
+use src_values::names::{local_of, spot_of};
 use src_values::objects::as_number;
-use src_values::{Datum, Object, Spot, Undef};
+use src_values::pointers::{behind, moved};
+use src_values::{Datum, Spot, Undef};
 
 impl<'a> Machine<'a> {
-    /// The local of this number of the running copy.
-    pub(crate) fn local_of(&self, number: u32) -> Object {
-        Object::Variable {
-            copy: self.copy,
-            number: self.param_count(self.copy.function).saturating_add(number),
-        }
-    }
-
-    // What a name stands for.
-    fn spot_of(&self, name: Name) -> Spot {
-        match name {
-            Name::Static(number) => behind(Object::Fixed(number), 0),
-            Name::Param(number) => {
-                let copy = self.copy;
-                behind(Object::Variable { copy, number }, 0)
-            }
-            Name::Local(number) => behind(self.local_of(number), 0),
-            Name::Register(address) => Spot::Device(address),
-        }
-    }
-
     /// The arguments from the one of this number on, from left to right, and then the call.
     pub(crate) fn arguments(
         &mut self,
@@ -76,7 +56,7 @@ impl<'a> Machine<'a> {
     pub(crate) fn find(&mut self, place: &'a TPlace) -> Outcome {
         match place {
             TPlace::Name { object, .. } => {
-                let spot = self.spot_of(*object);
+                let spot = spot_of(self.program, self.copy, *object);
                 self.go(Focus::Found(spot))
             }
             TPlace::Bit { register, bit, .. } => self.go(Focus::Found(Spot::Bit {
@@ -118,7 +98,7 @@ impl<'a> Machine<'a> {
         let Spot::Memory(pointer) = spot else {
             return Outcome::Lost;
         };
-        match self.memory.moved(pointer, false, *offset) {
+        match moved(self.program, pointer, false, *offset) {
             Some(moved) => self.go(Focus::Found(Spot::Memory(moved))),
             None => undefined(Undef::Outside, *line),
         }
@@ -134,7 +114,7 @@ impl<'a> Machine<'a> {
         };
         match items.get(at) {
             Some(TItem::Struct { offset, size, .. }) => {
-                let to = behind(self.local_of(*local), *offset);
+                let to = behind(local_of(self.program, self.copy, *local), *offset);
                 let left = *size;
                 self.go_waiting(
                     Focus::CopyRead { to, from, left },

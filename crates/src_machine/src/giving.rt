@@ -1,18 +1,12 @@
 //! Where a value goes: the node that waits for it takes it.
 
-use crate::accesses::behind;
-use crate::control::{Code, Focus, Pending, Stage};
 use crate::machine::{Machine, Outcome, undefined};
-use c_typed::{TCase, TItem, TPlace, TStmt};
-use src_values::values::truth_of;
+use c_typed::{TItem, TPlace, TStmt};
+use src_values::control::{Code, Focus, Pending, Stage};
+use src_values::names::local_of;
+use src_values::pointers::behind;
+use src_values::values::{is_case, truth_of};
 use src_values::{Datum, Spot, Undef};
-
-fn is_case(value: Datum, case: &TCase) -> bool {
-    match value {
-        Datum::Number(number) => number.value().number() == case.value.number(),
-        Datum::Pointer(_) | Datum::Missing => false,
-    }
-}
 
 impl<'a> Machine<'a> {
     // Goes on with a value that is used. A missing one is undefined.
@@ -93,7 +87,7 @@ impl<'a> Machine<'a> {
     ) -> Outcome {
         match items.get(at) {
             Some(TItem::Scalar { offset, .. }) => {
-                let spot = behind(self.local_of(local), *offset);
+                let spot = behind(local_of(self.program, self.copy, local), *offset);
                 self.used(
                     value,
                     line,
@@ -110,7 +104,7 @@ impl<'a> Machine<'a> {
         match statement {
             TStmt::Expr { .. } => self.go(Focus::Past),
             TStmt::InitScalar { local, line, .. } => {
-                let spot = behind(self.local_of(*local), 0);
+                let spot = behind(local_of(self.program, self.copy, *local), 0);
                 self.used(
                     value,
                     *line,

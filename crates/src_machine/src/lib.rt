@@ -7,8 +7,6 @@
 #![tactic(auto)]
 
 mod accesses;
-mod control;
-mod counting;
 mod expressions;
 mod giving;
 mod machine;

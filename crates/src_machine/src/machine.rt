@@ -1,11 +1,12 @@
 //! The source machine: its state, and its micro-steps.
 
-use crate::control::{Focus, Got, Pending};
-use c_typed::{Function, TExpr, Typed};
-use pic_world::{Event, Root, Script};
+use c_typed::{TExpr, Typed};
 use pic_map::Map;
-use src_values::memory::Memory;
-use src_values::world::World;
+use pic_world::{Event, Root, Script};
+use src_memory::{Memory, World};
+use src_values::control::{Focus, Got, Pending};
+use src_values::counting::counted_line;
+use src_values::names::{handler_in, main_in};
 use src_values::{CopyOf, Datum, Object, Undef};
 use std::alloc::{AllocError, Global};
 
@@ -54,19 +55,6 @@ pub(crate) struct Machine<'a> {
     handler: Option<u32>,
 }
 
-// Main, and the handler if there is one, by their numbers.
-fn main_in(functions: &[Function]) -> Option<u32> {
-    let at = functions
-        .iter()
-        .position(|function| function.name.as_slice() == b"main".as_slice())?;
-    Some((at & 0xffff_ffff) as u32)
-}
-
-fn handler_in(functions: &[Function]) -> Option<u32> {
-    let at = functions.iter().position(|function| function.interrupt)?;
-    Some((at & 0xffff_ffff) as u32)
-}
-
 // What can wait at a time. A function is active at most once for each root, where a program has no recursion. In
 // one activation the nodes from its body down to where it stands have one frame each: a list of statements, a
 // statement, an expression, a place, a call that goes on. A switch whose body runs has two, but then its value's
@@ -89,7 +77,7 @@ impl<'a> Machine<'a> {
         let room = room_of(program);
         let mut stack = Vec::new(alloc);
         stack.try_reserve(room)?;
-        let main = match main_in(&program.functions) {
+        let main = match main_in(program) {
             Some(main) => main,
             None => 0,
         };
@@ -105,7 +93,7 @@ impl<'a> Machine<'a> {
             room,
             memory,
             world: World::new(),
-            handler: handler_in(&program.functions),
+            handler: handler_in(program),
         };
         machine.begin_body(main);
         Ok(machine)
@@ -158,7 +146,7 @@ impl<'a> Machine<'a> {
             }
         }
         let taker = taker_in(self.copy.root);
-        let line = self.counted_line();
+        let line = counted_line(self.program, self.copy, self.focus, self.stack.last());
         let outcome = self.act(script);
         let outcome = if due { refused(line, outcome) } else { outcome };
         (taker, line.is_some(), outcome)
@@ -283,22 +271,6 @@ impl<'a> Machine<'a> {
             }
         }
         false
-    }
-
-    /// The line of a function's first token.
-    pub(crate) fn line_of(&self, function: u32) -> u32 {
-        match self.program.functions.get(function as usize) {
-            Some(found) => found.line,
-            None => 0,
-        }
-    }
-
-    /// How many parameters a function has.
-    pub(crate) fn param_count(&self, function: u32) -> u32 {
-        match self.program.functions.get(function as usize) {
-            Some(found) => (found.params.len() & 0xffff_ffff) as u32,
-            None => 0,
-        }
     }
 
     /// Something more waits. There is room for it.

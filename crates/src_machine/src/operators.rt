@@ -1,28 +1,13 @@
 //! Expressions that take the value of a part.
 
-use crate::accesses::is_postfix;
-use crate::control::{Focus, Got, Pending};
 use crate::machine::{Machine, Outcome, undefined};
-use c_ints::BinOp;
-use c_typed::{LogicalOp, StepOp, TExpr};
-use src_values::pointers::difference;
-use src_values::values::{Answer, converted, one_in, truth_of, truth_value, unary_answer};
+use c_typed::TExpr;
+use src_values::control::{Focus, Got, Pending};
+use src_values::pointers::{binary_answer, change_answer, difference_answer, offset_answer};
+use src_values::values::{
+    Answer, converted, decides, is_postfix, one_in, truth_of, truth_value, unary_answer,
+};
 use src_values::{Datum, Pointer, Spot, Undef};
-
-/// Whether the left operand of `&&` or `||` decides.
-pub(crate) fn decides(op: LogicalOp, holds: bool) -> bool {
-    match op {
-        LogicalOp::And => !holds,
-        LogicalOp::Or => holds,
-    }
-}
-
-fn step_operator(op: StepOp) -> BinOp {
-    match op {
-        StepOp::PreIncrement | StepOp::PostIncrement => BinOp::Add,
-        StepOp::PreDecrement | StepOp::PostDecrement => BinOp::Sub,
-    }
-}
 
 impl<'a> Machine<'a> {
     // The value of an operator, or why it is undefined; or no rule is there.
@@ -68,15 +53,15 @@ impl<'a> Machine<'a> {
         match expr {
             TExpr::Binary { op, ty, line, .. } => {
                 let alive = self.are_alive(left, right);
-                let answer = self.memory.binary(alive, *op, *ty, left, right);
+                let answer = binary_answer(self.program, alive, *op, *ty, left, right);
                 self.answered(answer, *line)
             }
             TExpr::Offset { op, size, line, .. } => {
-                let answer = self.memory.offset(*op, *size, left, right);
+                let answer = offset_answer(self.program, *op, *size, left, right);
                 self.answered(answer, *line)
             }
             TExpr::Difference { size, line, .. } => {
-                self.answered(difference(*size, left, right), *line)
+                self.answered(difference_answer(*size, left, right), *line)
             }
             TExpr::Logical { line, .. } => match truth_of(right) {
                 Some(holds) => self.go(Focus::Holds(truth_value(holds))),
@@ -167,8 +152,8 @@ impl<'a> Machine<'a> {
                 ..
             } => {
                 let one = one_in(*operation);
-                let by = step_operator(*op);
-                let answer = self.memory.changed(by, *operation, *size, *ty, value, one);
+                let by = op.operator();
+                let answer = change_answer(self.program, by, *operation, *size, *ty, value, one);
                 let kept = if is_postfix(*op) { Some(value) } else { None };
                 self.changes(expr, spot, answer, kept, *line)
             }
@@ -187,7 +172,7 @@ impl<'a> Machine<'a> {
                 line,
                 ..
             } => {
-                let answer = self.memory.changed(*op, *operation, *size, *ty, old, right);
+                let answer = change_answer(self.program, *op, *operation, *size, *ty, old, right);
                 self.changes(expr, spot, answer, None, *line)
             }
             _ => Outcome::Lost,

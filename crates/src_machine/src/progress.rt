@@ -5,8 +5,8 @@ ghost use Rattle.src_machine.specs.Progress.{main_steps_of, runs_of, undefined_i
 
 use crate::machine::{Machine, SrcEnd, Taker};
 use c_typed::Typed;
-use pic_world::Script;
 use pic_map::Map;
+use pic_world::Script;
 use src_values::Undef;
 use std::alloc::{AllocError, Global};
 

@@ -1,18 +1,12 @@
 //! How statements begin, and what follows them.
 
-use crate::control::{Code, Focus, Got, Pending, Stage};
 use crate::machine::{Machine, Outcome, undefined};
 use c_typed::{LoopForm, TArm, TExpr, TStmt};
 use pic_world::Event;
+use src_values::control::{Code, Focus, Got, Pending, Stage};
+use src_values::names::local_of;
 use src_values::values::truth_of;
 use src_values::{CopyOf, Datum, Object, Undef};
-
-fn is_loop(code: Code) -> bool {
-    match code.statement() {
-        Some(TStmt::Loop { .. }) => true,
-        _ => false,
-    }
-}
 
 impl<'a> Machine<'a> {
     /// A turn of a loop.
@@ -117,7 +111,7 @@ impl<'a> Machine<'a> {
         for _ in 0..self.stack.len() {
             match self.stack.last() {
                 Some(Pending::Doing(code, Stage::Turns)) => {
-                    if is_loop(*code) {
+                    if code.is_loop() {
                         return self.go(Focus::Past);
                     }
                 }
@@ -229,7 +223,7 @@ impl<'a> Machine<'a> {
 
     // The declarator of a local: its bytes become unset.
     fn declared(&mut self, local: u32) -> Object {
-        let object = self.local_of(local);
+        let object = local_of(self.program, self.copy, local);
         self.memory.clear(object);
         object
     }

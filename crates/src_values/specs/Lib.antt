@@ -1,5 +1,6 @@
 pub mod Data
 pub mod Objects
 pub mod Values
-pub mod Accesses
-pub mod Shown
+pub mod Lists
+pub mod Control
+pub mod Counting

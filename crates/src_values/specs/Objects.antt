@@ -1,21 +1,16 @@
 -- Objects, how many bytes they have, which of them are active, and where pointers move.
-use Rattle.std.specs.Prelude.{ℕ, ◌+◌, Bool, true, false, not, ◌&&◌, ◌||◌, nat_eq, nat_lt, if◌then◌else◌, ℤ, pos, ◌+ℤ◌, int_lt, unsigned_abs, List, [], ◌∷◌, ◌++◌, length, Option, Some, None, slice_get}
+use Rattle.std.specs.Prelude.{ℕ, ◌+◌, Bool, true, false, not, ◌&&◌, ◌||◌, nat_eq, if◌then◌else◌, ℤ, pos, ◌+ℤ◌, int_lt, unsigned_abs, List, [], ◌∷◌, ◌++◌, length, Option, Some, None, slice_get}
 use Rattle.std.specs.Ordering.{int_eq}
-use Rattle.pic_world.specs.World.{Outside}
+use Rattle.c_typed.specs.Roots.{is_main, is_handler, first_from}
+use Rattle.c_typed.specs.Trees as tree
+use Rattle.c_typed.specs.Trees.{FunctionTree, Program, StaticTree, VariableTree}
+use Rattle.c_typed.specs.Types.{type_bytes}
+use Rattle.c_typed.specs.declared.expression.Object.{Object as Name}
+use Rattle.c_typed.specs.declared.expression.Object.TheVariants as names
+use Rattle.c_typed.specs.declared.types.Ty.{Ty}
+use Rattle.pic_world.specs.Roots.{same_root}
 use Rattle.pic_world.specs.declared.Root.{Root}
 use Rattle.pic_world.specs.declared.Root.TheVariants as roots
-use Rattle.c_typed.specs.Roots.{is_main, is_handler}
-use Rattle.c_typed.specs.Trees as tree
-use Rattle.c_typed.specs.Trees.{FunctionTree, Program, Statements, StaticTree, VariableTree}
-use Rattle.c_typed.specs.Types.{type_bytes}
-use Rattle.c_typed.specs.declared.expression.Object.TheVariants as names
-use Rattle.c_typed.specs.declared.expression.Object.{Object as Name}
-use Rattle.c_typed.specs.declared.program.Initial.{Initial}
-use Rattle.c_typed.specs.declared.program.InitialByte.{InitialByte}
-use Rattle.c_typed.specs.declared.program.InitialByte.TheVariants as initial
-use Rattle.c_typed.specs.declared.types.Ty.{Ty}
-use Rattle.src_values.specs.declared.objects.Byte.{Byte}
-use Rattle.src_values.specs.declared.objects.Byte.TheVariants as bytes
 use Rattle.src_values.specs.declared.objects.CopyOf.{CopyOf}
 use Rattle.src_values.specs.declared.objects.Object.{Object}
 use Rattle.src_values.specs.declared.objects.Object.TheVariants.{Fixed, Variable}
@@ -23,11 +18,6 @@ use Rattle.src_values.specs.declared.objects.Pointer.{Pointer}
 use Rattle.src_values.specs.declared.objects.Pointer.TheVariants.{Null, Into}
 use Rattle.src_values.specs.declared.objects.Spot.{Spot}
 use Rattle.src_values.specs.declared.objects.Spot.TheVariants as spots
-
--- what a run goes by: the program, and what comes from outside
-pub record Setting : Type 0 where
-  pub program : Program
-  pub outside : Outside
 
 -- ---- the parts of a program by their numbers
 abbrev pub no_function : FunctionTree
@@ -40,16 +30,11 @@ or_no_function (Some f) = f
 abbrev pub function_at : Program → ℕ → FunctionTree
 function_at p f = or_no_function (slice_get p.functions f)
 
--- the number of the first function that passes a test, from this number on
-abbrev pub first_from : (FunctionTree → Bool) → ℕ → List FunctionTree → Option ℕ
-first_from test n [] = None
-first_from test n (f ∷ fs) = if test f then Some n else first_from test (n + 1) fs
-
 abbrev pub main_in : Program → Option ℕ
-main_in p = first_from is_main 0 p.functions
+main_in p = first_from is_main p.functions 0
 
 abbrev pub handler_in : Program → Option ℕ
-handler_in p = first_from is_handler 0 p.functions
+handler_in p = first_from is_handler p.functions 0
 
 abbrev pub or_first : Option ℕ → ℕ
 or_first None = 0
@@ -64,12 +49,6 @@ abbrev pub variables_of : FunctionTree → List VariableTree
 variables_of f = f.params ++ f.locals
 
 -- ---- objects
-abbrev pub same_root : Root → Root → Bool
-same_root roots.Main roots.Main = true
-same_root roots.Main roots.Isr = false
-same_root roots.Isr roots.Main = false
-same_root roots.Isr roots.Isr = true
-
 abbrev pub same_copy : CopyOf → CopyOf → Bool
 same_copy a b = same_root a.root b.root && nat_eq a.function b.function
 
@@ -137,46 +116,11 @@ unfoldable pub moved : Program → Pointer → ℤ → Option Pointer
 moved p Null by = if int_eq by (pos 0) then Some Null else None
 moved p (Into object offset) by = in_range object (object_bytes p object) (pos offset +ℤ by)
 
+-- the byte so many behind the start of an object
+abbrev pub behind : Object → ℕ → Spot
+behind object offset = spots.Memory (Into object offset)
+
 -- the following byte, which need not be there
 abbrev pub next_byte : Spot → Spot
 next_byte (spots.Memory (Into object offset)) = spots.Memory (Into object (offset + 1))
 next_byte spot = spot
-
--- ---- memory
-abbrev pub Memory : Type 0
-Memory = Object → ℕ → Byte
-
-abbrev pub with_byte : Memory → Object → ℕ → Byte → Memory
-with_byte m object offset byte other at = if same_object other object && nat_eq at offset then byte else m other at
-
--- no byte of the object has a value
-abbrev pub cleared : Memory → Object → Memory
-cleared m object other at = if same_object other object then bytes.Unset else m other at
-
--- No variable of the copy has a value.
-abbrev pub is_of : CopyOf → Object → Bool
-is_of c (Fixed n) = false
-is_of c (Variable d n) = same_copy d c
-
-abbrev pub fresh : Memory → CopyOf → Memory
-fresh m c object at = if is_of c object then bytes.Unset else m object at
-
--- ---- the memory at the start
-abbrev pub initial_byte : InitialByte → Byte
-initial_byte (initial.Number n) = bytes.Number n
-initial_byte (initial.Address object byte) = bytes.Part (Fixed object) 0 (nat_eq byte 1)
-
--- the byte that a list of initial bytes gives a place, otherwise 0
-abbrev pub initial_at : List Initial → ℕ → Byte
-initial_at [] at = bytes.Number 0
-initial_at (i ∷ is) at = if nat_eq i.offset at then initial_byte i.byte else initial_at is at
-
-abbrev pub static_byte : List ℕ → Option StaticTree → ℕ → Byte
-static_byte sizes None at = bytes.Unset
-static_byte sizes (Some s) at = if nat_lt at (type_bytes sizes s.ty.ty) then initial_at s.initial at else bytes.Unset
-
--- Static objects begin with their initial values, otherwise 0; variables begin unset. No object has a byte beyond its
--- size.
-abbrev pub first_memory : Program → Memory
-first_memory p (Fixed n) at = static_byte p.sizes (slice_get p.statics n) at
-first_memory p (Variable c n) at = bytes.Unset

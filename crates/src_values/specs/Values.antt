@@ -10,15 +10,21 @@ use Rattle.c_ints.specs.declared.operators.BinOp.TheVariants as ops
 use Rattle.c_ints.specs.declared.operators.UnOp.{UnOp}
 use Rattle.c_ints.specs.declared.types.IntTy.{IntTy}
 use Rattle.c_ints.specs.declared.types.IntTy.TheVariants as int
-use Rattle.c_typed.specs.Trees.{Program}
+use Rattle.c_typed.specs.Trees as tree
+use Rattle.c_typed.specs.Trees.{Expression, Program}
+use Rattle.c_typed.specs.declared.expression.LogicalOp.{LogicalOp}
+use Rattle.c_typed.specs.declared.expression.LogicalOp.TheVariants.{And, Or}
+use Rattle.c_typed.specs.declared.expression.StepOp.{StepOp}
+use Rattle.c_typed.specs.declared.expression.StepOp.TheVariants.{PreIncrement, PreDecrement, PostIncrement, PostDecrement}
+use Rattle.c_typed.specs.declared.statement.TCase.{TCase}
 use Rattle.c_typed.specs.declared.types.Ty.{Ty}
 use Rattle.c_typed.specs.declared.types.Ty.TheVariants as types
+use Rattle.src_values.specs.Data.{Datum}
+use Rattle.src_values.specs.Data.{Number, Pointer, Missing}
 use Rattle.src_values.specs.Objects.{same_object, is_alive, object_bytes, moved}
 use Rattle.src_values.specs.declared.objects.Byte.{Byte}
 use Rattle.src_values.specs.declared.objects.Byte.TheVariants as bytes
 use Rattle.src_values.specs.declared.objects.CopyOf.{CopyOf}
-use Rattle.src_values.specs.Data.{Datum}
-use Rattle.src_values.specs.Data.{Number, Pointer, Missing}
 use Rattle.src_values.specs.declared.objects.Object.{Object}
 use Rattle.src_values.specs.declared.objects.Pointer.{Pointer as Place}
 use Rattle.src_values.specs.declared.objects.Pointer.TheVariants.{Null, Into}
@@ -142,6 +148,17 @@ unfoldable pub truth_of : Datum → Option Bool
 truth_of (Number q) = Some (not (int_eq q.number (pos 0)))
 truth_of (Pointer x) = Some (not (is_null x))
 truth_of Missing = None
+
+-- && and ||: the right operand counts only where the left one doesn't decide
+abbrev pub decides : LogicalOp → Bool → Bool
+decides And holds = not holds
+decides Or holds = holds
+
+-- the label is that of the value of a switch
+abbrev pub is_case : Datum → TCase → Bool
+is_case (Number q) label = int_eq q.number label.value.number
+is_case (Pointer x) label = false
+is_case Missing label = false
 
 -- ---- unary operators
 unfoldable pub unary_answer : UnOp → Datum → Answer
@@ -287,3 +304,20 @@ lowest_bit Missing = 0
 unfoldable pub kept_in : Spot → Datum → Datum
 kept_in (spots.Bit register number) v = number_of int.UChar (lowest_bit v)
 kept_in _ v = v
+
+-- ---- what follows a write
+-- how many bytes a write of a value has: one where a bit is written
+abbrev pub written_bytes : Spot → Datum → ℕ
+written_bytes (spots.Bit register number) v = 1
+written_bytes spot v = byte_count v
+
+abbrev pub is_postfix : StepOp → Bool
+is_postfix PreIncrement = false
+is_postfix PreDecrement = false
+is_postfix PostIncrement = true
+is_postfix PostDecrement = true
+
+-- The expression has the value that its place holds afterwards; a postfix form has the old one.
+abbrev pub answer_of : Expression → Spot → Datum → Datum
+answer_of (tree.Step op place operation size ty line) spot v = if is_postfix op then v else kept_in spot v
+answer_of _ spot v = kept_in spot v

@@ -1,17 +1,18 @@
-// What the source machine is about: objects and pointers to them, bytes and values, what operators give, the memory of a run,
-// and the world that main, the handler and the outside share.
+// What the source machine is about: objects and pointers to them, bytes and values, what operators give, and what a step is
+// about and what waits for it.
 //
-// In: a typed program, a map that tells where its objects stand, and a script. Out: the values of operators and conversions, and
-// reads and writes of single bytes with the events that they make, or why they are undefined.
-// The definitions are in specs/. The promise: every call ends. That the values and the accesses are the defined ones is not
+// In: values, pointers, and parts of a typed program. Out: the values of operators and conversions, or why they are
+// undefined; what names stand for; and whether a micro-step counts as a step, and at which line.
+// The definitions are in specs/. The promise: every call ends. That the values and the counts are the defined ones is not
 // proved.
 #![tactic(auto)]
 
-pub mod accesses;
-pub mod memory;
+pub mod control;
+pub mod counting;
+pub mod lists;
+pub mod names;
 pub mod objects;
 pub mod pointers;
 pub mod values;
-pub mod world;
 
 pub use objects::{Byte, CopyOf, Datum, Object, Pointer, Spot, Undef};

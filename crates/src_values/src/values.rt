@@ -5,7 +5,7 @@ ghost use Rattle.c_ints.specs.Operators.{shifts};
 
 use crate::objects::{Byte, Datum, Number, Object, Pointer, ReadBytes, Spot, Undef, as_number};
 use c_ints::{BinOp, IntTy, UnOp, Value, apply, convert, promote, size, unary};
-use c_typed::Ty;
+use c_typed::{LogicalOp, StepOp, TCase, TExpr, Ty};
 
 /// What an operator gives; or why it is undefined; or no rule is there for operands of this sort, which those of
 /// a typed program never are.
@@ -178,6 +178,22 @@ pub fn truth_of(value: Datum) -> Option<bool> {
     }
 }
 
+/// Whether the left operand of `&&` or `||` decides.
+pub fn decides(op: LogicalOp, holds: bool) -> bool {
+    match op {
+        LogicalOp::And => !holds,
+        LogicalOp::Or => holds,
+    }
+}
+
+/// Whether a label of a switch is that of its value.
+pub fn is_case(value: Datum, case: &TCase) -> bool {
+    match value {
+        Datum::Number(number) => number.value().number() == case.value.number(),
+        Datum::Pointer(_) | Datum::Missing => false,
+    }
+}
+
 /// What a unary operator gives.
 pub fn unary_answer(op: UnOp, value: Datum) -> Answer {
     match value {
@@ -295,13 +311,26 @@ pub fn kept_in(spot: Spot, value: Datum) -> Datum {
     }
 }
 
-/// The following byte, which need not be there.
-pub fn next_byte(spot: Spot) -> Spot {
+/// How many bytes a write of a value has: one where a bit is written.
+pub fn written_bytes(spot: Spot, value: Datum) -> u8 {
     match spot {
-        Spot::Memory(Pointer::Into { object, offset }) => Spot::Memory(Pointer::Into {
-            object,
-            offset: offset.saturating_add(1),
-        }),
-        other => other,
+        Spot::Bit { .. } => 1,
+        Spot::Device(_) | Spot::Memory(_) => byte_count(value),
+    }
+}
+
+/// Whether the value of `++` or `--` is the old one.
+pub fn is_postfix(op: StepOp) -> bool {
+    match op {
+        StepOp::PostIncrement | StepOp::PostDecrement => true,
+        StepOp::PreIncrement | StepOp::PreDecrement => false,
+    }
+}
+
+/// The value of an expression behind the write of its place: what the place holds afterwards, or the old value.
+pub fn answer_of(expr: &TExpr, spot: Spot, value: Datum) -> Datum {
+    match expr {
+        TExpr::Step { op, .. } if is_postfix(*op) => value,
+        _ => kept_in(spot, value),
     }
 }

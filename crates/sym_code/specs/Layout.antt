@@ -3,11 +3,12 @@ use Rattle.std.specs.Prelude.{ℕ, ◌+◌, ◌/◌, ◌%◌, ◌≡◌, ◌≢�
 use Rattle.pic_chip.specs.Address as chip
 use Rattle.pic_chip.specs.Address.{Place, General, place}
 use Rattle.pic_chip.specs.Run.{Range, covers, object_at}
+use Rattle.pic_world.specs.Roots.{same_root}
 use Rattle.pic_world.specs.declared.Cell.{Cell}
 use Rattle.pic_world.specs.declared.Root.{Root}
 use Rattle.pic_world.specs.declared.Root.TheVariants.{Main, Isr}
 use Rattle.core_code.specs.Bytes as bytes
-use Rattle.core_code.specs.Bytes.{Held, byte_in, same_root}
+use Rattle.core_code.specs.Bytes.{Held, byte_in}
 use Rattle.core_code.specs.declared.code.Byte.{Byte}
 use Rattle.core_code.specs.declared.code.Byte.TheVariants as names
 use Rattle.sym_code.specs.declared.code.Saved.{Saved}

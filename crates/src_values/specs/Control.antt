@@ -4,14 +4,14 @@
 use Rattle.std.specs.Prelude.{ℕ, List, [], ◌∷◌, Option}
 use Rattle.c_typed.specs.Trees as tree
 use Rattle.c_typed.specs.Trees.{Expression, Expressions, Place, Item, Statement, Statements, Arm, Arms}
+use Rattle.c_typed.specs.Types.{type_of}
 use Rattle.c_typed.specs.declared.statement.TCase.{TCase}
-use Rattle.pic_world.specs.World.{Happening, World}
+use Rattle.c_typed.specs.declared.types.Ty.{Ty}
+use Rattle.c_typed.specs.declared.types.Ty.TheVariants as types
 use Rattle.src_values.specs.Data.{Datum}
-use Rattle.src_values.specs.Objects.{Memory}
 use Rattle.src_values.specs.declared.objects.Byte.{Byte}
 use Rattle.src_values.specs.declared.objects.CopyOf.{CopyOf}
 use Rattle.src_values.specs.declared.objects.Spot.{Spot}
-use Rattle.src_values.specs.declared.objects.Undef.{Undef}
 
 pub data Focus : Type 0 where
   -- an expression is evaluated, and a place is found
@@ -107,25 +107,6 @@ pub data Pending : Type 0 where
   Returns : CopyOf → Pending
   Resumes : CopyOf → Focus → Pending
 
-pub record State : Type 0 where
-  -- the function copy whose code runs
-  pub copy : CopyOf
-  pub focus : Focus
-  pub stack : List Pending
-  pub memory : Memory
-  pub world : World Byte
-
--- A step goes on, with the event that it makes if it makes one; it is undefined, at this line; there is none to take; or
--- no rule is there for the state, which no run of a program comes to.
-pub data Outcome : Type 0 where
-  Went : State → Option (Happening Byte) → Outcome
-  Undefined : Undef → ℕ → Outcome
-  Idle : Outcome
-  Lost : Outcome
-
-abbrev pub state : CopyOf → Focus → List Pending → Memory → World Byte → State
-state c x k m w = record { copy = c; focus = x; stack = k; memory = m; world = w }
-
 -- ---- lines
 abbrev pub expression_line : Expression → ℕ
 expression_line (tree.Constant value line) = line
@@ -172,6 +153,11 @@ line_at (In e got ∷ k) = expression_line e
 line_at (To place ∷ k) = place_line place
 line_at (Doing t stage ∷ k) = statement_line t
 line_at _ = 0
+
+-- the type that the node which waits reads its place as
+abbrev pub read_type : List Pending → Ty
+read_type (In e got ∷ k) = type_of e
+read_type _ = types.Void
 
 -- ---- active copies
 -- the copy that runs, until main has ended

@@ -3,12 +3,13 @@ use Rattle.std.specs.Prelude.{ℕ, ◌+◌, ◌/◌, ◌%◌, Bool, true, false,
 use Rattle.c_typed.specs.Roots.{same_bytes}
 use Rattle.c_typed.specs.Trees.{Program, VariableTree}
 use Rattle.c_typed.specs.Types.{type_bytes}
+use Rattle.pic_map.specs.MapContent.{MapContent, ObjectLine, FrameLine}
+use Rattle.pic_world.specs.Roots.{same_root}
+use Rattle.pic_world.specs.World.{Happening, ReadOf, WriteOf, Ended}
 use Rattle.pic_world.specs.declared.Event.{Event}
 use Rattle.pic_world.specs.declared.Event.TheVariants as events
 use Rattle.pic_world.specs.declared.Root.{Root}
-use Rattle.pic_map.specs.MapContent.{MapContent, ObjectLine, FrameLine}
-use Rattle.src_values.specs.Objects.{function_at, same_root, variables_of}
-use Rattle.pic_world.specs.World.{Happening, ReadOf, WriteOf, Ended}
+use Rattle.src_values.specs.Objects.{function_at, variables_of}
 use Rattle.src_values.specs.declared.objects.Byte.{Byte}
 use Rattle.src_values.specs.declared.objects.Byte.TheVariants as bytes
 use Rattle.src_values.specs.declared.objects.Object.{Object}

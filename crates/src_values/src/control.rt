@@ -1,14 +1,13 @@
 //! What a step is about (the focus), and what waits for it. A frame that waits holds its node of the tree and what is
 //! done of the node's parts: types, lines and constants are read off the node.
 
-use c_typed::{TArm, TExpr, TPlace, TStmt};
-use src_values::objects::ReadBytes;
-use src_values::{Byte, CopyOf, Datum, Spot};
+use crate::objects::{Byte, CopyOf, Datum, ReadBytes, Spot};
+use c_typed::{TArm, TExpr, TItem, TPlace, TStmt, Ty};
 
 /// Where a statement stands: in a list, by its number; behind an `else` or in a loop; or in an arm of an `if`,
 /// by the arm's number.
 #[derive(Clone, Copy)]
-pub(crate) enum Code<'a> {
+pub enum Code<'a> {
     Listed(&'a Vec<TStmt>, usize),
     Boxed(&'a Box<TStmt>),
     InArm(&'a Vec<TArm>, usize),
@@ -26,11 +25,19 @@ impl<'a> Code<'a> {
             }
         }
     }
+
+    /// Whether it is a loop.
+    pub fn is_loop(self) -> bool {
+        match self.statement() {
+            Some(TStmt::Loop { .. }) => true,
+            _ => false,
+        }
+    }
 }
 
 /// What a step is about.
 #[derive(Clone, Copy)]
-pub(crate) enum Focus<'a> {
+pub enum Focus<'a> {
     /// An expression is evaluated, and a place is found.
     Eval(&'a TExpr),
     Find(&'a TPlace),
@@ -100,9 +107,19 @@ pub(crate) enum Focus<'a> {
     Over,
 }
 
+impl<'a> Focus<'a> {
+    /// Whether main has ended.
+    pub fn is_over(&self) -> bool {
+        match self {
+            Focus::Over => true,
+            _ => false,
+        }
+    }
+}
+
 /// What is done of an expression's parts.
 #[derive(Clone, Copy)]
-pub(crate) enum Got {
+pub enum Got {
     /// Its first part is under way.
     Nothing,
     /// Its condition has decided, and the operand that it chose is under way.
@@ -126,8 +143,8 @@ pub(crate) enum Got {
 }
 
 /// What is under way of a statement.
-#[derive(Clone, Copy)]
-pub(crate) enum Stage {
+#[derive(Clone, Copy, PartialEq, Eq)]
+pub enum Stage {
     /// The value that it begins with, or a loop's condition.
     Tests,
     /// What a loop begins with, and what it does after a turn.
@@ -153,7 +170,7 @@ pub(crate) enum Stage {
 
 /// What waits for the focus.
 #[derive(Clone, Copy)]
-pub(crate) enum Pending<'a> {
+pub enum Pending<'a> {
     /// An expression that waits for a part.
     In(&'a TExpr, Got),
     /// A value of an argument, which waits for a call.
@@ -168,4 +185,54 @@ pub(crate) enum Pending<'a> {
     Returns(CopyOf),
     /// What the handler interrupted: `Machine` has its focus.
     Resumes(CopyOf),
+}
+
+/// The line of a statement's first token.
+pub fn statement_line(statement: &TStmt) -> u32 {
+    match statement {
+        TStmt::Block { line, .. }
+        | TStmt::Empty { line }
+        | TStmt::Expr { line, .. }
+        | TStmt::Declare { line, .. }
+        | TStmt::InitScalar { line, .. }
+        | TStmt::InitList { line, .. }
+        | TStmt::If { line, .. }
+        | TStmt::Loop { line, .. }
+        | TStmt::Switch { line, .. }
+        | TStmt::Break { line }
+        | TStmt::Continue { line }
+        | TStmt::Return { line, .. } => *line,
+    }
+}
+
+/// The line of the node that waits.
+pub fn line_at(top: Option<&Pending>) -> u32 {
+    match top {
+        Some(Pending::In(expr, _)) => expr.line(),
+        Some(Pending::To(place)) => place.line(),
+        Some(Pending::Doing(code, _)) => match code.statement() {
+            Some(statement) => statement_line(statement),
+            None => 0,
+        },
+        _ => 0,
+    }
+}
+
+/// The type that the node which waits reads its place as.
+pub fn read_type(top: Option<&Pending>) -> Ty {
+    match top {
+        Some(Pending::In(expr, _)) => expr.ty(),
+        _ => Ty::Void,
+    }
+}
+
+/// The list that waits, and the number of its local.
+pub fn list_at<'a>(top: Option<&Pending<'a>>) -> Option<(u32, &'a Vec<TItem>)> {
+    match top {
+        Some(Pending::Doing(code, _)) => match code.statement() {
+            Some(TStmt::InitList { local, items, .. }) => Some((*local, items)),
+            _ => None,
+        },
+        _ => None,
+    }
 }

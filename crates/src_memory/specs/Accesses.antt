@@ -1,14 +1,13 @@
 -- Reads and writes of one byte: when they are undefined, what they change, and the event that they make.
-use Rattle.std.specs.Prelude.{ℕ, ◌+◌, Bool, true, false, not, ◌&&◌, nat_eq, nat_lt, if◌then◌else◌, List, [], ◌∷◌, Option, Some, None}
-use Rattle.c_typed.specs.Sound.{item_start}
-use Rattle.c_typed.specs.Trees.{Item, Program}
-use Rattle.c_typed.specs.Words.{item_bytes}
+use Rattle.std.specs.Prelude.{ℕ, Bool, true, false, not, nat_eq, nat_lt, if◌then◌else◌, List, Option, Some, None}
+use Rattle.c_typed.specs.Trees.{Program}
 use Rattle.pic_world.specs.Bits.{bit, set_bit, clear_bit}
 use Rattle.pic_world.specs.World.{Happening, ReadOf, WriteOf, World, noted, device_value, after_device_read, after_device_write, sets_gie}
 use Rattle.pic_world.specs.declared.Cell.{Cell}
 use Rattle.pic_world.specs.declared.Cell.TheVariants.{Device, Static}
 use Rattle.pic_world.specs.declared.Root.{Root}
-use Rattle.src_values.specs.Objects.{Setting, Memory, object_bytes, is_watched, is_alive, breaks_isolation, with_byte}
+use Rattle.src_memory.specs.Memory.{Setting, Memory, with_byte}
+use Rattle.src_values.specs.Objects.{object_bytes, is_watched, is_alive, breaks_isolation}
 use Rattle.src_values.specs.Values.{number_in}
 use Rattle.src_values.specs.declared.objects.Byte.{Byte}
 use Rattle.src_values.specs.declared.objects.Byte.TheVariants as bytes
@@ -95,12 +94,3 @@ put_byte s live root (spots.Memory (Into object offset)) byte m w =
 -- a register with a bit replaced
 abbrev pub with_bit : ℕ → ℕ → ℕ → ℕ
 with_bit number value old = if nat_eq value 1 then set_bit number old else clear_bit number old
-
--- ---- lists of locals
-abbrev pub covers : List ℕ → Item → ℕ → Bool
-covers sizes item at = not (nat_lt at (item_start item)) && nat_lt at (item_start item + item_bytes sizes item)
-
--- some item of the list has the byte
-unfoldable pub is_covered : List ℕ → List Item → ℕ → Bool
-is_covered sizes [] at = false
-is_covered sizes (item ∷ items) at = if covers sizes item at then true else is_covered sizes items at

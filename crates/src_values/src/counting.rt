@@ -1,13 +1,14 @@
 //! Which micro-steps count as steps of the source, and at which line: an operator applied, a byte accessed,
 //! a switch label compared, a statement begun, a function called, the end of a function's body.
 
-use crate::accesses::written_bytes;
-use crate::control::{Code, Focus, Got, Pending, Stage};
-use crate::machine::Machine;
-use crate::operators::decides;
+use crate::control::{
+    Code, Focus, Got, Pending, Stage, line_at, list_at, read_type, statement_line,
+};
+use crate::lists::covered_from;
+use crate::names::line_of;
+use crate::objects::{CopyOf, Datum};
+use crate::values::{decides, truth_of, written_bytes};
 use c_typed::{LogicalOp, TExpr, TPlace, TStmt, Ty, Typed};
-use src_values::Datum;
-use src_values::values::truth_of;
 
 fn counted_if(counts: bool, line: u32) -> Option<u32> {
     if counts { Some(line) } else { None }
@@ -92,24 +93,6 @@ fn found_counts(program: &Typed, top: &Pending) -> Option<u32> {
     }
 }
 
-/// The line of a statement's first token.
-pub(crate) fn statement_line(statement: &TStmt) -> u32 {
-    match statement {
-        TStmt::Block { line, .. }
-        | TStmt::Empty { line }
-        | TStmt::Expr { line, .. }
-        | TStmt::Declare { line, .. }
-        | TStmt::InitScalar { line, .. }
-        | TStmt::InitList { line, .. }
-        | TStmt::If { line, .. }
-        | TStmt::Loop { line, .. }
-        | TStmt::Switch { line, .. }
-        | TStmt::Break { line }
-        | TStmt::Continue { line }
-        | TStmt::Return { line, .. } => *line,
-    }
-}
-
 // A statement that begins; a declarator is none.
 fn statement_counts(statement: &TStmt) -> Option<u32> {
     match statement {
@@ -129,45 +112,51 @@ fn label_counts(code: Code, next: usize) -> Option<u32> {
     }
 }
 
-impl<'a> Machine<'a> {
-    // The end of a statement: that of a function's body counts, at the line of the function.
-    fn past_counts(&self) -> Option<u32> {
-        match self.stack.last() {
-            None | Some(Pending::Returns(_)) | Some(Pending::Resumes(_)) => {
-                Some(self.line_of(self.copy.function))
-            }
-            Some(_) => None,
+// The end of a statement: that of a function's body counts, at the line of the function.
+fn past_counts(program: &Typed, copy: CopyOf, top: Option<&Pending>) -> Option<u32> {
+    match top {
+        None | Some(Pending::Returns(_)) | Some(Pending::Resumes(_)) => {
+            Some(line_of(program, copy.function))
         }
+        Some(_) => None,
     }
+}
 
-    /// The line of the step that the next micro-step is, if it counts as one. After the end of main it is
-    /// main's line.
-    pub(crate) fn counted_line(&self) -> Option<u32> {
-        match self.focus {
-            Focus::Eval(_) | Focus::Find(_) | Focus::Leaves(_) => None,
-            Focus::Holds(value) => value_counts(value, self.stack.last()?),
-            Focus::Found(_) => found_counts(self.program, self.stack.last()?),
-            Focus::Run(code) => statement_counts(code.statement()?),
-            Focus::Past => self.past_counts(),
-            Focus::Fetch { read, .. } => {
-                let wanted = self.program.bytes_of(self.read_type());
-                counted_if((read.count() as u64) < wanted, self.line_at())
-            }
-            Focus::PutBit { .. } | Focus::CopyWrite { .. } | Focus::Calls => Some(self.line_at()),
-            Focus::Skim { left, .. } | Focus::CopyRead { left, .. } | Focus::Spell { left, .. } =>
-                counted_if(left != 0, self.line_at()),
-            Focus::Write { spot, value, at } => {
-                counted_if(at < written_bytes(spot, value), self.line_at())
-            }
-            Focus::Blank { at, left } => {
-                let (_, items) = self.list_at()?;
-                counted_if(self.covered_from(items, at, left) < left, self.line_at())
-            }
-            Focus::Compares { next, .. } => match self.stack.last()? {
-                Pending::Doing(code, Stage::Chooses) => label_counts(*code, next),
-                _ => None,
-            },
-            Focus::Over => Some(self.line_of(self.copy.function)),
+// The bytes without an item of the list that waits.
+fn blank_counts(program: &Typed, at: u64, left: u64, top: Option<&Pending>) -> Option<u32> {
+    let (_, items) = list_at(top)?;
+    counted_if(covered_from(program, items, at, left) < left, line_at(top))
+}
+
+/// The line of the step that the next micro-step is, if it counts as one. It is that of the focus in a copy, with what
+/// waits on top. After the end of main it is main's line.
+pub fn counted_line(
+    program: &Typed,
+    copy: CopyOf,
+    focus: Focus,
+    top: Option<&Pending>,
+) -> Option<u32> {
+    match focus {
+        Focus::Eval(_) | Focus::Find(_) | Focus::Leaves(_) => None,
+        Focus::Holds(value) => value_counts(value, top?),
+        Focus::Found(_) => found_counts(program, top?),
+        Focus::Run(code) => statement_counts(code.statement()?),
+        Focus::Past => past_counts(program, copy, top),
+        Focus::Fetch { read, .. } => {
+            let wanted = program.bytes_of(read_type(top));
+            counted_if((read.count() as u64) < wanted, line_at(top))
         }
+        Focus::PutBit { .. } | Focus::CopyWrite { .. } | Focus::Calls => Some(line_at(top)),
+        Focus::Skim { left, .. } | Focus::CopyRead { left, .. } | Focus::Spell { left, .. } =>
+            counted_if(left != 0, line_at(top)),
+        Focus::Write { spot, value, at } => {
+            counted_if(at < written_bytes(spot, value), line_at(top))
+        }
+        Focus::Blank { at, left } => blank_counts(program, at, left, top),
+        Focus::Compares { next, .. } => match top? {
+            Pending::Doing(code, Stage::Chooses) => label_counts(*code, next),
+            _ => None,
+        },
+        Focus::Over => Some(line_of(program, copy.function)),
     }
 }

@@ -1,11 +1,12 @@
 //! Reads and writes of one byte: when they are undefined, what they change, and the event that they make.
 
 use crate::memory::{Memory, Slot};
-use crate::objects::{Byte, Object, Pointer, ReadBytes, Spot, Undef};
-use crate::values::{fits_behind, number_in};
 use crate::world::World;
-use c_typed::{TItem, Ty, Typed};
+use c_typed::Ty;
 use pic_world::{Cell, Event, Root, Script};
+use src_values::objects::ReadBytes;
+use src_values::values::{fits_behind, number_in};
+use src_values::{Byte, Object, Pointer, Spot, Undef};
 
 /// Which bytes a read may meet: any, or those that follow these as a type.
 #[derive(Clone, Copy)]
@@ -95,21 +96,6 @@ fn cell(slot: Slot, object: Object, offset: u64) -> Option<Cell> {
         }),
         _ => None,
     }
-}
-
-/// Whether some item of a list has the byte.
-pub fn is_covered(program: &Typed, items: &[TItem], at: u64) -> bool {
-    for item in items {
-        let (start, size) = match item {
-            TItem::Scalar { offset, value } => (*offset, program.bytes_of(value.ty())),
-            TItem::Struct { offset, size, .. } => (*offset, *size),
-            TItem::Text { offset, size, .. } => (*offset, *size),
-        };
-        if start <= at && at < start.saturating_add(size) {
-            return true;
-        }
-    }
-    false
 }
 
 impl World {

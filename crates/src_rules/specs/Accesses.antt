@@ -1,25 +1,25 @@
 -- How values are read and written, byte by byte: each byte is a step. The node that a value belongs to waits below, until all
 -- bytes are done.
-use Rattle.std.specs.Prelude.{ℕ, zero, suc, ◌+◌, ◌-◌, Bool, true, false, nat_lt, if◌then◌else◌, List, [], ◌∷◌, ◌++◌, length, Option, Some, None}
+use Rattle.std.specs.Prelude.{ℕ, zero, suc, ◌+◌, ◌-◌, Bool, true, nat_lt, if◌then◌else◌, List, [], ◌∷◌, ◌++◌, length, Option, Some, None}
 use Rattle.c_typed.specs.Trees as tree
 use Rattle.c_typed.specs.Trees.{Expression, Item, Statement}
-use Rattle.c_typed.specs.Types.{type_bytes, type_of}
-use Rattle.c_typed.specs.declared.expression.StepOp.{StepOp}
-use Rattle.c_typed.specs.declared.expression.StepOp.TheVariants.{PreIncrement, PreDecrement, PostIncrement, PostDecrement}
+use Rattle.c_typed.specs.Types.{type_bytes}
 use Rattle.c_typed.specs.declared.types.Ty.{Ty}
 use Rattle.c_typed.specs.declared.types.Ty.TheVariants as types
 use Rattle.pic_world.specs.World.{World, device_value}
-use Rattle.src_machine.specs.Control.{Focus, Eval, Find, Holds, Past, Fetch, Skim, Write, PutBit, CopyRead, CopyWrite, Spell, Blank, Got, At, Stores, Copies, Stage, Fills, AtItem, Items, Blanks, Pending, In, Doing, Outcome, Went, Undefined, Lost, state, line_at, active}
-use Rattle.src_values.specs.Accesses.{Taking, Takes, Breaks, Putting, Puts, Refuses, take_byte, put_byte, device_taken, device_put, with_bit, is_covered}
+use Rattle.src_machine.specs.State.{Outcome, Went, Undefined, Lost, state}
+use Rattle.src_memory.specs.Accesses.{Taking, Takes, Breaks, Putting, Puts, Refuses, take_byte, put_byte, device_taken, device_put, with_bit}
+use Rattle.src_memory.specs.Memory.{Setting, Memory}
+use Rattle.src_values.specs.Control.{Focus, Eval, Find, Holds, Past, Fetch, Skim, Write, PutBit, CopyRead, CopyWrite, Spell, Blank, Got, At, Stores, Copies, Stage, Fills, AtItem, Items, Blanks, Pending, In, Doing, line_at, active, read_type}
 use Rattle.src_values.specs.Data.{Datum}
 use Rattle.src_values.specs.Data.{Missing}
-use Rattle.src_values.specs.Objects.{Setting, Memory, object_bytes, local_of, next_byte}
-use Rattle.src_values.specs.Values.{byte_count, byte_of, number_in, value_from, fits_behind, lowest_bit, kept_in}
+use Rattle.src_values.specs.Lists.{covered_from}
+use Rattle.src_values.specs.Objects.{object_bytes, local_of, next_byte, behind}
+use Rattle.src_values.specs.Values.{byte_of, number_in, value_from, fits_behind, lowest_bit, answer_of, written_bytes}
 use Rattle.src_values.specs.declared.objects.Byte.{Byte}
 use Rattle.src_values.specs.declared.objects.Byte.TheVariants as bytes
 use Rattle.src_values.specs.declared.objects.CopyOf.{CopyOf}
 use Rattle.src_values.specs.declared.objects.Object.{Object}
-use Rattle.src_values.specs.declared.objects.Pointer.TheVariants.{Into}
 use Rattle.src_values.specs.declared.objects.Spot.{Spot}
 use Rattle.src_values.specs.declared.objects.Spot.TheVariants as spots
 
@@ -49,11 +49,6 @@ abbrev pub fetched : Datum → List Pending → CopyOf → Memory → World Byte
 fetched v (In (tree.Read place ty line) (At spot) ∷ k) c m w = goes c (Holds v) k m w
 fetched v k c m w = goes c (Holds v) k m w
 
--- the type that the node which waits reads its place as
-abbrev pub read_type : List Pending → Ty
-read_type (In e got ∷ k) = type_of e
-read_type _ = types.Void
-
 abbrev pub fetch_as : Ty → Setting → Spot → List Byte → List Pending → CopyOf → Memory → World Byte → Outcome
 fetch_as ty s spot read k c m w =
     if nat_lt (length read) (type_bytes s.program.sizes ty) then
@@ -72,9 +67,6 @@ skim s spot (suc left) byte k c m w =
     after_taking (take_byte s (active c (Skim spot (suc left) byte) k) c.root is_any spot m w) (λ next. Skim (next_byte spot) left (Some next)) c k m (line_at k)
 
 -- ---- lists of locals
-abbrev pub behind : Object → ℕ → Spot
-behind object offset = spots.Memory (Into object offset)
-
 -- The items of a local's list from here on, in order, and then the bytes without an item.
 abbrev pub items : Setting → Statement → Object → List Item → List Pending → CopyOf → Memory → World Byte → Outcome
 items s t object [] k c m w = goes c (Blank 0 (object_bytes s.program object)) (Doing t Blanks ∷ k) m w
@@ -83,17 +75,6 @@ items s t object (tree.Struct offset from size ∷ rest) k c m w = goes c (Find 
 items s t object (tree.Text offset text size ∷ rest) k c m w = goes c (Spell (behind object offset) text size) (Doing t (Items (tree.Text offset text size) rest) ∷ k) m w
 
 -- ---- what follows a write
-abbrev pub is_postfix : StepOp → Bool
-is_postfix PreIncrement = false
-is_postfix PreDecrement = false
-is_postfix PostIncrement = true
-is_postfix PostDecrement = true
-
--- The expression has the value that its place holds afterwards; a postfix form has the old one.
-abbrev pub answer_of : Expression → Spot → Datum → Datum
-answer_of (tree.Step op place operation size ty line) spot v = if is_postfix op then v else kept_in spot v
-answer_of _ spot v = kept_in spot v
-
 abbrev pub stored_in : Expression → Got → List Pending → CopyOf → Memory → World Byte → Outcome
 stored_in e (Stores spot v) k c m w = goes c (Holds (answer_of e spot v)) k m w
 stored_in e Copies k c m w = goes c (Holds Missing) k m w
@@ -126,11 +107,6 @@ write_at s (spots.Bit register number) v at k c m w = read_bit s register number
 write_at s spot v at k c m w =
     after_putting (put_byte s (active c (Write spot v at) k) c.root spot (byte_of v at) m w) (Write (next_byte spot) v (at + 1)) c k (line_at k)
 
--- how many bytes a write of a value has: one where a bit is written
-abbrev pub written_bytes : Spot → Datum → ℕ
-written_bytes (spots.Bit register number) v = 1
-written_bytes spot v = byte_count v
-
 abbrev pub write : Setting → Spot → Datum → ℕ → List Pending → CopyOf → Memory → World Byte → Outcome
 write s spot v at k c m w = if nat_lt at (written_bytes spot v) then write_at s spot v at k c m w else stored s k c m w
 
@@ -158,11 +134,6 @@ spell s spot text (suc left) k c m w =
     after_putting (put_byte s (active c (Spell spot text (suc left)) k) c.root spot (bytes.Number (first_or_zero text)) m w) (Spell (next_byte spot) (behind_first text) left) c k (line_at k)
 
 -- ---- the bytes without an item
--- how many bytes from this one on have an item, of so many
-abbrev pub covered_from : List ℕ → List Item → ℕ → ℕ → ℕ
-covered_from sizes all at zero = 0
-covered_from sizes all at (suc left) = if is_covered sizes all at then covered_from sizes all (at + 1) left + 1 else 0
-
 abbrev pub blank_at : Setting → Object → ℕ → ℕ → List Pending → CopyOf → Memory → World Byte → Outcome
 blank_at s object at zero k c m w = stored s k c m w
 blank_at s object at (suc left) k c m w =

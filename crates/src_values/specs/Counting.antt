@@ -4,19 +4,18 @@
 use Rattle.std.specs.Prelude.{ℕ, zero, suc, Bool, true, false, not, ◌||◌, nat_lt, List, [], ◌∷◌, length, Option, Some, None}
 use Rattle.c_typed.specs.Sameness.{same_type, is_array, pointed}
 use Rattle.c_typed.specs.Trees as tree
-use Rattle.c_typed.specs.Trees.{Expression, Item, Place, Program, Statement}
+use Rattle.c_typed.specs.Trees.{Expression, Place, Program, Statement}
 use Rattle.c_typed.specs.Types.{place_type, type_bytes}
 use Rattle.c_typed.specs.declared.expression.LogicalOp.{LogicalOp}
 use Rattle.c_typed.specs.declared.statement.TCase.{TCase}
 use Rattle.c_typed.specs.declared.types.Qualified.{Qualified}
 use Rattle.c_typed.specs.declared.types.Ty.{Ty}
-use Rattle.src_machine.specs.Accesses.{covered_from, read_type, written_bytes}
-use Rattle.src_machine.specs.Control as control
-use Rattle.src_machine.specs.Control.{Focus, Got, Nothing, One, At, AtWith, Pending, In, To, Doing, Before, Returns, Resumes, expression_line, line_at}
-use Rattle.src_machine.specs.Giving.{decides}
+use Rattle.src_values.specs.Control as control
+use Rattle.src_values.specs.Control.{read_type, Focus, Got, Nothing, One, At, AtWith, Pending, In, To, Doing, Returns, Resumes, line_at}
 use Rattle.src_values.specs.Data.{Datum}
+use Rattle.src_values.specs.Lists.{covered_from}
 use Rattle.src_values.specs.Objects.{function_at}
-use Rattle.src_values.specs.Values.{truth_of}
+use Rattle.src_values.specs.Values.{written_bytes, decides, truth_of}
 use Rattle.src_values.specs.declared.objects.CopyOf.{CopyOf}
 
 abbrev pub counted_if : Bool → ℕ → Option ℕ

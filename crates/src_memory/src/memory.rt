@@ -1,10 +1,10 @@
 //! The bytes of all objects, and where each object's bytes and address are.
 
-use crate::objects::{Byte, CopyOf, Datum, Object};
-use crate::values::{byte_count, byte_of};
 use c_typed::{Function, InitialByte, Static, Typed, Variable};
-use pic_world::Root;
 use pic_map::{FrameLine, Map};
+use pic_world::Root;
+use src_values::values::{byte_count, byte_of};
+use src_values::{Byte, CopyOf, Datum, Object};
 use std::alloc::{AllocError, Global};
 
 /// An object: where its bytes begin, how many it has, its address in the map, and whether an access to
@@ -193,14 +193,6 @@ impl Memory {
                     None
                 }
             }
-        }
-    }
-
-    /// How many bytes an object has.
-    pub fn size(&self, object: Object) -> u64 {
-        match self.slot(object) {
-            Some(slot) => slot.size,
-            None => 0,
         }
     }
 

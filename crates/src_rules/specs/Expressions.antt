@@ -1,18 +1,16 @@
 -- How expressions and places begin, and what follows a place that was found (ISO/IEC 9899:1990, 6.3): the left operand comes
 -- first, and the node waits for it.
-use Rattle.std.specs.Prelude.{ℕ, pos, Bool, true, false, ◌&&◌, nat_eq, List, [], ◌∷◌, Option, Some, None, slice_get}
+use Rattle.std.specs.Prelude.{ℕ, pos, List, [], ◌∷◌, Option, Some, None}
 use Rattle.c_typed.specs.Trees as tree
 use Rattle.c_typed.specs.Trees.{Expression, Expressions, Place, Statement}
-use Rattle.c_typed.specs.Types.{place_type}
-use Rattle.c_typed.specs.declared.types.Qualified.{Qualified}
-use Rattle.c_typed.specs.declared.types.Ty.{Ty}
-use Rattle.c_typed.specs.declared.types.Ty.TheVariants as types
 use Rattle.pic_world.specs.World.{World}
-use Rattle.src_machine.specs.Accesses.{goes, fetching, behind}
-use Rattle.src_machine.specs.Control.{Eval, Find, Holds, Found, CopyRead, Calls, Got, Nothing, At, Copies, Args, Passed, Stage, AtItem, Items, Pending, In, To, Doing, Outcome, Undefined, Lost}
-use Rattle.src_values.specs.Data.{Datum}
+use Rattle.src_machine.specs.Accesses.{goes, fetching}
+use Rattle.src_machine.specs.State.{Outcome, Undefined, Lost}
+use Rattle.src_memory.specs.Memory.{Setting, Memory}
+use Rattle.src_values.specs.Control.{Eval, Find, Holds, Found, CopyRead, Calls, Got, Nothing, At, Copies, Args, Passed, Stage, AtItem, Items, Pending, In, To, Doing}
 use Rattle.src_values.specs.Data as datum
-use Rattle.src_values.specs.Objects.{Setting, Memory, spot_of, local_of, moved}
+use Rattle.src_values.specs.Data.{Datum}
+use Rattle.src_values.specs.Objects.{behind, spot_of, local_of, moved}
 use Rattle.src_values.specs.declared.objects.Byte.{Byte}
 use Rattle.src_values.specs.declared.objects.CopyOf.{CopyOf}
 use Rattle.src_values.specs.declared.objects.Pointer.{Pointer}
