@@ -1,7 +1,7 @@
 """Runs definitions of specs/*.antt: reads the part of the language of specifications that they are written in, and translates them to
 Python when they are first asked for, with all that they use.
 
-    step = definition('Rattle.src_machine.specs.Step', 'step')
+    step = definition('Rattle.src_rules.specs.Step', 'step')
     outcome = step(setting, state)
 
 A number is an int, Bool is bool, a list or a pair is a tuple, a constructor is a tuple with its name first, as ('Some', 3) or ('None',), a
@@ -22,7 +22,7 @@ sys.setrecursionlimit(100000)
 CRATES = os.path.join(os.path.dirname(os.path.abspath(__file__)), '..', '..', 'crates')
 KEPT = {'label_from', 'row_of', 'register_at', 'is_register', 'object_at', 'general_at', 'handler_in', 'main_in', 'bytes_together'}
 # by crate and name, how many arguments such a function takes before it is a memory: the memory before, the place and the byte
-WRITES = {('src_memory', 'with_byte'): 4, ('core_code', 'with_byte'): 3, ('sym_code', 'with_byte'): 3}
+WRITES = {('src_values', 'with_byte'): 4, ('core_code', 'with_byte'): 3, ('sym_code', 'with_byte'): 3}
 REACHED = {}
 
 

@@ -5,7 +5,7 @@ import functools
 from interpreter import Function, Memory, NONE, Record, declared, definition, some, value
 
 SOURCE, MEMORY, CORE, SYM, CHIP, WORLD = (
-    'Rattle.%s.specs.' % crate for crate in ('src_machine', 'src_memory', 'core_code', 'sym_code', 'pic_chip', 'pic_world'))
+    'Rattle.%s.specs.' % crate for crate in ('src_rules', 'src_memory', 'core_code', 'sym_code', 'pic_chip', 'pic_world'))
 FLAGS = tuple(declared(WORLD + 'declared.Flag'))
 
 

@@ -19,15 +19,15 @@ use Rattle.call_graph.specs.Copies.{AreCopies, HasDepth}
 use Rattle.call_graph.specs.Levels.{IsAcyclic}
 use Rattle.call_graph.specs.declared.types.FnCopy.{FnCopy}
 use Rattle.ram_place.specs.Sizes.{frame_bytes, block_words}
-use Rattle.src_values.specs.Objects.{Setting}
-use Rattle.src_values.specs.Shown.{variable_offset}
+use Rattle.src_values.specs.Memory.{Setting}
+use Rattle.src_values.specs.Objects.{variable_offset}
 use Rattle.src_values.specs.declared.objects.Byte.{Byte}
 use Rattle.src_values.specs.declared.objects.Byte.TheVariants as bytes
 use Rattle.src_values.specs.declared.objects.Object as source
 use Rattle.src_values.specs.declared.objects.Object.TheVariants as objects
-use Rattle.src_machine.specs.Control.{Outcome, Undefined}
-use Rattle.src_machine.specs.Runs.{moment, steps_by, is_idle}
-use Rattle.src_machine.specs.Step.{step}
+use Rattle.src_rules.specs.State.{Outcome, Undefined}
+use Rattle.src_rules.specs.Runs.{moment, steps_by, is_idle}
+use Rattle.src_rules.specs.Step.{step}
 use Rattle.core_code.specs.Bytes.{Object, Fixed, FrameOf, Held, Unset, Number, Part}
 use Rattle.core_code.specs.Runs as core
 use Rattle.lower_stmt.specs.Programs.{core_of}

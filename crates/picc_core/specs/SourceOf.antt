@@ -10,10 +10,10 @@ use Rattle.call_graph.specs.declared.types.FnCopy.{FnCopy}
 use Rattle.pic_world.specs.World.{Outside}
 use Rattle.pic_map.specs.MapContent.{ObjectLine, FrameLine, MapContent}
 use Rattle.ram_place.specs.Placement.{IsPlacing, MayBeLive}
-use Rattle.src_machine.specs.State.{Outcome, Undefined}
-use Rattle.src_machine.specs.Runs.{moment, steps_by}
-use Rattle.src_machine.specs.Step.{step}
-use Rattle.src_memory.specs.Memory.{Setting, first_memory}
+use Rattle.src_rules.specs.State.{Outcome, Undefined}
+use Rattle.src_rules.specs.Runs.{moment, steps_by}
+use Rattle.src_rules.specs.Step.{step}
+use Rattle.src_values.specs.Memory.{Setting, first_memory}
 use Rattle.src_memory.specs.Shown.{address_of, shown, shown_byte}
 use Rattle.src_values.specs.declared.objects.Object.TheVariants.{Fixed}
 use Rattle.picc_core.specs.Headline.{Source, SourceRun, IsFaithful}

@@ -7,8 +7,8 @@ use Rattle.pic_world.specs.declared.Cell.TheVariants.{Device, Static}
 use Rattle.pic_world.specs.declared.Flag.TheVariants.{Intf}
 use Rattle.pic_world.specs.declared.Root.TheVariants.{Main}
 use Rattle.source_examples.specs.Programs as programs
-use Rattle.src_machine.specs.Runs.{Fault, moment, steps_by, after, fault_after, is_idle_after, main_steps_after, runs_after}
-use Rattle.src_memory.specs.Memory.{Setting}
+use Rattle.src_rules.specs.Runs.{Fault, moment, steps_by, after, fault_after, is_idle_after, main_steps_after, runs_after}
+use Rattle.src_values.specs.Memory.{Setting}
 use Rattle.src_values.specs.declared.objects.Byte.{Byte}
 use Rattle.src_values.specs.declared.objects.Byte.TheVariants.{Number, Part}
 use Rattle.src_values.specs.declared.objects.Object.TheVariants.{Variable}

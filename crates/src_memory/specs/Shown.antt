@@ -1,15 +1,14 @@
 -- How events are shown: a byte of a pointer as that byte of the address that the map gives its object, plus the offset.
-use Rattle.std.specs.Prelude.{ℕ, ◌+◌, ◌/◌, ◌%◌, Bool, true, false, ◌&&◌, if◌then◌else◌, List, [], ◌∷◌, Option, Some, None, slice_get, take, map}
+use Rattle.std.specs.Prelude.{ℕ, ◌+◌, ◌/◌, ◌%◌, Bool, true, false, ◌&&◌, if◌then◌else◌, List, [], ◌∷◌, Option, Some, None, slice_get}
 use Rattle.c_typed.specs.Roots.{same_bytes}
-use Rattle.c_typed.specs.Trees.{Program, VariableTree}
-use Rattle.c_typed.specs.Types.{type_bytes}
+use Rattle.c_typed.specs.Trees.{Program}
 use Rattle.pic_map.specs.MapContent.{MapContent, ObjectLine, FrameLine}
 use Rattle.pic_world.specs.Roots.{same_root}
 use Rattle.pic_world.specs.World.{Happening, ReadOf, WriteOf, Ended}
 use Rattle.pic_world.specs.declared.Event.{Event}
 use Rattle.pic_world.specs.declared.Event.TheVariants as events
 use Rattle.pic_world.specs.declared.Root.{Root}
-use Rattle.src_values.specs.Objects.{function_at, variables_of}
+use Rattle.src_values.specs.Objects.{function_at, variable_offset}
 use Rattle.src_values.specs.declared.objects.Byte.{Byte}
 use Rattle.src_values.specs.declared.objects.Byte.TheVariants as bytes
 use Rattle.src_values.specs.declared.objects.Object.{Object}
@@ -23,15 +22,6 @@ object_address (Some line) = line.address
 abbrev pub frame_address : List FrameLine → Root → List ℕ → ℕ
 frame_address [] root name = 0
 frame_address (f ∷ fs) root name = if same_root f.root root && same_bytes f.name name then f.address else frame_address fs root name
-
--- the bytes of variables together
-abbrev pub bytes_together : List ℕ → List VariableTree → ℕ
-bytes_together sizes [] = 0
-bytes_together sizes (v ∷ vs) = type_bytes sizes v.ty.ty + bytes_together sizes vs
-
--- how many bytes of the frame stand before a variable: parameters first, then locals
-abbrev pub variable_offset : Program → ℕ → ℕ → ℕ
-variable_offset p f n = bytes_together p.sizes (take n (variables_of (function_at p f)))
 
 -- the address of an object
 unfoldable pub address_of : Program → MapContent → Object → ℕ

@@ -7,9 +7,9 @@ use Rattle.c_typed.specs.Types.{type_bytes}
 use Rattle.c_typed.specs.declared.types.Ty.{Ty}
 use Rattle.c_typed.specs.declared.types.Ty.TheVariants as types
 use Rattle.pic_world.specs.World.{World, device_value}
-use Rattle.src_machine.specs.State.{Outcome, Went, Undefined, Lost, state}
-use Rattle.src_memory.specs.Accesses.{Taking, Takes, Breaks, Putting, Puts, Refuses, take_byte, put_byte, device_taken, device_put, with_bit}
-use Rattle.src_memory.specs.Memory.{Setting, Memory}
+use Rattle.src_rules.specs.State.{Outcome, Went, Undefined, Lost, state}
+use Rattle.src_values.specs.Accesses.{Taking, Takes, Breaks, Putting, Puts, Refuses, take_byte, put_byte, device_taken, device_put, with_bit}
+use Rattle.src_values.specs.Memory.{Setting, Memory}
 use Rattle.src_values.specs.Control.{Focus, Eval, Find, Holds, Past, Fetch, Skim, Write, PutBit, CopyRead, CopyWrite, Spell, Blank, Got, At, Stores, Copies, Stage, Fills, AtItem, Items, Blanks, Pending, In, Doing, line_at, active, read_type}
 use Rattle.src_values.specs.Data.{Datum}
 use Rattle.src_values.specs.Data.{Missing}

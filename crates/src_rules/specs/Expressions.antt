@@ -4,9 +4,9 @@ use Rattle.std.specs.Prelude.{ℕ, pos, List, [], ◌∷◌, Option, Some, None}
 use Rattle.c_typed.specs.Trees as tree
 use Rattle.c_typed.specs.Trees.{Expression, Expressions, Place, Statement}
 use Rattle.pic_world.specs.World.{World}
-use Rattle.src_machine.specs.Accesses.{goes, fetching}
-use Rattle.src_machine.specs.State.{Outcome, Undefined, Lost}
-use Rattle.src_memory.specs.Memory.{Setting, Memory}
+use Rattle.src_rules.specs.Accesses.{goes, fetching}
+use Rattle.src_rules.specs.State.{Outcome, Undefined, Lost}
+use Rattle.src_values.specs.Memory.{Setting, Memory}
 use Rattle.src_values.specs.Control.{Eval, Find, Holds, Found, CopyRead, Calls, Got, Nothing, At, Copies, Args, Passed, Stage, AtItem, Items, Pending, In, To, Doing}
 use Rattle.src_values.specs.Data as datum
 use Rattle.src_values.specs.Data.{Datum}

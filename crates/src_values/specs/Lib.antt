@@ -4,3 +4,5 @@ pub mod Values
 pub mod Lists
 pub mod Control
 pub mod Counting
+pub mod Memory
+pub mod Accesses

@@ -1,6 +1,7 @@
 -- Objects, how many bytes they have, which of them are active, and where pointers move.
-use Rattle.std.specs.Prelude.{ℕ, ◌+◌, Bool, true, false, not, ◌&&◌, ◌||◌, nat_eq, if◌then◌else◌, ℤ, pos, ◌+ℤ◌, int_lt, unsigned_abs, List, [], ◌∷◌, ◌++◌, length, Option, Some, None, slice_get}
+use Rattle.std.specs.Prelude.{ℕ, ◌+◌, Bool, true, false, not, ◌&&◌, ◌||◌, nat_eq, if◌then◌else◌, ℤ, pos, ◌+ℤ◌, int_lt, unsigned_abs, List, [], ◌∷◌, ◌++◌, length, Option, Some, None, slice_get, take}
 use Rattle.std.specs.Ordering.{int_eq}
+use Rattle.c_typed.specs.Room.{variables_bytes}
 use Rattle.c_typed.specs.Roots.{is_main, is_handler, first_from}
 use Rattle.c_typed.specs.Trees as tree
 use Rattle.c_typed.specs.Trees.{FunctionTree, Program, StaticTree, VariableTree}
@@ -124,3 +125,7 @@ behind object offset = spots.Memory (Into object offset)
 abbrev pub next_byte : Spot → Spot
 next_byte (spots.Memory (Into object offset)) = spots.Memory (Into object (offset + 1))
 next_byte spot = spot
+
+-- how many bytes of the frame stand before a variable: parameters first, then locals
+abbrev pub variable_offset : Program → ℕ → ℕ → ℕ
+variable_offset p f n = variables_bytes p.sizes (take n (variables_of (function_at p f)))

@@ -5,10 +5,10 @@ use Rattle.pic_world.specs.World.{arrived, device_value, after_device_read, afte
 use Rattle.source_examples.proofs.worked_runs.Goals as goal
 use Rattle.src_values.specs.Control.{active}
 use Rattle.src_values.specs.Counting.{counted_line}
-use Rattle.src_machine.specs.Runs.{run, steps_by, ready_within, ready, take, after, fault_after, is_idle_after, main_steps_after, runs_after}
-use Rattle.src_machine.specs.Step.{act, step, enters, counts, start}
-use Rattle.src_machine.specs.Weights.{expression_weight, arguments_weight, place_weight, part_weight, declarator_weight, statements_weight, stage_weight, weight}
-use Rattle.src_memory.specs.Accesses.{take_byte, put_byte}
+use Rattle.src_rules.specs.Runs.{run, steps_by, ready_within, ready, take, after, fault_after, is_idle_after, main_steps_after, runs_after}
+use Rattle.src_rules.specs.Step.{act, step, enters, counts, start}
+use Rattle.src_rules.specs.Weights.{expression_weight, arguments_weight, place_weight, part_weight, declarator_weight, statements_weight, stage_weight, weight}
+use Rattle.src_values.specs.Accesses.{take_byte, put_byte}
 use Rattle.src_values.specs.Lists.{is_covered}
 use Rattle.src_values.specs.Objects.{object_bytes, is_watched, is_alive, breaks_isolation, moved}
 use Rattle.src_values.specs.Values.{number_from, value_from, fits_behind, converted, truth_of, unary_answer, binary_answer, offset_answer, difference_answer, change_answer, kept_in}

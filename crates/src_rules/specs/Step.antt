@@ -5,12 +5,12 @@ use Rattle.c_typed.specs.Trees.{Expression, Program}
 use Rattle.pic_world.specs.World.{World, arrived, is_due, entered, world_at_start}
 use Rattle.pic_world.specs.declared.Root.{Root}
 use Rattle.pic_world.specs.declared.Root.TheVariants.{Main, Isr}
-use Rattle.src_machine.specs.Accesses.{goes, fetch, skim, write, put_bit, copy_read, copy_write, spell, blank}
-use Rattle.src_machine.specs.Expressions.{eval, find, found}
-use Rattle.src_machine.specs.Giving.{give, compares}
-use Rattle.src_machine.specs.State.{State, state, Outcome, Went, Undefined, Idle, Lost}
-use Rattle.src_machine.specs.Statements.{begin, leave, proceed}
-use Rattle.src_memory.specs.Memory.{Setting, Memory, fresh, first_memory}
+use Rattle.src_rules.specs.Accesses.{goes, fetch, skim, write, put_bit, copy_read, copy_write, spell, blank}
+use Rattle.src_rules.specs.Expressions.{eval, find, found}
+use Rattle.src_rules.specs.Giving.{give, compares}
+use Rattle.src_rules.specs.State.{State, state, Outcome, Went, Undefined, Idle, Lost}
+use Rattle.src_rules.specs.Statements.{begin, leave, proceed}
+use Rattle.src_values.specs.Memory.{Setting, Memory, fresh, first_memory}
 use Rattle.src_values.specs.Control.{Focus, Eval, Find, Holds, Found, Run, Past, Fetch, Skim, Write, PutBit, CopyRead, CopyWrite, Spell, Blank, Calls, Leaves, Compares, Over, Got, Passed, Called, Pending, In, Before, Returns, Resumes}
 use Rattle.src_values.specs.Counting.{counted_line}
 use Rattle.src_values.specs.Data as datum

@@ -2,10 +2,10 @@
 use Rattle.std.specs.Prelude.{ℕ, zero, suc, ◌+◌, Bool, true, false, not, ◌&&◌, ◌||◌, if◌then◌else◌, Option, Some, None}
 use Rattle.pic_world.specs.declared.Root.{Root}
 use Rattle.pic_world.specs.declared.Root.TheVariants.{Main, Isr}
-use Rattle.src_machine.specs.State.{State, Outcome, Went, Undefined, Idle}
-use Rattle.src_machine.specs.Step.{step, counts, enters, start}
-use Rattle.src_machine.specs.Weights.{weight}
-use Rattle.src_memory.specs.Memory.{Setting}
+use Rattle.src_rules.specs.State.{State, Outcome, Went, Undefined, Idle}
+use Rattle.src_rules.specs.Step.{step, counts, enters, start}
+use Rattle.src_rules.specs.Weights.{weight}
+use Rattle.src_values.specs.Memory.{Setting}
 use Rattle.src_values.specs.declared.objects.Undef.{Undef}
 
 -- ---- by micro-steps

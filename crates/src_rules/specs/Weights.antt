@@ -3,9 +3,9 @@
 use Rattle.std.specs.Prelude.{ℕ, ◌+◌, if◌then◌else◌, List, [], ◌∷◌, Option, Some, None}
 use Rattle.c_typed.specs.Trees as tree
 use Rattle.c_typed.specs.Trees.{Expression, Expressions, Place, Item, Statement, Statements, Arms, LastArm}
-use Rattle.src_machine.specs.State.{State}
-use Rattle.src_machine.specs.Step.{counts}
-use Rattle.src_memory.specs.Memory.{Setting}
+use Rattle.src_rules.specs.State.{State}
+use Rattle.src_rules.specs.Step.{counts}
+use Rattle.src_values.specs.Memory.{Setting}
 use Rattle.src_values.specs.Control.{Focus, Eval, Find, Run, Got, Nothing, At, AtWith, Args, Passed, Stage, Tests, Begins, Steps, Turns, Picks, Chooses, AtItem, Items, Pending, In, To, Doing, Before, Returns, Resumes}
 
 -- ---- expressions and places, from their beginning to their value

@@ -1,7 +1,7 @@
 -- Where a run stands, and how a micro-step ends.
 use Rattle.std.specs.Prelude.{ℕ, List, Option}
 use Rattle.pic_world.specs.World.{Happening, World}
-use Rattle.src_memory.specs.Memory.{Memory}
+use Rattle.src_values.specs.Memory.{Memory}
 use Rattle.src_values.specs.Control.{Focus, Pending}
 use Rattle.src_values.specs.declared.objects.Byte.{Byte}
 use Rattle.src_values.specs.declared.objects.CopyOf.{CopyOf}

@@ -5,9 +5,9 @@ use Rattle.c_typed.specs.Trees.{Expression, Statement, Arms, LastArm}
 use Rattle.c_typed.specs.declared.statement.LoopForm.{LoopForm}
 use Rattle.c_typed.specs.declared.statement.LoopForm.TheVariants.{While, Do, For}
 use Rattle.pic_world.specs.World.{World, Ended, noted, left}
-use Rattle.src_machine.specs.Accesses.{goes, items}
-use Rattle.src_machine.specs.State.{Outcome, Went, Lost, state}
-use Rattle.src_memory.specs.Memory.{Setting, Memory, cleared}
+use Rattle.src_rules.specs.Accesses.{goes, items}
+use Rattle.src_rules.specs.State.{Outcome, Went, Lost, state}
+use Rattle.src_values.specs.Memory.{Setting, Memory, cleared}
 use Rattle.src_values.specs.Control.{Eval, Holds, Run, Past, Leaves, Over, Called, Stage, Tests, Begins, Steps, Turns, Picks, InArm, Pending, In, Doing, Before, Returns, Resumes}
 use Rattle.src_values.specs.Data.{Datum}
 use Rattle.src_values.specs.Data.{Missing}

@@ -6,11 +6,11 @@ use Rattle.c_typed.specs.Words.{step_operator}
 use Rattle.c_typed.specs.declared.expression.LogicalOp.{LogicalOp}
 use Rattle.c_typed.specs.declared.statement.TCase.{TCase}
 use Rattle.pic_world.specs.World.{World}
-use Rattle.src_machine.specs.Accesses.{goes, fetching}
-use Rattle.src_machine.specs.Expressions.{arguments}
-use Rattle.src_machine.specs.State.{Outcome, Undefined, Lost}
-use Rattle.src_machine.specs.Statements.{arms, test, turn, unwound}
-use Rattle.src_memory.specs.Memory.{Setting, Memory}
+use Rattle.src_rules.specs.Accesses.{goes, fetching}
+use Rattle.src_rules.specs.Expressions.{arguments}
+use Rattle.src_rules.specs.State.{Outcome, Undefined, Lost}
+use Rattle.src_rules.specs.Statements.{arms, test, turn, unwound}
+use Rattle.src_values.specs.Memory.{Setting, Memory}
 use Rattle.src_values.specs.Control.{Eval, Holds, Found, Run, Past, Write, Leaves, Compares, Got, Nothing, Chosen, One, At, AtWith, Stores, Args, Stage, Tests, Begins, Steps, Turns, Picks, InArm, Chooses, Fills, AtItem, Items, Pending, In, To, Doing, Before, active}
 use Rattle.src_values.specs.Data.{Datum}
 use Rattle.src_values.specs.Data.{Number, Pointer, Missing}

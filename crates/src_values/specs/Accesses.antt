@@ -6,7 +6,7 @@ use Rattle.pic_world.specs.World.{Happening, ReadOf, WriteOf, World, noted, devi
 use Rattle.pic_world.specs.declared.Cell.{Cell}
 use Rattle.pic_world.specs.declared.Cell.TheVariants.{Device, Static}
 use Rattle.pic_world.specs.declared.Root.{Root}
-use Rattle.src_memory.specs.Memory.{Setting, Memory, with_byte}
+use Rattle.src_values.specs.Memory.{Setting, Memory, with_byte}
 use Rattle.src_values.specs.Objects.{object_bytes, is_watched, is_alive, breaks_isolation}
 use Rattle.src_values.specs.Values.{number_in}
 use Rattle.src_values.specs.declared.objects.Byte.{Byte}
