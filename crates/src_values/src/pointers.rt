@@ -116,14 +116,7 @@ impl Memory {
 
     /// What a binary operator gives. `ty` is the type of the operation. Where both operands are pointers,
     /// `alive` says whether what they point to is alive.
-    pub fn binary(
-        &self,
-        alive: bool,
-        op: BinOp,
-        ty: Ty,
-        left: Datum,
-        right: Datum,
-    ) -> Answer {
+    pub fn binary(&self, alive: bool, op: BinOp, ty: Ty, left: Datum, right: Datum) -> Answer {
         match bad_right(op, ty, right) {
             Some(kind) => Answer::Fails(kind),
             None => self.on_values(alive, op, left, right),
