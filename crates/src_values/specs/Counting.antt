@@ -1,7 +1,7 @@
 -- Which micro-steps count as steps of the source, and at which line: an operator applied, a byte accessed, a switch
 -- label compared, a statement begun, a function called, the end of a function's body. The others only lead from one
 -- part of the tree to the next.
-use Rattle.std.specs.Prelude.{ℕ, zero, suc, Bool, true, false, ◌&&◌, nat_eq, nat_lt, if◌then◌else◌, List, [], ◌∷◌, length, Option, Some, None, slice_get}
+use Rattle.std.specs.Prelude.{ℕ, zero, suc, Bool, true, false, ◌&&◌, nat_eq, nat_lt, List, [], ◌∷◌, length, Option, Some, None, slice_get}
 use Rattle.c_typed.specs.Trees as tree
 use Rattle.c_typed.specs.Trees.{Expression, Place, Program, Statement}
 use Rattle.c_typed.specs.Types.{place_type, type_bytes}
