@@ -1,8 +1,7 @@
 use crate::selects;
 use core_code::Byte;
+use pic_map::{FrameLine, Placed};
 use pic_world::Root;
-use pic_map::FrameLine;
-use pic_map::Placed;
 use std::alloc::{AllocError, Global};
 use sym_code::{
     BankBit, BitOperation, BlockName, Label, Operand, PageBit, PlainOperation, Sym, SymBlock,

@@ -5,8 +5,8 @@ ghost use Rattle.code_place.specs.Addresses as stated;
 ghost use Rattle.sym_code.specs.Layout as layout;
 
 use core_code::Byte;
-use pic_world::Root;
 use pic_map::Placed;
+use pic_world::Root;
 use sym_code::{Operand, Register, Saved};
 
 // How many addresses data memory has.

@@ -1,8 +1,7 @@
 use crate::assemble;
 use core_code::Byte;
+use pic_map::{FrameLine, ObjLine, Placed};
 use pic_world::Root;
-use pic_map::{FrameLine, ObjLine};
-use pic_map::Placed;
 use std::alloc::{AllocError, Global};
 use sym_code::{
     BankBit, BitOperation, BlockName, FileOperation, Into, Label, Literal, LiteralOperation,

@@ -6,8 +6,8 @@ use crate::commands::{
     Case, LED, LED_HEX, LED_MAP, USAGE, check, host_of, host_with, put, run, words_of,
 };
 use host_io::Fail;
-use pic_world::Script;
 use pic_sim::Board;
+use pic_world::Script;
 use picc_cli::picc;
 use std::alloc::AllocError;
 use std::test::Fail as Failure;

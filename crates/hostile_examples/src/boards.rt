@@ -3,9 +3,9 @@
 ghost use Rattle.std.specs.Prelude.{◌≡◌, None};
 
 use pic_chip::{Accesses, Chip, Image, Start, StepEnd};
-use pic_world::{Script, register_name};
 use pic_map::Tracer;
 use pic_sim::{Board, Exchange, SimEnd, simulate};
+use pic_world::{Script, register_name};
 use picc_core::{Built, compile};
 use std::alloc::{AllocError, Global};
 use std::process::Abort;

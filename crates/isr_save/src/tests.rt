@@ -1,7 +1,6 @@
 use crate::start_block;
 use core_code::{Byte, CoreProgram, FirstByte};
-use pic_map::ObjLine;
-use pic_map::Placed;
+use pic_map::{ObjLine, Placed};
 use std::alloc::{AllocError, Global};
 use sym_code::{
     BlockName, FileOperation, Into, Label, Literal, LiteralOperation, Operand, PlainOperation,

@@ -13,10 +13,10 @@ use crate::access::StepEnd;
 use crate::place::{Place, place_at};
 use crate::processor::Processor;
 use crate::rows::{device_read, run};
-use pic_world::Script;
-use pic_world::script::input_at;
 use crate::{Image, Start};
 use pic_isa::{Ins, decode};
+use pic_world::Script;
+use pic_world::script::input_at;
 use std::marker::Model;
 
 /// The PIC16F877A, as far as programs can see it: its state, and the index of the next

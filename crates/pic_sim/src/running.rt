@@ -12,8 +12,8 @@ ghost use Rattle.pic_sim.specs.Step.{given_of, IsWanted, AreLowest, shown_all, s
 
 use crate::board::{Board, Exchange};
 use pic_chip::{Access, Accesses, Chip, Image, StepEnd};
-use pic_world::{Event, Trace, register_name};
 use pic_map::Tracer;
+use pic_world::{Event, Trace, register_name};
 use std::alloc::AllocError;
 
 /// How a run ended.

@@ -8,8 +8,8 @@ ghost use Rattle.picc_cli.specs.Built.{IsBuilt, IsRefused};
 use crate::code::assembled;
 use crate::program::{Assignment, read_program};
 use hex_image::write_hex;
-use pic_world::Root;
 use pic_map::{FrameLine, Map, write_map};
+use pic_world::Root;
 use std::alloc::{AllocError, Global};
 
 /// The texts of the two files.

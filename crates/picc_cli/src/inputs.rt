@@ -15,8 +15,8 @@ use crate::say::{say, say_located};
 use hex_image::{HexError, read_hex};
 use host_io::{Host, HostError, read_whole};
 use pic_chip::Image;
-use pic_world::Script;
 use pic_map::{Map, MapError, read_map};
+use pic_world::Script;
 use schedule::{ScriptError, read_script};
 use std::alloc::Global;
 

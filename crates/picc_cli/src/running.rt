@@ -11,8 +11,8 @@ ghost use Rattle.ram_place.specs.Placement.{IsPlacing};
 
 use crate::tracing::Ended;
 use host_io::{Host, HostError};
-use pic_world::{Cell, Event, Script, register_name};
 use pic_map::{Map, event_line};
+use pic_world::{Cell, Event, Script, register_name};
 use picc_core::Front;
 use src_machine::{Source, SrcEnd};
 use std::alloc::Global;

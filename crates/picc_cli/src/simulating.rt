@@ -19,9 +19,9 @@ use crate::running::print_event;
 use crate::say::say_line;
 use host_io::{Host, HostError};
 use pic_chip::{Chip, Image, Start};
-use pic_world::{Script, Trace};
 use pic_map::{Map, Tracer};
 use pic_sim::{Board, SimEnd, simulate as run_on};
+use pic_world::{Script, Trace};
 use std::alloc::{AllocError, Global};
 
 /// What is unknown after power-on is 0 here.

@@ -47,11 +47,7 @@ fn put_helper(
 }
 
 // The blocks of the helpers behind some others, in the order of their copies.
-fn put_helpers(
-    alloc: Global,
-    list: &[FnCopy],
-    blocks: &mut Vec<SymBlock>,
-) -> Result<(), AllocError>
+fn put_helpers(alloc: Global, list: &[FnCopy], blocks: &mut Vec<SymBlock>) -> Result<(), AllocError>
     ensures { OnOk result (views_of blocks.new.items ≡ views_of blocks.old.items ++ helpers_from 0 list.now) }
 {
     for number in 0..list.len() {

@@ -3,8 +3,7 @@
 use c_check::Typed;
 use call_graph::Copies;
 use pic_chip::Image;
-use pic_map::Map;
-use pic_map::Placed;
+use pic_map::{Map, Placed};
 
 /// What is known of a text that isn't refused: its typed tree, the copies of its functions, and where objects and
 /// frames stand. `at` has the address of each block of code: the start block; the copies of main's root in order of

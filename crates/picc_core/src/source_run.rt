@@ -1,8 +1,8 @@
 //! A run of the source whose steps and events are counted, and what is known of main between two of its events.
 
 use c_typed::Typed;
-use pic_world::Script;
 use pic_map::Map;
+use pic_world::Script;
 use src_machine::{Source, SrcEnd, Undef};
 use std::alloc::{AllocError, Global};
 

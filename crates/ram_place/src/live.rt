@@ -13,8 +13,8 @@ ghost use Rattle.ram_place.specs.Placement.{MayBeLive, LiveFramesHave};
 use crate::memory::{Span, Taken};
 use c_typed::Typed;
 use call_graph::{FnCopy, graph_of, number_of, reached, reversed};
-use pic_world::Root;
 use pic_map::FrameLine;
+use pic_world::Root;
 use std::alloc::{AllocError, Global};
 
 /// The call graph of a program of so many functions, both ways.

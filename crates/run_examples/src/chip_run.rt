@@ -1,8 +1,8 @@
 //! The run of an image on the chip, with its events by name.
 
 use pic_chip::{Access, Accesses, Chip, Image, Start, StepEnd};
-use pic_world::{Arrival, Cell, Event, Script, register_name};
 use pic_map::Map;
+use pic_world::{Arrival, Cell, Event, Script, register_name};
 use std::alloc::{AllocError, Global};
 
 /// The events of a run, each arrival with the length that the trace had when it came, and the most words of the return

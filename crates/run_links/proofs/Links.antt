@@ -77,21 +77,21 @@ not_stuck E F f a b steps nodes m long run followed within reaches clean k cheap
     let r = reaches ((m + 1) * nodes) in
     -- at an undefined step the trace is longer already
     let halted : (i : ℕ) → Goes a i → steps i < (m + 1) * nodes → a.goes i ≡ false → b.goes k ≡ true =
-        λ i before counted there.
-        let link = followed i before in
-        let far : long < length (a.trace i) =
-        ⊎_elim (λ l. l) (λ ge. let q = clean i counted ge in absurd (cc)) (cases_lt long (length (a.trace i))) in
-        ⊎_elim (λ l. link.goes k l)
-        (λ ge.
-        let q = front_length (b.trace (link.at i)) (b.trace k) (run.grows (link.at i) k ge) in
-        let s : length (b.trace (link.at i)) ≡ length (a.trace i) = ap length (link.same i (omega arith)) ∙ length-map (a.trace i) f in
-        absurd (omega arith))
-        (cases_lt k (link.at i)) in
+    λ i before counted there.
+    let link = followed i before in
+    let far : long < length (a.trace i) =
+    ⊎_elim (λ l. l) (λ ge. let q = clean i counted ge in absurd (cc)) (cases_lt long (length (a.trace i))) in
+    ⊎_elim (λ l. link.goes k l)
+    (λ ge.
+    let q = front_length (b.trace (link.at i)) (b.trace k) (run.grows (link.at i) k ge) in
+    let s : length (b.trace (link.at i)) ≡ length (a.trace i) = ap length (link.same i (omega arith)) ∙ length-map (a.trace i) f in
+    absurd (omega arith))
+    (cases_lt k (link.at i)) in
     ⊎_elim
     (λ d.
     let link = followed r.0 d in
     let rests : b.rests (link.at r.0) ≡ true → b.goes k ≡ true =
-        λ still. ⊎_elim (λ l. link.goes k l) (λ ge. run.waits (link.at r.0) k ge still) (cases_lt k (link.at r.0)) in
+    λ still. ⊎_elim (λ l. link.goes k l) (λ ge. run.waits (link.at r.0) k ge still) (cases_lt k (link.at r.0)) in
     ⊎_elim
     (λ far.
     ⊎_elim

@@ -5,9 +5,9 @@ ghost use Rattle.pic_map.specs.Tracing.{list_of};
 ghost use Rattle.schedule.specs.Watching.{ahead};
 
 use pic_chip::{Accesses, Chip, Image, Start, StepEnd};
-use pic_world::{Arrival, Event, Script};
 use pic_isa::{Ins, decode};
 use pic_map::{Map, Tracer};
+use pic_world::{Arrival, Event, Script};
 use std::alloc::{AllocError, Global};
 
 /// What is read off a run of the chip. A moment is the point after so many instructions from reset, before an interrupt is

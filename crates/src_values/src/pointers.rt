@@ -158,13 +158,7 @@ fn moved_by(program: &Typed, op: BinOp, size: u64, pointer: Pointer, count: Numb
 }
 
 /// A pointer moved by an integer's number of elements; the integer may stand first.
-pub fn offset_answer(
-    program: &Typed,
-    op: BinOp,
-    size: u64,
-    left: Datum,
-    right: Datum,
-) -> Answer {
+pub fn offset_answer(program: &Typed, op: BinOp, size: u64, left: Datum, right: Datum) -> Answer {
     match left {
         Datum::Pointer(pointer) => match right {
             Datum::Number(count) => moved_by(program, op, size, pointer, count),
