@@ -10,7 +10,7 @@ enter_folder
 
 # the words of a command; its text goes to `printed`. Its status is to be 0.
 run() {
-    "$top/picc" "$@" >printed
+    "$picc" "$@" >printed
     status=$?
     [ "$status" = 0 ] || wrong "status $status of $*"
 }

@@ -5,7 +5,8 @@
 # schedule that is read off a run of the chip with arrivals at any instruction. Between any two events each language has to cost no more
 # than the one above it allows; no block has more words than are stated for it; objects end with what was written; and `picc trace`
 # ends at the undefined step that the definitions meet. The programs: three small ones of examples/, and eight random ones from seed
-# 1. `definitions.sh COUNT [SEED]` runs so many random ones, and the texts of examples/, of all crates of examples and of vectors too.
+# 1. `definitions.sh COUNT [SEED]` runs so many random ones, and the texts of examples/, of all crates of examples and of
+# checks/cases/ too.
 # PICC names a program in place of the launcher, `-` for none; PROCESSES says how many processes work at the same time.
 set -u
 . "$(dirname -- "$0")/lib/common.sh" || exit 1
@@ -23,6 +24,6 @@ seed=${2:-1}
 if [ $# -eq 0 ]; then
     set -- "$top"/examples/led.c "$top"/examples/pins.c "$top"/examples/two_copies.c
 else
-    set -- "$top"/examples/*.c "$top"/crates/*_examples/src/*.rt "${PICC_VECTORS:-$top/../shared/vectors}"/*.jsonl
+    set -- "$top"/examples/*.c "$top"/crates/*_examples/src/*.rt "$top"/checks/cases/*.jsonl
 fi
-PYTHONDONTWRITEBYTECODE=1 python3 "$top/checks/lib/definitions.py" "$show" "${PICC:-$top/picc}" "$count" "$seed" "${PROCESSES:-2}" "$@"
+PYTHONDONTWRITEBYTECODE=1 python3 "$top/checks/lib/definitions.py" "$show" "$picc" "$count" "$seed" "${PROCESSES:-2}" "$@"

@@ -17,7 +17,7 @@ value() {
 }
 
 led() {
-    "$top/picc" build "$top/examples/led.c" led.hex led.map || return 1
+    "$picc" build "$top/examples/led.c" led.hex led.map || return 1
     halt=$(sed -n 's/^halt //p' led.map)
     printf 'break c 1000\nrun\npc\nportb\nquit\n' >commands.stc
     gpsim -i -p p16f877a -c commands.stc led.hex </dev/null >printed 2>&1
@@ -35,9 +35,9 @@ led() {
 # Name, and how many writes there are to be at least. An instruction takes one cycle or two, so gpsim runs no more
 # instructions than cycles.
 writes() {
-    "$top/picc" build "$top/examples/$1.c" "$1.hex" "$1.map" || return 1
+    "$picc" build "$top/examples/$1.c" "$1.hex" "$1.map" || return 1
     : >nothing
-    "$top/picc" sim "$1.hex" "$1.map" nothing 1000000 | sed -n 's/^W \(PORT[BC] ..\)$/\1/p' >wanted
+    "$picc" sim "$1.hex" "$1.map" nothing 1000000 | sed -n 's/^W \(PORT[BC] ..\)$/\1/p' >wanted
     printf 'log on written\nlog w 0x06\nlog w 0x07\nbreak c 1000000\nrun\nquit\n' >commands.stc
     rm -f written
     gpsim -i -p p16f877a -c commands.stc "$1.hex" </dev/null >printed 2>&1

@@ -1,10 +1,10 @@
 #!/bin/sh
-# The cases of vectors/sim.jsonl through `picc sim`, where that folder is there: one JSON object a line, with the files by their
-# names, the words of the command, and the status and the printed text that were worked out by hand. PICC_VECTORS names the folder.
+# The cases of checks/cases/simulations.jsonl through `picc sim`: one JSON object a line, with the files by their names, the words of
+# the command, and the status and the printed text that were worked out by hand.
 set -u
 . "$(dirname -- "$0")/lib/common.sh" || exit 1
 . "$top/checks/lib/cases.sh" || exit 1
-have_cases sim.jsonl skipped cases || exit 0
+have_cases simulations.jsonl || exit $failed
 enter_folder
 
 run_cases <<'PY'

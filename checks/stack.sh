@@ -9,7 +9,7 @@ first_build
 # what the text is, the wanted status and line, the text
 expect() {
     printf '%s\n' "$4" >a.c
-    printed=$(ulimit -s 8192 && "$top/picc" build a.c a.hex a.map)
+    printed=$(ulimit -s 8192 && "$picc" build a.c a.hex a.map)
     status=$?
     [ "$status $printed" = "$2 $3" ] || wrong "$1: status $status, printed $printed, wanted status $2, $3"
 }

@@ -1,9 +1,8 @@
 #!/bin/sh
 # `picc trace` on the firmware of examples/: with M steps it prints the trace that stands beside it, whose last line is of
 # the last step, and with one step fewer all but that line. Numbers of steps and traces are those of a model, which
-# nobody of the compiler's code has a part in. Then the cases of vectors/trace.jsonl, where that folder is there: one JSON
-# object a line, with a text, a script, M, and the printed lines and the status that were worked out by hand.
-# PICC_VECTORS names the folder.
+# nobody of the compiler's code has a part in. Then the cases of checks/cases/traces.jsonl: one JSON object a line, with a text, a
+# script, M, and the printed lines and the status that were worked out by hand.
 set -u
 . "$(dirname -- "$0")/lib/common.sh" || exit 1
 . "$top/checks/lib/cases.sh" || exit 1
@@ -11,7 +10,7 @@ enter_folder
 
 # name, number of steps, what it is to print
 expect() {
-    "$top/picc" trace "$1.c" "$1.txt" "$2" >printed
+    "$picc" trace "$1.c" "$1.txt" "$2" >printed
     status=$?
     if [ "$status" != 0 ] || ! cmp -s printed "$3"; then
         wrong "$1, $2 steps: status $status, and these differences"
@@ -34,7 +33,7 @@ expect lock 1000000 lock.trace
 cp "$top/examples/lights.c" "$top/examples/lights.txt" "$top/examples/lights.trace" . || exit 1
 expect lights 1000000 lights.trace
 
-have_cases trace.jsonl 'cases skipped' them || exit $failed
+have_cases traces.jsonl || exit $failed
 mkdir cases && cd cases || exit 1
 run_cases <<'PY' || failed=1
 import os

@@ -1,12 +1,12 @@
 #!/bin/sh
-# The cases of vectors/front.jsonl through `picc build`, where that folder is there: one JSON object a line, with the
-# text of a program and the answer that was worked out by hand, a refusal or `ok`. PICC_VECTORS names the folder.
+# The cases of checks/cases/refusals.jsonl through `picc build`: one JSON object a line, with the text of a program and the answer
+# that was worked out by hand, a refusal or `ok`.
 # What a case says beside `ok` of lines of the map and of bytes of a frame is compared with the map. Words of a block and depths
 # aren't printed, so such a case is skipped once its program was accepted.
 set -u
 . "$(dirname -- "$0")/lib/common.sh" || exit 1
 . "$top/checks/lib/cases.sh" || exit 1
-have_cases front.jsonl skipped cases || exit 0
+have_cases refusals.jsonl || exit $failed
 enter_folder
 first_build
 

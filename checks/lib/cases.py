@@ -1,5 +1,5 @@
-"""The loop over cases that stand in a file as one JSON object a line. The arguments of the program are the launcher, the file
-of cases, and the name that begins each printed line."""
+"""The loop over cases that stand in a file as one JSON object a line. The arguments of the script are picc, the file of
+cases, and the name that begins each printed line."""
 import json
 import subprocess
 import sys
