@@ -19,7 +19,7 @@ pub struct Built {
     pub map: Vec<u8>,
 }
 
-/// The files of a program, or `None` where the text isn't one that is built so far.
+/// The files of a program, or `None` where the text isn't one of constants to ports.
 pub fn build(alloc: Global, text: &[u8]) -> Result<Option<Built>, AllocError>
     ensures built { IfOk result (λ files. IfSome files (λ built. IsBuilt text.now built.hex.items built.map.items)) }
     ensures refused { IfOk result (λ files. IfNone files (IsRefused text.now)) }

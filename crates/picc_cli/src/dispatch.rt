@@ -43,8 +43,8 @@ pub fn picc<H: Host>(
     ensures closed { H.open_file host.new ≡ Closed }
     ensures same_kind { H.kind host.new ≡ H.kind host.old }
 
-    // With status 0 of a build the HEX and the map are those of the text, and what the HEX does on the chip is what the
-    // text says. All other commands leave all files as they were.
+    // With status 0 of a build of constants to ports what the HEX does on the chip is what the text says; of any other text the map
+    // is such as it is to be. All other commands leave all files as they were.
     ensures files { IfSome (H.contents host.old) (λ old. HasFiles (form_of (words_of words.now)) old (H.contents host.new) result) }
     ensures faults { HasFaults (H.kind host.old) (H.faults host.old) (H.faults host.new) (form_of (words_of words.now)) (H.contents host.old) result }
     ensures status { HasStatus (form_of (words_of words.now)) result }

@@ -1,4 +1,4 @@
-// The programs that are built so far: constants to ports.
+// The programs whose HEX is proved to do what they say: constants to ports.
 //
 // A program is `void main(void){`, then at most 146 assignments `REG=N;`, then `}`, and at most one line feed
 // behind it. REG is one of PORTA to PORTE and TRISA to TRISE, and N a number from 0 to 255 in decimal, without
