@@ -133,6 +133,7 @@ STANDARD = {
     'map': (2, lambda f, xs: tuple(applied(f, x) for x in xs)),
     'Some': (1, some), 'is_some': (1, lambda option: option[0] == 'Some'),
     'option_to_list': (1, lambda option: option[1:]), 'flat_map': (2, lambda f, xs: sum((applied(f, x) for x in xs), ())),
+    'position': (2, lambda f, xs: next((some(i) for i, x in enumerate(xs) if applied(f, x)), NONE)),
     'list_any': (2, lambda f, xs: any(applied(f, x) for x in xs)), 'list_all': (2, lambda f, xs: all(applied(f, x) for x in xs)),
     'get_or': (3, lambda xs, i, other: xs[i] if i < len(xs) else other),
     'option_map': (2, lambda f, option: some(applied(f, option[1])) if option[0] == 'Some' else NONE),

@@ -200,7 +200,7 @@ class Chip(Machine):
         start = Record(w=random.randrange(256), fsr=random.randrange(256), flags=random.randrange(8), ram=tuple(random.randrange(256) for _ in range(368)))
         setting = Record(image=self.image, watch=self.watch, start=start, inputs=inputs, arrivals=arrivals_of(pairs))
         self.moment = definition(CHIP + 'Run', 'first_moment')(setting)
-        self.next_moment, self.arriving = definition(CHIP + 'Run', 'next_moment'), definition(CHIP + 'Interrupts', 'arriving')
+        self.next_moment, self.arriving = definition(CHIP + 'Run', 'next_moment'), definition(WORLD + 'Arrivals', 'arriving')
         self.arrivals, self.times = setting.arrivals, {t for t, _ in pairs}
         self.lengths, self.depth, self.quiet = [0], 0, 0
 
