@@ -1,5 +1,5 @@
 #!/bin/sh
-# The definitions of all languages, run on the same programs, scripts and arrivals: what the specs of src_machine, core_code, sym_code
+# The definitions of all languages, run on the same programs, scripts and arrivals: what the specs of src_rules, core_code, sym_code
 # and pic_chip say that a program does. checks/lib/interpreter.py runs them over what picc_show prints of the program. They have to
 # make the same events in the same order, as far as the source is defined, under schedules by the length of the trace, and under the
 # schedule that is read off a run of the chip with arrivals at any instruction. Between any two events each language has to cost no more
