@@ -50,8 +50,8 @@ fn put_helper(
 fn put_helpers(alloc: Global, list: &[FnCopy], blocks: &mut Vec<SymBlock>) -> Result<(), AllocError>
     ensures { OnOk result (views_of blocks.new.items ≡ views_of blocks.old.items ++ helpers_from 0 list.now) }
 {
-    for number in 0..list.len() {
-        put_helper(alloc, list[number], number, blocks)?;
+    for (number, copy) in list.iter().enumerate() {
+        put_helper(alloc, *copy, number, blocks)?;
     }
     Ok(())
 }
