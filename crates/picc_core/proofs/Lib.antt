@@ -1,4 +1,4 @@
 pub mod Telling
 pub mod Sums
 pub mod Handed
-pub mod Joined
+pub mod BlockViews

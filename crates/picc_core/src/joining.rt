@@ -28,7 +28,7 @@ fn numbered(number: Option<usize>) -> Result<Option<u16>, AllocError>
 }
 
 // One more block, where the copy with this number is a helper's.
-#[tactic(auto, using(crate::proofs::Joined::helper_put, crate::proofs::Joined::none_put))]
+#[tactic(auto, using(crate::proofs::BlockViews::helper_put, crate::proofs::BlockViews::none_put))]
 fn put_helper(
     alloc: Global,
     copy: FnCopy,
