@@ -34,8 +34,7 @@ use Rattle.sym_code.specs.declared.code.Sym.TheVariants as syms
 use Rattle.sym_code.specs.declared.code.SymBlock.{SymBlock}
 use Rattle.sym_code.specs.declared.code.Target.TheVariants as targets
 use Rattle.code_place.specs.Layouts.{program_of, page_of}
-use Rattle.code_place.specs.Places.{HoldsInstructions, BlocksHaveAddresses}
-use Rattle.code_place.specs.Marks.{TargetsStand, block_place, label_place}
+use Rattle.code_place.specs.Places.{block_place, label_place, HoldsInstructions, BlocksHaveAddresses, TargetsStand}
 use Rattle.code_place.specs.Sizes.{Fit}
 use Rattle.isr_save.specs.Start.{saving, restoring, start_code}
 
