@@ -6,7 +6,7 @@ set -u
 . "$(dirname -- "$0")/lib/common.sh" || exit 1
 enter_folder
 first_build
-program=$top/target/picc/picc
+program=${PICC:-$top/target/picc/picc}
 
 cat >refusing.c <<'C'
 #define _GNU_SOURCE
