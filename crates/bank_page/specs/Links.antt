@@ -14,6 +14,7 @@ use Rattle.sym_code.specs.declared.code.BlockName.{BlockName}
 use Rattle.sym_code.specs.declared.code.Sym.{Sym}
 use Rattle.sym_code.specs.declared.code.SymBlock.{SymBlock}
 use Rattle.code_place.specs.Layouts.{program_of, page_of}
+use Rattle.code_place.specs.Sizes.{Fit}
 use Rattle.sym_code.specs.Selects.{is_select}
 use Rattle.bank_page.specs.Kinds.{is_label}
 use Rattle.sym_code.specs.Selects.{bare}
@@ -45,6 +46,7 @@ pub record HasSelects (given made : List SymBlock) (handler : Option ℕ) (place
   pub without : g.banked ≡ false
   pub with : h.banked ≡ true
   pub pages : h.page_of ≡ page_of made at
+  pub fit : Fit made at
   pub limits : h.limit ≡ g.limit
   pub same : (name : BlockName) → bare (block_in made name) ≡ block_in given name
   pub apart : All IsApart made

@@ -1,11 +1,11 @@
 -- What an image keeps on the chip, with interrupts between any two instructions: the trace of an early run of its symbolic code, in
 -- which the handler is entered whole directly behind an event.
-use Rattle.std.specs.Prelude.{ℕ, ◌+◌, ◌-◌, ◌≡◌, ◌<◌, ◌≤◌, Bool, true, false, List, [], ◌∷◌, ◌++◌, length, map, Option, Some, None, slice_index}
-use Rattle.std.specs.Global.{Global}
+use Rattle.std.specs.Prelude.{ℕ, ◌+◌, ◌-◌, ◌≡◌, ◌<◌, ◌≤◌, Bool, true, false, ◌&&◌, nat_eq, List, [], ◌∷◌, ◌++◌, length, map, Option, Some, None, slice_index, slice_get}
 use Rattle.std.specs.List.{All, Contains}
-use Rattle.std.specs.declared.vec.Vec.{Vec}
 use Rattle.pic_world.specs.World.{Outside, Happening, outside_of, event_of}
 use Rattle.pic_world.specs.Arrivals.{arriving}
+use Rattle.pic_world.specs.Control.{control_at_reset}
+use Rattle.pic_chip.specs.Interrupts.{control_of}
 use Rattle.pic_world.specs.declared.Arrival.{Arrival}
 use Rattle.pic_world.specs.declared.Cell.{Cell}
 use Rattle.pic_world.specs.declared.Root.TheVariants.{Main, Isr}
@@ -15,35 +15,48 @@ use Rattle.pic_map.specs.declared.Placed.{Placed}
 use Rattle.run_links.specs.Runs.{Run}
 use Rattle.schedule.specs.Off.{read_off}
 use Rattle.core_code.specs.Bytes.{Held}
-use Rattle.core_code.specs.FirstBytes.{first_held}
-use Rattle.core_code.specs.declared.code.FirstByte.{FirstByte}
 use Rattle.sym_code.specs.Correct.{IsBegun, AreEntries}
 use Rattle.sym_code.specs.Effect.{Setting, Memory}
 use Rattle.sym_code.specs.Layout.{IsLaidOut, Owner, owner, Watched, Of}
 use Rattle.sym_code.specs.Machine.{Entry, sym_start, sym_run}
 use Rattle.sym_code.specs.Programs.{block_in}
-use Rattle.sym_code.specs.Registers.{Registers}
+use Rattle.sym_code.specs.Registers.{Registers, Fits}
 use Rattle.sym_code.specs.Runs.{run_of}
-use Rattle.sym_code.specs.Selects.{bare}
 use Rattle.sym_code.specs.Words.{words_in}
 use Rattle.sym_code.specs.declared.code.BlockName.{BlockName}
 use Rattle.sym_code.specs.declared.code.BlockName.TheVariants.{Start, Copy}
 use Rattle.sym_code.specs.declared.code.Label.TheVariants.{Halt}
+use Rattle.sym_code.specs.declared.code.PageBit.TheVariants.{Low, High}
 use Rattle.sym_code.specs.declared.code.Sym.{Sym}
 use Rattle.sym_code.specs.declared.code.Sym.TheVariants as syms
 use Rattle.sym_code.specs.declared.code.SymBlock.{SymBlock}
+use Rattle.sym_code.specs.declared.code.Target.{Target}
 use Rattle.sym_code.specs.declared.code.Target.TheVariants as targets
 use Rattle.code_place.specs.Layouts.{program_of, page_of}
 use Rattle.code_place.specs.Places.{block_place, label_place, HoldsInstructions, BlocksHaveAddresses, TargetsStand}
 use Rattle.code_place.specs.Sizes.{Fit}
-use Rattle.isr_save.specs.Start.{saving, restoring, start_code}
+use Rattle.isr_save.specs.Start.{saving, restoring}
 
 -- ---- what is given
--- the selects of a target's page, both, in either order, or as many as are needed
-abbrev pub are_page_selects : List Sym → Bool
-are_page_selects [] = true
-are_page_selects (syms.SelectPage bit target ∷ rest) = are_page_selects rest
-are_page_selects (_ ∷ rest) = false
+-- selects of the page in which the handler's block stands, and both of its bits among them
+abbrev pub is_to_handler : ℕ → Target → Bool
+is_to_handler handler (targets.Block (Copy c)) = nat_eq c handler
+is_to_handler handler _ = false
+
+abbrev pub are_page_selects : ℕ → List Sym → Bool
+are_page_selects handler [] = true
+are_page_selects handler (syms.SelectPage bit target ∷ rest) = is_to_handler handler target && are_page_selects handler rest
+are_page_selects handler (_ ∷ rest) = false
+
+abbrev pub has_low : List Sym → Bool
+has_low [] = false
+has_low (syms.SelectPage Low target ∷ rest) = true
+has_low (s ∷ rest) = has_low rest
+
+abbrev pub has_high : List Sym → Bool
+has_high [] = false
+has_high (syms.SelectPage High target ∷ rest) = true
+has_high (s ∷ rest) = has_high rest
 
 -- The vector stands behind four words: it saves main's context, goes to the handler, and behind the label `Restore` gives the
 -- context back.
@@ -51,7 +64,8 @@ pub record HasVector (list : List Sym) (handler : ℕ) : Type 0 where
   pub before : List Sym
   pub four : words_in before ≡ 4
   pub selects : List Sym
-  pub of_page : are_page_selects selects ≡ true
+  pub of_page : are_page_selects handler selects ≡ true
+  pub both : (has_low selects && has_high selects) ≡ true
   pub behind : List Sym
   pub whole : list ≡ before ++ saving ++ selects ++ (syms.Goto (targets.Block (Copy handler)) ∷ []) ++ restoring ++ behind
 
@@ -60,11 +74,13 @@ HasVectorFor list None = Unit {0}
 HasVectorFor list (Some handler) = HasVector list handler
 
 -- an image that these blocks make, with their selects
--- what the objects begin as
-abbrev pub held_in : List (Vec FirstByte Global) → List (List Held)
-held_in statics = map (λ (object : Vec FirstByte Global). map first_held object.items) statics
+-- how many calls may wait at the same time, and an interrupt between them
+abbrev pub depth_for : Option ℕ → (Bool → ℕ) → ℕ
+depth_for None limit = limit false
+depth_for (Some handler) limit = limit false + 1 + limit true
 
-pub record IsAssembled (blocks : List SymBlock) (at : List ℕ) (placed : Placed) (handler : Option ℕ) (statics : List (Vec FirstByte Global)) (image : List ℕ) (watch : Watch) (g : Setting) : Type 0 where
+-- an image that these blocks make, with their selects
+pub record IsAssembled (blocks : List SymBlock) (at : List ℕ) (placed : Placed) (handler : Option ℕ) (image : List ℕ) (watch : Watch) (g : Setting) : Type 0 where
   pub code : g.program ≡ program_of blocks handler placed
   pub banked : g.banked ≡ true
   pub pages : g.page_of ≡ page_of blocks at
@@ -74,15 +90,15 @@ pub record IsAssembled (blocks : List SymBlock) (at : List ℕ) (placed : Placed
   pub targets : TargetsStand blocks at
   pub main : block_place blocks at (Copy 0) ≡ Some watch.main
   pub halt : label_place blocks at Halt ≡ Some watch.halt
-  -- the start block stands at 0000h
+  -- the start block is the first of the list, and stands at 0000h
+  pub start : (block : SymBlock) × (slice_get blocks 0 ≡ Some block) × (block.name ≡ Start)
   pub starts : block_place blocks at Start ≡ Some 0
-  pub start : bare (block_in blocks Start) ≡ start_code handler statics
   pub vector : HasVectorFor (block_in blocks Start) handler
   pub ranges : watch.ranges ≡ g.program.layout.objects
   -- objects and frames have their places, and both chains of calls and the interrupt fit the return stack
   pub reaches : ℕ → ℕ → Bool
   pub laid_out : IsLaidOut reaches g.program.layout
-  pub depth : g.limit false + 1 + g.limit true ≤ 8
+  pub depth : depth_for handler g.limit ≤ 8
 
 -- ---- the early run
 abbrev pub one_each : BlockName → ℕ → ℕ
@@ -136,7 +152,7 @@ module _ (g : Setting) (c : chip.Setting) where
   pub record Arrives (e : Entry) (r : Registers) (m : Memory) : Type 0 where
     pub meets : (n : ℕ) → IsRunning e r m n → IsMet e r m n 0
     -- Where no flag arrives any more, the chip takes no more instructions for a stretch than the early run, and a few.
-    pub pace : (n t i j : ℕ) → IsRunning e r m n → t ≤ n → IsQuiet t n → ComesTo (early e r m n) (length (moment c t).trace) i
+    pub pace : (n t i j : ℕ) → IsRunning e r m n → t ≤ n → (moment c t).met ≡ true → IsQuiet t n → ComesTo (early e r m n) (length (moment c t).trace) i
         → (early e r m n).most j + slack ≤ (early e r m n).most i + (n - t) → IsMet e r m n j
     pub no_underflow : (n k : ℕ) → IsRunning e r m n → k ≤ n → (moment c k).state.pops ≤ (moment c k).state.pushes
     pub no_overflow : (n k : ℕ) → IsRunning e r m n → k ≤ n → (moment c k).state.pushes ≤ (moment c k).state.pops + 8
@@ -144,20 +160,24 @@ module _ (g : Setting) (c : chip.Setting) where
         → is_kept (is_handling (arriving c.arrivals k) (moment c k)) (owner g.program.layout b) ≡ true
         → slice_index (moment c (k + 1)).state.ram b ≡ slice_index (moment c k).state.ram b
 
--- What is kept from reset on: main is met soon, with its objects holding their first bytes, and no device register is accessed before.
-pub record IsKept (g : Setting) (first : List (List Held)) (c : chip.Setting) : Type 0 where
-  pub start_up : (moment c 4096).met ≡ true
+-- The start block has done its part: main is met soon, its objects hold their first bytes, no interrupt is enabled, and no device
+-- register was accessed. That it does so is a theorem of its own.
+pub record IsStarted (g : Setting) (first : List (List Held)) (c : chip.Setting) (registers : Registers) : Type 0 where
+  pub at : ℕ
+  pub soon : at ≤ 4096
+  pub met : (moment c at).met ≡ true
+  pub first_met : (k : ℕ) → k < at → (moment c k).met ≡ false
+  pub silent : (moment c at).trace ≡ []
   pub no_early_access : (n : ℕ) → (moment c n).early ≡ []
-  pub entry : Entry
-  pub registers : Registers
-  pub memory : Memory
-  pub entries : AreEntries entry
-  pub begun : IsBegun first g.program.layout registers memory
-  pub arrives : Arrives g c entry registers memory
+  pub begun : IsBegun first g.program.layout registers (slice_index (moment c at).state.ram)
+  pub control : control_of (moment c at).state ≡ control_at_reset
+  pub level : (moment c at).state.pushes ≡ (moment c at).state.pops
 
--- what start block, words and context promise together: for every start, input list and arrival list
+-- what the words and the context promise together: for every start, input list and arrival list there is what main finds, and what
+-- the handler finds at its entries
 abbrev pub Arriving : Type 0
 Arriving =
-    (blocks : List SymBlock) (at : List ℕ) (placed : Placed) (handler : Option ℕ) (statics : List (Vec FirstByte Global)) (g : Setting) (c : chip.Setting)
-    → IsAssembled blocks at placed handler statics c.image c.watch g → IsStart c.start → All (λ byte. byte < 256) c.inputs
-    → IsKept g (held_in statics) c
+    (blocks : List SymBlock) (at : List ℕ) (placed : Placed) (handler : Option ℕ) (first : List (List Held)) (g : Setting) (c : chip.Setting) (registers : Registers)
+    → IsAssembled blocks at placed handler c.image c.watch g → IsStart c.start → All (λ byte. byte < 256) c.inputs
+    → (started : IsStarted g first c registers)
+    → (entry : Entry) × (begins : Registers) × AreEntries entry × Fits begins × Arrives g c entry begins (slice_index (moment c started.at).state.ram)

@@ -78,6 +78,11 @@ pub record IsSelected (q : Program) (copies : List FnCopy) (bodies : List Body) 
   pub blocks : (c : ℕ) (copy : FnCopy) → slice_get copies c ≡ Some copy → is_user copy.function ≡ true → g.program.block (Copy c) ≡ code_by copies c (body_at bodies c)
   pub routines : (c : ℕ) (copy : FnCopy) (h : Helper) → slice_get copies c ≡ Some copy → copy.function ≡ callee.Helper h → g.program.block (Copy c) ≡ helper_code h copy.root c
   pub roots : (c : ℕ) (copy : FnCopy) → slice_get copies c ≡ Some copy → q.root c ≡ copy.root
+  -- main's copy is the first; what is called is a function's copy, each helper that is used has one, and the handler is a function
+  pub main_there : (copy : FnCopy) × (slice_get copies 0 ≡ Some copy) × (is_user copy.function ≡ true) × (copy.root ≡ Main)
+  pub called_there : (c d : ℕ) → q.calls c d ≡ true → (copy : FnCopy) × (slice_get copies d ≡ Some copy) × (is_user copy.function ≡ true)
+  pub routine_there : (c : ℕ) (op : BinOp) (ty : IntTy) (h : Helper) → q.helped c op ty ≡ true → int_helper op false ty ≡ Some h → (d : ℕ) × (copy_of copies (q.root c) h ≡ Some d)
+  pub handler_there : (c : ℕ) (copy : FnCopy) → handler_at copies ≡ Some c → slice_get copies c ≡ Some copy → is_user copy.function ≡ true
   pub handler : q.handler ≡ handler_at copies
   pub same_handler : g.program.handler ≡ q.handler
   pub no_selects : g.banked ≡ false
