@@ -49,7 +49,7 @@ simulated() {
 }
 
 traced blink 90060
-traced keypad 1456
+traced keypad 1463
 traced serial 436
 for name in blink keypad serial; do
     simulated $name

@@ -1,10 +1,10 @@
 -- What an image keeps on the chip, with interrupts between any two instructions: the trace of an early run of its symbolic code, in
 -- which the handler is entered whole directly behind an event.
-use Rattle.std.specs.Prelude.{ℕ, ◌+◌, ◌-◌, ◌≡◌, ◌<◌, ◌≤◌, Bool, true, false, ◌&&◌, nat_eq, List, [], ◌∷◌, ◌++◌, length, map, Option, Some, None, slice_index, slice_get}
+use Rattle.std.specs.Prelude.{ℕ, ◌+◌, ◌-◌, ◌≡◌, ◌<◌, ◌≤◌, Bool, true, false, ◌&&◌, nat_eq, List, [], ◌∷◌, ◌++◌, length, map, Option, Some, None, slice_index, slice_get, bit_or, zero, suc}
 use Rattle.std.specs.List.{All, Contains}
 use Rattle.pic_world.specs.World.{Outside, Happening, outside_of, event_of}
 use Rattle.pic_world.specs.Arrivals.{arriving}
-use Rattle.pic_world.specs.Control.{control_at_reset}
+use Rattle.pic_world.specs.Control.{control_at_reset, raised_by}
 use Rattle.pic_chip.specs.Interrupts.{control_of}
 use Rattle.pic_world.specs.declared.Arrival.{Arrival}
 use Rattle.pic_world.specs.declared.Cell.{Cell}
@@ -160,24 +160,29 @@ module _ (g : Setting) (c : chip.Setting) where
         → is_kept (is_handling (arriving c.arrivals k) (moment c k)) (owner g.program.layout b) ≡ true
         → slice_index (moment c (k + 1)).state.ram b ≡ slice_index (moment c k).state.ram b
 
--- The start block has done its part: main is met soon, its objects hold their first bytes, no interrupt is enabled, and no device
--- register was accessed. That it does so is a theorem of its own.
-pub record IsStarted (g : Setting) (first : List (List Held)) (c : chip.Setting) (registers : Registers) : Type 0 where
+-- the flags of the arrivals before moment n, as a mask
+abbrev pub arrived_before : List Arrival → ℕ → ℕ
+arrived_before arrivals zero = 0
+arrived_before arrivals (suc n) = bit_or (arrived_before arrivals n) (arriving arrivals n)
+
+-- The start block has done its part: main is met soon, its objects hold their first bytes, and no device register was accessed. Of
+-- the registers by which interrupts come only flags were set, by what arrived so far. That it does so is a theorem of its own.
+pub record IsStarted (g : Setting) (first : List (List Held)) (c : chip.Setting) : Type 0 where
   pub at : ℕ
   pub soon : at ≤ 4096
   pub met : (moment c at).met ≡ true
   pub first_met : (k : ℕ) → k < at → (moment c k).met ≡ false
   pub silent : (moment c at).trace ≡ []
   pub no_early_access : (n : ℕ) → (moment c n).early ≡ []
-  pub begun : IsBegun first g.program.layout registers (slice_index (moment c at).state.ram)
-  pub control : control_of (moment c at).state ≡ control_at_reset
+  pub begun : (registers : Registers) → Fits registers → IsBegun first g.program.layout registers (slice_index (moment c at).state.ram)
+  pub control : control_of (moment c at).state ≡ raised_by (arrived_before c.arrivals at) control_at_reset
   pub level : (moment c at).state.pushes ≡ (moment c at).state.pops
 
 -- what the words and the context promise together: for every start, input list and arrival list there is what main finds, and what
 -- the handler finds at its entries
 abbrev pub Arriving : Type 0
 Arriving =
-    (blocks : List SymBlock) (at : List ℕ) (placed : Placed) (handler : Option ℕ) (first : List (List Held)) (g : Setting) (c : chip.Setting) (registers : Registers)
+    (blocks : List SymBlock) (at : List ℕ) (placed : Placed) (handler : Option ℕ) (first : List (List Held)) (g : Setting) (c : chip.Setting)
     → IsAssembled blocks at placed handler c.image c.watch g → IsStart c.start → All (λ byte. byte < 256) c.inputs
-    → (started : IsStarted g first c registers)
+    → (started : IsStarted g first c)
     → (entry : Entry) × (begins : Registers) × AreEntries entry × Fits begins × Arrives g c entry begins (slice_index (moment c started.at).state.ram)

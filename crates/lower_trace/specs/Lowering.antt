@@ -1,5 +1,5 @@
 -- What lowering keeps: byte code follows the source.
-use Rattle.std.specs.Prelude.{ℕ, ◌+◌, ◌*◌, ◌≡◌, ◌<◌, ◌≤◌, Bool, true, false, not, ◌&&◌, nat_eq, List, length, map, Option, None, unwrap_or}
+use Rattle.std.specs.Prelude.{ℕ, ◌+◌, ◌*◌, ◌≡◌, ◌<◌, ◌≤◌, Bool, true, false, ◌&&◌, nat_eq, List, None, is_none, unwrap_or}
 use Rattle.std.specs.List.{All, position}
 use Rattle.pic_world.specs.Roots.{same_root}
 use Rattle.pic_world.specs.World.{Outside, Happening, event_as}
@@ -25,8 +25,7 @@ use Rattle.src_values.specs.declared.objects.Byte.{Byte}
 use Rattle.src_values.specs.declared.objects.Byte.TheVariants as bytes
 use Rattle.src_values.specs.declared.objects.Object as source
 use Rattle.src_values.specs.declared.objects.Object.TheVariants as objects
-use Rattle.src_rules.specs.State.{Outcome, Undefined}
-use Rattle.src_rules.specs.Runs.{moment, steps_by, is_idle}
+use Rattle.src_rules.specs.Runs.{moment, steps_by, fault_of, is_idle}
 use Rattle.src_rules.specs.Step.{step}
 use Rattle.core_code.specs.Bytes.{Object, Fixed, FrameOf, Held, Unset, Number, Part}
 use Rattle.core_code.specs.Runs as core
@@ -37,15 +36,11 @@ use Rattle.lower_stmt.specs.Programs.{core_of}
 abbrev pub step_price : ℕ
 step_price = 8000
 
-abbrev pub is_undefined : Outcome → Bool
-is_undefined (Undefined kind line) = true
-is_undefined _ = false
-
 -- Its moments are those between micro-steps. A step of the language may take no instruction at all.
 abbrev pub source_run : Setting → Run (Happening Byte)
 source_run s = record {
   trace = λ n. (moment s n).world.trace;
-  goes = λ n. not (is_undefined (step s (moment s n)));
+  goes = λ n. is_none (fault_of (step s (moment s n)));
   rests = λ n. is_idle (step s (moment s n));
   most = λ n. step_price * steps_by s n;
   least = λ n. 0;

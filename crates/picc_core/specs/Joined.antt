@@ -1,5 +1,5 @@
 -- The blocks of a program's symbolic code.
-use Rattle.std.specs.Prelude.{ℕ, ◌+◌, ◌≡◌, List, [], ◌∷◌, ◌++◌, Option, Some, None}
+use Rattle.std.specs.Prelude.{ℕ, ◌+◌, ◌≡◌, List, [], ◌∷◌, ◌++◌}
 use Rattle.std.specs.List.Sorted.{IsPermutation}
 use Rattle.call_graph.specs.Numbers.{handler_at}
 use Rattle.call_graph.specs.declared.types.FnCopy.{FnCopy}
@@ -14,10 +14,6 @@ use Rattle.sym_code.specs.declared.code.BlockName.{BlockName}
 use Rattle.sym_code.specs.declared.code.BlockName.TheVariants.{Start, Copy}
 use Rattle.sym_code.specs.declared.code.Sym.{Sym}
 use Rattle.sym_code.specs.declared.code.SymBlock.{SymBlock}
-
--- a number of a list, as blocks have it
-abbrev pub IsNumbered : Option ℕ → Option ℕ → Type 0
-IsNumbered number kept = kept ≡ number
 
 -- the block of a helper's copy: its name and its instructions
 abbrev pub helper_for : ℕ → Root → FnId → List (BlockName × List Sym)

@@ -3,7 +3,7 @@
 ghost use Rattle.std.specs.Prelude.{◌≡◌, ◌++◌, IfOk, OnOk};
 ghost use Rattle.std.specs.List.Sorted.{IsPermutation};
 ghost use Rattle.select_wide.specs.Blocks.{views_of};
-ghost use Rattle.picc_core.specs.Joined.{helper_at, helpers_from, IsNumbered, IsJoined};
+ghost use Rattle.picc_core.specs.Joined.{helper_at, helpers_from, IsJoined};
 
 use crate::code_order::rank_at;
 use bank_page::selects;
@@ -16,9 +16,9 @@ use select_wide::{handler_at, select};
 use std::alloc::{AllocError, Global};
 use sym_code::{BlockName, SymBlock, SymProgram};
 
-// The number of a copy as blocks have it.
+// The number of a copy as blocks have it. No program that is placed has so many copies that it doesn't fit.
 fn numbered(number: Option<usize>) -> Result<Option<u16>, AllocError>
-    ensures { IfOk result (IsNumbered number) }
+    ensures { IfOk result (λ kept. kept ≡ number) }
 {
     match number {
         Some(number) if number <= 0xFFFF => Ok(Some(number as u16)),

@@ -15,7 +15,7 @@ use Rattle.c_typed.specs.declared.types.Qualified.{Qualified}
 use Rattle.c_typed.specs.declared.types.Ty.{Ty}
 use Rattle.c_typed.specs.declared.types.Ty.TheVariants as types
 
--- ---- types: row 0 of the targets is unsigned char, and row 1 a pointer to it
+-- ---- types: the first of the targets is unsigned char, and the second a pointer to it
 abbrev pub uchar : Ty
 uchar = types.Int int.UChar
 
@@ -270,7 +270,7 @@ sets_gie = program_of [] (handler_of (intcon (byte 0x90) ∷ []) ∷ main_of [] 
 abbrev pub enables_nothing : Program
 enables_nothing = program_of [] (main_of [] (intcon (byte 0x90) ∷ []) ∷ [])
 
--- ---- a structure, and row 2 of the targets
+-- ---- a structure, which is the third of the targets
 abbrev pub structure : Ty
 structure = types.Struct 0
 

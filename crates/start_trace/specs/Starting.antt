@@ -6,16 +6,16 @@ use Rattle.std.specs.declared.vec.Vec.{Vec}
 use Rattle.pic_chip.specs.Run as chip
 use Rattle.pic_chip.specs.Run.{IsStart}
 use Rattle.pic_map.specs.declared.Placed.{Placed}
-use Rattle.core_code.specs.Bytes.{Held, Unset, Number, Part, Fixed, FrameOf}
+use Rattle.core_code.specs.Bytes.{Held}
 use Rattle.core_code.specs.FirstBytes.{first_held}
 use Rattle.core_code.specs.declared.code.FirstByte.{FirstByte}
 use Rattle.sym_code.specs.Effect.{Setting}
 use Rattle.sym_code.specs.Layout.{object}
 use Rattle.sym_code.specs.Programs.{block_in}
-use Rattle.sym_code.specs.Registers.{Registers}
 use Rattle.sym_code.specs.Selects.{bare}
 use Rattle.sym_code.specs.declared.code.BlockName.TheVariants.{Start}
 use Rattle.sym_code.specs.declared.code.SymBlock.{SymBlock}
+use Rattle.select_wide.specs.Links.{IsFirst}
 use Rattle.isr_save.specs.Start.{start_code}
 use Rattle.bank_page.specs.Selected.{Reaches}
 use Rattle.chip_trace.specs.Arriving.{IsAssembled, IsStarted}
@@ -23,13 +23,6 @@ use Rattle.chip_trace.specs.Arriving.{IsAssembled, IsStarted}
 -- what the objects begin as
 abbrev pub held_in : List (Vec FirstByte Global) → List (List Held)
 held_in statics = map (λ (object : Vec FirstByte Global). map first_held object.items) statics
-
--- a number fits into a byte, and a pointer points to an object that is there
-abbrev pub IsFirst : ℕ → Held → Type 0
-IsFirst objects Unset = Unit {0}
-IsFirst objects (Number n) = n < 256
-IsFirst objects (Part (Fixed n) offset high) = n < objects
-IsFirst objects (Part (FrameOf c) offset high) = ⊥
 
 -- the start block with its selects: on every way through it each access finds its bank, and each jump its page
 pub record IsBeginning (blocks : List SymBlock) (placed : Placed) (handler : Option ℕ) (statics : List (Vec FirstByte Global)) (g : Setting) : Type 0 where
@@ -42,4 +35,4 @@ abbrev pub Starting : Type 0
 Starting =
     (blocks : List SymBlock) (at : List ℕ) (placed : Placed) (handler : Option ℕ) (statics : List (Vec FirstByte Global)) (g : Setting) (c : chip.Setting)
     → IsAssembled blocks at placed handler c.image c.watch g → IsBeginning blocks placed handler statics g → IsStart c.start → All (λ byte. byte < 256) c.inputs
-    → (registers : Registers) × IsStarted g (held_in statics) c registers
+    → IsStarted g (held_in statics) c
