@@ -24,6 +24,6 @@ seed=${2:-1}
 if [ $# -eq 0 ]; then
     set -- "$top"/examples/led.c "$top"/examples/pins.c "$top"/examples/two_copies.c
 else
-    set -- "$top"/examples/*.c "$top"/crates/*_examples/src/*.rt "$top"/checks/cases/*.jsonl
+    set -- "$top"/examples/*.c "$top"/crates/*_tests/src/*.rt "$top"/checks/cases/*.jsonl
 fi
 PYTHONDONTWRITEBYTECODE=1 python3 "$top/checks/lib/definitions.py" "$show" "$picc" "$count" "$seed" "${PROCESSES:-2}" "$@"

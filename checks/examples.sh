@@ -1,12 +1,12 @@
 #!/bin/sh
 # The firmware of examples/: each is built, and with so many steps `picc trace` prints the trace that stands beside it, whose last line
 # is of the last step. The traces are those of models of the programs, and not of the compiler. `picc sim` prints the same events of
-# the chip under the input bytes alone as `trace` does. And the firmware that crates/run_examples runs on the chip's machine is that of
+# the chip under the input bytes alone as `trace` does. And the firmware that crates/run_tests runs on the chip's machine is that of
 # examples/.
 set -u
 . "$(dirname -- "$0")/lib/common.sh" || exit 1
 
-texts=$(cat "$top/crates/run_examples/src/firmware.rt") || exit 1
+texts=$(cat "$top/crates/run_tests/src/firmware.rt") || exit 1
 for name in pump meter lock; do
     text=$(sed 's/\\/\\\\/g; s/"/\\"/g' "$top/examples/$name.c") || exit 1
     case $texts in

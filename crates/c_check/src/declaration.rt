@@ -2,9 +2,9 @@
 
 use crate::initializer::visit;
 use crate::objects::{block_static, local_object, object_type, static_object};
-use c_declare::declarator::{Context, outline, specified};
-use c_declare::outline::{Declared, Outline, ParamShape, line_of};
-use c_declare::specifiers::{Site, Specified, Storage};
+use check_expr::declarator::{Context, outline, specified};
+use check_expr::outline::{Declared, Outline, ParamShape, line_of};
+use check_expr::specifiers::{Site, Specified, Storage};
 use c_operate::checker::Checker;
 use c_operate::error::{CheckError, Kind, refused};
 use c_operate::scope::Binding;

@@ -2,7 +2,7 @@
 
 use crate::parts::{put_text, put_value};
 use crate::slots::{Cursor, Sink, Slot};
-use c_declare::expression::assign;
+use check_expr::expression::assign;
 use c_operate::checker::Checker;
 use c_operate::error::CheckError;
 use c_operate::term::used;

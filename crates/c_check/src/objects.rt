@@ -2,8 +2,8 @@
 
 use crate::initializer::initialize;
 use crate::slots::{Sink, Slot};
-use c_declare::outline::{Declared, Outline};
-use c_declare::specifiers::{Specified, Storage};
+use check_expr::outline::{Declared, Outline};
+use check_expr::specifiers::{Specified, Storage};
 use c_operate::checker::Checker;
 use c_operate::error::{CheckError, Kind, refused};
 use c_operate::scope::{Binding, Scopes};

@@ -2,7 +2,7 @@
 
 use crate::slots::{Sink, Slot};
 use crate::text::characters;
-use c_declare::constants::folded;
+use check_expr::constants::folded;
 use c_ints::{IntTy, Value, convert, size};
 use c_operate::checker::Checker;
 use c_operate::conversion::{assigned, is_assignable};

@@ -1,6 +1,6 @@
 //! The body of a `switch`, and its labels (ISO/IEC 9899:1990, 6.6.1 and 6.6.4.2).
 
-use c_declare::constants::constant_value;
+use check_expr::constants::constant_value;
 use c_ints::{IntTy, convert};
 use c_operate::checker::Checker;
 use c_operate::error::{CheckError, Kind, number, refused};

@@ -3,9 +3,9 @@
 use crate::declaration::{FILE, declare_function, file_declaration};
 use crate::flow::Flow;
 use crate::statement::block;
-use c_declare::declarator::{outline, specified};
-use c_declare::outline::{Declared, ParamShape, line_of};
-use c_declare::specifiers;
+use check_expr::declarator::{outline, specified};
+use check_expr::outline::{Declared, ParamShape, line_of};
+use check_expr::specifiers;
 use c_operate::body::Body;
 use c_operate::checker::Checker;
 use c_operate::error::{CheckError, Kind, number, refused};

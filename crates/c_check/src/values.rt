@@ -1,6 +1,6 @@
 //! The expressions of statements (ISO/IEC 9899:1990, 6.6.3 to 6.6.6).
 
-use c_declare::expression::expression;
+use check_expr::expression::expression;
 use c_ints::{IntTy, promote};
 use c_operate::checker::Checker;
 use c_operate::conversion::{assigned, converted};

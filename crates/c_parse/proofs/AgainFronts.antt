@@ -10,12 +10,12 @@ use Rattle.c_tree.specs.Words.{Symbols, punct}
 use Rattle.c_tree.specs.Kinds.{is_punct, is_key, is_text, is_spec}
 use Rattle.c_tree.specs.Trees.{Tree, spelled, spelled_specs, spelled_declarator, IsTree}
 use Rattle.c_tree.specs.Programs.{InitTree, Value, Quoted, Listed, DeclarationTree, StatementTree, Braced, Plain, Chain, While, Do, For, Switch, Break, Continue, Return, Block, Arm, ItemTree, Function, Declaration, spelled_any, spelled_init, spelled_declared, spelled_declaration, spelled_statement, spelled_block, spelled_item, IsAny, IsInit, IsDeclaration, IsStatement, IsItem, is_chain}
-use Rattle.c_expression.specs.Reader.{front_is}
-use Rattle.c_expression.proofs.Knots.{begins_expr}
-use Rattle.c_expression.proofs.Plain.{punct_kind, key_kind}
-use Rattle.c_expression.proofs.Collects.{front_not}
-use Rattle.c_expression.proofs.AgainOperands.{expr_starts}
-use Rattle.c_expression.proofs.Starts.{specs_start, specs_have_token}
+use Rattle.parse_expr.specs.Reader.{front_is}
+use Rattle.parse_expr.proofs.Knots.{begins_expr}
+use Rattle.parse_expr.proofs.Plain.{punct_kind, key_kind}
+use Rattle.parse_expr.proofs.Collects.{front_not}
+use Rattle.parse_expr.proofs.AgainOperands.{expr_starts}
+use Rattle.parse_expr.proofs.Starts.{specs_start, specs_have_token}
 
 -- ---- a token that passes one test is not another token
 

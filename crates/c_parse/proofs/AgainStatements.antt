@@ -12,11 +12,11 @@ use Rattle.c_tree.specs.Kinds.{number_of, is_key, is_spec}
 use Rattle.c_tree.specs.Trees.{Tree, spelled, IsTree}
 use Rattle.c_tree.specs.Programs.{ConditionTree, HeadTree, LabelTree, Case, Default, DeclarationTree, StatementTree, Braced, Plain, Chain, While, Do, For, Switch, Break, Continue, Return, BlockTree, Block, Statements, NoStatement, AndStatement, ArmTree, Arm, Arms, NoElse, Else, ElseIf, Items, NoItem, AndLabel, AndInner, spelled_any, spelled_condition, spelled_head, spelled_label, spelled_declarations, spelled_statement, spelled_block, spelled_statements, spelled_arm, spelled_arms, spelled_items, IsAny, IsHead, IsLabel, IsStatement, IsBlock, AreStatements, IsArm, AreArms, AreItems, is_open, is_open_arms, MayPrecede, depth, depth_block, depth_statements, depth_arm, depth_arms, depth_items}
 use Rattle.c_tree.specs.ProgramViews.{statements_of, arms_of, InnerTree, LabelInner, StatementInner, items_of}
-use Rattle.c_expression.specs.Reader.{◌>>=◌, Reader, front_is, punct_at, key_at, got, collect}
-use Rattle.c_expression.proofs.Knots.{begins_expr, Stops}
-use Rattle.c_expression.proofs.Collects.{front_not, punct_none, collect_ends, collect_more}
-use Rattle.c_expression.proofs.AgainOperands.{expr_starts}
-use Rattle.c_expression.proofs.AgainAll.{expr_again, cond_again}
+use Rattle.parse_expr.specs.Reader.{◌>>=◌, Reader, front_is, punct_at, key_at, got, collect}
+use Rattle.parse_expr.proofs.Knots.{begins_expr, Stops}
+use Rattle.parse_expr.proofs.Collects.{front_not, punct_none, collect_ends, collect_more}
+use Rattle.parse_expr.proofs.AgainOperands.{expr_starts}
+use Rattle.parse_expr.proofs.AgainAll.{expr_again, cond_again}
 use Rattle.c_parse.specs.Reading.{condition_by, any_before, head_by, plain_by, break_by, continue_by, return_by, arm_by, next_arm_by, last_by, chain_by, while_by, do_by, for_by, case_by, default_by, inner_by, switch_by, next_statement_by, block_by, braced_by, statement_by, statement_at}
 use Rattle.c_parse.proofs.AgainFronts.{apart_mark, apart_word, no_mark, no_word, has_front, begins_statement, statement_starts, statement_has_token, statement_no_spec, statement_no_if}
 use Rattle.c_parse.proofs.AgainDeclarations.{declarations_again}

@@ -5,10 +5,10 @@ use Rattle.c_tree.specs.Words.{Symbols, punct}
 use Rattle.c_tree.specs.Kinds.{is_punct, is_spec}
 use Rattle.c_tree.specs.Trees.{SpecTrees, DeclaratorTree, spelled_specs, spelled_declarator, IsDeclarator}
 use Rattle.c_tree.specs.Programs.{InitTree, BegunTree, DeclaredTrees, DeclarationTree, BlockTree, Block, ItemTree, Function, Declaration, spelled_equals, spelled_begun, spelled_more_begun, spelled_declared, spelled_declaration, spelled_block, spelled_item, spelled_unit, IsEquals, AreMoreBegun, AreDeclared, IsDeclaration, IsItem, IsUnit, is_function}
-use Rattle.c_expression.specs.Reader.{front_is, punct_at, collect}
-use Rattle.c_expression.proofs.Knots.{goes_on_specs, goes_on_suffixes}
-use Rattle.c_expression.proofs.Collects.{punct_none, collect_ends, collect_more}
-use Rattle.c_expression.proofs.AgainAll.{specs_again, declarator_again}
+use Rattle.parse_expr.specs.Reader.{front_is, punct_at, collect}
+use Rattle.parse_expr.proofs.Knots.{goes_on_specs, goes_on_suffixes}
+use Rattle.parse_expr.proofs.Collects.{punct_none, collect_ends, collect_more}
+use Rattle.parse_expr.proofs.AgainAll.{specs_again, declarator_again}
 use Rattle.c_parse.specs.Reading.{function_by, variables_by, declared_item_by, item_behind, item_by, next_item_by, unit_by}
 use Rattle.c_parse.proofs.AgainFronts.{has_front, item_starts, item_has_token}
 use Rattle.c_parse.proofs.AgainDeclarations.{ends_begun, begun_not, equals_stop, begun_behind_again, declared_again, declared_stop, declarator_not}

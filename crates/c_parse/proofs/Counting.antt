@@ -4,8 +4,8 @@ use Rattle.std.proofs.Math.ListN.{get_or}
 use Rattle.std.proofs.lemmas.List.{drop_more, drop_all}
 use Rattle.std.proofs.lemmas.Bool.Decides.{nat_tests}
 use Rattle.c_token.specs.declared.token.Tok.{Tok}
-use Rattle.c_expression.specs.declared.error.ParseError.{ParseError}
-use Rattle.c_expression.specs.declared.error.ParseError.TheVariants.{Nesting, Run}
+use Rattle.parse_expr.specs.declared.error.ParseError.{ParseError}
+use Rattle.parse_expr.specs.declared.error.ParseError.TheVariants.{Nesting, Run}
 use Rattle.c_parse.specs.Limits.{open_after, run_after, judged, first_over}
 
 -- what is told of the counts at a token

@@ -4,9 +4,9 @@ use Rattle.c_token.specs.declared.token.Punct.TheVariants as marks
 use Rattle.c_tree.specs.Words.{Symbols}
 use Rattle.c_tree.specs.Trees.{SpecTrees}
 use Rattle.c_tree.specs.Programs.{BegunTree}
-use Rattle.c_expression.specs.declared.error.ParseError.{ParseError}
-use Rattle.c_expression.specs.declared.error.ParseError.TheVariants as errors
-use Rattle.c_expression.specs.Reader.{Fails, punct_at, all_that}
+use Rattle.parse_expr.specs.declared.error.ParseError.{ParseError}
+use Rattle.parse_expr.specs.declared.error.ParseError.TheVariants as errors
+use Rattle.parse_expr.specs.Reader.{Fails, punct_at, all_that}
 use Rattle.c_parse.specs.Reading.{next_begun_by, declared_behind}
 
 -- behind the first declarator

@@ -2,8 +2,8 @@
 use Rattle.std.proofs.Common.{◌≡◌, ℕ, Bool, true, false, ◌&&◌, if◌then◌else◌, List, [], ◌∷◌, Option, Some, None, refl, sym, ap, ◌∙◌, append-nil, arith}
 use Rattle.c_token.specs.declared.token.Tok.{Tok}
 use Rattle.c_tree.specs.Programs.{ItemTree, IsUnit, spelled_unit}
-use Rattle.c_expression.specs.Reader.{symbols_in}
-use Rattle.c_expression.proofs.Plain.{symbols_plain}
+use Rattle.parse_expr.specs.Reader.{symbols_in}
+use Rattle.parse_expr.proofs.Plain.{symbols_plain}
 use Rattle.c_parse.specs.Limits.{run_after}
 use Rattle.c_parse.specs.Choices.{choices_after, ends_run, is_crowded, crowded}
 use Rattle.c_parse.specs.Reading.{unit_by}

@@ -6,11 +6,11 @@ use Rattle.c_tree.specs.Kinds.{is_punct, is_text}
 use Rattle.c_tree.specs.Trees.{SpecTrees, DeclaratorTree, spelled_specs, spelled_declarator, AreSpecs, IsDeclarator}
 use Rattle.c_tree.specs.Programs.{InitTree, Value, Quoted, Listed, BegunTree, DeclarationTree, spelled_init, spelled_more_inits, spelled_comma, spelled_begun, spelled_more_begun, spelled_declaration, spelled_declarations, IsInit, AreMoreInits, IsBegun, AreMoreBegun, IsDeclaration, AreDeclarations}
 use Rattle.c_tree.specs.ProgramViews.{more_inits}
-use Rattle.c_expression.specs.Reader.{◌>>=◌, Reader, front_is, punct_at, specs_come, all_that}
-use Rattle.c_expression.proofs.Knots.{ArePlain, Takes, Sound, SoundStep}
-use Rattle.c_expression.proofs.Plain.{punct_is}
-use Rattle.c_expression.proofs.TakesLists.{Splits, join, splits_as, part, one, taken_as, take, sound_then, cases_if, cases_option, got_ok, punct_takes, Each, spelled_all, all_take}
-use Rattle.c_expression.proofs.Takes.{assign_takes, specs_takes, declarator_takes}
+use Rattle.parse_expr.specs.Reader.{◌>>=◌, Reader, front_is, punct_at, specs_come, all_that}
+use Rattle.parse_expr.proofs.Knots.{ArePlain, Takes, Sound, SoundStep}
+use Rattle.parse_expr.proofs.Plain.{punct_is}
+use Rattle.parse_expr.proofs.TakesLists.{Splits, join, splits_as, part, one, taken_as, take, sound_then, cases_if, cases_option, got_ok, punct_takes, Each, spelled_all, all_take}
+use Rattle.parse_expr.proofs.Takes.{assign_takes, specs_takes, declarator_takes}
 use Rattle.c_parse.specs.Reading.{comma_on, comma_at, next_init_by, list_by, value_by, init_by, init_inside, init_at, begun_on, begun_behind, begun_by, next_begun_by, declared_behind, declaration_on, declaration_behind, declaration_by, next_declaration_by}
 
 -- ---- initializers

@@ -9,12 +9,12 @@ use Rattle.c_tree.specs.Kinds.{is_punct, is_key}
 use Rattle.c_tree.specs.Trees.{Tree, IsTree}
 use Rattle.c_tree.specs.Programs.{HeadTree, LabelTree, Case, Default, StatementTree, Braced, Plain, Chain, While, Do, For, Switch, Break, Continue, Return, BlockTree, Block, ArmTree, Arm, Arms, NoElse, Else, ElseIf, spelled_any, spelled_condition, spelled_head, spelled_label, spelled_statement, spelled_block, spelled_statements, spelled_arm, spelled_arms, spelled_items, IsAny, IsHead, IsLabel, IsStatement, IsBlock, AreStatements, IsArm, AreArms, AreItems, is_open, is_open_arms, is_chain, MayPrecede, depth, depth_block, depth_statements, depth_arm, depth_arms, depth_items}
 use Rattle.c_tree.specs.ProgramViews.{statements_of, arms_of, InnerTree, LabelInner, StatementInner, items_of}
-use Rattle.c_expression.specs.Reader.{◌>>=◌, Reader, front_is, punct_at, key_at, got, all_that, collect, collect_on}
-use Rattle.c_expression.proofs.Knots.{ArePlain, Takes, Sound, SoundStep}
-use Rattle.c_expression.proofs.Collects.{and_both}
-use Rattle.c_expression.proofs.Plain.{key_is}
-use Rattle.c_expression.proofs.TakesLists.{Splits, join, splits_as, part, one, taken_as, take, bind_ok, sound_then, cases_if, cases_option, got_ok, punct_takes, key_takes, Each, spelled_all, all_take}
-use Rattle.c_expression.proofs.Takes.{expr_takes, cond_takes}
+use Rattle.parse_expr.specs.Reader.{◌>>=◌, Reader, front_is, punct_at, key_at, got, all_that, collect, collect_on}
+use Rattle.parse_expr.proofs.Knots.{ArePlain, Takes, Sound, SoundStep}
+use Rattle.parse_expr.proofs.Collects.{and_both}
+use Rattle.parse_expr.proofs.Plain.{key_is}
+use Rattle.parse_expr.proofs.TakesLists.{Splits, join, splits_as, part, one, taken_as, take, bind_ok, sound_then, cases_if, cases_option, got_ok, punct_takes, key_takes, Each, spelled_all, all_take}
+use Rattle.parse_expr.proofs.Takes.{expr_takes, cond_takes}
 use Rattle.c_parse.specs.Reading.{condition_by, any_on, any_before, head_by, plain_by, break_by, continue_by, return_by, arm_by, next_arm_by, last_on, last_by, chain_by, while_by, do_by, for_by, case_by, default_by, inner_by, switch_by, next_statement_by, block_by, braced_by, statement_by, statement_at}
 use Rattle.c_parse.proofs.AgainStatements.{NoElseIn, body_open}
 use Rattle.c_parse.proofs.TakesDeclarations.{declarations_take}

@@ -7,11 +7,11 @@ use Rattle.c_tree.specs.Words.{Symbols}
 use Rattle.c_tree.specs.Kinds.{is_punct}
 use Rattle.c_tree.specs.Trees.{SpecTrees, DeclaratorTree, spelled_specs, spelled_declarator, AreSpecs, IsDeclarator}
 use Rattle.c_tree.specs.Programs.{ItemTree, Function, Declaration, spelled_declaration, spelled_item, spelled_unit, IsItem, IsUnit, is_function}
-use Rattle.c_expression.specs.Reader.{front_is, punct_at, all_that}
-use Rattle.c_expression.proofs.Knots.{ArePlain, Takes, Sound, SoundStep}
-use Rattle.c_expression.proofs.Collects.{and_both}
-use Rattle.c_expression.proofs.TakesLists.{Splits, join, part, take, bind_ok, sound_then, cases_if, cases_option, got_ok, punct_takes, Each, spelled_all, all_take}
-use Rattle.c_expression.proofs.Takes.{specs_takes, declarator_takes}
+use Rattle.parse_expr.specs.Reader.{front_is, punct_at, all_that}
+use Rattle.parse_expr.proofs.Knots.{ArePlain, Takes, Sound, SoundStep}
+use Rattle.parse_expr.proofs.Collects.{and_both}
+use Rattle.parse_expr.proofs.TakesLists.{Splits, join, part, take, bind_ok, sound_then, cases_if, cases_option, got_ok, punct_takes, Each, spelled_all, all_take}
+use Rattle.parse_expr.proofs.Takes.{specs_takes, declarator_takes}
 use Rattle.c_parse.specs.Reading.{begun_behind, declared_behind, statement_at, function_by, variables_by, declared_item_by, item_on, item_behind, item_by, next_item_by, whole, unit_by}
 use Rattle.c_parse.proofs.TakesDeclarations.{begun_behind_takes, declared_takes}
 use Rattle.c_parse.proofs.TakesStatements.{block_takes, statement_takes}

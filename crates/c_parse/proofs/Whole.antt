@@ -2,10 +2,10 @@
 use Rattle.std.proofs.Common.{◌≡◌, ℕ, List, [], ◌∷◌, Option, Some, None, Result, Ok, Err, IfOk, Bool, true, false, nat_lt, cond, refl, sym, ap, subst, ◌∙◌}
 use Rattle.c_token.specs.declared.token.Tok.{Tok}
 use Rattle.c_tree.specs.Programs.{ItemTree, IsUnit, spelled_unit}
-use Rattle.c_expression.specs.declared.error.ParseError.{ParseError}
-use Rattle.c_expression.specs.declared.error.ParseError.TheVariants.{NoMemory, Nesting, Run, Syntax}
-use Rattle.c_expression.specs.Reader.{Gives, Fails, symbols_in}
-use Rattle.c_expression.proofs.Plain.{symbols_plain}
+use Rattle.parse_expr.specs.declared.error.ParseError.{ParseError}
+use Rattle.parse_expr.specs.declared.error.ParseError.TheVariants.{NoMemory, Nesting, Run, Syntax}
+use Rattle.parse_expr.specs.Reader.{Gives, Fails, symbols_in}
+use Rattle.parse_expr.proofs.Plain.{symbols_plain}
 use Rattle.c_parse.specs.Limits.{open_after, run_after, judged, first_over, IsLimit}
 use Rattle.c_parse.specs.Reading.{unit_by}
 use Rattle.c_parse.proofs.TakesUnits.{unit_takes}

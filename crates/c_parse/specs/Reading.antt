@@ -9,8 +9,8 @@ use Rattle.c_tree.specs.Kinds.{is_punct, is_key, is_text}
 use Rattle.c_tree.specs.Trees.{Tree, SpecTrees, DeclaratorTree}
 use Rattle.c_tree.specs.Programs.{ConditionTree, HeadTree, LabelTree, Case, Default, InitTree, Value, Quoted, Listed, BegunTree, DeclaredTrees, DeclarationTree, StatementTree, Braced, Plain, Chain, While, Do, For, Switch, Break, Continue, Return, BlockTree, Block, ArmTree, Arm, is_function, ItemTree, Function, Declaration}
 use Rattle.c_tree.specs.ProgramViews.{more_inits, statements_of, arms_of, InnerTree, LabelInner, StatementInner, items_of}
-use Rattle.c_expression.specs.Reader.{◌>>=◌, Reader, Step, front_is, punct_at, key_at, specs_come, got, all_that}
-use Rattle.c_expression.specs.Reading.{at, expr_by, cond_by, assign_by, specs_by, declarator_by}
+use Rattle.parse_expr.specs.Reader.{◌>>=◌, Reader, Step, front_is, punct_at, key_at, specs_come, got, all_that}
+use Rattle.parse_expr.specs.Reading.{at, expr_by, cond_by, assign_by, specs_by, declarator_by}
 
 -- ---- initializers
 

@@ -3,15 +3,15 @@
 ghost use Rattle.std.specs.Prelude.{◌≡◌, map};
 ghost use Rattle.c_tree.specs.Views.{specs_of, declarator_of};
 ghost use Rattle.c_tree.specs.ProgramViews.{begun_of, next_begun_of, declaration_of};
-ghost use Rattle.c_expression.specs.Reader.{Gives, over, symbols_in, all_that};
+ghost use Rattle.parse_expr.specs.Reader.{Gives, over, symbols_in, all_that};
 ghost use Rattle.c_parse.specs.Reading.{begun_behind, begun_by, next_begun_by, declared_behind, declaration_behind, declaration_by, next_declaration_by};
 
 use crate::build;
 use crate::initial::init;
-use c_expression::declarator::declarator;
-use c_expression::kind::is_punct;
-use c_expression::specifier::specs;
-use c_expression::take::{Read, Step, behind_punct, punct, specs_come};
+use parse_expr::declarator::declarator;
+use parse_expr::kind::is_punct;
+use parse_expr::specifier::specs;
+use parse_expr::take::{Read, Step, behind_punct, punct, specs_come};
 use c_token::{Punct, Tok};
 use c_tree::expression::{Declarator, Specs};
 use c_tree::statement::{Declaration, InitDeclarator, NextInitDeclarator};

@@ -4,13 +4,13 @@ ghost use Rattle.std.specs.Prelude.{◌≡◌, ℕ, List, Some, true, IfOk, map}
 ghost use Rattle.c_tree.specs.Words.{quoted};
 ghost use Rattle.c_tree.specs.Kinds.{is_text};
 ghost use Rattle.c_tree.specs.ProgramViews.{init_of, next_init_of};
-ghost use Rattle.c_expression.specs.Reader.{Gives, over, symbol_in, symbols_in, all_that};
+ghost use Rattle.parse_expr.specs.Reader.{Gives, over, symbol_in, symbols_in, all_that};
 ghost use Rattle.c_parse.specs.Reading.{comma_at, next_init_by, list_by, value_by, init_by, init_inside, init_at};
 
 use crate::build;
-use c_expression::expression::assign;
-use c_expression::kind::is_punct;
-use c_expression::take::{Read, Step, behind_punct, punct, punct_comes, stopped};
+use parse_expr::expression::assign;
+use parse_expr::kind::is_punct;
+use parse_expr::take::{Read, Step, behind_punct, punct, punct_comes, stopped};
 use c_pre::word_of;
 use c_token::{Punct, Tok, TokKind};
 use c_tree::statement::{Init, NextInit};

@@ -3,7 +3,7 @@
 ghost use Rattle.std.specs.Prelude.{◌≡◌, ◌≤◌};
 ghost use Rattle.c_parse.specs.Limits.{open_after, run_after, first_over};
 
-use c_expression::ParseError;
+use parse_expr::ParseError;
 use c_token::{Punct, Tok, TokKind};
 
 /// How many brackets may be open at a token.

@@ -10,9 +10,9 @@ use Rattle.c_pre.specs.Items.{program_of, IsError}
 use Rattle.c_pre.specs.declared.PreError.{PreError}
 use Rattle.c_pre.specs.declared.PreError.TheVariants as pre
 use Rattle.c_tree.specs.Programs.{ItemTree, IsUnit, spelled_unit}
-use Rattle.c_expression.specs.Reader.{symbols_in}
-use Rattle.c_expression.specs.declared.error.ParseError.{ParseError}
-use Rattle.c_expression.specs.declared.error.ParseError.TheVariants as parse
+use Rattle.parse_expr.specs.Reader.{symbols_in}
+use Rattle.parse_expr.specs.declared.error.ParseError.{ParseError}
+use Rattle.parse_expr.specs.declared.error.ParseError.TheVariants as parse
 use Rattle.c_parse.specs.Limits.{open_after, run_after, judged, first_over, IsLimit}
 use Rattle.c_operate.specs.declared.error.CheckError.{CheckError}
 use Rattle.c_operate.specs.declared.error.CheckError.TheVariants as check

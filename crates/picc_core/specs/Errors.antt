@@ -3,8 +3,8 @@ use Rattle.c_token.specs.declared.token.LexError.{LexError}
 use Rattle.c_token.specs.declared.token.LexError.TheVariants as lex
 use Rattle.c_pre.specs.declared.PreError.{PreError}
 use Rattle.c_pre.specs.declared.PreError.TheVariants as pre
-use Rattle.c_expression.specs.declared.error.ParseError.{ParseError}
-use Rattle.c_expression.specs.declared.error.ParseError.TheVariants as parse
+use Rattle.parse_expr.specs.declared.error.ParseError.{ParseError}
+use Rattle.parse_expr.specs.declared.error.ParseError.TheVariants as parse
 use Rattle.c_operate.specs.declared.error.CheckError.{CheckError}
 use Rattle.c_operate.specs.declared.error.CheckError.TheVariants as check
 use Rattle.call_graph.specs.declared.types.GraphError.{GraphError}

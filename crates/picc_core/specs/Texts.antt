@@ -6,8 +6,8 @@ use Rattle.c_token.specs.declared.token.LexError.{LexError}
 use Rattle.c_pre.specs.Items.{program_of}
 use Rattle.c_pre.specs.declared.PreError.{PreError}
 use Rattle.c_tree.specs.Programs.{ItemTree, IsUnit, spelled_unit}
-use Rattle.c_expression.specs.Reader.{symbols_in}
-use Rattle.c_expression.specs.declared.error.ParseError.{ParseError}
+use Rattle.parse_expr.specs.Reader.{symbols_in}
+use Rattle.parse_expr.specs.declared.error.ParseError.{ParseError}
 use Rattle.c_parse.specs.Limits.{first_over}
 use Rattle.picc_core.specs.Errors.{of_lex, of_pre, of_parse}
 use Rattle.picc_core.specs.declared.refusal.CompileError.{CompileError}

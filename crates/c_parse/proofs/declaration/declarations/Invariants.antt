@@ -1,8 +1,8 @@
 use Rattle.std.proofs.Common.{◌≡◌, ◌-◌, length, map}
 use Rattle.c_tree.specs.ProgramViews.{declaration_of}
 use Rattle.c_parse.specs.Reading.{next_declaration_by}
-use Rattle.c_expression.specs.Reader.{collect, all_that, symbols_in}
-use Rattle.c_expression.proofs.Loops.{fronted}
+use Rattle.parse_expr.specs.Reader.{collect, all_that, symbols_in}
+use Rattle.parse_expr.proofs.Loops.{fronted}
 use Rattle.c_parse.proofs.declaration.declarations.Given as goal
 
 abbrev pub invariant-loop : goal.invariant-loop

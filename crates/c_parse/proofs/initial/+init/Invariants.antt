@@ -1,8 +1,8 @@
 use Rattle.std.proofs.Common.{◌≡◌, ◌+◌, ◌-◌, ◌*◌, length, map}
 use Rattle.c_tree.specs.ProgramViews.{next_init_of}
-use Rattle.c_expression.specs.Reader.{collect, all_that, symbols_in}
+use Rattle.parse_expr.specs.Reader.{collect, all_that, symbols_in}
 use Rattle.c_parse.specs.Reading.{next_init_by, init_inside}
-use Rattle.c_expression.proofs.Loops.{fronted}
+use Rattle.parse_expr.proofs.Loops.{fronted}
 use Rattle.c_parse.proofs.initial.+init.Given as goal
 
 abbrev pub decreases-inner_init : goal.decreases-inner_init

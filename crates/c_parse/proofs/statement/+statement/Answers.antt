@@ -2,8 +2,8 @@ use Rattle.std.proofs.Common.{length, map}
 use Rattle.std.proofs.lemmas.Result.{err_from_is_err_and}
 use Rattle.c_tree.specs.ProgramViews.{statement_of, else_arm_of, switch_item_of}
 use Rattle.c_parse.specs.Reading.{next_statement_by, next_arm_by, inner_by, statement_at}
-use Rattle.c_expression.specs.Reader.{all_that, symbols_in}
-use Rattle.c_expression.proofs.Loops.{collect_more, collect_ends, collect_out, collect_err}
+use Rattle.parse_expr.specs.Reader.{all_that, symbols_in}
+use Rattle.parse_expr.proofs.Loops.{collect_more, collect_ends, collect_out, collect_err}
 use Rattle.c_parse.proofs.statement.+statement.Goals as goal
 
 pub statements-returns-in_err-item : goal.statements-returns-in_err-item

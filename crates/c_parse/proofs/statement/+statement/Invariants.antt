@@ -1,8 +1,8 @@
 use Rattle.std.proofs.Common.{◌≡◌, ◌+◌, ◌-◌, ◌*◌, length, map}
 use Rattle.c_tree.specs.ProgramViews.{statement_of, else_arm_of, switch_item_of}
 use Rattle.c_parse.specs.Reading.{next_statement_by, next_arm_by, inner_by, statement_at}
-use Rattle.c_expression.specs.Reader.{collect, all_that, symbols_in}
-use Rattle.c_expression.proofs.Loops.{fronted}
+use Rattle.parse_expr.specs.Reader.{collect, all_that, symbols_in}
+use Rattle.parse_expr.proofs.Loops.{fronted}
 use Rattle.c_parse.proofs.statement.+statement.Given as goal
 
 abbrev pub decreases-statement : goal.decreases-statement

@@ -2,8 +2,8 @@ use Rattle.std.proofs.Common.{length, map}
 use Rattle.std.proofs.lemmas.Result.{err_from_is_err_and}
 use Rattle.c_tree.specs.ProgramViews.{item_of}
 use Rattle.c_parse.specs.Reading.{next_item_by}
-use Rattle.c_expression.specs.Reader.{all_that, symbols_in}
-use Rattle.c_expression.proofs.Loops.{collect_more, collect_ends, collect_out, collect_err}
+use Rattle.parse_expr.specs.Reader.{all_that, symbols_in}
+use Rattle.parse_expr.proofs.Loops.{collect_more, collect_ends, collect_out, collect_err}
 use Rattle.c_parse.proofs.unit.items.Goals as goal
 
 pub returns-in_err-item : goal.returns-in_err-item

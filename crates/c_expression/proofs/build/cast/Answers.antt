@@ -1,5 +1,0 @@
-use Rattle.c_tree.proofs.Shapes.{made_cast}
-use Rattle.c_expression.proofs.build.cast.Goals as goal
-
-pub returns : goal.returns
-returns c = made_cast _

@@ -1,5 +1,0 @@
-use Rattle.c_tree.proofs.Shapes.{made_declarator}
-use Rattle.c_expression.proofs.build.declarator.Goals as goal
-
-pub returns : goal.returns
-returns c = made_declarator _

@@ -1,5 +1,0 @@
-use Rattle.c_tree.proofs.Shapes.{made_specs}
-use Rattle.c_expression.proofs.build.specs.Goals as goal
-
-pub returns : goal.returns
-returns c = made_specs _

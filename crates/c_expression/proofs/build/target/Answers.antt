@@ -1,5 +1,0 @@
-use Rattle.c_tree.proofs.Shapes.{made_target}
-use Rattle.c_expression.proofs.build.target.Goals as goal
-
-pub returns : goal.returns
-returns c = made_target _

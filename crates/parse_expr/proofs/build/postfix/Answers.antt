@@ -1,0 +1,5 @@
+use Rattle.c_tree.proofs.Shapes.{made_postfix}
+use Rattle.parse_expr.proofs.build.postfix.Goals as goal
+
+pub returns : goal.returns
+returns c = made_postfix _

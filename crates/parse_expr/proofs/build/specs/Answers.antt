@@ -1,0 +1,5 @@
+use Rattle.c_tree.proofs.Shapes.{made_specs}
+use Rattle.parse_expr.proofs.build.specs.Goals as goal
+
+pub returns : goal.returns
+returns c = made_specs _
