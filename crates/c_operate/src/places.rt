@@ -4,7 +4,7 @@ use crate::conversion::converted;
 use crate::error::{CheckError, Kind, number, refused};
 use crate::operation::operation_of;
 use crate::term::{
-    Form, Operand, Place, Term, array_start, constant, into_place, place_term, refuse_table,
+    Form, Lvalue, Operand, Term, array_start, constant, into_lvalue, lvalue_term, refuse_table,
     used_value, value_term,
 };
 use crate::types::Types;
@@ -31,12 +31,12 @@ pub fn pointed(
         ty,
         line,
     };
-    let place = Place {
+    let place = Lvalue {
         place,
         through: true,
         fixed: false,
     };
-    Ok(place_term(place, line))
+    Ok(lvalue_term(place, line))
 }
 
 /// `&` of a term.
@@ -47,7 +47,7 @@ pub fn address(
     line: u32,
 ) -> Result<Term, CheckError> {
     refuse_table(&term)?;
-    let Some(place) = into_place(term) else {
+    let Some(place) = into_lvalue(term) else {
         return refused(Kind::Address, line);
     };
     if !place.is_addressable() {
@@ -80,7 +80,7 @@ pub fn size_of_type(types: &Types, ty: Ty, line: u32) -> Result<Term, CheckError
 pub fn size_of_term(types: &Types, term: Term, line: u32) -> Result<Term, CheckError> {
     let ty = match &term.form {
         Form::Value(value) => value.ty(),
-        Form::Place(place) => match &place.place {
+        Form::Lvalue(place) => match &place.place {
             TPlace::Bit { .. } => return refused(Kind::Operand, line),
             _ => place.ty().ty,
         },
@@ -92,7 +92,7 @@ pub fn size_of_term(types: &Types, term: Term, line: u32) -> Result<Term, CheckE
 /// What stands before `[`: an array stays a place, so that its elements count as parts of it.
 pub fn indexable(alloc: Global, types: &mut Types, term: Term) -> Result<Term, CheckError> {
     let is_array = match &term.form {
-        Form::Place(place) => place.ty().ty.is_array(),
+        Form::Lvalue(place) => place.ty().ty.is_array(),
         _ => false,
     };
     if is_array {
@@ -129,7 +129,7 @@ fn side(
     } = term;
     let (value, reach) = match form {
         Form::Value(value) => (value, None),
-        Form::Place(place) => in_array(alloc, types, place)?,
+        Form::Lvalue(place) => in_array(alloc, types, place)?,
         Form::Function { .. } => return refused(Kind::Operand, line),
     };
     let found = Operand {
@@ -144,7 +144,7 @@ fn side(
 fn in_array(
     alloc: Global,
     types: &mut Types,
-    place: Place,
+    place: Lvalue,
 ) -> Result<(TExpr, Option<Reach>), CheckError> {
     let line = place.place.line();
     match place.ty().ty {
@@ -196,12 +196,12 @@ pub fn element(
         line,
     };
     let reach = reached(left_reach, right_reach);
-    let place = Place {
+    let place = Lvalue {
         place,
         through: reach.through,
         fixed: reach.fixed,
     };
-    Ok(place_term(place, line))
+    Ok(lvalue_term(place, line))
 }
 
 fn reached(left: Option<Reach>, right: Option<Reach>) -> Reach {
@@ -226,7 +226,7 @@ pub fn member(
     line: u32,
 ) -> Result<Term, CheckError> {
     refuse_table(&whole)?;
-    let Some(whole) = into_place(whole) else {
+    let Some(whole) = into_lvalue(whole) else {
         return refused(Kind::Member, line);
     };
     let Ty::Struct(structure) = whole.ty().ty else {
@@ -243,12 +243,12 @@ pub fn member(
         ty,
         line,
     };
-    let place = Place {
+    let place = Lvalue {
         place,
         through: whole.through,
         fixed: whole.fixed,
     };
-    Ok(place_term(place, line))
+    Ok(lvalue_term(place, line))
 }
 
 /// The member of a name of the structure that a pointer points to.

@@ -2,7 +2,7 @@
 
 use crate::error::{CheckError, Kind, refused};
 use crate::scope::{Binding, Scopes};
-use crate::term::{Form, Place, Term, constant, place_term, value_term};
+use crate::term::{Form, Lvalue, Term, constant, lvalue_term, value_term};
 use c_ints::IntTy;
 use c_tree::word::{Constant, Name};
 use c_typed::TPlace;
@@ -15,15 +15,15 @@ pub fn named(scopes: &Scopes, name: &Name) -> Result<Term, CheckError> {
     };
     let term = match binding {
         Binding::Object { object, ty, fixed } => {
-            let place = Place {
+            let place = Lvalue {
                 place: TPlace::Name { object, ty, line },
                 through: false,
                 fixed,
             };
-            place_term(place, line)
+            lvalue_term(place, line)
         }
         Binding::Bit { register, bit } => {
-            let place = Place {
+            let place = Lvalue {
                 place: TPlace::Bit {
                     register,
                     bit,
@@ -32,7 +32,7 @@ pub fn named(scopes: &Scopes, name: &Name) -> Result<Term, CheckError> {
                 through: false,
                 fixed: true,
             };
-            place_term(place, line)
+            lvalue_term(place, line)
         }
         Binding::Function(number) => Term {
             form: Form::Function { number, bare: true },

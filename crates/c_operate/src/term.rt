@@ -7,16 +7,17 @@ use c_ints::{IntTy, Value};
 use c_typed::{Qualified, TExpr, TPlace, Ty};
 use std::alloc::Global;
 
-/// A place. `through` says that it is reached through a pointer; `fixed` that it isn't, and is part of
-/// what no address can be taken of: a register or bit of the device, or a `register` object.
+/// An lvalue (ISO/IEC 9899:1990, 6.2.2.1). `through` says that it is reached through a pointer; `fixed` that
+/// it isn't, and is part of what no address can be taken of: a register or bit of the device, or a
+/// `register` object.
 #[derive(Drop)]
-pub(crate) struct Place {
+pub(crate) struct Lvalue {
     pub place: TPlace,
     pub through: bool,
     pub fixed: bool,
 }
 
-impl Place {
+impl Lvalue {
     pub fn ty(&self) -> Qualified {
         self.place.ty()
     }
@@ -38,7 +39,7 @@ impl Place {
 #[derive(Drop)]
 pub(crate) enum Form {
     Value(TExpr),
-    Place(Place),
+    Lvalue(Lvalue),
     /// The name of the function of this number among those declared; `bare` where no brackets stand
     /// round it.
     Function { number: u32, bare: bool },
@@ -90,10 +91,10 @@ pub(crate) fn value_term(value: TExpr, line: u32) -> Term {
     }
 }
 
-/// A place at this line.
-pub(crate) fn place_term(place: Place, line: u32) -> Term {
+/// An lvalue at this line.
+pub(crate) fn lvalue_term(place: Lvalue, line: u32) -> Term {
     Term {
-        form: Form::Place(place),
+        form: Form::Lvalue(place),
         null: false,
         line,
         start: line,
@@ -125,8 +126,8 @@ pub(crate) fn array_start(
     })
 }
 
-// The value of a place: an array is the pointer to its first element, which a const array can't be.
-fn place_value(alloc: Global, types: &mut Types, place: Place) -> Result<TExpr, CheckError> {
+// The value of an lvalue: an array is the pointer to its first element, which a const array can't be.
+fn lvalue_value(alloc: Global, types: &mut Types, place: Lvalue) -> Result<TExpr, CheckError> {
     let line = place.place.line();
     if place.is_table() {
         return refused(Kind::Address, line);
@@ -155,7 +156,7 @@ pub(crate) fn used_value(
     } = term;
     let value = match form {
         Form::Value(value) => value,
-        Form::Place(place) => place_value(alloc, types, place)?,
+        Form::Lvalue(place) => lvalue_value(alloc, types, place)?,
         Form::Function { .. } => return refused(Kind::Operand, line),
     };
     Ok(Operand {
@@ -174,7 +175,7 @@ pub fn used(term: Term, checker: &mut Checker) -> Result<Operand, CheckError> {
 /// Refuses a const array that is neither indexed nor measured.
 pub fn refuse_table(term: &Term) -> Result<(), CheckError> {
     match &term.form {
-        Form::Place(place) => {
+        Form::Lvalue(place) => {
             if place.is_table() {
                 refused(Kind::Address, term.line)
             } else {
@@ -185,10 +186,10 @@ pub fn refuse_table(term: &Term) -> Result<(), CheckError> {
     }
 }
 
-/// The place that a term is, if it is one.
-pub(crate) fn into_place(term: Term) -> Option<Place> {
+/// The lvalue that a term is, if it is one.
+pub(crate) fn into_lvalue(term: Term) -> Option<Lvalue> {
     match term.form {
-        Form::Place(place) => Some(place),
+        Form::Lvalue(place) => Some(place),
         _ => None,
     }
 }
@@ -203,7 +204,7 @@ pub fn read_from(value: TExpr) -> Option<TPlace> {
 
 /// The place that is written by an assignment, `++` or `--` at this line.
 pub(crate) fn written(term: Term, line: u32) -> Result<TPlace, CheckError> {
-    let Some(place) = into_place(term) else {
+    let Some(place) = into_lvalue(term) else {
         return refused(Kind::Assign, line);
     };
     let ty = place.ty();

@@ -78,9 +78,9 @@ fn lengthened(run: Run, kind: TokKind) -> Run
     }
 }
 
-/// What was counted up to a token.
+/// How deep the brackets and the choices are nested at a token.
 #[derive(Clone, Copy)]
-struct Place {
+struct Nesting {
     /// How many of `(` and `[` are open.
     inside: usize,
     /// How many `?` wait for their `:`.
@@ -91,7 +91,7 @@ struct Place {
 pub fn is_deep(toks: &[Tok]) -> bool
     ensures { result ≡ is_deep 0 0 toks.now }
 {
-    let mut place = Place {
+    let mut place = Nesting {
         inside: 0,
         waiting: 0,
     };
@@ -105,14 +105,14 @@ pub fn is_deep(toks: &[Tok]) -> bool
 }
 
 /// The counts behind a token.
-fn behind(place: Place, kind: TokKind) -> Place
+fn behind(place: Nesting, kind: TokKind) -> Nesting
     requires inside { place.inside < 18446744073709551615 }
     requires waiting { place.waiting ≤ 2048 }
     ensures inside { result.inside ≡ inside_after place.inside kind }
     ensures waiting { result.waiting ≡ waiting_after place.inside place.waiting kind }
     ensures by_one { result.inside ≤ place.inside + 1 }
 {
-    Place {
+    Nesting {
         inside: inside_behind(place.inside, kind),
         waiting: waiting_behind(place, kind),
     }
@@ -132,7 +132,7 @@ fn inside_behind(before: usize, kind: TokKind) -> usize
 }
 
 /// How many `?` wait for their `:` behind a token.
-fn waiting_behind(place: Place, kind: TokKind) -> usize
+fn waiting_behind(place: Nesting, kind: TokKind) -> usize
     requires { place.waiting ≤ 2048 }
     ensures { result ≡ waiting_after place.inside place.waiting kind }
 {

@@ -8,13 +8,13 @@ ghost use Rattle.c_parse.specs.Reading.{begun_behind, begun_by, next_begun_by, d
 
 use crate::build;
 use crate::initial::init;
+use c_token::{Punct, Tok};
+use c_tree::expression::{Declarator, Specs};
+use c_tree::statement::{Declaration, InitDeclarator, NextInitDeclarator};
 use parse_expr::declarator::declarator;
 use parse_expr::kind::is_punct;
 use parse_expr::specifier::specs;
 use parse_expr::take::{Read, Step, behind_punct, punct, specs_come};
-use c_token::{Punct, Tok};
-use c_tree::expression::{Declarator, Specs};
-use c_tree::statement::{Declaration, InitDeclarator, NextInitDeclarator};
 use std::alloc::Global;
 
 /// `[ "=" init ]`, behind the declarator

@@ -11,9 +11,9 @@ ghost use Rattle.c_parse.specs.Reading.{unit_by};
 use crate::choices::{crowded, is_deep};
 use crate::limits::over;
 use crate::unit::unit;
-use parse_expr::ParseError;
 use c_token::Tok;
 use c_tree::statement::Unit;
+use parse_expr::ParseError;
 use std::alloc::Global;
 
 /// The line of the last token, or 0.

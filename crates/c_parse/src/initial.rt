@@ -8,13 +8,13 @@ ghost use Rattle.parse_expr.specs.Reader.{Gives, over, symbol_in, symbols_in, al
 ghost use Rattle.c_parse.specs.Reading.{comma_at, next_init_by, list_by, value_by, init_by, init_inside, init_at};
 
 use crate::build;
-use parse_expr::expression::assign;
-use parse_expr::kind::is_punct;
-use parse_expr::take::{Read, Step, behind_punct, punct, punct_comes, stopped};
 use c_pre::word_of;
 use c_token::{Punct, Tok, TokKind};
 use c_tree::statement::{Init, NextInit};
 use c_tree::word::Text;
+use parse_expr::expression::assign;
+use parse_expr::kind::is_punct;
+use parse_expr::take::{Read, Step, behind_punct, punct, punct_comes, stopped};
 use std::alloc::{AllocError, Global};
 
 /// Whether it is a string literal.

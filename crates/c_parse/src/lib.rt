@@ -19,6 +19,6 @@ mod part;
 mod statement;
 mod unit;
 
-pub use parse_expr::ParseError;
 pub use entry::parse;
 pub use limits::over;
+pub use parse_expr::ParseError;

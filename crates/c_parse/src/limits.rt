@@ -3,8 +3,8 @@
 ghost use Rattle.std.specs.Prelude.{◌≡◌, ◌≤◌};
 ghost use Rattle.c_parse.specs.Limits.{open_after, run_after, first_over};
 
-use parse_expr::ParseError;
 use c_token::{Punct, Tok, TokKind};
+use parse_expr::ParseError;
 
 /// How many brackets may be open at a token.
 const MOST_OPEN: u32 = 64;

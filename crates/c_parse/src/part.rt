@@ -8,13 +8,13 @@ ghost use Rattle.parse_expr.specs.Reader.{Gives, front_is, symbols_in};
 ghost use Rattle.c_parse.specs.Reading.{condition_by, any_before, head_by, plain_by, break_by, continue_by, return_by, case_by, default_by};
 
 use crate::build;
+use c_token::{Keyword, Punct, Tok};
+use c_tree::expression::Expr;
+use c_tree::statement::{Condition, ForHead, Label, Statement};
 use parse_expr::ParseError;
 use parse_expr::expression::{cond, expr};
 use parse_expr::kind::is_keyword;
 use parse_expr::take::{Read, behind_punct, punct};
-use c_token::{Keyword, Punct, Tok};
-use c_tree::expression::Expr;
-use c_tree::statement::{Condition, ForHead, Label, Statement};
 use std::alloc::Global;
 
 /// Whether an `if` comes.

@@ -14,10 +14,10 @@ use crate::part::{
     break_jump, case_label, condition, continue_jump, default_label, head, if_comes, plain,
     return_jump,
 };
-use parse_expr::kind::{is_keyword, is_punct};
-use parse_expr::take::{Read, Step, behind_keyword, keyword, punct, stopped};
 use c_token::{Keyword, Punct, Tok};
 use c_tree::statement::{Arm, Block, ElseArm, Otherwise, Statement, SwitchItem};
+use parse_expr::kind::{is_keyword, is_punct};
+use parse_expr::take::{Read, Step, behind_keyword, keyword, punct, stopped};
 use std::alloc::Global;
 
 /// A statement, where one may still be entered.

@@ -10,13 +10,13 @@ ghost use Rattle.c_parse.specs.Reading.{function_by, variables_by, declared_item
 use crate::build;
 use crate::declaration::{begun_behind, declared_behind};
 use crate::statement::block;
+use c_token::{Punct, Tok};
+use c_tree::expression::{Declarator, Specs, Suffix};
+use c_tree::statement::{Item, Unit};
 use parse_expr::ParseError;
 use parse_expr::declarator::declarator;
 use parse_expr::specifier::specs;
 use parse_expr::take::{Read, Step, behind_punct, punct_comes, stopped};
-use c_token::{Punct, Tok};
-use c_tree::expression::{Declarator, Specs, Suffix};
-use c_tree::statement::{Item, Unit};
 use std::alloc::Global;
 
 /// How many statements may stand in one another.

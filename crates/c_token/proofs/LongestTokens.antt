@@ -4,7 +4,7 @@ use Rattle.std.specs.Prelude.{All, nat_lt, codes, nat_eq, ◌==◌}
 use Rattle.std.specs.List.{starts_with, prefix_len}
 use Rattle.std.proofs.lemmas.List.{drop-drop}
 use Rattle.std.proofs.lemmas.List.Elements.{All-nil, All-cons}
-use Rattle.c_token.specs.declared.scan.Place.{Place}
+use Rattle.c_token.specs.declared.scan.Position.{Position}
 use Rattle.c_token.specs.declared.token.Tok.{Tok}
 use Rattle.c_token.specs.declared.token.TokKind.{TokKind}
 use Rattle.c_token.specs.declared.token.LexError.{LexError}
@@ -48,10 +48,10 @@ piece_token b rest k n e =
 -- ---- the tokens from a place on
 
 -- the bytes from a place of a text on
-abbrev Left : List ℕ → List ℕ → Place → Type 0
+abbrev Left : List ℕ → List ℕ → Position → Type 0
 Left text xs place = drop place.at text ≡ xs
 
-left_behind : (text : List ℕ) (b : ℕ) (rest : List ℕ) (place : Place) → Left text (b ∷ rest) place → Left text rest (behind b place)
+left_behind : (text : List ℕ) (b : ℕ) (rest : List ℕ) (place : Position) → Left text (b ∷ rest) place → Left text rest (behind b place)
 left_behind text b rest place l = sym (drop-drop 1 place.at text) ∙ ap (drop 1) l
 
 -- what is to be shown of a list of tokens, if there is one
@@ -76,22 +76,22 @@ choice_each : (text : List ℕ) (t : Bool) (a b : Result (List Tok) LexError) �
 choice_each text true a b f g = f
 choice_each text false a b f g = g
 
-token_longest : (text : List ℕ) (b : ℕ) (rest : List ℕ) (place : Place) (k : TokKind) (n : ℕ) → Left text (b ∷ rest) place → piece_at (b ∷ rest) ≡ Token k n → IsLongestIn text (token_of k n place)
+token_longest : (text : List ℕ) (b : ℕ) (rest : List ℕ) (place : Position) (k : TokKind) (n : ℕ) → Left text (b ∷ rest) place → piece_at (b ∷ rest) ≡ Token k n → IsLongestIn text (token_of k n place)
 token_longest text b rest place k n l e =
     let here : IsLongest (drop place.at text) k n = subst (λ (xs : List ℕ). IsLongest xs k n) (sym l) (longest (b ∷ rest) k n (piece_token b rest k n e)) in
     subst (λ (m : ℕ). IsLongest (drop place.at text) k m) (let size : n ≡ place.at + n - place.at = omega arith in size) here
 
-each_after : (text : List ℕ) (b : ℕ) (rest : List ℕ) (place : Place) → Left text (b ∷ rest) place → ((passed : ℕ) (p : Place) → Left text rest p → Each text (tokens_from rest passed p)) → (x : Piece) → piece_at (b ∷ rest) ≡ x → Each text (after_piece (tokens_from rest) b place x)
+each_after : (text : List ℕ) (b : ℕ) (rest : List ℕ) (place : Position) → Left text (b ∷ rest) place → ((passed : ℕ) (p : Position) → Left text rest p → Each text (tokens_from rest passed p)) → (x : Piece) → piece_at (b ∷ rest) ≡ x → Each text (after_piece (tokens_from rest) b place x)
 each_after text b rest place l again (Blank n) e = again (n - 1) (behind b place) (left_behind text b rest place l)
 each_after text b rest place l again (Token k n) e =
-    let p : Place = record place { last = place.line } in
+    let p : Position = record place { last = place.line } in
     choice_each text (is_hash k && not (nat_lt place.last place.line)) (Err (error.Bad place.line)) (with_token (token_of k n place) (tokens_from rest (n - 1) (behind b p)))
     (no_tokens text (error.Bad place.line))
     (with_longest text (token_of k n place) (tokens_from rest (n - 1) (behind b p)) (token_longest text b rest place k n l e) (again (n - 1) (behind b p) (left_behind text b rest p l)))
 each_after text b rest place l again Bad e = no_tokens text (error.Bad place.line)
 each_after text b rest place l again TooLong e = no_tokens text (error.Identifier place.line)
 
-each_from : (text : List ℕ) (xs : List ℕ) (passed : ℕ) (place : Place) → Left text xs place → Each text (tokens_from xs passed place)
+each_from : (text : List ℕ) (xs : List ℕ) (passed : ℕ) (place : Position) → Left text xs place → Each text (tokens_from xs passed place)
 unfolding tokens_from
 each_from text [] passed place l = each_none text
 each_from text (b ∷ rest) (suc passed) place l = each_from text rest passed (behind b place) (left_behind text b rest place l)

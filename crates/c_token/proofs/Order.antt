@@ -4,7 +4,7 @@ use Rattle.std.specs.Prelude.{option_to_list, All}
 use Rattle.c_token.specs.declared.token.Tok.{Tok}
 use Rattle.std.proofs.Common.{drop}
 use Rattle.std.proofs.lemmas.List.Elements.{All-push}
-use Rattle.c_token.specs.declared.scan.Place.{Place}
+use Rattle.c_token.specs.declared.scan.Position.{Position}
 use Rattle.c_token.specs.Text.{InOrder, LiesIn, Spans, tokens_of, tokens_from, with_any}
 use Rattle.c_token.proofs.Passing.{with_tokens, with_more}
 
@@ -25,10 +25,10 @@ within_more ts mid high size None a s h = subst (All (LiesIn size)) (sym (append
 within_more ts mid high size (Some t) a s h = All-push (LiesIn size) ts t a (s.1, omega arith)
 
 -- what a step of the loop over a text keeps
-abbrev pub Keeps : List ℕ → List Tok → Place → Type 0
+abbrev pub Keeps : List ℕ → List Tok → Position → Type 0
 Keeps text ts place = (place.at ≤ length text) × (place.line ≤ place.at + 1) × (InOrder 0 place.at ts) × (All (LiesIn (length text)) ts) × (tokens_of text ≡ with_tokens ts (tokens_from (drop place.at text) 0 place))
 
-pub keeps_on : (text : List ℕ) (old new : List Tok) (t : Option Tok) (p q : Place) → Keeps text old p → new ≡ old ++ option_to_list t → Spans p.at q.at t → q.at ≤ length text → q.line ≤ q.at + 1 → tokens_from (drop p.at text) 0 p ≡ with_any t (tokens_from (drop q.at text) 0 q) → Keeps text new q
+pub keeps_on : (text : List ℕ) (old new : List Tok) (t : Option Tok) (p q : Position) → Keeps text old p → new ≡ old ++ option_to_list t → Spans p.at q.at t → q.at ≤ length text → q.line ≤ q.at + 1 → tokens_from (drop p.at text) 0 p ≡ with_any t (tokens_from (drop q.at text) 0 q) → Keeps text new q
 keeps_on text old new t p q k e s a l r =
     let made : Keeps text (old ++ option_to_list t) q = (a, l, order_more old p.at q.at t k.2 s, within_more old p.at q.at (length text) t k.3 s a, k.4 ∙ ap (with_tokens old) r ∙ with_more old t (tokens_from (drop q.at text) 0 q)) in
     subst (λ ts. Keeps text ts q) (sym e) made

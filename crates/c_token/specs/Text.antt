@@ -8,17 +8,17 @@ use Rattle.c_token.specs.declared.token.TokKind.TheVariants as kind
 use Rattle.c_token.specs.declared.token.Punct.TheVariants as punct
 use Rattle.c_token.specs.declared.token.LexError.{LexError}
 use Rattle.c_token.specs.declared.token.LexError.TheVariants as error
-use Rattle.c_token.specs.declared.scan.Place.{Place}
+use Rattle.c_token.specs.declared.scan.Position.{Position}
 use Rattle.c_token.specs.declared.piece.Piece.{Piece}
 use Rattle.c_token.specs.declared.piece.Piece.TheVariants.{Blank, Token, Bad, TooLong}
 use Rattle.c_token.specs.Token.{piece_at}
 
 -- the place behind a byte; a line ends with its line feed
-abbrev pub behind : ℕ → Place → Place
+abbrev pub behind : ℕ → Position → Position
 behind b place = record place { at = place.at + 1; line = place.line + (if b == 10 then 1 else 0) }
 
 -- the token of a kind and a length at a place
-abbrev pub token_of : TokKind → ℕ → Place → Tok
+abbrev pub token_of : TokKind → ℕ → Position → Tok
 token_of k n place = record { kind = k; start = place.at; end = place.at + n; line = place.line; first = nat_lt place.last place.line }
 
 abbrev pub is_hash : TokKind → Bool
@@ -31,7 +31,7 @@ with_token t (Err e) = Err e
 
 -- What the piece at a place begins, where `again` gives the tokens from a place behind the first byte
 -- on, past as many further bytes as it is told.
-abbrev pub after_piece : (ℕ → Place → Result (List Tok) LexError) → ℕ → Place → Piece → Result (List Tok) LexError
+abbrev pub after_piece : (ℕ → Position → Result (List Tok) LexError) → ℕ → Position → Piece → Result (List Tok) LexError
 after_piece again b place (Blank n) = again (n - 1) (behind b place)
 after_piece again b place (Token k n) =
     if is_hash k && not (nat_lt place.last place.line) then Err (error.Bad place.line)
@@ -41,7 +41,7 @@ after_piece again b place TooLong = Err (error.Identifier place.line)
 
 -- The tokens from a place on, whose first `passed` bytes belong to what was read already. A `#` is a
 -- token only where no other stands before it on its line.
-unfoldable pub tokens_from : List ℕ → ℕ → Place → Result (List Tok) LexError
+unfoldable pub tokens_from : List ℕ → ℕ → Position → Result (List Tok) LexError
 tokens_from [] passed place = Ok []
 tokens_from (b ∷ rest) (suc passed) place = tokens_from rest passed (behind b place)
 tokens_from (b ∷ rest) zero place = after_piece (tokens_from rest) b place (piece_at (b ∷ rest))

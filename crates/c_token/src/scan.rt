@@ -8,32 +8,32 @@ use crate::piece::{Piece, piece_at};
 use crate::token::{LexError, Punct, Tok, TokKind};
 use std::alloc::Global;
 
-/// Where a byte stands: its place in the text, its line, counted from 1, and the line of the last
+/// Where a byte stands: its offset in the text, its line, counted from 1, and the line of the last
 /// token before it, or 0 where none stands before it.
 #[derive(Clone, Copy, PartialEq, Eq, Debug)]
-pub struct Place {
+pub struct Position {
     pub at: usize,
     pub line: usize,
     pub last: usize,
 }
 
-// The place behind one byte.
-fn behind(byte: u8, place: Place) -> Place
+// The position after one byte.
+fn behind(byte: u8, place: Position) -> Position
     requires at { place.at < 2 ^ 33 }
     requires line { place.line < 2 ^ 33 }
     ensures { result ≡ behind byte place }
 {
     let lines = if byte == b'\n' { 1 } else { 0 };
-    Place {
+    Position {
         at: place.at + 1,
         line: place.line + lines,
         last: place.last,
     }
 }
 
-// The place behind some bytes.
+// The position after some bytes.
 #[tactic(auto, using(crate::proofs::Passing::passes_on))]
-fn advance(text: &[u8], start: Place, count: usize) -> Place
+fn advance(text: &[u8], start: Position, count: usize) -> Position
     requires size { length text.now < 2 ^ 32 }
     requires room { start.at + count ≤ length text.now }
     requires lines { start.line + count < 2 ^ 33 }
@@ -57,7 +57,7 @@ fn is_hash(kind: TokKind) -> bool
     }
 }
 
-fn token_of(kind: TokKind, count: usize, place: Place) -> Tok
+fn token_of(kind: TokKind, count: usize, place: Position) -> Tok
     requires at { place.at + count < 2 ^ 32 }
     requires line { place.line < 2 ^ 32 }
     ensures { result ≡ token_of kind count place }
@@ -73,7 +73,7 @@ fn token_of(kind: TokKind, count: usize, place: Place) -> Tok
 
 // The token with the piece at a place, if it is one, and the place behind the piece.
 #[tactic(auto, using(crate::proofs::Passing::blank_reads, crate::proofs::Passing::token_reads, crate::proofs::Passing::hash_stops, crate::proofs::Passing::bad_stops, crate::proofs::Passing::long_stops))]
-fn next(text: &[u8], place: Place) -> Result<(Option<Tok>, Place), LexError>
+fn next(text: &[u8], place: Position) -> Result<(Option<Tok>, Position), LexError>
     requires size { length text.now < 2 ^ 32 }
     requires inside { place.at < length text.now }
     requires lines { place.line ≤ place.at + 1 }
@@ -91,7 +91,7 @@ fn next(text: &[u8], place: Place) -> Result<(Option<Tok>, Place), LexError>
                 return Err(LexError::Bad { line });
             }
             let token = token_of(kind, count, place);
-            let behind_it = Place {
+            let behind_it = Position {
                 at: place.at,
                 line: place.line,
                 last: place.line,
@@ -126,7 +126,7 @@ pub fn raw(alloc: Global, text: &[u8]) -> Result<Vec<Tok>, LexError>
     ensures within { IfOk result (λ v. All (LiesIn (length text.now)) v.items) }
 {
     let mut tokens = Vec::new(alloc);
-    let mut place = Place {
+    let mut place = Position {
         at: 0,
         line: 1,
         last: 0,
