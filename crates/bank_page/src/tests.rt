@@ -1,3 +1,5 @@
+//! Blocks of code, which selects they get, and where each stands.
+
 use crate::selects;
 use core_code::Byte;
 use pic_map::{FrameLine, Placed};

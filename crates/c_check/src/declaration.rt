@@ -2,14 +2,14 @@
 
 use crate::initializer::visit;
 use crate::objects::{block_static, local_object, object_type, static_object};
-use check_expr::declarator::{Context, outline, specified};
-use check_expr::outline::{Declared, Outline, ParamShape, line_of};
-use check_expr::specifiers::{Site, Specified, Storage};
 use c_operate::checker::Checker;
 use c_operate::error::{CheckError, Kind, refused};
 use c_operate::scope::Binding;
 use c_tree::statement::{Declaration, EqualsInit, Init, InitDeclarator};
 use c_typed::{Qualified, TStmt, Ty};
+use check_expr::declarator::{Context, outline, specified};
+use check_expr::outline::{Declared, Outline, ParamShape, line_of};
+use check_expr::specifiers::{Site, Specified, Storage};
 use std::alloc::{AllocError, Global};
 
 /// The context of what stands outside functions.

@@ -2,11 +2,11 @@
 
 use crate::parts::{put_text, put_value};
 use crate::slots::{Cursor, Sink, Slot};
-use check_expr::expression::assign;
 use c_operate::checker::Checker;
 use c_operate::error::CheckError;
 use c_operate::term::used;
 use c_tree::statement::{Init, NextInit};
+use check_expr::expression::assign;
 
 /// Gives a part of an object what an initializer says. `inside` says that it stands in a list.
 #[cycle(initializer)]

@@ -1,10 +1,10 @@
-// The checker of C: from a concrete tree to a typed tree, in which each conversion is explicit.
-//
-// In: the tree of a text. Out: its typed tree, or the first node that breaks a rule on names and types.
-// Here stand declarations with their initializers, statements and functions; expressions, specifiers and declarators
-// stand in the crates below.
-// The promise so far: it ends on every tree. That the typed tree is the one of the rules is tested, and
-// owed.
+//! The checker of C: from a concrete tree to a typed tree, in which each conversion is explicit.
+//!
+//! In: the tree of a text. Out: its typed tree, or the first node that breaks a rule on names and types.
+//! Here stand declarations with their initializers, statements and functions; expressions, specifiers and declarators
+//! stand in the crates below.
+//! The promise so far: it ends on every tree. That the typed tree is the one of the rules is tested, and
+//! owed.
 #![tactic(auto)]
 
 mod declaration;

@@ -2,14 +2,14 @@
 
 use crate::initializer::initialize;
 use crate::slots::{Sink, Slot};
-use check_expr::outline::{Declared, Outline};
-use check_expr::specifiers::{Specified, Storage};
 use c_operate::checker::Checker;
 use c_operate::error::{CheckError, Kind, refused};
 use c_operate::scope::{Binding, Scopes};
 use c_operate::types::{MOST_BYTES, Types};
 use c_tree::statement::Init;
 use c_typed::{Object, Qualified, TExpr, TItem, TPlace, TStmt, Ty};
+use check_expr::outline::{Declared, Outline};
+use check_expr::specifiers::{Specified, Storage};
 use std::alloc::{AllocError, Global};
 
 /// The type that an object is declared with; `given` says that an initializer may give its length.

@@ -2,7 +2,6 @@
 
 use crate::slots::{Sink, Slot};
 use crate::text::characters;
-use check_expr::constants::folded;
 use c_ints::{IntTy, Value, convert, size};
 use c_operate::checker::Checker;
 use c_operate::conversion::{assigned, is_assignable};
@@ -11,6 +10,7 @@ use c_operate::term::{Operand, read_from};
 use c_operate::types::Types;
 use c_tree::word::Text;
 use c_typed::{Initial, InitialByte, Object, TExpr, TItem, TPlace, Ty};
+use check_expr::constants::folded;
 use std::alloc::Global;
 
 // The static object whose address a value is: its name with `&`, or the name of an array.

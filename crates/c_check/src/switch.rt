@@ -1,12 +1,12 @@
 //! The body of a `switch`, and its labels (ISO/IEC 9899:1990, 6.6.1 and 6.6.4.2).
 
-use check_expr::constants::constant_value;
 use c_ints::{IntTy, convert};
 use c_operate::checker::Checker;
 use c_operate::error::{CheckError, Kind, number, refused};
 use c_tree::expression::Cond;
 use c_tree::statement::Label;
 use c_typed::{TCase, TExpr, TStmt};
+use check_expr::constants::constant_value;
 use indexmap::IndexSet;
 use std::alloc::Global;
 

@@ -3,15 +3,15 @@
 use crate::declaration::{FILE, declare_function, file_declaration};
 use crate::flow::Flow;
 use crate::statement::block;
-use check_expr::declarator::{outline, specified};
-use check_expr::outline::{Declared, ParamShape, line_of};
-use check_expr::specifiers;
 use c_operate::body::Body;
 use c_operate::checker::Checker;
 use c_operate::error::{CheckError, Kind, number, refused};
 use c_operate::scope::Binding;
 use c_tree::statement::{Function, Item, Unit};
 use c_typed::{Object, TStmt, Ty, Typed, Variable};
+use check_expr::declarator::{outline, specified};
+use check_expr::outline::{Declared, ParamShape, line_of};
+use check_expr::specifiers;
 use indexmap::IndexSet;
 use std::alloc::Global;
 

@@ -1,6 +1,5 @@
 //! The expressions of statements (ISO/IEC 9899:1990, 6.6.3 to 6.6.6).
 
-use check_expr::expression::expression;
 use c_ints::{IntTy, promote};
 use c_operate::checker::Checker;
 use c_operate::conversion::{assigned, converted};
@@ -9,6 +8,7 @@ use c_operate::term::{Operand, used};
 use c_tree::expression::Expr;
 use c_tree::statement::ForHead;
 use c_typed::{TExpr, TStmt, Ty};
+use check_expr::expression::expression;
 
 fn evaluated(expr: &Expr, checker: &mut Checker) -> Result<Operand, CheckError> {
     let term = expression(expr, checker)?;

@@ -1,4 +1,5 @@
-// The operators and conversions on integer values.
+//! The operators and conversions on integer values.
+
 ghost use Rattle.std.specs.Prelude.{◌≡◌, ◌<◌, ◌≤◌, ◌^◌, ◌-◌, ℤ, pos, negsuc, ◌≤ℤ◌, ◌<ℤ◌, ◌+ℤ◌, ◌-ℤ◌, ◌*ℤ◌, neg_ℤ, bit_and, bit_or, bit_xor, int_div, int_rem, unsigned_abs, ◌≢◌, Option, IsTrue, IsFalse, ◌⊎◌, ◌↔◌};
 ghost use Rattle.std.specs.Int.{int_shr};
 ghost use Rattle.c_ints.specs.Range.{IsInRange, cut, pattern};

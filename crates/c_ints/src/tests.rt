@@ -1,4 +1,5 @@
-// Values worked out by hand, from the rules of ISO/IEC 9899:1990, 6.2 and 6.3.
+//! Values worked out by hand, from the rules of ISO/IEC 9899:1990, 6.2 and 6.3.
+
 use crate::{BinOp, IntTy, UnOp, Value, apply, constant, convert, promote, size, unary, usual};
 use std::test::Fail;
 

@@ -1,4 +1,5 @@
-// The integer types, their sizes and ranges.
+//! The integer types, their sizes and ranges.
+
 ghost use Rattle.std.specs.Prelude.{◌≡◌, ◌<◌, ◌≤◌, nat_eq, ◌-◌, ◌*◌, ◌^◌, ℤ, pos, negsuc, ◌≤ℤ◌, ◌<ℤ◌};
 ghost use Rattle.c_ints.specs.Range.{IsInRange, bytes_of, span, least};
 ghost use Rattle.c_ints.specs.Conversions.{promoted, common, candidates, first_holding};

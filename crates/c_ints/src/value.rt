@@ -1,4 +1,5 @@
-// Integer values: a type, and a number that it holds.
+//! Integer values: a type, and a number that it holds.
+
 ghost use Rattle.std.specs.Prelude.{◌≡◌, ◌<◌, ◌≤◌, ◌^◌, ◌-◌, ◌%◌, ℤ, pos, negsuc, ◌≤ℤ◌, ◌<ℤ◌, unsigned_abs};
 
 use crate::types::{IntTy, least_of, span_of};

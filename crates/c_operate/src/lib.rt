@@ -1,10 +1,10 @@
-// What a unit has declared so far, and operators on operands that are checked already.
-//
-// In: names, types and values of declarations, in the order of the text; an operator's sign, and its operands as
-// terms: typed values, places, or names of functions. Out: what a name, a tag or a number stands for at that place;
-// the term that an operator and its operands make, with each conversion explicit, or the rule that they break.
-// The promise so far: each call ends, safely, whatever the tables and the terms have. What a call finds, and that
-// the types are those of the rules, is tested, and owed.
+//! What a unit has declared so far, and operators on operands that are checked already.
+//!
+//! In: names, types and values of declarations, in the order of the text; an operator's sign, and its operands as
+//! terms: typed values, places, or names of functions. Out: what a name, a tag or a number stands for at that place;
+//! the term that an operator and its operands make, with each conversion explicit, or the rule that they break.
+//! The promise so far: each call ends, safely, whatever the tables and the terms have. What a call finds, and that
+//! the types are those of the rules, is tested, and owed.
 #![tactic(auto)]
 
 pub mod body;

@@ -1,3 +1,5 @@
+//! Texts and the tokens that directives and replacement leave of them, or the refusal with its line.
+
 use super::*;
 use c_token::raw;
 use std::test::Fail;

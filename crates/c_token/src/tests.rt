@@ -1,3 +1,5 @@
+//! Texts and the tokens that they are cut into, or the line of the first place where no token stands.
+
 use super::*;
 use std::test::Fail;
 

@@ -1,7 +1,7 @@
-// The call graph: which functions and helpers each root reaches, and how deep its calls go.
-//
-// In: a typed program. Out: the copies of its functions, one for each root that reaches the function, in the order in
-// which their frames are placed; or why it has none.
+//! The call graph: which functions and helpers each root reaches, and how deep its calls go.
+//!
+//! In: a typed program. Out: the copies of its functions, one for each root that reaches the function, in the order in
+//! which their frames are placed; or why it has none.
 #![tactic(auto)]
 
 mod calls;

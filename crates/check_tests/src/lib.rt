@@ -1,6 +1,6 @@
-// Cases of the checker, from texts.
-//
-// In: texts of C. Out: nothing; these are tests.
+//! Cases of the checker, from texts.
+//!
+//! In: texts of C. Out: nothing; these are tests.
 #![tactic(auto)]
 
 #[cfg(test)]

@@ -1,7 +1,7 @@
-// Worked examples of the definitions of the chip and of HEX files, computed by the checker, and of the chip's steps, run as
-// tests.
-//
-// In: nothing. Out: nothing. The promise: the definitions give the values that the data sheet's rules give by hand.
+//! Worked examples of the definitions of the chip and of HEX files, computed by the checker, and of the chip's steps, run as
+//! tests.
+//!
+//! In: nothing. Out: nothing. The promise: the definitions give the values that the data sheet's rules give by hand.
 #![tactic(auto)]
 
 ghost use Rattle.chip_tests.specs.Examples.{WorkedExamples};

@@ -1,5 +1,6 @@
-// Small images, assembled by hand, run by the chip's steps. What is wanted was worked out by hand from the data sheet of
-// the PIC16F877A (Microchip DS39582).
+//! Small images, assembled by hand, run by the chip's steps. What is wanted was worked out by hand from the data sheet of
+//! the PIC16F877A (Microchip DS39582).
+
 use pic_chip::{Chip, Image, Start, StepEnd};
 use pic_world::{Arrival, Flag, Script};
 use std::alloc::{AllocError, Global};

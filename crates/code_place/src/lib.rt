@@ -1,10 +1,10 @@
-// Where blocks of code stand: in the pages of program memory, in order, each whole in one page; and the image of a program
-// whose blocks stand there.
-//
-// In: how many words each block is stated to have; and symbolic code, and where its static objects and frames stand. Out: the
-// address of each block, or why they have no room; and the image of program memory.
-// The promise: the addresses are those of the placing, and each error comes exactly where its cause holds. The words of each
-// block are at its address, every other word is erased, and all that is named has the address of the first that has that name.
+//! Where blocks of code stand: in the pages of program memory, in order, each whole in one page; and the image of a program
+//! whose blocks stand there.
+//!
+//! In: how many words each block is stated to have; and symbolic code, and where its static objects and frames stand. Out: the
+//! address of each block, or why they have no room; and the image of program memory.
+//! The promise: the addresses are those of the placing, and each error comes exactly where its cause holds. The words of each
+//! block are at its address, every other word is erased, and all that is named has the address of the first that has that name.
 #![tactic(auto)]
 
 ghost use Rattle.std.specs.Prelude.{◌≡◌, ℕ, ◌+◌, ◌%◌, ◌<◌, ◌≤◌, ◌^◌, length, slice_index, sum, IfOk, MatchOption};

@@ -1,3 +1,5 @@
+//! A program of two blocks, and the words that it becomes at their addresses.
+
 use crate::assemble;
 use core_code::Byte;
 use pic_map::{FrameLine, ObjLine, Placed};

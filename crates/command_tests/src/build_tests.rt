@@ -1,4 +1,5 @@
-// Builds. The texts were written out by hand from the instruction table and the formats.
+//! Builds. The texts were written out by hand from the instruction table and the formats.
+
 use crate::commands::{
     LED, LED_HEX, LED_MAP, USAGE, check_built, check_refused, host_with, is_file, is_front, run,
     words_of,

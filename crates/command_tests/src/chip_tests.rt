@@ -1,5 +1,6 @@
-// The commands that run the chip, and the one that generates programs. The texts were written out by hand from the
-// instruction table, the formats and the sizes that are stated.
+//! The commands that run the chip, and the one that generates programs. The texts were written out by hand from the
+//! instruction table, the formats and the sizes that are stated.
+
 ghost use Rattle.std.specs.Prelude.{[], None};
 
 use crate::commands::{

@@ -1,4 +1,5 @@
-// Commands over a host in memory, with files, statuses and printed texts to compare.
+//! Commands over a host in memory, with files, statuses and printed texts to compare.
+
 ghost use Rattle.std.specs.Prelude.{◌≡◌, IfOk};
 ghost use Rattle.host_io.specs.Host.{Closed};
 ghost use Rattle.host_io.specs.Memory.{open_of};

@@ -1,4 +1,5 @@
-// A text that was cut off behind each of its bytes: what is told of it follows from the line in which the cut lies.
+//! A text that was cut off behind each of its bytes: what is told of it follows from the line in which the cut lies.
+
 use crate::commands::{host_with, run, words_of};
 use crate::worked_programs::KEY;
 use std::alloc::{AllocError, Global};

@@ -1,4 +1,5 @@
-// Generated programs, written out by hand.
+//! Generated programs, written out by hand.
+
 use picc_cli::generate;
 use std::test::Fail;
 

@@ -1,5 +1,6 @@
-// Files from a hostile hand, a host of which each call fails in turn under each of the five forms, and what the commands say of
-// one program. Texts were written out by hand from the formats.
+//! Files from a hostile hand, a host of which each call fails in turn under each of the five forms, and what the commands say of
+//! one program. Texts were written out by hand from the formats.
+
 ghost use Rattle.std.specs.Prelude.{◌≡◌, IfOk};
 ghost use Rattle.host_io.specs.Host.{Closed};
 ghost use Rattle.host_io.specs.Memory.{open_of};

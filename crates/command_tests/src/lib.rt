@@ -1,7 +1,7 @@
-// The commands over a host in memory: worked programs with their files, traces, refusals and statuses, hostile files, and a
-// host of which each call fails in turn.
-//
-// In: words, texts and files written out by hand. Out: nothing; these are tests.
+//! The commands over a host in memory: worked programs with their files, traces, refusals and statuses, hostile files, and a
+//! host of which each call fails in turn.
+//!
+//! In: words, texts and files written out by hand. Out: nothing; these are tests.
 #![tactic(auto)]
 
 #[cfg(test)]

@@ -1,5 +1,6 @@
-// Refused programs over a host in memory: the printed lines, and texts at each limit. Words of blocks and bytes of
-// objects were added up by hand.
+//! Refused programs over a host in memory: the printed lines, and texts at each limit. Words of blocks and bytes of
+//! objects were added up by hand.
+
 use crate::commands::{check_built, check_refused};
 use std::alloc::{AllocError, Global};
 use std::process::Abort;

@@ -1,5 +1,6 @@
-// How many steps a trace takes. An operator, an access to a byte, a statement and a call are a step each. What is wanted was
-// worked out by hand.
+//! How many steps a trace takes. An operator, an access to a byte, a statement and a call are a step each. What is wanted was
+//! worked out by hand.
+
 use crate::commands::{Case, check};
 use std::test::Fail as Failure;
 

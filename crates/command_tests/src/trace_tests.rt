@@ -1,4 +1,5 @@
-// Traces over a host in memory. Events and numbers of steps were worked out by hand.
+//! Traces over a host in memory. Events and numbers of steps were worked out by hand.
+
 ghost use Rattle.std.specs.Prelude.{◌≡◌, IfOk};
 ghost use Rattle.host_io.specs.Host.{Closed};
 ghost use Rattle.host_io.specs.Memory.{open_of};

@@ -1,4 +1,5 @@
-// Words and the commands that they ask for. The bars stand between the words.
+//! Words and the commands that they ask for. The bars stand between the words.
+
 use picc_cli::command::{Command, command_of};
 use std::alloc::{AllocError, Global};
 use std::process::Abort;

@@ -1,5 +1,6 @@
-// Worked programs: their traces, what they do on the chip, where their objects and frames stand, and how far chip and source
-// agree. All that is wanted was worked out by hand.
+//! Worked programs: their traces, what they do on the chip, where their objects and frames stand, and how far chip and source
+//! agree. All that is wanted was worked out by hand.
+
 use crate::commands::{Case, LED, check, check_built, host_with, put, run, simulated, words_of};
 use std::alloc::{AllocError, Global};
 use std::process::Abort;

@@ -1,9 +1,9 @@
-// Intel HEX files of program memory.
-//
-// In: an image, or the text of a HEX file. Out: the text of the image's HEX file; the image of the file, or where the text
-// first breaks the format.
-// The promise: what is written is the one fixed form of that image, and by the rules of the format it is a file of that
-// image and of no other. A text is read exactly where it is a HEX file, and what is read is its image.
+//! Intel HEX files of program memory.
+//!
+//! In: an image, or the text of a HEX file. Out: the text of the image's HEX file; the image of the file, or where the text
+//! first breaks the format.
+//! The promise: what is written is the one fixed form of that image, and by the rules of the format it is a file of that
+//! image and of no other. A text is read exactly where it is a HEX file, and what is read is its image.
 #![tactic(auto)]
 
 ghost use Rattle.std.specs.Prelude.{◌≡◌, ◌<◌, ◌↔◌, ◌++◌, ◌∷◌, [], ℕ, List, OnOk, IfOk, length};

@@ -1,4 +1,5 @@
-// Texts worked out by hand: the image that is read, and where reading stops.
+//! Texts worked out by hand: the image that is read, and where reading stops.
+
 use super::*;
 use std::test::Fail;
 

@@ -1,4 +1,5 @@
-// The outside of the compiler: files by name, one open at a time, and the printed text.
+//! The outside of the compiler: files by name, one open at a time, and the printed text.
+
 ghost use Rattle.std.specs.Prelude.{◌≡◌, ◌<◌, ◌≤◌, ℕ, List, Option, Some, None, IsTrue, IsSome, IfOk, IfSome, OnOk, OnErr, length, take, option_map, ◌++◌, [], ◌∷◌};
 ghost use Rattle.host_io.specs.declared.host.HostError.TheVariants.{NoMemory};
 ghost use Rattle.host_io.specs.Host.{Kind, Contents, OpenFile, Closed, Reading, Writing, told, is_reading, is_writing, is_open, put, Has, left_of, read_on, append, ReadsFront, PrintsPrefix, HasCause, NoFailure, FailsAtMissing};

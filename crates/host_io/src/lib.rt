@@ -1,7 +1,7 @@
-// The outside of the compiler, as a trait, with a host in memory and the real one.
-//
-// In: names, bytes to write and to print. Out: the bytes of files, and whether a call failed.
-// The promise: each call changes only what it says, and fails only where it counts a fault.
+//! The outside of the compiler, as a trait, with a host in memory and the real one.
+//!
+//! In: names, bytes to write and to print. Out: the bytes of files, and whether a call failed.
+//! The promise: each call changes only what it says, and fails only where it counts a fault.
 #![tactic(auto)]
 
 mod host;

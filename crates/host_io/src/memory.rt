@@ -1,4 +1,5 @@
-// A host in memory, whose failures are listed before.
+//! A host in memory, whose failures are listed before.
+
 ghost use Rattle.std.specs.Prelude.{[], None, refl, ◌≡◌, ◌↔◌, ◌+◌, ◌++◌, ◌≤◌, ◌<◌, List, ℕ, Some, IsSome, IfSome, Ok, Err, IsTrue, OnOk, OnErr, IfOk, is_none, IsErrOf, length, min, take, drop, if◌then◌else◌, ◌==◌};
 ghost use Rattle.host_io.specs.declared.host.HostError.TheVariants.{Failed};
 ghost use Rattle.host_io.specs.Host.{Closed, Reading, Writing, is_reading, is_writing, is_open, bytes_of, put, left_of, read_on, append, ReadsFront, HasCause};

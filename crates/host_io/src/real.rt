@@ -1,4 +1,5 @@
-// The real files and the standard output.
+//! The real files and the standard output.
+
 ghost use Rattle.std.specs.Prelude.{◌≡◌, ◌+◌, ◌-◌, ◌^◌, None, min};
 ghost use Rattle.host_io.specs.declared.host.HostError.TheVariants.{Failed};
 ghost use Rattle.host_io.specs.Host.{Closed, IsCounted};

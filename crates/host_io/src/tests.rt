@@ -1,4 +1,5 @@
-// What the calls answer, at each of their outcomes.
+//! What the calls answer, at each of their outcomes.
+
 ghost use Rattle.std.specs.Prelude.{◌≡◌, IfOk};
 ghost use Rattle.host_io.specs.Host.{Closed};
 ghost use Rattle.host_io.specs.Memory.{open_of};

@@ -1,5 +1,6 @@
-// Whole files over any host. Each contract's facts on contents, printed bytes and faults are
-// equations from before to after, so that a caller of several of these joins them in order.
+//! Whole files over any host. Each contract's facts on contents, printed bytes and faults are
+//! equations from before to after, so that a caller of several of these joins them in order.
+
 ghost use Rattle.std.specs.Prelude.{◌≡◌, ◌<◌, ◌^◌, ◌+◌, IsTrue, IfOk, IfSome, OnOk, OnErr, option_map, take};
 ghost use Rattle.host_io.specs.Host.{Closed, is_reading, is_writing, left_of, put, HasCause, NoFailure, FailsAtMissing, IsRead, PutsPrefix, Grows, GrowsByPrefix, joined};
 

@@ -1,5 +1,6 @@
 //! Boards that answer anything, or refuse at some call, under a program whose handler clears a flag: the chip is then the one
 //! that a second board of the same kind leads to, which is asked beside the chip's own steps.
+
 ghost use Rattle.std.specs.Prelude.{◌≡◌, None};
 
 use pic_chip::{Accesses, Chip, Image, Start, StepEnd};

@@ -1,3 +1,5 @@
+//! What stands where in the start block of a program with an interrupt handler.
+
 use crate::start_block;
 use core_code::{Byte, CoreProgram, FirstByte};
 use pic_map::{ObjLine, Placed};

@@ -1,8 +1,8 @@
-// From a typed program to the code of its copies: statements, first bytes of static objects, and bodies.
-//
-// In: a typed program and its copies. Out: for each copy that is no helper the code of its body, and for each static object
-// what its bytes begin as.
-// No call of this crate runs code. Want of memory is the only refusal.
+//! From a typed program to the code of its copies: statements, first bytes of static objects, and bodies.
+//!
+//! In: a typed program and its copies. Out: for each copy that is no helper the code of its body, and for each static object
+//! what its bytes begin as.
+//! No call of this crate runs code. Want of memory is the only refusal.
 #![tactic(auto)]
 
 mod declarators;

@@ -1,4 +1,5 @@
-// The accesses of an instruction.
+//! The accesses of an instruction.
+
 ghost use Rattle.std.specs.Prelude.{◌≡◌, ◌++◌, Bool, [], true, false, ℕ, Option};
 ghost use Rattle.pic_chip.specs.State.{State};
 ghost use Rattle.pic_chip.specs.Act.{Derived, value_in, made};

@@ -1,4 +1,5 @@
-// Single bits of a byte.
+//! Single bits of a byte.
+
 ghost use Rattle.std.specs.Prelude.{◌≡◌, ◌<◌, ℕ};
 ghost use Rattle.pic_world.specs.Bits.{bit as bit_at, set_bit as with_bit, clear_bit as without_bit, truth};
 

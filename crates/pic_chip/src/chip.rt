@@ -1,4 +1,5 @@
-// The chip: a state, the index of the next instruction, and steps.
+//! The chip: a state, the index of the next instruction, and steps.
+
 ghost use Rattle.std.specs.Prelude.{◌≡◌, ◌<◌, ◌≤◌, ◌^◌, ℕ, List, [], slice_index, IsSome};
 ghost use Rattle.pic_chip.specs.State.{reset as reset_of};
 ghost use Rattle.pic_chip.specs.Act.{perform, accesses};

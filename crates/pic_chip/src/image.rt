@@ -1,4 +1,5 @@
-// Images of program memory.
+//! Images of program memory.
+
 ghost use Rattle.std.specs.Prelude.{◌≡◌, ◌<◌, ◌^◌, ℕ, length, slice_index, slice_set, replicate, IfOk};
 
 use std::alloc::{AllocError, Global};

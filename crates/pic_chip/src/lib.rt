@@ -1,9 +1,9 @@
-// The chip: images of its program memory, and what a run of it is.
-//
-// In: words of program memory, input bytes and arrivals of flags. Out: images, and the chip after each step with the
-// accesses that it made.
-// The promise: an image holds exactly the words that were set; each step of the chip is that of the definitions in
-// specs/.
+//! The chip: images of its program memory, and what a run of it is.
+//!
+//! In: words of program memory, input bytes and arrivals of flags. Out: images, and the chip after each step with the
+//! accesses that it made.
+//! The promise: an image holds exactly the words that were set; each step of the chip is that of the definitions in
+//! specs/.
 #![tactic(auto)]
 
 mod access;

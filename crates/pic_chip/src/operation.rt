@@ -1,4 +1,5 @@
-// The results and flags of instructions, on bytes.
+//! The results and flags of instructions, on bytes.
+
 ghost use Rattle.std.specs.Prelude.{◌≡◌, ◌<◌, ◌+◌, ◌%◌, ℕ, if◌then◌else◌, false, nat_eq, nat_le};
 ghost use Rattle.pic_chip.specs.declared.processor.Flags.TheVariants.{Keep, OnlyZ, OnlyC, Sums};
 ghost use Rattle.pic_chip.specs.State.{State};

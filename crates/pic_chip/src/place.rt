@@ -1,4 +1,5 @@
-// What an address of data memory names (DS39582, register file map).
+//! What an address of data memory names (DS39582, register file map).
+
 ghost use Rattle.std.specs.Prelude.{◌≡◌, ◌<◌, ◌*◌, ◌+◌, ℕ, [], slice_index_or, nat_eq, nat_lt, ◌&&◌, false, if◌then◌else◌};
 ghost use Rattle.pic_world.specs.Registers.{is_among, is_register, lowest};
 ghost use Rattle.pic_chip.specs.Address.{Device, Nothing, place as place_of, indirect as indirect_of, address_of};

@@ -1,4 +1,5 @@
-// The chip's state, and the small changes of which instructions are made.
+//! The chip's state, and the small changes of which instructions are made.
+
 ghost use Rattle.std.specs.Prelude.{◌≡◌, ◌<◌, ◌≤◌, ◌+◌, ◌*◌, ◌/◌, ◌%◌, ◌^◌, ℕ, Bool, List, ◌∷◌, length, slice_index, true, false, if◌then◌else◌};
 ghost use Rattle.pic_chip.specs.State.{State, AtW, AtPc, AtIntcon, reset as reset_of};
 ghost use Rattle.pic_chip.specs.Act.{Act, effect, value_in, perform};

@@ -1,4 +1,5 @@
-// The instruction table as code: one line for each instruction, and the forms that they share.
+//! The instruction table as code: one line for each instruction, and the forms that they share.
+
 ghost use Rattle.std.specs.Prelude.{◌≡◌, ◌<◌, ◌+◌, ◌%◌, ◌^◌, ℕ, Bool, List, [], slice_index, if◌then◌else◌};
 ghost use Rattle.pic_isa.specs.Table.{IsWellFormed};
 ghost use Rattle.pic_chip.specs.State.{State, AtW};

@@ -1,4 +1,5 @@
-// Worked steps, and each call that takes memory.
+//! Worked steps, and each call that takes memory.
+
 use super::*;
 use pic_world::{Arrival, Flag, Script};
 use std::test::Fail;

@@ -1,8 +1,8 @@
-// The instructions of the PIC16F877A and their words (Microchip data sheet DS39582).
-//
-// In: a word of program memory, or an instruction. Out: the instruction, or the word.
-// The promise: `decode` gives exactly the row of the data sheet's table that has the word, and
-// `None` exactly where no row has it; `encode` gives the row's word with every free bit 0.
+//! The instructions of the PIC16F877A and their words (Microchip data sheet DS39582).
+//!
+//! In: a word of program memory, or an instruction. Out: the instruction, or the word.
+//! The promise: `decode` gives exactly the row of the data sheet's table that has the word, and
+//! `None` exactly where no row has it; `encode` gives the row's word with every free bit 0.
 #![tactic(auto)]
 
 ghost use Rattle.std.specs.Prelude.{◌≡◌, ◌≤◌, ◌↔◌, ◌+◌, ◌*◌, ◌/◌, ◌%◌, ◌<◌, Option, Some, None, IfSome, IfNone, if◌then◌else◌, slice_index_or};

@@ -1,10 +1,10 @@
-// Map files: where a program's main begins and ends, and where its objects and frames stand.
-//
-// In: a map, or the text of a map file; the program counters and the accesses of a run; an event of it. Out: the
-// text of the map's file, or the map; the events that the run makes; the line that is printed for an event.
-// The promise: the text is the one fixed form of that map and a map file of it; a text is read exactly
-// where it is a map file, and what is read is its content; the events are those of the run's definition; an
-// event's line has the map's names.
+//! Map files: where a program's main begins and ends, and where its objects and frames stand.
+//!
+//! In: a map, or the text of a map file; the program counters and the accesses of a run; an event of it. Out: the
+//! text of the map's file, or the map; the events that the run makes; the line that is printed for an event.
+//! The promise: the text is the one fixed form of that map and a map file of it; a text is read exactly
+//! where it is a map file, and what is read is its content; the events are those of the run's definition; an
+//! event's line has the map's names.
 #![tactic(auto)]
 
 ghost use Rattle.std.specs.Prelude.{◌≡◌, ℕ, List};

@@ -1,4 +1,5 @@
-// The map of a text.
+//! The map of a text.
+
 ghost use Rattle.std.specs.Prelude.{◌≡◌, ◌<◌, ◌≤◌, ◌++◌, ◌+◌, ◌^◌, ◌∷◌, [], ℕ, length, map, Some, None, Ok, IfOk, IfSome, IfNone, IsSome, MatchOption};
 ghost use Rattle.std.specs.Option.{option_map};
 ghost use Rattle.pic_map.specs.MapView.{content_of, object_of, frame_of};

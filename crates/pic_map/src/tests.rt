@@ -1,4 +1,5 @@
-// Texts worked out by hand: what is written, what is read, and at which line reading stops.
+//! Texts worked out by hand: what is written, what is read, and at which line reading stops.
+
 ghost use Rattle.std.specs.Prelude.{IsTrue};
 ghost use Rattle.pic_map.specs.EventText.{CanBeShown, HasName};
 ghost use Rattle.pic_map.specs.MapView.{content_of};

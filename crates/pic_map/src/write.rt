@@ -1,4 +1,5 @@
-// The text of a map file.
+//! The text of a map file.
+
 ghost use Rattle.std.specs.Prelude.{◌≡◌, ◌<◌, ◌≤◌, ◌++◌, ◌∷◌, [], map, IfOk, OnOk};
 ghost use Rattle.pic_map.specs.MapView.{content_of, object_of, frame_of};
 ghost use Rattle.pic_map.specs.MapText as spec;

@@ -1,5 +1,6 @@
-// Runs of small images, assembled by hand, over boards. What is wanted was worked out by hand from the data sheet of the
-// PIC16F877A (Microchip DS39582).
+//! Runs of small images, assembled by hand, over boards. What is wanted was worked out by hand from the data sheet of the
+//! PIC16F877A (Microchip DS39582).
+
 ghost use Rattle.std.specs.Prelude.{◌≡◌, None};
 
 use crate::{Board, Exchange, ScriptBoard, SimEnd, simulate};

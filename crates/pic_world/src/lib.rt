@@ -1,9 +1,9 @@
-// What a program of any level has to do with: the registers by name, the flags that the outside sets, the events that are
-// watched, and the one world that main, the handler and the outside share.
-//
-// In: names, input bytes and arrivals of flags. Out: addresses and names of registers and bits, scripts, and traces.
-// The promise: a name has the address that the data sheet gives it; a script gives at each index the flags of all its
-// arrivals there, in whatever order they came. specs/World has the world of every machine from the source to the chip.
+//! What a program of any level has to do with: the registers by name, the flags that the outside sets, the events that are
+//! watched, and the one world that main, the handler and the outside share.
+//!
+//! In: names, input bytes and arrivals of flags. Out: addresses and names of registers and bits, scripts, and traces.
+//! The promise: a name has the address that the data sheet gives it; a script gives at each index the flags of all its
+//! arrivals there, in whatever order they came. specs/World has the world of every machine from the source to the chip.
 #![tactic(auto)]
 
 pub mod registers;

@@ -1,4 +1,5 @@
-// The registers and bits that have names.
+//! The registers and bits that have names.
+
 ghost use Rattle.std.specs.Prelude.{◌≡◌, ◌<◌, List, ℕ, Some, None, IfSome, IsTrue, MatchOption, [], map};
 ghost use Rattle.pic_world.specs.Registers.{register_named, register_in, bit_named, bit_in, name_at, name_in, is_register};
 

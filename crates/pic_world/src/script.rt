@@ -1,4 +1,5 @@
-// What a run takes from outside: input bytes and arrivals.
+//! What a run takes from outside: input bytes and arrivals.
+
 ghost use Rattle.std.specs.Prelude.{◌≡◌, ◌<◌, ◌≤◌, ℕ, List, nat_lt, length, slice_index};
 ghost use Rattle.std.specs.List.Sorted.{IsPermutation, IsPartitionPoint};
 ghost use Rattle.pic_world.specs.declared.Arrival.{Arrival as AnyArrival};

@@ -1,4 +1,5 @@
-// Scripts in any order, and each call that takes memory.
+//! Scripts in any order, and each call that takes memory.
+
 use super::*;
 use std::test::Fail;
 

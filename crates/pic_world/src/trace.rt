@@ -1,4 +1,5 @@
-// Traces of events.
+//! Traces of events.
+
 ghost use Rattle.std.specs.Prelude.{◌≡◌, ◌<◌, ◌≤◌, ◌+◌, ◌-◌, ◌++◌, [], ◌∷◌, length, slice_index_or, OnOk, OnErr};
 ghost use Rattle.pic_world.specs.TraceRoom.{Recorded};
 

@@ -1,8 +1,8 @@
-// The program `picc`, which compiles C for the PIC16F877A and runs such programs.
-//
-// In: the words of the command line. Out: an exit status.
-// The promise: it is that of the top call of picc_cli, over the real files and the standard output, and over a board that
-// follows scripts. It ends with 9 where memory for one of these is wanting.
+//! The program `picc`, which compiles C for the PIC16F877A and runs such programs.
+//!
+//! In: the words of the command line. Out: an exit status.
+//! The promise: it is that of the top call of picc_cli, over the real files and the standard output, and over a board that
+//! follows scripts. It ends with 9 where memory for one of these is wanting.
 #![tactic(auto)]
 
 use host_io::RealHost;

@@ -1,4 +1,5 @@
-// From the text of a program to the texts of its HEX and map files.
+//! From the text of a program to the texts of its HEX and map files.
+
 ghost use Rattle.std.specs.Prelude.{◌≡◌, ◌<◌, ◌≤◌, length, IfOk, IfSome, IfNone};
 ghost use Rattle.pic_map.specs.MapView.{content_of};
 ghost use Rattle.picc_cli.specs.PortCode.{halt_address as halt_of, map_of as content_for};

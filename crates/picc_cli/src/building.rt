@@ -1,4 +1,5 @@
-// The form `build`: from the files' names to an exit status.
+//! The form `build`: from the files' names to an exit status.
+
 ghost use Rattle.std.specs.Prelude.{◌≡◌, ◌⊎◌, IfOk, IfErr, IfSome, Some};
 ghost use Rattle.hex_image.specs.HexFile.{IsHexFile};
 ghost use Rattle.hex_image.specs.HexText.{hex_text};

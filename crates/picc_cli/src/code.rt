@@ -1,4 +1,5 @@
-// The words of a program.
+//! The words of a program.
+
 ghost use Rattle.std.specs.Prelude.{◌≡◌, ◌<◌, ◌≤◌, ◌*◌, ◌+◌, ℕ, length, slice_set, IfOk};
 ghost use Rattle.picc_cli.specs.PortProgram.{AllFit};
 ghost use Rattle.picc_cli.specs.PortCode.{HasCode, select};

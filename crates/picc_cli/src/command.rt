@@ -1,4 +1,5 @@
-// The words of the command line.
+//! The words of the command line.
+
 ghost use Rattle.std.specs.Prelude.{◌≡◌, ◌∷◌, map, option_map, IfOk};
 ghost use Rattle.picc_cli.specs.Command as stated;
 ghost use Rattle.picc_cli.specs.Command.{form_of, form_by_name, words_of};

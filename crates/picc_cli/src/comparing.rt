@@ -1,4 +1,5 @@
-// The form `agree`: from the files' names to an exit status.
+//! The form `agree`: from the files' names to an exit status.
+
 ghost use Rattle.std.specs.Prelude.{◌≡◌, ◌<◌, ◌^◌, IfOk, IfSome, Some};
 ghost use Rattle.host_io.specs.Host.{Closed};
 ghost use Rattle.picc_cli.specs.Agreement.{FailsWithoutFiles, IsRunEnd, Knows, RunKnows, is_fault, last_line, status_of, agree_line as line_of_agreement};

@@ -1,4 +1,5 @@
-// Hexadecimal numbers in printed lines, in upper case.
+//! Hexadecimal numbers in printed lines, in upper case.
+
 ghost use Rattle.std.specs.Prelude.{◌≡◌, ◌++◌, ◌<◌, OnOk};
 ghost use Rattle.text_lines.specs.Text.{hex_digit as digit_of};
 ghost use Rattle.picc_cli.specs.HexReasons.{byte_text, word_text};

@@ -1,4 +1,5 @@
-// The top call: a command from its words to its exit status.
+//! The top call: a command from its words to its exit status.
+
 ghost use Rattle.std.specs.Prelude.{◌≡◌, false, option_map, IfSome};
 ghost use Rattle.host_io.specs.Host.{Closed};
 ghost use Rattle.picc_cli.specs.Command.{form_of, is_simulation, words_of};

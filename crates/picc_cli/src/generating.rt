@@ -1,4 +1,5 @@
-// Programs of a given size.
+//! Programs of a given size.
+
 ghost use Rattle.std.specs.Prelude.{◌≡◌, ◌++◌, IfOk, OnOk};
 ghost use Rattle.picc_cli.specs.Generated as spec;
 

@@ -1,4 +1,5 @@
-// What is printed of the check that a HEX file fails.
+//! What is printed of the check that a HEX file fails.
+
 ghost use Rattle.std.specs.Prelude.{◌≡◌, ◌++◌, codes, IfOk};
 ghost use Rattle.picc_cli.specs.HexReasons as stated;
 

@@ -1,4 +1,5 @@
-// The files that a command reads: each is read whole, closed, and then checked against its grammar.
+//! The files that a command reads: each is read whole, closed, and then checked against its grammar.
+
 ghost use Rattle.std.specs.Prelude.{◌≡◌, ◌≤◌, ◌<◌, ◌^◌, false, length, Some, IfOk, IfErr, IfSome};
 ghost use Rattle.host_io.specs.Host.{Closed};
 ghost use Rattle.pic_map.specs.MapView.{content_of};

@@ -1,8 +1,9 @@
-// The words of the command line, as clap parses them.
-//
-// For a command as plain as this one clap's clauses say which words it takes and what it finds in them, in both outcomes.
-// The proof goes by them alone, so what clap finds isn't compared with the words again. Nothing that clap adds to a command
-// is accepted: words that begin with `-` don't come here, and the command has no options and no subcommand `help`.
+//! The words of the command line, as clap parses them.
+//!
+//! For a command as plain as this one clap's clauses say which words it takes and what it finds in them, in both outcomes.
+//! The proof goes by them alone, so what clap finds isn't compared with the words again. Nothing that clap adds to a command
+//! is accepted: words that begin with `-` don't come here, and the command has no options and no subcommand `help`.
+
 ghost use Rattle.std.specs.Prelude.{◌≡◌, true, None, codes, length, IfOk};
 ghost use Rattle.std.specs.List.{list_all};
 ghost use Rattle.std.specs.Option.{MatchOption};

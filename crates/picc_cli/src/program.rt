@@ -1,8 +1,9 @@
-// The programs whose HEX is proved to do what they say: constants to ports.
-//
-// A program is `void main(void){`, then at most 146 assignments `REG=N;`, then `}`, and at most one line feed
-// behind it. REG is one of PORTA to PORTE and TRISA to TRISE, and N a number from 0 to 255 in decimal, without
-// leading zeros. No other byte stands in the text.
+//! The programs whose HEX is proved to do what they say: constants to ports.
+//!
+//! A program is `void main(void){`, then at most 146 assignments `REG=N;`, then `}`, and at most one line feed
+//! behind it. REG is one of PORTA to PORTE and TRISA to TRISE, and N a number from 0 to 255 in decimal, without
+//! leading zeros. No other byte stands in the text.
+
 ghost use Rattle.std.specs.Prelude.{◌≡◌, ◌<◌, ◌≤◌, ◌++◌, ◌∷◌, ◌⊎◌, ℕ, List, length, codes, IfOk, IfSome, IfNone, IsTrue, ◌↔◌, ◌+◌, ◌/◌, ◌%◌};
 ghost use Rattle.picc_cli.specs.PortProgram.{IsFine, AllFit, IsProgram, side_text, number_text, assignment_text, assignments_text, HasNoAssignment, IsEnd, beginning};
 

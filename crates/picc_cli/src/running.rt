@@ -1,4 +1,5 @@
-// The run of a program by the source machine, with its events as printed lines.
+//! The run of a program by the source machine, with its events as printed lines.
+
 ghost use Rattle.std.specs.Prelude.{◌≡◌, ◌⊎◌, ◌++◌, false, map, option_map, IsTrue, IfSome, IfNone, OnOk, OnErr};
 ghost use Rattle.c_typed.specs.Views.{program_of};
 ghost use Rattle.call_graph.specs.Copies.{AreCopies};

@@ -1,4 +1,5 @@
-// Lines that a command prints.
+//! Lines that a command prints.
+
 ghost use Rattle.std.specs.Prelude.{◌≡◌, ◌++◌, option_map, IfOk, OnOk, OnErr};
 ghost use Rattle.host_io.specs.Host.{HasCause, NoFailure, PrintsPrefix};
 ghost use Rattle.picc_cli.specs.Said.{Says};

@@ -1,4 +1,5 @@
-// The form `sim`: from the files' names and a board to an exit status.
+//! The form `sim`: from the files' names and a board to an exit status.
+
 ghost use Rattle.std.specs.Prelude.{◌≡◌, ◌≤◌, ◌+◌, ◌*◌, ◌++◌, [], true, false, length, option_map, IsTrue, IfOk, IfSome, OnOk, OnErr, Some};
 ghost use Rattle.host_io.specs.Host.{Closed, HasCause, NoFailure, PrintsPrefix};
 ghost use Rattle.pic_map.specs.MapView.{content_of};

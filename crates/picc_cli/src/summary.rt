@@ -1,4 +1,5 @@
-// The form `gen`: a program of a given size, and its sizes.
+//! The form `gen`: a program of a given size, and its sizes.
+
 ghost use Rattle.std.specs.Prelude.{◌≡◌, ◌≤◌, ◌++◌, IfOk, IfSome, OnOk, Some};
 ghost use Rattle.host_io.specs.Host.{Closed};
 ghost use Rattle.picc_cli.specs.Command.{Generate};

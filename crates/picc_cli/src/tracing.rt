@@ -1,4 +1,5 @@
-// The form `trace`: from the files' names to an exit status.
+//! The form `trace`: from the files' names to an exit status.
+
 ghost use Rattle.std.specs.Prelude.{◌≡◌, IfSome, Some};
 ghost use Rattle.host_io.specs.Host.{Closed};
 ghost use Rattle.picc_cli.specs.Command.{Trace};

@@ -1,8 +1,8 @@
-// All passes of the compiler, one behind the other.
-//
-// In: the bytes of a C text. Out: its typed tree, the copies of its functions, where objects, frames and blocks of code
-// stand, and how many words they are stated to have; or the first of all refusals that hold of the text. And of a built program
-// and a script: how many events its run on the chip has, or the undefined step that its source meets beside it.
+//! All passes of the compiler, one behind the other.
+//!
+//! In: the bytes of a C text. Out: its typed tree, the copies of its functions, where objects, frames and blocks of code
+//! stand, and how many words they are stated to have; or the first of all refusals that hold of the text. And of a built program
+//! and a script: how many events its run on the chip has, or the undefined step that its source meets beside it.
 #![tactic(auto)]
 
 mod agreeing;

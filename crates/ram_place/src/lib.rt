@@ -1,7 +1,7 @@
-// Sizes and addresses: how many bytes a function's frame has, how many words its block, and where the static objects
-// and the frames stand in the chip's memory.
-//
-// In: a typed program and its function copies. Out: sizes, and the lines of a map.
+//! Sizes and addresses: how many bytes a function's frame has, how many words its block, and where the static objects
+//! and the frames stand in the chip's memory.
+//!
+//! In: a typed program and its function copies. Out: sizes, and the lines of a map.
 #![tactic(auto)]
 
 mod amount;

@@ -1,10 +1,10 @@
-// Runs of machines, and what it means that one follows another. Every pass of the compiler from the source to symbolic
-// code makes such a pair of runs, and what is promised of the last one comes from the first through the links between
-// them.
-//
-// In: nothing; the crate has definitions, and laws about them. Out: nothing.
-// The promise: links compose, and from a chain of them come the prefix of the trace, the pace, and that the last run is
-// not stuck as long as the first one is defined.
+//! Runs of machines, and what it means that one follows another. Every pass of the compiler from the source to symbolic
+//! code makes such a pair of runs, and what is promised of the last one comes from the first through the links between
+//! them.
+//!
+//! In: nothing; the crate has definitions, and laws about them. Out: nothing.
+//! The promise: links compose, and from a chain of them come the prefix of the trace, the pace, and that the last run is
+//! not stuck as long as the first one is defined.
 #![tactic(auto)]
 
 ghost use Rattle.run_links.specs.Laws.{Composes, SlowComposes, LagComposes, HasPrefix, HasPace, IsNotStuck};

@@ -1,7 +1,7 @@
-// Built programs on the chip, beside the runs of their sources: each program is compiled, its image is run instruction by
-// instruction, and its events must be those of the source run whose handler is called where the arrivals fell.
-//
-// In: texts of C, input bytes, arrivals. Out: nothing; these are tests.
+//! Built programs on the chip, beside the runs of their sources: each program is compiled, its image is run instruction by
+//! instruction, and its events must be those of the source run whose handler is called where the arrivals fell.
+//!
+//! In: texts of C, input bytes, arrivals. Out: nothing; these are tests.
 #![tactic(auto)]
 
 #[cfg(test)]

@@ -1,4 +1,5 @@
-// Texts worked out by hand: what is read, and at which line reading stops.
+//! Texts worked out by hand: what is read, and at which line reading stops.
+
 use super::*;
 use pic_world::Flag;
 use std::test::Fail;

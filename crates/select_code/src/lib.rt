@@ -1,9 +1,9 @@
-// Instruction selection for operations on single bytes, and for all control.
-//
-// In: operations of structured byte code, and the block that their code goes to. Out: the block with that code behind
-// what it had.
-// The promise: nothing but appending. The one recursion over control serves other operations too, by what is given for
-// them.
+//! Instruction selection for operations on single bytes, and for all control.
+//!
+//! In: operations of structured byte code, and the block that their code goes to. Out: the block with that code behind
+//! what it had.
+//! The promise: nothing but appending. The one recursion over control serves other operations too, by what is given for
+//! them.
 #![tactic(auto)]
 
 mod control;

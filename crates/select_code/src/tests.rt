@@ -1,4 +1,5 @@
-// Code written by hand from the instruction table of the data sheet DS39582.
+//! Code written by hand from the instruction table of the data sheet DS39582.
+
 use crate::select_byte;
 use core_code::{Byte, Core};
 use std::alloc::{AllocError, Global};

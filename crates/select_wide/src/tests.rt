@@ -1,4 +1,5 @@
-// Lists of instructions written by hand from the instruction table of the data sheet DS39582.
+//! Lists of instructions written by hand from the instruction table of the data sheet DS39582.
+
 use crate::select;
 use crate::selection::Selector;
 use c_ints::{BinOp, IntTy};

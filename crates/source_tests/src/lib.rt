@@ -1,7 +1,7 @@
-// Worked examples of the definitions of the source machine, computed by the checker.
-//
-// In: nothing. Out: nothing. The promise: the definitions give the events and the undefined steps that the rules of C and of the
-// interrupts give by hand.
+//! Worked examples of the definitions of the source machine, computed by the checker.
+//!
+//! In: nothing. Out: nothing. The promise: the definitions give the events and the undefined steps that the rules of C and of the
+//! interrupts give by hand.
 #![tactic(auto)]
 
 ghost use Rattle.source_tests.specs.Examples.{WorkedRuns};

@@ -1,7 +1,7 @@
-// Text files line by line.
-//
-// In: the bytes of a text. Out: its first line and what stands behind it, and the numbers of digits.
-// The promise: line after line, exactly the lines of the text by their definition.
+//! Text files line by line.
+//!
+//! In: the bytes of a text. Out: its first line and what stands behind it, and the numbers of digits.
+//! The promise: line after line, exactly the lines of the text by their definition.
 #![tactic(auto)]
 
 ghost use Rattle.std.specs.Prelude.{◌≡◌, ◌<◌, ◌≤◌, ◌+◌, ◌∷◌, [], length, IfSome, IfNone};
