@@ -40,6 +40,7 @@ pub fn is_select(sym: Sym) -> bool
     }
 }
 
+/// Whether it is a label, which takes no word of program memory.
 pub fn is_label(sym: Sym) -> bool
     ensures { result ≡ kinds.is_label sym }
 {

@@ -24,6 +24,7 @@ pub(crate) struct Sink {
 }
 
 impl Sink {
+    /// A sink to which nothing has been given; `line` is that of the declarator.
     pub fn new(alloc: Global, fixed: bool, line: u32) -> Sink {
         Sink {
             fixed,
@@ -45,6 +46,7 @@ pub(crate) struct Cursor {
 }
 
 impl Cursor {
+    /// The cursor in front of the first part of an object.
     pub fn new(slot: Slot) -> Cursor {
         Cursor {
             slot,

@@ -51,6 +51,7 @@ fn builtin(name: &[u8]) -> Option<Binding> {
 }
 
 impl Scopes {
+    /// Scopes of which none is open.
     pub fn new(alloc: Global) -> Scopes {
         Scopes {
             alloc,

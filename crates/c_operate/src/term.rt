@@ -18,6 +18,7 @@ pub(crate) struct Lvalue {
 }
 
 impl Lvalue {
+    /// Its type, and whether it is const or volatile.
     pub fn ty(&self) -> Qualified {
         self.place.ty()
     }

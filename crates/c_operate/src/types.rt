@@ -53,6 +53,7 @@ fn kept(size: u64) -> u64 {
 }
 
 impl Types {
+    /// Tables without a type: no row, no structure, no tag.
     pub fn new(alloc: Global) -> Types {
         Types {
             alloc,

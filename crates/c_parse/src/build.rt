@@ -1,4 +1,7 @@
 //! Trees from their parts.
+//!
+//! A number that is named after a token is the line of that token, counted from 1. The one error is that memory for a part
+//! ran out.
 
 ghost use Rattle.std.specs.Prelude.{◌≡◌, ℕ, Some, None, IfOk, map};
 ghost use Rattle.c_tree.specs.Words.{quoted};
@@ -15,6 +18,7 @@ use c_tree::statement::{
 use c_tree::word::Text;
 use std::alloc::{AllocError, Global};
 
+/// An assignment expression as an initializer (ISO/IEC 9899:1990, 6.5.7).
 #[tactic(auto, using(c_tree::proofs::ProgramShapes::show_init_assign))]
 pub fn value(assign: Assign) -> Init
     ensures { init_of result ≡ tree.Value (assign_of assign) }
@@ -22,6 +26,7 @@ pub fn value(assign: Assign) -> Init
     Init::Assign(assign)
 }
 
+/// A string literal as an initializer (ISO/IEC 9899:1990, 6.5.7).
 #[tactic(auto, using(c_tree::proofs::ProgramShapes::show_init_text))]
 pub fn text(text: Text) -> Init
     ensures { init_of result ≡ tree.Quoted (quoted text) }
@@ -29,6 +34,8 @@ pub fn text(text: Text) -> Init
     Init::Text(text)
 }
 
+/// `{ first, others }`; `last_comma` is the line of the comma after the last item, if there is one (ISO/IEC
+/// 9899:1990, 6.5.7).
 #[tactic(auto, using(c_tree::proofs::ProgramShapes::show_init_list))]
 pub fn list(
     alloc: Global,
@@ -50,12 +57,14 @@ pub fn list(
     })
 }
 
+/// A comma, and the initializer after it (ISO/IEC 9899:1990, 6.5.7).
 pub fn next_init(comma: u32, init: Init) -> NextInit
     ensures { next_init_of result ≡ (comma, init_of init) }
 {
     NextInit { comma, init }
 }
 
+/// A declarator without an initializer (ISO/IEC 9899:1990, 6.5).
 pub fn begun(declarator: Declarator) -> InitDeclarator
     ensures { begun_of result ≡ record { declarator = declarator_of declarator; init = None } }
 {
@@ -65,6 +74,7 @@ pub fn begun(declarator: Declarator) -> InitDeclarator
     }
 }
 
+/// `declarator = init` (ISO/IEC 9899:1990, 6.5).
 pub fn begun_as(declarator: Declarator, equals: u32, init: Init) -> InitDeclarator
     ensures { begun_of result ≡ record { declarator = declarator_of declarator; init = Some (equals, init_of init) } }
 {
@@ -72,12 +82,14 @@ pub fn begun_as(declarator: Declarator, equals: u32, init: Init) -> InitDeclarat
     InitDeclarator { declarator, init }
 }
 
+/// A comma, and the declarator after it, with its initializer if it has one (ISO/IEC 9899:1990, 6.5).
 pub fn next_begun(comma: u32, declarator: InitDeclarator) -> NextInitDeclarator
     ensures { next_begun_of result ≡ (comma, begun_of declarator) }
 {
     NextInitDeclarator { comma, declarator }
 }
 
+/// A declaration without a declarator, such as that of a structure alone (ISO/IEC 9899:1990, 6.5).
 pub fn bare_declaration(specs: Specs, semicolon: u32) -> Declaration
     ensures { declaration_of result ≡ record { specs = specs_of specs; declared = None; semicolon = semicolon } }
 {
@@ -88,6 +100,7 @@ pub fn bare_declaration(specs: Specs, semicolon: u32) -> Declaration
     }
 }
 
+/// A declaration with one declarator or more (ISO/IEC 9899:1990, 6.5).
 pub fn declaration(
     specs: Specs,
     first: InitDeclarator,
@@ -104,6 +117,7 @@ pub fn declaration(
     }
 }
 
+/// A block: declarations, and then statements, in braces (ISO/IEC 9899:1990, 6.6.2).
 pub fn block(
     opening: u32,
     declarations: Vec<Declaration>,
@@ -120,6 +134,7 @@ pub fn block(
     }
 }
 
+/// A block as a statement (ISO/IEC 9899:1990, 6.6.2).
 #[tactic(auto, using(c_tree::proofs::ProgramShapes::show_statement_block))]
 pub fn braced(block: Block) -> Statement
     ensures { statement_of result ≡ tree.Braced (block_of block) }
@@ -127,6 +142,7 @@ pub fn braced(block: Block) -> Statement
     Statement::Block(block)
 }
 
+/// `expr;`, or `;` where there is none (ISO/IEC 9899:1990, 6.6.3).
 #[tactic(auto, using(c_tree::proofs::ProgramShapes::show_statement_expr))]
 pub fn plain(expr: Option<Expr>, semicolon: u32) -> Statement
     ensures { statement_of result ≡ tree.Plain (any_of expr) semicolon }
@@ -134,6 +150,7 @@ pub fn plain(expr: Option<Expr>, semicolon: u32) -> Statement
     Statement::Expr { expr, semicolon }
 }
 
+/// `if condition then`; the condition has its parentheses (ISO/IEC 9899:1990, 6.6.4.1).
 pub fn arm(keyword: u32, condition: Condition, then: Statement) -> Arm
     ensures { arm_of result ≡ tree.Arm keyword (condition_of condition) (statement_of then) }
 {
@@ -144,6 +161,7 @@ pub fn arm(keyword: u32, condition: Condition, then: Statement) -> Arm
     }
 }
 
+/// `else`, and the `if` after it with its condition and its statement (ISO/IEC 9899:1990, 6.6.4.1).
 pub fn else_arm(else_keyword: u32, arm: Arm) -> ElseArm
     ensures { else_arm_of result ≡ (else_keyword, arm_of arm) }
 {
@@ -156,6 +174,7 @@ fn last_arm(keyword: u32, statement: Statement) -> Otherwise
     Otherwise { keyword, statement }
 }
 
+/// `else statement`, the end of a chain of `if` (ISO/IEC 9899:1990, 6.6.4.1).
 pub fn otherwise(
     alloc: Global,
     keyword: u32,
@@ -166,6 +185,7 @@ pub fn otherwise(
     Ok(Box::new(alloc, last_arm(keyword, statement))?)
 }
 
+/// `if`, each `else if`, and the last `else` if there is one, as one statement (ISO/IEC 9899:1990, 6.6.4.1).
 #[tactic(auto, using(c_tree::proofs::ProgramShapes::show_statement_if, c_tree::proofs::ProgramShapes::made_if_chain))]
 pub fn chain(
     alloc: Global,
@@ -183,6 +203,7 @@ pub fn chain(
     }))
 }
 
+/// `while condition body` (ISO/IEC 9899:1990, 6.6.5.1).
 #[tactic(auto, using(c_tree::proofs::ProgramShapes::show_statement_while))]
 pub fn while_loop(
     alloc: Global,
@@ -200,6 +221,7 @@ pub fn while_loop(
     })
 }
 
+/// `do body while condition;` (ISO/IEC 9899:1990, 6.6.5.2).
 #[tactic(auto, using(c_tree::proofs::ProgramShapes::show_statement_do))]
 pub fn do_loop(
     alloc: Global,
@@ -221,6 +243,7 @@ pub fn do_loop(
     })
 }
 
+/// `for head body` (ISO/IEC 9899:1990, 6.6.5.3).
 #[tactic(auto, using(c_tree::proofs::ProgramShapes::show_statement_for))]
 pub fn for_loop(
     alloc: Global,
@@ -239,6 +262,7 @@ pub fn for_loop(
     })
 }
 
+/// `switch value { items }` (ISO/IEC 9899:1990, 6.6.4.2).
 #[tactic(auto, using(c_tree::proofs::ProgramShapes::show_statement_switch))]
 pub fn switch(
     keyword: u32,
@@ -258,6 +282,7 @@ pub fn switch(
     }
 }
 
+/// `break;` (ISO/IEC 9899:1990, 6.6.6.3).
 #[tactic(auto, using(c_tree::proofs::ProgramShapes::show_statement_break))]
 pub fn break_jump(keyword: u32, semicolon: u32) -> Statement
     ensures { statement_of result ≡ tree.Break keyword semicolon }
@@ -265,6 +290,7 @@ pub fn break_jump(keyword: u32, semicolon: u32) -> Statement
     Statement::Break { keyword, semicolon }
 }
 
+/// `continue;` (ISO/IEC 9899:1990, 6.6.6.2).
 #[tactic(auto, using(c_tree::proofs::ProgramShapes::show_statement_continue))]
 pub fn continue_jump(keyword: u32, semicolon: u32) -> Statement
     ensures { statement_of result ≡ tree.Continue keyword semicolon }
@@ -272,6 +298,7 @@ pub fn continue_jump(keyword: u32, semicolon: u32) -> Statement
     Statement::Continue { keyword, semicolon }
 }
 
+/// `return value;`, or `return;` where there is none (ISO/IEC 9899:1990, 6.6.6.4).
 #[tactic(auto, using(c_tree::proofs::ProgramShapes::show_statement_return))]
 pub fn return_jump(keyword: u32, value: Option<Expr>, semicolon: u32) -> Statement
     ensures { statement_of result ≡ tree.Return keyword (any_of value) semicolon }
@@ -283,6 +310,7 @@ pub fn return_jump(keyword: u32, value: Option<Expr>, semicolon: u32) -> Stateme
     }
 }
 
+/// A `case` or `default` label in the body of a `switch` (ISO/IEC 9899:1990, 6.6.1).
 #[tactic(auto, using(c_tree::proofs::ProgramShapes::show_switch_item_label))]
 pub fn inner_label(label: Label) -> SwitchItem
     ensures { switch_item_of result ≡ LabelInner (label_of label) }
@@ -290,6 +318,7 @@ pub fn inner_label(label: Label) -> SwitchItem
     SwitchItem::Label(label)
 }
 
+/// A statement in the body of a `switch` (ISO/IEC 9899:1990, 6.6.4.2).
 #[tactic(auto, using(c_tree::proofs::ProgramShapes::show_switch_item_statement))]
 pub fn inner_statement(statement: Statement) -> SwitchItem
     ensures { switch_item_of result ≡ StatementInner (statement_of statement) }
@@ -297,6 +326,7 @@ pub fn inner_statement(statement: Statement) -> SwitchItem
     SwitchItem::Statement(statement)
 }
 
+/// The definition of a function (ISO/IEC 9899:1990, 6.7.1).
 pub fn function(specs: Specs, declarator: Declarator, body: Block) -> Item
     ensures { item_of result ≡ tree.Function (specs_of specs) (declarator_of declarator) (block_of body) }
 {
@@ -307,6 +337,7 @@ pub fn function(specs: Specs, declarator: Declarator, body: Block) -> Item
     })
 }
 
+/// A declaration outside functions (ISO/IEC 9899:1990, 6.7.2).
 pub fn declared_item(declaration: Declaration) -> Item
     ensures { item_of result ≡ tree.Declaration (declaration_of declaration) }
 {

@@ -27,7 +27,7 @@ pub struct Definitions<'a> {
     pub places: BTreeMap<&'a [u8], usize>,
 }
 
-// No definitions.
+/// No definitions.
 pub fn no_definitions<'a>(alloc: Global) -> Definitions<'a>
     ensures empty { result.list.items ≡ [] }
     ensures indexed { IsIndexed result }

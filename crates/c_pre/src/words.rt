@@ -109,6 +109,7 @@ pub fn is_excluded(text: &[u8], token: Tok) -> bool
     excluded_word(word_of(text, token)).is_some()
 }
 
+/// Whether it is the kind of an identifier.
 pub fn is_name(kind: TokKind) -> bool
     ensures { result ≡ is_name kind }
 {
@@ -118,6 +119,7 @@ pub fn is_name(kind: TokKind) -> bool
     }
 }
 
+/// Whether it is the kind of `#`.
 pub fn is_hash(kind: TokKind) -> bool
     ensures { result ≡ is_hash kind }
 {
@@ -127,6 +129,7 @@ pub fn is_hash(kind: TokKind) -> bool
     }
 }
 
+/// Whether it is the kind of `(`.
 pub fn is_opening(kind: TokKind) -> bool
     ensures { result ≡ is_opening kind }
 {

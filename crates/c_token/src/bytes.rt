@@ -11,6 +11,7 @@ pub fn is_blank(byte: u8) -> bool
     byte == b' ' || (9 <= byte && byte <= 13)
 }
 
+/// Whether it is a decimal digit.
 pub fn is_decimal(byte: u8) -> bool
     ensures { result ≡ is_decimal byte }
 {
@@ -24,6 +25,7 @@ pub fn begins_name(byte: u8) -> bool
     (b'A' <= byte && byte <= b'Z') || (b'a' <= byte && byte <= b'z') || byte == b'_'
 }
 
+/// Whether it is a letter, an underscore or a decimal digit (ISO/IEC 9899:1990, 6.1.2).
 pub fn is_name_byte(byte: u8) -> bool
     ensures { result ≡ is_name_byte byte }
 {
@@ -50,6 +52,7 @@ pub fn digit_value(byte: u8) -> u8
     }
 }
 
+/// Whether it is a digit in a base up to 16.
 pub fn is_digit(base: u8, byte: u8) -> bool
     ensures { result ≡ is_digit base byte }
 {

@@ -10,30 +10,35 @@ use crate::word::{Constant, Name, Pointer};
 use c_token::{Keyword, Punct, TokKind};
 use std::alloc::AllocError;
 
+/// Puts a punctuator.
 pub fn punct(out: &mut Vec<TokKind>, punct: Punct) -> Result<(), AllocError>
     ensures { IfOk result (λ _. out.new.items ≡ out.old.items ++ kinds.Punct punct ∷ []) }
 {
     Ok(out.push(TokKind::Punct(punct))?)
 }
 
+/// Puts a keyword.
 pub fn word(out: &mut Vec<TokKind>, keyword: Keyword) -> Result<(), AllocError>
     ensures { IfOk result (λ _. out.new.items ≡ out.old.items ++ kinds.Keyword keyword ∷ []) }
 {
     Ok(out.push(TokKind::Keyword(keyword))?)
 }
 
+/// Puts an identifier.
 pub fn name(out: &mut Vec<TokKind>) -> Result<(), AllocError>
     ensures { IfOk result (λ _. out.new.items ≡ out.old.items ++ kinds.Name ∷ []) }
 {
     Ok(out.push(TokKind::Name)?)
 }
 
+/// Puts a string literal.
 pub fn text(out: &mut Vec<TokKind>) -> Result<(), AllocError>
     ensures { IfOk result (λ _. out.new.items ≡ out.old.items ++ kinds.Text ∷ []) }
 {
     Ok(out.push(TokKind::Text)?)
 }
 
+/// Puts an integer or character constant.
 pub fn constant(out: &mut Vec<TokKind>, constant: Constant) -> Result<(), AllocError>
     ensures { IfOk result (λ _. out.new.items ≡ out.old.items ++ (spell_constant constant).kind ∷ []) }
 {
@@ -76,6 +81,7 @@ fn pointer(out: &mut Vec<TokKind>, pointer: &Pointer) -> Result<(), AllocError>
     Ok(())
 }
 
+/// Puts any number of `*`, each with the words `const` and `volatile` after it.
 #[tactic(auto, using(std::proofs::lemmas::List::append_assoc, crate::proofs::Append::kinds_append))]
 pub fn pointers(out: &mut Vec<TokKind>, pointers: &[Pointer]) -> Result<(), AllocError>
     ensures { IfOk result (λ _. out.new.items ≡ out.old.items ++ kinds_of (spell_pointers pointers.now)) }

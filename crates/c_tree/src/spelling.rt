@@ -15,6 +15,7 @@ use crate::marks::{constant, name, pointers, punct, tag, word};
 use c_token::{Keyword, Punct, TokKind};
 use std::alloc::AllocError;
 
+/// Puts the kinds of the tokens of specifiers after those that are there.
 #[cycle(spelling)]
 #[tactic(auto, using(std::proofs::lemmas::List::append_assoc, crate::proofs::Append::kinds_append, crate::proofs::Views::see_specs))]
 pub fn put_specs(out: &mut Vec<TokKind>, specs: &Specs) -> Result<(), AllocError>
@@ -82,6 +83,7 @@ fn put_next_declarator(
     put_declarator(out, &next_declarator.declarator)
 }
 
+/// Puts the kinds of the tokens of a declarator after those that are there.
 #[cycle(spelling)]
 #[tactic(auto, using(std::proofs::lemmas::List::append_assoc, crate::proofs::Append::kinds_append, crate::proofs::Views::see_declarator))]
 pub fn put_declarator(out: &mut Vec<TokKind>, declarator: &Declarator) -> Result<(), AllocError>
@@ -171,6 +173,7 @@ fn put_type_name(out: &mut Vec<TokKind>, type_name: &TypeName) -> Result<(), All
     pointers(out, &type_name.pointers)
 }
 
+/// Puts the kinds of the tokens of an expression after those that are there.
 #[cycle(spelling)]
 #[tactic(auto, using(std::proofs::lemmas::List::append_assoc, crate::proofs::Append::kinds_append, crate::proofs::Views::see_expr))]
 pub fn put_expr(out: &mut Vec<TokKind>, expr: &Expr) -> Result<(), AllocError>
@@ -192,6 +195,7 @@ fn put_next_assign(out: &mut Vec<TokKind>, next_assign: &NextAssign) -> Result<(
     put_assign(out, &next_assign.assign)
 }
 
+/// Puts the kinds of the tokens of an assignment expression after those that are there.
 #[cycle(spelling)]
 #[tactic(auto, using(std::proofs::lemmas::List::append_assoc, crate::proofs::Append::kinds_append, crate::proofs::Views::see_assign))]
 pub fn put_assign(out: &mut Vec<TokKind>, assign: &Assign) -> Result<(), AllocError>
@@ -212,6 +216,7 @@ fn put_target(out: &mut Vec<TokKind>, target: &Target) -> Result<(), AllocError>
     punct(out, target.operator.punct)
 }
 
+/// Puts the kinds of the tokens of a conditional expression after those that are there.
 #[cycle(spelling)]
 #[tactic(auto, using(std::proofs::lemmas::List::append_assoc, crate::proofs::Append::kinds_append, crate::proofs::Views::see_cond))]
 pub fn put_cond(out: &mut Vec<TokKind>, cond: &Cond) -> Result<(), AllocError>

@@ -38,6 +38,7 @@ fn no_levels(alloc: Global, count: usize) -> Result<Vec<Option<u32>>, AllocError
     Ok(levels)
 }
 
+/// Whether a level was found, and is this one.
 pub fn is_level(found: Option<u32>, level: u32) -> bool
     ensures { MatchBool result (found ≡ Some level) (found ≡ Some level → ⊥) }
 {

@@ -54,6 +54,7 @@ pub struct Outline {
 }
 
 impl ParamList {
+    /// A list without parameters.
     pub fn new(alloc: Global) -> ParamList {
         ParamList {
             params: Vec::new(alloc),

@@ -20,6 +20,7 @@ pub struct Listing {
 }
 
 impl Listing {
+    /// A text without lines.
     pub fn new(alloc: Global) -> Listing {
         Listing {
             bytes: Vec::new(alloc),
@@ -28,6 +29,7 @@ impl Listing {
         }
     }
 
+    /// The bytes of the text.
     pub fn text(self) -> Vec<u8> {
         self.bytes
     }
@@ -42,6 +44,7 @@ impl Listing {
         Ok(())
     }
 
+    /// The line ends, by LF.
     pub fn end(&mut self) -> Result<(), AllocError> {
         self.bytes.push(b'\n')?;
         Ok(())
@@ -57,20 +60,24 @@ impl Listing {
         Ok(())
     }
 
+    /// A part of the line: these bytes, as they are.
     pub fn name(&mut self, name: &[u8]) -> Result<(), AllocError> {
         self.separate()?;
         self.bytes.extend_from_slice(name)
     }
 
+    /// A part of the line: a word.
     pub fn word(&mut self, word: &str) -> Result<(), AllocError> {
         self.name(word.as_bytes())
     }
 
+    /// A part of the line: a number in decimal.
     pub fn number(&mut self, number: u64) -> Result<(), AllocError> {
         let mut buffer = Buffer::new();
         self.name(buffer.format(number).as_bytes())
     }
 
+    /// A part of the line: a number in decimal, with `-` in front where it is below 0.
     pub fn signed(&mut self, number: i64) -> Result<(), AllocError> {
         let mut buffer = Buffer::new();
         self.name(buffer.format(number).as_bytes())
@@ -84,6 +91,7 @@ impl Listing {
         Ok(())
     }
 
+    /// The brackets that `open` began end.
     pub fn close(&mut self) -> Result<(), AllocError> {
         self.bytes.push(b')')?;
         self.before = Before::Comma;

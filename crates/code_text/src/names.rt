@@ -4,6 +4,7 @@ use c_ints::{BinOp, IntTy, UnOp};
 use c_typed::{Helper, LogicalOp, LoopForm, StepOp};
 use pic_world::Root;
 
+/// The name of a root: `Main` or `Isr`.
 pub fn of_root(root: Root) -> &'static str {
     match root {
         Root::Main => "Main",
@@ -11,6 +12,7 @@ pub fn of_root(root: Root) -> &'static str {
     }
 }
 
+/// The name of an integer type, such as `UChar`.
 pub fn of_int(ty: IntTy) -> &'static str {
     match ty {
         IntTy::Char => "Char",
@@ -25,6 +27,7 @@ pub fn of_int(ty: IntTy) -> &'static str {
     }
 }
 
+/// The name of a unary operator, such as `Minus`.
 pub fn of_unary(op: UnOp) -> &'static str {
     match op {
         UnOp::Plus => "Plus",
@@ -34,6 +37,7 @@ pub fn of_unary(op: UnOp) -> &'static str {
     }
 }
 
+/// The name of a binary operator, such as `Add`.
 pub fn of_binary(op: BinOp) -> &'static str {
     match op {
         BinOp::Mul => "Mul",
@@ -55,6 +59,7 @@ pub fn of_binary(op: BinOp) -> &'static str {
     }
 }
 
+/// The name of `&&` or `||`: `And` or `Or`.
 pub fn of_logical(op: LogicalOp) -> &'static str {
     match op {
         LogicalOp::And => "And",
@@ -62,6 +67,7 @@ pub fn of_logical(op: LogicalOp) -> &'static str {
     }
 }
 
+/// The name of `++` or `--`, before its operand or after it, such as `PreIncrement`.
 pub fn of_step(op: StepOp) -> &'static str {
     match op {
         StepOp::PreIncrement => "PreIncrement",
@@ -71,6 +77,7 @@ pub fn of_step(op: StepOp) -> &'static str {
     }
 }
 
+/// The name of a loop: `While`, `Do` or `For`.
 pub fn of_loop(form: LoopForm) -> &'static str {
     match form {
         LoopForm::While => "While",
@@ -79,6 +86,7 @@ pub fn of_loop(form: LoopForm) -> &'static str {
     }
 }
 
+/// The name of a helper, such as `Mul2`.
 pub fn of_helper(helper: Helper) -> &'static str {
     match helper {
         Helper::Mul2 => "Mul2",

@@ -8,6 +8,7 @@ use c_typed::{
 };
 use std::alloc::AllocError;
 
+/// A part of the line: a type.
 pub fn put_type(out: &mut Listing, ty: Ty) -> Result<(), AllocError> {
     match ty {
         Ty::Void => out.word("Void"),
@@ -28,6 +29,7 @@ pub fn put_type(out: &mut Listing, ty: Ty) -> Result<(), AllocError> {
     }
 }
 
+/// Parts of the line: `const` and `volatile` where they hold, and the type.
 pub fn put_qualified(out: &mut Listing, qualified: Qualified) -> Result<(), AllocError> {
     if qualified.constant {
         out.word("const")?;

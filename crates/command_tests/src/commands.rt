@@ -11,19 +11,24 @@ use std::alloc::{AllocError, Global};
 use std::collections::BTreeMap;
 use std::process::Abort;
 
+/// A C text that writes 5 to PORTB once.
 pub const LED: &str = "void main(void){PORTB=5;}";
 
-// 0000: GOTO 5; 0004: RETFIE; 0005: MOVLW 05; BCF STATUS,RP0; MOVWF PORTB; GOTO 8.
+/// The HEX file of `LED`. 0000: GOTO 5; 0004: RETFIE; 0005: MOVLW 05; BCF STATUS,RP0; MOVWF PORTB; GOTO 8.
 pub const LED_HEX: &str = ":020000040000FA\n\
 :100000000528FF3FFF3FFF3F0900053083128600B0\n\
 :100010000828FF3FFF3FFF3FFF3FFF3FFF3FFF3FFE\n\
 :00000001FF\n";
 
+/// The map file of `LED`.
 pub const LED_MAP: &str = "picc map 1\nmain 0005\nhalt 0008\nframe main main 0020 3\nend\n";
 
+/// The line that lists the forms of the commands.
 pub const USAGE: &str =
     "usage: picc build IN OUT MAP | trace IN SCRIPT M | sim HEX MAP SCRIPT N | agree IN SCRIPT N | gen K\n";
 
+/// A host in memory that has the text as its file a.c, if there is one, and whose calls fail as `fails` lists
+/// them.
 pub fn host_with(
     alloc: Global,
     text: Option<&str>,
@@ -41,6 +46,7 @@ pub fn host_with(
     Ok(MemoryHost::new(files, fails))
 }
 
+/// The words of a line, between white space.
 pub fn words_of(alloc: Global, line: &str) -> Result<Vec<String>, AllocError> {
     let mut words = Vec::new(alloc);
     for word in line.split_whitespace() {
@@ -58,6 +64,7 @@ pub fn run(alloc: Global, words: &[String], host: &mut MemoryHost) -> Result<u8,
     Ok(picc(alloc, words, host, &mut board))
 }
 
+/// Whether the host has a file of this name with exactly this content.
 pub fn is_file(host: &MemoryHost, name: &str, text: &str) -> bool {
     match host.files.get(name) {
         Some(content) => content.as_slice() == text.as_bytes(),
@@ -65,7 +72,7 @@ pub fn is_file(host: &MemoryHost, name: &str, text: &str) -> bool {
     }
 }
 
-// The name has a prefix of the text, or no content.
+/// The name has a prefix of the text, or no content.
 pub fn is_front(host: &MemoryHost, name: &str, text: &str) -> bool {
     match host.files.get(name) {
         Some(content) => text.as_bytes().starts_with(content.as_slice()),
@@ -73,7 +80,7 @@ pub fn is_front(host: &MemoryHost, name: &str, text: &str) -> bool {
     }
 }
 
-// A text that is built: both files are there, and nothing is printed.
+/// A text that is built: both files are there, and nothing is printed.
 pub fn check_built(rt: &impl Abort, alloc: Global, text: &str) -> Result<(), AllocError> {
     let mut host = host_with(alloc, Some(text), Vec::new(alloc))?;
     let words = words_of(alloc, "build a.c a.hex a.map")?;
@@ -83,7 +90,7 @@ pub fn check_built(rt: &impl Abort, alloc: Global, text: &str) -> Result<(), All
     Ok(())
 }
 
-// A command that creates no file: its words, the text of a.c if there is one, the status and what is printed.
+/// A command that creates no file: its words, the text of a.c if there is one, the status and what is printed.
 pub fn check_refused(
     rt: &impl Abort,
     alloc: Global,
@@ -111,7 +118,7 @@ pub fn check_refused(
     Ok(())
 }
 
-// A command with its files, its status and what is printed. No file is changed.
+/// A command with its files, its status and what is printed. No file is changed.
 #[derive(Clone, Copy)]
 pub struct Case {
     pub line: &'static str,
@@ -122,6 +129,7 @@ pub struct Case {
     pub printed: &'static str,
 }
 
+/// Puts a file of this name into the host, if there is a text for it.
 pub fn put(
     alloc: Global,
     host: &mut MemoryHost,
@@ -137,6 +145,8 @@ pub fn put(
     Ok(())
 }
 
+/// A host with the text as a.c, and with the HEX file, the map and the script of the case as a.hex, a.map and
+/// a.s.
 pub fn host_of(alloc: Global, text: &str, case: &Case) -> Result<MemoryHost, AllocError>
     ensures { IfOk result (λ host. open_of host.current ≡ Closed) }
 {
@@ -147,6 +157,8 @@ pub fn host_of(alloc: Global, text: &str, case: &Case) -> Result<MemoryHost, All
     Ok(host)
 }
 
+/// Runs the command of a case beside the text, and compares its status, what it prints, and that it leaves as
+/// many files as there were.
 pub fn check(rt: &impl Abort, alloc: Global, text: &str, case: Case) -> Result<(), AllocError> {
     let mut host = host_of(alloc, text, &case)?;
     let files = host.files.len();

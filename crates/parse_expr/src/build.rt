@@ -1,4 +1,7 @@
 //! Trees from their parts.
+//!
+//! A number that is named after a token is the line of that token, counted from 1. The one error is that memory for a part
+//! ran out.
 
 ghost use Rattle.std.specs.Prelude.{◌≡◌, ℕ, List, [], ◌∷◌, Some, None, true, IfOk, map};
 ghost use Rattle.c_tree.specs.Words.{Symbol, signed, keyed, named, spell_constant, spell_pointers, spell_tag};
@@ -14,6 +17,7 @@ use c_tree::expression::{
 use c_tree::word::{Constant, Name, Pointer, Sign, Word};
 use std::alloc::{AllocError, Global};
 
+/// An identifier as a primary expression (ISO/IEC 9899:1990, 6.3.1).
 #[tactic(auto, using(c_tree::proofs::Shapes::show_primary_name))]
 pub fn name_operand(name: Name) -> Primary
     ensures { primary_of result ≡ tree.Leaf (named name) }
@@ -21,6 +25,7 @@ pub fn name_operand(name: Name) -> Primary
     Primary::Name(name)
 }
 
+/// An integer or character constant as a primary expression (ISO/IEC 9899:1990, 6.3.1).
 #[tactic(auto, using(c_tree::proofs::Shapes::show_primary_constant))]
 pub fn constant_operand(constant: Constant) -> Primary
     ensures { primary_of result ≡ tree.Leaf (spell_constant constant) }
@@ -28,6 +33,7 @@ pub fn constant_operand(constant: Constant) -> Primary
     Primary::Constant(constant)
 }
 
+/// `(inner)`, a primary expression (ISO/IEC 9899:1990, 6.3.1).
 #[tactic(auto, using(c_tree::proofs::Shapes::show_primary_group))]
 pub fn group(alloc: Global, opening: u32, inner: Expr, closing: u32) -> Result<Primary, AllocError>
     ensures { IfOk result (λ p. primary_of p ≡ tree.Group opening (expr_of inner) closing) }
@@ -40,6 +46,7 @@ pub fn group(alloc: Global, opening: u32, inner: Expr, closing: u32) -> Result<P
     })
 }
 
+/// An expression: `first`, and what stands after each comma (ISO/IEC 9899:1990, 6.3.17).
 #[tactic(auto, using(c_tree::proofs::Shapes::made_expr))]
 pub fn expr(first: Assign, others: Vec<NextAssign>) -> Expr
     ensures { expr_of result ≡ listed (assign_of first) (map next_assign_of others.items) }
@@ -47,6 +54,7 @@ pub fn expr(first: Assign, others: Vec<NextAssign>) -> Expr
     Expr { first, others }
 }
 
+/// A comma, and the assignment expression after it (ISO/IEC 9899:1990, 6.3.17).
 #[tactic(auto, using(c_tree::proofs::Shapes::made_next_assign))]
 pub fn next_assign(comma: u32, assign: Assign) -> NextAssign
     ensures { next_assign_of result ≡ (comma, assign_of assign) }
@@ -54,6 +62,8 @@ pub fn next_assign(comma: u32, assign: Assign) -> NextAssign
     NextAssign { comma, assign }
 }
 
+/// `value`, and the left sides that it is assigned to, the outermost first; without any it is `value` alone
+/// (ISO/IEC 9899:1990, 6.3.16).
 #[tactic(auto, using(c_tree::proofs::Shapes::made_assign))]
 pub fn assign(targets: Vec<Target>, value: Cond) -> Assign
     ensures { assign_of result ≡ assigned (map target_of targets.items) (cond_of value) }
@@ -61,6 +71,7 @@ pub fn assign(targets: Vec<Target>, value: Cond) -> Assign
     Assign { targets, value }
 }
 
+/// The left side of an assignment, and its operator (ISO/IEC 9899:1990, 6.3.16).
 #[tactic(auto, using(c_tree::proofs::Shapes::made_target))]
 pub fn target(place: Cast, operator: Sign) -> Target
     ensures { target_of result ≡ (cast_of place, signed operator) }
@@ -68,6 +79,8 @@ pub fn target(place: Cast, operator: Sign) -> Target
     Target { place, operator }
 }
 
+/// Choices by `?` and `:`, the outermost first, and the operand after the last `:`; without any it is `last`
+/// alone (ISO/IEC 9899:1990, 6.3.15).
 #[tactic(auto, using(c_tree::proofs::Shapes::made_cond))]
 pub fn cond(choices: Vec<Choice>, last: Binary) -> Cond
     ensures { cond_of result ≡ chosen (map choice_of choices.items) (binary_of last) }
@@ -75,6 +88,7 @@ pub fn cond(choices: Vec<Choice>, last: Binary) -> Cond
     Cond { choices, last }
 }
 
+/// `condition ? then :`, the front of a conditional expression (ISO/IEC 9899:1990, 6.3.15).
 #[tactic(auto, using(c_tree::proofs::Shapes::made_choice))]
 pub fn choice(
     alloc: Global,
@@ -94,6 +108,7 @@ pub fn choice(
     })
 }
 
+/// An operand that stands alone, without a binary operator.
 #[tactic(auto, using(c_tree::proofs::Shapes::show_binary_operand))]
 pub fn single(cast: Cast) -> Binary
     ensures { binary_of result ≡ cast_of cast }
@@ -113,6 +128,7 @@ pub fn chain(alloc: Global, first: Binary, others: Vec<NextOperand>) -> Result<B
     Ok(Binary::Chain { first, others })
 }
 
+/// A binary operator, and the operand on its right (ISO/IEC 9899:1990, 6.3.5 to 6.3.14).
 #[tactic(auto, using(c_tree::proofs::Shapes::made_next_operand))]
 pub fn next_operand(operator: Sign, operand: Binary) -> NextOperand
     ensures { next_operand_of result ≡ (signed operator, binary_of operand) }
@@ -120,6 +136,7 @@ pub fn next_operand(operator: Sign, operand: Binary) -> NextOperand
     NextOperand { operator, operand }
 }
 
+/// An operand with its prefixes, the outermost first (ISO/IEC 9899:1990, 6.3.3 and 6.3.4).
 #[tactic(auto, using(c_tree::proofs::Shapes::made_cast))]
 pub fn cast(prefixes: Vec<Prefix>, operand: Operand) -> Cast
     ensures { cast_of result ≡ prefixed (map prefix_of prefixes.items) (operand_of operand) }
@@ -127,6 +144,7 @@ pub fn cast(prefixes: Vec<Prefix>, operand: Operand) -> Cast
     Cast { prefixes, operand }
 }
 
+/// An operator as the prefix of an operand (ISO/IEC 9899:1990, 6.3.3).
 #[tactic(auto, using(c_tree::proofs::Shapes::show_prefix_operator))]
 pub fn operator_prefix(operator: Sign) -> Prefix
     ensures { prefix_of result ≡ tree.Sign (signed operator) }
@@ -134,6 +152,7 @@ pub fn operator_prefix(operator: Sign) -> Prefix
     Prefix::Operator(operator)
 }
 
+/// `sizeof` before an expression (ISO/IEC 9899:1990, 6.3.3.4).
 #[tactic(auto, using(c_tree::proofs::Shapes::show_prefix_sizeof))]
 pub fn sizeof_prefix(keyword: u32) -> Prefix
     ensures { prefix_of result ≡ tree.Sizeof keyword }
@@ -141,6 +160,7 @@ pub fn sizeof_prefix(keyword: u32) -> Prefix
     Prefix::Sizeof { keyword }
 }
 
+/// `(type_name)`, a cast (ISO/IEC 9899:1990, 6.3.4).
 #[tactic(auto, using(c_tree::proofs::Shapes::show_prefix_cast))]
 pub fn cast_prefix(
     alloc: Global,
@@ -158,6 +178,7 @@ pub fn cast_prefix(
     })
 }
 
+/// A postfix expression as an operand (ISO/IEC 9899:1990, 6.3.3).
 #[tactic(auto, using(c_tree::proofs::Shapes::show_operand_postfix))]
 pub fn postfix_operand(postfix: Postfix) -> Operand
     ensures { operand_of result ≡ postfix_of postfix }
@@ -165,6 +186,7 @@ pub fn postfix_operand(postfix: Postfix) -> Operand
     Operand::Postfix(postfix)
 }
 
+/// `sizeof(type_name)` (ISO/IEC 9899:1990, 6.3.3.4).
 #[tactic(auto, using(c_tree::proofs::Shapes::show_operand_sizeof_type))]
 pub fn measure(
     alloc: Global,
@@ -184,6 +206,7 @@ pub fn measure(
     })
 }
 
+/// A primary expression with its suffixes, in the order of the text (ISO/IEC 9899:1990, 6.3.2).
 #[tactic(auto, using(c_tree::proofs::Shapes::made_postfix))]
 pub fn postfix(primary: Primary, suffixes: Vec<PostfixSuffix>) -> Postfix
     ensures { postfix_of result ≡ posted (primary_of primary) (map postfix_suffix_of suffixes.items) }
@@ -191,6 +214,7 @@ pub fn postfix(primary: Primary, suffixes: Vec<PostfixSuffix>) -> Postfix
     Postfix { primary, suffixes }
 }
 
+/// `[index]`, the suffix that takes an element of an array (ISO/IEC 9899:1990, 6.3.2.1).
 #[tactic(auto, using(c_tree::proofs::Shapes::show_postfix_suffix_index))]
 pub fn index(
     alloc: Global,
@@ -208,6 +232,7 @@ pub fn index(
     })
 }
 
+/// `()`, the suffix of a call without arguments (ISO/IEC 9899:1990, 6.3.2.2).
 #[tactic(auto, using(c_tree::proofs::Shapes::show_postfix_suffix_call_bare))]
 pub fn bare_call(opening: u32, closing: u32) -> PostfixSuffix
     ensures { postfix_suffix_of result ≡ tree.CallBare opening closing }
@@ -219,6 +244,7 @@ pub fn bare_call(opening: u32, closing: u32) -> PostfixSuffix
     }
 }
 
+/// `(arguments)`, the suffix of a call (ISO/IEC 9899:1990, 6.3.2.2).
 #[tactic(auto, using(c_tree::proofs::Shapes::show_postfix_suffix_call))]
 pub fn call(
     alloc: Global,
@@ -236,6 +262,7 @@ pub fn call(
     })
 }
 
+/// `.name` or `->name`, the suffix that takes a member of a structure (ISO/IEC 9899:1990, 6.3.2.3).
 #[tactic(auto, using(c_tree::proofs::Shapes::show_postfix_suffix_member))]
 pub fn field(operator: Sign, name: Name) -> PostfixSuffix
     ensures { postfix_suffix_of result ≡ tree.Field (signed operator) (named name) }
@@ -243,6 +270,7 @@ pub fn field(operator: Sign, name: Name) -> PostfixSuffix
     PostfixSuffix::Member { operator, name }
 }
 
+/// `++` or `--` as a suffix (ISO/IEC 9899:1990, 6.3.2.4).
 #[tactic(auto, using(c_tree::proofs::Shapes::show_postfix_suffix_step))]
 pub fn step(operator: Sign) -> PostfixSuffix
     ensures { postfix_suffix_of result ≡ tree.Step (signed operator) }
@@ -250,6 +278,7 @@ pub fn step(operator: Sign) -> PostfixSuffix
     PostfixSuffix::Step(operator)
 }
 
+/// The name of a type: specifiers, and any number of `*` (ISO/IEC 9899:1990, 6.5.5).
 #[tactic(auto, using(c_tree::proofs::Shapes::made_type_name))]
 pub fn type_name(specs: Specs, pointers: Vec<Pointer>) -> TypeName
     ensures { type_name_of result ≡ tree.TypeOf (specs_of specs) (spell_pointers pointers.items) }
@@ -257,6 +286,7 @@ pub fn type_name(specs: Specs, pointers: Vec<Pointer>) -> TypeName
     TypeName { specs, pointers }
 }
 
+/// The specifiers of a declaration, at least one (ISO/IEC 9899:1990, 6.5).
 #[tactic(auto, using(c_tree::proofs::Shapes::made_specs))]
 pub fn specs(first: Spec, others: Vec<Spec>) -> Specs
     ensures { specs_of result ≡ tree.Specified (spec_of first) (more_specs (map spec_of others.items)) }
@@ -264,6 +294,7 @@ pub fn specs(first: Spec, others: Vec<Spec>) -> Specs
     Specs { first, others }
 }
 
+/// A keyword as a specifier (ISO/IEC 9899:1990, 6.5.1 to 6.5.3).
 #[tactic(auto, using(c_tree::proofs::Shapes::show_spec_word))]
 pub fn word_spec(word: Word) -> Spec
     ensures { spec_of result ≡ tree.OneWord (keyed word) }
@@ -271,6 +302,7 @@ pub fn word_spec(word: Word) -> Spec
     Spec::Word(word)
 }
 
+/// `struct tag` (ISO/IEC 9899:1990, 6.5.2.3).
 #[tactic(auto, using(c_tree::proofs::Shapes::show_spec_reference))]
 pub fn reference(keyword: u32, tag: Name) -> Spec
     ensures { spec_of result ≡ tree.Tagged keyword (named tag) }
@@ -302,6 +334,7 @@ pub fn body(
     Ok(Spec::Body(Box::new(alloc, body)?))
 }
 
+/// The members that one list of declarators declares (ISO/IEC 9899:1990, 6.5.2.1).
 #[tactic(auto, using(c_tree::proofs::Shapes::made_member))]
 pub fn member(
     specs: Specs,
@@ -319,6 +352,7 @@ pub fn member(
     }
 }
 
+/// A comma, and the declarator of a member after it (ISO/IEC 9899:1990, 6.5.2.1).
 #[tactic(auto, using(c_tree::proofs::Shapes::made_next_declarator))]
 pub fn next_declarator(comma: u32, declarator: Declarator) -> NextDeclarator
     ensures { next_declarator_of result ≡ (comma, declarator_of declarator) }
@@ -326,6 +360,8 @@ pub fn next_declarator(comma: u32, declarator: Declarator) -> NextDeclarator
     NextDeclarator { comma, declarator }
 }
 
+/// A declarator: any number of `*`, the name, and the suffixes in the order of the text (ISO/IEC 9899:1990,
+/// 6.5.4).
 #[tactic(auto, using(c_tree::proofs::Shapes::made_declarator))]
 pub fn declarator(pointers: Vec<Pointer>, name: Name, suffixes: Vec<Suffix>) -> Declarator
     ensures { declarator_of result ≡ tree.Declares (spell_pointers pointers.items) (named name) (suffixes_of (map suffix_of suffixes.items)) }
@@ -337,6 +373,7 @@ pub fn declarator(pointers: Vec<Pointer>, name: Name, suffixes: Vec<Suffix>) -> 
     }
 }
 
+/// `[]`, the suffix of an array without a length (ISO/IEC 9899:1990, 6.5.4.2).
 #[tactic(auto, using(c_tree::proofs::Shapes::show_suffix_array_unsized))]
 pub fn unsized_array(opening: u32, closing: u32) -> Suffix
     ensures { suffix_of result ≡ tree.Unsized opening closing }
@@ -348,6 +385,7 @@ pub fn unsized_array(opening: u32, closing: u32) -> Suffix
     }
 }
 
+/// `[length]`, the suffix of an array (ISO/IEC 9899:1990, 6.5.4.2).
 #[tactic(auto, using(c_tree::proofs::Shapes::show_suffix_array))]
 pub fn array(alloc: Global, opening: u32, length: Cond, closing: u32) -> Result<Suffix, AllocError>
     ensures { IfOk result (λ s. suffix_of s ≡ tree.Sized opening (cond_of length) closing) }
@@ -360,6 +398,7 @@ pub fn array(alloc: Global, opening: u32, length: Cond, closing: u32) -> Result<
     })
 }
 
+/// `()`, the suffix of a function without a list of parameters (ISO/IEC 9899:1990, 6.5.4.3).
 #[tactic(auto, using(c_tree::proofs::Shapes::show_suffix_empty))]
 pub fn no_params(opening: u32, closing: u32) -> Suffix
     ensures { suffix_of result ≡ tree.Empty opening closing }
@@ -367,6 +406,7 @@ pub fn no_params(opening: u32, closing: u32) -> Suffix
     Suffix::Empty { opening, closing }
 }
 
+/// `(void)`, the suffix of a function without parameters (ISO/IEC 9899:1990, 6.5.4.3).
 #[tactic(auto, using(c_tree::proofs::Shapes::show_suffix_void))]
 pub fn void_params(opening: u32, void: u32, closing: u32) -> Suffix
     ensures { suffix_of result ≡ tree.VoidOnly opening void closing }
@@ -378,6 +418,8 @@ pub fn void_params(opening: u32, void: u32, closing: u32) -> Suffix
     }
 }
 
+/// The suffix of a function with one parameter or more, the first one and those after commas (ISO/IEC
+/// 9899:1990, 6.5.4.3).
 #[tactic(auto, using(c_tree::proofs::Shapes::show_suffix_params))]
 pub fn params(
     alloc: Global,
@@ -397,6 +439,7 @@ pub fn params(
     })
 }
 
+/// A comma, and the parameter after it (ISO/IEC 9899:1990, 6.5.4.3).
 #[tactic(auto, using(c_tree::proofs::Shapes::made_next_param))]
 pub fn next_param(comma: u32, param: Param) -> NextParam
     ensures { next_param_of result ≡ (comma, param_of param) }
@@ -404,6 +447,7 @@ pub fn next_param(comma: u32, param: Param) -> NextParam
     NextParam { comma, param }
 }
 
+/// A parameter with a name (ISO/IEC 9899:1990, 6.5.4.3).
 #[tactic(auto, using(c_tree::proofs::Shapes::show_param_named))]
 pub fn named_param(specs: Specs, declarator: Declarator) -> Param
     ensures { param_of result ≡ tree.Named (specs_of specs) (declarator_of declarator) }
@@ -411,6 +455,7 @@ pub fn named_param(specs: Specs, declarator: Declarator) -> Param
     Param::Named { specs, declarator }
 }
 
+/// A parameter without a name (ISO/IEC 9899:1990, 6.5.4.3 and 6.5.5).
 #[tactic(auto, using(c_tree::proofs::Shapes::show_param_unnamed))]
 pub fn unnamed_param(specs: Specs, pointers: Vec<Pointer>, suffixes: Vec<Suffix>) -> Param
     ensures { param_of result ≡ tree.Unnamed (specs_of specs) (spell_pointers pointers.items) (suffixes_of (map suffix_of suffixes.items)) }

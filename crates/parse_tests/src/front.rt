@@ -24,6 +24,7 @@ pub enum Outcome {
 /// The longest text of the cases, in bytes.
 const LONGEST: usize = 262_144;
 
+/// What becomes of a text; one of more than 262,144 bytes is not read.
 pub fn becomes(alloc: Global, text: &[u8]) -> Result<Outcome, Fail> {
     if text.len() > LONGEST {
         return Ok(Outcome::TooLong);

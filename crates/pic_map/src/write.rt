@@ -16,7 +16,6 @@ const DIGITS: [u8; 16] = *b"0123456789ABCDEF";
 
 /// The text of the map's file. Digits are upper case, and each line ends at LF. The condition is that
 /// addresses, sizes and names are such as a map file can have.
-
 pub fn write_map(alloc: Global, map: &Map) -> Result<Vec<u8>, AllocError>
     requires { spec.AreInRange (content_of map.now) }
     ensures text { IfOk result (λ text. text.items ≡ spec.map_text (content_of map.now)) }
@@ -121,6 +120,7 @@ fn push_address(text: &mut Vec<u8>, address: u16) -> Result<(), AllocError>
     ])
 }
 
+/// The ASCII code of a hexadecimal digit, in upper case. The condition is that the value is below 16.
 pub fn hex_digit(value: u16) -> u8
     requires { value < 16 }
     ensures { result ≡ digit_of value }

@@ -98,6 +98,7 @@ fn push_named(text: &mut Vec<u8>, before: &[u8], name: &[u8]) -> Result<(), Allo
     text.extend_from_slice(name)
 }
 
+/// Adds some bytes and then a number in decimal to a text.
 pub fn push_counted(text: &mut Vec<u8>, before: &[u8], number: u64) -> Result<(), AllocError>
     ensures { OnOk result (text.new.items ≡ text.old.items ++ (before.now ++ decimal number)) }
 {

@@ -62,6 +62,7 @@ pub(crate) struct SourceRun<'a> {
 }
 
 impl<'a> SourceRun<'a> {
+    /// The run before its first step, with objects at the addresses of the map.
     pub fn new(
         alloc: Global,
         program: &'a Typed,

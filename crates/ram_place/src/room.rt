@@ -390,6 +390,7 @@ fn statement_room(structures: &[Structure], statement: &TStmt) -> u64
     }
 }
 
+/// How many temporary bytes a list of statements takes: the most that one of them does.
 #[cycle(statement_room)]
 pub fn statements_room(structures: &[Structure], statements: &[TStmt]) -> u64
     ensures { result ≡ capped (stated.statements_room (map size_of structures.now) (statements_of (map statement_of statements.now))) }

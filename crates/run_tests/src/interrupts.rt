@@ -6,7 +6,7 @@ use picc_core::Built;
 use std::alloc::Global;
 use std::test::Fail;
 
-// A function that both roots call.
+/// A function that both roots call.
 pub const TWO_COPIES: &str =
     "unsigned char add(unsigned char a){unsigned char b;b=a;return b+1;}void interrupt h(void){PORTC=add(9);INTF=0;}void main(void){INTCON=0x90;PORTB=add(1);}";
 
@@ -29,11 +29,11 @@ const PENDING: &str =
 // A flag that comes between the read and the write of INTCON is lost.
 const LOST: &str = "void main(void){INTCON=0x10;INTCON&=0xFD;PORTB=INTCON;}";
 
-// Main does nothing but wait.
+/// Main does nothing but wait.
 pub const IDLE: &str =
     "void interrupt h(void){PORTB=1;INTF=0;}void main(void){INTCON=0x90;for(;;);}";
 
-// A key with a lamp, and a timer's ticks in a structure.
+/// A key with a lamp, and a timer's ticks in a structure.
 pub const KEY: &str = "#include <htc.h>
 #define LED RB1
 #define KEY RB0
