@@ -217,7 +217,7 @@ impl Known {
         }
     }
 
-    /// What is known behind an instruction; it may be one that is skipped.
+    /// What is known after an instruction; it may be one that is skipped.
     pub fn after(self, sym: Sym, may_be_skipped: bool) -> Known
         ensures { result ≡ stated.after self sym may_be_skipped }
     {
@@ -252,7 +252,7 @@ impl Known {
         }
     }
 
-    /// What is known behind a select in a block.
+    /// What is known after a select in a block.
     pub fn learned(self, own: BlockName, sym: Sym) -> Known
         ensures { result ≡ stated.learned own self sym }
     {

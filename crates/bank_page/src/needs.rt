@@ -71,7 +71,7 @@ fn skips_by_bit(op: BitOperation) -> bool
     }
 }
 
-/// Whether the instruction may skip the one behind it.
+/// Whether the instruction may skip the one after it.
 pub fn is_skip(sym: Sym) -> bool
     ensures { result ≡ kinds.is_skip sym }
 {
@@ -195,9 +195,9 @@ fn both(bank: Option<Option<u16>>, rest: Option<Needs>) -> Option<Needs>
     }
 }
 
-/// What must be selected before a list's first instruction so that it and, where it is a skip, those behind it up to the first
+/// What must be selected before a list's first instruction so that it and, where it is a skip, those after it up to the first
 /// that is none can run with no select between them. There is no answer where they need two banks, where a byte has no
-/// address, where a skip itself changes what is selected, and where a label or nothing stands behind a skip.
+/// address, where a skip itself changes what is selected, and where a label or nothing stands after a skip.
 pub fn needs_in(placed: &Placed, list: &[Sym]) -> Option<Needs>
     ensures { result ≡ stated.needs_in placed.now list.now }
 {

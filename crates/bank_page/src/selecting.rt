@@ -15,7 +15,7 @@ use pic_map::Placed;
 use std::alloc::{AllocError, Global};
 use sym_code::{BankBit, PageBit, Sym, SymBlock, SymProgram, Target};
 
-/// What is known at a place of a block, and whether it stands behind a skip.
+/// What is known at a place of a block, and whether it stands after a skip.
 #[derive(Clone, Copy)]
 pub struct State {
     pub known: Known,
@@ -150,9 +150,9 @@ fn put_made(blocks: &mut Vec<SymBlock>, block: SymBlock) -> Result<(), AllocErro
 /// The program with the selects that it needs: before each access to a byte that isn't in every bank, RP1 and RP0 name its
 /// bank, and before each jump and call, bits 4 and 3 of PCLATH name the page of its target. Each select sets one bit, and none
 /// sets what is known to be so in straight-line code.
-/// Between a skip and the instruction behind it stands no select: what both need is selected before the skip.
+/// Between a skip and the instruction after it stands no select: what both need is selected before the skip.
 ///
-/// Want of memory is also the answer where a skip and what stands behind it need two banks, where a label stands behind a
+/// Out of memory is also the answer where a skip and what stands after it need two banks, where a label stands after a
 /// skip, where a skip itself changes what is selected, and where something that is named has no address. The conditions of a
 /// compiler's call exclude these.
 pub fn selects(alloc: Global, s: &SymProgram, placed: &Placed) -> Result<SymProgram, AllocError>

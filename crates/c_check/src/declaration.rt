@@ -211,7 +211,7 @@ fn block_declarator(
     block_object(init, checker, specified, outline, name, line, statements)
 }
 
-/// A declaration of a block: what its declarators do comes behind the statements.
+/// A declaration of a block: what its declarators do comes after the statements.
 pub(crate) fn block_declaration(
     declaration: &Declaration,
     checker: &mut Checker,

@@ -4,7 +4,7 @@
 //! Here stand declarations with their initializers, statements and functions; expressions, specifiers and declarators
 //! stand in the crates below.
 //! The promise so far: it ends on every tree. That the typed tree is the one of the rules is tested, and
-//! owed.
+//! not yet proved.
 #![tactic(auto)]
 
 mod declaration;

@@ -133,7 +133,7 @@ pub(crate) fn block_static(
     static_object(init, checker, map_name, name, ty, line)
 }
 
-/// A local: what its declarator does comes behind the statements.
+/// A local: what its declarator does comes after the statements.
 pub(crate) fn local_object(
     init: Option<&Init>,
     checker: &mut Checker,

@@ -32,7 +32,7 @@ impl SwitchBody {
         }
     }
 
-    /// Puts a statement behind those of the body.
+    /// Puts a statement after those of the body.
     pub fn add(&mut self, statement: TStmt) -> Result<(), CheckError> {
         self.statements.push(statement)?;
         Ok(())

@@ -124,7 +124,7 @@ impl Reading {
     }
 }
 
-/// The characters of a string literal, without the 0 behind them.
+/// The characters of a string literal, without the 0 after them.
 pub(crate) fn characters(alloc: Global, literal: &[u8]) -> Result<Vec<u8>, AllocError> {
     let inside = match literal {
         [b'"', inside @ .., b'"'] => inside,

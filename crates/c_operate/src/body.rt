@@ -56,7 +56,7 @@ impl Body {
         declarator
     }
 
-    /// Puts a local behind those that the body has, and gives its number.
+    /// Puts a local after those that the body has, and gives its number.
     pub fn add_local(&mut self, name: &[u8], ty: Qualified, line: u32) -> Result<u32, CheckError> {
         let local = number(self.locals.len())?;
         self.locals.push(Variable {

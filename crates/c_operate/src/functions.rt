@@ -50,7 +50,7 @@ impl Functions {
         }
     }
 
-    /// Puts a function behind those that are declared, and gives its number among them.
+    /// Puts a function after those that are declared, and gives its number among them.
     pub fn add(
         &mut self,
         name: &[u8],

@@ -4,7 +4,7 @@
 //! terms: typed values, places, or names of functions. Out: what a name, a tag or a number stands for at that place;
 //! the term that an operator and its operands make, with each conversion explicit, or the rule that they break.
 //! The promise so far: each call ends, safely, whatever the tables and the terms have. What a call finds, and that
-//! the types are those of the rules, is tested, and owed.
+//! the types are those of the rules, is tested, and not yet proved.
 #![tactic(auto)]
 
 pub mod body;

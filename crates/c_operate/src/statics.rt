@@ -20,7 +20,7 @@ impl Statics {
         }
     }
 
-    /// Puts an object that begins as 0 behind the others, and gives its number.
+    /// Puts an object that begins as 0 after the others, and gives its number.
     pub fn add(&mut self, name: Vec<u8>, ty: Qualified, line: u32) -> Result<u32, CheckError> {
         let object = number(self.entries.len())?;
         self.entries.push(Static {

@@ -176,7 +176,7 @@ impl Types {
         }
     }
 
-    /// Puts a member behind those that a structure has.
+    /// Puts a member after those that a structure has.
     pub fn add_member(
         &mut self,
         number: u32,

@@ -104,7 +104,7 @@ pub fn is_deep(toks: &[Tok]) -> bool
     false
 }
 
-/// The counts behind a token.
+/// The counts after a token.
 fn behind(place: Nesting, kind: TokKind) -> Nesting
     requires inside { place.inside < 18446744073709551615 }
     requires waiting { place.waiting ≤ 2048 }
@@ -118,7 +118,7 @@ fn behind(place: Nesting, kind: TokKind) -> Nesting
     }
 }
 
-/// How many of `(` and `[` are open behind a token.
+/// How many of `(` and `[` are open after a token.
 fn inside_behind(before: usize, kind: TokKind) -> usize
     requires { before < 18446744073709551615 }
     ensures exact { result ≡ inside_after before kind }
@@ -131,7 +131,7 @@ fn inside_behind(before: usize, kind: TokKind) -> usize
     }
 }
 
-/// How many `?` wait for their `:` behind a token.
+/// How many `?` wait for their `:` after a token.
 fn waiting_behind(place: Nesting, kind: TokKind) -> usize
     requires { place.waiting ≤ 2048 }
     ensures { result ≡ waiting_after place.inside place.waiting kind }

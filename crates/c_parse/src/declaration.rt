@@ -17,7 +17,7 @@ use parse_expr::specifier::specs;
 use parse_expr::take::{Read, Step, behind_punct, punct, specs_come};
 use std::alloc::Global;
 
-/// `[ "=" init ]`, behind the declarator
+/// `[ "=" init ]`, after the declarator
 #[tactic(auto, unfolding(crate::specs::Reading::begun_behind))]
 pub fn begun_behind<'s>(
     alloc: Global,
@@ -100,7 +100,7 @@ fn next_begins<'s>(
     Ok((found, rest))
 }
 
-/// `{ "," declarator [ "=" init ] } ";"`, behind the first declarator
+/// `{ "," declarator [ "=" init ] } ";"`, after the first declarator
 #[tactic(auto, unfolding(crate::specs::Reading::declared_behind))]
 pub fn declared_behind<'s>(
     alloc: Global,
@@ -118,7 +118,7 @@ pub fn declared_behind<'s>(
     Ok((build::declaration(specs, first, others, semicolon), rest))
 }
 
-/// `[ declarator [ "=" init ] { "," declarator [ "=" init ] } ] ";"`, behind the specifiers
+/// `[ declarator [ "=" init ] { "," declarator [ "=" init ] } ] ";"`, after the specifiers
 #[tactic(auto, unfolding(crate::specs::Reading::declaration_behind))]
 fn declaration_behind<'s>(
     alloc: Global,

@@ -53,7 +53,7 @@ fn read(alloc: Global, text: &[u8], toks: &[Tok]) -> Result<Unit, ParseError>
 /// The tree that the tokens of a text spell (ISO/IEC 9899:1990, 6.3 to 6.7, in the subset), or the
 /// first token that passes a limit, or the place where no tree goes on.
 ///
-/// `toks` are the tokens that are left of the text behind directives and replacement. They are the
+/// `toks` are the tokens that are left of the text after directives and replacement. They are the
 /// tokens of the tree, each with its line, and with its bytes where it is a name or a string.
 ///
 /// The call stack is memory, too: a tree with more than 2,048 `?` in one another is not given. It has

@@ -101,7 +101,7 @@ fn inner_init<'s>(
     init(alloc, text, last, fuel - 1, toks)
 }
 
-/// `init { "," init } [ "," ] "}"`, behind the brace
+/// `init { "," init } [ "," ] "}"`, after the brace
 #[cycle(init)]
 #[tactic(auto, unfolding(crate::specs::Reading::list_by))]
 fn list<'s>(

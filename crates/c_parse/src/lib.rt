@@ -2,8 +2,8 @@
 //!
 //! In: the bytes of a text, and its tokens after directives and replacement. Out: the concrete tree
 //! of the grammar that these tokens spell, or why there is none, with its line.
-//! The promise: the first token that passes a limit is told. Where none does, the answer is the one
-//! tree of the grammar that the tokens spell, or that they spell none. It may be want of memory in
+//! The promise: the first token that passes a limit is reported. Where none does, the answer is the one
+//! tree of the grammar that the tokens spell, or that they spell none. It may be out of memory in
 //! place of either.
 //! The call stack is bounded: at most 64 brackets, 256 statements and 2,048 `?` are entered in one
 //! another, and everything else that may be long is read by loops.

@@ -52,7 +52,7 @@ fn counted(counts: Counts, tok: &Tok) -> Counts
     }
 }
 
-/// How many brackets are open behind a token.
+/// How many brackets are open after a token.
 fn opened(before: u32, kind: TokKind) -> u32
     requires { before ≤ 64 }
     ensures { result ≡ open_after before kind }

@@ -49,7 +49,7 @@ pub fn condition<'s>(
     Ok((condition, rest))
 }
 
-/// `[ expr ]` and the punctuator behind it, with its line
+/// `[ expr ]` and the punctuator after it, with its line
 #[tactic(auto, unfolding(crate::specs::Reading::any_before))]
 fn any_before<'s>(
     alloc: Global,
@@ -125,7 +125,7 @@ pub fn plain<'s>(
     Ok((build::plain(expr, semicolon), rest))
 }
 
-/// `";"`, behind `break`
+/// `";"`, after `break`
 #[tactic(auto, unfolding(crate::specs::Reading::break_by))]
 pub fn break_jump<'s>(text: &[u8], last: u32, keyword: u32, toks: &'s [Tok]) -> Read<'s, Statement>
     ensures { Gives (λ x. (statement_of x.0, symbols_in text.now x.1.now)) result (break_by keyword (symbols_in text.now toks.now)) }
@@ -134,7 +134,7 @@ pub fn break_jump<'s>(text: &[u8], last: u32, keyword: u32, toks: &'s [Tok]) -> 
     Ok((build::break_jump(keyword, semicolon), rest))
 }
 
-/// `";"`, behind `continue`
+/// `";"`, after `continue`
 #[tactic(auto, unfolding(crate::specs::Reading::continue_by))]
 pub fn continue_jump<'s>(
     text: &[u8],
@@ -148,7 +148,7 @@ pub fn continue_jump<'s>(
     Ok((build::continue_jump(keyword, semicolon), rest))
 }
 
-/// `[ expr ] ";"`, behind `return`
+/// `[ expr ] ";"`, after `return`
 #[tactic(auto, unfolding(crate::specs::Reading::return_by))]
 pub fn return_jump<'s>(
     alloc: Global,
@@ -164,7 +164,7 @@ pub fn return_jump<'s>(
     Ok((build::return_jump(keyword, value, semicolon), rest))
 }
 
-/// `cond ":"`, behind `case`
+/// `cond ":"`, after `case`
 #[tactic(auto, unfolding(crate::specs::Reading::case_by))]
 pub fn case_label<'s>(
     alloc: Global,
@@ -186,7 +186,7 @@ pub fn case_label<'s>(
     Ok((label, rest))
 }
 
-/// `":"`, behind `default`
+/// `":"`, after `default`
 #[tactic(auto, unfolding(crate::specs::Reading::default_by))]
 pub fn default_label<'s>(text: &[u8], last: u32, keyword: u32, toks: &'s [Tok]) -> Read<'s, Label>
     ensures { Gives (λ x. (label_of x.0, symbols_in text.now x.1.now)) result (default_by keyword (symbols_in text.now toks.now)) }

@@ -286,7 +286,7 @@ fn last_arm<'s>(
     }
 }
 
-/// `"(" expr ")" statement`, behind `while`
+/// `"(" expr ")" statement`, after `while`
 #[cycle(statement)]
 #[tactic(auto, unfolding(crate::specs::Reading::while_by))]
 fn while_loop<'s>(
@@ -305,7 +305,7 @@ fn while_loop<'s>(
     Ok((build::while_loop(alloc, keyword, condition, body)?, rest))
 }
 
-/// `statement "while" "(" expr ")" ";"`, behind `do`
+/// `statement "while" "(" expr ")" ";"`, after `do`
 #[cycle(statement)]
 #[tactic(auto, unfolding(crate::specs::Reading::do_by))]
 fn do_loop<'s>(
@@ -327,7 +327,7 @@ fn do_loop<'s>(
     Ok((statement, rest))
 }
 
-/// `"(" [ expr ] ";" [ expr ] ";" [ expr ] ")" statement`, behind `for`
+/// `"(" [ expr ] ";" [ expr ] ";" [ expr ] ")" statement`, after `for`
 #[cycle(statement)]
 #[tactic(auto, unfolding(crate::specs::Reading::for_by))]
 fn for_loop<'s>(
@@ -346,7 +346,7 @@ fn for_loop<'s>(
     Ok((build::for_loop(alloc, keyword, head, body)?, rest))
 }
 
-/// `"(" expr ")" "{" { label | statement } "}"`, behind `switch`
+/// `"(" expr ")" "{" { label | statement } "}"`, after `switch`
 #[cycle(statement)]
 #[tactic(auto, unfolding(crate::specs::Reading::switch_by))]
 fn switch<'s>(

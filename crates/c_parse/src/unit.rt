@@ -45,7 +45,7 @@ fn is_function(declarator: &Declarator) -> bool
     }
 }
 
-/// The body of a function, behind its declarator.
+/// The body of a function, after its declarator.
 #[tactic(auto, unfolding(crate::specs::Reading::function_by))]
 fn function<'s>(
     alloc: Global,
@@ -62,7 +62,7 @@ fn function<'s>(
     Ok((build::function(specs, declarator, body), rest))
 }
 
-/// A declaration outside functions, behind its first declarator.
+/// A declaration outside functions, after its first declarator.
 #[tactic(auto, unfolding(crate::specs::Reading::variables_by))]
 fn variables<'s>(
     alloc: Global,

@@ -13,7 +13,7 @@ pub struct Definition<'a> {
     pub list: &'a [Tok],
 }
 
-/// What a directive line says behind its `#`.
+/// What a directive line says after its `#`.
 #[derive(Clone, Copy)]
 pub enum Line<'a> {
     /// Nothing that matters: no word, or the include of a header that is built in.
@@ -91,7 +91,7 @@ fn definition_in<'a>(text: &'a [u8], tokens: &'a [Tok]) -> Option<Definition<'a>
     }
 }
 
-/// What a directive line says, whose tokens behind the `#` these are.
+/// What a directive line says, whose tokens after the `#` these are.
 #[tactic(auto, unfolding(crate::specs::Directive::line_of))]
 pub fn line_of<'a>(text: &'a [u8], tokens: &'a [Tok]) -> Line<'a>
     ensures { said result ≡ line_of text.now tokens.now }

@@ -48,7 +48,7 @@ impl<'a> Definitions<'a> {
         self.places.get(&name).copied()
     }
 
-    /// Puts a definition of a new name behind the others.
+    /// Puts a definition of a new name after the others.
     pub fn push(&mut self, definition: Definition<'a>) -> Result<(), PreError>
         requires indexed { IsIndexed self.old }
         requires is_new { position_of (table_of self.old.list.items) definition.name.now ≡ None }

@@ -155,7 +155,7 @@ fn step<'a>(
 }
 
 /// Replaces the names of tokens that stand on a line, from left to right, by the lists of the
-/// definitions before it, and puts what is left behind the output. No definition is marked as under
+/// definitions before it, and puts what is left after the output. No definition is marked as under
 /// way, before and afterwards.
 pub fn replace<'a>(
     alloc: Global,

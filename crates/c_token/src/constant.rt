@@ -226,7 +226,7 @@ pub fn character_at(text: &[u8]) -> Option<(TokKind, usize)>
     }
 }
 
-/// Behind the opening quote of a string (ISO/IEC 9899:1990, 6.1.4): the length of its elements and
+/// After the opening quote of a string (ISO/IEC 9899:1990, 6.1.4): the length of its elements and
 /// its closing quote.
 #[tactic(auto, using(crate::proofs::Strings::ends_here, crate::proofs::Strings::ends_nowhere, crate::proofs::Strings::breaks_here, crate::proofs::Strings::goes_on))]
 pub fn string_end(text: &[u8]) -> Option<usize>

@@ -1,6 +1,6 @@
 //! The smallest parts of a spelling.
 //!
-//! Each function puts the kinds of the tokens of one part behind those that are there.
+//! Each function puts the kinds of the tokens of one part after those that are there.
 
 ghost use Rattle.std.specs.Prelude.{◌≡◌, ◌++◌, ◌∷◌, [], IfOk};
 ghost use Rattle.c_token.specs.declared.token.TokKind.TheVariants as kinds;

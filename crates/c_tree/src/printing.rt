@@ -1,6 +1,6 @@
 //! The spelling of initializers, declarations, statements and units.
 //!
-//! Each function puts the kinds of the tokens of one part behind those that are there.
+//! Each function puts the kinds of the tokens of one part after those that are there.
 
 ghost use Rattle.std.specs.Prelude.{◌≡◌, ◌++◌, ◌∷◌, [], IfOk, map};
 ghost use Rattle.c_token.specs.declared.token.Punct.TheVariants.{Semicolon, RightBrace};

@@ -1,6 +1,6 @@
 //! The spelling of expressions and of declarators.
 //!
-//! Each function puts the kinds of the tokens of one part behind those that are there.
+//! Each function puts the kinds of the tokens of one part after those that are there.
 
 ghost use Rattle.std.specs.Prelude.{◌≡◌, ◌++◌, IfOk, map};
 ghost use Rattle.c_tree.specs.Words.{kinds_of, flat, spell_pointers};

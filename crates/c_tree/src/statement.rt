@@ -68,7 +68,7 @@ pub struct EqualsInit {
 pub enum Init {
     Assign(Assign),
     Text(Text),
-    /// `{ ITEMS }`, with a comma behind the last item or without one
+    /// `{ ITEMS }`, with a comma after the last item or without one
     List {
         opening: u32,
         first: Box<Init>,

@@ -49,7 +49,7 @@ pub enum Constant {
     },
 }
 
-/// A `*` of a declarator or of a type name, and the words `const` and `volatile` behind it
+/// A `*` of a declarator or of a type name, and the words `const` and `volatile` after it
 /// (ISO/IEC 9899:1990, 6.5.4).
 #[derive(Drop)]
 pub struct Pointer {

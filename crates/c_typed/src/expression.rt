@@ -28,7 +28,7 @@ pub enum LogicalOp {
     Or,
 }
 
-/// `++` and `--`, before their operand or behind it (ISO/IEC 9899:1990, 6.3.2.4 and 6.3.3.1).
+/// `++` and `--`, before their operand or after it (ISO/IEC 9899:1990, 6.3.2.4 and 6.3.3.1).
 #[derive(Clone, Copy, PartialEq, Eq, Debug)]
 pub enum StepOp {
     PreIncrement,
@@ -205,7 +205,7 @@ pub enum TPlace {
         bit: u8,
         line: u32,
     },
-    /// The member of this number of a structure, `offset` bytes behind the structure's start.
+    /// The member of this number of a structure, `offset` bytes after the structure's start.
     Member {
         whole: Box<TPlace>,
         member: u32,

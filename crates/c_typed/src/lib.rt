@@ -1,4 +1,4 @@
-//! The typed tree of a C program: what the checker makes, and what all passes behind it take.
+//! The typed tree of a C program: what the checker makes, and what all passes after it take.
 //!
 //! In: the tables of a program. Out: the program, if they fit; its types, sizes, constants and counts.
 //! The promise: each ends on every tree; types, forms of places and integer constant expressions are those that specs/

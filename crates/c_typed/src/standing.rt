@@ -5,9 +5,9 @@
 pub enum Standing {
     /// Where its value is used.
     Used,
-    /// Behind `*`, or as the address that an index makes.
+    /// After `*`, or as the address that an index makes.
     Pointed,
-    /// As an operand of a sum behind `*`: where an index counts from.
+    /// As an operand of a sum after `*`: where an index counts from.
     Indexed,
     /// As a statement.
     Alone,

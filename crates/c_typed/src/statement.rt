@@ -40,7 +40,7 @@ pub enum TStmt {
         line: u32,
     },
     /// The declarator of a local with a list or a string: its items in order. Bytes without an item
-    /// become 0 behind them.
+    /// become 0 after them.
     InitList {
         local: u32,
         items: Vec<TItem>,
@@ -100,7 +100,7 @@ pub struct TCase {
     pub line: u32,
 }
 
-/// An item of a local's list, `offset` bytes behind the local's start.
+/// An item of a local's list, `offset` bytes after the local's start.
 #[derive(Drop)]
 pub enum TItem {
     /// An integer or a pointer.

@@ -1,4 +1,4 @@
-//! The calls of a function: each expression and statement puts its own behind those that are there.
+//! The calls of a function: each expression and statement puts its own after those that are there.
 
 ghost use Rattle.std.specs.Prelude.{◌≡◌, ◌++◌, map, IfOk};
 ghost use Rattle.std.specs.Option.{option_map};

@@ -1,4 +1,4 @@
-//! The call graph by numbers: each function has its own, and the helpers follow behind the functions.
+//! The call graph by numbers: each function has its own, and the helpers follow after the functions.
 
 ghost use Rattle.std.specs.Prelude.{◌≡◌, ◌+◌, ◌<◌, ◌≤◌, ◌^◌, ◌++◌, [], map, replicate, length, IfOk};
 ghost use Rattle.c_typed.specs.Chains as stated;

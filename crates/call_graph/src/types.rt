@@ -17,7 +17,7 @@ pub struct FnCopy {
 }
 
 /// The copies of a program in the order in which their frames are placed: main's root first, within a
-/// root by level, within a level in order of definition, and the helpers behind the functions. A copy's
+/// root by level, within a level in order of definition, and the helpers after the functions. A copy's
 /// number is its place in the list. `depth` is how many words of the return stack the calls take.
 #[derive(Drop)]
 pub struct Copies {

@@ -169,7 +169,7 @@ fn note_param(
     }
 }
 
-/// Puts a parameter behind a list.
+/// Puts a parameter after a list.
 pub(crate) fn add_param(
     checker: &mut Checker,
     list: &mut ParamList,
@@ -206,7 +206,7 @@ pub(crate) fn add_param(
     Ok(())
 }
 
-/// Puts a member behind those of a structure.
+/// Puts a member after those of a structure.
 pub(crate) fn add_field(
     types: &mut Types,
     structure: u32,

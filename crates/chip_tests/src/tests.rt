@@ -91,7 +91,7 @@ const SUM: &[(u16, u16)] = &[
     (0x0b, 0x00a2), // MOVWF 22h
 ];
 
-/// STATUS behind sums and differences.
+/// STATUS after sums and differences.
 const FLAGS: &[(u16, u16)] = &[
     (0x00, 0x3028), // MOVLW 28h
     (0x01, 0x3e19), // ADDLW 19h: 41h, the digit carry
@@ -171,7 +171,7 @@ const JUMPS: &[(u16, u16)] = &[
     (0x806, 0x00a2), // MOVWF 22h
 ];
 
-/// Nine calls in one another, and returns behind each of them.
+/// Nine calls in one another, and returns after each of them.
 const CALLS: &[(u16, u16)] = &[
     (0x00, 0x2010), // CALL 10h
     (0x10, 0x2020), // CALL 20h

@@ -13,7 +13,7 @@ use sym_code::{Operand, Register, Saved};
 const ADDRESSES: u32 = 512;
 
 /// The address of a byte of data memory, below 512: where its object or frame stands, and its offset more. There is none
-/// where no such object or frame stands, or where that is behind data memory.
+/// where no such object or frame stands, or where that is after data memory.
 pub fn address_of(placed: &Placed, byte: Byte) -> Option<u16>
     ensures value { result ≡ stated.address_of placed.now byte }
     ensures range { IfSome result (λ at. at < 512) }

@@ -89,7 +89,7 @@ fn put_next(
 
 /// The image of a program whose block `k` stands at `at[k]`, with everything else erased; main is the block of copy 0.
 ///
-/// Want of memory is also the answer where a block doesn't fit before the next one or within its page, and where something
+/// Out of memory is also the answer where a block doesn't fit before the next one or within its page, and where something
 /// that is named has no address. The conditions of a compiler's call exclude both.
 pub fn assemble(
     alloc: Global,

@@ -92,7 +92,7 @@ fn sum_of(blocks: &[u64]) -> u64
     blocks.iter().sum()
 }
 
-/// The address of each block, where blocks of so many words stand one behind the other from 0000h on, and
+/// The address of each block, where blocks of so many words stand one after the other from 0000h on, and
 /// one that is more than the rest of its page begins at the next page.
 pub fn pages(alloc: Global, blocks: &[u64]) -> Result<Vec<u16>, PageError>
     requires { length blocks.now < 2 ^ 32 }

@@ -83,7 +83,7 @@ impl Listing {
         self.name(buffer.format(number).as_bytes())
     }
 
-    /// The parts up to `close` stand in brackets behind the head.
+    /// The parts up to `close` stand in brackets after the head.
     pub fn open(&mut self, head: &str) -> Result<(), AllocError> {
         self.word(head)?;
         self.bytes.push(b'(')?;

@@ -1,4 +1,4 @@
-//! A text that was cut off behind each of its bytes: what is told of it follows from the line in which the cut lies.
+//! A text that was cut off after each of its bytes: what is reported of it follows from the line in which the cut lies.
 
 use crate::commands::{host_with, run, words_of};
 use crate::worked_programs::KEY;
@@ -9,7 +9,7 @@ use std::test::Fail as Failure;
 /// The lines with whose end a declaration, a function or a directive ends, up to main.
 const WHOLE: [usize; 8] = [1, 2, 3, 4, 5, 6, 10, 16];
 
-/// The lines of directives. Behind them no line is one.
+/// The lines of directives. After them no line is one.
 const DIRECTIVES: usize = 3;
 
 /// What is wrong with a text.

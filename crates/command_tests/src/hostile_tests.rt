@@ -151,7 +151,7 @@ fn files_have_limits(rt: HostRuntime) -> Result<(), Failure> {
     Ok(())
 }
 
-/// A command, what it prints without a fault, and the lines by which it tells a file that can't be read or written.
+/// A command, what it prints without a fault, and the lines by which it reports a file that can't be read or written.
 #[derive(Clone, Copy)]
 struct Command {
     line: &'static str,

@@ -16,7 +16,7 @@ pub enum Byte {
     Device { address: u8 },
 }
 
-/// An operation. A value of several bytes begins at the byte that is named and goes on at the offsets behind it,
+/// An operation. A value of several bytes begins at the byte that is named and goes on at the offsets after it,
 /// lowest byte first.
 #[derive(Drop)]
 pub enum Core {
@@ -87,7 +87,7 @@ pub enum Core {
     },
     /// The body ends.
     Leave,
-    /// These operations one behind the other.
+    /// These operations one after the other.
     Many(Vec<Core>),
     /// One of two operations: `yes` where one of so many bytes isn't 0.
     If {

@@ -7,7 +7,7 @@ use std::alloc::{AllocError, Global};
 use std::marker::Model;
 
 /// Where addresses end that a file may give bytes at: program memory is below 4000h, and the words of
-/// identification and configuration stand behind it (DS39582).
+/// identification and configuration stand after it (DS39582).
 pub const LIMIT: u16 = 0x4400;
 
 /// Bytes with their addresses, each below 4400h and with one byte at most, in the order in which they

@@ -22,10 +22,10 @@ const MEMORY_BYTES: u16 = 0x4000;
 /// Why a text gives no image. Lines are counted from 1, empty ones too.
 #[derive(Clone, Copy, Debug, PartialEq, Eq, Error)]
 pub enum HexError {
-    /// Want of memory.
+    /// Out of memory.
     #[error("no memory")]
     NoMemory,
-    /// No colon with pairs of digits behind it, or not as many bytes as the record counts; or a number of
+    /// No colon with pairs of digits after it, or not as many bytes as the record counts; or a number of
     /// data bytes that its kind doesn't have.
     #[error("line {line}: bad record")]
     BadRecord { line: u32 },
@@ -107,7 +107,7 @@ fn read_lines(alloc: Global, bytes: &[u8]) -> Result<Given, HexError>
     Err(HexError::NoEnd)
 }
 
-/// Reads a line. Answers the upper 16 bits of the addresses behind it, or `None` where it ends the file.
+/// Reads a line. Answers the upper 16 bits of the addresses after it, or `None` where it ends the file.
 fn take_line(
     alloc: Global,
     given: &mut Given,

@@ -1,4 +1,4 @@
-//! Each file, cut off behind each of its bytes: what a reader answers is told by the line in which the cut lies.
+//! Each file, cut off after each of its bytes: what a reader answers is told by the line in which the cut lies.
 
 use hex_image::{HexError, read_hex, write_hex};
 use pic_map::{MapError, read_map, write_map};
@@ -26,7 +26,7 @@ enum Answer {
     Other,
 }
 
-/// A text cut off in the line of this number, counted from 1, behind `part` of it.
+/// A text cut off in the line of this number, counted from 1, after `part` of it.
 #[derive(Clone, Copy)]
 struct Cut<'a> {
     number: u32,

@@ -219,7 +219,7 @@ fn put_start(
 /// and PCLATH kept, and ends at the label `Restore`, which gives these back. The results of main's functions and those of the
 /// handler's are different bytes, and need no keeping. The selects aren't there yet; with them the vector stands at 0004h.
 ///
-/// Want of memory is also the answer where an object has no line in `placed`, or more bytes than names have. The conditions
+/// Out of memory is also the answer where an object has no line in `placed`, or more bytes than names have. The conditions
 /// of a compiler's call exclude both.
 pub fn start_block(
     alloc: Global,

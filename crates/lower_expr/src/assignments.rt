@@ -270,7 +270,7 @@ fn given_byte(keeps: bool, old: Byte, new: Byte) -> Byte
 }
 
 /// An update of the place at `spot`, of so many bytes and this type, to which the pointer at `at` points if it is
-/// computed. Its right operand stands behind that.
+/// computed. Its right operand stands after that.
 #[inline(never)]
 #[tactic(auto, using(std::proofs::lemmas::List::append_assoc))]
 pub(crate) fn put_update(

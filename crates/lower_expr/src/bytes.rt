@@ -8,7 +8,7 @@ use c_ints::{IntTy, size};
 use c_typed::Ty;
 use core_code::Byte;
 
-/// The offset that is so many bytes behind another one, and 65,535 where there is none.
+/// The offset that is so many bytes after another one, and 65,535 where there is none.
 #[tactic(auto, using(crate::proofs::Numbers::beyond_is))]
 pub fn beyond(base: u16, bytes: u64) -> u16
     ensures { result ≡ stated.beyond base bytes }
@@ -33,7 +33,7 @@ fn result_behind(k: u8, bytes: u64) -> u8
     }
 }
 
-/// The byte that is so many bytes behind another one.
+/// The byte that is so many bytes after another one.
 pub fn behind(byte: Byte, bytes: u64) -> Byte
     ensures { result ≡ stated.behind byte bytes }
 {

@@ -2,10 +2,10 @@
 //!
 //! In: a typed expression, the function copy that it stands in, where the copy's variables stand in its frame, and the
 //! offset from which the frame is free. Out: operations that evaluate the expression, and leave its value at that offset
-//! where it is wanted, behind those that are there.
+//! where it is wanted, after those that are there.
 //! The promise: the operations are those of specs/Lowering.antt, a recursion on the tree, and without memory for them
 //! nothing is added.
-//! Values of operands stand one behind the other from that offset on. Evaluation goes from left to right: a place, then
+//! Values of operands stand one after the other from that offset on. Evaluation goes from left to right: a place, then
 //! the value that it is given, and then the store (ISO/IEC 9899:1990, 6.3, leaves the order open).
 #![tactic(auto)]
 

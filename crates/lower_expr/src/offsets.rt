@@ -94,7 +94,7 @@ fn put_moved_right(out: &mut Vec<Core>, at: Byte, size: u64) -> Result<(), Alloc
     )
 }
 
-/// A pointer and an integer, one behind the other at `at`, become the pointer that is so many elements further.
+/// A pointer and an integer, one after the other at `at`, become the pointer that is so many elements further.
 #[inline(never)]
 pub(crate) fn put_offset(
     out: &mut Vec<Core>,
@@ -124,7 +124,7 @@ fn put_quotient(out: &mut Vec<Core>, at: Byte, size: u64) -> Result<(), AllocErr
     put_operator(out, BinOp::Div, IntTy::Int, at, behind(at, 2))
 }
 
-/// Two pointers, one behind the other at `at`, become the number of elements between them. No object is as large as an
+/// Two pointers, one after the other at `at`, become the number of elements between them. No object is as large as an
 /// element whose bytes no int can count, and there the number is 0.
 #[inline(never)]
 #[tactic(auto, using(std::proofs::lemmas::List::append_assoc))]
@@ -138,7 +138,7 @@ pub(crate) fn put_difference(out: &mut Vec<Core>, at: Byte, size: u64) -> Result
     put_quotient(out, at, size)
 }
 
-/// The pointer at `at` comes to point to a member, so many bytes behind the start of what it pointed to. The number
+/// The pointer at `at` comes to point to a member, so many bytes after the start of what it pointed to. The number
 /// stands in the result bytes of the copy's root.
 #[inline(never)]
 #[tactic(auto, using(crate::proofs::Numbers::append_nothing, std::proofs::lemmas::List::append_assoc))]

@@ -1,4 +1,4 @@
-//! Operations behind those that are there.
+//! Operations after those that are there.
 //!
 //! Each operation is made in a function of its own, hence `inline(never)`: the frames of the recursion over a tree hold
 //! no operation, and a tree of thousands of levels stays within the call stack.

@@ -151,7 +151,7 @@ fn put_through(
 }
 
 /// A structure of so many bytes from one place to another; the addresses of those that are computed stand at `at`, one
-/// behind the other.
+/// after the other.
 #[inline(never)]
 pub(crate) fn put_struct(
     out: &mut Vec<Core>,

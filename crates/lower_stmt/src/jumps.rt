@@ -7,7 +7,7 @@ use std::alloc::AllocError;
 
 /// How many loops of the code stand between a statement and the loop that `break` leaves, 0 for the innermost (ISO/IEC
 /// 9899:1990, 6.6.6.3), and between it and the loop that `continue` is about (6.6.6.2). `continue` begins that loop
-/// again where `again` is set; otherwise it leaves it, since what stands behind it comes next.
+/// again where `again` is set; otherwise it leaves it, since what stands after it comes next.
 #[derive(Clone, Copy, PartialEq, Eq, Debug)]
 pub struct Jumps {
     pub leave: usize,
@@ -27,7 +27,7 @@ impl Jumps {
         }
     }
 
-    /// Those of the body of a `while`, behind which the loop begins again.
+    /// Those of the body of a `while`, after which the loop begins again.
     pub fn in_while() -> Jumps
         ensures { result ≡ jumps.in_while }
     {
@@ -49,7 +49,7 @@ impl Jumps {
         }
     }
 
-    /// Those of a segment of a switch with so many segments behind it: each of them is a loop round this one, and so is
+    /// Those of a segment of a switch with so many segments after it: each of them is a loop round this one, and so is
     /// the segment itself.
     pub fn in_segment(self, behind: usize) -> Result<Jumps, AllocError>
         ensures { IfOk result (λ inner. inner ≡ jumps.in_segment self behind) }

@@ -6,7 +6,7 @@ ghost use Rattle.lower_stmt.specs.Labels as labels;
 use c_typed::TCase;
 use std::alloc::{AllocError, Global};
 
-/// Those of the cases in order, and behind them that of `default`.
+/// Those of the cases in order, and after them that of `default`.
 pub fn labels_of(
     alloc: Global,
     cases: &[TCase],
@@ -27,7 +27,7 @@ pub fn labels_of(
     }
 }
 
-/// Whether a label stands behind so many statements.
+/// Whether a label stands after so many statements.
 pub fn has(found: &[u32], statements: usize) -> bool
     ensures { result ≡ labels.has found.now statements }
 {

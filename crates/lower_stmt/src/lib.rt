@@ -2,7 +2,7 @@
 //!
 //! In: a typed program and its copies. Out: for each copy that is no helper the code of its body, and for each static object
 //! what its bytes begin as.
-//! No call of this crate runs code. Want of memory is the only refusal.
+//! No call of this crate runs code. Out of memory is the only refusal.
 #![tactic(auto)]
 
 mod declarators;

@@ -146,7 +146,7 @@ fn put_statement(
     }
 }
 
-/// Adds the code of statements, one behind the other.
+/// Adds the code of statements, one after the other.
 #[cycle(statement)]
 #[inline(never)]
 pub fn put_statements(

@@ -1,6 +1,6 @@
 //! The parts of a switch that hold no statement (ISO/IEC 9899:1990, 6.6.4.2).
 //!
-//! A segment of the body goes from one label to the next. Each stands in a loop of its own, behind a loop that leads to
+//! A segment of the body goes from one label to the next. Each stands in a loop of its own, after a loop that leads to
 //! it; the innermost loop compares the value with the labels, and leaving so many loops there reaches the segment of that
 //! number.
 
@@ -106,7 +106,7 @@ fn otherwise_segment(found: &[u32], count: usize, default: Option<u32>) -> usize
     }
 }
 
-/// Adds what leads to the segment of the value's case, to that of `default`, or behind all of `count` segments.
+/// Adds what leads to the segment of the value's case, to that of `default`, or after all of `count` segments.
 #[inline(never)]
 #[tactic(auto, using(std::proofs::lemmas::List::append_assoc))]
 pub fn put_comparisons(
@@ -153,7 +153,7 @@ pub fn put_closed(
     put_loop(alloc, out, body)
 }
 
-/// The code behind which the next statement stands: where a segment begins, the loop of what there is.
+/// The code after which the next statement stands: where a segment begins, the loop of what there is.
 #[inline(never)]
 pub fn opened(
     alloc: Global,

@@ -37,7 +37,7 @@ impl Width {
 }
 
 /// A value that a routine works on, of as many bytes as an operand has. The first four stand in the routine's frame, one
-/// behind the other.
+/// after the other.
 #[derive(Clone, Copy, PartialEq, Eq, Debug)]
 pub enum Value {
     /// The left operand. A dividend becomes the quotient bit by bit.

@@ -11,7 +11,7 @@ use crate::steps::{Step, put_each};
 use std::alloc::AllocError;
 use sym_code::{BitOperation, FileOperation, SymBlock};
 
-/// Which way bits go, and what comes in behind them.
+/// Which way bits go, and what comes in after them.
 #[derive(Clone, Copy, PartialEq, Eq, Debug)]
 pub enum Direction {
     /// Zeros come in.

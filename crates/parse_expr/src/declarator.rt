@@ -33,7 +33,7 @@ pub fn declarator<'s>(
     named(alloc, text, last, fuel, pointers, rest)
 }
 
-/// `name { suffix }`, behind the pointers of a declarator
+/// `name { suffix }`, after the pointers of a declarator
 #[cycle(parse)]
 #[tactic(auto, unfolding(crate::specs::Reading::named_by))]
 fn named<'s>(
@@ -102,7 +102,7 @@ fn suffix<'s>(
     }
 }
 
-/// `[ cond ] "]"`, behind the bracket of an array
+/// `[ cond ] "]"`, after the bracket of an array
 #[cycle(parse)]
 #[tactic(auto, unfolding(crate::specs::Reading::array_by))]
 fn array<'s>(
@@ -139,7 +139,7 @@ fn length<'s>(
     Ok((build::array(alloc, opening, length, closing)?, rest))
 }
 
-/// `")" | "void" ")" | param { "," param } ")"`, behind the bracket of a function
+/// `")" | "void" ")" | param { "," param } ")"`, after the bracket of a function
 #[cycle(parse)]
 #[tactic(auto, unfolding(crate::specs::Reading::function_by))]
 fn function<'s>(
@@ -277,7 +277,7 @@ fn param<'s>(alloc: Global, text: &[u8], last: u32, fuel: usize, toks: &'s [Tok]
     }
 }
 
-/// `name { suffix }`, behind the specifiers and the pointers of a parameter
+/// `name { suffix }`, after the specifiers and the pointers of a parameter
 #[cycle(parse)]
 #[tactic(auto, unfolding(crate::specs::Reading::named_param_by))]
 fn named_param<'s>(
@@ -295,7 +295,7 @@ fn named_param<'s>(
     Ok((build::named_param(specs, declarator), rest))
 }
 
-/// `{ suffix }`, behind the specifiers and the pointers of a parameter
+/// `{ suffix }`, after the specifiers and the pointers of a parameter
 #[cycle(parse)]
 #[tactic(auto, unfolding(crate::specs::Reading::unnamed_by))]
 fn unnamed_param<'s>(

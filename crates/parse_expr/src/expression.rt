@@ -159,7 +159,7 @@ pub fn cond<'s>(
     Err(stopped(last, rest))
 }
 
-/// `expr ":"`, behind a condition and `?`
+/// `expr ":"`, after a condition and `?`
 #[cycle(parse)]
 #[tactic(auto, unfolding(crate::specs::Parts::choice_by))]
 fn choice<'s>(

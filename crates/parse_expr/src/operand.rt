@@ -194,7 +194,7 @@ fn post<'s>(
     }
 }
 
-/// `expr "]"`, behind the bracket of an index
+/// `expr "]"`, after the bracket of an index
 #[cycle(parse)]
 #[tactic(auto, unfolding(crate::specs::Reading::index_by))]
 fn index<'s>(
@@ -212,7 +212,7 @@ fn index<'s>(
     Ok((build::index(alloc, opening, index, closing)?, rest))
 }
 
-/// `[ expr ] ")"`, behind the bracket of a call
+/// `[ expr ] ")"`, after the bracket of a call
 #[cycle(parse)]
 #[tactic(auto, unfolding(crate::specs::Reading::call_by))]
 fn call<'s>(

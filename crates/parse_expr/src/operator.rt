@@ -22,7 +22,7 @@ use c_tree::expression::{
 use c_tree::word::{Constant, Sign};
 use std::alloc::{AllocError, Global};
 
-/// The binary operator of this level in front, and what is behind it.
+/// The binary operator of this level in front, and what is after it.
 #[tactic(auto, unfolding(crate::specs::Reader::symbol_at))]
 pub fn behind_operator<'s>(level: usize, toks: &'s [Tok]) -> Option<(Sign, &'s [Tok])>
     requires { 0 < level }
@@ -49,7 +49,7 @@ pub fn behind_operator<'s>(level: usize, toks: &'s [Tok]) -> Option<(Sign, &'s [
     }
 }
 
-/// The assignment operator in front, and what is behind it.
+/// The assignment operator in front, and what is after it.
 #[tactic(auto, unfolding(crate::specs::Reader::symbol_at))]
 fn behind_assignment<'s>(toks: &'s [Tok]) -> Option<(Sign, &'s [Tok])>
     ensures { (text : List ℕ) → Shows (λ x. (signed x.0, symbols_in text x.1.now)) result (symbol_at is_assignment (symbols_in text toks.now)) }
@@ -235,7 +235,7 @@ fn place(value: Cond) -> Result<Cast, Cond>
     }
 }
 
-/// What is assigned to where an assignment operator follows, and what is behind it; otherwise the
+/// What is assigned to where an assignment operator follows, and what is after it; otherwise the
 /// value is given back.
 #[tactic(auto, unfolding(crate::specs::Reading::target_at))]
 pub fn behind_target<'s>(value: Cond, toks: &'s [Tok]) -> Result<(Target, &'s [Tok]), Cond>

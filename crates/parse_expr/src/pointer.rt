@@ -18,7 +18,7 @@ use c_tree::expression::{Spec, Specs, Suffix};
 use c_tree::word::{Pointer, Word};
 use std::alloc::{AllocError, Global};
 
-/// The word `const` or `volatile` in front, and what is behind it.
+/// The word `const` or `volatile` in front, and what is after it.
 #[tactic(auto, unfolding(crate::specs::Reader::symbol_at))]
 fn behind_qualifier<'s>(toks: &'s [Tok]) -> Option<(Word, &'s [Tok])>
     ensures read { (text : List ℕ) → Shows (λ x. (keyed x.0, symbols_in text x.1.now)) result (symbol_at is_qualifier (symbols_in text toks.now)) }
@@ -40,7 +40,7 @@ fn behind_qualifier<'s>(toks: &'s [Tok]) -> Option<(Word, &'s [Tok])>
     }
 }
 
-/// The words `const` and `volatile` in front, and what is behind them.
+/// The words `const` and `volatile` in front, and what is after them.
 fn qualifiers<'s>(alloc: Global, toks: &'s [Tok]) -> Result<(Vec<Word>, &'s [Tok]), AllocError>
     ensures read { IfOk result (λ x. (text : List ℕ) → stars_at (symbols_in text toks.now) ≡ in_front (map keyed x.0.items) (pointers_at (symbols_in text x.1.now))) }
     ensures rest { IfOk result (λ x. length x.1.now ≤ length toks.now) }
@@ -54,7 +54,7 @@ fn qualifiers<'s>(alloc: Global, toks: &'s [Tok]) -> Result<(Vec<Word>, &'s [Tok
     Ok((found, rest))
 }
 
-/// The line of a `*` in front, and what is behind it.
+/// The line of a `*` in front, and what is after it.
 #[tactic(auto, unfolding(crate::specs::Reader::symbol_at))]
 fn behind_star<'s>(toks: &'s [Tok]) -> Option<(u32, &'s [Tok])>
     ensures read { (text : List ℕ) → Shows (λ x. (punct Star x.0, symbols_in text x.1.now)) result (symbol_at (is_punct Star) (symbols_in text toks.now)) }
@@ -69,7 +69,7 @@ fn behind_star<'s>(toks: &'s [Tok]) -> Option<(u32, &'s [Tok])>
     }
 }
 
-/// The pointers in front, each with its qualifiers, and what is behind them.
+/// The pointers in front, each with its qualifiers, and what is after them.
 pub fn pointers<'s>(alloc: Global, toks: &'s [Tok]) -> Result<(Vec<Pointer>, &'s [Tok]), AllocError>
     ensures { IfOk result (λ x. (text : List ℕ) → pointers_at (symbols_in text toks.now) ≡ (spell_pointers x.0.items, symbols_in text x.1.now)) }
 {
@@ -83,7 +83,7 @@ pub fn pointers<'s>(alloc: Global, toks: &'s [Tok]) -> Result<(Vec<Pointer>, &'s
     Ok((found, rest))
 }
 
-/// `void` and `)` in front, with the line of each, and what is behind them.
+/// `void` and `)` in front, with the line of each, and what is after them.
 #[tactic(auto, unfolding(crate::specs::Reading::void_at))]
 pub fn behind_void<'s>(toks: &'s [Tok]) -> Option<((u32, u32), &'s [Tok])>
     ensures { (text : List ℕ) → Shows (λ x. (x.0, symbols_in text x.1.now)) result (void_at (symbols_in text toks.now)) }

@@ -135,7 +135,7 @@ fn spec<'s>(alloc: Global, text: &[u8], last: u32, fuel: usize, toks: &'s [Tok])
     }
 }
 
-/// `name | [ name ] "{" member { member } "}"`, behind `struct`
+/// `name | [ name ] "{" member { member } "}"`, after `struct`
 #[cycle(parse)]
 #[tactic(auto, unfolding(crate::specs::Reading::struct_by))]
 fn structure<'s>(

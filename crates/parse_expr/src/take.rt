@@ -12,7 +12,7 @@ use c_token::{Keyword, Punct, Tok};
 use c_tree::word::Name;
 use std::alloc::{AllocError, Global};
 
-/// What a reader gives: a part of a tree, and the tokens behind it.
+/// What a reader gives: a part of a tree, and the tokens after it.
 pub type Read<'s, T> = Result<(T, &'s [Tok]), ParseError>;
 
 /// What the reader of a part that may be missing gives: None where it is.
@@ -35,7 +35,7 @@ pub fn stopped(last: u32, toks: &[Tok]) -> ParseError
     }
 }
 
-/// The line of a punctuator that has to come, and what is behind it.
+/// The line of a punctuator that has to come, and what is after it.
 #[tactic(auto, unfolding(crate::specs::Reader::punct_at))]
 pub fn punct<'s>(last: u32, wanted: Punct, toks: &'s [Tok]) -> Read<'s, u32>
     ensures { (text : List ℕ) → Gives (λ x. (x.0, symbols_in text x.1.now)) result (punct_at wanted (symbols_in text toks.now)) }
@@ -69,7 +69,7 @@ pub fn behind_punct<'s>(wanted: Punct, toks: &'s [Tok]) -> Option<(u32, &'s [Tok
     }
 }
 
-/// The line of a keyword that has to come, and what is behind it.
+/// The line of a keyword that has to come, and what is after it.
 #[tactic(auto, unfolding(crate::specs::Reader::key_at))]
 pub fn keyword<'s>(last: u32, wanted: Keyword, toks: &'s [Tok]) -> Read<'s, u32>
     ensures { (text : List ℕ) → Gives (λ x. (x.0, symbols_in text x.1.now)) result (key_at wanted (symbols_in text toks.now)) }
@@ -116,7 +116,7 @@ pub fn named(alloc: Global, text: &[u8], tok: &Tok) -> Result<Name, AllocError>
     })
 }
 
-/// A name that has to come, and what is behind it.
+/// A name that has to come, and what is after it.
 #[tactic(auto, unfolding(crate::specs::Reader::symbol_at))]
 pub fn name<'s>(alloc: Global, text: &[u8], last: u32, toks: &'s [Tok]) -> Read<'s, Name>
     ensures { Gives (λ x. (named x.0, symbols_in text.now x.1.now)) result (symbol_at is_name (symbols_in text.now toks.now)) }
@@ -163,7 +163,7 @@ pub fn specs_come(toks: &[Tok]) -> bool
     }
 }
 
-/// Whether `(` comes and specifiers behind it.
+/// Whether `(` comes and specifiers after it.
 #[tactic(auto, unfolding(crate::specs::Reader::type_opens))]
 pub fn type_opens(toks: &[Tok]) -> bool
     ensures { (text : List ℕ) → result ≡ type_opens (symbols_in text toks.now) }
@@ -174,7 +174,7 @@ pub fn type_opens(toks: &[Tok]) -> bool
     }
 }
 
-/// A name in front, and what is behind it.
+/// A name in front, and what is after it.
 #[tactic(auto, unfolding(crate::specs::Reader::symbol_at))]
 pub fn behind_name<'s>(
     alloc: Global,

@@ -16,7 +16,7 @@ use std::alloc::{AllocError, Global};
 use text_lines::{digit_value, next_line};
 use thiserror::Error;
 
-/// Which line a map file may have next. The object lines come before the frame lines, and `end` behind
+/// Which line a map file may have next. The object lines come before the frame lines, and `end` after
 /// them.
 #[derive(Clone, Copy, PartialEq, Eq, Debug)]
 pub enum Stage {
@@ -39,10 +39,10 @@ struct NameAndPlace<'a> {
 /// Why a text gives no map.
 #[derive(Debug, Drop, Error)]
 pub enum MapError {
-    /// Want of memory.
+    /// Out of memory.
     #[error("no memory")]
     NoMemory,
-    /// The first line that no map file has there, counted from 1. A missing line has the number behind
+    /// The first line that no map file has there, counted from 1. A missing line has the number after
     /// the last.
     #[error("line {line}: bad line")]
     BadLine { line: u32 },
@@ -96,7 +96,7 @@ fn read_lines(alloc: Global, bytes: &[u8]) -> Result<Map, MapError>
     }
 }
 
-/// Reads a line into the map, and answers which stage comes behind it.
+/// Reads a line into the map, and answers which stage comes after it.
 #[tactic(auto, unfolding(crate::specs::Reading::after_line))]
 pub fn take_line(
     alloc: Global,
@@ -224,7 +224,7 @@ fn frame(alloc: Global, root: Root, text: &[u8]) -> Result<Option<FrameLine>, Al
     }))
 }
 
-/// The address behind a word, below 2000h.
+/// The address after a word, below 2000h.
 #[tactic(auto, unfolding(crate::specs::Reading::point_of, text_lines::specs::Front::after))]
 fn point(word: &[u8], line: &[u8]) -> Option<u16>
     ensures { result ≡ reading.point_of word.now line.now }
@@ -276,7 +276,7 @@ fn is_name_byte(byte: u8) -> bool
     byte.is_ascii_alphanumeric() || byte == b'_' || byte == b'.' || byte == b'$'
 }
 
-/// Behind a name: a space, an address below 200h, a space and a size.
+/// After a name: a space, an address below 200h, a space and a size.
 #[tactic(auto, unfolding(crate::specs::Reading::place_of))]
 fn place(tail: &[u8]) -> Option<(u16, u16)>
     ensures { result ≡ reading.place_of tail.now }

@@ -92,7 +92,7 @@ fn root_word(root: Root) -> &'static [u8]
     }
 }
 
-/// The rest of a line behind the name, with its LF.
+/// The rest of a line after the name, with its LF.
 #[tactic(auto, using(crate::proofs::Decimals::number_is_decimal, crate::proofs::Written::place_parts))]
 fn push_place(text: &mut Vec<u8>, address: u16, size: u16) -> Result<(), AllocError>
     requires { size < 1000 }

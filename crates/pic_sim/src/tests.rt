@@ -81,7 +81,7 @@ impl Board for Stubborn {
     }
 }
 
-/// How a run over a board ended, the chip behind it, and its events.
+/// How a run over a board ended, the chip after it, and its events.
 #[derive(Drop)]
 struct Ran {
     end: SimEnd,

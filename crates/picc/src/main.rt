@@ -2,7 +2,7 @@
 //!
 //! In: the words of the command line. Out: an exit status.
 //! The promise: it is that of the top call of picc_cli, over the real files and the standard output, and over a board that
-//! follows scripts. It ends with 9 where memory for one of these is wanting.
+//! follows scripts. It ends with 9 where memory for one of these runs out.
 #![tactic(auto)]
 
 use host_io::RealHost;
@@ -10,7 +10,7 @@ use pic_sim::{Board, ScriptBoard};
 use std::process::ExitCode;
 use std::{env, io};
 
-/// The words behind the program's name.
+/// The words after the program's name.
 fn words(rt: &HostRuntime) -> io::Result<Vec<String>> {
     let mut words = Vec::new(rt.alloc());
     for word in env::args(rt)?.skip(1) {

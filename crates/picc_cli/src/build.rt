@@ -56,7 +56,7 @@ fn map_of(alloc: Global, assignments: &[Assignment]) -> Result<Map, AllocError>
     })
 }
 
-/// The address of the jump behind the last assignment.
+/// The address of the jump after the last assignment.
 fn halt_address(assignments: &[Assignment]) -> u16
     requires { length assignments.now ≤ 146 }
     ensures { result ≡ halt_of assignments.now }

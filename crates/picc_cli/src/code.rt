@@ -11,7 +11,7 @@ use pic_chip::Image;
 use pic_isa::{Ins, encode};
 use std::alloc::{AllocError, Global};
 
-/// Where main's code begins: behind the interrupt vector at 0004h.
+/// Where main's code begins: after the interrupt vector at 0004h.
 pub const MAIN: u16 = 5;
 
 /// The image of a program: a jump from reset to main, a return at the interrupt vector, three words for each

@@ -69,7 +69,7 @@ const LARGEST: u32 = 64;
 /// The command `build IN OUT MAP`, `trace IN SCRIPT M`, `sim HEX MAP SCRIPT N`, `agree IN SCRIPT N` or `gen K`, or
 /// `None` where the words are of no form. No word is empty or begins with `-`, and the three names of a build differ. A
 /// number is one to ten decimal digits: M and the N of `sim` are at most 1,000,000, the N of `agree` is at most 100,000,
-/// and K is 1 to 64. `Err` is want of memory.
+/// and K is 1 to 64. `Err` is out of memory.
 pub fn command_of(alloc: Global, words: &[String]) -> Result<Option<Command<'_>>, AllocError>
     ensures { IfOk result (λ command. option_map form_view command ≡ form_of (words_of words.now)) }
 {
@@ -95,7 +95,7 @@ fn command_found<'a>(matches: &ArgMatches<'a>) -> Option<Command<'a>>
     }
 }
 
-/// The command of this name with these words behind it.
+/// The command of this name with these words after it.
 #[tactic(auto, unfolding(crate::specs::Command::form_by_name))]
 fn command_in<'a>(name: &str, values: &[&'a str]) -> Option<Command<'a>>
     ensures { option_map form_view result ≡ form_by_name (name.now ∷ map (λ v. v.now) values.now) }

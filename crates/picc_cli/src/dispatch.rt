@@ -21,11 +21,11 @@ use std::alloc::Global;
 const USAGE: &str =
     "usage: picc build IN OUT MAP | trace IN SCRIPT M | sim HEX MAP SCRIPT N | agree IN SCRIPT N | gen K\n";
 
-/// Runs the command of these words, which are those behind the program's name, over a host on which no file is open.
+/// Runs the command of these words, which are those after the program's name, over a host on which no file is open.
 /// The answer is the exit status: 0 where the command did what its form says, 1 where the C text is refused, 2 where
 /// the words are of no form, 3 for a fault of the host, 4 where a step of a trace or of a comparison is undefined, 5 where
-/// a HEX file, a map or a script is none, 6 where a simulation comes to SLEEP or to a word that is no instruction's, 9 for
-/// want of memory.
+/// a HEX file, a map or a script is none, 6 where a simulation comes to SLEEP or to a word that is no instruction's, 9 when
+/// out of memory.
 ///
 /// The forms are five. `build IN OUT MAP` compiles the C text of IN, writes the HEX to OUT and then the map to
 /// MAP, and prints nothing. No file is created before all else has succeeded. `trace IN SCRIPT M` runs the C text of IN by

@@ -6,7 +6,7 @@ ghost use Rattle.picc_cli.specs.Generated as spec;
 use crate::refusal::push_counted;
 use std::alloc::{AllocError, Global};
 
-/// The text of a program of so many small functions, which main calls one behind the other. It can be of any size.
+/// The text of a program of so many small functions, which main calls one after the other. It can be of any size.
 #[tactic(auto, using(crate::proofs::Generated::whole))]
 pub fn generate(alloc: Global, functions: u32) -> Result<Vec<u8>, AllocError>
     ensures { IfOk result (λ text. text.items ≡ spec.generated functions) }

@@ -21,7 +21,7 @@ pub fn hex_line(error: &HexError) -> u32
     }
 }
 
-/// What stands behind the line's number.
+/// What stands after the line's number.
 pub fn hex_text(alloc: Global, error: &HexError) -> Result<Vec<u8>, AllocError>
     ensures { IfOk result (λ text. text.items ≡ stated.hex_text error.now) }
 {

@@ -41,7 +41,7 @@ pub fn all_names(words: &[String]) -> bool
 }
 
 /// Parses words by one command with five subcommands, whose arguments are all positional texts: the subcommand's name and
-/// the words behind it, or `None` where they are of no form. `Err` is want of memory.
+/// the words after it, or `None` where they are of no form. `Err` is out of memory.
 pub fn parsed<'a>(alloc: Global, words: &'a [String]) -> Result<Option<ArgMatches<'a>>, AllocError>
     requires { list_all stated.is_name (words_of words.now) ≡ true }
     ensures { IfOk result (λ found. MatchOption found (form_by_name (words_of words.now) ≡ None) (λ m. words_found m ≡ words_of words.now)) }

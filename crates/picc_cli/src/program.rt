@@ -1,7 +1,7 @@
 //! The programs whose HEX is proved to do what they say: constants to ports.
 //!
 //! A program is `void main(void){`, then at most 146 assignments `REG=N;`, then `}`, and at most one line feed
-//! behind it. REG is one of PORTA to PORTE and TRISA to TRISE, and N a number from 0 to 255 in decimal, without
+//! after it. REG is one of PORTA to PORTE and TRISA to TRISE, and N a number from 0 to 255 in decimal, without
 //! leading zeros. No other byte stands in the text.
 
 ghost use Rattle.std.specs.Prelude.{◌≡◌, ◌<◌, ◌≤◌, ◌++◌, ◌∷◌, ◌⊎◌, ℕ, List, length, codes, IfOk, IfSome, IfNone, IsTrue, ◌↔◌, ◌+◌, ◌/◌, ◌%◌};
@@ -70,7 +70,7 @@ fn read_beginning(text: &[u8]) -> Option<&[u8]>
     }
 }
 
-/// What may stand behind the assignments.
+/// What may stand after the assignments.
 fn is_end(text: &[u8]) -> bool
     ensures { IsTrue result ↔ IsEnd text.now }
 {
@@ -92,7 +92,7 @@ fn read_assignments(alloc: Global, text: &[u8]) -> Result<(Vec<Assignment>, &[u8
     Ok((assignments, rest))
 }
 
-/// The assignment at the front, and what stands behind it.
+/// The assignment at the front, and what stands after it.
 fn read_assignment(text: &[u8]) -> Option<(Assignment, &[u8])>
     ensures found { IfSome result (λ found. IsFine found.0 × (text.now ≡ assignment_text found.0 ++ found.1.now)) }
     ensures none { IfNone result (HasNoAssignment text.now) }
@@ -126,7 +126,7 @@ fn read_side(text: &[u8]) -> Option<(Side, &[u8])>
     }
 }
 
-/// A number from 0 to 255 and the `;` behind it.
+/// A number from 0 to 255 and the `;` after it.
 fn read_number(text: &[u8]) -> Option<(u8, &[u8])>
     ensures found { IfSome result (λ found. text.now ≡ number_text found.0 ++ 59 ∷ found.1.now) }
     ensures none { IfNone result ((n : ℕ) (rest : List ℕ) → n < 256 → text.now ≡ number_text n ++ 59 ∷ rest → ⊥) }

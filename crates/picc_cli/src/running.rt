@@ -99,7 +99,7 @@ fn take_step<H: Host>(
     }
 }
 
-/// Prints the line of an event. A cell without a name has none, and gives up as if memory were wanting; no run of a
+/// Prints the line of an event. A cell without a name has none, and gives up as if out of memory; no run of a
 /// program comes to one.
 pub fn print_event<H: Host>(
     alloc: Global,

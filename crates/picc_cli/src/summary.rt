@@ -22,7 +22,7 @@ struct Sizes {
     depth: u8,
 }
 
-/// Prints the program of so many functions, 1 to 64, and behind it a comment with its sizes. The answer is the exit
+/// Prints the program of so many functions, 1 to 64, and after it a comment with its sizes. The answer is the exit
 /// status.
 pub fn print_generated<H: Host>(alloc: Global, host: &mut H, functions: u32) -> u8
     requires closed { H.open_file host.old ≡ Closed }
@@ -52,7 +52,7 @@ fn summed(alloc: Global, functions: u32) -> Result<Vec<u8>, AllocError>
     Ok(text)
 }
 
-/// The sizes of a program. One that is refused has none, and gives up as if memory were wanting; none that is generated is.
+/// The sizes of a program. One that is refused has none, and gives up as if out of memory; none that is generated is.
 fn sizes_of(alloc: Global, text: &[u8]) -> Result<Sizes, AllocError>
     ensures sizes { IfOk result (λ sizes. AreSizes text.now sizes.words sizes.ram sizes.depth) }
 {

@@ -28,7 +28,7 @@ pub enum Agreed {
 ///
 /// `Undefined` comes where that run meets an undefined step, or where for some moment m up to the one that counts the source
 /// run under the arrivals up to m has an undefined step among its first `(m + 1) * nodes` that begins while its trace is no
-/// longer than the chip's at m. The first one is told, by rising m, and the run itself last. Otherwise `Same` has the length
+/// longer than the chip's at m. The first one is reported, by rising m, and the run itself last. Otherwise `Same` has the length
 /// of the chip's trace at the moment that counts.
 pub fn agree(alloc: Global, built: &Built, script: &Script, n: u32) -> Result<Agreed, AllocError>
     requires moments { n < 2 ^ 31 }
@@ -51,7 +51,7 @@ fn steps_at(built: &Built, moment: u32) -> u64 {
 /// The first undefined step, by rising moments, and last in the run itself.
 ///
 /// Between two arrivals the schedule is the same, and the steps that count grow with the moment. So of the moments before
-/// the last one those directly before an arrival suffice. Up to the event behind which the arrival falls, the run under the
+/// the last one those directly before an arrival suffice. Up to the event after which the arrival falls, the run under the
 /// earlier arrivals is the run under all of them. So there is one run, under all arrivals; and from the place of an arrival
 /// a second run goes on without it, up to its next event.
 fn first_fault(
@@ -79,8 +79,8 @@ fn first_fault(
 }
 
 /// The moment directly before the arrival of this number. `None` where that has nothing of its own: at reset; where another
-/// arrival comes with it, and stands before it; and where the instruction behind that moment makes an event. Then this arrival
-/// makes a difference only behind the steps that count, and these count for the next moment that is looked at too.
+/// arrival comes with it, and stands before it; and where the instruction after that moment makes an event. Then this arrival
+/// makes a difference only after the steps that count, and these count for the next moment that is looked at too.
 ///
 /// A script's arrivals are in order, and so are the lengths at which they come: each length stands at its arrival's place.
 fn moment_before(script: &Script, off: &Off, number: usize) -> Option<u32> {
@@ -161,7 +161,7 @@ impl<'a> Search<'a> {
         }
     }
 
-    /// Goes on until the trace has this length, or to the end; or tells the undefined step that is met before.
+    /// Goes on until the trace has this length, or to the end; or reports the undefined step that is met before.
     fn go_to(&mut self, length: u64) -> Option<Fault> {
         for _ in self.run.steps..self.most.saturating_mul(2) {
             if self.run.events >= length || self.is_over() {

@@ -8,7 +8,7 @@ use pic_world::Root;
 use std::alloc::{AllocError, Global};
 
 /// Where a copy's block stands: the copies of main's root first, within a root the functions in order of definition,
-/// and the helpers behind them.
+/// and the helpers after them.
 #[derive(Clone, Copy, PartialEq, Eq, PartialOrd, Ord, Debug)]
 pub struct Rank {
     is_handlers: bool,

@@ -75,7 +75,7 @@ fn checked(built: Built) -> Result<Built, CompileError>
     }
 }
 
-/// What a text is compiled to, or the first refusal that holds of it, as `front` tells it.
+/// What a text is compiled to, or the first refusal that holds of it, as `front` reports it.
 pub fn compile(alloc: Global, text: &[u8]) -> Result<Built, CompileError>
     // A text over 262,144 bytes is refused so.
     ensures text_limit { 262144 < length text.now → result ≡ Err (Refused (refusals.Limit kinds.Text 0)) }

@@ -67,7 +67,7 @@ fn in_code_order(mut blocks: Vec<SymBlock>, copies: &Copies) -> Result<Vec<SymBl
     Ok(blocks)
 }
 
-/// The symbolic code of a program without selects: the start block, and behind it the blocks of the copies in the order of code.
+/// The symbolic code of a program without selects: the start block, and after it the blocks of the copies in the order of code.
 pub fn joined(
     alloc: Global,
     core: &CoreProgram,

@@ -1,4 +1,4 @@
-//! All passes of the compiler, one behind the other.
+//! All passes of the compiler, one after the other.
 //!
 //! In: the bytes of a C text. Out: its typed tree, the copies of its functions, where objects, frames and blocks of code
 //! stand, and how many words they are stated to have; or the first of all refusals that hold of the text. And of a built program

@@ -37,7 +37,7 @@ pub(crate) enum StretchEnd {
     Open,
 }
 
-/// A stretch of main: its steps behind so many of its events, up to the next one. So many of them are known to be defined.
+/// A stretch of main: its steps after so many of its events, up to the next one. So many of them are known to be defined.
 #[derive(Clone, Copy, PartialEq, Eq, Debug)]
 pub(crate) struct Stretch {
     pub behind: u64,
@@ -144,7 +144,7 @@ impl<'a> SourceRun<'a> {
     /// What main does from one of its events to the next depends on its own variables and on constants alone. The handler
     /// changes neither: an access to a variable of main is undefined there. And what belongs to the handler lives no longer
     /// when main goes on. So the stretch is the same in each run that is the same up to its first event, whatever runs of
-    /// the handler lie in between. While main makes no event no flag changes. So behind a step of main without an event
+    /// the handler lie in between. While main makes no event no flag changes. So after a step of main without an event
     /// no run of the handler begins before main's next event.
     pub fn is_in(&self, stretch: Stretch) -> bool {
         self.local && self.behind == stretch.behind

@@ -2,7 +2,7 @@
 //!
 //! In: the words of the command line, `picc_show IN`. Out: the typed tree, the byte code and the symbolic code of the text in
 //! the file IN, in the notation of the crate code_text, on standard output, and an exit status: 0; 1 if the compiler refuses
-//! the text, for the reason that `picc build` tells; 2 for other words; 3 if the file can't be read or the text not be
+//! the text, for the reason that `picc build` reports; 2 for other words; 3 if the file can't be read or the text not be
 //! printed; 9 without memory.
 #![tactic(auto)]
 

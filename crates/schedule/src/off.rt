@@ -69,7 +69,7 @@ impl Run {
         }
     }
 
-    /// Runs the instruction behind a boundary.
+    /// Runs the instruction after a boundary.
     fn step(&mut self, image: &Image, script: &Script, boundary: Boundary) -> StepEnd
         requires { self.old.chip.index < 2 ^ 40 }
         ensures index { self.new.chip.index ≤ self.old.chip.index + 1 }
@@ -141,7 +141,7 @@ impl<'a> Watched<'a> {
         self.events += count(self.tracer.at(self.run.chip.pc()));
     }
 
-    /// Runs the instruction behind a moment at which these flags arrive. Where the model goes no further nothing is counted.
+    /// Runs the instruction after a moment at which these flags arrive. Where the model goes no further nothing is counted.
     fn step(&mut self, image: &Image, script: &Script, mask: u16)
         requires index { self.old.run.chip.index < 2 ^ 40 }
         requires events { self.old.events + 2 < 2 ^ 32 }
@@ -243,7 +243,7 @@ fn read_at(
     })
 }
 
-/// Goes on with what is read off from the moment before to this one, and answers the arrivals behind it; those of earlier
+/// Goes on with what is read off from the moment before to this one, and answers the arrivals after it; those of earlier
 /// moments aren't among the ones that are left.
 fn take_moment<'a>(
     reading: &mut Reading,
@@ -263,7 +263,7 @@ fn take_moment<'a>(
     Ok(behind)
 }
 
-/// Puts the arrivals at a moment, where the trace has so many events, and answers those behind it. What is read off so far is
+/// Puts the arrivals at a moment, where the trace has so many events, and answers those after it. What is read off so far is
 /// that of the moment before. The arrivals are in order, so those at this moment are the first that are left.
 fn put_arrivals<'a>(
     reading: &mut Reading,

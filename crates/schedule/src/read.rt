@@ -13,7 +13,7 @@ use thiserror::Error;
 /// Why a text gives no script.
 #[derive(Debug, Drop, Error)]
 pub enum ScriptError {
-    /// Want of memory.
+    /// Out of memory.
     #[error("no memory")]
     NoMemory,
     /// The first line that no script file has there, counted from 1.
@@ -101,7 +101,7 @@ fn put_bytes(input: &mut Vec<u8>, digits: &[u8]) -> Result<bool, AllocError>
     }
 }
 
-/// The byte whose space and two digits stand at the front, and what stands behind them.
+/// The byte whose space and two digits stand at the front, and what stands after them.
 #[tactic(auto, unfolding(crate::specs::Reading::byte_at_front))]
 fn byte_at_front(text: &[u8]) -> Option<(u8, &[u8])>
     ensures none { IfNone result (reading.byte_at_front text.now ≡ None) }
@@ -200,7 +200,7 @@ fn time(digits: &[u8]) -> Option<u32>
     Some(number)
 }
 
-/// The flag whose name stands behind a space.
+/// The flag whose name stands after a space.
 fn flag(tail: &[u8]) -> Option<Flag>
     ensures { result ≡ reading.flag_in tail.now }
 {

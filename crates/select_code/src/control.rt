@@ -29,7 +29,7 @@ pub enum Ending {
 /// Selection for the operations that are neither byte-sized nor control: `Address`, `Load`, `Store`, `Unary`, `Binary`, and
 /// a `Convert` to a type of more bytes.
 pub trait Wide {
-    /// What is appended behind so many instructions for an operation, with what stands before it in the same `Many`.
+    /// What is appended after so many instructions for an operation, with what stands before it in the same `Many`.
     ghost code: { Self → ℕ → List Tree → Tree → List Sym };
 
     /// Appends the code of such an operation. `before` has what stands before it in the same `Many`.

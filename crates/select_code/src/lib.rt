@@ -1,6 +1,6 @@
 //! Instruction selection for operations on single bytes, and for all control.
 //!
-//! In: operations of structured byte code, and the block that their code goes to. Out: the block with that code behind
+//! In: operations of structured byte code, and the block that their code goes to. Out: the block with that code after
 //! what it had.
 //! The promise: nothing but appending. The one recursion over control serves other operations too, by what is given for
 //! them.

@@ -31,7 +31,7 @@ fn bit_of_flag(flag: Flag) -> u8
     }
 }
 
-/// The byte so many offsets behind another one. Offsets end at their type's largest number.
+/// The byte so many offsets after another one. Offsets end at their type's largest number.
 pub fn behind(byte: Byte, count: u8) -> Byte
     ensures { result ≡ byte_behind byte count }
 {

@@ -38,7 +38,7 @@ fn place_of(list: &[FnCopy], root: Root, helper: Helper) -> Option<usize>
     list.iter().position(|copy| is_copy_of(root, helper, copy))
 }
 
-/// The number of a helper's copy under a root. Where there is none, want of memory.
+/// The number of a helper's copy under a root. Where there is none, out of memory.
 pub fn copy_of(list: &[FnCopy], root: Root, helper: Helper) -> Result<u16, AllocError>
     ensures { IfOk result (λ number. copy_of list.now root helper ≡ Some number) }
 {
@@ -55,7 +55,7 @@ fn put_enter(copy: u16, out: &mut SymBlock) -> Result<(), AllocError>
     out.put(Sym::Call(Target::Block(BlockName::Copy(copy))))
 }
 
-/// A call of the helper whose copy has this number, under a root. Its frame begins with the left operand and, behind it,
+/// A call of the helper whose copy has this number, under a root. Its frame begins with the left operand and, after it,
 /// so many bytes of the right one.
 pub fn put_helper_call(
     copy: u16,

@@ -58,7 +58,7 @@ pub fn is_same(byte: Byte, other: Byte) -> bool
     }
 }
 
-/// The byte so many offsets behind another one, for counts of two bytes. Offsets end at their type's largest number.
+/// The byte so many offsets after another one, for counts of two bytes. Offsets end at their type's largest number.
 pub fn behind_far(byte: Byte, count: u16) -> Byte
     ensures { result ≡ byte_behind byte count }
 {

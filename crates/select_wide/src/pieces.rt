@@ -1,4 +1,4 @@
-//! Instructions by their form, put behind a block, and the few that operations share.
+//! Instructions by their form, put after a block, and the few that operations share.
 
 ghost use Rattle.std.specs.Prelude.{◌≡◌, ◌++◌, ◌<◌, OnOk};
 ghost use Rattle.select_wide.specs.Pieces.{register_code, register_store_code, literal_code, if_bit_code, pair_code, choice_code, truth_code, sign_code};

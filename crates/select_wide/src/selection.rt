@@ -325,7 +325,7 @@ fn blocks_of(alloc: Global, bodies: &[Body], list: &[FnCopy]) -> Result<Vec<SymB
 
 /// The blocks of all copies that are no helpers, in the order of the copies, each from the body with its number. The
 /// copies are those of the program: each copy that is no helper has a body, and each operation for a helper has that
-/// helper's copy under the root of its body. What is missing is answered as want of memory.
+/// helper's copy under the root of its body. What is missing is answered as out of memory.
 pub fn select(alloc: Global, p: &CoreProgram, copies: &Copies) -> Result<SymProgram, AllocError>
     ensures blocks { IfOk result (λ code. views_of code.blocks.items ≡ blocks_from p.now.bodies.items copies.now.list.items 0 copies.now.list.items) }
 {

@@ -237,7 +237,7 @@ fn refused(rt: HostRuntime) -> Result<(), Fail> {
     Ok(())
 }
 
-/// A chain of functions f1 to fK behind main, the last with this body, and this behind it.
+/// A chain of functions f1 to fK after main, the last with this body, and this after it.
 fn chain(alloc: Global, k: usize, body: &str, back: &str) -> Result<String, AllocError> {
     let mut text = String::new(alloc);
     for i in 0..k {

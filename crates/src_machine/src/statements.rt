@@ -182,7 +182,7 @@ impl<'a> Machine<'a> {
         }
     }
 
-    /// The end of a statement. Main ends with an event; a function ends without a value; behind the handler
+    /// The end of a statement. Main ends with an event; a function ends without a value; after the handler
     /// what it interrupted goes on.
     pub(crate) fn proceed(&mut self) -> Outcome {
         let Some(top) = self.stack.pop() else {

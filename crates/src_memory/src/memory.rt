@@ -196,7 +196,7 @@ impl Memory {
         }
     }
 
-    /// A byte of an object, so many bytes behind its start.
+    /// A byte of an object, so many bytes after its start.
     pub(crate) fn get(&self, slot: Slot, offset: u64) -> Byte {
         match self
             .bytes

@@ -4,7 +4,7 @@
 use crate::objects::{Byte, CopyOf, Datum, ReadBytes, Spot};
 use c_typed::{TArm, TExpr, TItem, TPlace, TStmt, Ty};
 
-/// Where a statement stands: in a list, by its number; behind an `else` or in a loop; or in an arm of an `if`,
+/// Where a statement stands: in a list, by its number; after an `else` or in a loop; or in an arm of an `if`,
 /// by the arm's number.
 #[derive(Clone, Copy)]
 pub enum Code<'a> {
@@ -154,7 +154,7 @@ pub enum Stage {
     Turns,
     /// The condition of the arm of this number.
     Picks(usize),
-    /// The statement of the arm before the one of this number, or the one behind the last `else`.
+    /// The statement of the arm before the one of this number, or the one after the last `else`.
     InArm(usize),
     /// The comparison with labels.
     Chooses,

@@ -19,7 +19,7 @@ pub enum Object {
     Variable { copy: CopyOf, number: u32 },
 }
 
-/// A pointer: null, or so many bytes behind the start of an object, up to the byte just past its end.
+/// A pointer: null, or so many bytes after the start of an object, up to the byte just past its end.
 #[derive(Clone, Copy)]
 pub enum Pointer {
     Null,

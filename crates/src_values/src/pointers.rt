@@ -29,7 +29,7 @@ fn elements_between(f: u64, g: u64, size: u64) -> Datum {
     number(IntTy::Int, bits)
 }
 
-/// The byte so many behind the start of an object.
+/// The byte so many after the start of an object.
 pub fn behind(object: Object, offset: u64) -> Spot {
     Spot::Memory(Pointer::Into { object, offset })
 }

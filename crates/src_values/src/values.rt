@@ -327,7 +327,7 @@ pub fn is_postfix(op: StepOp) -> bool {
     }
 }
 
-/// The value of an expression behind the write of its place: what the place holds afterwards, or the old value.
+/// The value of an expression after the write of its place: what the place holds afterwards, or the old value.
 pub fn answer_of(expr: &TExpr, spot: Spot, value: Datum) -> Datum {
     match expr {
         TExpr::Step { op, .. } if is_postfix(*op) => value,

@@ -1,6 +1,6 @@
 //! Text files line by line.
 //!
-//! In: the bytes of a text. Out: its first line and what stands behind it, and the numbers of digits.
+//! In: the bytes of a text. Out: its first line and what stands after it, and the numbers of digits.
 //! The promise: line after line, exactly the lines of the text by their definition.
 #![tactic(auto)]
 
@@ -8,7 +8,7 @@ ghost use Rattle.std.specs.Prelude.{◌≡◌, ◌<◌, ◌≤◌, ◌+◌, ◌�
 ghost use Rattle.text_lines.specs.Text.{lines_of, digit_value as value_of, without_cr};
 ghost use Rattle.text_lines.specs.Front.{line_length};
 
-/// The first line, without its end, and what stands behind it. A line ends at LF or at the end of the
+/// The first line, without its end, and what stands after it. A line ends at LF or at the end of the
 /// text, and a CR before that end is no part of it.
 #[tactic(auto, using(crate::proofs::Cutting::first_of, crate::proofs::Cutting::rest_whole))]
 pub fn next_line(bytes: &[u8]) -> Option<(&[u8], &[u8])>
