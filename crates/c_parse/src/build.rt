@@ -337,7 +337,7 @@ pub fn function(specs: Specs, declarator: Declarator, body: Block) -> Item
     })
 }
 
-/// A declaration outside functions (ISO/IEC 9899:1990, 6.7.2).
+/// A declaration outside functions (ISO/IEC 9899:1990, 6.7).
 pub fn declared_item(declaration: Declaration) -> Item
     ensures { item_of result ≡ tree.Declaration (declaration_of declaration) }
 {

@@ -1,4 +1,4 @@
-//! Each file, cut off after each of its bytes: what a reader answers is told by the line in which the cut lies.
+//! Each file, cut off after each of its bytes: what a reader answers follows from the line in which the cut lies.
 
 use hex_image::{HexError, read_hex, write_hex};
 use pic_map::{MapError, read_map, write_map};

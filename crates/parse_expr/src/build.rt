@@ -294,7 +294,7 @@ pub fn specs(first: Spec, others: Vec<Spec>) -> Specs
     Specs { first, others }
 }
 
-/// A keyword as a specifier (ISO/IEC 9899:1990, 6.5.1 to 6.5.3).
+/// A keyword as a specifier: one of ISO/IEC 9899:1990, 6.5.1 to 6.5.3, or `interrupt`.
 #[tactic(auto, using(c_tree::proofs::Shapes::show_spec_word))]
 pub fn word_spec(word: Word) -> Spec
     ensures { spec_of result ≡ tree.OneWord (keyed word) }

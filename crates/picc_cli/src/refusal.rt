@@ -1,4 +1,4 @@
-//! The line that tells why a text is refused.
+//! The line that reports why a text is refused.
 
 ghost use Rattle.std.specs.Prelude.{◌≡◌, ◌++◌, codes, decimal, IfOk, OnOk};
 ghost use Rattle.picc_cli.specs.Refusals as stated;
