@@ -1,0 +1,5 @@
+mod Lists
+mod Prices
+mod Facts
+mod Holding
+mod Banks
