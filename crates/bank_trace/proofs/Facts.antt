@@ -29,6 +29,12 @@ state_next own state [] j s e = absurd (none-some s e)
 state_next own state (x ∷ list) zero s e = state_zero own (seen own state x) list ∙ ap (seen own state) (same_Some x s e)
 state_next own state (x ∷ list) (suc j) s e = state_next own (seen own state x) list j s e
 
+-- behind the end nothing more is learned
+pub state_past : (own : BlockName) (state : State) (list : List Sym) (j : ℕ) → slice_get list j ≡ None → state_at own state list (suc j) ≡ state_at own state list j
+state_past own state [] j e = refl
+state_past own state (x ∷ list) zero e = absurd (none-some x (sym e))
+state_past own state (x ∷ list) (suc j) e = state_past own (seen own state x) list j e
+
 pub passes_at : (test : Known → Sym → Bool) (own : BlockName) (state : State) (list : List Sym) (j : ℕ) (s : Sym) → all_pass test own state list ≡ true → slice_get list j ≡ Some s → test (state_at own state list j).known s ≡ true
 passes_at test own state [] j s p e = absurd (none-some s e)
 passes_at test own state (x ∷ list) zero s p e = subst (λ y. test state.known y ≡ true) (same_Some x s e) (first (test state.known x) (all_pass test own (seen own state x) list) p)

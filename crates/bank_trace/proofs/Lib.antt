@@ -3,3 +3,6 @@ mod Prices
 mod Facts
 mod Holding
 mod Banks
+mod Sites
+mod Access
+mod Places
