@@ -80,11 +80,11 @@ holds_learned pages own known (syms.SelectPage High target) b h = record { rp0 =
 holds_learned pages own known s b h = h
 
 -- ---- what is found
-both_first : (a b : Bool) → (a && b) ≡ true → a ≡ true
+pub both_first : (a b : Bool) → (a && b) ≡ true → a ≡ true
 both_first true b e = refl
 both_first false b e = e
 
-both_last : (a b : Bool) → (a && b) ≡ true → b ≡ true
+pub both_last : (a b : Bool) → (a && b) ≡ true → b ≡ true
 both_last true b e = e
 both_last false b e = never e
 

@@ -6,3 +6,7 @@ mod Banks
 mod Sites
 mod Access
 mod Places
+mod Twins
+mod Rows
+mod Jumps
+mod Instructions
