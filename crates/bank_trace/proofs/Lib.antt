@@ -10,3 +10,4 @@ mod Twins
 mod Rows
 mod Jumps
 mod Instructions
+mod Joints
