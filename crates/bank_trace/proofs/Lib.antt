@@ -11,3 +11,5 @@ mod Rows
 mod Jumps
 mod Instructions
 mod Joints
+mod Steps
+mod Leads
