@@ -13,3 +13,4 @@ mod Instructions
 mod Joints
 mod Steps
 mod Leads
+mod Moments

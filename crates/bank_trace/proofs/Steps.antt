@@ -39,10 +39,10 @@ abbrev pub banked_prices : Prices
 banked_prices = most_prices one_each
 
 -- The code without selects stops; or both rest, or both go on. With its selects, and those that were passed, the step costs no
--- more at most, and no less at least.
+-- more at most, and no less at least. Where both rest, no select was passed.
 pub data Outcome (x : Site) (f g : Next) (most banked_most least banked_least before : ℕ) : Type 0 where
   Halted : f ≡ Stops → Outcome x f g most banked_most least banked_least before
-  Rested : f ≡ Still → g ≡ Still → banked_most + before ≤ most → least ≤ banked_least → Outcome x f g most banked_most least banked_least before
+  Rested : before ≡ 0 → f ≡ Still → g ≡ Still → banked_most + before ≤ most → least ≤ banked_least → Outcome x f g most banked_most least banked_least before
   Moved : (j : Joint) → IsFineJoint x j → f ≡ Goes (plain_machine x j) → g ≡ Goes (banked_machine j) → banked_most + before ≤ most → least ≤ banked_least → Outcome x f g most banked_most least banked_least before
 
 outcome_of : (x : Site) (f g : Next) (most banked_most least banked_least before : ℕ) → banked_most + before ≤ most → least ≤ banked_least → Both x f g → Outcome x f g most banked_most least banked_least before
@@ -81,7 +81,7 @@ no_word g inside p th m None e = refl
 no_word g inside p th m (Some (syms.Label label)) e = refl
 no_word g inside p th m (Some s) e = never (sym e)
 
-stuck_stops : (g : Setting) (o : Outside) (t : Machine) (e : Effect) → e ≡ Stuck → acted g o t e ≡ Stops
+pub stuck_stops : (g : Setting) (o : Outside) (t : Machine) (e : Effect) → e ≡ Stuck → acted g o t e ≡ Stops
 unfolding acted
 stuck_stops g o t e is = ap (acted g o t) is
 
@@ -158,7 +158,7 @@ module _ (x : Site) (sound : IsSound x) (o : Outside) (j : Joint) (fine : IsFine
     -- main has ended
     ended : (th tv : Thread) (i : Bool) → Outcome x (acted (plain_setting x) o (plain_machine x j) (effect_at (plain_setting x) i th m None)) (acted (banked_setting x) o (banked_machine j) (effect_at (banked_setting x) i tv m None)) 0 0 0 0 0
     unfolding acted
-    ended th tv false = Rested refl refl (omega arith) (omega arith)
+    ended th tv false = Rested refl refl refl (omega arith) (omega arith)
     ended th tv true = Halted refl
 
     act_outcome : (rest : Option Rest) (at : Option Position) (stack : List Position) (r : Registers) (b : Bits) → IsFineTwin x (twin rest at stack r b) → ahead_of x rest at ≡ 0
