@@ -14,3 +14,4 @@ mod Joints
 mod Steps
 mod Leads
 mod Moments
+mod Hops

@@ -68,7 +68,7 @@ module _ (x : Site) (sound : IsSound x) (e : Entry) (o : Outside) (first last : 
   other_least m = cost_by (banked_setting x) least_prices e o m last
 
   -- ---- selects run
-  record Led (j : Joint) (stack : List Position) (r : Registers) (m k so_far : ℕ) : Type 0 where
+  pub record Led (j : Joint) (stack : List Position) (r : Registers) (m k so_far : ℕ) : Type 0 where
     pub joint : Joint
     pub moment : ℕ
     pub later : moment ≡ m + k
@@ -155,7 +155,7 @@ module _ (x : Site) (sound : IsSound x) (e : Entry) (o : Outside) (first last : 
         later_is : (i : ℕ) → m ≤ i → i ≤ m → m ≡ i
         later_is i l k = omega arith
 
-  lead : (k m : ℕ) (j : Joint) (q : Position) (stack : List Position) (r : Registers) (b : Bits) → settled o (other m) ≡ banked_machine j → IsFineJoint x j → running_twin j ≡ at_select x q stack r b
+  pub lead : (k m : ℕ) (j : Joint) (q : Position) (stack : List Position) (r : Registers) (b : Bits) → settled o (other m) ≡ banked_machine j → IsFineJoint x j → running_twin j ≡ at_select x q stack r b
       → is_due j.world ≡ false → lands (without x) (under x q) ≡ true → selects_ahead (x.made q.block) q.index ≡ k → Led j stack r m k (selects_before 0 (x.made q.block) q.index)
   lead zero m j q stack r b banked fine runs due stands ahead = record {
     joint = j;
