@@ -1,18 +1,17 @@
 -- Where an access finds its bank selected, it is the access that the code without selects makes.
-use Rattle.std.proofs.Common.{◌≡◌, ℕ, ◌+◌, ◌*◌, ◌/◌, ◌%◌, ◌<◌, ◌≤◌, Bool, true, false, not, ◌&&◌, ◌||◌, ◌⊎◌, inl, inr, zero, suc, nat_eq, nat_lt, if◌then◌else◌, Option, Some, None, option_map, IsSome, slice_get, refl, sym, ap, ◌∙◌, subst, ⊎_elim, arith}
+use Rattle.std.proofs.Common.{◌≡◌, ℕ, ◌+◌, ◌*◌, ◌/◌, ◌%◌, ◌<◌, Bool, true, false, ◌&&◌, ◌||◌, ◌⊎◌, inl, inr, zero, suc, nat_eq, nat_lt, if◌then◌else◌, Option, Some, None, option_map, IsSome, slice_get, refl, sym, ap, ◌∙◌, subst, ⊎_elim, arith}
 use Rattle.std.proofs.lemmas.Bool.{eqb-true, eq-eqb, ltb-true, cases_lt}
-use Rattle.std.proofs.lemmas.Option.{none-some, same_Some, cond_some}
+use Rattle.std.proofs.lemmas.Option.{none-some, cond_some}
 use Rattle.pic_chip.specs.Address.{in_every_bank}
 use Rattle.pic_world.specs.Registers.{is_register, lowest}
 use Rattle.pic_world.specs.declared.Root.{Root}
 use Rattle.pic_world.specs.declared.Root.TheVariants.{Main, Isr}
 use Rattle.pic_map.specs.declared.FrameLine.{FrameLine}
 use Rattle.pic_map.specs.declared.ObjLine.{ObjLine}
-use Rattle.pic_map.specs.declared.Placed.{Placed}
 use Rattle.pic_map.proofs.Lowest.{high_is_none}
 use Rattle.core_code.specs.declared.code.Byte.{Byte}
 use Rattle.core_code.specs.declared.code.Byte.TheVariants as bytes
-use Rattle.sym_code.specs.Effect.{Access, Event, Port, Denied, general_access, is_selected, device_access, named_access, access_of}
+use Rattle.sym_code.specs.Effect.{Event, Port, Denied, general_access, is_selected, device_access, named_access, access_of}
 use Rattle.sym_code.specs.Layout as layouts
 use Rattle.sym_code.specs.Layout.{general_at}
 use Rattle.sym_code.specs.Registers.{Registers}
@@ -24,7 +23,7 @@ use Rattle.code_place.specs.Addresses.{object_byte, frame_byte, address_of, file
 use Rattle.code_place.specs.Layouts.{layout_of}
 use Rattle.code_place.proofs.Layouts.{by_layout}
 use Rattle.bank_page.specs.Kinds.{byte_named}
-use Rattle.bank_page.specs.Selected.{bank_number, has_bank, reaches_byte}
+use Rattle.bank_page.specs.Selected.{has_bank, reaches_byte}
 use Rattle.bank_page.specs.declared.known.Known.{Known}
 use Rattle.bank_trace.proofs.Lists.{never}
 use Rattle.bank_trace.proofs.Holding.{Bits, Holds, bank_is}

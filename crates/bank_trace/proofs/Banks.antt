@@ -1,5 +1,5 @@
 -- Registers with other bits selected: no instruction but a select reads or writes these.
-use Rattle.std.proofs.Common.{◌≡◌, ℕ, Bool, true, false, nat_eq, if◌then◌else◌, List, [], ◌∷◌, map, Option, Some, None, option_map, refl, sym, ap, ◌∙◌}
+use Rattle.std.proofs.Common.{◌≡◌, ℕ, Bool, true, false, nat_eq, if◌then◌else◌, List, [], ◌∷◌, map, Some, None, option_map, refl, ap, ◌∙◌}
 use Rattle.pic_isa.specs.declared.Ins.{Ins}
 use Rattle.pic_chip.specs.Act.{Derived, Write}
 use Rattle.pic_chip.specs.Instructions.{number, row}

@@ -1,18 +1,17 @@
 -- What is known at each place of a list, on every way there.
-use Rattle.std.proofs.Common.{◌≡◌, ℕ, zero, suc, ◌+◌, Bool, true, false, not, ◌&&◌, ◌||◌, if◌then◌else◌, List, [], ◌∷◌, Option, Some, None, slice_get, refl, sym, ap, ◌∙◌, subst, arith}
+use Rattle.std.proofs.Common.{◌≡◌, ℕ, zero, suc, Bool, true, false, ◌&&◌, if◌then◌else◌, List, [], ◌∷◌, Option, Some, None, slice_get, refl, sym, ap, ◌∙◌, subst}
 use Rattle.std.proofs.lemmas.Option.{same_Some, none-some}
 use Rattle.sym_code.specs.Programs.{labels_in_front}
-use Rattle.sym_code.specs.Selects.{is_select}
-use Rattle.sym_code.specs.declared.code.BankBit.TheVariants.{Rp0, Rp1, Irp}
+use Rattle.sym_code.specs.declared.code.BankBit.TheVariants.{Rp0, Rp1}
 use Rattle.sym_code.specs.declared.code.BlockName.{BlockName}
 use Rattle.sym_code.specs.declared.code.Sym.{Sym}
 use Rattle.sym_code.specs.declared.code.Sym.TheVariants as syms
-use Rattle.bank_page.specs.Kinds.{is_label, is_skip}
-use Rattle.bank_page.specs.Known.{nothing, kept, left, after, forgets, ends, learned, seen_after, writes_status, writes_pclath}
+use Rattle.bank_page.specs.Kinds.{is_skip}
+use Rattle.bank_page.specs.Known.{nothing}
 use Rattle.bank_page.specs.Selected.{Place, Free, Behind, Broken, place_after, walk, seen, all_pass}
 use Rattle.bank_page.specs.declared.known.Known.{Known}
 use Rattle.bank_page.specs.declared.selecting.State.{State}
-use Rattle.bank_trace.proofs.Lists.{is_plain, plain_at, calm_at, select_at, label_at, never, settle, settle_zero}
+use Rattle.bank_trace.proofs.Lists.{calm_at, label_at, never, settle, settle_zero}
 
 -- what is known before an index, where this is known before the list
 abbrev pub state_at : BlockName → State → List Sym → ℕ → State

@@ -1,11 +1,10 @@
 -- What is known holds of the bits that are selected.
-use Rattle.std.proofs.Common.{◌≡◌, ℕ, zero, suc, ◌+◌, ◌*◌, ◌/◌, ◌%◌, ◌<◌, Bool, true, false, not, ◌&&◌, ◌||◌, nat_eq, if◌then◌else◌, Option, Some, None, refl, sym, ap, ◌∙◌, subst, arith}
+use Rattle.std.proofs.Common.{◌≡◌, ℕ, zero, suc, ◌+◌, ◌*◌, ◌/◌, ◌%◌, ◌<◌, Bool, true, false, not, ◌&&◌, ◌||◌, nat_eq, if◌then◌else◌, Option, Some, None, refl, ap, ◌∙◌, arith}
 use Rattle.std.proofs.lemmas.Bool.{eqb-true}
 use Rattle.pic_world.specs.Bits.{truth}
 use Rattle.sym_code.specs.Effect.{page_bit}
 use Rattle.sym_code.specs.Programs.{same_name, block_of}
-use Rattle.sym_code.specs.Selects.{is_select}
-use Rattle.sym_code.specs.declared.code.BankBit.TheVariants.{Rp0, Rp1, Irp}
+use Rattle.sym_code.specs.declared.code.BankBit.TheVariants.{Rp0, Rp1}
 use Rattle.sym_code.specs.declared.code.BlockName.{BlockName}
 use Rattle.sym_code.specs.declared.code.BlockName.TheVariants as names
 use Rattle.sym_code.specs.declared.code.PageBit.{PageBit}

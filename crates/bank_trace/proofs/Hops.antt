@@ -1,22 +1,21 @@
 -- A step of the code without selects is the selects that stand there, and the same step.
-use Rattle.std.proofs.Common.{◌≡◌, ℕ, zero, suc, ◌+◌, ◌<◌, ◌≤◌, ◌⊎◌, inl, inr, Bool, true, false, if◌then◌else◌, List, [], ◌∷◌, Option, Some, None, option_map, slice_get, refl, sym, ap, ◌∙◌, subst, ⊎_elim, arith}
+use Rattle.std.proofs.Common.{◌≡◌, ℕ, suc, ◌+◌, ◌<◌, ◌≤◌, Bool, true, false, if◌then◌else◌, List, Option, Some, None, refl, sym, ap, ◌∙◌, subst, ⊎_elim, arith}
 use Rattle.std.proofs.lemmas.Bool.{cases_lt}
-use Rattle.pic_world.specs.World.{Outside, World, arrived, is_due}
-use Rattle.sym_code.specs.Cost.{Prices, least_prices, step_cost_at, cost_by}
-use Rattle.sym_code.specs.Effect.{Setting, Thread, Memory, Rest, Effect, Stuck, effect}
-use Rattle.sym_code.specs.Machine.{Machine, Entry, Next, Goes, Stops, Still, running, acted, act, enter, settled, sym_step_at, sym_step, sym_run}
+use Rattle.pic_world.specs.World.{Outside, arrived, is_due}
+use Rattle.sym_code.specs.Cost.{least_prices, step_cost_at}
+use Rattle.sym_code.specs.Effect.{Thread, Rest, effect}
+use Rattle.sym_code.specs.Machine.{Machine, Entry, Next, Goes, Stops, Still, running, acted, act, enter, settled, sym_step_at, sym_step}
 use Rattle.sym_code.specs.Programs.{Position, lands}
 use Rattle.sym_code.specs.Registers.{Registers}
 use Rattle.sym_code.specs.Runs.{goes_on, is_still, sym_goes, sym_rests}
 use Rattle.bank_trace.proofs.Lists.{never}
 use Rattle.bank_trace.proofs.Prices.{selects_before, selects_ahead}
 use Rattle.bank_trace.proofs.Holding.{Bits}
-use Rattle.bank_trace.proofs.Sites.{Site, IsSound, without, with, plain_setting, banked_setting}
+use Rattle.bank_trace.proofs.Sites.{Site, IsSound, without, plain_setting, banked_setting}
 use Rattle.bank_trace.proofs.Places.{under}
 use Rattle.bank_trace.proofs.Twins.{Twin, plain_thread, banked_thread, IsFineTwin}
 use Rattle.bank_trace.proofs.Joints.{Joint, plain_machine, banked_machine, IsFineJoint, running_twin, running_by, fine_running}
-use Rattle.bank_trace.proofs.Steps.{ahead_of, before_of, plain_prices, banked_prices, Outcome, Halted, Rested, Moved, before_in, step_outcome, nowhere, stuck_stops}
-use Rattle.bank_trace.proofs.Leads.{at_select}
+use Rattle.bank_trace.proofs.Steps.{ahead_of, before_of, plain_prices, banked_prices, Outcome, Halted, Rested, Moved, step_outcome, nowhere, stuck_stops}
 use Rattle.bank_trace.proofs.Moments.{goes_at, next_is, same_is, cost_next, one, other, other_goes, one_most, other_most, one_least, other_least, Led, lead}
 
 module _ (x : Site) (sound : IsSound x) (e : Entry) (o : Outside) (first last : Machine) where

@@ -1,32 +1,30 @@
 -- One instruction, with its selects and without them.
-use Rattle.std.proofs.Common.{◌≡◌, ℕ, ◌+◌, ◌*◌, ◌<◌, Bool, true, false, not, ◌&&◌, ◌||◌, nat_eq, if◌then◌else◌, List, [], ◌∷◌, map, Option, Some, None, option_map, slice_get, refl, sym, ap, ◌∙◌, subst}
+use Rattle.std.proofs.Common.{◌≡◌, ℕ, ◌+◌, ◌*◌, Bool, true, false, nat_eq, if◌then◌else◌, List, Option, Some, None, slice_get, refl, sym, subst}
 use Rattle.std.proofs.lemmas.Bool.{eq-eqb}
 use Rattle.pic_world.specs.Bits.{bit, set_bit, clear_bit, truth}
-use Rattle.sym_code.specs.Effect.{Memory, Access, Effect, Stuck, access_of, file, file_to_w, file_to_file, store, change, test, file_bit, bits, flag, put_flag, test_flag, is_in_page, goto, call, literal, literal_value, plain, effect_of}
-use Rattle.sym_code.specs.Programs.{Position, behind, block_of}
+use Rattle.sym_code.specs.Effect.{Memory, Access, Effect, Stuck, access_of, file_to_w, file_to_file, store, change, test, file_bit, flag, put_flag, is_in_page, goto, call, literal, literal_value, effect_of}
+use Rattle.sym_code.specs.Programs.{Position, block_of}
 use Rattle.sym_code.specs.Registers.{Registers, after_row, literal_row, status_bit, with_status_bit}
 use Rattle.sym_code.specs.Touching.{touches}
 use Rattle.sym_code.specs.declared.code.BankBit.TheVariants.{Rp0, Rp1, Irp}
 use Rattle.sym_code.specs.declared.code.BitOperation.{BitOperation}
 use Rattle.sym_code.specs.declared.code.BitOperation.TheVariants.{Bcf, Bsf, Btfsc, Btfss}
-use Rattle.sym_code.specs.declared.code.FileOperation.{FileOperation}
-use Rattle.sym_code.specs.declared.code.Into.{Into}
 use Rattle.sym_code.specs.declared.code.Into.TheVariants as into
 use Rattle.sym_code.specs.declared.code.Operand.{Operand}
 use Rattle.sym_code.specs.declared.code.Operand.TheVariants as operands
-use Rattle.sym_code.specs.declared.code.Register.TheVariants.{Indf, Status, Fsr, Pclath}
+use Rattle.sym_code.specs.declared.code.Register.TheVariants.{Status}
 use Rattle.sym_code.specs.declared.code.Sym.{Sym}
 use Rattle.sym_code.specs.declared.code.Sym.TheVariants as syms
 use Rattle.sym_code.specs.declared.code.Target.{Target}
-use Rattle.bank_page.specs.Kinds.{is_label, is_skip, byte_of, byte_named, target_of}
+use Rattle.bank_page.specs.Kinds.{is_skip, byte_of, byte_named, target_of}
 use Rattle.bank_page.specs.Selected.{is_right, reaches_byte, reaches_target}
-use Rattle.bank_trace.proofs.Lists.{is_plain, plain_at, calm_at, calm_plain, never}
+use Rattle.bank_trace.proofs.Lists.{is_plain, calm_at, never}
 use Rattle.bank_trace.proofs.Facts.{passes_at, skip_at}
 use Rattle.bank_trace.proofs.Holding.{Bits, Holds, both_first, both_last, page_is}
 use Rattle.bank_trace.proofs.Banks.{over, row_over, with_status_over}
 use Rattle.bank_trace.proofs.Sites.{Site, IsSound, IsNamed, without, with, plain_setting, banked_setting}
 use Rattle.bank_trace.proofs.Access.{access_same}
-use Rattle.bank_trace.proofs.Places.{under, known_at, IsFine, Onto, onto}
+use Rattle.bank_trace.proofs.Places.{under, known_at, Onto, onto}
 use Rattle.bank_trace.proofs.Twins.{AreOpen, Does, GetsStuck}
 use Rattle.bank_trace.proofs.Rows.{one, other, goes_does, store_does, change_does, test_does, put_flag_does, test_flag_does, file_to_w_does, file_to_file_does}
 use Rattle.bank_trace.proofs.Jumps.{goto_does, call_does, literal_does, plain_does}

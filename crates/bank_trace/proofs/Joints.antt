@@ -1,16 +1,15 @@
 -- Both machines in one, and what an effect makes of them.
-use Rattle.std.proofs.Common.{◌≡◌, ℕ, ◌+◌, Bool, true, false, if◌then◌else◌, List, [], ◌∷◌, map, Option, Some, None, option_map, slice_get, refl, sym, ap, ◌∙◌, subst}
+use Rattle.std.proofs.Common.{◌≡◌, ℕ, ◌+◌, Bool, true, false, if◌then◌else◌, [], Option, Some, None, option_map, refl, sym, ap, ◌∙◌}
 use Rattle.pic_world.specs.World.{Outside, World, Ended, entered, left, noted}
-use Rattle.sym_code.specs.Effect.{Setting, Thread, Memory, Write, written, Loud, Effect, Stuck}
-use Rattle.sym_code.specs.Machine.{Machine, Entry, Next, Goes, Stops, Still, value_by, read_by, write_by, wrote_by, is_forbidden, Made, made, checked, lands_at, running, moved, acted, at_front, with_entry, enter}
+use Rattle.sym_code.specs.Effect.{Thread, Memory, Write, written, Loud}
+use Rattle.sym_code.specs.Machine.{Machine, Entry, Next, Goes, Stops, value_by, read_by, write_by, wrote_by, is_forbidden, checked, lands_at, running, moved, acted, at_front, with_entry, enter}
 use Rattle.sym_code.specs.Programs.{Position, lands, front}
-use Rattle.sym_code.specs.Registers.{Registers}
 use Rattle.sym_code.specs.declared.code.BlockName.TheVariants.{Copy}
 use Rattle.bank_trace.proofs.Lists.{never}
 use Rattle.bank_trace.proofs.Holding.{Bits}
 use Rattle.bank_trace.proofs.Banks.{bits_of}
-use Rattle.bank_trace.proofs.Sites.{Site, IsSound, without, with, plain_setting, banked_setting}
-use Rattle.bank_trace.proofs.Places.{under, IsFine, open_fine, under_front, open_front, under_lands}
+use Rattle.bank_trace.proofs.Sites.{Site, without, with, plain_setting, banked_setting}
+use Rattle.bank_trace.proofs.Places.{under, open_fine, under_front, open_front, under_lands}
 use Rattle.bank_trace.proofs.Twins.{Twin, plain_thread, banked_thread, FineAt, IsFineTwin, Deed, Quietly, Reading, Writing, Leaving, Ending, Resting, plain_effect, banked_effect, IsFineDeed, is_resting}
 
 pub record Joint : Type 0 where

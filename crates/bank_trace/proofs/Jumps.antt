@@ -1,9 +1,9 @@
 -- Jumps, calls, returns and what touches no file register do the same with their selects as without them.
-use Rattle.std.proofs.Common.{◌≡◌, ℕ, ◌+◌, ◌<◌, Bool, true, false, not, ◌&&◌, ◌||◌, nat_eq, nat_lt, if◌then◌else◌, List, [], ◌∷◌, length, map, Option, Some, None, option_map, slice_get, refl, sym, ap, ◌∙◌, subst}
+use Rattle.std.proofs.Common.{◌≡◌, Bool, true, false, nat_lt, if◌then◌else◌, List, [], ◌∷◌, length, map, Option, Some, None, option_map, slice_get, refl, sym, ap, subst}
 use Rattle.std.proofs.lemmas.List.{length-map}
 use Rattle.pic_isa.specs.declared.Ins.TheVariants as ins
 use Rattle.sym_code.specs.Effect.{Thread, Effect, Stuck, goes, quiet, jump_to, halt, restore, goto, call, back, literal, plain}
-use Rattle.sym_code.specs.Programs.{Position, behind, onward, place_of}
+use Rattle.sym_code.specs.Programs.{Position, behind, place_of}
 use Rattle.sym_code.specs.Registers.{Registers, after_row}
 use Rattle.sym_code.specs.declared.code.Label.TheVariants.{Inner, Halt, Restore}
 use Rattle.sym_code.specs.declared.code.LiteralOperation.{LiteralOperation}
@@ -17,9 +17,9 @@ use Rattle.bank_trace.proofs.Lists.{never}
 use Rattle.bank_trace.proofs.Holding.{Bits}
 use Rattle.bank_trace.proofs.Banks.{over, row_over}
 use Rattle.bank_trace.proofs.Sites.{Site, without, with, plain_setting, banked_setting}
-use Rattle.bank_trace.proofs.Places.{under, IsFine, IsOpen, open_fine, under_place, OpenPlace, open_place, open_behind, Onto}
-use Rattle.bank_trace.proofs.Twins.{Twin, plain_thread, banked_thread, AreOpen, IsFineTwin, Deed, Quietly, Leaving, Ending, Does, GetsStuck, Done}
-use Rattle.bank_trace.proofs.Rows.{one, other, goes_does}
+use Rattle.bank_trace.proofs.Places.{under, open_fine, under_place, OpenPlace, open_place, open_behind, Onto}
+use Rattle.bank_trace.proofs.Twins.{AreOpen, Quietly, Leaving, Ending, Does, GetsStuck, Done}
+use Rattle.bank_trace.proofs.Rows.{goes_does}
 
 module _ (x : Site) (q : Position) (r : Registers) (b : Bits) where
   -- a thread with another stack

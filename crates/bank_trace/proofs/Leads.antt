@@ -1,30 +1,27 @@
 -- Selects run: the code without them stays where it is, and what they set is known behind them.
-use Rattle.std.proofs.Common.{◌≡◌, ℕ, zero, suc, ◌+◌, ◌<◌, ◌≤◌, Bool, true, false, if◌then◌else◌, List, [], ◌∷◌, Option, Some, None, option_map, slice_get, refl, sym, ap, ◌∙◌, subst, arith}
-use Rattle.std.proofs.lemmas.Bool.{eqb-true}
-use Rattle.pic_world.specs.Bits.{truth}
-use Rattle.pic_world.specs.World.{Outside, World, is_due}
+use Rattle.std.proofs.Common.{◌≡◌, ℕ, suc, Bool, true, false, if◌then◌else◌, List, Option, Some, None, slice_get, refl, sym, ap, ◌∙◌, subst}
+use Rattle.pic_world.specs.World.{Outside, is_due}
 use Rattle.sym_code.specs.Cost.{Prices, instruction_cost, thread_cost, step_cost_at}
-use Rattle.sym_code.specs.Effect.{Setting, Thread, Memory, Effect, Stuck, Quiet, effect_of, effect_if, effect_at, effect}
-use Rattle.sym_code.specs.Machine.{Machine, Entry, Next, Goes, Stops, running, moved, acted, act, enter, sym_step_at}
-use Rattle.sym_code.specs.Programs.{Position, fetched, is_word, lands, behind, position}
+use Rattle.sym_code.specs.Effect.{Thread, Memory, Quiet, effect_of, effect_if, effect}
+use Rattle.sym_code.specs.Machine.{Machine, Entry, Goes, running, moved, acted, act, enter, sym_step_at}
+use Rattle.sym_code.specs.Programs.{Position, lands, behind, position}
 use Rattle.sym_code.specs.Registers.{Registers}
 use Rattle.sym_code.specs.Selects.{is_select}
-use Rattle.sym_code.specs.declared.code.BankBit.TheVariants.{Rp0, Rp1, Irp}
-use Rattle.sym_code.specs.declared.code.BlockName.{BlockName}
+use Rattle.sym_code.specs.declared.code.BankBit.TheVariants.{Rp0, Rp1}
 use Rattle.sym_code.specs.declared.code.PageBit.TheVariants.{Low, High}
 use Rattle.sym_code.specs.declared.code.Sym.{Sym}
 use Rattle.sym_code.specs.declared.code.Sym.TheVariants as syms
 use Rattle.bank_page.specs.Known.{after, learned}
 use Rattle.bank_page.specs.Selected as selects
 use Rattle.bank_page.specs.declared.selecting.State.{State}
-use Rattle.bank_trace.proofs.Lists.{select_at, never, settle, settle_again, mark, mark_settle, mark_select}
+use Rattle.bank_trace.proofs.Lists.{select_at, never, settle_again, mark_settle, mark_select}
 use Rattle.bank_trace.proofs.Prices.{selects_before, selects_ahead, before_select, before_settle, ahead_select, ahead_settle}
 use Rattle.bank_trace.proofs.Facts.{state_at, state_next, keeps_settle}
 use Rattle.bank_trace.proofs.Holding.{Bits, Holds, holds_nothing, holds_learned, selected}
-use Rattle.bank_trace.proofs.Sites.{Site, IsSound, without, with, plain_setting, banked_setting}
-use Rattle.bank_trace.proofs.Places.{behind_is, under, known_at, IsFine, under_lands}
-use Rattle.bank_trace.proofs.Twins.{Twin, plain_thread, banked_thread, AreOpen, IsFineTwin}
-use Rattle.bank_trace.proofs.Joints.{Joint, plain_machine, banked_machine, machine_by, IsFineJoint, running_twin, running_by, put, moved_by, fine_put}
+use Rattle.bank_trace.proofs.Sites.{Site, with, banked_setting}
+use Rattle.bank_trace.proofs.Places.{behind_is, under, known_at, IsFine}
+use Rattle.bank_trace.proofs.Twins.{Twin, plain_thread, banked_thread, AreOpen}
+use Rattle.bank_trace.proofs.Joints.{Joint, plain_machine, banked_machine, IsFineJoint, running_twin, running_by, put, moved_by, fine_put}
 use Rattle.bank_trace.proofs.Steps.{effect_some}
 
 module _ (x : Site) (q : Position) (stack : List Position) (r : Registers) where

@@ -15,3 +15,6 @@ mod Steps
 mod Leads
 mod Moments
 mod Hops
+mod Following
+mod Premises
+mod Chosen

@@ -2,7 +2,7 @@
 use Rattle.std.proofs.Common.{◌≡◌, ℕ, zero, suc, ◌+◌, Bool, true, false, not, ◌&&◌, if◌then◌else◌, List, [], ◌∷◌, drop, Option, Some, None, option_map, slice_get, refl, sym, ap, ◌∙◌, subst, add-one, true≢false, arith}
 use Rattle.sym_code.specs.Programs.{is_word, labels_in_front, label_from, same_label}
 use Rattle.sym_code.specs.Selects.{is_select, bare}
-use Rattle.sym_code.specs.declared.code.BankBit.TheVariants.{Rp0, Rp1, Irp}
+use Rattle.sym_code.specs.declared.code.BankBit.TheVariants.{Rp0, Rp1}
 use Rattle.sym_code.specs.declared.code.Label.{Label}
 use Rattle.sym_code.specs.declared.code.Sym.{Sym}
 use Rattle.sym_code.specs.declared.code.Sym.TheVariants as syms

@@ -1,25 +1,24 @@
 -- Moments of both runs that belong to one another.
-use Rattle.std.proofs.Common.{◌≡◌, ℕ, zero, suc, ◌+◌, ◌<◌, ◌≤◌, ◌⊎◌, inl, inr, Bool, true, false, if◌then◌else◌, List, [], ◌∷◌, Option, Some, None, option_map, slice_get, refl, sym, ap, ◌∙◌, subst, ⊎_elim, arith}
+use Rattle.std.proofs.Common.{◌≡◌, ℕ, zero, suc, ◌+◌, ◌<◌, ◌≤◌, Bool, true, false, List, Option, Some, None, slice_get, refl, sym, ap, ◌∙◌, subst, ⊎_elim, arith}
 use Rattle.std.proofs.lemmas.Bool.{cases_lt}
 use Rattle.pic_world.specs.World.{Outside, World, arrived, is_due}
 use Rattle.pic_world.proofs.WorldLaws.{arrived_again}
-use Rattle.sym_code.specs.Cost.{Prices, least_prices, most_prices, step_cost_at, step_cost, cost_by}
-use Rattle.sym_code.specs.Effect.{Setting, Thread, Memory, Rest, Effect, Stuck, effect}
-use Rattle.sym_code.specs.Machine.{Machine, Entry, Next, Goes, Stops, Still, running, acted, act, enter, settled, sym_step_at, sym_step, gone, sym_run}
+use Rattle.sym_code.specs.Cost.{Prices, least_prices, step_cost_at, step_cost, cost_by}
+use Rattle.sym_code.specs.Effect.{Setting}
+use Rattle.sym_code.specs.Machine.{Machine, Entry, Next, Goes, Still, settled, sym_step_at, sym_step, gone, sym_run}
 use Rattle.sym_code.specs.Programs.{Position, lands}
 use Rattle.sym_code.specs.Registers.{Registers}
-use Rattle.sym_code.specs.Runs.{goes_on, is_still, sym_goes, sym_rests}
+use Rattle.sym_code.specs.Runs.{goes_on, sym_goes}
 use Rattle.sym_code.specs.Selects.{is_select}
 use Rattle.sym_code.specs.declared.code.Sym.{Sym}
-use Rattle.bank_page.specs.Links.{one_each}
 use Rattle.bank_trace.proofs.Lists.{select_at, never}
 use Rattle.bank_trace.proofs.Prices.{selects_before, selects_ahead, ahead_some}
 use Rattle.bank_trace.proofs.Holding.{Bits}
-use Rattle.bank_trace.proofs.Sites.{Site, IsSound, without, with, plain_setting, banked_setting}
-use Rattle.bank_trace.proofs.Places.{under, IsFine, under_lands}
-use Rattle.bank_trace.proofs.Twins.{Twin, plain_thread, banked_thread, AreOpen, IsFineTwin}
-use Rattle.bank_trace.proofs.Joints.{Joint, plain_machine, banked_machine, IsFineJoint, running_twin, running_by, fine_running}
-use Rattle.bank_trace.proofs.Steps.{ahead_of, before_of, plain_prices, banked_prices, Outcome, Halted, Rested, Moved, before_in, step_outcome, nowhere, stuck_stops}
+use Rattle.bank_trace.proofs.Sites.{Site, IsSound, without, plain_setting, banked_setting}
+use Rattle.bank_trace.proofs.Places.{under, under_lands}
+use Rattle.bank_trace.proofs.Twins.{IsFineTwin}
+use Rattle.bank_trace.proofs.Joints.{Joint, plain_machine, banked_machine, IsFineJoint, running_twin, fine_running}
+use Rattle.bank_trace.proofs.Steps.{plain_prices, banked_prices}
 use Rattle.bank_trace.proofs.Leads.{at_select, to, set, behind_joint, select_under, select_fine, select_ahead, select_before, select_step, select_cost, select_plain, select_runs, select_joint}
 
 -- ---- one moment later

@@ -1,6 +1,6 @@
 -- Positions of code with its selects, the positions of the code without them that belong to these, and what is known there.
-use Rattle.std.proofs.Common.{◌≡◌, ℕ, zero, suc, ◌+◌, Bool, true, false, not, ◌&&◌, if◌then◌else◌, List, [], ◌∷◌, Option, Some, None, option_map, slice_get, refl, sym, ap, ◌∙◌, subst, add-one, arith}
-use Rattle.sym_code.specs.Programs.{Program, Position, position, fetched, is_word, lands, stand, front, behind, onward, label_from, place_of, labels_in_front}
+use Rattle.std.proofs.Common.{◌≡◌, ℕ, suc, ◌+◌, Bool, true, false, not, ◌&&◌, if◌then◌else◌, Option, Some, None, option_map, slice_get, refl, sym, ap, ◌∙◌, subst, add-one}
+use Rattle.sym_code.specs.Programs.{Program, Position, position, is_word, lands, stand, front, behind, onward, label_from, place_of}
 use Rattle.sym_code.specs.Selects.{is_select, bare}
 use Rattle.sym_code.specs.declared.code.BlockName.{BlockName}
 use Rattle.sym_code.specs.declared.code.Label.TheVariants.{Inner, Halt, Restore}
@@ -9,12 +9,12 @@ use Rattle.sym_code.specs.declared.code.Sym.TheVariants as syms
 use Rattle.sym_code.specs.declared.code.Target.{Target}
 use Rattle.sym_code.specs.declared.code.Target.TheVariants as targets
 use Rattle.bank_page.specs.Known.{nothing, after, learned}
-use Rattle.bank_page.specs.Kinds.{is_label, is_skip}
+use Rattle.bank_page.specs.Kinds.{is_label}
 use Rattle.bank_page.specs.Selected as selected
 use Rattle.bank_page.specs.Selected.{Free}
 use Rattle.bank_page.specs.declared.known.Known.{Known}
 use Rattle.bank_page.specs.declared.selecting.State.{State}
-use Rattle.bank_trace.proofs.Lists.{plain_at, calm_at, label_at, never, settle, settle_zero, settle_is, settle_again, mark, mark_zero, mark_settle, mark_behind, mark_lands, label_mark, FoundLabel, found_label}
+use Rattle.bank_trace.proofs.Lists.{calm_at, never, settle, settle_zero, settle_is, settle_again, mark, mark_zero, mark_settle, mark_behind, mark_lands, label_mark, FoundLabel, found_label}
 use Rattle.bank_trace.proofs.Facts.{state_at, state_next, state_past, keeps_settle, holds_at_label, holds_at_front, skip_at, calm_behind}
 use Rattle.bank_trace.proofs.Holding.{Bits, Holds, holds_nothing, holds_after}
 use Rattle.bank_trace.proofs.Sites.{Site, IsSound, without, with}
@@ -145,7 +145,7 @@ module _ (x : Site) where
     onto sound q false e skip h = record { same = under_behind q e; fine = fine_behind q e h }
     onto sound q true e skip h =
         let calm : calm_at (slice_get (x.made (behind (with x) q).block) (behind (with x) q).index) ≡ true =
-            subst (λ (p : Position). calm_at (slice_get (x.made p.block) p.index) ≡ true) (sym (behind_is (with x) q)) (calm_behind Free (x.made q.block) q.index (sound.apart q.block) (skip refl)) in
+        subst (λ (p : Position). calm_at (slice_get (x.made p.block) p.index) ≡ true) (sym (behind_is (with x) q)) (calm_behind Free (x.made q.block) q.index (sound.apart q.block) (skip refl)) in
         record {
           same = ap (behind (without x)) (under_behind q e) ∙ under_behind (behind (with x) q) calm;
           fine = fine_behind (behind (with x) q) calm (fine_behind q e h).holds;

@@ -1,13 +1,13 @@
 -- How many selects stand before an instruction: those behind the instruction before it, and those from a place on.
-use Rattle.std.proofs.Common.{◌≡◌, ℕ, zero, suc, ◌+◌, Bool, true, false, if◌then◌else◌, List, [], ◌∷◌, Option, Some, None, slice_get, refl, sym, ap, ◌∙◌, subst, arith}
+use Rattle.std.proofs.Common.{◌≡◌, ℕ, zero, suc, ◌+◌, Bool, true, if◌then◌else◌, List, [], ◌∷◌, slice_get, refl, sym, ap, ◌∙◌, subst, arith}
 use Rattle.sym_code.specs.Programs.{is_word}
-use Rattle.sym_code.specs.Selects.{is_select, bare}
-use Rattle.sym_code.specs.declared.code.BankBit.TheVariants.{Rp0, Rp1, Irp}
+use Rattle.sym_code.specs.Selects.{is_select}
+use Rattle.sym_code.specs.declared.code.BankBit.TheVariants.{Rp0, Rp1}
 use Rattle.sym_code.specs.declared.code.Sym.{Sym}
 use Rattle.sym_code.specs.declared.code.Sym.TheVariants as syms
 use Rattle.bank_page.specs.Kinds.{is_label}
 use Rattle.bank_page.specs.Links.{price_from}
-use Rattle.bank_trace.proofs.Lists.{is_plain, plain_at, select_at, never, settle, settle_zero, mark, mark_zero}
+use Rattle.bank_trace.proofs.Lists.{plain_at, select_at, never, settle, settle_zero, mark}
 
 -- ---- selects behind the instruction before
 abbrev pub more_selects : ℕ → Sym → ℕ

@@ -1,30 +1,18 @@
 -- Each instruction does the same with its selects as without them.
-use Rattle.std.proofs.Common.{◌≡◌, ℕ, ◌+◌, ◌<◌, Bool, true, false, not, ◌&&◌, ◌||◌, nat_eq, nat_lt, if◌then◌else◌, List, [], ◌∷◌, length, map, Option, Some, None, option_map, refl, sym, ap, ◌∙◌, subst}
+use Rattle.std.proofs.Common.{◌≡◌, ℕ, Bool, true, false, nat_eq, List, map, Option, Some, None, option_map, refl, sym, ap, ◌∙◌}
 use Rattle.std.proofs.Math.Path.{fun_ext}
-use Rattle.std.proofs.lemmas.List.{length-map}
-use Rattle.pic_isa.specs.declared.Ins.{Ins}
-use Rattle.pic_isa.specs.declared.Ins.TheVariants as ins
-use Rattle.pic_world.specs.Bits.{bit, set_bit, clear_bit, truth}
-use Rattle.sym_code.specs.Effect.{Loud, Rest, Thread, Memory, Write, write, Access, Pointer, Event, Silent, Denied, Effect, Stuck, Quiet, Reads, Writes, Leaves, Ends, Rests, goes, quiet, updates, after_file, result_in_w, result_in_fsr, file_to_w, file_to_file, store, change, test, put_flag, test_flag, jump_to, halt, restore, goto, call, back, literal, plain}
-use Rattle.sym_code.specs.Programs.{Program, Position, behind, onward, place_of}
-use Rattle.sym_code.specs.Registers.{Registers, result_with, flags_with, skips_with, after_row}
-use Rattle.sym_code.specs.declared.code.BlockName.{BlockName}
+use Rattle.sym_code.specs.Effect.{Loud, Rest, Thread, Memory, Write, write, Access, Pointer, Event, Silent, Denied, Quiet, Reads, Writes, goes, quiet, file_to_w, file_to_file, store, change, test, put_flag, test_flag}
+use Rattle.sym_code.specs.Programs.{Position, behind, onward}
+use Rattle.sym_code.specs.Registers.{Registers, result_with, flags_with, skips_with}
 use Rattle.sym_code.specs.declared.code.FileOperation.{FileOperation}
-use Rattle.sym_code.specs.declared.code.FileOperation.TheVariants.{Addwf, Andwf, Comf, Decf, Decfsz, Incf, Incfsz, Iorwf, Movf, Rlf, Rrf, Subwf, Swapf, Xorwf}
-use Rattle.sym_code.specs.declared.code.Label.TheVariants.{Inner, Halt, Restore}
-use Rattle.sym_code.specs.declared.code.LiteralOperation.{LiteralOperation}
-use Rattle.sym_code.specs.declared.code.LiteralOperation.TheVariants.{Retlw}
-use Rattle.sym_code.specs.declared.code.PlainOperation.{PlainOperation}
-use Rattle.sym_code.specs.declared.code.PlainOperation.TheVariants.{Clrw, Nop, Retfie, Return}
-use Rattle.sym_code.specs.declared.code.Target.{Target}
-use Rattle.sym_code.specs.declared.code.Target.TheVariants as targets
+use Rattle.sym_code.specs.declared.code.FileOperation.TheVariants.{Decfsz, Incfsz}
 use Rattle.bank_page.specs.Kinds.{skips_by_file}
 use Rattle.bank_trace.proofs.Lists.{never}
 use Rattle.bank_trace.proofs.Holding.{Bits}
-use Rattle.bank_trace.proofs.Banks.{over, result_over, flags_over, skips_over, row_over}
-use Rattle.bank_trace.proofs.Sites.{Site, without, with, plain_setting, banked_setting}
-use Rattle.bank_trace.proofs.Places.{under, IsFine, IsOpen, open_fine, under_place, OpenPlace, open_place, Onto}
-use Rattle.bank_trace.proofs.Twins.{Twin, plain_thread, banked_thread, AreOpen, IsFineTwin, Deed, Quietly, Reading, Writing, Leaving, Ending, Resting, Does, GetsStuck, Done}
+use Rattle.bank_trace.proofs.Banks.{over, result_over, flags_over, skips_over}
+use Rattle.bank_trace.proofs.Sites.{Site, without, with}
+use Rattle.bank_trace.proofs.Places.{under, Onto}
+use Rattle.bank_trace.proofs.Twins.{Twin, plain_thread, banked_thread, AreOpen, IsFineTwin, Quietly, Reading, Writing, Does, GetsStuck, Done}
 
 -- no other instruction on a file register skips
 skips_only : (r : Registers) (op : FileOperation) (v : ℕ) → skips_with r op v ≡ true → skips_by_file op ≡ true

@@ -1,23 +1,21 @@
 -- One step of both machines, where no select is ahead; and what it costs.
-use Rattle.std.proofs.Common.{◌≡◌, ℕ, ◌+◌, ◌≤◌, Bool, true, false, if◌then◌else◌, List, [], ◌∷◌, Option, Some, None, option_map, slice_get, refl, sym, ap, ◌∙◌, subst, arith}
-use Rattle.pic_world.specs.World.{Outside, World, is_due}
+use Rattle.std.proofs.Common.{◌≡◌, ℕ, ◌+◌, ◌≤◌, Bool, true, false, if◌then◌else◌, List, Option, Some, None, slice_get, refl, sym, ap, ◌∙◌, subst, arith}
+use Rattle.pic_world.specs.World.{Outside, is_due}
 use Rattle.core_code.specs.Cost.{context_cost}
 use Rattle.sym_code.specs.Cost.{Prices, least_prices, most_prices, instruction_cost, thread_cost, step_cost_at}
-use Rattle.sym_code.specs.Effect.{Setting, Thread, Memory, Rest, Effect, Stuck, Quiet, Reads, Writes, Leaves, Ends, Rests, effect_of, effect_if, effect_at, effect}
+use Rattle.sym_code.specs.Effect.{Setting, Thread, Memory, Rest, Effect, Stuck, effect_of, effect_if, effect_at, effect}
 use Rattle.sym_code.specs.Machine.{Machine, Entry, Next, Goes, Stops, Still, running, acted, act, enter, sym_step_at}
 use Rattle.sym_code.specs.Programs.{Position, fetched, is_word, lands}
 use Rattle.sym_code.specs.Registers.{Registers}
-use Rattle.sym_code.specs.Selects.{bare}
-use Rattle.sym_code.specs.declared.code.BlockName.{BlockName}
 use Rattle.sym_code.specs.declared.code.Sym.{Sym}
 use Rattle.sym_code.specs.declared.code.Sym.TheVariants as syms
 use Rattle.bank_page.specs.Links.{price_in, one_each}
-use Rattle.bank_trace.proofs.Lists.{is_plain, plain_at, calm_plain, never, mark, mark_fetches}
+use Rattle.bank_trace.proofs.Lists.{plain_at, calm_plain, never, mark_fetches}
 use Rattle.bank_trace.proofs.Prices.{selects_before, selects_ahead, price_is, ahead_none}
 use Rattle.bank_trace.proofs.Holding.{Bits}
 use Rattle.bank_trace.proofs.Sites.{Site, IsSound, without, with, plain_setting, banked_setting}
 use Rattle.bank_trace.proofs.Places.{under, IsFine, under_lands}
-use Rattle.bank_trace.proofs.Twins.{Twin, plain_thread, banked_thread, AreOpen, IsFineTwin, Deed, Quietly, Reading, Writing, Leaving, Ending, Resting, plain_effect, banked_effect, IsFineDeed, is_resting, Does, GetsStuck, Done}
+use Rattle.bank_trace.proofs.Twins.{Twin, plain_thread, banked_thread, AreOpen, IsFineTwin, Deed, Quietly, Reading, Writing, Leaving, Ending, Resting, plain_effect, banked_effect, Does, GetsStuck, Done}
 use Rattle.bank_trace.proofs.Instructions.{row_does}
 use Rattle.bank_trace.proofs.Joints.{Joint, plain_machine, banked_machine, IsFineJoint, running_twin, running_by, fine_running, Both, Stopped, Went, both_acted, both_enter}
 
