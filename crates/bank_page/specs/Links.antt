@@ -1,5 +1,5 @@
 -- What selects keep: code with its selects follows the same code without them.
-use Rattle.std.specs.Prelude.{ℕ, zero, suc, ◌+◌, ◌≡◌, Bool, true, false, List, [], ◌∷◌, Option, if◌then◌else◌}
+use Rattle.std.specs.Prelude.{ℕ, zero, suc, ◌+◌, ◌≡◌, true, false, List, [], ◌∷◌, Option, if◌then◌else◌}
 use Rattle.std.specs.List.{All}
 use Rattle.pic_map.specs.declared.Placed.{Placed}
 use Rattle.pic_world.specs.World.{Outside}
@@ -19,7 +19,7 @@ use Rattle.code_place.specs.Sizes.{Fit}
 use Rattle.sym_code.specs.Selects.{is_select}
 use Rattle.bank_page.specs.Kinds.{is_label}
 use Rattle.sym_code.specs.Selects.{bare}
-use Rattle.bank_page.specs.Selected.{NoSelectBehindSkip, Reaches, IsApart}
+use Rattle.bank_page.specs.Selected.{Reaches, IsApart}
 
 -- ---- prices
 -- What the instruction of a number costs together with the selects before it, in a list where so many selects stand before the
