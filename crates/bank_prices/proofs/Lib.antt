@@ -1,1 +1,4 @@
 mod Puts
+mod Straight
+mod Dear
+mod Pairs
