@@ -2,3 +2,6 @@ mod Puts
 mod Straight
 mod Dear
 mod Pairs
+mod Tight
+mod Owned
+mod Meets

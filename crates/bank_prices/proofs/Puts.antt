@@ -23,15 +23,15 @@ abbrev pub are_selects : List Sym → Bool
 are_selects [] = true
 are_selects (s ∷ list) = is_select s && are_selects list
 
-and_first : (a b : Bool) → (a && b) ≡ true → a ≡ true
+pub and_first : (a b : Bool) → (a && b) ≡ true → a ≡ true
 and_first true b e = refl
 and_first false b e = e
 
-and_last : (a b : Bool) → (a && b) ≡ true → b ≡ true
+pub and_last : (a b : Bool) → (a && b) ≡ true → b ≡ true
 and_last true b e = e
 and_last false b e = never e
 
-and_both : (a b : Bool) → a ≡ true → b ≡ true → (a && b) ≡ true
+pub and_both : (a b : Bool) → a ≡ true → b ≡ true → (a && b) ≡ true
 and_both true b p q = q
 and_both false b p q = p
 
