@@ -97,7 +97,7 @@ module _ (placed : Placed) (own : BlockName) where
       by_behind true = omega arith
       by_behind false = let h = less label in omega arith
 
-  behind_is : (select plain : Bool) (st : State) (s : Sym) (needs : Option Needs) → select ≡ false → (state_of select plain own st s needs).behind ≡ is_skip s
+  pub behind_is : (select plain : Bool) (st : State) (s : Sym) (needs : Option Needs) → select ≡ false → (state_of select plain own st s needs).behind ≡ is_skip s
   behind_is true plain st s needs e = never (sym e)
   behind_is false true st s needs e = refl
   behind_is false false st s None e = refl
@@ -149,7 +149,7 @@ module _ (placed : Placed) (own : BlockName) where
   no_part price n [] e = omega arith
   no_part price n (s ∷ part) e = absurd (cc)
 
-  nothing_taken : (k : ℕ) (list : List Sym) → list ≡ [] → take k list ≡ []
+  pub nothing_taken : (k : ℕ) (list : List Sym) → list ≡ [] → take k list ≡ []
   nothing_taken zero [] e = refl
   nothing_taken (suc k) [] e = refl
   nothing_taken k (s ∷ list) e = absurd (cc)

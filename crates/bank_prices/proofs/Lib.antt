@@ -5,3 +5,6 @@ mod Pairs
 mod Tight
 mod Owned
 mod Meets
+mod Chained
+mod Early
+mod Tracks

@@ -39,6 +39,10 @@ pub record IsTame (placed : Placed) (own : BlockName) (bank : ℕ) (s : Sym) : T
   pub skip : is_skip s ≡ true → ((writes_status s || writes_pclath s) ≡ false) × (jumps s ≡ false)
   pub keeps : is_label s ≡ false → forgets s ≡ false
 
+abbrev pub AllTame : Placed → BlockName → ℕ → List Sym → Type 0
+AllTame placed own bank [] = Unit {0}
+AllTame placed own bank (s ∷ list) = IsTame placed own bank s × AllTame placed own bank list
+
 and_none : (a b : Bool) → b ≡ false → (a && b) ≡ false
 and_none true b e = e
 and_none false b e = refl
@@ -127,10 +131,6 @@ module _ (placed : Placed) (root : Root) (copy size bank : ℕ) (own : BlockName
   tame (syms.Label label) h = record { needs = refl; page = refl; rp0 = refl; rp1 = refl; pages = refl; skip = λ e. never e; keeps = λ e. never (sym e) }
   tame s h = absurd h
 
-  abbrev pub AllTame : List Sym → Type 0
-  AllTame [] = Unit {0}
-  AllTame (s ∷ list) = Tame s × AllTame list
-
-  pub all_tame : (list : List Sym) → All (IsOwn root copy size) list → AllTame list
+  pub all_tame : (list : List Sym) → All (IsOwn root copy size) list → AllTame placed own bank list
   all_tame [] h = tt
   all_tame (s ∷ list) h = (tame s (h 0 s (omega arith)), all_tame list (λ k d l. h (suc k) d (omega arith)))
