@@ -1,12 +1,11 @@
 -- What a run of skips and the instruction behind them need in a routine, and where its words with selects are counted.
-use Rattle.std.proofs.Common.{◌≡◌, ℕ, zero, suc, ◌+◌, ◌≤◌, Bool, true, false, not, ◌&&◌, ◌||◌, nat_eq, if◌then◌else◌, List, [], ◌∷◌, ◌++◌, Option, Some, None, refl, sym, ap, ◌∙◌, subst, eq-eqb, arith}
+use Rattle.std.proofs.Common.{◌≡◌, ℕ, ◌+◌, Bool, true, false, ◌||◌, if◌then◌else◌, List, [], ◌∷◌, ◌++◌, Option, Some, None, refl, sym, ap, ◌∙◌, subst, eq-eqb}
 use Rattle.std.proofs.lemmas.Option.{none-some, same_Some}
 use Rattle.pic_map.specs.declared.Placed.{Placed}
 use Rattle.sym_code.specs.Selects.{is_select}
 use Rattle.sym_code.specs.declared.code.BlockName.{BlockName}
 use Rattle.sym_code.specs.declared.code.Sym.{Sym}
 use Rattle.sym_code.specs.declared.code.Sym.TheVariants as syms
-use Rattle.sym_code.specs.declared.code.Target.{Target}
 use Rattle.math_helpers.specs.Shape.{accesses_frame, jumps, select_words, words_from, is_straight}
 use Rattle.bank_page.specs.Kinds.{is_label, is_skip, byte_of, target_of}
 use Rattle.bank_page.specs.Known.{writes_status, writes_pclath}
@@ -124,8 +123,8 @@ module _ (placed : Placed) (own : BlockName) (n : ℕ) where
   no_label s rest m true e l k =
       let change = writes_status s || writes_pclath s in
       let none : needs_in placed (s ∷ rest) ≡ None =
-          ap (λ (b : Bool). needs_step b (is_label s) (is_skip s) change s (banked placed (byte_of s)) (needs_in placed rest)) e
-          ∙ ap (λ (b : Bool). needs_step false b (is_skip s) change s (banked placed (byte_of s)) (needs_in placed rest)) l in
+      ap (λ (b : Bool). needs_step b (is_label s) (is_skip s) change s (banked placed (byte_of s)) (needs_in placed rest)) e
+      ∙ ap (λ (b : Bool). needs_step false b (is_skip s) change s (banked placed (byte_of s)) (needs_in placed rest)) l in
       absurd (none-some m (sym none ∙ k))
 
   pub needs_fit : (list : List Sym) (m : Needs) → AllTame placed own n list → has_none list ≡ true → needs_in placed list ≡ Some m → Fits (acc list) (jmp list) m

@@ -2,16 +2,14 @@
 use Rattle.std.proofs.Common.{◌≡◌, ℕ, zero, suc, ◌+◌, ◌≤◌, Bool, true, false, not, ◌&&◌, ◌||◌, if◌then◌else◌, List, [], ◌∷◌, ◌++◌, length, length-append, take, drop, take-append-drop, Option, Some, None, refl, sym, ap, ◌∙◌, subst, arith}
 use Rattle.std.specs.List.{sum_by}
 use Rattle.std.proofs.lemmas.List.Sums.{sum_by-cons}
-use Rattle.core_code.specs.declared.code.Byte.{Byte}
 use Rattle.pic_map.specs.declared.Placed.{Placed}
 use Rattle.sym_code.specs.Selects.{is_select}
 use Rattle.sym_code.specs.declared.code.BlockName.{BlockName}
 use Rattle.sym_code.specs.declared.code.Sym.{Sym}
 use Rattle.sym_code.specs.declared.code.Sym.TheVariants as syms
-use Rattle.sym_code.specs.declared.code.Target.{Target}
 use Rattle.math_helpers.specs.Shape.{is_straight, sum_from}
-use Rattle.select_wide.specs.Links.{dearest, AreDear}
-use Rattle.bank_page.specs.Kinds.{is_label, is_skip, byte_named, byte_of, target_of}
+use Rattle.select_wide.specs.Links.{dearest}
+use Rattle.bank_page.specs.Kinds.{is_label, is_skip, byte_named}
 use Rattle.bank_page.specs.Known.{knows, learned}
 use Rattle.bank_page.specs.Links.{price_from}
 use Rattle.bank_page.specs.Needs.{needs_in}
@@ -20,7 +18,7 @@ use Rattle.bank_page.specs.declared.known.Known.{Known}
 use Rattle.bank_page.specs.declared.needs.Needs.{Needs}
 use Rattle.bank_page.specs.declared.selecting.State.{State}
 use Rattle.bank_page.proofs.Sizes.{cost, extra, chain_cost, chain_cost_step, debt, needs_cost, cost_of_needs, count_bank, count_page}
-use Rattle.bank_prices.proofs.Puts.{never, count_of, count, after_one, priced, priced_first, priced_later, sum_same, sum_shift}
+use Rattle.bank_prices.proofs.Puts.{never, count_of, after_one, priced_first, priced_later, sum_same, sum_shift}
 use Rattle.bank_prices.proofs.Straight.{has_none, none_first, none_later, straight_first, straight_last, straight_later}
 
 -- ---- the selects for some needs

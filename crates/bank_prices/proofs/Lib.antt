@@ -8,3 +8,4 @@ mod Meets
 mod Chained
 mod Early
 mod Tracks
+mod Whole

@@ -1,5 +1,5 @@
 -- The bank of a frame and the block's own page, as far as they are known to be selected.
-use Rattle.std.proofs.Common.{◌≡◌, ℕ, zero, suc, ◌+◌, ◌≤◌, Bool, true, false, not, ◌&&◌, ◌||◌, if◌then◌else◌, List, [], ◌∷◌, ◌++◌, length, length-append, Option, Some, None, refl, sym, ap, ◌∙◌, subst, eq-eqb, arith}
+use Rattle.std.proofs.Common.{◌≡◌, ℕ, ◌+◌, ◌≤◌, Bool, true, false, not, ◌&&◌, ◌||◌, if◌then◌else◌, [], ◌∷◌, ◌++◌, length, length-append, Option, Some, None, refl, sym, ap, ◌∙◌, subst, eq-eqb, arith}
 use Rattle.sym_code.specs.Programs.{same_name, block_of}
 use Rattle.sym_code.specs.declared.code.BlockName.{BlockName}
 use Rattle.sym_code.specs.declared.code.BlockName.TheVariants as names
@@ -10,10 +10,10 @@ use Rattle.sym_code.specs.declared.code.PageBit.TheVariants as page_bits
 use Rattle.sym_code.specs.declared.code.Target.{Target}
 use Rattle.pic_map.specs.declared.Placed.{Placed}
 use Rattle.math_helpers.specs.Shape.{select_words}
-use Rattle.bank_page.specs.Kinds.{is_label, is_skip}
-use Rattle.bank_page.specs.Known.{nothing, kept, left, after, forgets, ends, same_bit, is_bit, is_page, is_of_bit, knows, learned, writes_status, writes_pclath}
+use Rattle.bank_page.specs.Kinds.{is_label}
+use Rattle.bank_page.specs.Known.{nothing, kept, left, after, ends, same_bit, is_bit, is_page, is_of_bit, writes_status, writes_pclath}
 use Rattle.bank_page.specs.Selected.{has_bank}
-use Rattle.bank_page.specs.Step.{rp0_of, rp1_of, bank_selects, page_selects, unknown, missing, behind_selects, behind_bank, missing_for, known_with}
+use Rattle.bank_page.specs.Step.{rp0_of, rp1_of, bank_selects, page_selects, missing, behind_selects, behind_bank, missing_for, known_with}
 use Rattle.bank_page.specs.declared.known.Known.{Known}
 use Rattle.bank_page.specs.declared.needs.Needs.{Needs}
 use Rattle.bank_prices.proofs.Puts.{never, and_first, and_last, and_both}
@@ -47,7 +47,7 @@ none_and false b e = refl
 pub meets_after : (placed : Placed) (own : BlockName) (n : ℕ) (bank page : Bool) (known : Known) (s : Sym) (behind : Bool) → IsTame placed own n s → is_label s ≡ false → (ends s && not behind) ≡ false → Meets own n bank page known → Meets own n bank page (after known s behind)
 meets_after placed own n bank page known s behind tame label goes_on h =
     let same : left known s (writes_status s) (writes_pclath s) ≡ after known s behind =
-        sym (ap (λ (c : Bool). if c || (ends s && not behind) then nothing else left known s (writes_status s) (writes_pclath s)) (tame.keeps label) ∙ ap (λ (c : Bool). if c then nothing else left known s (writes_status s) (writes_pclath s)) goes_on) in
+    sym (ap (λ (c : Bool). if c || (ends s && not behind) then nothing else left known s (writes_status s) (writes_pclath s)) (tame.keeps label) ∙ ap (λ (c : Bool). if c then nothing else left known s (writes_status s) (writes_pclath s)) goes_on) in
     subst (Meets own n bank page) same (record {
       bank_known = λ e.
           let k = h.bank_known e in

@@ -1,19 +1,19 @@
 -- What the instructions of a routine need and change: the bank of its frame and its own page, and no bit that selects.
-use Rattle.std.proofs.Common.{◌≡◌, ℕ, zero, suc, ◌+◌, ◌/◌, ◌<◌, ◌≤◌, Bool, true, false, not, ◌&&◌, ◌||◌, nat_eq, if◌then◌else◌, List, [], ◌∷◌, ◌++◌, length, All, Option, Some, None, refl, sym, ap, ◌∙◌, subst, ne_eqb, arith}
+use Rattle.std.proofs.Common.{◌≡◌, ℕ, suc, ◌/◌, ◌<◌, ◌≤◌, Bool, true, false, ◌&&◌, ◌||◌, nat_eq, if◌then◌else◌, List, [], ◌∷◌, All, Option, Some, None, refl, sym, ap, ◌∙◌, subst, ne_eqb, arith}
 use Rattle.core_code.specs.declared.code.Byte.TheVariants as bytes
 use Rattle.pic_world.specs.declared.Root.{Root}
 use Rattle.pic_map.specs.declared.Placed.{Placed}
 use Rattle.sym_code.specs.Programs.{block_of}
 use Rattle.sym_code.specs.Touching.{touches, is_file, is_bit_write}
 use Rattle.sym_code.specs.declared.code.BitOperation.{BitOperation}
-use Rattle.sym_code.specs.declared.code.BitOperation.TheVariants.{Bcf, Bsf, Btfsc, Btfss}
+use Rattle.sym_code.specs.declared.code.BitOperation.TheVariants.{Btfsc, Btfss}
 use Rattle.sym_code.specs.declared.code.BlockName.{BlockName}
 use Rattle.sym_code.specs.declared.code.Label.TheVariants as labels
 use Rattle.sym_code.specs.declared.code.Literal.TheVariants as literals
 use Rattle.sym_code.specs.declared.code.Operand.{Operand}
 use Rattle.sym_code.specs.declared.code.Operand.TheVariants as operands
 use Rattle.sym_code.specs.declared.code.Register.{Register}
-use Rattle.sym_code.specs.declared.code.Register.TheVariants.{Indf, Status, Fsr, Pclath}
+use Rattle.sym_code.specs.declared.code.Register.TheVariants.{Status}
 use Rattle.sym_code.specs.declared.code.Sym.{Sym}
 use Rattle.sym_code.specs.declared.code.Sym.TheVariants as syms
 use Rattle.sym_code.specs.declared.code.Target.{Target}
@@ -21,7 +21,7 @@ use Rattle.sym_code.specs.declared.code.Target.TheVariants as targets
 use Rattle.code_place.specs.Addresses.{address_of}
 use Rattle.math_helpers.specs.Shape.{is_in_frame, accesses_frame, jumps, IsOwn, IsOwnOperand}
 use Rattle.bank_page.specs.Kinds.{is_label, is_skip, byte_named, byte_touched, byte_of, target_of}
-use Rattle.bank_page.specs.Known.{is_status, is_pclath, writes, writes_status, writes_pclath, is_of_bit, forgets, ends}
+use Rattle.bank_page.specs.Known.{is_status, is_pclath, writes, writes_status, writes_pclath, is_of_bit, forgets}
 use Rattle.bank_page.specs.Needs.{banked_at, banked}
 use Rattle.bank_prices.proofs.Puts.{never}
 

@@ -1,11 +1,11 @@
 -- A routine's instructions cost the selects of the frame's bank and of the page once, as long as no label stands among them.
-use Rattle.std.proofs.Common.{◌≡◌, ℕ, zero, suc, ◌+◌, ◌≤◌, Bool, true, false, not, ◌&&◌, ◌||◌, if◌then◌else◌, List, [], ◌∷◌, ◌++◌, length, take, drop, take-append-drop, Option, Some, None, refl, sym, ap, ◌∙◌, subst, arith}
+use Rattle.std.proofs.Common.{◌≡◌, ℕ, zero, suc, ◌+◌, ◌≤◌, Bool, true, false, not, ◌&&◌, ◌||◌, if◌then◌else◌, List, [], ◌∷◌, ◌++◌, length, take, drop, take-append-drop, Option, Some, refl, sym, ap, ◌∙◌, subst, arith}
 use Rattle.pic_map.specs.declared.Placed.{Placed}
 use Rattle.sym_code.specs.Selects.{is_select}
 use Rattle.sym_code.specs.declared.code.BlockName.{BlockName}
 use Rattle.sym_code.specs.declared.code.Sym.{Sym}
 use Rattle.sym_code.specs.declared.code.Sym.TheVariants as syms
-use Rattle.math_helpers.specs.Shape.{accesses_frame, jumps, select_words, words_from, most_words, is_straight, sum_from}
+use Rattle.math_helpers.specs.Shape.{accesses_frame, jumps, words_from, most_words, is_straight, sum_from}
 use Rattle.bank_page.specs.Kinds.{is_label, is_skip}
 use Rattle.bank_page.specs.Known.{after, ends}
 use Rattle.bank_page.specs.Links.{price_from}
@@ -15,7 +15,7 @@ use Rattle.bank_page.specs.declared.known.Known.{Known}
 use Rattle.bank_page.specs.declared.needs.Needs.{Needs}
 use Rattle.bank_page.specs.declared.selecting.State.{State}
 use Rattle.bank_prices.proofs.Puts.{never, count_of, count, after_one, priced_first, priced_later, sum_same, sum_shift}
-use Rattle.bank_prices.proofs.Straight.{has_none, none_first, none_later, straight_first, straight_last, straight_later}
+use Rattle.bank_prices.proofs.Straight.{has_none, none_first, none_later, straight_first, straight_later}
 use Rattle.bank_prices.proofs.Dear.{behind_is, sum_later, nothing_taken}
 use Rattle.bank_prices.proofs.Tight.{label_first, is_tight}
 use Rattle.bank_prices.proofs.Owned.{IsTame, AllTame, FitsPage}
@@ -137,9 +137,9 @@ module _ (placed : Placed) (own : BlockName) (n : ℕ) where
       let others = sum_later placed own st s (part ++ rest) part no_select in
       let words = paid_words bank page s part tame.0 label (paid refl).0 (paid refl).1 in
       let later : sum_of next part rest ≤ words_from bank page part =
-          behind_end bank page true k next s part rest tame.0 label straight tight (next_behind st s (part ++ rest) no_select) (next_known_behind k s (part ++ rest) no_select) h
-          (λ e. ((λ a. (paid refl).0 (acc_later s part e a)), (λ j. (paid refl).1 (jmp_later s part e j))))
-          (λ t l m p. tracks part rest t.known t.behind bank page tame.1 (none_later s (part ++ rest) none) (straight_later s part straight) l m p) in
+      behind_end bank page true k next s part rest tame.0 label straight tight (next_behind st s (part ++ rest) no_select) (next_known_behind k s (part ++ rest) no_select) h
+      (λ e. ((λ a. (paid refl).0 (acc_later s part e a)), (λ j. (paid refl).1 (jmp_later s part e j))))
+      (λ t l m p. tracks part rest t.known t.behind bank page tame.1 (none_later s (part ++ rest) none) (straight_later s part straight) l m p) in
       omega arith
   tracks (s ∷ part) rest k false bank page tame none straight tight h paid =
       let st : State = record { known = k; behind = false } in
@@ -158,11 +158,11 @@ module _ (placed : Placed) (own : BlockName) (n : ℕ) where
       let all = early placed own n (s ∷ part) (front_tame placed own n (s ∷ part) rest tame) straight bank page in
       let words = paid_words (bank || a) (page || j) s part tame.0 label (λ e. or_last bank a e) (λ e. or_last page j e) in
       let later : sum_of next part rest ≤ words_from (bank || a) (page || j) part =
-          behind_end (bank || a) (page || j) false (known_with own k needed.needs) next s part rest tame.0 label straight tight (next_behind st s (part ++ rest) no_select)
-          (next_known_free k s (part ++ rest) no_select label needed.needs needed.is)
-          (meets_with own n k needed.needs bank page a j h fits_bank fits_page)
-          (λ e. ((λ f. or_last bank a (acc_later s part e f)), (λ f. or_last page j (jmp_later s part e f))))
-          (λ t l m p. tracks part rest t.known t.behind (bank || a) (page || j) tame.1 (none_later s (part ++ rest) none) (straight_later s part straight) l m p) in
+      behind_end (bank || a) (page || j) false (known_with own k needed.needs) next s part rest tame.0 label straight tight (next_behind st s (part ++ rest) no_select)
+      (next_known_free k s (part ++ rest) no_select label needed.needs needed.is)
+      (meets_with own n k needed.needs bank page a j h fits_bank fits_page)
+      (λ e. ((λ f. or_last bank a (acc_later s part e f)), (λ f. or_last page j (jmp_later s part e f))))
+      (λ t l m p. tracks part rest t.known t.behind (bank || a) (page || j) tame.1 (none_later s (part ++ rest) none) (straight_later s part straight) l m p) in
       omega arith
 
   -- ---- from the front of the routine on
@@ -215,7 +215,7 @@ module _ (placed : Placed) (own : BlockName) (n : ℕ) where
       let needed = straight_needs placed own n s part rest tame none straight in
       let met = owed refl needed.needs needed.is in
       let here : Meets own n (acc (s ∷ part)) (jmp (s ∷ part)) k =
-          meets_less k (acc (s ∷ part ++ rest)) (jmp (s ∷ part ++ rest)) (acc (s ∷ part)) (jmp (s ∷ part)) (λ e. acc_front s part rest straight ∙ e) (λ e. jmp_front s part rest straight ∙ e) met in
+      meets_less k (acc (s ∷ part ++ rest)) (jmp (s ∷ part ++ rest)) (acc (s ∷ part)) (jmp (s ∷ part)) (λ e. acc_front s part rest straight ∙ e) (λ e. jmp_front s part rest straight ∙ e) met in
       let sum = tracks (s ∷ part) rest k true (acc (s ∷ part)) (jmp (s ∷ part)) tame none straight tight here (λ e. ((λ f. f), (λ f. f))) in
       let all = early placed own n (s ∷ part) (front_tame placed own n (s ∷ part) rest tame) straight false false in
       omega arith
