@@ -1,7 +1,7 @@
 -- The prices of what a list becomes with its selects.
-use Rattle.std.proofs.Common.{◌≡◌, ℕ, zero, suc, ◌+◌, Bool, true, false, ◌&&◌, ◌||◌, if◌then◌else◌, List, [], ◌∷◌, ◌++◌, length, Option, Some, None, refl, sym, ap, ◌∙◌, true≢false, append_assoc, arith}
+use Rattle.std.proofs.Common.{◌≡◌, ℕ, zero, suc, ◌+◌, Bool, true, false, not, ◌&&◌, ◌||◌, if◌then◌else◌, List, [], ◌∷◌, ◌++◌, length, Option, Some, None, refl, sym, ap, ◌∙◌, true≢false, append_assoc, arith}
 use Rattle.pic_map.specs.declared.Placed.{Placed}
-use Rattle.sym_code.specs.Selects.{is_select}
+use Rattle.sym_code.specs.Selects.{is_select, bare}
 use Rattle.sym_code.specs.declared.code.BlockName.{BlockName}
 use Rattle.sym_code.specs.declared.code.Sym.{Sym}
 use Rattle.sym_code.specs.declared.code.Target.{Target}
@@ -138,3 +138,27 @@ sum_shift p n [] = refl
 sum_shift p n (s ∷ part) =
     let e : suc n + 1 ≡ suc (n + 1) = omega arith in
     ap (λ m. p (suc n) + sum_from p m part) e ∙ ap (λ m. p (suc n) + m) (sum_shift p (n + 1) part)
+
+-- ---- taken out again
+bare_selects : (xs ys : List Sym) → are_selects xs ≡ true → bare (xs ++ ys) ≡ bare ys
+bare_selects [] ys e = refl
+bare_selects (x ∷ xs) ys e =
+    ap (λ (b : Bool). if not b then x ∷ bare (xs ++ ys) else bare (xs ++ ys)) (and_first (is_select x) (are_selects xs) e) ∙ bare_selects xs ys (and_last (is_select x) (are_selects xs) e)
+
+bare_one : (s : Sym) (ys zs : List Sym) → bare ys ≡ bare zs → bare (s ∷ ys) ≡ bare (s ∷ zs)
+bare_one s ys zs e = ap (λ (l : List Sym). if not (is_select s) then s ∷ l else l) e
+
+bare_put : (own : BlockName) (st : State) (s : Sym) (select plain : Bool) (needs : Option Needs) (more rest : List Sym) → is_select s ≡ select → bare more ≡ bare rest → bare (put_of select plain own st s needs ++ more) ≡ bare (s ∷ rest)
+bare_put own st s true plain needs more rest is e = e ∙ sym (ap (λ (b : Bool). if not b then s ∷ bare rest else bare rest) is)
+bare_put own st s false true needs more rest is e = bare_one s more rest e
+bare_put own st s false false None more rest is e = bare_one s more rest e
+bare_put own st s false false (Some needs) more rest is e =
+    ap bare (append_assoc (missing_for own st.known needs) (s ∷ []) more) ∙ bare_selects (missing_for own st.known needs) (s ∷ more) (for_needs own st.known needs) ∙ bare_one s more rest e
+
+pub bare_selected : (placed : Placed) (own : BlockName) (st : State) (list : List Sym) → bare (selected_from placed own st list) ≡ bare list
+bare_selected placed own st [] = refl
+bare_selected placed own st (s ∷ rest) =
+    let plain = st.behind || is_label s in
+    let needs = needs_in placed (s ∷ rest) in
+    let next = state_of (is_select s) plain own st s needs in
+    bare_put own st s (is_select s) plain needs (selected_from placed own next rest) rest refl (bare_selected placed own next rest)

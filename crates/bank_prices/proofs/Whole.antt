@@ -4,6 +4,7 @@ use Rattle.pic_map.specs.declared.FrameLine.{FrameLine}
 use Rattle.pic_map.specs.declared.Placed.{Placed}
 use Rattle.sym_code.specs.Layout.{FrameRange, no_frame, frame, lies_in, is_whole}
 use Rattle.sym_code.specs.Programs.{block_in}
+use Rattle.sym_code.specs.Selects.{bare}
 use Rattle.sym_code.specs.declared.code.BlockName.{BlockName}
 use Rattle.sym_code.specs.declared.code.BlockName.TheVariants.{Copy}
 use Rattle.sym_code.specs.declared.code.Sym.{Sym}
@@ -17,8 +18,8 @@ use Rattle.select_wide.specs.Links.{dearest}
 use Rattle.bank_page.specs.Links.{price_from}
 use Rattle.bank_page.specs.Selected.{front}
 use Rattle.bank_page.specs.Step.{selected_from}
-use Rattle.bank_prices.specs.Prices.{AreSelected, BlocksAreDear, RoutinesArePriced}
-use Rattle.bank_prices.proofs.Puts.{never, and_first, and_last}
+use Rattle.bank_prices.specs.Prices.{AreSelected, LeavesBlocks, BlocksAreDear, RoutinesArePriced}
+use Rattle.bank_prices.proofs.Puts.{never, and_first, and_last, bare_selected}
 use Rattle.bank_prices.proofs.Straight.{has_none, bare_none}
 use Rattle.bank_prices.proofs.Dear.{dear_at}
 use Rattle.bank_prices.proofs.Pairs.{exact_at}
@@ -32,6 +33,12 @@ module _ (placed : Placed) (given made : List SymBlock) (has : AreSelected place
 
   pub no_selects : has_none (block_in given name) ≡ true
   no_selects = subst (λ (l : List Sym). has_none l ≡ true) (has.same name) (bare_none (block_in made name))
+
+pub leaves_blocks : LeavesBlocks
+leaves_blocks placed given made each none = record {
+  each = each;
+  same = λ name. ap bare (exact_at placed given made each name) ∙ bare_selected placed name front (block_in given name) ∙ none name;
+}
 
 pub blocks_are_dear : BlocksAreDear
 blocks_are_dear placed given made has name n part is e =

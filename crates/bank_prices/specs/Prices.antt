@@ -32,3 +32,9 @@ RoutinesArePriced =
     (placed : Placed) (given made : List SymBlock) → AreSelected placed given made → (h : Helper) (root : Root) (c : ℕ) → block_in given (Copy c) ≡ helper_code h root c
     → is_whole (frame (layout_of placed) c).address (frame (layout_of placed) c).size ≡ true → frame_size h ≤ (frame (layout_of placed) c).size
     → ArePriced (price_in (block_in made) (Copy c)) (helper_code h root c)
+
+-- Taken out of what `selects` answers, they leave blocks that had none.
+abbrev pub LeavesBlocks : Type 0
+LeavesBlocks =
+    (placed : Placed) (given made : List SymBlock) → AllZip (IsExact placed) given made → ((name : BlockName) → bare (block_in given name) ≡ block_in given name)
+    → AreSelected placed given made
