@@ -11,34 +11,18 @@ use Rattle.bank_page.specs.Kinds.{is_label, is_skip, byte_of, target_of}
 use Rattle.bank_page.specs.Known.{writes_status, writes_pclath}
 use Rattle.bank_page.specs.Needs.{banked, needs_one, needs_in}
 use Rattle.bank_page.specs.Selected.{front, is_quiet, are_quiet, KeepsFront}
-use Rattle.bank_page.specs.Step.{page_selects, missing_for, known_with, passed, NextFor, Next}
+use Rattle.bank_page.specs.Step.{page_selects, missing_for, passed, NextFor, Next, put_of, state_of, selected_from}
 use Rattle.bank_page.specs.declared.known.Known.{Known}
 use Rattle.bank_page.specs.declared.needs.Needs.{Needs}
 use Rattle.bank_page.specs.declared.selecting.State.{State}
 use Rattle.bank_page.proofs.Chains.{true_false, and_left, and_right, needs_step}
 
-abbrev pub put_of : Bool → Bool → BlockName → State → Sym → Option Needs → List Sym
-put_of true plain own st s needs = []
-put_of false true own st s needs = s ∷ []
-put_of false false own st s None = s ∷ []
-put_of false false own st s (Some needs) = missing_for own st.known needs ++ s ∷ []
-
-abbrev pub state_of : Bool → Bool → BlockName → State → Sym → Option Needs → State
-state_of true plain own st s needs = st
-state_of false true own st s needs = passed st.known s st.behind
-state_of false false own st s None = passed st.known s false
-state_of false false own st s (Some needs) = passed (known_with own st.known needs) s false
-
-abbrev pub selected : Placed → BlockName → State → List Sym → List Sym
-selected placed own st [] = []
-selected placed own st (s ∷ rest) = put_of (is_select s) (st.behind || is_label s) own st s (needs_in placed (s ∷ rest)) ++ selected placed own (state_of (is_select s) (st.behind || is_label s) own st s (needs_in placed (s ∷ rest))) rest
-
 -- what was put, and what becomes of the rest, is what becomes of the list
 abbrev pub Exact : Placed → BlockName → List Sym → List Sym → State → List Sym → Type 0
-Exact placed own list out state rest = out ++ selected placed own state rest ≡ selected placed own front list
+Exact placed own list out state rest = out ++ selected_from placed own state rest ≡ selected_from placed own front list
 
 pub exact_none : (placed : Placed) (own : BlockName) (list out : List Sym) → out ≡ [] → Exact placed own list out front list
-exact_none placed own list out none = ap (λ (xs : List Sym). xs ++ selected placed own front list) none
+exact_none placed own list out none = ap (λ (xs : List Sym). xs ++ selected_from placed own front list) none
 
 put_is : (select plain : Bool) (own : BlockName) (state next : State) (s : Sym) (needs : Option Needs) (out new : List Sym) → NextFor select plain own state s needs out new next → (new ≡ out ++ put_of select plain own state s needs) × (next ≡ state_of select plain own state s needs)
 put_is true plain own state next s needs out new step = (step.0 ∙ sym (append-nil out), step.1)
@@ -54,13 +38,13 @@ exact_more placed own list out new state next s left rest e step exact =
     let put = put_of (is_select s) (state.behind || is_label s) own state s needs in
     let behind = state_of (is_select s) (state.behind || is_label s) own state s needs in
     let is = put_is (is_select s) (state.behind || is_label s) own state next s needs out new both.0 in
-    ap (λ (xs : List Sym). xs ++ selected placed own next rest) is.0
-    ∙ (ap (λ (st : State). out ++ put ++ selected placed own st rest) is.1
-    ∙ (append_assoc out put (selected placed own behind rest) ∙ both.1))
+    ap (λ (xs : List Sym). xs ++ selected_from placed own next rest) is.0
+    ∙ (ap (λ (st : State). out ++ put ++ selected_from placed own st rest) is.1
+    ∙ (append_assoc out put (selected_from placed own behind rest) ∙ both.1))
 
-exact_all : (placed : Placed) (own : BlockName) (list out : List Sym) (state : State) (rest : List Sym) → rest ≡ [] → Exact placed own list out state rest → out ≡ selected placed own front list
+exact_all : (placed : Placed) (own : BlockName) (list out : List Sym) (state : State) (rest : List Sym) → rest ≡ [] → Exact placed own list out state rest → out ≡ selected_from placed own front list
 exact_all placed own list out state rest none exact =
-    let P : List Sym → Type 0 = λ l. out ++ selected placed own state l ≡ selected placed own front list in
+    let P : List Sym → Type 0 = λ l. out ++ selected_from placed own state l ≡ selected_from placed own front list in
     sym (append-nil out) ∙ subst P none exact
 
 none_of : (a b : Bool) → (a || b) ≡ false → (a ≡ false) × (b ≡ false)
@@ -111,27 +95,27 @@ quiet_needs placed s rest q =
     ∙ ap (λ (t : Option Target). Some (record { bank = None; page = t })) q.target)))
 
 -- such instructions stand one behind the other
-quiet_front : (placed : Placed) (own : BlockName) (known : Known) (quiet rest : List Sym) → are_quiet quiet ≡ true → (more : List Sym) × (selected placed own (record { known = known; behind = false }) (quiet ++ rest) ≡ quiet ++ more)
-quiet_front placed own known [] rest all = (selected placed own (record { known = known; behind = false }) rest, refl)
+quiet_front : (placed : Placed) (own : BlockName) (known : Known) (quiet rest : List Sym) → are_quiet quiet ≡ true → (more : List Sym) × (selected_from placed own (record { known = known; behind = false }) (quiet ++ rest) ≡ quiet ++ more)
+quiet_front placed own known [] rest all = (selected_from placed own (record { known = known; behind = false }) rest, refl)
 quiet_front placed own known (s ∷ quiet) rest all =
     let q = quiet_parts s (and_left (is_quiet s) (are_quiet quiet) all) in
     let st : State = record { known = known; behind = false } in
     let needs = needs_in placed (s ∷ quiet ++ rest) in
-    let later : State → List Sym = λ x. selected placed own x (quiet ++ rest) in
+    let later : State → List Sym = λ x. selected_from placed own x (quiet ++ rest) in
     let passed_on = passed known s false in
     let others = quiet_front placed own passed_on.known quiet rest (and_right (is_quiet s) (are_quiet quiet) all) in
-    let same : selected placed own st (s ∷ quiet ++ rest) ≡ s ∷ later passed_on =
+    let same : selected_from placed own st (s ∷ quiet ++ rest) ≡ s ∷ later passed_on =
     ap (λ (b : Bool). put_of b (false || is_label s) own st s needs ++ later (state_of b (false || is_label s) own st s needs)) q.select
     ∙ (ap (λ (b : Bool). put_of false b own st s needs ++ later (state_of false b own st s needs)) q.label
     ∙ ap (λ (n : Option Needs). put_of false false own st s n ++ later (state_of false false own st s n)) (quiet_needs placed s (quiet ++ rest) q)) in
     (others.0, same ∙ (ap (λ (b : Bool). s ∷ later (record { known = passed_on.known; behind = b })) q.skip ∙ ap (λ (l : List Sym). s ∷ l) others.1))
 
-jump_first : (placed : Placed) (own : BlockName) (list out : List Sym) → out ≡ selected placed own front list → (target : Target) (quiet rest : List Sym) → are_quiet quiet ≡ true → list ≡ syms.Goto target ∷ quiet ++ rest → (more : List Sym) × (out ≡ page_selects (Some target) ++ syms.Goto target ∷ quiet ++ more)
+jump_first : (placed : Placed) (own : BlockName) (list out : List Sym) → out ≡ selected_from placed own front list → (target : Target) (quiet rest : List Sym) → are_quiet quiet ≡ true → list ≡ syms.Goto target ∷ quiet ++ rest → (more : List Sym) × (out ≡ page_selects (Some target) ++ syms.Goto target ∷ quiet ++ more)
 jump_first placed own list out is target quiet rest all begins =
     let jump = syms.Goto target in
     let jumped = state_of false false own front jump (needs_in placed (jump ∷ quiet ++ rest)) in
     let others = quiet_front placed own jumped.known quiet rest all in
-    (others.0, is ∙ (ap (selected placed own front) begins ∙ ap (λ (l : List Sym). page_selects (Some target) ++ (jump ∷ []) ++ l) others.1))
+    (others.0, is ∙ (ap (selected_from placed own front) begins ∙ ap (λ (l : List Sym). page_selects (Some target) ++ (jump ∷ []) ++ l) others.1))
 
 nothing_left : (list : List Sym) → length list < 1 → list ≡ []
 nothing_left [] few = refl
@@ -140,3 +124,6 @@ nothing_left (s ∷ list) few = absurd (omega (arith, few))
 -- at the end of the list
 pub front_all : (placed : Placed) (own : BlockName) (list out : List Sym) (state : State) (rest : List Sym) → length rest < 1 → Exact placed own list out state rest → KeepsFront list out
 front_all placed own list out state rest few exact = record { words = jump_first placed own list out (exact_all placed own list out state rest (nothing_left rest few) exact) }
+
+pub code_all : (placed : Placed) (own : BlockName) (list out : List Sym) (state : State) (rest : List Sym) → length rest < 1 → Exact placed own list out state rest → out ≡ selected_from placed own front list
+code_all placed own list out state rest few exact = exact_all placed own list out state rest (nothing_left rest few) exact

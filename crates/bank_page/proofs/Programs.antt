@@ -6,7 +6,7 @@ use Rattle.std.proofs.lemmas.List.Elements.{All-push, AllZip-push}
 use Rattle.pic_map.specs.declared.Placed.{Placed}
 use Rattle.sym_code.specs.declared.code.SymBlock.{SymBlock}
 use Rattle.sym_code.specs.Selects.{bare}
-use Rattle.bank_page.specs.Selected.{NoSelectBehindSkip, reaches_all, is_lean_all, names_of, bare_lists, IsApart, Reaches, IsLean, KeepsFrontOf, IsWithin}
+use Rattle.bank_page.specs.Selected.{NoSelectBehindSkip, reaches_all, is_lean_all, names_of, bare_lists, IsApart, Reaches, IsLean, KeepsFrontOf, IsWithin, IsExact}
 
 -- What holds of the blocks that are made of the first of a list.
 pub record Blocks (placed : Placed) (list : List SymBlock) (i : ℕ) (made : List SymBlock) : Type 0 where
@@ -17,6 +17,7 @@ pub record Blocks (placed : Placed) (list : List SymBlock) (i : ℕ) (made : Lis
   pub lean : All IsLean made
   pub front : AllZip KeepsFrontOf (take i list) made
   pub few : AllZip IsWithin (take i list) made
+  pub exact : AllZip (IsExact placed) (take i list) made
 
 mapped : {B : Type 0} (f : SymBlock → B) (list made new : List SymBlock) (i : ℕ) (block x : SymBlock) → i < length list → block ≡ get_or list i block → new ≡ made ++ x ∷ [] → f x ≡ f block → map f made ≡ map f (take i list) → map f new ≡ map f (take (i + 1) list)
 mapped f list made new i block x below is put same before =
@@ -38,10 +39,10 @@ more_zip R list made new i block x below is put one before =
 pub blocks_none : (placed : Placed) (list made : List SymBlock) → made ≡ [] → Blocks placed list 0 made
 blocks_none placed list made none =
     let P : List SymBlock → Type 0 = λ m. Blocks placed list 0 m in
-    subst P (sym none) (record { names = refl; lists = refl; apart = search rules; reaches = search rules; lean = search rules; front = search rules; few = search rules })
+    subst P (sym none) (record { names = refl; lists = refl; apart = search rules; reaches = search rules; lean = search rules; front = search rules; few = search rules; exact = search rules })
 
-pub blocks_more : (placed : Placed) (given list made new : List SymBlock) (i : ℕ) (block x : SymBlock) → given ≡ list → i < length given → block ≡ get_or given i block → new ≡ made ++ x ∷ [] → x.name ≡ block.name → bare x.list.items ≡ bare block.list.items → NoSelectBehindSkip x.list.items → reaches_all placed x ≡ true → is_lean_all x ≡ true → KeepsFrontOf block x → IsWithin block x → Blocks placed list i made → Blocks placed list (i + 1) new
-blocks_more placed given list made new i block x same below is put name lists apart right lean front few before =
+pub blocks_more : (placed : Placed) (given list made new : List SymBlock) (i : ℕ) (block x : SymBlock) → given ≡ list → i < length given → block ≡ get_or given i block → new ≡ made ++ x ∷ [] → x.name ≡ block.name → bare x.list.items ≡ bare block.list.items → NoSelectBehindSkip x.list.items → reaches_all placed x ≡ true → is_lean_all x ≡ true → KeepsFrontOf block x → IsWithin block x → IsExact placed block x → Blocks placed list i made → Blocks placed list (i + 1) new
+blocks_more placed given list made new i block x same below is put name lists apart right lean front few exact before =
     let P : List SymBlock → Type 0 = λ l. (i < length l) × (block ≡ get_or l i block) in
     let here = subst P same (below, is) in
     record {
@@ -52,6 +53,7 @@ blocks_more placed given list made new i block x same below is put name lists ap
       lean = more_all IsLean made new x put lean before.lean;
       front = more_zip KeepsFrontOf list made new i block x here.0 here.1 put front before.front;
       few = more_zip IsWithin list made new i block x here.0 here.1 put few before.few;
+      exact = more_zip (IsExact placed) list made new i block x here.0 here.1 put exact before.exact;
     }
 
 pub blocks_all : (placed : Placed) (given list made : List SymBlock) (i : ℕ) → given ≡ list → length given ≤ i → Blocks placed list i made → Blocks placed list (length list) made
@@ -67,12 +69,14 @@ blocks_all placed given list made i same past blocks =
       lean = blocks.lean;
       front = (let Z : List SymBlock → Type 0 = λ l. AllZip KeepsFrontOf l made in subst Z all blocks.front);
       few = (let Z : List SymBlock → Type 0 = λ l. AllZip IsWithin l made in subst Z all blocks.few);
+      exact = (let Z : List SymBlock → Type 0 = λ l. AllZip (IsExact placed) l made in subst Z all blocks.exact);
     }
 
-pub whole : (placed : Placed) (given list made : List SymBlock) (i : ℕ) → given ≡ list → length given ≤ i → Blocks placed list i made → (names_of made ≡ names_of list) × (bare_lists made ≡ bare_lists list) × AllZip KeepsFrontOf list made × AllZip IsWithin list made
+pub whole : (placed : Placed) (given list made : List SymBlock) (i : ℕ) → given ≡ list → length given ≤ i → Blocks placed list i made → (names_of made ≡ names_of list) × (bare_lists made ≡ bare_lists list) × AllZip KeepsFrontOf list made × AllZip IsWithin list made × AllZip (IsExact placed) list made
 whole placed given list made i same past blocks =
     let end = blocks_all placed given list made i same past blocks in
     let all : take (length list) list ≡ list = take_all (length list) list (omega arith) in
     let Y : List SymBlock → Type 0 = λ l. AllZip KeepsFrontOf l made in
     let Z : List SymBlock → Type 0 = λ l. AllZip IsWithin l made in
-    (end.names ∙ ap names_of all, end.lists ∙ ap bare_lists all, subst Y all end.front, subst Z all end.few)
+    let X : List SymBlock → Type 0 = λ l. AllZip (IsExact placed) l made in
+    (end.names ∙ ap names_of all, end.lists ∙ ap bare_lists all, subst Y all end.front, subst Z all end.few, subst X all end.exact)

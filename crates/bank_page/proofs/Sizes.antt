@@ -64,7 +64,7 @@ operand_most (operands.Saved saved) = refl
 plus_none : (a b : ℕ) → a ≡ 1 + b → a ≡ 1 + (b + 0)
 plus_none a b e = omega (arith, e)
 
-one_most : (s : Sym) → is_select s ≡ false → most_of_one s ≡ words_of_one s + extra s
+pub one_most : (s : Sym) → is_select s ≡ false → most_of_one s ≡ words_of_one s + extra s
 one_most (syms.File op file into) is = plus_none (most_of_operand file) (cost (byte_named file)) (operand_most file)
 one_most (syms.Movwf file) is = plus_none (most_of_operand file) (cost (byte_named file)) (operand_most file)
 one_most (syms.Clrf file) is = plus_none (most_of_operand file) (cost (byte_named file)) (operand_most file)
@@ -131,7 +131,7 @@ own_cost placed None b is =
     subst P (same_Some none b is) (omega arith)
 own_cost placed (Some byte) b is = at_cost (address_of placed byte) b is
 
-cost_of_needs : (placed : Placed) (list : List Sym) (n : Needs) → needs_in placed list ≡ Some n → needs_cost n ≤ chain_cost list
+pub cost_of_needs : (placed : Placed) (list : List Sym) (n : Needs) → needs_in placed list ≡ Some n → needs_cost n ≤ chain_cost list
 cost_of_needs placed [] n is = absurd (none-some n is)
 cost_of_needs placed (s ∷ rest) n is = cost_step (is_select s) (is_label s) (is_skip s) (writes_status s || writes_pclath s) s (banked placed (byte_of s)) (needs_in placed rest) (chain_cost rest) n (λ m. cost_of_needs placed rest m) (λ b. own_cost placed (byte_of s) b) is
 
@@ -164,11 +164,11 @@ missing_words own known (s ∷ list) =
     let others = missing_words own (learned own known s) list in
     omega (arith, two, one, others)
 
-count_bank : (bank : Option ℕ) → length (bank_selects bank) ≡ cost bank
+pub count_bank : (bank : Option ℕ) → length (bank_selects bank) ≡ cost bank
 count_bank None = refl
 count_bank (Some bank) = refl
 
-count_page : (page : Option Target) → length (page_selects page) ≡ cost page
+pub count_page : (page : Option Target) → length (page_selects page) ≡ cost page
 count_page None = refl
 count_page (Some target) = refl
 

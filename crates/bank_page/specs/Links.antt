@@ -1,5 +1,5 @@
 -- What selects keep: code with its selects follows the same code without them.
-use Rattle.std.specs.Prelude.{ℕ, zero, suc, ◌+◌, ◌≡◌, Bool, true, false, List, [], ◌∷◌, Option, if◌then◌else◌}
+use Rattle.std.specs.Prelude.{ℕ, zero, suc, ◌+◌, ◌≡◌, true, false, List, [], ◌∷◌, Option, if◌then◌else◌}
 use Rattle.std.specs.List.{All}
 use Rattle.pic_map.specs.declared.Placed.{Placed}
 use Rattle.pic_world.specs.World.{Outside}
@@ -14,11 +14,12 @@ use Rattle.sym_code.specs.declared.code.BlockName.{BlockName}
 use Rattle.sym_code.specs.declared.code.Sym.{Sym}
 use Rattle.sym_code.specs.declared.code.SymBlock.{SymBlock}
 use Rattle.code_place.specs.Layouts.{program_of, page_of}
+use Rattle.code_place.specs.Places.{BlocksHaveAddresses}
 use Rattle.code_place.specs.Sizes.{Fit}
 use Rattle.sym_code.specs.Selects.{is_select}
 use Rattle.bank_page.specs.Kinds.{is_label}
 use Rattle.sym_code.specs.Selects.{bare}
-use Rattle.bank_page.specs.Selected.{NoSelectBehindSkip, Reaches, IsApart}
+use Rattle.bank_page.specs.Selected.{Reaches, IsApart}
 
 -- ---- prices
 -- What the instruction of a number costs together with the selects before it, in a list where so many selects stand before the
@@ -39,7 +40,8 @@ one_each name n = 1
 
 -- ---- what is given
 -- Blocks with their selects: by what is known on every way through a block each access finds its bank selected, and each jump and
--- call its page; between a skip and the instruction behind it stands none.
+-- call its page; between a skip and the instruction behind it stands none. All that is named has an address: a result is one of
+-- four bytes, which stand in every bank.
 pub record HasSelects (given made : List SymBlock) (handler : Option ℕ) (placed : Placed) (at : List ℕ) (g h : Setting) : Type 0 where
   pub given_code : g.program ≡ program_of given handler placed
   pub made_code : h.program ≡ program_of made handler placed
@@ -47,6 +49,7 @@ pub record HasSelects (given made : List SymBlock) (handler : Option ℕ) (place
   pub with : h.banked ≡ true
   pub pages : h.page_of ≡ page_of made at
   pub fit : Fit made at
+  pub named : BlocksHaveAddresses placed made at
   pub limits : h.limit ≡ g.limit
   pub same : (name : BlockName) → bare (block_in made name) ≡ block_in given name
   pub apart : All IsApart made

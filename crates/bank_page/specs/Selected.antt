@@ -13,7 +13,7 @@ use Rattle.sym_code.specs.Words.{words_in, most_words}
 use Rattle.sym_code.specs.Selects.{is_select, bare}
 use Rattle.bank_page.specs.Kinds.{is_label, is_skip, byte_of, target_of}
 use Rattle.bank_page.specs.Known.{nothing, is_bit, is_page, knows, seen_after}
-use Rattle.bank_page.specs.Step.{rp0_of, rp1_of, page_selects}
+use Rattle.bank_page.specs.Step.{rp0_of, rp1_of, page_selects, selected_from}
 use Rattle.bank_page.specs.declared.known.Known.{Known}
 use Rattle.bank_page.specs.declared.selecting.State.{State}
 
@@ -117,3 +117,9 @@ KeepsFrontOf given made = KeepsFront given.list.items made.list.items
 -- The real words of the block that is made are at most those that the given one may become.
 abbrev pub IsWithin : SymBlock → SymBlock → Type 0
 IsWithin given made = words_in made.list.items ≤ most_words given.list.items
+
+-- What a block becomes, and no more: before each instruction that isn't behind a skip stand the selects for what it and the skips
+-- up to it need, as far as that isn't known already.
+pub record IsExact (placed : Placed) (given made : SymBlock) : Type 0 where
+  pub name : made.name ≡ given.name
+  pub code : made.list.items ≡ selected_from placed given.name front given.list.items

@@ -65,3 +65,24 @@ NextFor false false own st s (Some needs) old new next = (new ≡ old ++ missing
 -- A select is left out. Behind a skip, and at a label, only the instruction itself is put; elsewhere what it needs before it.
 abbrev pub Next : Placed → BlockName → State → Sym → List Sym → List Sym → List Sym → State → Type 0
 Next placed own st s list old new next = NextFor (is_select s) (st.behind || is_label s) own st s (needs_in placed list) old new next
+
+-- ---- a whole list
+-- what is put for the first instruction of a list, and what is known behind it; `plain` says that it is put alone
+abbrev pub put_of : Bool → Bool → BlockName → State → Sym → Option Needs → List Sym
+put_of true plain own st s needs = []
+put_of false true own st s needs = s ∷ []
+put_of false false own st s None = s ∷ []
+put_of false false own st s (Some needs) = missing_for own st.known needs ++ s ∷ []
+
+abbrev pub state_of : Bool → Bool → BlockName → State → Sym → Option Needs → State
+state_of true plain own st s needs = st
+state_of false true own st s needs = passed st.known s st.behind
+state_of false false own st s None = passed st.known s false
+state_of false false own st s (Some needs) = passed (known_with own st.known needs) s false
+
+-- what becomes of a list, where this is known before it
+abbrev pub selected_from : Placed → BlockName → State → List Sym → List Sym
+selected_from placed own st [] = []
+selected_from placed own st (s ∷ rest) =
+    put_of (is_select s) (st.behind || is_label s) own st s (needs_in placed (s ∷ rest))
+    ++ selected_from placed own (state_of (is_select s) (st.behind || is_label s) own st s (needs_in placed (s ∷ rest))) rest

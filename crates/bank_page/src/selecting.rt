@@ -113,6 +113,7 @@ fn put_selected(out: &mut SymBlock, placed: &Placed, list: &[Sym]) -> Result<(),
     ensures lean { IfOk result (λ _. kept.is_lean_all out.new ≡ true) }
     ensures front { IfOk result (λ _. kept.KeepsFront list.now out.new.list.items) }
     ensures few { IfOk result (λ _. words_in out.new.list.items ≤ most_words list.now) }
+    ensures exact { IfOk result (λ _. out.new.list.items ≡ stated.selected_from placed.now out.old.name kept.front list.now) }
 {
     let mut state = State {
         known: Known::nothing(),
@@ -134,6 +135,7 @@ fn selected(alloc: Global, block: &SymBlock, placed: &Placed) -> Result<SymBlock
     ensures lean { IfOk result (λ made. kept.is_lean_all made ≡ true) }
     ensures front { IfOk result (λ made. kept.KeepsFrontOf block.now made) }
     ensures few { IfOk result (λ made. kept.IsWithin block.now made) }
+    ensures exact { IfOk result (λ made. kept.IsExact placed.now block.now made) }
 {
     let mut out = SymBlock::new(alloc, block.name);
     put_selected(&mut out, placed, &block.list)?;
@@ -171,6 +173,8 @@ pub fn selects(alloc: Global, s: &SymProgram, placed: &Placed) -> Result<SymProg
     ensures front { IfOk result (λ made. AllZip kept.KeepsFrontOf s.now.blocks.items made.blocks.items) }
     // Each block has at most the words that it may become with a select for each access, jump and call that may need one.
     ensures few { IfOk result (λ made. AllZip kept.IsWithin s.now.blocks.items made.blocks.items) }
+    // Each block is what its definition makes of the given one: no select stands in it but for a need.
+    ensures exact { IfOk result (λ made. AllZip (kept.IsExact placed.now) s.now.blocks.items made.blocks.items) }
 {
     let mut blocks = Vec::new(alloc);
     for block in &s.blocks {

@@ -1,4 +1,4 @@
-use Rattle.bank_page.proofs.Fronts.{front_all}
+use Rattle.bank_page.proofs.Fronts.{front_all, code_all}
 use Rattle.bank_page.proofs.Steps.{turn}
 use Rattle.bank_page.proofs.selecting.put_selected.Goals as goal
 
@@ -7,3 +7,6 @@ loop-rest-preserved c = turn c.args.placed.now c.args.out.now.name c.loop-rest.o
 
 pub returns-clause-front : goal.returns-clause-front
 returns-clause-front c = front_all c.args.placed.now c.args.out.now.name c.args.list.now c.loop-rest.out.list.items c.loop-rest.state c.loop-rest.rest.now c.in_default.len_below c.loop-rest.invariant.4
+
+pub returns-clause-exact : goal.returns-clause-exact
+returns-clause-exact c = code_all c.args.placed.now c.args.out.now.name c.args.list.now c.loop-rest.out.list.items c.loop-rest.state c.loop-rest.rest.now c.in_default.len_below c.loop-rest.invariant.4

@@ -7,7 +7,7 @@ loop-block-init c = blocks_none c.args.placed.now c.args.s.now.blocks.items c.ne
 pub loop-block-preserved : goal.loop-block-preserved
 loop-block-preserved c =
     let made = c.in_ok-made.ensures in
-    blocks_more c.args.placed.now c.deref-block-items.result.now c.args.s.now.blocks.items c.loop-block.blocks.items c.put_made.new.blocks.items c.loop-block.block-index c.block-item.result c.in_ok-made.made c.deref-block-items.ensures.value c.loop-block-test.true c.block-item.is c.in_ok-put_made.ensures made.name made.bare made.apart made.right made.lean made.front made.few c.loop-block.invariant
+    blocks_more c.args.placed.now c.deref-block-items.result.now c.args.s.now.blocks.items c.loop-block.blocks.items c.put_made.new.blocks.items c.loop-block.block-index c.block-item.result c.in_ok-made.made c.deref-block-items.ensures.value c.loop-block-test.true c.block-item.is c.in_ok-put_made.ensures made.name made.bare made.apart made.right made.lean made.front made.few made.exact c.loop-block.invariant
 
 pub returns-clause-names : goal.returns-clause-names
 returns-clause-names c = (whole c.args.placed.now c.deref-block-items.result.now c.args.s.now.blocks.items c.loop-block.blocks.items c.loop-block.block-index c.deref-block-items.ensures.value c.loop-block-test.false c.loop-block.invariant).0
@@ -20,3 +20,6 @@ returns-clause-few c = (whole c.args.placed.now c.deref-block-items.result.now c
 
 pub returns-clause-front : goal.returns-clause-front
 returns-clause-front c = (whole c.args.placed.now c.deref-block-items.result.now c.args.s.now.blocks.items c.loop-block.blocks.items c.loop-block.block-index c.deref-block-items.ensures.value c.loop-block-test.false c.loop-block.invariant).2
+
+pub returns-clause-exact : goal.returns-clause-exact
+returns-clause-exact c = (whole c.args.placed.now c.deref-block-items.result.now c.args.s.now.blocks.items c.loop-block.blocks.items c.loop-block.block-index c.deref-block-items.ensures.value c.loop-block-test.false c.loop-block.invariant).4

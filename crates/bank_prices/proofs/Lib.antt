@@ -1,0 +1,11 @@
+mod Puts
+mod Straight
+mod Dear
+mod Pairs
+mod Tight
+mod Owned
+mod Meets
+mod Chained
+mod Early
+mod Tracks
+mod Whole

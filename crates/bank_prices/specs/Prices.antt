@@ -1,0 +1,40 @@
+-- What instructions cost together with the selects before them, in blocks that were given and what `selects` makes of them.
+use Rattle.std.specs.Prelude.{◌≡◌, ℕ, ◌≤◌, true, List}
+use Rattle.std.specs.List.{AllZip}
+use Rattle.c_typed.specs.declared.calls.Helper.{Helper}
+use Rattle.pic_world.specs.declared.Root.{Root}
+use Rattle.pic_map.specs.declared.Placed.{Placed}
+use Rattle.sym_code.specs.Layout.{frame, is_whole}
+use Rattle.sym_code.specs.Programs.{block_in}
+use Rattle.sym_code.specs.Selects.{bare}
+use Rattle.sym_code.specs.declared.code.BlockName.{BlockName}
+use Rattle.sym_code.specs.declared.code.BlockName.TheVariants.{Copy}
+use Rattle.sym_code.specs.declared.code.SymBlock.{SymBlock}
+use Rattle.code_place.specs.Layouts.{layout_of}
+use Rattle.math_helpers.specs.Routines.{helper_code}
+use Rattle.math_helpers.specs.Shape.{frame_size, ArePriced}
+use Rattle.select_wide.specs.Links.{AreDear}
+use Rattle.bank_page.specs.Links.{price_in}
+use Rattle.bank_page.specs.Selected.{IsExact}
+
+-- Blocks without selects, and what becomes of them.
+pub record AreSelected (placed : Placed) (given made : List SymBlock) : Type 0 where
+  pub each : AllZip (IsExact placed) given made
+  pub same : (name : BlockName) → bare (block_in made name) ≡ block_in given name
+
+-- Each byte in a bank costs two selects at most, and each jump and call two.
+abbrev pub BlocksAreDear : Type 0
+BlocksAreDear = (placed : Placed) (given made : List SymBlock) → AreSelected placed given made → (name : BlockName) → AreDear (price_in (block_in made) name) (block_in given name)
+
+-- A routine whose frame stands whole in a bank costs the selects of the frame's bank and of its own page once between two labels.
+abbrev pub RoutinesArePriced : Type 0
+RoutinesArePriced =
+    (placed : Placed) (given made : List SymBlock) → AreSelected placed given made → (h : Helper) (root : Root) (c : ℕ) → block_in given (Copy c) ≡ helper_code h root c
+    → is_whole (frame (layout_of placed) c).address (frame (layout_of placed) c).size ≡ true → frame_size h ≤ (frame (layout_of placed) c).size
+    → ArePriced (price_in (block_in made) (Copy c)) (helper_code h root c)
+
+-- Taken out of what `selects` answers, they leave blocks that had none.
+abbrev pub LeavesBlocks : Type 0
+LeavesBlocks =
+    (placed : Placed) (given made : List SymBlock) → AllZip (IsExact placed) given made → ((name : BlockName) → bare (block_in given name) ≡ block_in given name)
+    → AreSelected placed given made

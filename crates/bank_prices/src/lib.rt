@@ -1,0 +1,16 @@
+// What instructions cost together with the selects before them.
+//
+// In: nothing; the crate has a proof about what `selects` answers. Out: nothing.
+// The promise: some instructions that stand one behind the other cost no more with their selects than selection and the helpers
+// were counted with.
+#![tactic(auto)]
+
+ghost use Rattle.bank_prices.specs.Prices.{LeavesBlocks, BlocksAreDear, RoutinesArePriced};
+
+/// What is answered for blocks without selects has no more of them than selection was counted with: two at most for each byte in a
+/// bank and each jump and call; and in a routine two for its frame's bank and two for its page between labels.
+pub fn selects_are_few()
+    ensures leaves { LeavesBlocks }
+    ensures dear { BlocksAreDear }
+    ensures priced { RoutinesArePriced }
+{}

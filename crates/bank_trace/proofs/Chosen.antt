@@ -1,0 +1,49 @@
+-- Code with its selects follows the code without them.
+use Rattle.std.proofs.Common.{◌≡◌, ℕ, Bool, true, false, List, Option, sym, ap, ◌∙◌, subst}
+use Rattle.std.proofs.Math.Path.{fun_ext}
+use Rattle.pic_map.specs.declared.Placed.{Placed}
+use Rattle.sym_code.specs.Effect.{Setting}
+use Rattle.sym_code.specs.Programs.{Program, block_in}
+use Rattle.sym_code.specs.declared.code.BlockName.{BlockName}
+use Rattle.sym_code.specs.declared.code.Sym.{Sym}
+use Rattle.sym_code.specs.declared.code.SymBlock.{SymBlock}
+use Rattle.code_place.specs.Layouts.{layout_of, page_of}
+use Rattle.bank_page.specs.Links.{HasSelects, SelectsKeep, Chooses}
+use Rattle.bank_trace.proofs.Sites.{Site, IsSound, plain_setting, banked_setting}
+use Rattle.bank_trace.proofs.Premises.{page_within, named_at, apart_at, reaches_at}
+use Rattle.bank_trace.proofs.Following.{follows, slow}
+
+keeps : (x : Site) → IsSound x → SelectsKeep (plain_setting x) (banked_setting x)
+keeps x sound o e r m entries fits n goes = (follows x sound e o r m n goes, slow x sound e o r m n goes)
+
+module _ (given made : List SymBlock) (handler : Option ℕ) (placed : Placed) (at : List ℕ) (g h : Setting) (has : HasSelects given made handler placed at g h) where
+  abbrev site : Site
+  site = record { made = block_in made; handler = handler; placed = placed; pages = page_of made at; other = g.page_of; limit = g.limit }
+
+  sound : IsSound site
+  sound = record {
+    pages = page_within made at has.fit;
+    apart = apart_at made has.apart;
+    reaches = reaches_at placed made has.reaches;
+    named = named_at placed made at has.fit has.named;
+  }
+
+  given_setting : plain_setting site ≡ g
+  given_setting =
+      let f : Program → Bool → Setting = λ p b. record { program = p; banked = b; page_of = g.page_of; limit = g.limit } in
+      let q : (BlockName → List Sym) → Program = λ block. record { block = block; handler = handler; layout = layout_of placed } in
+      ap (λ (block : BlockName → List Sym). f (q block) false) (fun_ext has.same) ∙ ap (λ (p : Program). f p false) (sym has.given_code) ∙ ap (f g.program) (sym has.without)
+
+  made_setting : banked_setting site ≡ h
+  made_setting =
+      let f : Program → Bool → (BlockName → ℕ) → (Bool → ℕ) → Setting = λ p b page limit. record { program = p; banked = b; page_of = page; limit = limit } in
+      ap (λ (p : Program). f p true (page_of made at) g.limit) (sym has.made_code)
+      ∙ ap (λ (b : Bool). f h.program b (page_of made at) g.limit) (sym has.with)
+      ∙ ap (λ (page : BlockName → ℕ). f h.program h.banked page g.limit) (sym has.pages)
+      ∙ ap (f h.program h.banked h.page_of) (sym has.limits)
+
+  chosen : SelectsKeep g h
+  chosen = subst (λ (s : Setting). SelectsKeep s h) given_setting (subst (λ (s : Setting). SelectsKeep (plain_setting site) s) made_setting (keeps site sound))
+
+pub chooses : Chooses
+chooses = chosen

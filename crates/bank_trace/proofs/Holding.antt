@@ -1,0 +1,126 @@
+-- What is known holds of the bits that are selected.
+use Rattle.std.proofs.Common.{◌≡◌, ℕ, zero, suc, ◌+◌, ◌*◌, ◌/◌, ◌%◌, ◌<◌, Bool, true, false, not, ◌&&◌, ◌||◌, nat_eq, if◌then◌else◌, Option, Some, None, refl, ap, ◌∙◌, arith}
+use Rattle.std.proofs.lemmas.Bool.{eqb-true}
+use Rattle.pic_world.specs.Bits.{truth}
+use Rattle.sym_code.specs.Effect.{page_bit}
+use Rattle.sym_code.specs.Programs.{same_name, block_of}
+use Rattle.sym_code.specs.declared.code.BankBit.TheVariants.{Rp0, Rp1}
+use Rattle.sym_code.specs.declared.code.BlockName.{BlockName}
+use Rattle.sym_code.specs.declared.code.BlockName.TheVariants as names
+use Rattle.sym_code.specs.declared.code.PageBit.{PageBit}
+use Rattle.sym_code.specs.declared.code.PageBit.TheVariants.{Low, High}
+use Rattle.sym_code.specs.declared.code.Sym.{Sym}
+use Rattle.sym_code.specs.declared.code.Sym.TheVariants as syms
+use Rattle.sym_code.specs.declared.code.Target.{Target}
+use Rattle.bank_page.specs.Known.{nothing, kept, left, after, forgets, ends, learned, same_bit, is_bit, is_page, is_of_bit, writes_status, writes_pclath}
+use Rattle.bank_page.specs.Selected.{has_bank, reaches_target}
+use Rattle.bank_page.specs.Step.{rp0_of, rp1_of}
+use Rattle.bank_page.specs.declared.known.Known.{Known}
+use Rattle.bank_trace.proofs.Lists.{never}
+
+-- RP0, RP1 and the bits of the page
+pub record Bits : Type 0 where
+  pub rp0 : ℕ
+  pub rp1 : ℕ
+  pub low : ℕ
+  pub high : ℕ
+
+abbrev pub HoldsBit : Option Bool → ℕ → Type 0
+HoldsBit None v = Unit {0}
+HoldsBit (Some on) v = v ≡ truth on
+
+abbrev pub HoldsPage : (BlockName → ℕ) → PageBit → Option BlockName → ℕ → Type 0
+HoldsPage pages bit None v = Unit {0}
+HoldsPage pages bit (Some name) v = v ≡ page_bit bit (pages name)
+
+pub record Holds (pages : BlockName → ℕ) (known : Known) (b : Bits) : Type 0 where
+  pub rp0 : HoldsBit known.rp0 b.rp0
+  pub rp1 : HoldsBit known.rp1 b.rp1
+  pub low : HoldsPage pages Low known.low b.low
+  pub high : HoldsPage pages High known.high b.high
+
+pub holds_nothing : (pages : BlockName → ℕ) (b : Bits) → Holds pages nothing b
+holds_nothing pages b = record { rp0 = tt; rp1 = tt; low = tt; high = tt }
+
+kept_bit : (changed : Bool) (known : Option Bool) (v : ℕ) → HoldsBit known v → HoldsBit (kept changed known) v
+kept_bit true known v h = tt
+kept_bit false known v h = h
+
+kept_page : (pages : BlockName → ℕ) (bit : PageBit) (changed : Bool) (known : Option BlockName) (v : ℕ) → HoldsPage pages bit known v → HoldsPage pages bit (kept changed known) v
+kept_page pages bit true known v h = tt
+kept_page pages bit false known v h = h
+
+-- less is known behind an instruction, whether it runs or is skipped
+pub holds_after : (pages : BlockName → ℕ) (known : Known) (s : Sym) (behind : Bool) (b : Bits) → Holds pages known b → Holds pages (after known s behind) b
+holds_after pages known s behind b h = by_end (forgets s || (ends s && not behind))
+  where
+    by_end : (c : Bool) → Holds pages (if c then nothing else left known s (writes_status s) (writes_pclath s)) b
+    by_end true = holds_nothing pages b
+    by_end false = record {
+      rp0 = kept_bit (writes_status s && is_of_bit s 5) known.rp0 b.rp0 h.rp0;
+      rp1 = kept_bit (writes_status s && is_of_bit s 6) known.rp1 b.rp1 h.rp1;
+      low = kept_page pages Low (writes_pclath s && is_of_bit s 3) known.low b.low h.low;
+      high = kept_page pages High (writes_pclath s && is_of_bit s 4) known.high b.high h.high;
+    }
+
+-- the bits behind a select in a block
+abbrev pub selected : (BlockName → ℕ) → BlockName → Sym → Bits → Bits
+selected pages own (syms.SelectBank Rp0 on) b = record b { rp0 = truth on }
+selected pages own (syms.SelectBank Rp1 on) b = record b { rp1 = truth on }
+selected pages own (syms.SelectPage Low target) b = record b { low = page_bit Low (pages (block_of own target)) }
+selected pages own (syms.SelectPage High target) b = record b { high = page_bit High (pages (block_of own target)) }
+selected pages own s b = b
+
+pub holds_learned : (pages : BlockName → ℕ) (own : BlockName) (known : Known) (s : Sym) (b : Bits) → Holds pages known b → Holds pages (learned own known s) (selected pages own s b)
+holds_learned pages own known (syms.SelectBank Rp0 on) b h = record { rp0 = refl; rp1 = h.rp1; low = h.low; high = h.high }
+holds_learned pages own known (syms.SelectBank Rp1 on) b h = record { rp0 = h.rp0; rp1 = refl; low = h.low; high = h.high }
+holds_learned pages own known (syms.SelectPage Low target) b h = record { rp0 = h.rp0; rp1 = h.rp1; low = refl; high = h.high }
+holds_learned pages own known (syms.SelectPage High target) b h = record { rp0 = h.rp0; rp1 = h.rp1; low = h.low; high = refl }
+holds_learned pages own known s b h = h
+
+-- ---- what is found
+pub both_first : (a b : Bool) → (a && b) ≡ true → a ≡ true
+both_first true b e = refl
+both_first false b e = e
+
+pub both_last : (a b : Bool) → (a && b) ≡ true → b ≡ true
+both_last true b e = e
+both_last false b e = never e
+
+same_truth : (a b : Bool) → same_bit a b ≡ true → truth a ≡ truth b
+same_truth true true e = refl
+same_truth true false e = never e
+same_truth false true e = never e
+same_truth false false e = refl
+
+bit_is : (known : Option Bool) (on : Bool) (v : ℕ) → is_bit known on ≡ true → HoldsBit known v → v ≡ truth on
+bit_is None on v e h = never e
+bit_is (Some known) on v e h = h ∙ same_truth known on e
+
+pub truth_bit : (n : ℕ) → n < 2 → truth (nat_eq n 1) ≡ n
+truth_bit zero l = refl
+truth_bit (suc zero) l = refl
+truth_bit (suc (suc n)) l = absurd (omega arith)
+
+pub bank_is : (pages : BlockName → ℕ) (known : Known) (b : Bits) (n : ℕ) → n < 4 → has_bank known (Some n) ≡ true → Holds pages known b → 2 * b.rp1 + b.rp0 ≡ n
+bank_is pages known b n l e h =
+    let first = bit_is known.rp1 (rp1_of n) b.rp1 (both_first (is_bit known.rp1 (rp1_of n)) (is_bit known.rp0 (rp0_of n)) e) h.rp1 ∙ truth_bit (n / 2 % 2) (omega arith) in
+    let last = bit_is known.rp0 (rp0_of n) b.rp0 (both_last (is_bit known.rp1 (rp1_of n)) (is_bit known.rp0 (rp0_of n)) e) h.rp0 ∙ truth_bit (n % 2) (omega arith) in
+    omega arith
+
+pub same_names : (a b : BlockName) → same_name a b ≡ true → a ≡ b
+same_names names.Start names.Start e = refl
+same_names names.Start (names.Copy c) e = never e
+same_names (names.Copy c) names.Start e = never e
+same_names (names.Copy c) (names.Copy d) e = ap names.Copy (eqb-true c d e)
+
+page_known : (pages : BlockName → ℕ) (bit : PageBit) (known : Option BlockName) (name : BlockName) (v : ℕ) → is_page known name ≡ true → HoldsPage pages bit known v → v ≡ page_bit bit (pages name)
+page_known pages bit None name v e h = never e
+page_known pages bit (Some known) name v e h = h ∙ ap (λ n. page_bit bit (pages n)) (same_names known name e)
+
+pub page_is : (pages : BlockName → ℕ) (own : BlockName) (known : Known) (target : Target) (b : Bits) → pages (block_of own target) < 4 → reaches_target own known (Some target) ≡ true → Holds pages known b → 2 * b.high + b.low ≡ pages (block_of own target)
+page_is pages own known target b l e h =
+    let name = block_of own target in
+    let first = page_known pages High known.high name b.high (both_first (is_page known.high name) (is_page known.low name) e) h.high in
+    let last = page_known pages Low known.low name b.low (both_last (is_page known.high name) (is_page known.low name) e) h.low in
+    omega arith

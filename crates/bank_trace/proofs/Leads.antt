@@ -1,0 +1,129 @@
+-- Selects run: the code without them stays where it is, and what they set is known behind them.
+use Rattle.std.proofs.Common.{◌≡◌, ℕ, suc, Bool, true, false, if◌then◌else◌, List, Option, Some, None, slice_get, refl, sym, ap, ◌∙◌, subst}
+use Rattle.pic_world.specs.World.{Outside, is_due}
+use Rattle.sym_code.specs.Cost.{Prices, instruction_cost, thread_cost, step_cost_at}
+use Rattle.sym_code.specs.Effect.{Thread, Memory, Quiet, effect_of, effect_if, effect}
+use Rattle.sym_code.specs.Machine.{Machine, Entry, Goes, running, moved, acted, act, enter, sym_step_at}
+use Rattle.sym_code.specs.Programs.{Position, lands, behind, position}
+use Rattle.sym_code.specs.Registers.{Registers}
+use Rattle.sym_code.specs.Selects.{is_select}
+use Rattle.sym_code.specs.declared.code.BankBit.TheVariants.{Rp0, Rp1}
+use Rattle.sym_code.specs.declared.code.PageBit.TheVariants.{Low, High}
+use Rattle.sym_code.specs.declared.code.Sym.{Sym}
+use Rattle.sym_code.specs.declared.code.Sym.TheVariants as syms
+use Rattle.bank_page.specs.Known.{after, learned}
+use Rattle.bank_page.specs.Selected as selects
+use Rattle.bank_page.specs.declared.selecting.State.{State}
+use Rattle.bank_trace.proofs.Lists.{select_at, never, settle_again, mark_settle, mark_select}
+use Rattle.bank_trace.proofs.Prices.{selects_before, selects_ahead, before_select, before_settle, ahead_select, ahead_settle}
+use Rattle.bank_trace.proofs.Facts.{state_at, state_next, keeps_settle}
+use Rattle.bank_trace.proofs.Holding.{Bits, Holds, holds_nothing, holds_learned, selected}
+use Rattle.bank_trace.proofs.Sites.{Site, with, banked_setting}
+use Rattle.bank_trace.proofs.Places.{behind_is, under, known_at, IsFine}
+use Rattle.bank_trace.proofs.Twins.{Twin, plain_thread, banked_thread, AreOpen}
+use Rattle.bank_trace.proofs.Joints.{Joint, plain_machine, banked_machine, IsFineJoint, running_twin, running_by, put, moved_by, fine_put}
+use Rattle.bank_trace.proofs.Steps.{effect_some}
+
+module _ (x : Site) (q : Position) (stack : List Position) (r : Registers) where
+  abbrev pub at_select : Bits → Twin
+  at_select b = record { rest = None; at = Some q; stack = stack; registers = r; bits = b }
+
+  -- ---- one select
+  module _ (b : Bits) (s : Sym) (fetch : slice_get (x.made q.block) q.index ≡ Some s) (select : is_select s ≡ true) where
+    abbrev pub to : Position
+    to = behind (with x) q
+
+    abbrev pub set : Bits
+    set = selected x.pages q.block s b
+
+    abbrev pub past : Twin
+    past = record { rest = None; at = Some to; stack = stack; registers = r; bits = set }
+
+    there : select_at (slice_get (x.made q.block) q.index) ≡ true
+    there = subst (λ (o : Option Sym). select_at o ≡ true) (sym fetch) select
+
+    pub select_under : under x to ≡ under x q
+    select_under = ap (under x) (behind_is (with x) q) ∙ ap (position q.block) (mark_settle (x.made q.block) (suc q.index) ∙ mark_select (x.made q.block) q.index there)
+
+    holds_past : Holds x.pages (known_at x q) b → Holds x.pages (state_at q.block selects.front (x.made q.block) (suc q.index)).known set
+    holds_past h =
+        let state = state_at q.block selects.front (x.made q.block) q.index in
+        subst (λ (t : State). Holds x.pages t.known set) (sym (state_next q.block selects.front (x.made q.block) q.index s fetch))
+        (subst (λ (c : Bool). Holds x.pages (if c then learned q.block state.known s else after state.known s state.behind) set) (sym select) (holds_learned x.pages q.block state.known s b h))
+
+    pub select_fine : IsFine x q b → IsFine x to set
+    select_fine h =
+        subst (λ (p : Position). IsFine x p set) (sym (behind_is (with x) q)) (record {
+          settled = settle_again (x.made q.block) (suc q.index);
+          holds = keeps_settle (λ k. Holds x.pages k set) (holds_nothing x.pages set) q.block selects.front (x.made q.block) (suc q.index) (holds_past h.holds);
+        })
+
+    pub select_ahead : selects_ahead (x.made q.block) q.index ≡ suc (selects_ahead (x.made to.block) to.index)
+    select_ahead =
+        let f : Position → ℕ = λ p. selects_ahead (x.made p.block) p.index in
+        ahead_select (x.made q.block) q.index there ∙ ap suc (sym (ap f (behind_is (with x) q) ∙ ahead_settle (x.made q.block) (suc q.index)))
+
+    pub select_before : selects_before 0 (x.made to.block) to.index ≡ suc (selects_before 0 (x.made q.block) q.index)
+    select_before =
+        let f : Position → ℕ = λ p. selects_before 0 (x.made p.block) p.index in
+        ap f (behind_is (with x) q) ∙ before_settle 0 (x.made q.block) (suc q.index) ∙ before_select 0 (x.made q.block) q.index there
+
+    effect_by : (inside : Bool) (m : Memory) (s' : Sym) → is_select s' ≡ true → effect_of (banked_setting x) inside q (banked_thread (at_select b)) m s'
+        ≡ Quiet (banked_thread (record { rest = None; at = Some to; stack = stack; registers = r; bits = selected x.pages q.block s' b })) None
+    unfolding effect_of
+    effect_by inside m (syms.SelectBank Rp0 on) e = refl
+    effect_by inside m (syms.SelectBank Rp1 on) e = refl
+    effect_by inside m (syms.SelectPage Low target) e = refl
+    effect_by inside m (syms.SelectPage High target) e = refl
+    effect_by inside m s' e = never e
+
+    effect_select : (inside : Bool) (m : Memory) → effect (banked_setting x) inside (banked_thread (at_select b)) m ≡ Quiet (banked_thread past) None
+    unfolding effect
+    effect_select inside m =
+        effect_some (banked_setting x) inside (banked_thread (at_select b)) m q
+        ∙ ap (effect_if (banked_setting x) inside q (banked_thread (at_select b)) m) fetch
+        ∙ effect_by inside m s select
+
+    -- ---- as a step of the machine
+    module _ (j : Joint) (due : is_due j.world ≡ false) (runs : running_twin j ≡ at_select b) where
+      abbrev pub behind_joint : Joint
+      behind_joint = put j past None j.world
+
+      running_is : running (banked_machine j) ≡ banked_thread (at_select b)
+      running_is = running_by banked_thread j ∙ ap banked_thread runs
+
+      pub select_step : (e : Entry) (o : Outside) → lands (with x) to ≡ true → sym_step_at (banked_setting x) e o (banked_machine j) ≡ Goes (banked_machine behind_joint)
+      unfolding acted
+      select_step e o stands =
+          ap (λ (c : Bool). if c then enter (banked_setting x) e x.handler (banked_machine j) else act (banked_setting x) o (banked_machine j)) due
+          ∙ ap (λ (th : Thread). acted (banked_setting x) o (banked_machine j) (effect (banked_setting x) j.world.inside th j.memory)) running_is
+          ∙ ap (acted (banked_setting x) o (banked_machine j)) (effect_select j.world.inside j.memory)
+          ∙ ap (λ (c : Bool). moved (banked_machine j) (if c then Some (record { thread = banked_thread past; write = None; world = j.world }) else None)) stands
+          ∙ moved_by banked_thread j past None j.world
+
+      pub select_cost : (c : Prices) → step_cost_at (banked_setting x) c (banked_machine j) ≡ c.word q.block q.index
+      select_cost c =
+          ap (λ (d : Bool). if d then c.enter else thread_cost (banked_setting x) c j.world.inside (running (banked_machine j)) j.memory (running (banked_machine j)).rest) due
+          ∙ ap (λ (th : Thread). thread_cost (banked_setting x) c j.world.inside th j.memory th.rest) running_is
+          ∙ ap (instruction_cost c (Some q)) (effect_select j.world.inside j.memory)
+
+      put_same : (f : Twin → Thread) (c : Bool) (a z t : Twin) → f t ≡ f (if c then z else a) → (f (if c then a else t) ≡ f a) × (f (if c then t else z) ≡ f z)
+      put_same f true a z t e = (refl, e)
+      put_same f false a z t e = (e, refl)
+
+      pub select_plain : plain_machine x behind_joint ≡ plain_machine x j
+      select_plain =
+          let g : Position → Thread = λ p. record { rest = None; at = Some p; stack = (plain_thread x (at_select b)).stack; registers = r } in
+          let same = put_same (plain_thread x) j.world.inside j.main j.isr past (ap g select_under ∙ ap (plain_thread x) (sym runs)) in
+          let h : Thread → Thread → Machine = λ a z. record { main = a; isr = z; entries = j.entries; memory = j.memory; world = j.world } in
+          ap (λ (a : Thread). h a (plain_thread x (if j.world.inside then past else j.isr))) same.0 ∙ ap (h (plain_thread x j.main)) same.1
+
+      put_runs : (c : Bool) (a z t : Twin) → (if c then (if c then t else z) else (if c then a else t)) ≡ t
+      put_runs true a z t = refl
+      put_runs false a z t = refl
+
+      pub select_runs : running_twin behind_joint ≡ past
+      select_runs = put_runs j.world.inside j.main j.isr past
+
+      pub select_joint : IsFineJoint x j → AreOpen x stack → IsFine x q b → IsFineJoint x behind_joint
+      select_joint h open_stack here = fine_put x j past None j.world h (record { at = select_fine here; stack = open_stack })

@@ -1,0 +1,46 @@
+-- One list of blocks, with its selects and without them, as two settings of one machine.
+use Rattle.std.proofs.Common.{◌≡◌, ℕ, ◌<◌, Bool, true, false, List, Option, Some, None, IsSome, slice_get}
+use Rattle.pic_map.specs.declared.Placed.{Placed}
+use Rattle.sym_code.specs.Effect.{Setting}
+use Rattle.sym_code.specs.Programs.{Program}
+use Rattle.sym_code.specs.Selects.{bare}
+use Rattle.sym_code.specs.Touching.{touches}
+use Rattle.sym_code.specs.declared.code.BlockName.{BlockName}
+use Rattle.sym_code.specs.declared.code.Operand.{Operand}
+use Rattle.sym_code.specs.declared.code.Sym.{Sym}
+use Rattle.code_place.specs.Addresses.{file_address}
+use Rattle.code_place.specs.Layouts.{layout_of}
+use Rattle.bank_page.specs.Selected.{NoSelectBehindSkip, is_right, front, all_pass}
+
+pub record Site : Type 0 where
+  -- the code with its selects
+  pub made : BlockName → List Sym
+  pub handler : Option ℕ
+  pub placed : Placed
+  -- the pages of the code with its selects; without them none counts
+  pub pages : BlockName → ℕ
+  pub other : BlockName → ℕ
+  pub limit : Bool → ℕ
+
+abbrev pub without : Site → Program
+without x = record { block = λ name. bare (x.made name); handler = x.handler; layout = layout_of x.placed }
+
+abbrev pub with : Site → Program
+with x = record { block = x.made; handler = x.handler; layout = layout_of x.placed }
+
+abbrev pub plain_setting : Site → Setting
+plain_setting x = record { program = without x; banked = false; page_of = x.other; limit = x.limit }
+
+abbrev pub banked_setting : Site → Setting
+banked_setting x = record { program = with x; banked = true; page_of = x.pages; limit = x.limit }
+
+-- the file operand of an instruction has an address
+abbrev pub IsNamed : Placed → Option (Operand × Bool) → Type 0
+IsNamed placed None = Unit {0}
+IsNamed placed (Some touched) = IsSome (file_address placed touched.0)
+
+pub record IsSound (x : Site) : Type 0 where
+  pub pages : (name : BlockName) → x.pages name < 4
+  pub apart : (name : BlockName) → NoSelectBehindSkip (x.made name)
+  pub reaches : (name : BlockName) → all_pass (is_right x.placed name) name front (x.made name) ≡ true
+  pub named : (name : BlockName) (j : ℕ) (s : Sym) → slice_get (x.made name) j ≡ Some s → IsNamed x.placed (touches s)

@@ -1,0 +1,15 @@
+// What selects keep: code with its bank and page selects makes the events of the same code without them, each instruction at the
+// price of its selects.
+//
+// In: nothing; the crate has the proof of what is said in bank_page. Out: nothing.
+// The promise: symbolic code with its selects, on the machine on which banks and pages count, follows the code without them, and is
+// as slow.
+#![tactic(auto)]
+
+ghost use Rattle.bank_page.specs.Links.{Chooses};
+
+/// What selects promise: each step of the code without them is the selects that stand there, which make no event and cost what is
+/// said of them, and the same step.
+pub fn selects_keep()
+    ensures { Chooses }
+{}
