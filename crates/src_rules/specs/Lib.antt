@@ -6,3 +6,7 @@ pub mod Giving
 pub mod Step
 pub mod Weights
 pub mod Runs
+pub mod Numbers
+pub mod Parts
+pub mod Standing
+pub mod Laws

@@ -6,3 +6,4 @@ pub mod Control
 pub mod Counting
 pub mod Memory
 pub mod Accesses
+pub mod Seen

@@ -1,10 +1,15 @@
 //! What a step is about (the focus), and what waits for it. A frame that waits holds its node of the tree and what is
 //! done of the node's parts: types, lines and constants are read off the node.
 
-use crate::objects::{Byte, CopyOf, Datum, ReadBytes, Spot};
-use c_typed::{TArm, TExpr, TItem, TPlace, TStmt, Ty};
+ghost use Rattle.std.specs.Prelude.{◌≡◌, List, option_copied};
+ghost use Rattle.c_typed.specs.Views.{expression_of, place_of, statement_of};
+ghost use Rattle.src_values.specs.Control as stated;
+ghost use Rattle.src_values.specs.Seen.{found_at, statement_in, focus_in, frames_in, with_top, is_loop, is_switch, is_over, list_seen, list_in, list_on};
 
-/// Where a statement stands: in a list, by its number; after an `else` or in a loop; or in an arm of an `if`,
+use crate::objects::{Byte, CopyOf, Datum, ReadBytes, Spot};
+use c_typed::{TArm, TCase, TExpr, TItem, TPlace, TStmt, Ty};
+
+/// Where a statement stands: in a list, by its number; behind an `else` or in a loop; or in an arm of an `if`,
 /// by the arm's number.
 #[derive(Clone, Copy)]
 pub enum Code<'a> {
@@ -15,7 +20,9 @@ pub enum Code<'a> {
 
 impl<'a> Code<'a> {
     /// The statement.
-    pub fn statement(self) -> Option<&'a TStmt> {
+    pub fn statement(self) -> Option<&'a TStmt>
+        ensures { option_copied result ≡ found_at self.entry }
+    {
         match self {
             Code::Listed(statements, at) => statements.get(at),
             Code::Boxed(statement) => Some(statement),
@@ -27,11 +34,63 @@ impl<'a> Code<'a> {
     }
 
     /// Whether it is a loop.
-    pub fn is_loop(self) -> bool {
+    pub fn is_loop(self) -> bool
+        ensures { result ≡ is_loop (statement_in self.entry) }
+    {
         match self.statement() {
-            Some(TStmt::Loop { .. }) => true,
-            _ => false,
+            Some(statement) => is_loop(statement),
+            None => false,
         }
+    }
+
+    /// Whether it is a switch.
+    pub fn is_switch(self) -> bool
+        ensures { result ≡ is_switch (statement_in self.entry) }
+    {
+        match self.statement() {
+            Some(statement) => is_switch(statement),
+            None => false,
+        }
+    }
+}
+
+#[tactic(auto, using(crate::proofs::Sights::loops))]
+fn is_loop(statement: &TStmt) -> bool
+    ensures { result ≡ is_loop (statement_of statement.now) }
+{
+    match statement {
+        TStmt::Loop { .. } => true,
+        TStmt::Block { .. }
+        | TStmt::Empty { .. }
+        | TStmt::Expr { .. }
+        | TStmt::Declare { .. }
+        | TStmt::InitScalar { .. }
+        | TStmt::InitList { .. }
+        | TStmt::If { .. }
+        | TStmt::Switch { .. }
+        | TStmt::Break { .. }
+        | TStmt::Continue { .. }
+        | TStmt::Return { .. } => false,
+    }
+}
+
+#[tactic(auto, using(crate::proofs::Sights::switches))]
+fn is_switch(statement: &TStmt) -> bool
+    ensures { result ≡ is_switch (statement_of statement.now) }
+{
+    match statement {
+        TStmt::Switch { .. } => true,
+        TStmt::Block { .. }
+        | TStmt::Empty { .. }
+        | TStmt::Expr { .. }
+        | TStmt::Declare { .. }
+        | TStmt::InitScalar { .. }
+        | TStmt::InitList { .. }
+        | TStmt::If { .. }
+        | TStmt::Loop { .. }
+        | TStmt::Break { .. }
+        | TStmt::Continue { .. }
+        | TStmt::Return { .. } => false,
     }
 }
 
@@ -89,18 +148,19 @@ pub enum Focus<'a> {
         text: &'a [u8],
         left: u64,
     },
-    /// The bytes without an item, of so many from this one on.
+    /// The bytes without an item, from this one on and before that one.
     Blank {
         at: u64,
-        left: u64,
+        end: u64,
     },
     /// A function is called.
     Calls,
     /// A function has ended with this value.
     Leaves(Datum),
-    /// The labels of a switch are compared with its value, from the one of this number on.
+    /// Labels are compared with the value of a switch, from the one of this number on.
     Compares {
         value: Datum,
+        cases: &'a Vec<TCase>,
         next: usize,
     },
     /// Main has ended.
@@ -109,10 +169,28 @@ pub enum Focus<'a> {
 
 impl<'a> Focus<'a> {
     /// Whether main has ended.
-    pub fn is_over(&self) -> bool {
+    pub fn is_over(&self) -> bool
+        ensures { result ≡ is_over (focus_in self.now) }
+    {
         match self {
             Focus::Over => true,
-            _ => false,
+            Focus::Eval(_)
+            | Focus::Find(_)
+            | Focus::Holds(_)
+            | Focus::Found(_)
+            | Focus::Run(_)
+            | Focus::Past
+            | Focus::Fetch { .. }
+            | Focus::Skim { .. }
+            | Focus::Write { .. }
+            | Focus::PutBit { .. }
+            | Focus::CopyRead { .. }
+            | Focus::CopyWrite { .. }
+            | Focus::Spell { .. }
+            | Focus::Blank { .. }
+            | Focus::Calls
+            | Focus::Leaves(_)
+            | Focus::Compares { .. } => false,
         }
     }
 }
@@ -134,10 +212,10 @@ pub enum Got {
     Stores(Spot, Datum),
     /// Its structure is copied.
     Copies,
-    /// So many arguments have their values, which stand below, and the next one is under way.
+    /// The arguments before the one of this number have their values, which stand below, and it is under way.
     Args(usize),
-    /// All arguments, so many, have their values.
-    Passed(usize),
+    /// All arguments have their values, which stand below.
+    Passed,
     /// The function that is called is under way.
     Called,
 }
@@ -154,7 +232,7 @@ pub enum Stage {
     Turns,
     /// The condition of the arm of this number.
     Picks(usize),
-    /// The statement of the arm before the one of this number, or the one after the last `else`.
+    /// The statement of the arm before the one of this number, or the one behind the last `else`.
     InArm(usize),
     /// The comparison with labels.
     Chooses,
@@ -181,6 +259,8 @@ pub enum Pending<'a> {
     Doing(Code<'a>, Stage),
     /// The statements from the one of this number on.
     Before(&'a Vec<TStmt>, usize),
+    /// The end of a body that isn't there.
+    Ended,
     /// The caller.
     Returns(CopyOf),
     /// What the handler interrupted: `Machine` has its focus.
@@ -188,7 +268,10 @@ pub enum Pending<'a> {
 }
 
 /// The line of a statement's first token.
-pub fn statement_line(statement: &TStmt) -> u32 {
+#[tactic(auto, using(crate::proofs::Sights::statement_lines))]
+pub fn statement_line(statement: &TStmt) -> u32
+    ensures { result ≡ stated.statement_line (statement_of statement.now) }
+{
     match statement {
         TStmt::Block { line, .. }
         | TStmt::Empty { line }
@@ -205,34 +288,131 @@ pub fn statement_line(statement: &TStmt) -> u32 {
     }
 }
 
+/// The line of an expression's first token.
+#[tactic(auto, using(crate::proofs::Sights::expression_lines))]
+pub fn expression_line(expr: &TExpr) -> u32
+    ensures { result ≡ stated.expression_line (expression_of expr.now) }
+{
+    match expr {
+        TExpr::Constant { line, .. }
+        | TExpr::Read { line, .. }
+        | TExpr::Address { line, .. }
+        | TExpr::Convert { line, .. }
+        | TExpr::Cast { line, .. }
+        | TExpr::Unary { line, .. }
+        | TExpr::Binary { line, .. }
+        | TExpr::Offset { line, .. }
+        | TExpr::Difference { line, .. }
+        | TExpr::Logical { line, .. }
+        | TExpr::Conditional { line, .. }
+        | TExpr::Comma { line, .. }
+        | TExpr::Assign { line, .. }
+        | TExpr::StructAssign { line, .. }
+        | TExpr::Update { line, .. }
+        | TExpr::Step { line, .. }
+        | TExpr::Call { line, .. } => *line,
+    }
+}
+
+/// The line of a place's first token.
+#[tactic(auto, using(crate::proofs::Sights::place_lines))]
+pub fn place_line(place: &TPlace) -> u32
+    ensures { result ≡ stated.place_line (place_of place.now) }
+{
+    match place {
+        TPlace::Name { line, .. }
+        | TPlace::Bit { line, .. }
+        | TPlace::Member { line, .. }
+        | TPlace::Deref { line, .. } => *line,
+    }
+}
+
+// The line of a statement, 0 where there is none.
+fn line_in(code: Code) -> u32
+    ensures { result ≡ stated.statement_line (statement_in code.entry) }
+{
+    match code.statement() {
+        Some(statement) => statement_line(statement),
+        None => 0,
+    }
+}
+
 /// The line of the node that waits.
-pub fn line_at(top: Option<&Pending>) -> u32 {
+pub fn line_at(top: Option<&Pending>) -> u32
+    ensures { (x : stated.Focus) (k : List Pending) → result ≡ stated.line_at (frames_in x (with_top top.entry k)) }
+{
     match top {
-        Some(Pending::In(expr, _)) => expr.line(),
-        Some(Pending::To(place)) => place.line(),
-        Some(Pending::Doing(code, _)) => match code.statement() {
-            Some(statement) => statement_line(statement),
-            None => 0,
+        None => 0,
+        Some(top) => match top {
+            Pending::In(expr, _) => expression_line(expr),
+            Pending::To(place) => place_line(place),
+            Pending::Doing(code, _) => line_in(*code),
+            Pending::Value(_)
+            | Pending::Before(_, _)
+            | Pending::Ended
+            | Pending::Returns(_)
+            | Pending::Resumes(_) => 0,
         },
-        _ => 0,
     }
 }
 
 /// The type that the node which waits reads its place as.
-pub fn read_type(top: Option<&Pending>) -> Ty {
+pub fn read_type(top: Option<&Pending>) -> Ty
+    ensures { (x : stated.Focus) (k : List Pending) → result ≡ stated.read_type (frames_in x (with_top top.entry k)) }
+{
     match top {
-        Some(Pending::In(expr, _)) => expr.ty(),
-        _ => Ty::Void,
+        None => Ty::Void,
+        Some(top) => match top {
+            Pending::In(expr, _) => expr.ty(),
+            Pending::To(_)
+            | Pending::Doing(_, _)
+            | Pending::Value(_)
+            | Pending::Before(_, _)
+            | Pending::Ended
+            | Pending::Returns(_)
+            | Pending::Resumes(_) => Ty::Void,
+        },
+    }
+}
+
+#[tactic(auto, using(crate::proofs::Sights::lists))]
+fn list_in(statement: &TStmt) -> Option<(u32, &Vec<TItem>)>
+    ensures { list_seen result ≡ list_in (statement_of statement.now) }
+{
+    match statement {
+        TStmt::InitList { local, items, .. } => Some((*local, items)),
+        TStmt::Block { .. }
+        | TStmt::Empty { .. }
+        | TStmt::Expr { .. }
+        | TStmt::Declare { .. }
+        | TStmt::InitScalar { .. }
+        | TStmt::If { .. }
+        | TStmt::Loop { .. }
+        | TStmt::Switch { .. }
+        | TStmt::Break { .. }
+        | TStmt::Continue { .. }
+        | TStmt::Return { .. } => None,
     }
 }
 
 /// The list that waits, and the number of its local.
-pub fn list_at<'a>(top: Option<&Pending<'a>>) -> Option<(u32, &'a Vec<TItem>)> {
+pub fn list_at<'a>(top: Option<&Pending<'a>>) -> Option<(u32, &'a Vec<TItem>)>
+    ensures { (x : stated.Focus) (k : List Pending) → list_seen result ≡ list_on (frames_in x (with_top top.entry k)) }
+{
     match top {
-        Some(Pending::Doing(code, _)) => match code.statement() {
-            Some(TStmt::InitList { local, items, .. }) => Some((*local, items)),
-            _ => None,
+        None => None,
+        Some(top) => match top {
+            Pending::Doing(code, _) => match code.statement() {
+                Some(statement) => list_in(statement),
+                None => None,
+            },
+            Pending::In(_, _)
+            | Pending::Value(_)
+            | Pending::To(_)
+            | Pending::Before(_, _)
+            | Pending::Ended
+            | Pending::Returns(_)
+            | Pending::Resumes(_) => None,
         },
-        _ => None,
     }
 }

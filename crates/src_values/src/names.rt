@@ -1,63 +1,121 @@
 //! What numbers and names of a program stand for: functions, objects with their sizes, and places.
 
+ghost use Rattle.std.specs.Prelude.{◌≡◌, ◌<◌, ◌^◌, length, map, slice_get};
+ghost use Rattle.c_typed.specs.Roots as roots;
+ghost use Rattle.c_typed.specs.Views.{program_of, function_of};
+ghost use Rattle.src_values.specs.Objects as stated;
+
 use crate::objects::{CopyOf, Object, Spot};
 use crate::pointers::behind;
 use c_typed::{Function, Object as Name, Typed};
 
+fn same_bytes(a: &[u8], b: &[u8]) -> bool
+    ensures { result ≡ roots.same_bytes a.now b.now }
+{
+    match a {
+        [] => match b {
+            [] => true,
+            [_, ..] => false,
+        },
+        [first, rest @ ..] => match b {
+            [] => false,
+            [other, others @ ..] => *first == *other && same_bytes(rest, others),
+        },
+    }
+}
+
+fn is_main(function: &Function) -> bool
+    ensures { result ≡ roots.is_main (function_of function.now) }
+{
+    same_bytes(&function.name, b"main")
+}
+
+fn main_among(functions: &[Function]) -> Option<usize>
+    ensures { result ≡ roots.first_from roots.is_main (map function_of functions.now) 0 }
+{
+    for (number, function) in functions.iter().enumerate() {
+        if is_main(function) {
+            return Some(number);
+        }
+    }
+    None
+}
+
+fn handler_among(functions: &[Function]) -> Option<usize>
+    ensures { result ≡ roots.first_from roots.is_handler (map function_of functions.now) 0 }
+{
+    for (number, function) in functions.iter().enumerate() {
+        if function.interrupt {
+            return Some(number);
+        }
+    }
+    None
+}
+
 /// The number of main.
-pub fn main_in(program: &Typed) -> Option<u32> {
-    let at = program
-        .functions
-        .iter()
-        .position(|function| function.name.as_slice() == b"main".as_slice())?;
-    Some((at & 0xffff_ffff) as u32)
+pub fn main_in(program: &Typed) -> Option<usize>
+    ensures { result ≡ stated.main_in (program_of program.now) }
+{
+    main_among(&program.functions)
 }
 
 /// The number of the handler, if there is one.
-pub fn handler_in(program: &Typed) -> Option<u32> {
-    let at = program
-        .functions
-        .iter()
-        .position(|function| function.interrupt)?;
-    Some((at & 0xffff_ffff) as u32)
+pub fn handler_in(program: &Typed) -> Option<usize>
+    ensures { result ≡ stated.handler_in (program_of program.now) }
+{
+    handler_among(&program.functions)
 }
 
 /// The line of a function's first token.
-pub fn line_of(program: &Typed, function: u32) -> u32 {
-    match program.functions.get(function as usize) {
+pub fn line_of(program: &Typed, function: usize) -> u32
+    ensures { result ≡ (stated.function_at (program_of program.now) function).line }
+{
+    match program.functions.get(function) {
         Some(found) => found.line,
         None => 0,
     }
 }
 
 // How many parameters a function has.
-fn param_count(program: &Typed, function: u32) -> u32 {
-    match program.functions.get(function as usize) {
-        Some(found) => (found.params.len() & 0xffff_ffff) as u32,
+fn param_count(program: &Typed, function: usize) -> usize
+    ensures value { result ≡ length (stated.function_at (program_of program.now) function).params }
+    ensures bound { result < 2 ^ 63 }
+{
+    match program.functions.get(function) {
+        Some(found) => found.params.len(),
         None => 0,
     }
 }
 
 /// The local of this number of a function copy.
-pub fn local_of(program: &Typed, copy: CopyOf, number: u32) -> Object {
+pub fn local_of(program: &Typed, copy: CopyOf, number: u32) -> Object
+    ensures { result ≡ stated.local_of (program_of program.now) copy number }
+{
     Object::Variable {
         copy,
-        number: param_count(program, copy.function).saturating_add(number),
+        number: param_count(program, copy.function) + number as usize,
     }
 }
 
 /// What a name stands for in a function copy.
-pub fn spot_of(program: &Typed, copy: CopyOf, name: Name) -> Spot {
+pub fn spot_of(program: &Typed, copy: CopyOf, name: Name) -> Spot
+    ensures { result ≡ stated.spot_of (program_of program.now) copy name }
+{
     match name {
         Name::Static(number) => behind(Object::Fixed(number), 0),
-        Name::Param(number) => behind(Object::Variable { copy, number }, 0),
+        Name::Param(number) => {
+            let number = number as usize;
+            behind(Object::Variable { copy, number }, 0)
+        }
         Name::Local(number) => behind(local_of(program, copy, number), 0),
         Name::Register(address) => Spot::Device(address),
     }
 }
 
 // How many bytes a variable of a function has: parameters are counted first, then locals.
-fn variable_bytes(program: &Typed, function: &Function, number: usize) -> u64 {
+fn variable_bytes(program: &Typed, function: &Function, number: usize) -> u64
+    ensures { result ≡ stated.bytes_of_variable (program_of program.now).sizes (slice_get (stated.variables_of (function_of function.now)) number) }
+{
     let count = function.params.len();
     let variable = if number < count {
         function.params.get(number)
@@ -71,15 +129,18 @@ fn variable_bytes(program: &Typed, function: &Function, number: usize) -> u64 {
 }
 
 /// How many bytes an object has.
-pub fn object_bytes(program: &Typed, object: Object) -> u64 {
+#[tactic(auto, unfolding(crate::specs::Objects::object_bytes))]
+pub fn object_bytes(program: &Typed, object: Object) -> u64
+    ensures { result ≡ stated.object_bytes (program_of program.now) object }
+{
     match object {
         Object::Fixed(number) => match program.statics.get(number as usize) {
             Some(found) => program.bytes_of(found.ty.ty),
             None => 0,
         },
         Object::Variable { copy, number } => {
-            match program.functions.get(copy.function as usize) {
-                Some(function) => variable_bytes(program, function, number as usize),
+            match program.functions.get(copy.function) {
+                Some(function) => variable_bytes(program, function, number),
                 None => 0,
             }
         }

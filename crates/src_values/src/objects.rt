@@ -1,5 +1,11 @@
 //! What a run of the source is about: objects, pointers to them, bytes and values.
 
+ghost use Rattle.std.specs.Prelude.{◌≡◌, ◌++◌, ◌∷◌, [], ◌<◌, length};
+ghost use Rattle.c_ints.specs.Quantity.{Quantity};
+ghost use Rattle.pic_world.specs.Roots as roots;
+ghost use Rattle.src_values.specs.Objects as stated;
+ghost use Rattle.src_values.specs.Seen.{quantity_of, datum_of, read_of, is_missing};
+
 use c_ints::{IntTy, Value};
 use pic_world::Root;
 
@@ -8,7 +14,7 @@ use pic_world::Root;
 #[derive(Clone, Copy, PartialEq, Eq)]
 pub struct CopyOf {
     pub root: Root,
-    pub function: u32,
+    pub function: usize,
 }
 
 /// An object (ISO/IEC 9899:1990, 3.14): the static object of a number in `Typed::statics`, or a variable
@@ -16,10 +22,48 @@ pub struct CopyOf {
 #[derive(Clone, Copy, PartialEq, Eq)]
 pub enum Object {
     Fixed(u32),
-    Variable { copy: CopyOf, number: u32 },
+    Variable { copy: CopyOf, number: usize },
 }
 
-/// A pointer: null, or so many bytes after the start of an object, up to the byte just past its end.
+fn same_root(a: Root, b: Root) -> bool
+    ensures { result ≡ roots.same_root a b }
+{
+    match a {
+        Root::Main => match b {
+            Root::Main => true,
+            Root::Isr => false,
+        },
+        Root::Isr => match b {
+            Root::Main => false,
+            Root::Isr => true,
+        },
+    }
+}
+
+/// Whether two copies are one.
+pub fn same_copy(a: CopyOf, b: CopyOf) -> bool
+    ensures { result ≡ stated.same_copy a b }
+{
+    same_root(a.root, b.root) && a.function == b.function
+}
+
+/// Whether two objects are one.
+pub fn same_object(a: Object, b: Object) -> bool
+    ensures { result ≡ stated.same_object a b }
+{
+    match a {
+        Object::Fixed(n) => match b {
+            Object::Fixed(m) => n == m,
+            Object::Variable { .. } => false,
+        },
+        Object::Variable { copy: c, number: n } => match b {
+            Object::Fixed(_) => false,
+            Object::Variable { copy: d, number: m } => same_copy(c, d) && n == m,
+        },
+    }
+}
+
+/// A pointer: null, or so many bytes behind the start of an object, up to the byte just past its end.
 #[derive(Clone, Copy)]
 pub enum Pointer {
     Null,
@@ -47,13 +91,17 @@ pub struct Number {
 
 impl Number {
     /// The number as an integer value.
-    pub fn value(self) -> Value {
+    pub fn value(self) -> Value
+        ensures { result ≡ quantity_of self }
+    {
         Value::new(self.ty, self.bits)
     }
 }
 
 /// An integer value as a number.
-pub fn as_number(value: Value) -> Number {
+pub fn as_number(value: Value) -> Number
+    ensures { quantity_of result ≡ value }
+{
     Number {
         ty: value.ty(),
         bits: value.bits(),
@@ -71,7 +119,9 @@ pub enum Datum {
 
 impl Datum {
     /// Whether there is no value.
-    pub fn is_missing(self) -> bool {
+    pub fn is_missing(self) -> bool
+        ensures { result ≡ is_missing (datum_of self) }
+    {
         match self {
             Datum::Missing => true,
             Datum::Number(_) | Datum::Pointer(_) => false,
@@ -117,43 +167,47 @@ pub enum Undef {
     Handler,
 }
 
-/// The first bytes of a value, the lowest first: as many as were read so far.
+/// The first bytes of a value, the lowest first: those that were read so far.
 #[derive(Clone, Copy)]
-pub struct ReadBytes {
-    bytes: [Byte; 4],
-    count: u8,
+pub enum ReadBytes {
+    Nothing,
+    One(Byte),
+    Two(Byte, Byte),
+    Three(Byte, Byte, Byte),
+    Four(Byte, Byte, Byte, Byte),
 }
 
 impl ReadBytes {
     /// No byte yet.
-    pub fn new() -> ReadBytes {
-        ReadBytes {
-            bytes: [Byte::Unset; 4],
-            count: 0,
-        }
+    pub fn new() -> ReadBytes
+        ensures { read_of result ≡ [] }
+    {
+        ReadBytes::Nothing
     }
 
     /// How many there are.
-    pub fn count(self) -> u8 {
-        self.count
-    }
-
-    /// The byte of this number, `Unset` where it wasn't read.
-    pub fn get(self, k: u8) -> Byte {
-        if k < self.count && k < 4 {
-            self.bytes[k as usize]
-        } else {
-            Byte::Unset
+    pub fn count(self) -> u8
+        ensures { result ≡ length (read_of self) }
+    {
+        match self {
+            ReadBytes::Nothing => 0,
+            ReadBytes::One(_) => 1,
+            ReadBytes::Two(_, _) => 2,
+            ReadBytes::Three(_, _, _) => 3,
+            ReadBytes::Four(_, _, _, _) => 4,
         }
     }
 
     /// One byte more. No value has more than four.
-    pub fn and(self, byte: Byte) -> ReadBytes {
-        let mut more = self;
-        if self.count < 4 {
-            more.bytes[self.count as usize] = byte;
-            more.count = self.count + 1;
+    pub fn and(self, byte: Byte) -> ReadBytes
+        ensures { length (read_of self) < 4 → read_of result ≡ read_of self ++ byte ∷ [] }
+    {
+        match self {
+            ReadBytes::Nothing => ReadBytes::One(byte),
+            ReadBytes::One(a) => ReadBytes::Two(a, byte),
+            ReadBytes::Two(a, b) => ReadBytes::Three(a, b, byte),
+            ReadBytes::Three(a, b, c) => ReadBytes::Four(a, b, c, byte),
+            ReadBytes::Four(_, _, _, _) => self,
         }
-        more
     }
 }

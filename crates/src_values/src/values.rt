@@ -1,10 +1,16 @@
 //! Values of expressions: their bytes, conversions, and what operators on integers give.
 
-ghost use Rattle.std.specs.Prelude.{◌≡◌};
-ghost use Rattle.c_ints.specs.Operators.{shifts};
+ghost use Rattle.std.specs.Prelude.{◌≡◌, ◌<◌, ◌+◌, ◌*◌, ◌/◌, ◌%◌, ◌^◌, pos};
+ghost use Rattle.c_ints.specs.Operators.{outcome, comparison};
+ghost use Rattle.c_typed.specs.Views.{expression_of};
+ghost use Rattle.src_values.specs.Seen.{quantity_of, datum_of, read_of, answer_in, unset_or_strays};
+ghost use Rattle.src_values.specs.Values as stated;
 
-use crate::objects::{Byte, Datum, Number, Object, Pointer, ReadBytes, Spot, Undef, as_number};
-use c_ints::{BinOp, IntTy, UnOp, Value, apply, convert, promote, size, unary};
+use crate::arithmetic::outcome;
+use crate::objects::{
+    Byte, Datum, Number, Object, Pointer, ReadBytes, Spot, Undef, as_number, same_object,
+};
+use c_ints::{BinOp, IntTy, UnOp, Value, convert, size, unary};
 use c_typed::{LogicalOp, StepOp, TCase, TExpr, Ty};
 
 /// What an operator gives; or why it is undefined; or no rule is there for operands of this sort, which those of
@@ -17,17 +23,23 @@ pub enum Answer {
 }
 
 /// The number of a type with these bits, cut to its width.
-pub fn number(ty: IntTy, bits: u32) -> Datum {
+pub fn number(ty: IntTy, bits: u32) -> Datum
+    ensures { datum_of result ≡ stated.number_of ty bits }
+{
     Datum::Number(as_number(Value::new(ty, bits)))
 }
 
 /// An int, 1 where it holds and 0 where it doesn't.
-pub fn truth_value(holds: bool) -> Datum {
+pub fn truth_value(holds: bool) -> Datum
+    ensures { datum_of result ≡ stated.truth_value holds }
+{
     number(IntTy::Int, if holds { 1 } else { 0 })
 }
 
 /// How many bytes the value has.
-pub fn byte_count(value: Datum) -> u8 {
+pub fn byte_count(value: Datum) -> u8
+    ensures { result ≡ stated.byte_count (datum_of value) }
+{
     match value {
         Datum::Number(number) => size(number.ty),
         Datum::Pointer(_) => 2,
@@ -35,13 +47,25 @@ pub fn byte_count(value: Datum) -> u8 {
     }
 }
 
+// The byte of this number of some bits, the lowest first.
+fn byte_in(bits: u32, k: u8) -> u8
+    ensures { result ≡ bits / 256 ^ k % 256 }
+{
+    match k {
+        0 => (bits % 256) as u8,
+        1 => (bits / 256 % 256) as u8,
+        2 => (bits / 0x1_0000 % 256) as u8,
+        3 => (bits / 0x100_0000) as u8,
+        _ => 0,
+    }
+}
+
 /// The byte of this number, the lowest first. Those of null are the number 0.
-pub fn byte_of(value: Datum, k: u8) -> Byte {
+pub fn byte_of(value: Datum, k: u8) -> Byte
+    ensures { result ≡ stated.byte_of (datum_of value) k }
+{
     match value {
-        Datum::Number(number) => {
-            let bytes = number.bits.to_le_bytes();
-            Byte::Number(bytes[(k & 3) as usize])
-        }
+        Datum::Number(number) => Byte::Number(byte_in(number.value().bits(), k)),
         Datum::Pointer(Pointer::Null) => Byte::Number(0),
         Datum::Pointer(Pointer::Into { object, offset }) => Byte::Part {
             object,
@@ -53,25 +77,42 @@ pub fn byte_of(value: Datum, k: u8) -> Byte {
 }
 
 /// The number that a byte holds.
-pub fn number_in(byte: Byte) -> u8 {
+pub fn number_in(byte: Byte) -> u8
+    ensures { result ≡ stated.number_in byte }
+{
     match byte {
         Byte::Number(number) => number,
         Byte::Unset | Byte::Part { .. } => 0,
     }
 }
 
-// The number that the bytes make.
-fn number_from(read: ReadBytes) -> u32 {
-    u32::from_le_bytes([
-        number_in(read.get(0)),
-        number_in(read.get(1)),
-        number_in(read.get(2)),
-        number_in(read.get(3)),
-    ])
+// A byte below a number that the bytes behind it make.
+fn with_low(byte: Byte, more: u32) -> u32
+    requires { more < 2 ^ 24 }
+    ensures value { result ≡ stated.number_in byte + 256 * more }
+    ensures bound { result < 256 * more + 256 }
+{
+    number_in(byte) as u32 + 256 * more
 }
 
-fn same_part(a: Object, f: u64, b: Object, g: u64) -> Option<Pointer> {
-    if a == b && f == g {
+// The number that the bytes make.
+#[tactic(auto, unfolding(crate::specs::Values::number_from))]
+fn number_from(read: ReadBytes) -> u32
+    ensures { result ≡ stated.number_from (read_of read) }
+{
+    match read {
+        ReadBytes::Nothing => 0,
+        ReadBytes::One(a) => with_low(a, 0),
+        ReadBytes::Two(a, b) => with_low(a, with_low(b, 0)),
+        ReadBytes::Three(a, b, c) => with_low(a, with_low(b, with_low(c, 0))),
+        ReadBytes::Four(a, b, c, d) => with_low(a, with_low(b, with_low(c, with_low(d, 0)))),
+    }
+}
+
+fn same_part(a: Object, f: u64, b: Object, g: u64) -> Option<Pointer>
+    ensures { result ≡ stated.same_part a f b g }
+{
+    if same_object(a, b) && f == g {
         Some(Pointer::Into {
             object: a,
             offset: f,
@@ -82,7 +123,9 @@ fn same_part(a: Object, f: u64, b: Object, g: u64) -> Option<Pointer> {
 }
 
 /// The pointer that two bytes make: two numbers 0 make null, and the bytes of one pointer that pointer.
-pub fn joined(low: Byte, high: Byte) -> Option<Pointer> {
+pub fn joined(low: Byte, high: Byte) -> Option<Pointer>
+    ensures { result ≡ stated.joined low high }
+{
     match low {
         Byte::Number(a) => match high {
             Byte::Number(b) if a == 0 && b == 0 => Some(Pointer::Null),
@@ -104,36 +147,68 @@ pub fn joined(low: Byte, high: Byte) -> Option<Pointer> {
     }
 }
 
-/// The value that bytes make as a type. That of a structure is none.
-pub fn value_from(ty: Ty, read: ReadBytes) -> Datum {
-    match ty {
-        Ty::Int(ty) => number(ty, number_from(read)),
-        Ty::Pointer(_) => match joined(read.get(0), read.get(1)) {
+// The pointer that two bytes make.
+fn pointer_from(read: ReadBytes) -> Datum
+    ensures { datum_of result ≡ stated.pointer_from (read_of read) }
+{
+    match read {
+        ReadBytes::Two(low, high) => match joined(low, high) {
             Some(pointer) => Datum::Pointer(pointer),
             None => Datum::Missing,
         },
+        _ => Datum::Missing,
+    }
+}
+
+/// The value that bytes make as a type. That of a structure is none.
+#[tactic(auto, unfolding(crate::specs::Values::value_from))]
+pub fn value_from(ty: Ty, read: ReadBytes) -> Datum
+    ensures { datum_of result ≡ stated.value_from ty (read_of read) }
+{
+    match ty {
+        Ty::Int(ty) => number(ty, number_from(read)),
+        Ty::Pointer(_) => pointer_from(read),
         Ty::Void | Ty::Array { .. } | Ty::Struct(_) => Datum::Missing,
     }
 }
 
-fn is_number(byte: Byte) -> bool {
+fn is_number(byte: Byte) -> bool
+    ensures { result ≡ stated.is_number byte }
+{
     match byte {
         Byte::Number(_) => true,
         Byte::Unset | Byte::Part { .. } => false,
     }
 }
 
+fn follows_in_pointer(read: ReadBytes, byte: Byte) -> bool
+    ensures { result ≡ stated.follows_in_pointer (read_of read) byte }
+{
+    match read {
+        ReadBytes::Nothing => true,
+        ReadBytes::One(low)
+        | ReadBytes::Two(low, _)
+        | ReadBytes::Three(low, _, _)
+        | ReadBytes::Four(low, _, _, _) => joined(low, byte).is_some(),
+    }
+}
+
 /// Whether a byte may follow those that were read as a type: a number's are numbers, and the second one of
 /// a pointer completes the first.
-pub fn fits_behind(ty: Ty, read: ReadBytes, byte: Byte) -> bool {
+#[tactic(auto, unfolding(crate::specs::Values::fits_behind))]
+pub fn fits_behind(ty: Ty, read: ReadBytes, byte: Byte) -> bool
+    ensures { result ≡ stated.fits_behind ty (read_of read) byte }
+{
     match ty {
         Ty::Int(_) => is_number(byte),
-        Ty::Pointer(_) => read.count() == 0 || joined(read.get(0), byte).is_some(),
+        Ty::Pointer(_) => follows_in_pointer(read, byte),
         Ty::Void | Ty::Array { .. } | Ty::Struct(_) => true,
     }
 }
 
-fn as_integer(ty: IntTy, value: Datum) -> Answer {
+fn as_integer(ty: IntTy, value: Datum) -> Answer
+    ensures { answer_in result ≡ stated.as_integer ty (datum_of value) }
+{
     match value {
         Datum::Number(number) => {
             Answer::Gives(Datum::Number(as_number(convert(number.value(), ty))))
@@ -144,7 +219,9 @@ fn as_integer(ty: IntTy, value: Datum) -> Answer {
 }
 
 // The only integer that becomes a pointer is the constant 0.
-fn as_pointer(value: Datum) -> Answer {
+fn as_pointer(value: Datum) -> Answer
+    ensures { answer_in result ≡ stated.as_pointer (datum_of value) }
+{
     match value {
         Datum::Number(_) => Answer::Gives(Datum::Pointer(Pointer::Null)),
         Datum::Pointer(pointer) => Answer::Gives(Datum::Pointer(pointer)),
@@ -153,7 +230,10 @@ fn as_pointer(value: Datum) -> Answer {
 }
 
 /// The value in this type. A missing value has no other type than void.
-pub fn converted(ty: Ty, value: Datum) -> Answer {
+#[tactic(auto, unfolding(crate::specs::Values::converted))]
+pub fn converted(ty: Ty, value: Datum) -> Answer
+    ensures { answer_in result ≡ stated.converted ty (datum_of value) }
+{
     match ty {
         Ty::Void => Answer::Gives(Datum::Missing),
         Ty::Int(ty) => as_integer(ty, value),
@@ -162,7 +242,9 @@ pub fn converted(ty: Ty, value: Datum) -> Answer {
     }
 }
 
-fn is_null(pointer: Pointer) -> bool {
+fn is_null(pointer: Pointer) -> bool
+    ensures { result ≡ stated.is_null pointer }
+{
     match pointer {
         Pointer::Null => true,
         Pointer::Into { .. } => false,
@@ -170,7 +252,10 @@ fn is_null(pointer: Pointer) -> bool {
 }
 
 /// Whether the value is one that isn't 0; `None` for a missing one.
-pub fn truth_of(value: Datum) -> Option<bool> {
+#[tactic(auto, unfolding(crate::specs::Values::truth_of))]
+pub fn truth_of(value: Datum) -> Option<bool>
+    ensures { result ≡ stated.truth_of (datum_of value) }
+{
     match value {
         Datum::Number(number) => Some(number.value().number() != 0),
         Datum::Pointer(pointer) => Some(!is_null(pointer)),
@@ -179,7 +264,9 @@ pub fn truth_of(value: Datum) -> Option<bool> {
 }
 
 /// Whether the left operand of `&&` or `||` decides.
-pub fn decides(op: LogicalOp, holds: bool) -> bool {
+pub fn decides(op: LogicalOp, holds: bool) -> bool
+    ensures { result ≡ stated.decides op holds }
+{
     match op {
         LogicalOp::And => !holds,
         LogicalOp::Or => holds,
@@ -187,7 +274,9 @@ pub fn decides(op: LogicalOp, holds: bool) -> bool {
 }
 
 /// Whether a label of a switch is that of its value.
-pub fn is_case(value: Datum, case: &TCase) -> bool {
+pub fn is_case(value: Datum, case: &TCase) -> bool
+    ensures { result ≡ stated.is_case (datum_of value) case.now }
+{
     match value {
         Datum::Number(number) => number.value().number() == case.value.number(),
         Datum::Pointer(_) | Datum::Missing => false,
@@ -195,7 +284,10 @@ pub fn is_case(value: Datum, case: &TCase) -> bool {
 }
 
 /// What a unary operator gives.
-pub fn unary_answer(op: UnOp, value: Datum) -> Answer {
+#[tactic(auto, unfolding(crate::specs::Values::unary_answer))]
+pub fn unary_answer(op: UnOp, value: Datum) -> Answer
+    ensures { answer_in result ≡ stated.unary_answer op (datum_of value) }
+{
     match value {
         Datum::Number(number) => {
             Answer::Gives(Datum::Number(as_number(unary(op, number.value()))))
@@ -205,14 +297,18 @@ pub fn unary_answer(op: UnOp, value: Datum) -> Answer {
     }
 }
 
-fn bad_divisor(value: Datum) -> Option<Undef> {
+fn bad_divisor(value: Datum) -> Option<Undef>
+    ensures { result ≡ stated.bad_divisor (datum_of value) }
+{
     match value {
         Datum::Number(number) if number.value().number() == 0 => Some(Undef::Division),
         _ => None,
     }
 }
 
-fn bad_count(ty: Ty, value: Datum) -> Option<Undef> {
+fn bad_count(ty: Ty, value: Datum) -> Option<Undef>
+    ensures { result ≡ stated.bad_count ty (datum_of value) }
+{
     let Ty::Int(ty) = ty else {
         return None;
     };
@@ -230,7 +326,9 @@ fn bad_count(ty: Ty, value: Datum) -> Option<Undef> {
 }
 
 /// What the right operand alone makes undefined.
-pub fn bad_right(op: BinOp, ty: Ty, right: Datum) -> Option<Undef> {
+pub fn bad_right(op: BinOp, ty: Ty, right: Datum) -> Option<Undef>
+    ensures { result ≡ stated.bad_right op ty (datum_of right) }
+{
     match op {
         BinOp::Div | BinOp::Rem => bad_divisor(right),
         BinOp::Shl | BinOp::Shr => bad_count(ty, right),
@@ -238,36 +336,20 @@ pub fn bad_right(op: BinOp, ty: Ty, right: Datum) -> Option<Undef> {
     }
 }
 
-fn is_shift(op: BinOp) -> bool
-    ensures { result ≡ shifts op }
-{
-    match op {
-        BinOp::Shl | BinOp::Shr => true,
-        _ => false,
-    }
-}
-
-// An operator whose operands have types that it takes.
-fn applied(op: BinOp, a: Value, b: Value) -> Option<Value> {
-    if promote(a.ty()) != a.ty() || promote(b.ty()) != b.ty() {
-        None
-    } else if is_shift(op) || a.ty() == b.ty() {
-        apply(op, a, b)
-    } else {
-        None
-    }
-}
-
 /// What an operator gives on integers, where the divisor isn't 0 and the count fits.
-pub fn on_numbers(op: BinOp, a: Number, b: Number) -> Answer {
-    match applied(op, a.value(), b.value()) {
+pub fn on_numbers(op: BinOp, a: Number, b: Number) -> Answer
+    ensures { answer_in result ≡ stated.number_or_overflow (outcome op (quantity_of a) (quantity_of b)) }
+{
+    match outcome(op, a.value(), b.value()) {
         Some(value) => Answer::Gives(Datum::Number(as_number(value))),
         None => Answer::Fails(Undef::Overflow),
     }
 }
 
 /// What an operator answers of an operand that isn't of its sort: a missing one is unset.
-pub fn astray(value: Datum) -> Answer {
+pub fn astray(value: Datum) -> Answer
+    ensures { answer_in result ≡ unset_or_strays (datum_of value) }
+{
     match value {
         Datum::Missing => Answer::Fails(Undef::Unset),
         Datum::Number(_) | Datum::Pointer(_) => Answer::Strays,
@@ -275,7 +357,9 @@ pub fn astray(value: Datum) -> Answer {
 }
 
 /// What a comparison says of two places in one object.
-pub fn compared(op: BinOp, a: u64, b: u64) -> bool {
+pub fn compared(op: BinOp, a: u64, b: u64) -> bool
+    ensures { result ≡ comparison op (pos a) (pos b) }
+{
     match op {
         BinOp::Lt => a < b,
         BinOp::Gt => a > b,
@@ -288,7 +372,9 @@ pub fn compared(op: BinOp, a: u64, b: u64) -> bool {
 }
 
 /// What `++` and `--` count by: 1 in the type of the operation, or the int 1 where a pointer is moved.
-pub fn one_in(operation: Ty) -> Datum {
+pub fn one_in(operation: Ty) -> Datum
+    ensures { datum_of result ≡ stated.one_in operation }
+{
     match operation {
         Ty::Int(ty) => number(ty, 1),
         _ => number(IntTy::Int, 1),
@@ -296,15 +382,20 @@ pub fn one_in(operation: Ty) -> Datum {
 }
 
 /// The lowest bit of a value.
-pub fn lowest_bit(value: Datum) -> u8 {
+pub fn lowest_bit(value: Datum) -> u8
+    ensures { result ≡ stated.lowest_bit (datum_of value) }
+{
     match value {
-        Datum::Number(number) => (number.bits & 1) as u8,
+        Datum::Number(number) => (number.value().bits() % 2) as u8,
         Datum::Pointer(_) | Datum::Missing => 0,
     }
 }
 
 /// What a place holds after an assignment: a bit has the lowest bit alone.
-pub fn kept_in(spot: Spot, value: Datum) -> Datum {
+#[tactic(auto, unfolding(crate::specs::Values::kept_in))]
+pub fn kept_in(spot: Spot, value: Datum) -> Datum
+    ensures { datum_of result ≡ stated.kept_in spot (datum_of value) }
+{
     match spot {
         Spot::Bit { .. } => number(IntTy::UChar, lowest_bit(value) as u32),
         Spot::Device(_) | Spot::Memory(_) => value,
@@ -312,7 +403,9 @@ pub fn kept_in(spot: Spot, value: Datum) -> Datum {
 }
 
 /// How many bytes a write of a value has: one where a bit is written.
-pub fn written_bytes(spot: Spot, value: Datum) -> u8 {
+pub fn written_bytes(spot: Spot, value: Datum) -> u8
+    ensures { result ≡ stated.written_bytes spot (datum_of value) }
+{
     match spot {
         Spot::Bit { .. } => 1,
         Spot::Device(_) | Spot::Memory(_) => byte_count(value),
@@ -320,7 +413,9 @@ pub fn written_bytes(spot: Spot, value: Datum) -> u8 {
 }
 
 /// Whether the value of `++` or `--` is the old one.
-pub fn is_postfix(op: StepOp) -> bool {
+pub fn is_postfix(op: StepOp) -> bool
+    ensures { result ≡ stated.is_postfix op }
+{
     match op {
         StepOp::PostIncrement | StepOp::PostDecrement => true,
         StepOp::PreIncrement | StepOp::PreDecrement => false,
@@ -328,9 +423,33 @@ pub fn is_postfix(op: StepOp) -> bool {
 }
 
 /// The value of an expression after the write of its place: what the place holds afterwards, or the old value.
-pub fn answer_of(expr: &TExpr, spot: Spot, value: Datum) -> Datum {
+#[tactic(auto, using(crate::proofs::Sights::answers))]
+pub fn answer_of(expr: &TExpr, spot: Spot, value: Datum) -> Datum
+    ensures { datum_of result ≡ stated.answer_of (expression_of expr.now) spot (datum_of value) }
+{
     match expr {
-        TExpr::Step { op, .. } if is_postfix(*op) => value,
-        _ => kept_in(spot, value),
+        TExpr::Step { op, .. } => {
+            if is_postfix(*op) {
+                value
+            } else {
+                kept_in(spot, value)
+            }
+        }
+        TExpr::Constant { .. }
+        | TExpr::Read { .. }
+        | TExpr::Address { .. }
+        | TExpr::Convert { .. }
+        | TExpr::Cast { .. }
+        | TExpr::Unary { .. }
+        | TExpr::Binary { .. }
+        | TExpr::Offset { .. }
+        | TExpr::Difference { .. }
+        | TExpr::Logical { .. }
+        | TExpr::Conditional { .. }
+        | TExpr::Comma { .. }
+        | TExpr::Assign { .. }
+        | TExpr::StructAssign { .. }
+        | TExpr::Update { .. }
+        | TExpr::Call { .. } => kept_in(spot, value),
     }
 }

@@ -1,0 +1,11 @@
+pub mod BitCases
+pub mod Cells
+pub mod Changes
+pub mod Devices
+pub mod First
+pub mod Reaching
+pub mod Same
+pub mod Small
+pub mod Starts
+pub mod Tests
+pub mod Worlds
