@@ -1,6 +1,6 @@
 -- What an image keeps on the chip, with interrupts between any two instructions: the trace of an early run of its symbolic code, in
 -- which the handler is entered whole directly behind an event.
-use Rattle.std.specs.Prelude.{ℕ, ◌+◌, ◌-◌, ◌≡◌, ◌<◌, ◌≤◌, Bool, true, false, ◌&&◌, nat_eq, List, [], ◌∷◌, ◌++◌, length, map, Option, Some, None, slice_index, slice_get, bit_or, zero, suc}
+use Rattle.std.specs.Prelude.{ℕ, ◌+◌, ◌-◌, ◌/◌, ◌≡◌, ◌<◌, ◌≤◌, Bool, true, false, ◌&&◌, nat_eq, nat_lt, List, [], ◌∷◌, ◌++◌, length, map, Option, Some, None, slice_index, slice_get, bit_or, zero, suc}
 use Rattle.std.specs.List.{All, Contains}
 use Rattle.pic_world.specs.World.{Outside, Happening, outside_of, event_of}
 use Rattle.pic_world.specs.Arrivals.{arriving}
@@ -15,25 +15,32 @@ use Rattle.pic_map.specs.declared.Placed.{Placed}
 use Rattle.run_links.specs.Runs.{Run}
 use Rattle.schedule.specs.Off.{read_off}
 use Rattle.core_code.specs.Bytes.{Held}
+use Rattle.core_code.specs.Cost.{context_cost}
+use Rattle.core_code.specs.declared.code.Byte.{Byte}
+use Rattle.core_code.specs.declared.code.Byte.TheVariants as bytes
 use Rattle.sym_code.specs.Correct.{IsBegun, AreEntries}
 use Rattle.sym_code.specs.Effect.{Setting, Memory}
 use Rattle.sym_code.specs.Layout.{IsLaidOut, Owner, owner, Watched, Of}
 use Rattle.sym_code.specs.Machine.{Entry, sym_start, sym_run}
-use Rattle.sym_code.specs.Programs.{block_in}
+use Rattle.sym_code.specs.Programs.{block_in, block_of, label_from}
 use Rattle.sym_code.specs.Registers.{Registers, Fits}
 use Rattle.sym_code.specs.Runs.{run_of}
 use Rattle.sym_code.specs.Words.{words_in}
 use Rattle.sym_code.specs.declared.code.BlockName.{BlockName}
 use Rattle.sym_code.specs.declared.code.BlockName.TheVariants.{Start, Copy}
-use Rattle.sym_code.specs.declared.code.Label.TheVariants.{Halt}
+use Rattle.sym_code.specs.declared.code.Label.TheVariants.{Halt, Restore}
+use Rattle.sym_code.specs.declared.code.Literal.TheVariants as literals
+use Rattle.sym_code.specs.declared.code.PageBit.{PageBit}
 use Rattle.sym_code.specs.declared.code.PageBit.TheVariants.{Low, High}
 use Rattle.sym_code.specs.declared.code.Sym.{Sym}
 use Rattle.sym_code.specs.declared.code.Sym.TheVariants as syms
 use Rattle.sym_code.specs.declared.code.SymBlock.{SymBlock}
 use Rattle.sym_code.specs.declared.code.Target.{Target}
 use Rattle.sym_code.specs.declared.code.Target.TheVariants as targets
+use Rattle.code_place.specs.Instructions.{known}
 use Rattle.code_place.specs.Layouts.{program_of, page_of}
-use Rattle.code_place.specs.Places.{block_place, label_place, HoldsInstructions, BlocksHaveAddresses, TargetsStand}
+use Rattle.code_place.specs.Pages.{page_words}
+use Rattle.code_place.specs.Places.{block_place, label_place, target_for, HoldsInstructions, BlocksHaveAddresses, TargetsStand}
 use Rattle.code_place.specs.Sizes.{Fit}
 use Rattle.isr_save.specs.Start.{saving, restoring}
 
@@ -59,11 +66,13 @@ has_high (syms.SelectPage High target ∷ rest) = true
 has_high (s ∷ rest) = has_high rest
 
 -- The vector stands behind four words: it saves main's context, goes to the handler, and behind the label `Restore` gives the
--- context back.
+-- context back. The label is the first of its name, and saving and the way to the handler take no more than is paid for it.
 pub record HasVector (list : List Sym) (handler : ℕ) : Type 0 where
   pub before : List Sym
   pub four : words_in before ≡ 4
+  pub first : label_from before Restore 0 ≡ None
   pub selects : List Sym
+  pub few : length selects + 8 ≤ context_cost
   pub of_page : are_page_selects handler selects ≡ true
   pub both : (has_low selects && has_high selects) ≡ true
   pub behind : List Sym
@@ -73,7 +82,34 @@ abbrev pub HasVectorFor : List Sym → Option ℕ → Type 0
 HasVectorFor list None = Unit {0}
 HasVectorFor list (Some handler) = HasVector list handler
 
--- an image that these blocks make, with their selects
+-- Where main has ended the start block jumps to itself for ever; the label is the first of its name.
+pub record HasHalt (list : List Sym) : Type 0 where
+  pub before : List Sym
+  pub first : label_from before Halt 0 ≡ None
+  pub behind : List Sym
+  pub whole : list ≡ before ++ (syms.Label Halt ∷ []) ++ (syms.Goto (targets.Label Halt) ∷ []) ++ behind
+
+-- a number fits into its literal, and so does an address
+abbrev pub is_near : Byte → Bool
+is_near (bytes.Device address) = nat_lt address 512
+is_near _ = true
+
+abbrev pub is_small : Sym → Bool
+is_small (syms.Literal op (literals.Number n)) = nat_lt n 256
+is_small (syms.Literal op (literals.Low byte)) = is_near byte
+is_small (syms.Literal op (literals.High byte)) = is_near byte
+is_small _ = true
+
+-- it doesn't go to the start block
+abbrev pub is_outside : Target → Bool
+is_outside (targets.Block Start) = false
+is_outside _ = true
+
+abbrev pub keeps_out : Sym → Bool
+keeps_out (syms.Call target) = is_outside target
+keeps_out (syms.Goto target) = is_outside target
+keeps_out _ = true
+
 -- how many calls may wait at the same time, and an interrupt between them
 abbrev pub depth_for : Option ℕ → (Bool → ℕ) → ℕ
 depth_for None limit = limit false
@@ -94,7 +130,14 @@ pub record IsAssembled (blocks : List SymBlock) (at : List ℕ) (placed : Placed
   pub start : (block : SymBlock) × (slice_get blocks 0 ≡ Some block) × (block.name ≡ Start)
   pub starts : block_place blocks at Start ≡ Some 0
   pub vector : HasVectorFor (block_in blocks Start) handler
+  pub halts : HasHalt (block_in blocks Start)
   pub ranges : watch.ranges ≡ g.program.layout.objects
+  pub small : (name : BlockName) (i : ℕ) (s : Sym) → slice_get (block_in blocks name) i ≡ Some s → is_small s ≡ true
+  -- a select is for the page of the block in which its target is
+  pub selects : (k : ℕ) (block : SymBlock) (start i : ℕ) (bit : PageBit) (target : Target) → slice_get blocks k ≡ Some block → slice_get at k ≡ Some start
+      → slice_get block.list.items i ≡ Some (syms.SelectPage bit target) → known (target_for blocks at block start target) / page_words ≡ g.page_of (block_of block.name target)
+  -- no code of a copy goes to the start block
+  pub outside : (copy i : ℕ) (s : Sym) → slice_get (block_in blocks (Copy copy)) i ≡ Some s → keeps_out s ≡ true
   -- objects and frames have their places, and both chains of calls and the interrupt fit the return stack
   pub reaches : ℕ → ℕ → Bool
   pub laid_out : IsLaidOut reaches g.program.layout
@@ -127,12 +170,12 @@ module _ (g : Setting) (c : chip.Setting) where
   abbrev pub early : Entry → Registers → Memory → ℕ → Run (Happening ℕ)
   early e r m n = run_of g one_each e (outside_at n) (sym_start g.program r m)
 
-  -- Under the schedule read off up to each moment k + 1 no step is stuck that comes after at most k instructions, while its trace is
-  -- no longer than the chip's at moment k.
+  -- Under the schedule read off up to each moment k no step is stuck that comes after at most k instructions, while its trace is
+  -- no longer than the chip's at that moment.
   abbrev pub IsRunning : Entry → Registers → Memory → ℕ → Type 0
   IsRunning e r m n =
-      (k i : ℕ) → k < n → (early e r m (k + 1)).least i ≤ k → length ((early e r m (k + 1)).trace i) ≤ length (moment c k).trace
-      → (early e r m (k + 1)).goes i ≡ true
+      (k i : ℕ) → k ≤ n → (early e r m k).least i ≤ k → length ((early e r m k).trace i) ≤ length (moment c k).trace
+      → (early e r m k).goes i ≡ true
 
   -- no flag arrives behind moment t and up to moment n
   abbrev pub IsQuiet : ℕ → ℕ → Type 0
@@ -148,15 +191,16 @@ module _ (g : Setting) (c : chip.Setting) where
     pub bytes : (k : ℕ) (cell : Cell) → (moment c n).met ≡ true → owner g.program.layout k ≡ Watched cell
         → slice_index (moment c n).state.ram k ≡ (sym_run g e (outside_at n) at (sym_start g.program r m)).memory k
 
-  -- From these registers and bytes on, which main finds, and with these registers, which the handler finds at its entries.
-  pub record Arrives (e : Entry) (r : Registers) (m : Memory) : Type 0 where
-    pub meets : (n : ℕ) → IsRunning e r m n → IsMet e r m n 0
+  -- Up to moment n, from these registers and bytes on, which main finds, and with these registers, which the handler finds at its
+  -- entries.
+  pub record Arrives (e : Entry) (r : Registers) (m : Memory) (n : ℕ) : Type 0 where
+    pub meets : IsRunning e r m n → IsMet e r m n 0
     -- Where no flag arrives any more, the chip takes no more instructions for a stretch than the early run, and a few.
-    pub pace : (n t i j : ℕ) → IsRunning e r m n → t ≤ n → (moment c t).met ≡ true → IsQuiet t n → ComesTo (early e r m n) (length (moment c t).trace) i
+    pub pace : (t i j : ℕ) → IsRunning e r m n → t ≤ n → (moment c t).met ≡ true → IsQuiet t n → ComesTo (early e r m n) (length (moment c t).trace) i
         → (early e r m n).most j + slack ≤ (early e r m n).most i + (n - t) → IsMet e r m n j
-    pub no_underflow : (n k : ℕ) → IsRunning e r m n → k ≤ n → (moment c k).state.pops ≤ (moment c k).state.pushes
-    pub no_overflow : (n k : ℕ) → IsRunning e r m n → k ≤ n → (moment c k).state.pushes ≤ (moment c k).state.pops + 8
-    pub frames : (n k b : ℕ) → IsRunning e r m n → k < n → (moment c k).met ≡ true
+    pub no_underflow : (k : ℕ) → IsRunning e r m n → k ≤ n → (moment c k).state.pops ≤ (moment c k).state.pushes
+    pub no_overflow : (k : ℕ) → IsRunning e r m n → k ≤ n → (moment c k).state.pushes ≤ (moment c k).state.pops + 8
+    pub frames : (k b : ℕ) → IsRunning e r m n → k < n → (moment c k).met ≡ true
         → is_kept (is_handling (arriving c.arrivals k) (moment c k)) (owner g.program.layout b) ≡ true
         → slice_index (moment c (k + 1)).state.ram b ≡ slice_index (moment c k).state.ram b
 
@@ -176,13 +220,16 @@ pub record IsStarted (g : Setting) (first : List (List Held)) (c : chip.Setting)
   pub no_early_access : (n : ℕ) → (moment c n).early ≡ []
   pub begun : (registers : Registers) → Fits registers → IsBegun first g.program.layout registers (slice_index (moment c at).state.ram)
   pub control : control_of (moment c at).state ≡ raised_by (arrived_before c.arrivals at) control_at_reset
-  pub level : (moment c at).state.pushes ≡ (moment c at).state.pops
+  -- until then nothing is called, and no interrupt taken
+  pub level : (k : ℕ) → k ≤ at → (moment c k).state.pushes ≡ (moment c k).state.pops
+  pub outside : (moment c at).handling ≡ false
 
--- what the words and the context promise together: for every start, input list and arrival list there is what main finds, and what
--- the handler finds at its entries
+-- What the words and the context promise together: for every start, input list and arrival list there is what main finds, and up to
+-- each moment what the handler finds at its entries.
 abbrev pub Arriving : Type 0
 Arriving =
     (blocks : List SymBlock) (at : List ℕ) (placed : Placed) (handler : Option ℕ) (first : List (List Held)) (g : Setting) (c : chip.Setting)
     → IsAssembled blocks at placed handler c.image c.watch g → IsStart c.start → All (λ byte. byte < 256) c.inputs
     → (started : IsStarted g first c)
-    → (entry : Entry) × (begins : Registers) × AreEntries entry × Fits begins × Arrives g c entry begins (slice_index (moment c started.at).state.ram)
+    → (begins : Registers) × Fits begins
+    × ((n : ℕ) → (entry : Entry) × AreEntries entry × Arrives g c entry begins (slice_index (moment c started.at).state.ram) n)

@@ -1,6 +1,15 @@
 //! What an image keeps on the chip while interrupts arrive between any two instructions: it does what its symbolic code does when the
-//! handler is entered whole, directly after the event after which the interrupt came.
+//! handler is entered whole, directly behind the event behind which the interrupt came.
 //!
-//! In: nothing; the crate has the definitions that the theorem of arrivals is said with. Out: nothing.
-//! The promise: it is stated here, for every start, input list and arrival list, and not proved yet.
+//! In: nothing; the crate has definitions, and the theorem of arrivals about them. Out: nothing.
+//! The promise: for every start, input list and arrival list, and up to every moment, the chip's trace is one of the early run of its
+//! symbolic code, its static bytes are those of that run, it takes no more instructions than that run and a few, its return stack is
+//! never too deep, and main and the handler leave each other's frames alone.
 #![tactic(auto)]
+
+ghost use Rattle.chip_trace.specs.Arriving.{Arriving};
+
+/// An image whose start block has done its part follows the early run of its symbolic code, whenever interrupts arrive.
+pub fn image_follows()
+    ensures { Arriving }
+{}

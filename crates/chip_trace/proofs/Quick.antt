@@ -1,0 +1,317 @@
+-- Where no flag arrives any more, the chip takes no more instructions for a stretch than the early run, and a few.
+use Rattle.std.proofs.Common.{◌≡◌, ℕ, zero, suc, ◌+◌, ◌-◌, ◌<◌, ◌≤◌, ◌⊎◌, inl, inr, Bool, true, false, List, ◌++◌, length, Some, refl, sym, ap, ◌∙◌, subst, ⊎_elim, arith, length-append}
+use Rattle.std.specs.Prelude.{if◌then◌else◌, slice_index, bit_or}
+use Rattle.std.proofs.lemmas.Bool.{cases_lt}
+use Rattle.pic_chip.specs.Run as chip
+use Rattle.pic_chip.specs.Run.{IsStart, Moment, moment, takes, is_handling, observed}
+use Rattle.pic_chip.specs.State.{State}
+use Rattle.pic_world.specs.Control as control
+use Rattle.pic_world.specs.Control.{Control, control_at_reset, raised_by, is_enabled}
+use Rattle.pic_world.specs.World.{Schedule, Outside}
+use Rattle.pic_world.specs.Arrivals.{arriving}
+use Rattle.pic_world.specs.declared.Event.{Event}
+use Rattle.core_code.specs.Bytes.{Held}
+use Rattle.sym_code.specs.Cost.{least_prices, cost_by}
+use Rattle.sym_code.specs.Effect.{Setting, Thread, Memory, Rests, effect}
+use Rattle.sym_code.specs.Layout.{owner, Watched}
+use Rattle.sym_code.specs.Machine.{Machine, Entry, settled, sym_step, sym_step_at, sym_run}
+use Rattle.sym_code.specs.Programs.{front}
+use Rattle.sym_code.specs.Registers.{Registers}
+use Rattle.sym_code.specs.declared.code.BlockName.TheVariants.{Copy}
+use Rattle.chip_trace.specs.Arriving.{slack, IsQuiet, ComesTo, IsMet, IsRunning, IsStarted, early}
+use Rattle.chip_trace.proofs.Image.{IsImage, same_length, observed_long}
+use Rattle.chip_trace.proofs.MainStep.{dear_prices}
+use Rattle.chip_trace.proofs.Relations.{Ground}
+use Rattle.chip_trace.proofs.Runs.{over, raised, raised_none, Extends, exactly, settled_is, off_steps, main_rests, comes_main}
+use Rattle.chip_trace.proofs.Schedules.{nothing_arrives, goes_on as schedule_goes_on}
+use Rattle.chip_trace.proofs.Stands.{Mode, InMain, Saving, Selecting, InHandler, Leaving, IsSince}
+use Rattle.pic_world.specs.declared.Cell.{Cell}
+use Rattle.chip_trace.proofs.Past.{watched_somebody}
+use Rattle.chip_trace.proofs.Whole.{e, outside_is, one_on}
+use Rattle.pic_chip.specs.Run.{next_moment, stepped, ends_at, events_of}
+use Rattle.pic_chip.specs.Act.{accesses}
+use Rattle.pic_chip.specs.Instructions.{execute}
+use Rattle.pic_chip.specs.Interrupts.{begun}
+use Rattle.pic_world.specs.declared.Cell.{Cell}
+use Rattle.pic_world.proofs.OrLaws.{or_assoc}
+use Rattle.sym_code.specs.Cost.{Prices}
+use Rattle.sym_code.specs.Machine.{Still, gone}
+use Rattle.chip_trace.proofs.Past.{watched_somebody}
+use Rattle.chip_trace.proofs.Whole.{e, outside_is, one_on}
+use Rattle.chip_trace.proofs.Given.{A, E, R, M, T0, S, At, stands, met_by, met_at_index}
+
+-- ---- costs rise
+pub cost_rises : (g : Setting) (p : Prices) (e : Entry) (o : Outside) (t : Machine) (i d n : ℕ) → n ≡ d + i → cost_by g p e o i t ≤ cost_by g p e o n t
+unfolding cost_by
+cost_rises g p e o t i zero n is = let k : n ≡ i = omega arith in let c : cost_by g p e o n t ≡ cost_by g p e o i t = ap (λ z. cost_by g p e o z t) k in omega arith
+cost_rises g p e o t i (suc d) zero is = absurd (omega arith)
+cost_rises g p e o t i (suc d) (suc n) is = let c = cost_rises g p e o t i d n (omega arith) in omega arith
+
+-- ---- the chip's trace grows
+module _ (c : chip.Setting) where
+  next_long : (mask : ℕ) (m : Moment) → length m.trace ≤ length (next_moment c.image c.inputs c.watch mask m).trace
+  next_long mask m = by (ends_at c.image mask m) where
+    inner : (b : Bool) → length m.trace ≤ length (if b then m.trace ++ events_of c.watch.ranges (accesses (execute c.image c.inputs) (begun mask m.state)) else m.trace)
+    inner true = let l = length-append m.trace (events_of c.watch.ranges (accesses (execute c.image c.inputs) (begun mask m.state))) in omega arith
+    inner false = omega arith
+
+    by : (b : Bool) → length m.trace ≤ length (if b then record m { stopped = true } else observed c.watch (stepped c.image c.inputs c.watch.ranges mask m)).trace
+    by true = omega arith
+    by false = let a = inner m.met in let l = observed_long c.watch (stepped c.image c.inputs c.watch.ranges mask m) in omega arith
+
+  moment_long : (n : ℕ) → length (moment c n).trace ≤ length (moment c (suc n)).trace
+  unfolding moment
+  moment_long n = next_long (arriving c.arrivals n) (moment c n)
+
+module _ (g : Setting) (h : Ground) (c : chip.Setting) (hd : ℕ) (x : IsImage g h c.image c.inputs hd) (halt_is : c.watch.halt ≡ h.halt) (ranges_is : c.watch.ranges ≡ g.program.layout.objects)
+    (start : IsStart c.start) (only : (k : ℕ) → g.program.handler ≡ Some k → g.program.handler ≡ Some hd) (main_is : h.place (front g.program (Copy 0)) ≡ c.watch.main)
+    (first : List (List Held)) (started : IsStarted g first c) (N : ℕ) where
+  abbrev a0 : ℕ
+  a0 = A g h c hd x halt_is ranges_is start only main_is first started N
+
+  abbrev ee : Entry
+  ee = E g h c hd x halt_is ranges_is start only main_is first started N
+
+  abbrev rr : Registers
+  rr = R g h c hd x halt_is ranges_is start only main_is first started N
+
+  abbrev mm : Memory
+  mm = M g h c hd x halt_is ranges_is start only main_is first started N
+
+  abbrev tt0 : Machine
+  tt0 = T0 g h c hd x halt_is ranges_is start only main_is first started N
+
+  abbrev ss : ℕ → Schedule
+  ss = S g h c hd x halt_is ranges_is start only main_is first started N
+
+  abbrev tr : ℕ → List Event
+  tr k = (moment c k).trace
+
+  abbrev O : Outside
+  O = over c.inputs (ss (suc N))
+
+  -- the schedules that are read off go on from one another
+  far : (d k n : ℕ) → n ≡ d + k → (more : ℕ) × Extends (ss k) (length (tr k)) more (ss n)
+  far zero k n is = let q : k ≡ n = omega arith in (0, subst (λ z. Extends (ss k) (length (tr k)) 0 (ss z)) q (exactly (ss k) (length (tr k))))
+  far (suc d) k n is =
+      let one = schedule_goes_on tr c.arrivals k in
+      let rest = far d (suc k) n (omega arith) in
+      let long = moment_long c k in
+      ⊎_elim
+      (λ lt. (arriving c.arrivals k, (let r : Extends (ss k) (length (tr k)) (arriving c.arrivals k) (ss n) = record { below = λ l ll. rest.1.below l (omega arith) ∙ one.below l ll; here = rest.1.below (length (tr k)) lt ∙ one.here } in r)))
+      (λ ge.
+      let same : length (tr k) ≡ length (tr (suc k)) = omega arith in (
+        bit_or (arriving c.arrivals k) rest.0,
+        (let r : Extends (ss k) (length (tr k)) (bit_or (arriving c.arrivals k) rest.0) (ss n) = record {
+          below = λ l ll. rest.1.below l (omega arith) ∙ one.below l ll;
+          here = ap (ss n) same ∙ rest.1.here ∙ ap (λ z. bit_or (ss (suc k) z) rest.0) (sym same) ∙ ap (λ z. bit_or z rest.0) one.here ∙ or_assoc (ss k (length (tr k))) (arriving c.arrivals k) rest.0;
+        } in r),
+      ))
+      (cases_lt (length (tr k)) (length (tr (suc k))))
+
+  module _ (running : IsRunning g c ee rr mm N) (t : ℕ) (le : t ≤ N) (met : (moment c t).met ≡ true) (quiet : IsQuiet g c t N) where
+    abbrev at' : ℕ → ℕ → ℕ → ℕ → Type 0
+    at' = At g h c hd x halt_is ranges_is start only main_is first started N running
+
+    begun_then : a0 ≤ t
+    begun_then = ⊎_elim (λ lt. let f = sym met ∙ started.first_met t lt in absurd (cc)) (λ ge. ge) (cases_lt t a0)
+
+    abbrev known_t : (debt : ℕ) × at' 100 a0 t debt
+    known_t = stands g h c hd x halt_is ranges_is start only main_is first started N running t begun_then le
+
+    abbrev X : at' 100 a0 t known_t.0
+    X = known_t.1
+
+    none_arrives : (n : ℕ) → t < n → n ≤ N → arriving c.arrivals n ≡ 0
+    none_arrives n lt ln = nothing_arrives c.arrivals n (λ a q e. let z = quiet a q (omega arith) in absurd (omega arith))
+
+    abbrev from' : ℕ
+    from' = X.hi + X.ahead + X.done + X.idle
+
+    abbrev debt' : ℕ
+    debt' = X.ahead + X.idle
+
+    -- counted from there on
+    abbrev rebased : at' from' t t debt'
+    rebased = record {
+      index = X.index;
+      ahead = X.ahead;
+      early = X.early;
+      thread = X.thread;
+      memory = X.memory;
+      lo = X.lo;
+      hi = X.hi;
+      done = X.done;
+      idle = X.idle;
+      comes = X.comes;
+      entries = X.entries;
+      later = X.later;
+      acts = X.acts;
+      cheap = X.cheap;
+      account = omega arith;
+      since = inl (omega arith);
+      main_good = X.main_good;
+      good = X.good;
+      rest = X.rest;
+      bytes = X.bytes;
+      shows = X.shows;
+      there = X.there;
+      met = X.met;
+      going = X.going;
+      ranged = X.ranged;
+      mode = X.mode;
+    }
+
+    quiet_since : (n : ℕ) (st : at' from' t n debt') → arriving c.arrivals n ≡ 0 → IsSince g h c.image hd x.vector debt' st.ahead st.idle (raised (arriving c.arrivals n) st.early) st.thread st.memory
+    quiet_since n st z = subst (λ u. IsSince g h c.image hd x.vector debt' st.ahead st.idle u st.thread st.memory) (sym (ap (λ k. raised k st.early) z ∙ raised_none st.early)) st.since
+
+    after_t : (d n : ℕ) → n ≡ suc d + t → n ≤ N → at' from' t n debt'
+    after_t zero zero is ln = absurd (omega arith)
+    after_t zero (suc n) is ln =
+        let q : t ≡ n = omega arith in
+        subst (λ z. at' from' t (suc z) debt') q (one_on g h c hd x halt_is ranges_is start only main_is first started N running t from' t debt' debt' begun_then (omega arith) rebased (inl (omega arith)))
+    after_t (suc d) zero is ln = absurd (omega arith)
+    after_t (suc d) (suc n) is ln =
+        let y = after_t d n (omega arith) (omega arith) in
+        let bt = begun_then in
+        one_on g h c hd x halt_is ranges_is start only main_is first started N running n from' t debt' debt' (omega arith) (omega arith) y (quiet_since n y (none_arrives n (omega arith) (omega arith)))
+
+    -- ---- the first moment of the early run with that trace
+    abbrev most : ℕ → ℕ
+    most k = cost_by g dear_prices ee O k tt0
+
+    x_is : (settled O (sym_run g ee O X.index tt0) ≡ raised (far (suc N - t) t (suc N) (omega arith)).0 X.early) × (most X.index ≡ X.hi)
+    x_is =
+        let f = far (suc N - t) t (suc N) (omega arith) in
+        let l = same_length (tr t) X.early.world.trace X.shows.trace in
+        let y = X.comes (ss (suc N)) f.0 (subst (λ z. Extends (ss t) z f.0 (ss (suc N))) l f.1) in (y.0, y.2)
+
+    x_long : length (sym_run g ee O X.index tt0).world.trace ≡ length (tr t)
+    x_long =
+        let l = same_length (tr t) X.early.world.trace X.shows.trace in
+        ap (λ (z : Machine). length z.world.trace) (sym (settled_is c.inputs (ss (suc N)) (sym_run g ee O X.index tt0)) ∙ x_is.0) ∙ sym l
+
+    module _ (i j : ℕ) (shorter : (k : ℕ) → k < i → length (sym_run g ee O k tt0).world.trace < length (tr t)) (rich : most j + slack ≤ most i + (N - t)) where
+      before_x : most i ≤ X.hi
+      before_x =
+          ⊎_elim
+          (λ lt. let a = shorter X.index lt in let b = x_long in absurd (omega arith))
+          (λ ge. let r = cost_rises g dear_prices ee O tt0 i (X.index - i) X.index (omega arith) in let q = x_is.1 in omega arith)
+          (cases_lt X.index i)
+
+      -- what is behind a moment costs too much
+      behind_it : (k : ℕ) → X.hi + (N - t) ≤ most k + 109 → j ≤ k
+      behind_it k le' =
+          ⊎_elim (λ lt. let r = cost_rises g dear_prices ee O tt0 k (j - k) j (omega arith) in let b = before_x in absurd (omega arith)) (λ ge. ge) (cases_lt k j)
+
+      -- where moment t is the last one
+      at_once : N ≡ t → IsMet g c ee rr mm N j
+      at_once e' =
+          let bt = begun_then in
+          let y = stands g h c hd x halt_is ranges_is start only main_is first started N running N (omega arith) (omega arith) in
+          let st = y.1 in
+          let l = same_length (tr N) st.early.world.trace st.shows.trace in
+          let a = st.comes (ss (suc N)) (arriving c.arrivals N) (subst (λ z. Extends (ss N) z (arriving c.arrivals N) (ss (suc N))) l (schedule_goes_on tr c.arrivals N)) in
+          let long : length (sym_run g ee O st.index tt0).world.trace ≡ length (tr N) = ap (λ (z : Machine). length z.world.trace) (sym (settled_is c.inputs (ss (suc N)) (sym_run g ee O st.index tt0)) ∙ a.0) ∙ sym l in
+          let same : length (tr N) ≡ length (tr t) = ap (λ z. length (tr z)) e' in
+          met_at_index g h c hd x halt_is ranges_is start only main_is first started N running 100 a0 y.0 j st
+          (⊎_elim
+          (λ lt. let q = shorter st.index lt in absurd (omega arith))
+          (λ ge. ⊎_elim (λ lt. omega arith) (λ ge2. let r = cost_rises g dear_prices ee O tt0 i (j - i) j (omega arith) in absurd (omega arith)) (cases_lt j i))
+          (cases_lt st.index i))
+
+      module _ (d : ℕ) (later : N ≡ suc d + t) where
+        abbrev Y : at' from' t N debt'
+        Y = after_t d N later (omega arith)
+
+        done_little : (u : Machine) (th : Thread) (s : State) (done : ℕ) → Mode g h c.image hd x.vector u th s done → done ≤ 109
+        done_little u th s done (InMain q a) = omega arith
+        done_little u th s done (Saving has k a lo hi q en is) = omega arith
+        done_little u th s done (Selecting has jj p a lj q en sel is) = let f = (x.vector has).few in omega arith
+        done_little u th s done (InHandler has q a) = omega arith
+        done_little u th s done (Leaving has k a lk q lf is) = omega arith
+
+        done_main : (u : Machine) (th : Thread) (s : State) (done : ℕ) → u.world.inside ≡ false → Mode g h c.image hd x.vector u th s done → done ≡ 100
+        done_main u th s done out (InMain q a) = q
+        done_main u th s done out (Saving has k a lo hi q en is) = let f = sym out ∙ en.inside in absurd (cc)
+        done_main u th s done out (Selecting has jj p a lj q en sel is) = let f = sym out ∙ en.inside in absurd (cc)
+        done_main u th s done out (InHandler has q a) = q
+        done_main u th s done out (Leaving has k a lk q lf is) = let f = sym out ∙ lf.inside in absurd (cc)
+
+        y_long : length (tr N) ≡ length Y.early.world.trace
+        y_long = same_length (tr N) Y.early.world.trace Y.shows.trace
+
+        y_costs : most Y.index ≡ Y.hi
+        y_costs = (Y.comes (ss (suc N)) (arriving c.arrivals N) (subst (λ z. Extends (ss N) z (arriving c.arrivals N) (ss (suc N))) y_long (schedule_goes_on tr c.arrivals N))).2
+
+        by_index : (Y.ahead + Y.idle ≤ debt') → IsMet g c ee rr mm N j
+        by_index le' =
+            let dl = done_little Y.early Y.thread (moment c N).state Y.done Y.mode in
+            let ac = Y.account in let yc = y_costs in
+            met_at_index g h c hd x halt_is ranges_is start only main_is first started N running from' t debt' j Y (behind_it Y.index (omega arith))
+
+        module _ (out : Y.early.world.inside ≡ false) (off : control.is_due Y.early.world.control ≡ false) where
+          abbrev k0 : ℕ
+          k0 = Y.index + Y.ahead
+
+          abbrev u0 : Machine
+          u0 = record Y.early { main = Y.thread; memory = Y.memory }
+
+          same_schedule : Extends (ss N) (length Y.early.world.trace) 0 (ss (suc N))
+          same_schedule =
+              let z = none_arrives N (omega arith) (omega arith) in
+              subst (λ m. Extends (ss N) (length Y.early.world.trace) m (ss (suc N))) z (subst (λ z. Extends (ss N) z (arriving c.arrivals N) (ss (suc N))) y_long (schedule_goes_on tr c.arrivals N))
+
+          there : (settled O (sym_run g ee O k0 tt0) ≡ u0) × (cost_by g least_prices ee O k0 tt0 ≡ Y.lo + Y.ahead) × (most k0 ≡ Y.hi + Y.ahead)
+          there = comes_main g ee c.inputs tt0 least_prices dear_prices (λ p. refl) (λ p. refl) (ss N) (ss (suc N)) Y.index Y.ahead Y.early Y.lo Y.hi Y.thread Y.memory out off Y.comes same_schedule Y.acts
+
+          bytes_there : (k : ℕ) (cell : Cell) → (moment c N).met ≡ true → owner g.program.layout k ≡ Watched cell → slice_index (moment c N).state.ram k ≡ Y.memory k
+          bytes_there k cell m w = Y.bytes k (watched_somebody cell (owner g.program.layout k) w)
+
+          met_there : j ≤ k0 → IsMet g c ee rr mm N j
+          met_there jl = met_by g h c hd x halt_is ranges_is start only main_is first started N running k0 j u0 there.0 jl Y.shows.trace bytes_there
+
+          by_ahead : Y.idle ≤ debt' → IsMet g c ee rr mm N j
+          by_ahead le' =
+              let dm = done_main Y.early Y.thread (moment c N).state Y.done out Y.mode in
+              let ac = Y.account in let tc = there.2 in
+              met_there (behind_it k0 (omega arith))
+
+          -- main has ended, and stays
+          stays : sym_step_at g ee O u0 ≡ Still → (b : ℕ) → sym_run g ee O (b + k0) tt0 ≡ sym_run g ee O k0 tt0
+          unfolding sym_run sym_step
+          stays still zero = let z : zero + k0 ≡ k0 = omega arith in ap (λ k. sym_run g ee O k tt0) z
+          stays still (suc b) =
+              let z : suc b + k0 ≡ suc (b + k0) = omega arith in
+              let r = sym_run g ee O k0 tt0 in
+              ap (λ k. sym_run g ee O k tt0) z ∙ ap (λ v. gone v (sym_step g ee O v)) (stays still b) ∙ ap (λ v. gone r (sym_step_at g ee O v)) there.0 ∙ ap (gone r) still
+
+          by_rest : effect g false Y.thread Y.memory ≡ Rests → IsMet g c ee rr mm N j
+          by_rest rest =
+              ⊎_elim
+              (λ lt.
+              let still : sym_step_at g ee O u0 ≡ Still = off_steps g ee c.inputs tt0 O u0 off ∙ main_rests g ee c.inputs tt0 O u0 out rest in
+              let z : (j - k0) + k0 ≡ j = omega arith in
+              let same : sym_run g ee O j tt0 ≡ sym_run g ee O k0 tt0 = ap (λ k. sym_run g ee O k tt0) (sym z) ∙ stays still (j - k0) in
+              met_by g h c hd x halt_is ranges_is start only main_is first started N running j j u0 (ap (settled O) same ∙ there.0) (omega arith) Y.shows.trace bytes_there)
+              (λ ge. met_there ge)
+              (cases_lt k0 j)
+
+        by_since : IsSince g h c.image hd x.vector debt' Y.ahead Y.idle Y.early Y.thread Y.memory → IsMet g c ee rr mm N j
+        by_since (inl le') = by_index le'
+        by_since (inr p) = by_last p.2 where
+          by_last : ((Y.idle ≤ debt') ⊎ (effect g false Y.thread Y.memory ≡ Rests)) → IsMet g c ee rr mm N j
+          by_last (inl le') = by_ahead p.0 p.1 le'
+          by_last (inr rest) = by_rest p.0 p.1 rest
+
+        later_on : IsMet g c ee rr mm N j
+        later_on = by_since Y.since
+
+      paced : IsMet g c ee rr mm N j
+      paced = ⊎_elim (λ lt. later_on (N - suc t) (omega arith)) (λ ge. at_once (omega arith)) (cases_lt t N)
+
+    pub pace : (i j : ℕ) → ComesTo (early g c ee rr mm N) (length (moment c t).trace) i → (early g c ee rr mm N).most j + slack ≤ (early g c ee rr mm N).most i + (N - t) → IsMet g c ee rr mm N j
+    pace i j comes rich =
+        let o = outside_is g h c hd x halt_is ranges_is start only main_is first started N N in
+        paced i j (λ k lt. subst (λ z. length (sym_run g ee z k tt0).world.trace < length (tr t)) o (comes.before k lt))
+        (subst (λ z. cost_by g dear_prices ee z j tt0 + slack ≤ cost_by g dear_prices ee z i tt0 + (N - t)) o rich)

@@ -1,0 +1,278 @@
+-- An instruction accesses what its thread may access, keeps to the depth of its calls, and never leads into the start block.
+use Rattle.std.proofs.Common.{◌≡◌, ℕ, ◌+◌, ◌≤◌, ◌<◌, Bool, true, false, List, [], ◌∷◌, length, Option, Some, None, refl, sym, ap, ◌∙◌, subst, arith}
+use Rattle.std.specs.Prelude.{nat_lt, if◌then◌else◌, ◌&&◌, nat_eq, option_map, slice_get}
+use Rattle.std.proofs.lemmas.Bool.{ltb-true}
+use Rattle.pic_world.specs.Bits.{bit, set_bit, clear_bit}
+use Rattle.pic_world.specs.Registers.{is_register, lowest}
+use Rattle.sym_code.specs.Effect.{Setting, Loud, Port, Shared, Rest, Thread, Memory, Write, write, Access, Pointer, Event, Silent, Denied, Effect, Stuck, Quiet, Reads, Writes, Leaves, Ends, Rests, goes, file_to_w, file_to_file, store, change, test, file_bit, put_flag, test_flag, flag, bits, is_in_page, jump_to, halt, restore, goto, call, back, literal, plain, effect_of, effect_if, effect_at, effect_rest, effect}
+use Rattle.sym_code.specs.Layout.{DataLayout, Watched, owner}
+use Rattle.sym_code.specs.Programs.{Program, Position, position, fetched, behind, onward, place_of, stand, label_from}
+use Rattle.sym_code.specs.Registers.{Registers, skips_with, status_bit, with_status_bit}
+use Rattle.sym_code.specs.declared.code.BitOperation.{BitOperation}
+use Rattle.sym_code.specs.declared.code.BitOperation.TheVariants.{Bcf, Bsf, Btfsc, Btfss}
+use Rattle.sym_code.specs.declared.code.BlockName.{BlockName}
+use Rattle.sym_code.specs.declared.code.BlockName.TheVariants.{Start, Copy}
+use Rattle.sym_code.specs.declared.code.FileOperation.{FileOperation}
+use Rattle.sym_code.specs.declared.code.Into.TheVariants as into
+use Rattle.sym_code.specs.declared.code.Label.TheVariants.{Inner, Halt, Restore}
+use Rattle.sym_code.specs.declared.code.LiteralOperation.{LiteralOperation}
+use Rattle.sym_code.specs.declared.code.LiteralOperation.TheVariants.{Addlw, Andlw, Iorlw, Movlw, Retlw, Sublw, Xorlw}
+use Rattle.sym_code.specs.declared.code.Operand.{Operand}
+use Rattle.sym_code.specs.declared.code.Operand.TheVariants as operands
+use Rattle.sym_code.specs.declared.code.PlainOperation.{PlainOperation}
+use Rattle.sym_code.specs.declared.code.PlainOperation.TheVariants.{Clrw, Nop, Retfie, Return}
+use Rattle.sym_code.specs.declared.code.Register.TheVariants.{Indf, Status, Fsr, Pclath}
+use Rattle.sym_code.specs.declared.code.Sym.{Sym}
+use Rattle.sym_code.specs.declared.code.Sym.TheVariants as sym'
+use Rattle.sym_code.specs.declared.code.Target.{Target}
+use Rattle.sym_code.specs.declared.code.Target.TheVariants as targets
+use Rattle.chip_trace.specs.Arriving.{is_outside, keeps_out}
+use Rattle.chip_trace.proofs.Effects.{IsAccess, access_sound, writes_silently}
+
+-- ---- positions in copies
+abbrev pub is_copy : BlockName → Bool
+is_copy Start = false
+is_copy (Copy c) = true
+
+abbrev pub is_out : Option Position → Bool
+is_out None = true
+is_out (Some p) = is_copy p.block
+
+abbrev pub are_out : List Position → Bool
+are_out [] = true
+are_out (p ∷ s) = is_copy p.block && are_out s
+
+pub both : (a b : Bool) → a ≡ true → b ≡ true → (a && b) ≡ true
+both true true e f = refl
+both true false e f = f
+both false b e f = e
+
+pub left_of : (a b : Bool) → (a && b) ≡ true → a ≡ true
+left_of true b e = refl
+left_of false b e = e
+
+pub right_of : (a b : Bool) → (a && b) ≡ true → b ≡ true
+right_of true b e = e
+right_of false b e = absurd (cc)
+
+pub stand_block : (q : Program) (p : Position) → (stand q p).block ≡ p.block
+unfolding stand
+stand_block q p = refl
+
+pub behind_block : (q : Program) (p : Position) → (behind q p).block ≡ p.block
+behind_block q p = stand_block q (position p.block (p.index + 1))
+
+pub onward_block : (q : Program) (p : Position) (b : Bool) → (onward q p b).block ≡ p.block
+onward_block q p true = behind_block q (behind q p) ∙ behind_block q p
+onward_block q p false = behind_block q p
+
+-- ---- what is right of an effect
+abbrev pub IsLoud : DataLayout → Loud → Type 0
+IsLoud l (Port a) = (is_register a ≡ true) × (lowest a ≡ a)
+IsLoud l (Shared k cell) = owner l k ≡ Watched cell
+
+abbrev pub IsLeft : DataLayout → Option Rest → Type 0
+IsLeft l None = Unit {0}
+IsLeft l (Some x) = IsLoud l x.to
+
+module _ (g : Setting) (i : Bool) where
+  abbrev pub IsOwn : Option Write → Type 0
+  IsOwn None = Unit {0}
+  IsOwn (Some x) = writes_silently i (owner g.program.layout x.number) ≡ true
+
+  -- calls are within the limit, and nothing leads into the start block
+  pub record IsGood (u : Thread) : Type 0 where
+    pub deep : length u.stack ≤ g.limit i
+    pub at : is_out u.at ≡ true
+    pub stack : are_out u.stack ≡ true
+    pub left : IsLeft g.program.layout u.rest
+
+  abbrev pub IsSound : Thread → Effect → Type 0
+  IsSound th Stuck = Unit {0}
+  IsSound th (Quiet u x) = IsOwn x × IsGood u × (u.rest ≡ None)
+  IsSound th (Reads b k) = IsLoud g.program.layout b × ((v : ℕ) → IsGood (k v))
+  IsSound th (Writes b v u) = IsLoud g.program.layout b × IsGood u × (u.rest ≡ None)
+  IsSound th Leaves = (i ≡ true) × (th.stack ≡ [])
+  IsSound th (Ends u) = (i ≡ false) × (th.stack ≡ []) × (u ≡ record th { at = None })
+  IsSound th Rests = (i ≡ false) × (th.at ≡ None)
+
+  module _ (outside : (copy n : ℕ) (s : Sym) → slice_get (g.program.block (Copy copy)) n ≡ Some s → keeps_out s ≡ true) where
+    module _ (th : Thread) (p : Position) (good : IsGood th) (none : th.rest ≡ None) (here : is_copy p.block ≡ true) where
+      abbrev q : Program
+      q = g.program
+
+      good_goes : (p' : Position) (r : Registers) → p'.block ≡ p.block → IsGood (goes th p' r)
+      good_goes p' r e = record { deep = good.deep; at = ap is_copy e ∙ here; stack = good.stack; left = good.left }
+
+      good_rest : (p' : Position) (r : Registers) (x : Rest) → p'.block ≡ p.block → IsLoud g.program.layout x.to → IsGood (record (goes th p' r) { rest = Some x })
+      good_rest p' r x e loud = record { deep = good.deep; at = ap is_copy e ∙ here; stack = good.stack; left = loud }
+
+      good_next : (b : Bool) (r : Registers) → IsGood (goes th (onward q p b) r)
+      good_next b r = good_goes (onward q p b) r (onward_block q p b)
+
+      good_behind : (r : Registers) → IsGood (goes th (behind q p) r)
+      good_behind r = good_goes (behind q p) r (behind_block q p)
+
+      loud_of : (w : Bool) (b : Loud) → IsAccess g.program.layout i w (Event b) → IsLoud g.program.layout b
+      loud_of w (Port a) x = x
+      loud_of w (Shared k cell) x = x
+
+      own_of : (k v : ℕ) → IsAccess g.program.layout i true (Silent k) → IsOwn (write k v)
+      own_of k v a = a.1
+
+      w_sound : (m : Memory) (op : FileOperation) (x : Access) → IsAccess g.program.layout i false x → IsSound th (file_to_w q p th m op x)
+      w_sound m op Pointer a = (tt, good_next (skips_with th.registers op th.registers.fsr) _, none)
+      w_sound m op (Event b) a = (loud_of false b a, λ v. good_next (skips_with th.registers op v) _)
+      w_sound m op (Silent k) a = (tt, good_next (skips_with th.registers op (m k)) _, none)
+      w_sound m op Denied a = tt
+
+      f_sound : (m : Memory) (op : FileOperation) (x : Access) → IsAccess g.program.layout i true x → IsSound th (file_to_file q p th m op x)
+      f_sound m op Pointer a = (tt, good_next (skips_with th.registers op th.registers.fsr) _, none)
+      f_sound m op (Event b) a = (loud_of true b a, λ v. good_rest (onward q p (skips_with th.registers op v)) _ _ (onward_block q p (skips_with th.registers op v)) (loud_of true b a))
+      f_sound m op (Silent k) a = (own_of k 0 a, good_next (skips_with th.registers op (m k)) _, none)
+      f_sound m op Denied a = tt
+
+      store_sound : (r : Registers) (v : ℕ) (x : Access) → IsAccess g.program.layout i true x → IsSound th (store q p th r v x)
+      store_sound r v Pointer a = (tt, good_behind _, none)
+      store_sound r v (Event b) a = (loud_of true b a, good_behind r, none)
+      store_sound r v (Silent k) a = (own_of k 0 a, good_behind r, none)
+      store_sound r v Denied a = tt
+
+      change_sound : (m : Memory) (f : ℕ → ℕ) (x : Access) → IsAccess g.program.layout i true x → IsSound th (change q p th m f x)
+      change_sound m f Pointer a = (tt, good_behind _, none)
+      change_sound m f (Event b) a = (loud_of true b a, λ v. good_rest (behind q p) _ _ (behind_block q p) (loud_of true b a))
+      change_sound m f (Silent k) a = (own_of k 0 a, good_behind th.registers, none)
+      change_sound m f Denied a = tt
+
+      test_sound : (m : Memory) (f : ℕ → Bool) (x : Access) → IsAccess g.program.layout i false x → IsSound th (test q p th m f x)
+      test_sound m f Pointer a = (tt, good_next (f th.registers.fsr) _, none)
+      test_sound m f (Event b) a = (loud_of false b a, λ v. good_next (f v) _)
+      test_sound m f (Silent k) a = (tt, good_next (f (m k)) _, none)
+      test_sound m f Denied a = tt
+
+      bit_sound : (m : Memory) (op : BitOperation) (b : ℕ) (x : Operand) → IsSound th (file_bit g i p th m op b x)
+      bit_sound m Bcf b x = change_sound m (clear_bit b) _ (access_sound g i true th.registers x)
+      bit_sound m Bsf b x = change_sound m (set_bit b) _ (access_sound g i true th.registers x)
+      bit_sound m Btfsc b x = test_sound m (λ x. nat_eq (bit x b) 0) _ (access_sound g i false th.registers x)
+      bit_sound m Btfss b x = test_sound m (λ x. nat_eq (bit x b) 1) _ (access_sound g i false th.registers x)
+
+      put_sound : (x : Option Registers) → IsSound th (put_flag q p th x)
+      put_sound None = tt
+      put_sound (Some r) = (tt, good_behind r, none)
+
+      flag_test_sound : (v : ℕ) (x : Option ℕ) → IsSound th (test_flag q p th v x)
+      flag_test_sound v None = tt
+      flag_test_sound v (Some x) = (tt, good_next (nat_eq x v) _, none)
+
+      flag_sound : (op : BitOperation) (b : ℕ) → IsSound th (flag q p th op b)
+      flag_sound Bcf b = put_sound (with_status_bit th.registers b 0)
+      flag_sound Bsf b = put_sound (with_status_bit th.registers b 1)
+      flag_sound Btfsc b = flag_test_sound 0 (status_bit th.registers b)
+      flag_sound Btfss b = flag_test_sound 1 (status_bit th.registers b)
+
+      bits_sound : (m : Memory) (op : BitOperation) (b : ℕ) (x : Operand) → IsSound th (bits g i p th m op b x)
+      bits_sound m op b (operands.Byte x) = bit_sound m op b (operands.Byte x)
+      bits_sound m op b (operands.Register Indf) = bit_sound m op b (operands.Register Indf)
+      bits_sound m op b (operands.Register Fsr) = bit_sound m op b (operands.Register Fsr)
+      bits_sound m op b (operands.Register Status) = flag_sound op b
+      bits_sound m op b (operands.Register Pclath) = bit_sound m op b (operands.Register Pclath)
+      bits_sound m op b (operands.Saved x) = bit_sound m op b (operands.Saved x)
+
+      -- ---- control
+      place_out : (t : Target) → is_outside t ≡ true → is_out (place_of q p t) ≡ true
+      place_out (targets.Block Start) e = absurd (cc)
+      place_out (targets.Block (Copy c)) e = ap is_copy (stand_block q (position (Copy c) 0))
+      place_out (targets.Label Halt) e = refl
+      place_out (targets.Label Restore) e = refl
+      place_out (targets.Label (Inner n)) e = inner (label_from (q.block p.block) (Inner n) 0) where
+        inner : (k : Option ℕ) → is_out (option_map (λ k. stand q (position p.block k)) k) ≡ true
+        inner None = refl
+        inner (Some k) = ap is_copy (stand_block q (position p.block k)) ∙ here
+
+      jump_sound : (x : Option Position) → is_out x ≡ true → IsSound th (jump_to th x)
+      jump_sound None e = tt
+      jump_sound (Some p') e = (tt, record { deep = good.deep; at = e; stack = good.stack; left = good.left }, none)
+
+      halt_sound : (b : Bool) (s : List Position) → i ≡ b → th.stack ≡ s → IsSound th (halt b th s)
+      halt_sound false [] e f = (e, f, refl)
+      halt_sound false (x ∷ s) e f = tt
+      halt_sound true s e f = tt
+
+      restore_sound : (b : Bool) (s : List Position) → i ≡ b → th.stack ≡ s → IsSound th (restore b s)
+      restore_sound true [] e f = (e, f)
+      restore_sound true (x ∷ s) e f = tt
+      restore_sound false s e f = tt
+
+      goto_sound : (t : Target) → is_outside t ≡ true → IsSound th (goto g i p th t)
+      goto_sound (targets.Label Halt) e = halt_sound i th.stack refl refl
+      goto_sound (targets.Label Restore) e = restore_sound i th.stack refl refl
+      goto_sound (targets.Label (Inner n)) e = jump_sound (place_of q p (targets.Label (Inner n))) (place_out (targets.Label (Inner n)) e)
+      goto_sound (targets.Block name) e = jump_sound (place_of q p (targets.Block name)) (place_out (targets.Block name) e)
+
+      pushed_sound : (x : Option Position) → is_out x ≡ true → length th.stack < g.limit i → IsSound th (jump_to (record th { stack = behind q p ∷ th.stack }) x)
+      pushed_sound None e lt = tt
+      pushed_sound (Some p') e lt = (tt, record { deep = let z = lt in omega arith; at = e; stack = both (is_copy (behind q p).block) (are_out th.stack) (ap is_copy (behind_block q p) ∙ here) good.stack; left = good.left }, none)
+
+      call_sound : (t : Target) → is_outside t ≡ true → IsSound th (call g i p th t)
+      call_sound t e = by_limit (nat_lt (length th.stack) (g.limit i)) refl where
+        by_limit : (b : Bool) → nat_lt (length th.stack) (g.limit i) ≡ b → IsSound th (if b then jump_to (record th { stack = behind g.program p ∷ th.stack }) (place_of g.program p t) else Stuck)
+        by_limit true f = pushed_sound (place_of q p t) (place_out t e) (ltb-true (length th.stack) (g.limit i) f)
+        by_limit false f = tt
+
+      back_sound : (r : Registers) (s : List Position) → length s ≤ g.limit i → are_out s ≡ true → IsSound th (back (record th { registers = r }) s)
+      back_sound r [] d o = tt
+      back_sound r (p' ∷ s) d o = (tt, record { deep = let z = d in omega arith; at = left_of (is_copy p'.block) (are_out s) o; stack = right_of (is_copy p'.block) (are_out s) o; left = good.left }, none)
+
+      literal_sound : (op : LiteralOperation) (r : Registers) → IsSound th (literal q p th op r)
+      literal_sound Retlw r = back_sound r th.stack good.deep good.stack
+      literal_sound Addlw r = (tt, good_behind r, none)
+      literal_sound Andlw r = (tt, good_behind r, none)
+      literal_sound Iorlw r = (tt, good_behind r, none)
+      literal_sound Movlw r = (tt, good_behind r, none)
+      literal_sound Sublw r = (tt, good_behind r, none)
+      literal_sound Xorlw r = (tt, good_behind r, none)
+
+      plain_sound : (op : PlainOperation) → IsSound th (plain q p th op)
+      plain_sound Clrw = (tt, good_behind _, none)
+      plain_sound Nop = (tt, good_behind _, none)
+      plain_sound Retfie = tt
+      plain_sound Return = back_sound th.registers th.stack good.deep good.stack
+
+      paged : (b : Bool) (x : Effect) → IsSound th x → IsSound th (if b then x else Stuck)
+      paged true x s = s
+      paged false x s = tt
+
+      pub sound_of : (m : Memory) (s : Sym) → keeps_out s ≡ true → IsSound th (effect_of g i p th m s)
+      unfolding effect_of
+      sound_of m (sym'.File op x into.W) e = w_sound m op _ (access_sound g i false th.registers x)
+      sound_of m (sym'.File op x into.File) e = f_sound m op _ (access_sound g i true th.registers x)
+      sound_of m (sym'.Movwf x) e = store_sound _ _ _ (access_sound g i true th.registers x)
+      sound_of m (sym'.Clrf x) e = store_sound _ _ _ (access_sound g i true th.registers x)
+      sound_of m (sym'.Bit op x b) e = bits_sound m op b x
+      sound_of m (sym'.Literal op v) e = literal_sound op _
+      sound_of m (sym'.Plain op) e = plain_sound op
+      sound_of m (sym'.Call t) e = paged (is_in_page g p th.registers t) (call g i p th t) (call_sound t e)
+      sound_of m (sym'.Goto t) e = paged (is_in_page g p th.registers t) (goto g i p th t) (goto_sound t e)
+      sound_of m (sym'.Label x) e = tt
+      sound_of m (sym'.SelectBank x b) e = (tt, good_behind _, none)
+      sound_of m (sym'.SelectPage x t) e = (tt, good_behind _, none)
+
+    sound_if : (th : Thread) (p : Position) → IsGood th → th.rest ≡ None → is_copy p.block ≡ true → (m : Memory) (s : Option Sym) → fetched g.program p ≡ s → IsSound th (effect_if g i p th m s)
+    sound_if th p good none here m None e = tt
+    sound_if th p good none here m (Some s) e = sound_of th p good none here m s (out_block p.block here e) where
+      out_block : (name : BlockName) → is_copy name ≡ true → slice_get (g.program.block name) p.index ≡ Some s → keeps_out s ≡ true
+      out_block Start h f = absurd (cc)
+      out_block (Copy c) h f = outside c p.index s f
+
+    sound_at : (th : Thread) → IsGood th → th.rest ≡ None → (m : Memory) (b : Bool) (x : Option Position) → i ≡ b → th.at ≡ x → IsSound th (effect_at g b th m x)
+    sound_at th good none m true None e f = tt
+    sound_at th good none m false None e f = (e, f)
+    sound_at th good none m b (Some p) e f = subst (λ z. IsSound th (effect_if g z p th m (fetched g.program p))) e (sound_if th p good none (ap is_out (sym f) ∙ good.at) m (fetched g.program p) refl)
+
+    sound_rest : (th : Thread) → IsGood th → (m : Memory) (x : Option Rest) → th.rest ≡ x → IsSound th (effect_rest g i th m x)
+    sound_rest th good m None e = sound_at th good e m i th.at refl refl
+    sound_rest th good m (Some x) e = (subst (IsLeft g.program.layout) e good.left, record { deep = good.deep; at = good.at; stack = good.stack; left = tt }, refl)
+
+    pub sound : (th : Thread) (m : Memory) → IsGood th → IsSound th (effect g i th m)
+    unfolding effect
+    sound th m good = sound_rest th good m th.rest refl
