@@ -19,8 +19,8 @@ use Rattle.c_ints.specs.declared.types.IntTy.{IntTy}
 use Rattle.c_typed.specs.Calls.{int_helper}
 use Rattle.c_typed.specs.declared.calls.Helper.{Helper}
 use Rattle.math_helpers.specs.Layouts.{bytes_of}
-use Rattle.math_helpers.specs.Routines.{width_of, helper_code}
-use Rattle.math_helpers.specs.Shape.{frame_size, right_bytes, ArePriced}
+use Rattle.math_helpers.specs.Routines.{width_of}
+use Rattle.math_helpers.specs.Shape.{frame_size, right_bytes}
 
 -- the right operand that a routine is given by the number that its bytes make: of a shift's count the lowest byte counts
 abbrev pub right_operand : BinOp → IntTy → ℕ → Quantity
@@ -80,11 +80,3 @@ pub record Answers (h : Helper) (copy : ℕ) (g : Setting) (price : BlockName �
   pub value : IsAnswer h left right answer
   pub cost : (op : BinOp) (ty : IntTy) → int_helper op false ty ≡ Some h →
       IfSome (outcome op (cut_to ty (pos left)) (right_operand op ty right)) (λ value. quiet_cost g price inside count s ≤ helper_cost)
-
--- what is to be proved of each routine, for all prices that leave room for its selects
-abbrev pub IsRight : Helper → Type 0
-IsRight h =
-    (copy : ℕ) (g : Setting) (price : BlockName → ℕ → ℕ) (inside : Bool) (next : Position) (stack : List Position) (left right : ℕ) (s : Scene) →
-    left < 256 ^ bytes_of (width_of h) → right < 256 ^ right_bytes h →
-    IsCalled h copy g inside next stack left right s → ArePriced (price (Copy copy)) (helper_code h (root_of inside) copy) →
-    Answers h copy g price inside next stack left right s

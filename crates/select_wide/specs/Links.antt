@@ -1,6 +1,6 @@
 -- What selection and the helpers keep together: symbolic code follows byte code.
-use Rattle.std.specs.Prelude.{ℕ, ◌+◌, ◌≡◌, ◌<◌, ◌≤◌, Bool, true, false, List, [], ◌∷◌, ◌++◌, length, take, drop, Some, slice_get}
-use Rattle.std.specs.List.{All, sum_by}
+use Rattle.std.specs.Prelude.{ℕ, ◌+◌, ◌≡◌, ◌<◌, ◌≤◌, nat_eq, nat_lt, Bool, true, false, ◌&&◌, if◌then◌else◌, List, [], ◌∷◌, ◌++◌, length, take, drop, Option, Some, None, slice_get, slice_index_or}
+use Rattle.std.specs.List.{All}
 use Rattle.pic_world.specs.World.{Outside, event_as}
 use Rattle.pic_world.specs.declared.Root.{Root}
 use Rattle.pic_world.specs.declared.Root.TheVariants.{Main, Isr}
@@ -15,9 +15,12 @@ use Rattle.call_graph.specs.declared.types.FnCopy.{FnCopy}
 use Rattle.core_code.specs.Bytes.{Held, Unset, Number, Part, Fixed, FrameOf}
 use Rattle.core_code.specs.Machine.{Program}
 use Rattle.core_code.specs.Runs as core
-use Rattle.core_code.specs.Tree.{Tree, Leave}
+use Rattle.core_code.specs.Tree as trees
+use Rattle.core_code.specs.Tree.{Tree, Trees, Leave, trees_of}
 use Rattle.core_code.specs.View.{trees_in}
 use Rattle.core_code.specs.declared.code.Body.{Body}
+use Rattle.core_code.specs.declared.code.Byte.{Byte}
+use Rattle.core_code.specs.declared.code.Byte.TheVariants as bytes
 use Rattle.sym_code.specs.Correct.{IsBegun, AreEntries}
 use Rattle.sym_code.specs.Effect.{Setting, Memory}
 use Rattle.sym_code.specs.Layout.{IsLaidOut, IsOf, frame, shown}
@@ -27,18 +30,35 @@ use Rattle.sym_code.specs.Runs as sym
 use Rattle.sym_code.specs.declared.code.BlockName.{BlockName}
 use Rattle.sym_code.specs.declared.code.BlockName.TheVariants.{Copy}
 use Rattle.sym_code.specs.declared.code.Sym.{Sym}
-use Rattle.sym_code.specs.declared.code.Sym.TheVariants.{Label, Literal, Plain}
+use Rattle.sym_code.specs.declared.code.Operand.{Operand}
+use Rattle.sym_code.specs.declared.code.Operand.TheVariants as operands
+use Rattle.sym_code.specs.declared.code.Sym.TheVariants.{Call, Goto}
+use Rattle.sym_code.specs.Touching.{touches}
+use Rattle.sym_code.specs.Words.{is_common}
 use Rattle.math_helpers.specs.Routines.{helper_code}
 use Rattle.math_helpers.specs.Shape.{frame_size, is_straight, sum_from, ArePriced}
 use Rattle.select_wide.specs.Blocks.{is_user, body_at, code_by}
 
 -- ---- what is given
--- a number fits into a byte, and a pointer points to an object that is there
-abbrev pub IsFirst : ℕ → Held → Type 0
+-- a number fits into a byte, and a pointer points into an object that is there, or just past its end
+abbrev pub IsFirst : List (List Held) → Held → Type 0
 IsFirst objects Unset = Unit {0}
 IsFirst objects (Number n) = n < 256
-IsFirst objects (Part (Fixed n) offset high) = n < objects
+IsFirst objects (Part (Fixed n) offset high) = (n < length objects) × (offset ≤ length (slice_index_or objects n []))
 IsFirst objects (Part (FrameOf c) offset high) = ⊥
+
+-- each number that an operation sets fits into a byte
+abbrev mutual
+  pub sets_bytes : Tree → Bool
+  sets_bytes (trees.Set to value) = nat_lt value 256
+  sets_bytes (trees.Many parts) = all_set_bytes parts
+  sets_bytes (trees.If test size holds fails) = sets_bytes holds && sets_bytes fails
+  sets_bytes (trees.Loop body) = sets_bytes body
+  sets_bytes _ = true
+
+  pub all_set_bytes : Trees → Bool
+  all_set_bytes trees.NoTree = true
+  all_set_bytes (trees.AndTree part parts) = sets_bytes part && all_set_bytes parts
 
 -- The body of a copy that is no helper: it is that of its number, and ends by leaving.
 pub record IsBody (q : Program) (bodies : List Body) (c : ℕ) : Type 0 where
@@ -48,18 +68,59 @@ pub record IsBody (q : Program) (bodies : List Body) (c : ℕ) : Type 0 where
   pub root : q.root c ≡ body.root
   pub front : List Tree
   pub leaves : q.body c ≡ front ++ Leave ∷ []
+  pub bytes : all_set_bytes (trees_of (q.body c)) ≡ true
 
--- the most that an instruction costs with the selects before it: two for a byte's bank or a target's page
-abbrev pub dearest : Sym → ℕ
-dearest (Label label) = 0
-dearest (Literal op value) = 1
-dearest (Plain op) = 1
-dearest _ = 3
+-- ---- prices
+-- the byte whose bank an instruction needs; what stands in every bank needs none
+abbrev pub bank_named : Operand → Option Byte
+bank_named (operands.Byte byte) = if is_common byte then None else Some byte
+bank_named (operands.Register register) = None
+bank_named (operands.Saved saved) = None
+
+abbrev pub bank_touched : Option (Operand × Bool) → Option Byte
+bank_touched None = None
+bank_touched (Some touched) = bank_named touched.0
+
+-- An object stands in one bank whole, and so does a frame.
+abbrev pub in_one_bank : Byte → Byte → Bool
+in_one_bank (bytes.Static n j) (bytes.Static m k) = nat_eq n m
+in_one_bank (bytes.Frame c j) (bytes.Frame d k) = nat_eq c d
+in_one_bank (bytes.Device a) (bytes.Device b) = nat_eq a b
+in_one_bank _ _ = false
+
+-- the bank of the byte that was named last is selected
+abbrev pub has_bank : Option Byte → Byte → Bool
+has_bank None byte = false
+has_bank (Some last) byte = in_one_bank last byte
+
+-- two selects for a byte's bank, where it isn't selected, and two for a target's page
+abbrev pub bank_words : Option Byte → Option Byte → ℕ
+bank_words last None = 0
+bank_words last (Some byte) = if has_bank last byte then 0 else 2
+
+abbrev pub page_words : Sym → ℕ
+page_words (Call target) = 2
+page_words (Goto target) = 2
+page_words _ = 0
+
+-- what is named last behind an instruction; a call leaves any bank
+abbrev pub or_last : Option Byte → Option Byte → Option Byte
+or_last last None = last
+or_last last (Some byte) = Some byte
+
+abbrev pub named_behind : Option Byte → Sym → Option Byte
+named_behind last (Call target) = None
+named_behind last s = or_last last (bank_touched (touches s))
+
+-- the words of some instructions with all selects that they may need, where this byte was named last before them
+abbrev pub dear_words : Option Byte → List Sym → ℕ
+dear_words last [] = 0
+dear_words last (s ∷ rest) = 1 + bank_words last (bank_touched (touches s)) + page_words s + dear_words (named_behind last s) rest
 
 -- Wherever some instructions stand one behind the other, and the last of them is no skip, before which the selects of the following
 -- one would stand, they cost no more than this together.
 abbrev pub AreDear : (ℕ → ℕ) → List Sym → Type 0
-AreDear price list = (n : ℕ) (part : List Sym) → take (length part) (drop n list) ≡ part → is_straight part ≡ true → sum_from price n part ≤ sum_by dearest part
+AreDear price list = (n : ℕ) (part : List Sym) → take (length part) (drop n list) ≡ part → is_straight part ≡ true → sum_from price n part ≤ dear_words None part
 
 abbrev pub is_inside : Root → Bool
 is_inside Main = false
@@ -87,7 +148,7 @@ pub record IsSelected (q : Program) (copies : List FnCopy) (bodies : List Body) 
   pub same_handler : g.program.handler ≡ q.handler
   pub no_selects : g.banked ≡ false
   -- the first bytes
-  pub first : All (All (IsFirst (length q.first))) q.first
+  pub first : All (All (IsFirst q.first)) q.first
   -- each object and frame has its place, and frames that may be live together are apart
   pub layout : IsOf q.first q.is_watched (length copies) q.frame_bytes q.root g.program.layout
   pub routine_frames : (c : ℕ) (copy : FnCopy) (h : Helper) → slice_get copies c ≡ Some copy → copy.function ≡ callee.Helper h → frame_size h ≤ (frame g.program.layout c).size

@@ -29,7 +29,7 @@ pub record IsBeginning (blocks : List SymBlock) (placed : Placed) (handler : Opt
   pub code : bare (block_in blocks Start) ≡ start_code handler statics
   pub selected : All (Reaches placed) blocks
   pub sizes : (n : ℕ) → n < length statics → length (slice_index_or (held_in statics) n []) ≤ (object g.program.layout n).size
-  pub first : All (All (IsFirst (length statics))) (held_in statics)
+  pub first : All (All (IsFirst (held_in statics))) (held_in statics)
 
 abbrev pub Starting : Type 0
 Starting =
