@@ -19,7 +19,7 @@ use Rattle.c_ints.specs.declared.types.IntTy.{IntTy}
 use Rattle.c_typed.specs.Calls.{int_helper}
 use Rattle.c_typed.specs.declared.calls.Helper.{Helper}
 use Rattle.math_helpers.specs.Layouts.{bytes_of}
-use Rattle.math_helpers.specs.Routines.{width_of}
+use Rattle.math_helpers.specs.Routines.{width_of, helper_code}
 use Rattle.math_helpers.specs.Shape.{frame_size, right_bytes}
 
 -- the right operand that a routine is given by the number that its bytes make: of a shift's count the lowest byte counts
