@@ -1,0 +1,14 @@
+//! Operations on values, and with them what selection promises as a whole.
+//!
+//! In: nothing; the crate has lemmas, and what they come to. Out: nothing.
+//! The promise: symbolic code that was selected for byte code, with the routines, follows it on the chip's own bytes, frames that overlay
+//! one another among them, under every schedule of the handler, and costs no more than byte code says.
+#![tactic(auto)]
+
+ghost use Rattle.select_wide.specs.Links.{Selects};
+
+/// Whatever main may find, and under every schedule: what symbolic code does in the world is what byte code does there, as long as byte
+/// code isn't stuck, and between any two moments it takes no more and no fewer instructions than byte code says.
+pub fn selection_keeps()
+    ensures keeps { Selects }
+{}
