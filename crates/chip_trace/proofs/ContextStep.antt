@@ -95,6 +95,9 @@ module _ (g : Setting) (h : Ground) (image input : List ℕ) (hd : ℕ) (x : IsI
           record {
             modelled = ap is_modelled decoded ∙ ordinary.0;
             keeps = λ b q. ap (λ (z : Moment). slice_index z.state.ram b) there ∙ ap (λ (z : State). slice_index z.ram b) T_is ∙ keep b q;
+            ground = h;
+            image_then = x;
+            halt_then = halt_is;
             stands = subst (λ z. St g h image input hd x watch halt_is e t0 start from to s runs (suc n) z debt) (sym there) (record {
               index = st.index;
               ahead = st.ahead;
@@ -473,6 +476,9 @@ module _ (g : Setting) (h : Ground) (image input : List ℕ) (hd : ℕ) (x : IsI
         record {
           modelled = ap is_modelled dec;
           keeps = λ b q. ap (λ (z : Moment). slice_index z.state.ram b) there ∙ ap (λ (z : State). slice_index z.ram b) T_is;
+          ground = h;
+          image_then = x;
+          halt_then = halt_is;
           stands = subst (λ z. St g h image input hd x watch halt_is e t0 start from to s runs (suc n) z debt) (sym there) (record {
             index = suc st.index;
             ahead = st.ahead;
@@ -518,7 +524,7 @@ module _ (g : Setting) (h : Ground) (image input : List ℕ) (hd : ℕ) (x : IsI
             by : (z : Option Position) → st.thread.at ≡ z → lands_at g.program z ≡ true → spot g h st.thread.at < 8192
             by None is' ok = absurd (cc)
             by (Some p) is' ok = subst (λ z. spot g h z < 8192) (sym is') (x.placed.below p ok)
-          spot_below (inr q) = subst (λ z. spot g h z < 8192) (sym q.0) x.halt_small
+          spot_below (inr q) = subst (λ z. spot g h z < 8192) (sym q.0) (let r = x.rests in let f = x.turn_small in let k = x.halt_small in omega arith)
 
           seen : (T' : State) → perform (execute image input) S ≡ T' → IsAt g h st.thread [] T' → observed watch d ≡ d
           seen T' T_is at' = by st.there where
@@ -608,6 +614,9 @@ module _ (g : Setting) (h : Ground) (image input : List ℕ) (hd : ℕ) (x : IsI
           record {
             modelled = ap is_modelled dec;
             keeps = λ b q. ap (λ (z : Moment). slice_index z.state.ram b) there ∙ ap (λ (z : State). slice_index z.ram b) T_is ∙ ap (λ (z : State). slice_index z.ram b) onn ∙ saved_keeps 0 S0 (omega arith) b q;
+            ground = h;
+            image_then = x;
+            halt_then = halt_is;
             stands = subst (λ z. St g h image input hd x watch halt_is e t0 start from to s (suc runs) (suc n) z debt) (sym there) (record {
               index = suc st.index;
               ahead = st.ahead;
@@ -649,4 +658,4 @@ module _ (g : Setting) (h : Ground) (image input : List ℕ) (hd : ℕ) (x : IsI
               by : (z : Option Position) → st.thread.at ≡ z → lands_at g.program z ≡ true → spot g h st.thread.at < 8192
               by None is' ok = absurd (cc)
               by (Some p) is' ok = subst (λ z. spot g h z < 8192) (sym is') (x.placed.below p ok)
-            spot_below (inr q) = subst (λ z. spot g h z < 8192) (sym q.0) x.halt_small
+            spot_below (inr q) = subst (λ z. spot g h z < 8192) (sym q.0) (let r = x.rests in let f = x.turn_small in let k = x.halt_small in omega arith)

@@ -91,18 +91,18 @@ module _ (g : Setting) (h : Ground) (c : chip.Setting) (hd : ℕ) (x : IsImage g
           bytes = λ k cell m w. by k cell m w ∙ ap (λ (z : Memory). z k) (sym same_memory) ∙ ap (λ z. (sym_run g E z at' T0).memory k) o;
         }
 
-    early_bytes : (from to debt : ℕ) (st : At from to N debt) (k : ℕ) (cell : Cell) → owner g.program.layout k ≡ Watched cell → slice_index (moment c N).state.ram k ≡ st.early.memory k
-    early_bytes from to debt st k cell w =
-        st.bytes k (watched_somebody cell (owner g.program.layout k) w)
-        ∙ ahead_outside g x.outside st.ahead st.early.main st.early.memory st.thread st.memory k st.main_good (ap (writes_silently false) w) st.acts
+    early_bytes : (from to debt : ℕ) (kn : At from to N debt) (k : ℕ) (cell : Cell) → owner g.program.layout k ≡ Watched cell → slice_index (moment c N).state.ram k ≡ kn.stands.early.memory k
+    early_bytes from to debt kn k cell w =
+        kn.stands.bytes k (watched_somebody cell (owner g.program.layout k) w)
+        ∙ ahead_outside g x.outside kn.stands.ahead kn.stands.early.main kn.stands.early.memory kn.stands.thread kn.stands.memory k kn.stands.main_good (ap (writes_silently false) w) kn.stands.acts
 
     -- the chip's own moment of the early run
-    pub met_at_index : (from to debt least : ℕ) (st : At from to N debt) → least ≤ st.index → IsMet g c E R M N least
-    met_at_index from to debt least st le =
-        let l = same_length (moment c N).trace st.early.world.trace st.shows.trace in
+    pub met_at_index : (from to debt least : ℕ) (kn : At from to N debt) → least ≤ kn.stands.index → IsMet g c E R M N least
+    met_at_index from to debt least kn le =
+        let l = same_length (moment c N).trace kn.stands.early.world.trace kn.stands.shows.trace in
         let more = arriving c.arrivals N in
-        let a = st.comes (S (suc N)) more (subst (λ z. Extends (S N) z more (S (suc N))) l (schedule_goes_on (traces g h c hd x halt_is ranges_is start only main_is first started) c.arrivals N)) in
-        met_by st.index least (raised more st.early) a.0 le st.shows.trace (λ k cell m w. early_bytes from to debt st k cell w)
+        let a = kn.stands.comes (S (suc N)) more (subst (λ z. Extends (S N) z more (S (suc N))) l (schedule_goes_on (traces g h c hd x halt_is ranges_is start only main_is first started) c.arrivals N)) in
+        met_by kn.stands.index least (raised more kn.stands.early) a.0 le kn.stands.shows.trace (λ k cell m w. early_bytes from to debt kn k cell w)
 
     at_first : N < A → IsMet g c E R M N 0
     unfolding sym_run
@@ -117,26 +117,26 @@ module _ (g : Setting) (h : Ground) (c : chip.Setting) (hd : ℕ) (x : IsImage g
     meets = ⊎_elim at_first (λ ge. let k = stands N ge (omega arith) in met_at_index 100 A k.0 0 k.1 (omega arith)) (cases_lt N A)
 
     -- ---- the return stack
-    depth_by : (t : Machine) (u : Thread) (s : State) (done : ℕ) → length u.stack ≤ g.limit false → Mode g h c.image hd x.vector t u s done → (s.pops ≤ s.pushes) × (s.pushes ≤ s.pops + 8)
-    depth_by t u s done le (InMain q a) = let d = a.at.depth in let l = words_length g h c.image c.inputs hd x u.stack [] in let k = x.main_depth in (omega arith, omega arith)
-    depth_by t u s done le (Saving has k a lo hi q en is) =
-        let d = en.depth in let l = words_length g h c.image c.inputs hd x u.stack [] in let z = x.depth has in
+    depth_by : (h' : Ground) (x' : IsImage g h' c.image c.inputs hd) (t : Machine) (u : Thread) (s : State) (done : ℕ) → length u.stack ≤ g.limit false → Mode g h' c.image hd x'.vector t u s done → (s.pops ≤ s.pushes) × (s.pushes ≤ s.pops + 8)
+    depth_by h' x' t u s done le (InMain q a) = let d = a.at.depth in let l = words_length g h' c.image c.inputs hd x' u.stack [] in let k = x'.main_depth in (omega arith, omega arith)
+    depth_by h' x' t u s done le (Saving has k a lo hi q en is) =
+        let d = en.depth in let l = words_length g h' c.image c.inputs hd x' u.stack [] in let z = x'.depth has in
         let p : s.pushes ≡ a.pushes = ap (λ (y : State). y.pushes) is ∙ (saved_stack k a).0 in
         let p2 : s.pops ≡ a.pops = ap (λ (y : State). y.pops) is ∙ (saved_stack k a).1 in (omega arith, omega arith)
-    depth_by t u s done le (Selecting has j p a lj q en sel is) =
-        let d = en.depth in let l = words_length g h c.image c.inputs hd x u.stack [] in let z = x.depth has in
+    depth_by h' x' t u s done le (Selecting has j p a lj q en sel is) =
+        let d = en.depth in let l = words_length g h' c.image c.inputs hd x' u.stack [] in let z = x'.depth has in
         let p1 : s.pushes ≡ a.pushes = ap (λ (y : State). y.pushes) is in
         let p2 : s.pops ≡ a.pops = ap (λ (y : State). y.pops) is in (omega arith, omega arith)
-    depth_by t u s done le (InHandler has q a) =
-        let d = a.at.depth in let l = words_length g h c.image c.inputs hd x u.stack [] in let z = x.depth has in
-        let w = words_length g h c.image c.inputs hd x t.isr.stack (main_words g h c.image hd x.vector u) in let b = a.good.deep in (omega arith, omega arith)
-    depth_by t u s done le (Leaving has k a lk q lf is) =
-        let d = lf.depth in let l = words_length g h c.image c.inputs hd x u.stack [] in let z = x.depth has in
-        let p : s.pushes ≡ a.pushes = ap (λ (y : State). y.pushes) is ∙ (given_stack h.restore k a).0 in
-        let p2 : s.pops ≡ a.pops = ap (λ (y : State). y.pops) is ∙ (given_stack h.restore k a).1 in (omega arith, omega arith)
+    depth_by h' x' t u s done le (InHandler has q a) =
+        let d = a.at.depth in let l = words_length g h' c.image c.inputs hd x' u.stack [] in let z = x'.depth has in
+        let w = words_length g h' c.image c.inputs hd x' t.isr.stack (main_words g h' c.image hd x'.vector u) in let b = a.good.deep in (omega arith, omega arith)
+    depth_by h' x' t u s done le (Leaving has k a lk q lf is) =
+        let d = lf.depth in let l = words_length g h' c.image c.inputs hd x' u.stack [] in let z = x'.depth has in
+        let p : s.pushes ≡ a.pushes = ap (λ (y : State). y.pushes) is ∙ (given_stack h'.restore k a).0 in
+        let p2 : s.pops ≡ a.pops = ap (λ (y : State). y.pops) is ∙ (given_stack h'.restore k a).1 in (omega arith, omega arith)
 
     pub depth : (k : ℕ) → k ≤ N → ((moment c k).state.pops ≤ (moment c k).state.pushes) × ((moment c k).state.pushes ≤ (moment c k).state.pops + 8)
-    depth k le = ⊎_elim (λ lt. let q = started.level k (omega arith) in (omega arith, omega arith)) (λ ge. let y = (stands k ge le).1 in depth_by y.early y.thread (moment c k).state y.done y.good.deep y.mode) (cases_lt k A)
+    depth k le = ⊎_elim (λ lt. let q = started.level k (omega arith) in (omega arith, omega arith)) (λ ge. let z = (stands k ge le).1 in let y = z.stands in depth_by z.ground z.image_then y.early y.thread (moment c k).state y.done y.good.deep y.mode) (cases_lt k A)
 
     -- ---- frames
     pub frames : (k b : ℕ) → k < N → (moment c k).met ≡ true → is_kept (is_handling (arriving c.arrivals k) (moment c k)) (owner g.program.layout b) ≡ true
@@ -146,8 +146,8 @@ module _ (g : Setting) (h : Ground) (c : chip.Setting) (hd : ℕ) (x : IsImage g
         (λ early'. let f = sym met ∙ started.first_met k early' in absurd (cc))
         (λ ge.
         let y = stands k ge (omega arith) in
-        let st = y.1 in
+        let st = y.1.stands in
         let n : k + 1 ≡ suc k = omega arith in
         ap (λ z. slice_index (moment c z).state.ram b) n
-        ∙ kept_on g h c hd x halt_is ranges_is start only main_is first started N running k 100 A y.0 (st.ahead + st.idle) ge lt st (inl (omega arith)) b q)
+        ∙ kept_on g h c hd x halt_is ranges_is start only main_is first started N running k 100 A y.0 (st.ahead + st.idle) ge lt y.1 (inl (omega arith)) b q)
         (cases_lt k A)

@@ -162,6 +162,9 @@ module _ (g : Setting) (h : Ground) (image input : List ℕ) (hd : ℕ) (x : IsI
           record {
             modelled = models y is ne;
             keeps = λ b q. ap (λ (z : Moment). slice_index z.state.ram b) there ∙ ap (λ (m : List ℕ). slice_index m b) k.ram ∙ put_apart r.write S.ram b (near_apart g.program.layout true r.write b close q);
+            ground = h;
+            image_then = x;
+            halt_then = halt_is;
             stands = subst (λ z. St g h image input hd x watch halt_is e t0 start from to s runs (suc n) z debt) (sym there) (record {
               index = index;
               ahead = st.ahead;
@@ -356,6 +359,9 @@ module _ (g : Setting) (h : Ground) (image input : List ℕ) (hd : ℕ) (x : IsI
           record {
             modelled = models Leaves is none;
             keeps = λ b q. ap (λ (z : Moment). slice_index z.state.ram b) there ∙ ap (λ (z : State). slice_index z.ram b) same;
+            ground = h;
+            image_then = x;
+            halt_then = halt_is;
             stands = subst (λ z. St g h image input hd x watch halt_is e t0 start from to s runs (suc n) z debt) (sym there) (record {
               index = st.index;
               ahead = st.ahead;

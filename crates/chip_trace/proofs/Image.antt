@@ -1,5 +1,5 @@
 -- What is known of an image, and one instruction of a moment.
-use Rattle.std.proofs.Common.{◌≡◌, ◌≢◌, ℕ, ◌+◌, ◌%◌, ◌<◌, ◌≤◌, Bool, true, false, List, [], ◌∷◌, ◌++◌, length, map, Option, Some, None, refl, ap, ◌∙◌, arith, length-append}
+use Rattle.std.proofs.Common.{◌≡◌, ◌≢◌, ℕ, ◌+◌, ◌%◌, ◌/◌, ◌<◌, ◌≤◌, Bool, true, false, List, [], ◌∷◌, ◌++◌, length, map, Option, Some, None, refl, ap, ◌∙◌, arith, length-append}
 use Rattle.std.specs.Prelude.{not, ◌&&◌, if◌then◌else◌, nat_eq, slice_index, slice_set, slice_get}
 use Rattle.std.proofs.lemmas.Bool.{eqb-true, eqb-false, eq-eqb}
 use Rattle.std.proofs.lemmas.List.{length-map, get_or-set_same, get_or-set_other}
@@ -16,11 +16,12 @@ use Rattle.sym_code.specs.Effect.{Setting, Memory, Write, written}
 use Rattle.sym_code.specs.Layout.{owner, Nobody, IsLaidOut}
 use Rattle.sym_code.specs.Programs.{Position, lands}
 use Rattle.sym_code.specs.declared.code.BlockName.TheVariants.{Copy}
+use Rattle.sym_code.specs.declared.code.PageBit.{PageBit}
 use Rattle.sym_code.specs.declared.code.Sym.{Sym}
 use Rattle.chip_trace.specs.Arriving.{keeps_out}
 use Rattle.chip_trace.proofs.Addresses.{somebodys_number}
 use Rattle.chip_trace.proofs.Past.{IsApart}
-use Rattle.chip_trace.proofs.Relations.{Ground, put_in, words, IsPlaced}
+use Rattle.chip_trace.proofs.Relations.{Ground, put_in, words, page_row, IsPlaced}
 use Rattle.chip_trace.proofs.Sound.{is_copy}
 use Rattle.chip_trace.proofs.Stands.{Vector, SameBytes}
 
@@ -34,8 +35,15 @@ pub record IsImage (g : Setting) (h : Ground) (image input : List ℕ) (hd : ℕ
   pub main_depth : g.limit false ≤ 8
   pub depth : g.program.handler ≡ Some hd → g.limit false + 1 + g.limit true ≤ 8
   pub halts : (p : Position) → lands g.program p ≡ true → is_copy p.block ≡ true → h.place p ≢ h.halt
-  pub stays : row_of (slice_index image h.halt) ≡ Some (isa.Goto (h.halt % 2048))
-  pub halt_small : h.halt < 8192
+  -- where main has ended, so many selects of the page stand, and a jump to the first of them; main is at one of these words
+  pub turns : ℕ
+  pub bit : ℕ → PageBit
+  pub selects : (k : ℕ) → k < turns → row_of (slice_index image (h.halt + k)) ≡ Some (page_row (bit k) (h.halt / 2048))
+  pub stays : row_of (slice_index image (h.halt + turns)) ≡ Some (isa.Goto (h.halt % 2048))
+  pub halt_small : h.halt + turns < 8192
+  pub turn : ℕ
+  pub turn_small : turn ≤ turns
+  pub rests : h.rests ≡ h.halt + turn
   pub small : (k : ℕ) → slice_index input k < 256
 
 -- ---- one instruction of a moment

@@ -17,7 +17,9 @@ pub mod Stands
 pub mod Context
 pub mod Fetch
 pub mod Image
+pub mod Rested
 pub mod MainStep
+pub mod Resting
 pub mod HandlerStep
 pub mod ContextStep
 pub mod Step

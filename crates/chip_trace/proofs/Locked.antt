@@ -59,7 +59,7 @@ module _ (g : Setting) (h : Ground) (o : Outside) where
     q = g.program
 
     pc_is : s.pc ≡ h.place p
-    pc_is = at.pc ∙ ap (λ (x : Option Position). elim x [ None ↦ h.halt | Some z ↦ h.place z ]) is
+    pc_is = at.pc ∙ ap (λ (x : Option Position). elim x [ None ↦ h.rests | Some z ↦ h.place z ]) is
 
     pub next_pc : lands q (behind q p) ≡ true → (s.pc + 1) % 8192 ≡ h.place (behind q p)
     next_pc ok = let a = placed.next p here in let b = placed.below (behind q p) ok in let c = pc_is in omega arith

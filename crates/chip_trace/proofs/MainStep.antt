@@ -1,10 +1,8 @@
 -- An instruction of main, at a boundary where flags were raised and no interrupt is due.
-use Rattle.std.proofs.Common.{◌≡◌, ◌≢◌, ℕ, suc, ◌+◌, ◌/◌, ◌%◌, ◌*◌, ◌<◌, ◌≤◌, ◌⊎◌, inl, inr, Bool, true, false, List, [], ◌∷◌, ◌++◌, length, Option, Some, None, refl, sym, ap, ◌∙◌, subst, arith, append-nil, length-append}
+use Rattle.std.proofs.Common.{◌≡◌, ◌≢◌, ℕ, suc, ◌+◌, ◌/◌, ◌<◌, ◌≤◌, ◌⊎◌, inl, inr, Bool, true, false, List, [], ◌∷◌, ◌++◌, length, Option, Some, None, refl, sym, ap, ◌∙◌, subst, arith, append-nil, length-append}
 use Rattle.std.specs.Prelude.{not, ◌&&◌, if◌then◌else◌, slice_index}
 use Rattle.std.proofs.lemmas.Bool.{ne_eqb}
 use Rattle.std.proofs.lemmas.List.{map-append}
-use Rattle.pic_isa.specs.declared.Ins.TheVariants as isa
-use Rattle.pic_isa.specs.Lookup.{row_of}
 use Rattle.pic_chip.specs.Act.{perform, accesses}
 use Rattle.pic_chip.specs.Instructions.{execute, fetched, is_modelled, is_return_from_interrupt}
 use Rattle.pic_chip.specs.Interrupts.{control_of}
@@ -23,12 +21,13 @@ use Rattle.sym_code.specs.Machine.{Machine, Entry, Stops, Made, made, made_write
 use Rattle.sym_code.specs.Programs.{Position, lands}
 use Rattle.sym_code.specs.Registers.{page}
 use Rattle.chip_trace.specs.Arriving.{one_each, is_kept}
-use Rattle.chip_trace.proofs.Fetch.{LockedAt, locked_at, Ordinary, performs, accesses_are}
-use Rattle.chip_trace.proofs.Image.{IsImage, after, elsewhere, again, ending, observed_long, put_written, put_apart, words_length, same_length}
+use Rattle.chip_trace.proofs.Fetch.{LockedAt, locked_at, Ordinary}
+use Rattle.chip_trace.proofs.Image.{IsImage, after, elsewhere, ending, observed_long, put_written, put_apart, words_length, same_length}
 use Rattle.chip_trace.proofs.Locked.{Locked, LockedIf, LockedRead, LockedBy}
 use Rattle.chip_trace.proofs.Past.{IsNear, near, near_apart, MadeIf, made_case, is_event, longer, inside, good, read_long, read_control, read_inside, silent_somebody, watched_somebody}
 use Rattle.chip_trace.proofs.Ranges.{executed_ranged}
 use Rattle.chip_trace.proofs.Relations.{Ground, Sees, IsOn, words, spot}
+use Rattle.chip_trace.proofs.Rested.{rested, words_at, image_at}
 use Rattle.chip_trace.proofs.Runs.{over, raised, Extends, exactly, Comes, settled_is, raised_none, step_from, cost_from, off_steps, main_makes, main_made, main_ends, makes, same_made, main_cost, one_cost, rest_cost, end_cost, comes_main, comes_loud}
 use Rattle.chip_trace.proofs.Sound.{IsGood, IsSound, IsLeft, is_out, sound}
 use Rattle.chip_trace.proofs.Stands.{Stands, IsMain, InMain, IsThere, IsSince}
@@ -55,7 +54,10 @@ module _ (g : Setting) (h : Ground) (image input : List ℕ) (hd : ℕ) (x : IsI
   pub record Stepped (s : Schedule) (runs n : ℕ) (c : Moment) (hand : Bool) (a : State) (d : Moment) (debt : ℕ) : Type 0 where
     pub modelled : is_modelled (fetched image a) ≡ true
     pub keeps : (b : ℕ) → is_kept hand (owner g.program.layout b) ≡ true → slice_index d.state.ram b ≡ slice_index c.state.ram b
-    pub stands : St s runs n d debt
+    pub ground : Ground
+    pub image_then : IsImage g ground image input hd
+    pub halt_then : watch.halt ≡ ground.halt
+    pub stands : Stands g ground image hd image_then.vector e input t0 least_prices dear_prices s start from to runs n d debt
 
   -- the early run isn't stuck there
   pub not_stuck : (s : Schedule) (n long k : ℕ) (u : Machine) → IsClean s n long → cost_by g least_prices e (over input s) k t0 ≤ n → settled (over input s) (sym_run g e (over input s) k t0) ≡ u
@@ -185,6 +187,9 @@ module _ (g : Setting) (h : Ground) (image input : List ℕ) (hd : ℕ) (x : IsI
             record {
               modelled = models y is ne;
               keeps = λ b q. ap (λ (z : Moment). slice_index z.state.ram b) there ∙ ap (λ (m : List ℕ). slice_index m b) k.ram ∙ put_apart r.write S.ram b (near_apart g.program.layout false r.write b close q);
+              ground = h;
+              image_then = x;
+              halt_then = halt_is;
               stands = subst (λ z. St s runs (suc n) z debt) (sym there) (record {
                 index = index;
                 ahead = 0;
@@ -336,6 +341,9 @@ module _ (g : Setting) (h : Ground) (image input : List ℕ) (hd : ℕ) (x : IsI
             record {
               modelled = models (Quiet u wr) is none;
               keeps = λ b q. ap (λ (z : Moment). slice_index z.state.ram b) there ∙ ap (λ (m : List ℕ). slice_index m b) kk.ram ∙ put_apart wr S.ram b (near_apart g.program.layout false wr b (near o st.memory t.world g false st.thread (Quiet u wr) so) q);
+              ground = h;
+              image_then = x;
+              halt_then = halt_is;
               stands = subst (λ z. St s runs (suc n) z debt) (sym there) (record {
                 index = st.index;
                 ahead = suc st.ahead;
@@ -384,10 +392,16 @@ module _ (g : Setting) (h : Ground) (image input : List ℕ) (hd : ℕ) (x : IsI
             let little = idle_little (Ends u) refl is in
             let good' : IsGood g false v = record { deep = st.good.deep; at = refl; stack = st.good.stack; left = st.good.left } in
             let same : T ≡ record S { pc = h.halt } = k.0 in
+            let h1 = rested h h.halt in
+            let x1 = image_at g h h.halt image input hd x 0 (omega arith) (let z : h.halt ≡ h.halt + 0 = omega arith in z) in
+            let ws : words g h1 st.thread.stack [] ≡ words g h st.thread.stack [] = words_at g h h.halt st.thread.stack [] in
             record {
               modelled = models (Ends u) is none;
               keeps = λ b q. ap (λ (z : Moment). slice_index z.state.ram b) there ∙ ap (λ (z : State). slice_index z.ram b) same;
-              stands = subst (λ z. St s runs (suc n) z debt) (sym there) (record {
+              ground = h1;
+              image_then = x1;
+              halt_then = halt_is;
+              stands = subst (λ z. Stands g h1 image hd x1.vector e input t0 least_prices dear_prices s start from to runs (suc n) z debt) (sym there) (record {
                 index = suc (st.index + st.ahead);
                 ahead = 0;
                 early = t2;
@@ -429,8 +443,8 @@ module _ (g : Setting) (h : Ground) (image input : List ℕ) (hd : ℕ) (x : IsI
                   at = record {
                     pc = ap (λ (q : State). q.pc) same;
                     sees = subst (λ (q : State). Sees q st.thread.registers) (sym same) (record { w = a.at.sees.w; z = a.at.sees.z; dc = a.at.sees.dc; c = a.at.sees.c; fsr = a.at.sees.fsr; bank = a.at.sees.bank; page = a.at.sees.page; banks = a.at.sees.banks; pages = a.at.sees.pages });
-                    stack = subst (λ (q : State). IsOn q.stack 0 (words g h st.thread.stack [])) (sym same) a.at.stack;
-                    depth = subst (λ (q : State). q.pushes ≡ q.pops + length (words g h st.thread.stack [])) (sym same) a.at.depth;
+                    stack = subst (λ z. IsOn T.stack 0 z) (sym ws) (subst (λ (q : State). IsOn q.stack 0 (words g h st.thread.stack [])) (sym same) a.at.stack);
+                    depth = subst (λ z. T.pushes ≡ T.pops + length z) (sym ws) (subst (λ (q : State). q.pushes ≡ q.pops + length (words g h st.thread.stack [])) (sym same) a.at.depth);
                   };
                 });
               });
@@ -460,72 +474,9 @@ module _ (g : Setting) (h : Ground) (image input : List ℕ) (hd : ℕ) (x : IsI
         pub runs_on : (is_modelled (fetched image S) ≡ true → IsCleanThen s (suc n) (length (observed watch d).trace)) → Stepped s runs (suc n) c false S (observed watch d) debt
         runs_on next = main_by (effect g false st.thread st.memory) refl (sound g false x.outside st.thread st.memory st.good) lock.locked next
 
-      -- main has ended: the chip jumps to the halt address for ever
-      module _ (nowhere : st.thread.at ≡ None) (ended : c.ended ≡ true) (pages : page st.thread.registers ≡ h.halt / 2048) where
-        decoded : row_of (slice_index image S.pc) ≡ Some (isa.Goto (h.halt % 2048))
-        decoded = ap (λ z. row_of (slice_index image z)) (a.at.pc ∙ ap (spot g h) nowhere) ∙ x.stays
-
-        stays : perform (execute image input) S ≡ record S { pc = h.halt }
-        stays =
-            let b = a.at.sees.page in let f = st.ranged.pclath in let hs = x.halt_small in
-            let k : S.pclath / 8 % 4 * 2048 + h.halt % 2048 ≡ h.halt = omega arith in
-            performs image input S (isa.Goto (h.halt % 2048)) decoded ∙ ap (λ z. record S { pc = z }) k
-
-        pub rests_on : Stepped s runs (suc n) c false S (observed watch d) debt
-        rests_on =
-            let there : observed watch d ≡ d = again watch d st.met ended in
-            let quiet' : accesses (execute image input) S ≡ [] = accesses_are image input S (isa.Goto (h.halt % 2048)) decoded in
-            record {
-              modelled = ap is_modelled decoded;
-              keeps = λ b q. ap (λ (z : Moment). slice_index z.state.ram b) there ∙ ap (λ (z : State). slice_index z.ram b) stays;
-              stands = subst (λ z. St s runs (suc n) z debt) (sym there) (record {
-                index = st.index;
-                ahead = st.ahead;
-                early = t;
-                thread = st.thread;
-                memory = st.memory;
-                lo = st.lo;
-                hi = st.hi;
-                done = 100;
-                idle = st.idle + 1;
-                comes = st.comes;
-                entries = st.entries;
-                later = st.later;
-                acts = st.acts;
-                cheap = let q = st.cheap in omega arith;
-                account = let q = st.account in omega arith;
-                since = inr (a.inside, off_early, inr (halted_rests nowhere));
-                main_good = st.main_good;
-                good = st.good;
-                rest = st.rest;
-                bytes = subst (λ (q : State). (k : ℕ) → owner g.program.layout k ≢ Nobody → slice_index q.ram k ≡ st.memory k) (sym stays) st.bytes;
-                shows = record {
-                  control = ap control_of stays ∙ st.shows.control;
-                  taken = ap (λ (q : State). q.taken) stays ∙ st.shows.taken;
-                  trace = ap (λ z. c.trace ++ events_of ranges z) quiet' ∙ append-nil c.trace ∙ st.shows.trace;
-                  handling = ap (λ z. c.handling && not (is_return_from_interrupt z)) decoded ∙ and_true c.handling ∙ st.shows.handling;
-                };
-                there = inr (nowhere, ended, pages);
-                met = st.met;
-                going = st.going;
-                ranged = executed_ranged input x.small S st.ranged image;
-                mode = InMain refl (record {
-                  inside = a.inside;
-                  at = record {
-                    pc = ap (λ (q : State). q.pc) stays ∙ sym (ap (spot g h) nowhere);
-                    sees = subst (λ (q : State). Sees q st.thread.registers) (sym stays) (record { w = a.at.sees.w; z = a.at.sees.z; dc = a.at.sees.dc; c = a.at.sees.c; fsr = a.at.sees.fsr; bank = a.at.sees.bank; page = a.at.sees.page; banks = a.at.sees.banks; pages = a.at.sees.pages });
-                    stack = subst (λ (q : State). IsOn q.stack 0 (words g h st.thread.stack [])) (sym stays) a.at.stack;
-                    depth = subst (λ (q : State). q.pushes ≡ q.pops + length (words g h st.thread.stack [])) (sym stays) a.at.depth;
-                  };
-                });
-              });
-            } where
-              and_true : (b : Bool) → (b && true) ≡ b
-              and_true true = refl
-              and_true false = refl
-
-      pub main_step : (is_modelled (fetched image S) ≡ true → IsCleanThen s (suc n) (length (observed watch d).trace)) → Stepped s runs (suc n) c false S (observed watch d) debt
-      main_step next = by st.there where
+      pub main_step : (st.thread.at ≡ None → c.ended ≡ true → page st.thread.registers ≡ h.halt / 2048 → Stepped s runs (suc n) c false S (observed watch d) debt)
+          → (is_modelled (fetched image S) ≡ true → IsCleanThen s (suc n) (length (observed watch d).trace)) → Stepped s runs (suc n) c false S (observed watch d) debt
+      main_step rests_on next = by st.there where
         by_at : (z : Option Position) → st.thread.at ≡ z → lands_at g.program z ≡ true → c.ended ≡ false → Stepped s runs (suc n) c false S (observed watch d) debt
         by_at None is ok open' = absurd (cc)
         by_at (Some p) is ok open' = runs_on p is ok open' next

@@ -198,7 +198,7 @@ module _ (blocks : List SymBlock) (at : List ℕ) (placed : Placed) (handler : O
   place_in p = known (block_place blocks at p.block) + words_to G.program p
 
   abbrev pub H : Ground
-  H = record { place = place_in; halt = watch.halt; restore = known (label_place blocks at Restore) % 2048 }
+  H = record { place = place_in; halt = watch.halt; restore = known (label_place blocks at Restore) % 2048; rests = watch.halt }
 
   module _ (a : IsAssembled blocks at placed handler image watch G) where
     abbrev q : Program

@@ -126,44 +126,49 @@ module _ (g : Setting) (h : Ground) (c : chip.Setting) (hd : ℕ) (x : IsImage g
     none_arrives n lt ln = nothing_arrives c.arrivals n (λ a q e. let z = quiet a q (omega arith) in absurd (omega arith))
 
     abbrev from' : ℕ
-    from' = X.hi + X.ahead + X.done + X.idle
+    from' = X.stands.hi + X.stands.ahead + X.stands.done + X.stands.idle
 
     abbrev debt' : ℕ
-    debt' = X.ahead + X.idle
+    debt' = X.stands.ahead + X.stands.idle
 
     -- counted from there on
     abbrev rebased : at' from' t t debt'
     rebased = record {
-      index = X.index;
-      ahead = X.ahead;
-      early = X.early;
-      thread = X.thread;
-      memory = X.memory;
-      lo = X.lo;
-      hi = X.hi;
-      done = X.done;
-      idle = X.idle;
-      comes = X.comes;
-      entries = X.entries;
-      later = X.later;
-      acts = X.acts;
-      cheap = X.cheap;
-      account = omega arith;
-      since = inl (omega arith);
-      main_good = X.main_good;
-      good = X.good;
-      rest = X.rest;
-      bytes = X.bytes;
-      shows = X.shows;
-      there = X.there;
-      met = X.met;
-      going = X.going;
-      ranged = X.ranged;
-      mode = X.mode;
+      ground = X.ground;
+      image_then = X.image_then;
+      halt_then = X.halt_then;
+      stands = record {
+        index = X.stands.index;
+        ahead = X.stands.ahead;
+        early = X.stands.early;
+        thread = X.stands.thread;
+        memory = X.stands.memory;
+        lo = X.stands.lo;
+        hi = X.stands.hi;
+        done = X.stands.done;
+        idle = X.stands.idle;
+        comes = X.stands.comes;
+        entries = X.stands.entries;
+        later = X.stands.later;
+        acts = X.stands.acts;
+        cheap = X.stands.cheap;
+        account = omega arith;
+        since = inl (omega arith);
+        main_good = X.stands.main_good;
+        good = X.stands.good;
+        rest = X.stands.rest;
+        bytes = X.stands.bytes;
+        shows = X.stands.shows;
+        there = X.stands.there;
+        met = X.stands.met;
+        going = X.stands.going;
+        ranged = X.stands.ranged;
+        mode = X.stands.mode;
+      };
     }
 
-    quiet_since : (n : ℕ) (st : at' from' t n debt') → arriving c.arrivals n ≡ 0 → IsSince g h c.image hd x.vector debt' st.ahead st.idle (raised (arriving c.arrivals n) st.early) st.thread st.memory
-    quiet_since n st z = subst (λ u. IsSince g h c.image hd x.vector debt' st.ahead st.idle u st.thread st.memory) (sym (ap (λ k. raised k st.early) z ∙ raised_none st.early)) st.since
+    quiet_since : (n : ℕ) (kn : at' from' t n debt') → arriving c.arrivals n ≡ 0 → IsSince g kn.ground c.image hd kn.image_then.vector debt' kn.stands.ahead kn.stands.idle (raised (arriving c.arrivals n) kn.stands.early) kn.stands.thread kn.stands.memory
+    quiet_since n kn z = subst (λ u. IsSince g kn.ground c.image hd kn.image_then.vector debt' kn.stands.ahead kn.stands.idle u kn.stands.thread kn.stands.memory) (sym (ap (λ k. raised k kn.stands.early) z ∙ raised_none kn.stands.early)) kn.stands.since
 
     after_t : (d n : ℕ) → n ≡ suc d + t → n ≤ N → at' from' t n debt'
     after_t zero zero is ln = absurd (omega arith)
@@ -180,27 +185,27 @@ module _ (g : Setting) (h : Ground) (c : chip.Setting) (hd : ℕ) (x : IsImage g
     abbrev most : ℕ → ℕ
     most k = cost_by g dear_prices ee O k tt0
 
-    x_is : (settled O (sym_run g ee O X.index tt0) ≡ raised (far (suc N - t) t (suc N) (omega arith)).0 X.early) × (most X.index ≡ X.hi)
+    x_is : (settled O (sym_run g ee O X.stands.index tt0) ≡ raised (far (suc N - t) t (suc N) (omega arith)).0 X.stands.early) × (most X.stands.index ≡ X.stands.hi)
     x_is =
         let f = far (suc N - t) t (suc N) (omega arith) in
-        let l = same_length (tr t) X.early.world.trace X.shows.trace in
-        let y = X.comes (ss (suc N)) f.0 (subst (λ z. Extends (ss t) z f.0 (ss (suc N))) l f.1) in (y.0, y.2)
+        let l = same_length (tr t) X.stands.early.world.trace X.stands.shows.trace in
+        let y = X.stands.comes (ss (suc N)) f.0 (subst (λ z. Extends (ss t) z f.0 (ss (suc N))) l f.1) in (y.0, y.2)
 
-    x_long : length (sym_run g ee O X.index tt0).world.trace ≡ length (tr t)
+    x_long : length (sym_run g ee O X.stands.index tt0).world.trace ≡ length (tr t)
     x_long =
-        let l = same_length (tr t) X.early.world.trace X.shows.trace in
-        ap (λ (z : Machine). length z.world.trace) (sym (settled_is c.inputs (ss (suc N)) (sym_run g ee O X.index tt0)) ∙ x_is.0) ∙ sym l
+        let l = same_length (tr t) X.stands.early.world.trace X.stands.shows.trace in
+        ap (λ (z : Machine). length z.world.trace) (sym (settled_is c.inputs (ss (suc N)) (sym_run g ee O X.stands.index tt0)) ∙ x_is.0) ∙ sym l
 
     module _ (i j : ℕ) (shorter : (k : ℕ) → k < i → length (sym_run g ee O k tt0).world.trace < length (tr t)) (rich : most j + slack ≤ most i + (N - t)) where
-      before_x : most i ≤ X.hi
+      before_x : most i ≤ X.stands.hi
       before_x =
           ⊎_elim
-          (λ lt. let a = shorter X.index lt in let b = x_long in absurd (omega arith))
-          (λ ge. let r = cost_rises g dear_prices ee O tt0 i (X.index - i) X.index (omega arith) in let q = x_is.1 in omega arith)
-          (cases_lt X.index i)
+          (λ lt. let a = shorter X.stands.index lt in let b = x_long in absurd (omega arith))
+          (λ ge. let r = cost_rises g dear_prices ee O tt0 i (X.stands.index - i) X.stands.index (omega arith) in let q = x_is.1 in omega arith)
+          (cases_lt X.stands.index i)
 
       -- what is behind a moment costs too much
-      behind_it : (k : ℕ) → X.hi + (N - t) ≤ most k + 109 → j ≤ k
+      behind_it : (k : ℕ) → X.stands.hi + (N - t) ≤ most k + 109 → j ≤ k
       behind_it k le' =
           ⊎_elim (λ lt. let r = cost_rises g dear_prices ee O tt0 k (j - k) j (omega arith) in let b = before_x in absurd (omega arith)) (λ ge. ge) (cases_lt k j)
 
@@ -209,12 +214,12 @@ module _ (g : Setting) (h : Ground) (c : chip.Setting) (hd : ℕ) (x : IsImage g
       at_once e' =
           let bt = begun_then in
           let y = stands g h c hd x halt_is ranges_is start only main_is first started N running N (omega arith) (omega arith) in
-          let st = y.1 in
+          let st = y.1.stands in
           let l = same_length (tr N) st.early.world.trace st.shows.trace in
           let a = st.comes (ss (suc N)) (arriving c.arrivals N) (subst (λ z. Extends (ss N) z (arriving c.arrivals N) (ss (suc N))) l (schedule_goes_on tr c.arrivals N)) in
           let long : length (sym_run g ee O st.index tt0).world.trace ≡ length (tr N) = ap (λ (z : Machine). length z.world.trace) (sym (settled_is c.inputs (ss (suc N)) (sym_run g ee O st.index tt0)) ∙ a.0) ∙ sym l in
           let same : length (tr N) ≡ length (tr t) = ap (λ z. length (tr z)) e' in
-          met_at_index g h c hd x halt_is ranges_is start only main_is first started N running 100 a0 y.0 j st
+          met_at_index g h c hd x halt_is ranges_is start only main_is first started N running 100 a0 y.0 j y.1
           (⊎_elim
           (λ lt. let q = shorter st.index lt in absurd (omega arith))
           (λ ge. ⊎_elim (λ lt. omega arith) (λ ge2. let r = cost_rises g dear_prices ee O tt0 i (j - i) j (omega arith) in absurd (omega arith)) (cases_lt j i))
@@ -224,57 +229,57 @@ module _ (g : Setting) (h : Ground) (c : chip.Setting) (hd : ℕ) (x : IsImage g
         abbrev Y : at' from' t N debt'
         Y = after_t d N later (omega arith)
 
-        done_little : (u : Machine) (th : Thread) (s : State) (done : ℕ) → Mode g h c.image hd x.vector u th s done → done ≤ 109
-        done_little u th s done (InMain q a) = omega arith
-        done_little u th s done (Saving has k a lo hi q en is) = omega arith
-        done_little u th s done (Selecting has jj p a lj q en sel is) = let f = (x.vector has).few in omega arith
-        done_little u th s done (InHandler has q a) = omega arith
-        done_little u th s done (Leaving has k a lk q lf is) = omega arith
+        done_little : (h' : Ground) (x' : IsImage g h' c.image c.inputs hd) (u : Machine) (th : Thread) (s : State) (done : ℕ) → Mode g h' c.image hd x'.vector u th s done → done ≤ 109
+        done_little h' x' u th s done (InMain q a) = omega arith
+        done_little h' x' u th s done (Saving has k a lo hi q en is) = omega arith
+        done_little h' x' u th s done (Selecting has jj p a lj q en sel is) = let f = (x'.vector has).few in omega arith
+        done_little h' x' u th s done (InHandler has q a) = omega arith
+        done_little h' x' u th s done (Leaving has k a lk q lf is) = omega arith
 
-        done_main : (u : Machine) (th : Thread) (s : State) (done : ℕ) → u.world.inside ≡ false → Mode g h c.image hd x.vector u th s done → done ≡ 100
-        done_main u th s done out (InMain q a) = q
-        done_main u th s done out (Saving has k a lo hi q en is) = let f = sym out ∙ en.inside in absurd (cc)
-        done_main u th s done out (Selecting has jj p a lj q en sel is) = let f = sym out ∙ en.inside in absurd (cc)
-        done_main u th s done out (InHandler has q a) = q
-        done_main u th s done out (Leaving has k a lk q lf is) = let f = sym out ∙ lf.inside in absurd (cc)
+        done_main : (h' : Ground) (x' : IsImage g h' c.image c.inputs hd) (u : Machine) (th : Thread) (s : State) (done : ℕ) → u.world.inside ≡ false → Mode g h' c.image hd x'.vector u th s done → done ≡ 100
+        done_main h' x' u th s done out (InMain q a) = q
+        done_main h' x' u th s done out (Saving has k a lo hi q en is) = let f = sym out ∙ en.inside in absurd (cc)
+        done_main h' x' u th s done out (Selecting has jj p a lj q en sel is) = let f = sym out ∙ en.inside in absurd (cc)
+        done_main h' x' u th s done out (InHandler has q a) = q
+        done_main h' x' u th s done out (Leaving has k a lk q lf is) = let f = sym out ∙ lf.inside in absurd (cc)
 
-        y_long : length (tr N) ≡ length Y.early.world.trace
-        y_long = same_length (tr N) Y.early.world.trace Y.shows.trace
+        y_long : length (tr N) ≡ length Y.stands.early.world.trace
+        y_long = same_length (tr N) Y.stands.early.world.trace Y.stands.shows.trace
 
-        y_costs : most Y.index ≡ Y.hi
-        y_costs = (Y.comes (ss (suc N)) (arriving c.arrivals N) (subst (λ z. Extends (ss N) z (arriving c.arrivals N) (ss (suc N))) y_long (schedule_goes_on tr c.arrivals N))).2
+        y_costs : most Y.stands.index ≡ Y.stands.hi
+        y_costs = (Y.stands.comes (ss (suc N)) (arriving c.arrivals N) (subst (λ z. Extends (ss N) z (arriving c.arrivals N) (ss (suc N))) y_long (schedule_goes_on tr c.arrivals N))).2
 
-        by_index : (Y.ahead + Y.idle ≤ debt') → IsMet g c ee rr mm N j
+        by_index : (Y.stands.ahead + Y.stands.idle ≤ debt') → IsMet g c ee rr mm N j
         by_index le' =
-            let dl = done_little Y.early Y.thread (moment c N).state Y.done Y.mode in
-            let ac = Y.account in let yc = y_costs in
-            met_at_index g h c hd x halt_is ranges_is start only main_is first started N running from' t debt' j Y (behind_it Y.index (omega arith))
+            let dl = done_little Y.ground Y.image_then Y.stands.early Y.stands.thread (moment c N).state Y.stands.done Y.stands.mode in
+            let ac = Y.stands.account in let yc = y_costs in
+            met_at_index g h c hd x halt_is ranges_is start only main_is first started N running from' t debt' j Y (behind_it Y.stands.index (omega arith))
 
-        module _ (out : Y.early.world.inside ≡ false) (off : control.is_due Y.early.world.control ≡ false) where
+        module _ (out : Y.stands.early.world.inside ≡ false) (off : control.is_due Y.stands.early.world.control ≡ false) where
           abbrev k0 : ℕ
-          k0 = Y.index + Y.ahead
+          k0 = Y.stands.index + Y.stands.ahead
 
           abbrev u0 : Machine
-          u0 = record Y.early { main = Y.thread; memory = Y.memory }
+          u0 = record Y.stands.early { main = Y.stands.thread; memory = Y.stands.memory }
 
-          same_schedule : Extends (ss N) (length Y.early.world.trace) 0 (ss (suc N))
+          same_schedule : Extends (ss N) (length Y.stands.early.world.trace) 0 (ss (suc N))
           same_schedule =
               let z = none_arrives N (omega arith) (omega arith) in
-              subst (λ m. Extends (ss N) (length Y.early.world.trace) m (ss (suc N))) z (subst (λ z. Extends (ss N) z (arriving c.arrivals N) (ss (suc N))) y_long (schedule_goes_on tr c.arrivals N))
+              subst (λ m. Extends (ss N) (length Y.stands.early.world.trace) m (ss (suc N))) z (subst (λ z. Extends (ss N) z (arriving c.arrivals N) (ss (suc N))) y_long (schedule_goes_on tr c.arrivals N))
 
-          there : (settled O (sym_run g ee O k0 tt0) ≡ u0) × (cost_by g least_prices ee O k0 tt0 ≡ Y.lo + Y.ahead) × (most k0 ≡ Y.hi + Y.ahead)
-          there = comes_main g ee c.inputs tt0 least_prices dear_prices (λ p. refl) (λ p. refl) (ss N) (ss (suc N)) Y.index Y.ahead Y.early Y.lo Y.hi Y.thread Y.memory out off Y.comes same_schedule Y.acts
+          there : (settled O (sym_run g ee O k0 tt0) ≡ u0) × (cost_by g least_prices ee O k0 tt0 ≡ Y.stands.lo + Y.stands.ahead) × (most k0 ≡ Y.stands.hi + Y.stands.ahead)
+          there = comes_main g ee c.inputs tt0 least_prices dear_prices (λ p. refl) (λ p. refl) (ss N) (ss (suc N)) Y.stands.index Y.stands.ahead Y.stands.early Y.stands.lo Y.stands.hi Y.stands.thread Y.stands.memory out off Y.stands.comes same_schedule Y.stands.acts
 
-          bytes_there : (k : ℕ) (cell : Cell) → (moment c N).met ≡ true → owner g.program.layout k ≡ Watched cell → slice_index (moment c N).state.ram k ≡ Y.memory k
-          bytes_there k cell m w = Y.bytes k (watched_somebody cell (owner g.program.layout k) w)
+          bytes_there : (k : ℕ) (cell : Cell) → (moment c N).met ≡ true → owner g.program.layout k ≡ Watched cell → slice_index (moment c N).state.ram k ≡ Y.stands.memory k
+          bytes_there k cell m w = Y.stands.bytes k (watched_somebody cell (owner g.program.layout k) w)
 
           met_there : j ≤ k0 → IsMet g c ee rr mm N j
-          met_there jl = met_by g h c hd x halt_is ranges_is start only main_is first started N running k0 j u0 there.0 jl Y.shows.trace bytes_there
+          met_there jl = met_by g h c hd x halt_is ranges_is start only main_is first started N running k0 j u0 there.0 jl Y.stands.shows.trace bytes_there
 
-          by_ahead : Y.idle ≤ debt' → IsMet g c ee rr mm N j
+          by_ahead : Y.stands.idle ≤ debt' → IsMet g c ee rr mm N j
           by_ahead le' =
-              let dm = done_main Y.early Y.thread (moment c N).state Y.done out Y.mode in
-              let ac = Y.account in let tc = there.2 in
+              let dm = done_main Y.ground Y.image_then Y.stands.early Y.stands.thread (moment c N).state Y.stands.done out Y.stands.mode in
+              let ac = Y.stands.account in let tc = there.2 in
               met_there (behind_it k0 (omega arith))
 
           -- main has ended, and stays
@@ -286,26 +291,26 @@ module _ (g : Setting) (h : Ground) (c : chip.Setting) (hd : ℕ) (x : IsImage g
               let r = sym_run g ee O k0 tt0 in
               ap (λ k. sym_run g ee O k tt0) z ∙ ap (λ v. gone v (sym_step g ee O v)) (stays still b) ∙ ap (λ v. gone r (sym_step_at g ee O v)) there.0 ∙ ap (gone r) still
 
-          by_rest : effect g false Y.thread Y.memory ≡ Rests → IsMet g c ee rr mm N j
+          by_rest : effect g false Y.stands.thread Y.stands.memory ≡ Rests → IsMet g c ee rr mm N j
           by_rest rest =
               ⊎_elim
               (λ lt.
               let still : sym_step_at g ee O u0 ≡ Still = off_steps g ee c.inputs tt0 O u0 off ∙ main_rests g ee c.inputs tt0 O u0 out rest in
               let z : (j - k0) + k0 ≡ j = omega arith in
               let same : sym_run g ee O j tt0 ≡ sym_run g ee O k0 tt0 = ap (λ k. sym_run g ee O k tt0) (sym z) ∙ stays still (j - k0) in
-              met_by g h c hd x halt_is ranges_is start only main_is first started N running j j u0 (ap (settled O) same ∙ there.0) (omega arith) Y.shows.trace bytes_there)
+              met_by g h c hd x halt_is ranges_is start only main_is first started N running j j u0 (ap (settled O) same ∙ there.0) (omega arith) Y.stands.shows.trace bytes_there)
               (λ ge. met_there ge)
               (cases_lt k0 j)
 
-        by_since : IsSince g h c.image hd x.vector debt' Y.ahead Y.idle Y.early Y.thread Y.memory → IsMet g c ee rr mm N j
+        by_since : IsSince g Y.ground c.image hd Y.image_then.vector debt' Y.stands.ahead Y.stands.idle Y.stands.early Y.stands.thread Y.stands.memory → IsMet g c ee rr mm N j
         by_since (inl le') = by_index le'
         by_since (inr p) = by_last p.2 where
-          by_last : ((Y.idle ≤ debt') ⊎ (effect g false Y.thread Y.memory ≡ Rests)) → IsMet g c ee rr mm N j
+          by_last : ((Y.stands.idle ≤ debt') ⊎ (effect g false Y.stands.thread Y.stands.memory ≡ Rests)) → IsMet g c ee rr mm N j
           by_last (inl le') = by_ahead p.0 p.1 le'
           by_last (inr rest) = by_rest p.0 p.1 rest
 
         later_on : IsMet g c ee rr mm N j
-        later_on = by_since Y.since
+        later_on = by_since Y.stands.since
 
       paced : IsMet g c ee rr mm N j
       paced = ⊎_elim (λ lt. later_on (N - suc t) (omega arith)) (λ ge. at_once (omega arith)) (cases_lt t N)

@@ -59,11 +59,13 @@ abbrev pub page_row : PageBit → ℕ → Ins
 page_row Low page = bit_set 0x0a 3 (nat_eq (page % 2) 1)
 page_row High page = bit_set 0x0a 4 (nat_eq (page / 2 % 2) 1)
 
--- where each position of a program stands in an image, and the two addresses at which main and the handler end
+-- where each position of a program stands in an image, the two addresses at which main and the handler end, and where main stands
+-- when it has ended
 pub record Ground : Type 0 where
   pub place : Position → ℕ
   pub halt : ℕ
   pub restore : ℕ
+  pub rests : ℕ
 
 module _ (g : Setting) (h : Ground) where
   -- a jump or a call with this field leads to the target, where its page is selected
@@ -91,9 +93,9 @@ module _ (g : Setting) (h : Ground) where
   words [] below = below
   words (p ∷ s) below = h.place p % 8192 ∷ words s below
 
-  -- where main has ended it stands at the halt address
+  -- where a thread stands
   abbrev pub spot : Option Position → ℕ
-  spot None = h.halt
+  spot None = h.rests
   spot (Some p) = h.place p
 
   -- what a thread's next instruction asks of the chip

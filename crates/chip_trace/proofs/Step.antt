@@ -25,6 +25,7 @@ use Rattle.pic_world.specs.Control.{is_enabled}
 use Rattle.pic_world.proofs.ControlLaws.{raised_enabled, disabled_not_due}
 use Rattle.sym_code.specs.declared.code.BlockName.TheVariants.{Copy}
 use Rattle.chip_trace.proofs.Ranges.{raised_ranged}
+use Rattle.chip_trace.proofs.Resting.{rests_on}
 use Rattle.chip_trace.proofs.ContextStep.{saves, selecting, gives, returns, interrupts}
 use Rattle.chip_trace.proofs.HandlerStep.{handler_step}
 
@@ -138,7 +139,8 @@ module _ (g : Setting) (h : Ground) (image input : List ℕ) (hd : ℕ) (x : IsI
           conv (suc runs) true true (c.handling || true) (perform enter c.state) (ap (λ z. z || true) (main_is a.inside)) (ap (λ z. z || true) (main_is a.inside))
           (interrupts g h image input hd x watch halt_is e t0 start from to s runs n c debt st clean only (oracle refl) a q due)
       by_mode (InMain q a) false due oracle next =
-          untaken false (main_is a.inside) (main_step g h image input hd x watch halt_is e t0 start from to s runs n c debt st clean a q due (plain_then next))
+          untaken false (main_is a.inside) (main_step g h image input hd x watch halt_is e t0 start from to s runs n c debt st clean a q due
+          (λ nowhere ended pages. rests_on g h image input hd x watch halt_is e t0 start from to s runs n c debt st a q due nowhere ended pages) (plain_then next))
       by_mode (Saving has k a le lt q en is) true due oracle next = absurd (differ (control.is_due (control_of c.state)) due (not_due en.gie))
       by_mode (Saving has k a le lt q en is) false due oracle next = untaken true (isr_is en.inside) (saves g h image input hd x watch halt_is e t0 start from to s runs n c debt st has k a le lt q en is)
       by_mode (Selecting has j p a le q en sel is) true due oracle next = absurd (differ (control.is_due (control_of c.state)) due (not_due en.gie))

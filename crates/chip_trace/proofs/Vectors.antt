@@ -16,7 +16,7 @@ use Rattle.sym_code.specs.declared.code.BlockName.TheVariants.{Start, Copy}
 use Rattle.sym_code.specs.declared.code.FileOperation.TheVariants as file_ops
 use Rattle.sym_code.specs.declared.code.Into.TheVariants as into
 use Rattle.sym_code.specs.declared.code.Label.{Label}
-use Rattle.sym_code.specs.declared.code.Label.TheVariants.{Halt, Restore}
+use Rattle.sym_code.specs.declared.code.Label.TheVariants.{Inner, Halt, Restore}
 use Rattle.sym_code.specs.declared.code.Operand.TheVariants as operands
 use Rattle.sym_code.specs.declared.code.PageBit.{PageBit}
 use Rattle.sym_code.specs.declared.code.PageBit.TheVariants.{Low, High}
@@ -32,7 +32,7 @@ use Rattle.isr_save.specs.Start.{saving, restoring, to_w}
 use Rattle.code_place.specs.Instructions.{known}
 use Rattle.code_place.specs.Pages.{page_words}
 use Rattle.code_place.specs.Places.{at_if, block_place, label_place, label_at}
-use Rattle.chip_trace.specs.Arriving.{IsAssembled, HasHalt, HasVector, HasVectorFor, is_to_handler, are_page_selects, has_low, has_high, depth_for}
+use Rattle.chip_trace.specs.Arriving.{IsAssembled, HasHalt, are_halt_selects, HasVector, HasVectorFor, is_to_handler, are_page_selects, has_low, has_high, depth_for}
 use Rattle.chip_trace.proofs.Blocks.{some_eq, HaveAddress, have_address, room, behind_first, words_cons, words_behind, words_take, words_all, word_at, word_below, word_once, label_stands, label_behind, no_label, get_behind, get_front, are_words, both_words}
 use Rattle.chip_trace.proofs.Image.{IsImage}
 use Rattle.chip_trace.proofs.Placing.{G, H, place_in, front_place, are_placed, place_is, lands_found}
@@ -74,6 +74,7 @@ exists_at (x ∷ xs) (suc k) lt = exists_at xs k (omega arith)
 
 abbrev is_halting : Sym → Bool
 is_halting (syms.Goto (targets.Label Halt)) = true
+is_halting (syms.SelectPage bit (targets.Label Halt)) = true
 is_halting _ = false
 
 abbrev halts_nowhere : List Sym → Bool
@@ -130,7 +131,8 @@ module _ (hd : ℕ) where
   -- what holds of lists of selects
   selects_are : (xs : List Sym) → are_page_selects hd xs ≡ true → (are_words xs ≡ true) × (halts_nowhere xs ≡ true)
   selects_are [] a = (refl, refl)
-  selects_are (syms.SelectPage b t ∷ xs) a = selects_are xs (right_of (is_to_handler hd t) (are_page_selects hd xs) a)
+  selects_are (syms.SelectPage b (targets.Block t) ∷ xs) a = selects_are xs (right_of (is_to_handler hd (targets.Block t)) (are_page_selects hd xs) a)
+  selects_are (syms.SelectPage b (targets.Label l) ∷ xs) a = absurd (cc)
   selects_are (syms.Label l ∷ xs) a = absurd (cc)
   selects_are (syms.SelectBank b d ∷ xs) a = absurd (cc)
   selects_are (syms.File b d f ∷ xs) a = absurd (cc)
@@ -178,6 +180,63 @@ module _ (hd : ℕ) where
   high_at (syms.Call b ∷ xs) a e = absurd (cc)
   high_at (syms.Goto b ∷ xs) a e = absurd (cc)
 
+-- ---- selects of the halt's page
+record TurnAt (xs : List Sym) (j : ℕ) : Type 0 where
+  pub bit : PageBit
+  pub at : slice_get xs j ≡ Some (syms.SelectPage bit (targets.Label Halt))
+
+turn_at : (xs : List Sym) (j : ℕ) → are_halt_selects xs ≡ true → j < length xs → TurnAt xs j
+turn_at [] j a lt = absurd (omega arith)
+turn_at (syms.SelectPage b (targets.Label Halt) ∷ xs) zero a lt = record { bit = b; at = refl }
+turn_at (syms.SelectPage b (targets.Label Halt) ∷ xs) (suc j) a lt = let r = turn_at xs j a (omega arith) in record { bit = r.bit; at = r.at }
+turn_at (syms.SelectPage b (targets.Label Restore) ∷ xs) j a lt = absurd (cc)
+turn_at (syms.SelectPage b (targets.Label (Inner n)) ∷ xs) j a lt = absurd (cc)
+turn_at (syms.SelectPage b (targets.Block t) ∷ xs) j a lt = absurd (cc)
+turn_at (syms.Label l ∷ xs) j a lt = absurd (cc)
+turn_at (syms.SelectBank b d ∷ xs) j a lt = absurd (cc)
+turn_at (syms.File b d f ∷ xs) j a lt = absurd (cc)
+turn_at (syms.Movwf b ∷ xs) j a lt = absurd (cc)
+turn_at (syms.Clrf b ∷ xs) j a lt = absurd (cc)
+turn_at (syms.Bit b d f ∷ xs) j a lt = absurd (cc)
+turn_at (syms.Literal b d ∷ xs) j a lt = absurd (cc)
+turn_at (syms.Plain b ∷ xs) j a lt = absurd (cc)
+turn_at (syms.Call b ∷ xs) j a lt = absurd (cc)
+turn_at (syms.Goto b ∷ xs) j a lt = absurd (cc)
+
+turns_are : (xs : List Sym) → are_halt_selects xs ≡ true → are_words xs ≡ true
+turns_are [] a = refl
+turns_are (syms.SelectPage b (targets.Label Halt) ∷ xs) a = turns_are xs a
+turns_are (syms.SelectPage b (targets.Label Restore) ∷ xs) a = absurd (cc)
+turns_are (syms.SelectPage b (targets.Label (Inner n)) ∷ xs) a = absurd (cc)
+turns_are (syms.SelectPage b (targets.Block t) ∷ xs) a = absurd (cc)
+turns_are (syms.Label l ∷ xs) a = absurd (cc)
+turns_are (syms.SelectBank b d ∷ xs) a = absurd (cc)
+turns_are (syms.File b d f ∷ xs) a = absurd (cc)
+turns_are (syms.Movwf b ∷ xs) a = absurd (cc)
+turns_are (syms.Clrf b ∷ xs) a = absurd (cc)
+turns_are (syms.Bit b d f ∷ xs) a = absurd (cc)
+turns_are (syms.Literal b d ∷ xs) a = absurd (cc)
+turns_are (syms.Plain b ∷ xs) a = absurd (cc)
+turns_are (syms.Call b ∷ xs) a = absurd (cc)
+turns_are (syms.Goto b ∷ xs) a = absurd (cc)
+
+abbrev halt_jump : List Sym
+halt_jump = syms.Goto (targets.Label Halt) ∷ []
+
+-- the first of them, or the jump behind them
+record FirstTurn (xs : List Sym) : Type 0 where
+  pub sym' : Sym
+  pub at : slice_get (xs ++ halt_jump) 0 ≡ Some sym'
+  pub halting : is_halting sym' ≡ true
+  pub word : is_word (Some sym') ≡ true
+
+first_turn : (xs : List Sym) → are_halt_selects xs ≡ true → FirstTurn xs
+first_turn [] a = record { sym' = syms.Goto (targets.Label Halt); at = refl; halting = refl; word = refl }
+first_turn (x ∷ xs) a =
+    let r = turn_at (x ∷ xs) 0 a (omega arith) in
+    let y = syms.SelectPage r.bit (targets.Label Halt) in
+    record { sym' = y; at = r.at; halting = refl; word = refl }
+
 -- restoring behind its label
 abbrev nine : List Sym
 nine =
@@ -215,35 +274,61 @@ module _ (blocks : List SymBlock) (at : List ℕ) (placed : Placed) (handler : O
   abbrev hh : HasHalt LS
   hh = a.halts
 
+  -- behind the label
+  abbrev Z : List Sym
+  Z = hh.selects ++ halt_jump
+
   abbrev halt_rest : List Sym
-  halt_rest = syms.Label Halt ∷ syms.Goto (targets.Label Halt) ∷ hh.behind
+  halt_rest = syms.Label Halt ∷ (Z ++ hh.behind)
 
   halt_list : LS ≡ hh.before ++ halt_rest
-  halt_list = hh.whole ∙ append_assoc (hh.before ++ syms.Label Halt ∷ []) (syms.Goto (targets.Label Halt) ∷ []) hh.behind ∙ append_assoc hh.before (syms.Label Halt ∷ []) (syms.Goto (targets.Label Halt) ∷ hh.behind)
+  halt_list =
+      hh.whole ∙ append_assoc ((hh.before ++ syms.Label Halt ∷ []) ++ hh.selects) halt_jump hh.behind ∙ append_assoc (hh.before ++ syms.Label Halt ∷ []) hh.selects (halt_jump ++ hh.behind)
+      ∙ append_assoc hh.before (syms.Label Halt ∷ []) (hh.selects ++ (halt_jump ++ hh.behind)) ∙ ap (λ z. hh.before ++ (syms.Label Halt ∷ z)) (sym (append_assoc hh.selects halt_jump hh.behind))
 
-  abbrev halt_index : ℕ
-  halt_index = length hh.before + 1
+  Z_words : are_words Z ≡ true
+  Z_words = both_words hh.selects halt_jump (turns_are hh.selects hh.of_page) refl
+
+  Z_length : length Z ≡ suc (length hh.selects)
+  Z_length = let p = length-append hh.selects halt_jump in omega arith
 
   halt_from : label_from LS Halt 0 ≡ Some (length hh.before)
   halt_from = ap (λ (xs : List Sym). label_from xs Halt 0) halt_list ∙ label_behind hh.before halt_rest Halt 0 hh.first ∙ ap Some (let z : 0 + length hh.before ≡ length hh.before = omega arith in z)
 
-  halt_words : words_in (take halt_index LS) ≡ watch.halt
-  halt_words =
+  before_words : words_in hh.before ≡ watch.halt
+  before_words =
       let l = label_is Halt (length hh.before) halt_from in
       let w : watch.halt ≡ words_in (take (length hh.before) LS) = some_eq watch.halt (words_in (take (length hh.before) LS)) (sym a.halt ∙ l) in
       let n : length hh.before + 0 ≡ length hh.before = omega arith in
       let w0 : words_in (take (length hh.before) LS) ≡ words_in hh.before + words_in (take 0 halt_rest) =
       ap (λ (xs : List Sym). words_in (take (length hh.before) xs)) halt_list ∙ ap (λ k. words_in (take k (hh.before ++ halt_rest))) (sym n) ∙ words_behind hh.before halt_rest 0 in
-      let w1 : words_in (take halt_index LS) ≡ words_in hh.before + words_in (take 1 halt_rest) = ap (λ (xs : List Sym). words_in (take halt_index xs)) halt_list ∙ words_behind hh.before halt_rest 1 in
-      let c1 = words_cons (syms.Label Halt) [] in
       let c0 : words_in [] ≡ 0 = refl in
       omega arith
 
-  halt_at : slice_get LS halt_index ≡ Some (syms.Goto (targets.Label Halt))
-  halt_at = ap (λ (xs : List Sym). slice_get xs halt_index) halt_list ∙ get_behind hh.before halt_rest 1
+  Z_at : (k : ℕ) (s : Sym) → slice_get Z k ≡ Some s → slice_get LS (length hh.before + suc k) ≡ Some s
+  Z_at k s e = ap (λ (xs : List Sym). slice_get xs (length hh.before + suc k)) halt_list ∙ get_behind hh.before halt_rest (suc k) ∙ get_front Z hh.behind k s e
+
+  Z_place : (k : ℕ) → k ≤ length Z → words_in (take (length hh.before + suc k) LS) ≡ watch.halt + k
+  Z_place k le =
+      let w1 = words_behind hh.before halt_rest (suc k) in
+      let w2 = words_cons (syms.Label Halt) (take k (Z ++ hh.behind)) in
+      let w3 = words_take Z hh.behind k Z_words le in
+      let b = before_words in
+      ap (λ (xs : List Sym). words_in (take (length hh.before + suc k) xs)) halt_list ∙ (omega arith)
+
+  abbrev last : ℕ
+  last = length hh.selects + 0
+
+  last_in : slice_get Z last ≡ Some (syms.Goto (targets.Label Halt))
+  last_in = get_behind hh.selects halt_jump 0
+
+  halts_below : watch.halt + length hh.selects < words_in LS
+  halts_below =
+      let w = word_below LS (length hh.before + suc last) (syms.Goto (targets.Label Halt)) (Z_at last (syms.Goto (targets.Label Halt)) last_in) refl in
+      let l = Z_length in let p = Z_place last (omega arith) in omega arith
 
   halt_small : watch.halt < 2048
-  halt_small = let w = word_below LS halt_index (syms.Goto (targets.Label Halt)) halt_at refl in let e = halt_words in let s = start_small in omega arith
+  halt_small = let w = halts_below in let s = start_small in omega arith
 
   -- an instruction of the start block
   at_start : (i : ℕ) (s : Sym) → slice_get LS i ≡ Some s → is_word (Some s) ≡ true → (n : Ins) × (row_of (slice_index image (words_in (take i LS))) ≡ Some n) × Means g h (position Start i) s n
@@ -255,12 +340,29 @@ module _ (blocks : List SymBlock) (at : List ℕ) (placed : Placed) (handler : O
   start_page : g.page_of Start ≡ 0
   start_page = ap (λ z. known z / page_words) a.starts
 
-  stays : row_of (slice_index image watch.halt) ≡ Some (isa.Goto (watch.halt % 2048))
+  Z_code : (k : ℕ) (s : Sym) → k < length Z → slice_get Z k ≡ Some s → (n : Ins) × (row_of (slice_index image (watch.halt + k)) ≡ Some n) × Means g h (position Start (length hh.before + suc k)) s n
+  Z_code k s lt e =
+      let c = at_start (length hh.before + suc k) s (Z_at k s e) (word_at Z k s Z_words e) in
+      (c.0, ap (λ z. row_of (slice_index image z)) (sym (Z_place k (omega arith))) ∙ c.1, c.2)
+
+  turns : (k : ℕ) → k < length hh.selects → row_of (slice_index image (watch.halt + k)) ≡ Some (page_row (bit_of (slice_get hh.selects k)) (watch.halt / 2048))
+  turns k lt =
+      let l = Z_length in
+      let r = turn_at hh.selects k hh.of_page lt in
+      let y = syms.SelectPage r.bit (targets.Label Halt) in
+      let c = Z_code k y (omega arith) (get_front hh.selects halt_jump k y r.at) in
+      let hs = halt_small in
+      let z : 0 ≡ watch.halt / 2048 = omega arith in
+      c.1 ∙ ap Some (c.2 ∙ ap (page_row r.bit) (start_page ∙ z) ∙ ap (λ b. page_row b (watch.halt / 2048)) (sym (ap bit_of r.at)))
+
+  stays : row_of (slice_index image (watch.halt + length hh.selects)) ≡ Some (isa.Goto (watch.halt % 2048))
   stays =
-      let c = at_start halt_index (syms.Goto (targets.Label Halt)) halt_at refl in
+      let l = Z_length in
+      let c = Z_code last (syms.Goto (targets.Label Halt)) (omega arith) last_in in
       let k = c.2.0 in let e = c.2.2.1 in let p = start_page in let hs = halt_small in
       let f : k ≡ watch.halt % 2048 = omega arith in
-      ap (λ v. row_of (slice_index image v)) (sym halt_words) ∙ c.1 ∙ ap Some (c.2.1 ∙ ap isa.Goto f)
+      let n : watch.halt + length hh.selects ≡ watch.halt + last = omega arith in
+      ap (λ v. row_of (slice_index image v)) n ∙ c.1 ∙ ap Some (c.2.1 ∙ ap isa.Goto f)
 
   -- code of copies stands behind the start block
   halts : (p : Position) → lands g.program p ≡ true → is_copy p.block ≡ true → place_in blocks at placed handler image watch limit p ≢ watch.halt
@@ -274,8 +376,7 @@ module _ (blocks : List SymBlock) (at : List ℕ) (placed : Placed) (handler : O
             let z : is_copy Start ≡ true = ap is_copy (sym a.start.2 ∙ ap (λ (v : SymBlock). v.name) q) ∙ c in absurd (cc)
         by (suc k) block start e1 e2 c pl =
             let bf = behind_first blocks at a.fit k block a.start.0 start 0 a.start.1 first'.0 e1 e2 in
-            let w = word_below LS halt_index (syms.Goto (targets.Label Halt)) halt_at refl in
-            let e = halt_words in let l = ap words_in first'.1 in
+            let w = halts_below in let l = ap words_in first'.1 in
             omega arith
 
   -- ---- the vector
@@ -411,9 +512,13 @@ module _ (blocks : List SymBlock) (at : List ℕ) (placed : Placed) (handler : O
     -- nothing of it stands at the halt address
     elsewhere : (i : ℕ) (s : Sym) → slice_get LS i ≡ Some s → is_word (Some s) ≡ true → is_halting s ≡ false → words_in (take i LS) ≢ watch.halt
     elsewhere i s e w n same =
-        let once = word_once LS i halt_index s (syms.Goto (targets.Label Halt)) e halt_at w refl (same ∙ sym halt_words) in
-        let q : s ≡ syms.Goto (targets.Label Halt) = some_eq s (syms.Goto (targets.Label Halt)) (sym e ∙ ap (slice_get LS) once ∙ halt_at) in
-        let f : is_halting (syms.Goto (targets.Label Halt)) ≡ false = ap is_halting (sym q) ∙ n in absurd (cc)
+        let t = first_turn hh.selects hh.of_page in
+        let l = Z_length in
+        let here = Z_at 0 t.sym' t.at in
+        let p : words_in (take (length hh.before + 1) LS) ≡ watch.halt + 0 = Z_place 0 (omega arith) in
+        let once = word_once LS i (length hh.before + 1) s t.sym' e here w t.word (omega arith) in
+        let q : s ≡ t.sym' = some_eq s t.sym' (sym e ∙ ap (slice_get LS) once ∙ here) in
+        let f : true ≡ false = sym t.halting ∙ ap is_halting (sym q) ∙ n in absurd (cc)
 
     vector : Vector g h image hd
     vector = record {
@@ -470,8 +575,14 @@ module _ (blocks : List SymBlock) (at : List ℕ) (placed : Placed) (handler : O
     main_depth = depth_false handler limit a.depth;
     depth = λ is. depth_both handler limit hd is a.depth;
     halts = halts;
+    turns = length hh.selects;
+    bit = λ k. bit_of (slice_get hh.selects k);
+    selects = turns;
     stays = stays;
-    halt_small = let s = halt_small in omega arith;
+    halt_small = let w = halts_below in let s = start_small in omega arith;
+    turn = 0;
+    turn_small = omega arith;
+    rests = (let z : watch.halt ≡ watch.halt + 0 = omega arith in z);
     small = small;
   }
 

@@ -318,51 +318,62 @@ module _ (g : Setting) (h : Ground) (c : chip.Setting) (hd : ℕ) (x : IsImage g
             }
 
       -- ---- one moment further
-      abbrev pub Known : ℕ → ℕ → ℕ → ℕ → Type 0
-      Known from to n debt = St g h c.image c.inputs hd x c.watch halt_is e t0 at from to (P n) (length (entered n)) n (moment c n) debt
+      -- Where main has ended it goes round some words, so that the ground is one of its own at each moment.
+      pub record Known (from to n debt : ℕ) : Type 0 where
+        pub ground : Ground
+        pub image_then : IsImage g ground c.image c.inputs hd
+        pub halt_then : c.watch.halt ≡ ground.halt
+        pub stands : St g ground c.image c.inputs hd image_then c.watch halt_then e t0 at from to (P n) (length (entered n)) n (moment c n) debt
 
       abbrev pub due_at : ℕ → Bool
       due_at n = control.is_due (control_of (chip_interrupts.raised (arriving c.arrivals n) (moment c n).state))
 
-      module _ (n from to debt debt' : ℕ) (le : at ≤ n) (lt : n < N) (st : Known from to n debt)
-          (since : IsSince g h c.image hd x.vector debt' st.ahead st.idle (raised (arriving c.arrivals n) st.early) st.thread st.memory) where
-        L_is : length (traces n) ≡ length st.early.world.trace
-        L_is = same_length (traces n) st.early.world.trace st.shows.trace
+      module _ (n from to debt debt' : ℕ) (le : at ≤ n) (lt : n < N) (kn : Known from to n debt)
+          (since : IsSince g kn.ground c.image hd kn.image_then.vector debt' kn.stands.ahead kn.stands.idle (raised (arriving c.arrivals n) kn.stands.early) kn.stands.thread kn.stands.memory) where
+        L_is : length (traces n) ≡ length kn.stands.early.world.trace
+        L_is = same_length (traces n) kn.stands.early.world.trace kn.stands.shows.trace
 
-        ready : St g h c.image c.inputs hd x c.watch halt_is e t0 at from to (P (suc n)) (length (entered n)) n (raised_at c n) debt'
+        ready : St g kn.ground c.image c.inputs hd kn.image_then c.watch kn.halt_then e t0 at from to (P (suc n)) (length (entered n)) n (raised_at c n) debt'
         ready =
             let l = L_is in
-            arrives g h c.image c.inputs hd x c.watch halt_is e t0 at from to (P n) (P (suc n)) (arriving c.arrivals n) (length (entered n)) n (moment c n) debt debt' st
+            arrives g kn.ground c.image c.inputs hd kn.image_then c.watch kn.halt_then e t0 at from to (P n) (P (suc n)) (arriving c.arrivals n) (length (entered n)) n (moment c n) debt debt' kn.stands
             (subst (λ z. Extends (P n) z (arriving c.arrivals n) (P (suc n))) L_is (schedule_goes_on traces c.arrivals n))
-            (λ j lj. none_later traces c.arrivals n (λ i li. st.later i (omega arith)) j (omega arith)) since
+            (λ j lj. none_later traces c.arrivals n (λ i li. kn.stands.later i (omega arith)) j (omega arith)) since
 
         runs_is : (b : Bool) → takes (arriving c.arrivals n) (moment c n) ≡ b → length (entered (suc n)) ≡ (if b then suc (length (entered n)) else length (entered n))
         runs_is true q = ap length (entered_on n true le q) ∙ length-append (entered n) (found_at n ∷ []) ∙ (let z : length (entered n) + 1 ≡ suc (length (entered n)) = omega arith in z)
         runs_is false q = ap length (entered_on n false le q) ∙ ap length (append-nil (entered n))
 
-        moment_is : is_modelled (fetched c.image (if due_at n then perform enter (raised_at c n).state else (raised_at c n).state)) ≡ true → moment c (suc n) ≡ next_by g h c.image c.inputs hd x c.watch halt_is e t0 at from to (raised_at c n) (due_at n)
+        moment_is : is_modelled (fetched c.image (if due_at n then perform enter (raised_at c n).state else (raised_at c n).state)) ≡ true → moment c (suc n) ≡ next_by g kn.ground c.image c.inputs hd kn.image_then c.watch kn.halt_then e t0 at from to (raised_at c n) (due_at n)
         moment_is md =
-            next_is c n (due_at n) refl st.met st.going md
+            next_is c n (due_at n) refl kn.stands.met kn.stands.going md
             ∙ ap (λ z. observed c.watch (after c.image c.inputs z (raised_at c n) (if due_at n then perform enter (raised_at c n).state else (raised_at c n).state) ((moment c n).handling || due_at n))) ranges_is
 
-        pub stepped_at : Stepped g h c.image c.inputs hd x c.watch halt_is e t0 at from to (P (suc n)) (if due_at n then suc (length (entered n)) else length (entered n)) (suc n) (raised_at c n) ((moment c n).handling || due_at n) (if due_at n then perform enter (raised_at c n).state else (raised_at c n).state)
-            (next_by g h c.image c.inputs hd x c.watch halt_is e t0 at from to (raised_at c n) (due_at n)) debt'
+        pub stepped_at : Stepped g kn.ground c.image c.inputs hd kn.image_then c.watch kn.halt_then e t0 at from to (P (suc n)) (if due_at n then suc (length (entered n)) else length (entered n)) (suc n) (raised_at c n) ((moment c n).handling || due_at n) (if due_at n then perform enter (raised_at c n).state else (raised_at c n).state)
+            (next_by g kn.ground c.image c.inputs hd kn.image_then c.watch kn.halt_then e t0 at from to (raised_at c n) (due_at n)) debt'
         stepped_at =
-            step_by g h c.image c.inputs hd x c.watch halt_is e t0 at from to (P (suc n)) (length (entered n)) n (raised_at c n) debt' ready (clean_at n (omega arith) from to) only (due_at n) refl (λ q. oracle n le lt q)
+            step_by g kn.ground c.image c.inputs hd kn.image_then c.watch kn.halt_then e t0 at from to (P (suc n)) (length (entered n)) n (raised_at c n) debt' ready (clean_at n (omega arith) from to) only (due_at n) refl (λ q. oracle n le lt q)
             (λ md. (
               P (suc (suc n)),
               arriving c.arrivals (suc n),
               subst (λ (z : Moment). Extends (P (suc n)) (length z.trace) (arriving c.arrivals (suc n)) (P (suc (suc n)))) (moment_is md) (schedule_goes_on traces c.arrivals (suc n)),
-              subst (λ (z : Moment). IsClean g h c.image c.inputs hd x c.watch halt_is e t0 at from to (P (suc (suc n))) (suc n) (length z.trace)) (moment_is md) (clean_at (suc n) (omega arith) from to),
+              subst (λ (z : Moment). IsClean g kn.ground c.image c.inputs hd kn.image_then c.watch kn.halt_then e t0 at from to (P (suc (suc n))) (suc n) (length z.trace)) (moment_is md) (clean_at (suc n) (omega arith) from to),
             ))
 
-        pub next_moment_is : moment c (suc n) ≡ next_by g h c.image c.inputs hd x c.watch halt_is e t0 at from to (raised_at c n) (due_at n)
+        pub next_moment_is : moment c (suc n) ≡ next_by g kn.ground c.image c.inputs hd kn.image_then c.watch kn.halt_then e t0 at from to (raised_at c n) (due_at n)
         next_moment_is = moment_is stepped_at.modelled
 
         pub one_on : Known from to (suc n) debt'
         one_on =
-            subst (λ (z : Moment). St g h c.image c.inputs hd x c.watch halt_is e t0 at from to (P (suc n)) (length (entered (suc n))) (suc n) z debt') (sym next_moment_is)
-            (subst (λ k. St g h c.image c.inputs hd x c.watch halt_is e t0 at from to (P (suc n)) k (suc n) (next_by g h c.image c.inputs hd x c.watch halt_is e t0 at from to (raised_at c n) (due_at n)) debt') (sym (runs_is (due_at n) refl)) stepped_at.stands)
+            let y = stepped_at in
+            record {
+              ground = y.ground;
+              image_then = y.image_then;
+              halt_then = y.halt_then;
+              stands =
+                  subst (λ (z : Moment). St g y.ground c.image c.inputs hd y.image_then c.watch y.halt_then e t0 at from to (P (suc n)) (length (entered (suc n))) (suc n) z debt') (sym next_moment_is)
+                  (subst (λ k. St g y.ground c.image c.inputs hd y.image_then c.watch y.halt_then e t0 at from to (P (suc n)) k (suc n) (next_by g kn.ground c.image c.inputs hd kn.image_then c.watch kn.halt_then e t0 at from to (raised_at c n) (due_at n)) debt') (sym (runs_is (due_at n) refl)) y.stands);
+            }
 
         -- what is kept stays
         pub kept_on : (b : ℕ) → is_kept (is_handling (arriving c.arrivals n) (moment c n)) (owner g.program.layout b) ≡ true → slice_index (moment c (suc n)).state.ram b ≡ slice_index (moment c n).state.ram b
@@ -372,9 +383,9 @@ module _ (g : Setting) (h : Ground) (c : chip.Setting) (hd : ℕ) (x : IsImage g
       pub known : (d n : ℕ) → n ≡ d + at → n ≤ N → (debt : ℕ) × Known 100 at n debt
       known zero n is le =
           let q : at ≡ n = omega arith in
-          (0, subst (λ z. Known 100 at z 0) q (begins_there (omega arith)))
+          (0, subst (λ z. Known 100 at z 0) q (record { ground = h; image_then = x; halt_then = halt_is; stands = begins_there (omega arith) }))
       known (suc d) zero is le = absurd (omega arith)
       known (suc d) (suc n) is le =
           let k = known d n (omega arith) (omega arith) in
-          let st = k.1 in
-          (st.ahead + st.idle, one_on n 100 at k.0 (st.ahead + st.idle) (omega arith) (omega arith) st (inl (omega arith)))
+          let st = k.1.stands in
+          (st.ahead + st.idle, one_on n 100 at k.0 (st.ahead + st.idle) (omega arith) (omega arith) k.1 (inl (omega arith)))

@@ -82,12 +82,20 @@ abbrev pub HasVectorFor : List Sym → Option ℕ → Type 0
 HasVectorFor list None = Unit {0}
 HasVectorFor list (Some handler) = HasVector list handler
 
--- Where main has ended the start block jumps to itself for ever; the label is the first of its name.
+-- Where main has ended the start block goes back to where it is for ever, with selects of its own page; the label is the first of its
+-- name.
+abbrev pub are_halt_selects : List Sym → Bool
+are_halt_selects [] = true
+are_halt_selects (syms.SelectPage bit (targets.Label Halt) ∷ rest) = are_halt_selects rest
+are_halt_selects (_ ∷ rest) = false
+
 pub record HasHalt (list : List Sym) : Type 0 where
   pub before : List Sym
   pub first : label_from before Halt 0 ≡ None
+  pub selects : List Sym
+  pub of_page : are_halt_selects selects ≡ true
   pub behind : List Sym
-  pub whole : list ≡ before ++ (syms.Label Halt ∷ []) ++ (syms.Goto (targets.Label Halt) ∷ []) ++ behind
+  pub whole : list ≡ before ++ (syms.Label Halt ∷ []) ++ selects ++ (syms.Goto (targets.Label Halt) ∷ []) ++ behind
 
 -- a number fits into its literal, and so does an address
 abbrev pub is_near : Byte → Bool
