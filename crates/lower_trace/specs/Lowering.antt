@@ -1,5 +1,5 @@
 -- What lowering keeps: byte code follows the source.
-use Rattle.std.specs.Prelude.{ℕ, ◌+◌, ◌*◌, ◌≡◌, ◌<◌, ◌≤◌, Bool, true, false, ◌&&◌, nat_eq, List, None, is_none, unwrap_or}
+use Rattle.std.specs.Prelude.{ℕ, ◌+◌, ◌*◌, ◌≡◌, ◌<◌, ◌≤◌, Bool, true, false, ◌&&◌, nat_eq, List, None, is_none, unwrap_or, length}
 use Rattle.std.specs.List.{All, position}
 use Rattle.pic_world.specs.Roots.{same_root}
 use Rattle.pic_world.specs.World.{Outside, Happening, event_as}
@@ -91,6 +91,7 @@ pub record IsLowerable (p : Program) (copies : List FnCopy) : Type 0 where
   pub exact : HasDepth p depth
   pub shallow : depth ≤ 8
   pub known : AreCopies p copies
+  pub few_statics : length p.statics ≤ 65535
   pub small_statics : All (IsSmallStatic p) p.statics
   pub small_copies : All (IsSmallCopy p) copies
 
