@@ -1,15 +1,14 @@
 -- Two selects at most for each byte in a bank, and for each jump and call.
 use Rattle.std.proofs.Common.{◌≡◌, ℕ, zero, suc, ◌+◌, ◌≤◌, Bool, true, false, not, ◌&&◌, ◌||◌, if◌then◌else◌, List, [], ◌∷◌, ◌++◌, length, length-append, take, drop, take-append-drop, Option, Some, None, refl, sym, ap, ◌∙◌, subst, arith}
-use Rattle.std.specs.List.{sum_by}
 use Rattle.std.proofs.lemmas.List.Sums.{sum_by-cons}
 use Rattle.pic_map.specs.declared.Placed.{Placed}
 use Rattle.sym_code.specs.Selects.{is_select}
+use Rattle.sym_code.specs.Words.{words_of_one, most_of_one, most_words}
 use Rattle.sym_code.specs.declared.code.BlockName.{BlockName}
 use Rattle.sym_code.specs.declared.code.Sym.{Sym}
 use Rattle.sym_code.specs.declared.code.Sym.TheVariants as syms
 use Rattle.math_helpers.specs.Shape.{is_straight, sum_from}
-use Rattle.select_wide.specs.Links.{dearest}
-use Rattle.bank_page.specs.Kinds.{is_label, is_skip, byte_named}
+use Rattle.bank_page.specs.Kinds.{is_label, is_skip}
 use Rattle.bank_page.specs.Known.{knows, learned}
 use Rattle.bank_page.specs.Links.{price_from}
 use Rattle.bank_page.specs.Needs.{needs_in}
@@ -17,7 +16,7 @@ use Rattle.bank_page.specs.Step.{bank_selects, page_selects, unknown, missing, b
 use Rattle.bank_page.specs.declared.known.Known.{Known}
 use Rattle.bank_page.specs.declared.needs.Needs.{Needs}
 use Rattle.bank_page.specs.declared.selecting.State.{State}
-use Rattle.bank_page.proofs.Sizes.{cost, extra, chain_cost, chain_cost_step, debt, needs_cost, cost_of_needs, count_bank, count_page}
+use Rattle.bank_page.proofs.Sizes.{extra, chain_cost, chain_cost_step, debt, needs_cost, cost_of_needs, count_bank, count_page, one_most}
 use Rattle.bank_prices.proofs.Puts.{never, count_of, after_one, priced_first, priced_later, sum_same, sum_shift}
 use Rattle.bank_prices.proofs.Straight.{has_none, none_first, none_later, straight_first, straight_last, straight_later}
 
@@ -44,17 +43,15 @@ few_for own known needs =
     omega arith
 
 -- ---- one instruction
-cost_most : {A : Type 0} (o : Option A) → cost o ≤ 2
-cost_most None = omega arith
-cost_most (Some x) = omega arith
+one_word : (s : Sym) → is_label s ≡ false → words_of_one s ≡ 1
+one_word (syms.Label label) l = never (sym l)
+one_word s l = refl
 
-dear_one : (s : Sym) → is_select s ≡ false → is_label s ≡ false → 1 + extra s ≤ dearest s
-dear_one (syms.File op file into) e l = let h = cost_most (byte_named file) in omega arith
-dear_one (syms.Movwf file) e l = let h = cost_most (byte_named file) in omega arith
-dear_one (syms.Clrf file) e l = let h = cost_most (byte_named file) in omega arith
-dear_one (syms.Bit op file bit) e l = let h = cost_most (byte_named file) in omega arith
-dear_one (syms.Label label) e l = never (sym l)
-dear_one s e l = omega arith
+dear_one : (s : Sym) → is_select s ≡ false → is_label s ≡ false → 1 + extra s ≤ most_of_one s
+dear_one s e l =
+    let most = one_most s e in
+    let one = one_word s l in
+    omega arith
 
 chain_is : (s : Sym) (rest : List Sym) → is_select s ≡ false → chain_cost (s ∷ rest) ≡ extra s + (if is_skip s then chain_cost rest else 0)
 chain_is s rest e = ap (λ (b : Bool). chain_cost_step b (is_skip s) (extra s) (chain_cost rest)) e
@@ -70,7 +67,7 @@ chain_front s (t ∷ part) rest e n =
     ∙ ap (λ k. extra s + (if is_skip s then k else 0)) (chain_front t part rest (straight_later s (t ∷ part) e) (none_later s (t ∷ part) n))
     ∙ sym (chain_is s (t ∷ part) f)
 
-none_front : (part rest : List Sym) → has_none (part ++ rest) ≡ true → has_none part ≡ true
+pub none_front : (part rest : List Sym) → has_none (part ++ rest) ≡ true → has_none part ≡ true
 none_front [] rest e = refl
 none_front (s ∷ part) rest e = by_first (is_select s) (has_none (part ++ rest)) e (none_front part rest (none_later s (part ++ rest) e))
   where
@@ -120,7 +117,7 @@ module _ (placed : Placed) (own : BlockName) where
       let p = price_from 0 (selected_from placed own st (s ∷ rest)) in
       sum_shift p 0 part ∙ sum_same (λ k. p (suc k)) (price_from 0 (selected_from placed own (after_one placed own st s rest no_select) rest)) (priced_later placed own st s rest no_select) 0 part
 
-  dear_front : (part rest : List Sym) (st : State) → has_none (part ++ rest) ≡ true → is_straight part ≡ true → sum_from (price_from 0 (selected_from placed own st (part ++ rest))) 0 part + debt st.behind part ≤ sum_by dearest part
+  dear_front : (part rest : List Sym) (st : State) → has_none (part ++ rest) ≡ true → is_straight part ≡ true → sum_from (price_from 0 (selected_from placed own st (part ++ rest))) 0 part + debt st.behind part ≤ most_words part
   dear_front [] rest st n e = let z = debt_nil st.behind in omega arith
   dear_front (s ∷ part) rest st n e =
       let no_select = none_first s (part ++ rest) n in
@@ -135,7 +132,7 @@ module _ (placed : Placed) (own : BlockName) where
       let owed = debt_front st.behind s part rest front in
       let own_cost = chain_is s part no_select in
       let most = dear_one s no_select (straight_first s part e) in
-      let sum = sum_by-cons dearest s part in
+      let sum = sum_by-cons most_of_one s part in
       omega arith
 
   none_drop : (n : ℕ) (list : List Sym) → has_none list ≡ true → has_none (drop n list) ≡ true
@@ -143,7 +140,7 @@ module _ (placed : Placed) (own : BlockName) where
   none_drop (suc n) [] e = refl
   none_drop (suc n) (s ∷ list) e = none_drop n list (none_later s list e)
 
-  no_part : (price : ℕ → ℕ) (n : ℕ) (part : List Sym) → [] ≡ part → sum_from price n part ≤ sum_by dearest part
+  no_part : (price : ℕ → ℕ) (n : ℕ) (part : List Sym) → [] ≡ part → sum_from price n part ≤ most_words part
   no_part price n [] e = omega arith
   no_part price n (s ∷ part) e = absurd (cc)
 
@@ -152,10 +149,10 @@ module _ (placed : Placed) (own : BlockName) where
   nothing_taken (suc k) [] e = refl
   nothing_taken k (s ∷ list) e = absurd (cc)
 
-  pub dear_at : (n : ℕ) (list : List Sym) (st : State) → has_none list ≡ true → (part : List Sym) → take (length part) (drop n list) ≡ part → is_straight part ≡ true → sum_from (price_from 0 (selected_from placed own st list)) n part ≤ sum_by dearest part
+  pub dear_at : (n : ℕ) (list : List Sym) (st : State) → has_none list ≡ true → (part : List Sym) → take (length part) (drop n list) ≡ part → is_straight part ≡ true → sum_from (price_from 0 (selected_from placed own st list)) n part ≤ most_words part
   dear_at zero list st none part is e =
       let whole : part ++ drop (length part) list ≡ list = ap (λ (xs : List Sym). xs ++ drop (length part) list) (sym is) ∙ take-append-drop (length part) list in
-      let P : List Sym → Type 0 = λ l. has_none l ≡ true → sum_from (price_from 0 (selected_from placed own st l)) 0 part + debt st.behind part ≤ sum_by dearest part in
+      let P : List Sym → Type 0 = λ l. has_none l ≡ true → sum_from (price_from 0 (selected_from placed own st l)) 0 part + debt st.behind part ≤ most_words part in
       let h = subst P whole (λ n. dear_front part (drop (length part) list) st n e) none in
       omega arith
   dear_at (suc n) [] st none part is e = no_part (price_from 0 (selected_from placed own st [])) (suc n) part (sym (nothing_taken (length part) [] refl) ∙ is)

@@ -8,4 +8,5 @@ mod Meets
 mod Chained
 mod Early
 mod Tracks
+mod Near
 mod Whole

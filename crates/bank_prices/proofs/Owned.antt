@@ -43,20 +43,37 @@ abbrev pub AllTame : Placed → BlockName → ℕ → List Sym → Type 0
 AllTame placed own bank [] = Unit {0}
 AllTame placed own bank (s ∷ list) = IsTame placed own bank s × AllTame placed own bank list
 
-and_none : (a b : Bool) → b ≡ false → (a && b) ≡ false
+pub and_none : (a b : Bool) → b ≡ false → (a && b) ≡ false
 and_none true b e = e
 and_none false b e = refl
 
-none_and : (a b : Bool) → a ≡ false → (a && b) ≡ false
+pub none_and : (a b : Bool) → a ≡ false → (a && b) ≡ false
 none_and true b e = never (sym e)
 none_and false b e = refl
 
-neither : (a b : Bool) → a ≡ false → b ≡ false → (a || b) ≡ false
+pub neither : (a b : Bool) → a ≡ false → b ≡ false → (a || b) ≡ false
 neither true b e f = never (sym e)
 neither false b e f = f
 
 below_three : (k n : ℕ) → k < 3 → 3 ≤ n → nat_eq k n ≡ false
 below_three k n l m = ne_eqb k n (λ e. absurd (omega arith))
+
+-- an instruction on a file operand that is in the frame or in every bank, and no register that selects
+module _ (placed : Placed) (own : BlockName) (bank : ℕ) where
+  pub tame_of : (s : Sym) (file : Operand) (w : Bool) → touches s ≡ Some (file, w) → accesses_frame s ≡ is_in_frame file → target_of s ≡ None → jumps s ≡ false → forgets s ≡ false
+      → banked placed (byte_named file) ≡ Some (if is_in_frame file then Some bank else None) → is_status file ≡ false → is_pclath file ≡ false → IsTame placed own bank s
+  tame_of s file w is frame no_target no_jump no_forget named no_status no_pclath =
+      let status : writes_status s ≡ false = ap (writes is_status) is ∙ and_none w (is_status file) no_status in
+      let pclath : writes_pclath s ≡ false = ap (writes is_pclath) is ∙ and_none w (is_pclath file) no_pclath in
+      record {
+        needs = ap (λ (o : Option (Operand × Bool)). banked placed (byte_touched o)) is ∙ named ∙ ap (λ (b : Bool). Some (if b then Some bank else None)) (sym frame);
+        page = subst (λ (o : Option Target). FitsPage own (jumps s) o) (sym no_target) no_jump;
+        rp0 = none_and (writes_status s) (is_of_bit s 5) status;
+        rp1 = none_and (writes_status s) (is_of_bit s 6) status;
+        pages = pclath;
+        skip = λ e. (neither (writes_status s) (writes_pclath s) status pclath, no_jump);
+        keeps = λ e. no_forget;
+      }
 
 module _ (placed : Placed) (root : Root) (copy size bank : ℕ) (own : BlockName) (frame_bank : (offset : ℕ) → offset < size → (at : ℕ) × (address_of placed (bytes.Frame copy offset) ≡ Some at) × (at / 128 ≡ bank)) where
   frame_needs : (c offset : ℕ) → c ≡ copy → offset < size → banked placed (Some (bytes.Frame c offset)) ≡ Some (Some bank)
@@ -90,18 +107,7 @@ module _ (placed : Placed) (root : Root) (copy size bank : ℕ) (own : BlockName
 
   -- an instruction on a file operand of the routine
   tame_by : (s : Sym) (file : Operand) (w : Bool) → touches s ≡ Some (file, w) → accesses_frame s ≡ is_in_frame file → target_of s ≡ None → jumps s ≡ false → forgets s ≡ false → IsOwnOperand root copy size file → Tame s
-  tame_by s file w is frame no_target no_jump no_forget h =
-      let status : writes_status s ≡ false = ap (writes is_status) is ∙ and_none w (is_status file) (operand_status file h) in
-      let pclath : writes_pclath s ≡ false = ap (writes is_pclath) is ∙ and_none w (is_pclath file) (operand_pclath file h) in
-      record {
-        needs = ap (λ (o : Option (Operand × Bool)). banked placed (byte_touched o)) is ∙ operand_needs file h ∙ ap (λ (b : Bool). Some (if b then Some bank else None)) (sym frame);
-        page = subst (λ (o : Option Target). FitsPage own (jumps s) o) (sym no_target) no_jump;
-        rp0 = none_and (writes_status s) (is_of_bit s 5) status;
-        rp1 = none_and (writes_status s) (is_of_bit s 6) status;
-        pages = pclath;
-        skip = λ e. (neither (writes_status s) (writes_pclath s) status pclath, no_jump);
-        keeps = λ e. no_forget;
-      }
+  tame_by s file w is frame no_target no_jump no_forget h = tame_of placed own bank s file w is frame no_target no_jump no_forget (operand_needs file h) (operand_status file h) (operand_pclath file h)
 
   flag_pclath : (op : BitOperation) (register : Register) (k : ℕ) → register ≡ Status → writes_pclath (syms.Bit op (operands.Register register) k) ≡ false
   flag_pclath op register k is = and_none (is_bit_write op) (is_pclath (operands.Register register)) (ap (λ (r : Register). is_pclath (operands.Register r)) is)

@@ -54,7 +54,7 @@ or_last true b e = refl
 or_last false b e = e
 
 module _ (placed : Placed) (own : BlockName) (n : ℕ) where
-  abbrev sum_of : State → List Sym → List Sym → ℕ
+  abbrev pub sum_of : State → List Sym → List Sym → ℕ
   sum_of st part rest = sum_from (price_from 0 (selected_from placed own st (part ++ rest))) 0 part
 
   -- an access is one that the run of skips needs
@@ -105,10 +105,10 @@ module _ (placed : Placed) (own : BlockName) (n : ℕ) where
           (subst (Meets own n bank page) (sym is) (meets_after placed own n bank page known s behind tame label e h))
           (λ f. paid (sym at ∙ f))
 
-  next_known_behind : (k : Known) (s : Sym) (rest : List Sym) (no_select : is_select s ≡ false) → (after_one placed own (record { known = k; behind = true }) s rest no_select).known ≡ after k s true
+  pub next_known_behind : (k : Known) (s : Sym) (rest : List Sym) (no_select : is_select s ≡ false) → (after_one placed own (record { known = k; behind = true }) s rest no_select).known ≡ after k s true
   next_known_behind k s rest no_select = ap (λ (c : Bool). (state_of c true own (record { known = k; behind = true }) s (needs_in placed (s ∷ rest))).known) no_select
 
-  next_known_free : (k : Known) (s : Sym) (rest : List Sym) (no_select : is_select s ≡ false) → is_label s ≡ false → (needs : Needs) → needs_in placed (s ∷ rest) ≡ Some needs
+  pub next_known_free : (k : Known) (s : Sym) (rest : List Sym) (no_select : is_select s ≡ false) → is_label s ≡ false → (needs : Needs) → needs_in placed (s ∷ rest) ≡ Some needs
       → (after_one placed own (record { known = k; behind = false }) s rest no_select).known ≡ after (known_with own k needs) s false
   next_known_free k s rest no_select label needs is =
       let st : State = record { known = k; behind = false } in
@@ -116,13 +116,13 @@ module _ (placed : Placed) (own : BlockName) (n : ℕ) where
       ∙ ap (λ (c : Bool). (state_of false c own st s (needs_in placed (s ∷ rest))).known) label
       ∙ ap (λ (o : Option Needs). (state_of false false own st s o).known) is
 
-  count_free : (k : Known) (s : Sym) (rest : List Sym) (no_select : is_select s ≡ false) → is_label s ≡ false → (needs : Needs) → needs_in placed (s ∷ rest) ≡ Some needs
+  pub count_free : (k : Known) (s : Sym) (rest : List Sym) (no_select : is_select s ≡ false) → is_label s ≡ false → (needs : Needs) → needs_in placed (s ∷ rest) ≡ Some needs
       → count placed own (record { known = k; behind = false }) s rest no_select ≡ length (missing_for own k needs)
   count_free k s rest no_select label needs is =
       let st : State = record { known = k; behind = false } in
       ap (λ (c : Bool). count_of c own st (needs_in placed (s ∷ rest))) label ∙ ap (count_of false own st) is
 
-  next_behind : (st : State) (s : Sym) (rest : List Sym) (no_select : is_select s ≡ false) → (after_one placed own st s rest no_select).behind ≡ is_skip s
+  pub next_behind : (st : State) (s : Sym) (rest : List Sym) (no_select : is_select s ≡ false) → (after_one placed own st s rest no_select).behind ≡ is_skip s
   next_behind st s rest no_select = behind_is placed own (is_select s) (st.behind || is_label s) st s (needs_in placed (s ∷ rest)) no_select
 
   tracks : (part rest : List Sym) (k : Known) (b bank page : Bool) → AllTame placed own n (part ++ rest) → has_none (part ++ rest) ≡ true → is_straight part ≡ true → is_tight b (part ++ rest) ≡ true → Meets own n bank page k → IsPaid b bank page part

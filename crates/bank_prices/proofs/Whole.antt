@@ -1,10 +1,11 @@
 -- Of the blocks that were given and what `selects` makes of them.
-use Rattle.std.proofs.Common.{◌≡◌, ℕ, zero, suc, ◌+◌, ◌/◌, ◌<◌, ◌≤◌, ◌⊎◌, inl, inr, sum_by, Bool, true, false, ◌||◌, nat_le, if◌then◌else◌, List, [], ◌∷◌, map, Option, Some, None, slice_get, slice_index_or, refl, sym, ap, ◌∙◌, subst, ⊎_elim, leb-true, lt-ltb, arith}
+use Rattle.std.proofs.Common.{◌≡◌, ℕ, zero, suc, ◌+◌, ◌/◌, ◌<◌, ◌≤◌, ◌⊎◌, inl, inr, Bool, true, false, ◌||◌, nat_le, if◌then◌else◌, List, [], ◌∷◌, length, map, Option, Some, None, slice_get, slice_index_or, refl, sym, ap, ◌∙◌, subst, ⊎_elim, leb-true, lt-ltb, arith}
 use Rattle.pic_map.specs.declared.FrameLine.{FrameLine}
 use Rattle.pic_map.specs.declared.Placed.{Placed}
 use Rattle.sym_code.specs.Layout.{FrameRange, no_frame, frame, lies_in, is_whole}
 use Rattle.sym_code.specs.Programs.{block_in}
 use Rattle.sym_code.specs.Selects.{bare}
+use Rattle.sym_code.specs.Words as words
 use Rattle.sym_code.specs.declared.code.BlockName.{BlockName}
 use Rattle.sym_code.specs.declared.code.BlockName.TheVariants.{Copy}
 use Rattle.sym_code.specs.declared.code.Sym.{Sym}
@@ -14,7 +15,6 @@ use Rattle.code_place.specs.Layouts.{frame_of, layout_of}
 use Rattle.math_helpers.specs.Routines.{helper_code}
 use Rattle.math_helpers.specs.Shape.{frame_size, most_words, sum_from}
 use Rattle.math_helpers.proofs.Shapes.{code_is_own}
-use Rattle.select_wide.specs.Links.{dearest}
 use Rattle.bank_page.specs.Links.{price_from}
 use Rattle.bank_page.specs.Selected.{front}
 use Rattle.bank_page.specs.Step.{selected_from}
@@ -26,6 +26,7 @@ use Rattle.bank_prices.proofs.Pairs.{exact_at}
 use Rattle.bank_prices.proofs.Tight.{tight_code}
 use Rattle.bank_prices.proofs.Owned.{all_tame}
 use Rattle.bank_prices.proofs.Tracks.{priced_at}
+use Rattle.bank_prices.proofs.Near.{near_at}
 
 module _ (placed : Placed) (given made : List SymBlock) (has : AreSelected placed given made) (name : BlockName) where
   code_is : block_in made name ≡ selected_from placed name front (block_in given name)
@@ -39,11 +40,6 @@ leaves_blocks placed given made each none = record {
   each = each;
   same = λ name. ap bare (exact_at placed given made each name) ∙ bare_selected placed name front (block_in given name) ∙ none name;
 }
-
-pub blocks_are_dear : BlocksAreDear
-blocks_are_dear placed given made has name n part is e =
-    let P : List Sym → Type 0 = λ l. sum_from (price_from 0 l) n part ≤ sum_by dearest part in
-    subst P (sym (code_is placed given made has name)) (dear_at placed name n (block_in given name) front (no_selects placed given made has name) part is e)
 
 -- ---- the bank of a frame
 abbrev frame_or : Option FrameLine → FrameRange
@@ -89,6 +85,28 @@ bank_there (Some line) f offset is e l =
       ap (λ (b : Bool). if b then Some (line.address + offset) else None) (lt-ltb (line.address + offset) 512 within),
       subst (λ a. (a + offset) / 128 ≡ f.address / 128) same h.1,
     )
+
+-- ---- what blocks cost
+frame_listed : (frames : List FrameRange) (c offset : ℕ) → offset < (slice_index_or frames c no_frame).size → c < length frames
+frame_listed [] c offset l = absurd (omega arith)
+frame_listed (f ∷ frames) zero offset l = omega arith
+frame_listed (f ∷ frames) (suc c) offset l = let h = frame_listed frames c offset l in omega arith
+
+pub blocks_are_dear : BlocksAreDear
+blocks_are_dear placed given made has whole name =
+    let list = block_in given name in
+    let none = no_selects placed given made has name in
+    let code = sym (code_is placed given made has name) in
+    record {
+      each = λ n part is e.
+          let P : List Sym → Type 0 = λ l. sum_from (price_from 0 l) n part ≤ words.most_words part in
+          subst P code (dear_at placed name n list front none part is e);
+      near = λ n part is e c near.
+          let range = frame (layout_of placed) c in
+          let there = λ (offset : ℕ) (l : offset < range.size). bank_there (slice_get placed.frames.items c) range offset (frame_there placed.frames.items c) (whole c (frame_listed (layout_of placed).frames c offset l)) l in
+          let P : List Sym → Type 0 = λ l. sum_from (price_from 0 l) n part ≤ length part + 2 in
+          subst P code (near_at placed name (range.address / 128) c range.size there n list front none part is e near);
+    }
 
 pub routines_are_priced : RoutinesArePriced
 routines_are_priced placed given made has h root c is whole fits n part taken straight =

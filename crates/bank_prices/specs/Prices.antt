@@ -1,5 +1,5 @@
 -- What instructions cost together with the selects before them, in blocks that were given and what `selects` makes of them.
-use Rattle.std.specs.Prelude.{◌≡◌, ℕ, ◌≤◌, true, List}
+use Rattle.std.specs.Prelude.{◌≡◌, ℕ, ◌<◌, ◌≤◌, true, List, length}
 use Rattle.std.specs.List.{AllZip}
 use Rattle.c_typed.specs.declared.calls.Helper.{Helper}
 use Rattle.pic_world.specs.declared.Root.{Root}
@@ -22,9 +22,13 @@ pub record AreSelected (placed : Placed) (given made : List SymBlock) : Type 0 w
   pub each : AllZip (IsExact placed) given made
   pub same : (name : BlockName) → bare (block_in made name) ≡ block_in given name
 
--- Each byte in a bank costs two selects at most, and each jump and call two.
+-- Where each frame stands whole in a bank, each byte in a bank costs two selects at most, and each jump and call two; and instructions
+-- that ask for no bank but that of one frame cost its two once.
 abbrev pub BlocksAreDear : Type 0
-BlocksAreDear = (placed : Placed) (given made : List SymBlock) → AreSelected placed given made → (name : BlockName) → AreDear (price_in (block_in made) name) (block_in given name)
+BlocksAreDear =
+    (placed : Placed) (given made : List SymBlock) → AreSelected placed given made
+    → ((c : ℕ) → c < length (layout_of placed).frames → is_whole (frame (layout_of placed) c).address (frame (layout_of placed) c).size ≡ true)
+    → (name : BlockName) → AreDear (layout_of placed) (price_in (block_in made) name) (block_in given name)
 
 -- A routine whose frame stands whole in a bank costs the selects of the frame's bank and of its own page once between two labels.
 abbrev pub RoutinesArePriced : Type 0

@@ -8,7 +8,8 @@
 ghost use Rattle.bank_prices.specs.Prices.{LeavesBlocks, BlocksAreDear, RoutinesArePriced};
 
 /// What is answered for blocks without selects has no more of them than selection was counted with: two at most for each byte in a
-/// bank and each jump and call; and in a routine two for its frame's bank and two for its page between labels.
+/// bank and each jump and call, and two at all where no bank but that of one frame is asked for; and in a routine two for its frame's
+/// bank and two for its page between labels.
 pub fn selects_are_few()
     ensures leaves { LeavesBlocks }
     ensures dear { BlocksAreDear }

@@ -104,7 +104,7 @@ module _ (s : Site) (t : Machine) (wc : World Held) (calm : Calm s wc) (f : ℕ)
       let y = syms.Literal Movlw (literals.Number 1) in
       let r' : Registers = record r { w = 0 } in
       let code = syms.Literal Movlw (literals.Number 0) ∷ x ∷ y ∷ [] in
-      let dr = dear s f the_user n 6 code (h.0, (h.1.0, (h.1.1.0, tt))) refl (omega (arith, dear_three None (x ∷ []))) in
+      let dr = dear s f the_user n 6 code (h.0, (h.1.0, (h.1.1.0, tt))) refl (omega (arith, dear_three (x ∷ []))) in
       let next : ℕ → Thread = (λ z. record { rest = None; at = Some (onward s.g.program (position (names.Copy f) (suc n)) (nat_eq (bit z (number % 8)) 0)); stack = ps; registers = r' }) in
       let ef = tests_is a (number % 8) (suc n) r' va in
       let ob = onward_is s t wc calm f ps (suc n) y (nat_eq (bit v (number % 8)) 0) h.1.1.0 refl in
@@ -226,7 +226,7 @@ module _ (s : Site) (t : Machine) (wc : World Held) (calm : Calm s wc) (f : ℕ)
           let nb : number % 8 ≡ number = omega arith in
           let k = slot (layout s) from in
           let low : bit (m k) 0 ≡ x % 2 = ap (λ z. bit z 0) sh ∙ half x in
-          let dr = dear s f the_user n 6 (syms.Bit Btfss (operands.Byte from) 0 ∷ syms.Goto (targets.Label (first_label n)) ∷ []) (h.0, (h.1.0, tt)) refl (let z = dear_three None (syms.Bit Btfss (operands.Byte from) 0 ∷ syms.Goto (targets.Label (first_label n)) ∷ []) in omega (arith, z)) in
+          let dr = dear s f the_user n 6 (syms.Bit Btfss (operands.Byte from) 0 ∷ syms.Goto (targets.Label (first_label n)) ∷ []) (h.0, (h.1.0, tt)) refl (let z = dear_three (syms.Bit Btfss (operands.Byte from) 0 ∷ syms.Goto (targets.Label (first_label n)) ∷ []) in omega (arith, z)) in
           weaken s (at s t (thread s f n ps r) m wc) d 1 (s.price (names.Copy f) n + (s.price (names.Copy f) (suc n) + 3)) 1 13 (omega arith) (omega (arith, dr))
           (skip s t wc calm f ps the_user n r m (syms.Bit Btfss (operands.Byte from) 0) (syms.Goto (targets.Label (first_label n))) (nat_eq (bit (m k) 0) 1) r d 0 (s.price (names.Copy f) (suc n) + 3) h.0 refl refl h.1.0 refl refl
           (low_is n r from k (own_access s wc.inside false r f the_user fit.root from o))
@@ -242,7 +242,7 @@ module _ (s : Site) (t : Machine) (wc : World Held) (calm : Calm s wc) (f : ℕ)
               let ev : set_bit (number % 8) v ≡ with_bit number (x % 2) v = ap (λ z. set_bit z v) nb ∙ sym (if_true (nat_eq (x % 2) 1) (set_bit number v) (clear_bit number v) (sym e)) in
               let w = machine f pr (PutBack a (set_bit (number % 8) v) ∷ Join ∷ c) st cm (after_device_read Number s.o a wc) in
               let code = syms.Bit Bsf (operands.Byte (Device a)) (number % 8) ∷ [] in
-              let d3 = dear_three None code in
+              let d3 = dear_three code in
               let dr = dear s f the_user p2 3 code (h.1.1.0, tt) refl (omega (arith, d3)) in
               let sm : set_bit (number % 8) v < 256 = each_below set_bit set_below (number % 8) v (omega arith) (device_small s a wc fit.control) in
               subst (λ z. Went s (at s t (thread s f p2 ps r) m wc) (machine f pr (PutBack a z ∷ Join ∷ c) st cm (after_device_read Number s.o a wc)) 0 (s.price (names.Copy f) (suc n) + 3)) ev
@@ -256,7 +256,7 @@ module _ (s : Site) (t : Machine) (wc : World Held) (calm : Calm s wc) (f : ℕ)
               let ev : clear_bit (number % 8) v ≡ with_bit number (x % 2) v = ap (λ z. clear_bit z v) nb ∙ sym (if_false (nat_eq (x % 2) 1) (set_bit number v) (clear_bit number v) (sym e)) in
               let w = machine f pr (PutBack a (clear_bit (number % 8) v) ∷ Join ∷ c) st cm (after_device_read Number s.o a wc) in
               let code = syms.Bit Bcf (operands.Byte (Device a)) (number % 8) ∷ [] in
-              let d3 = dear_three None code in
+              let d3 = dear_three code in
               let dr = dear s f the_user p5 3 code (h.1.1.1.1.1.0, tt) refl (omega (arith, d3)) in
               let sm : clear_bit (number % 8) v < 256 = each_below clear_bit clear_below (number % 8) v (omega arith) (device_small s a wc fit.control) in
               subst (λ z. Went s (at s t (thread s f p1 ps r) m wc) (machine f pr (PutBack a z ∷ Join ∷ c) st cm (after_device_read Number s.o a wc)) 0 (s.price (names.Copy f) (suc n) + 3)) ev

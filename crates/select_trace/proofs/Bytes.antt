@@ -112,7 +112,7 @@ module _ (s : Site) (t : Machine) (wc : World Held) (calm : Calm s wc) (f : ℕ)
       by true q h l =
           let z : value ≡ 0 = same_nat value 0 (and_left _ _ q) in
           let p = clearable to (and_right (nat_eq value 0) _ q) in
-          let d3 = dear_three None (clear_code to) in
+          let d3 = dear_three (clear_code to) in
           let dr = dear s f my_user n 4 (clear_code to) h refl (omega (arith, d3)) in
           let v = at s t (thread s f n ps r) m wc in
           put_private s t wc calm f pr st loops ps cm m fit to (Number value) 1 4 v c p (λ pr' cm' pa a va ac.
@@ -121,7 +121,7 @@ module _ (s : Site) (t : Machine) (wc : World Held) (calm : Calm s wc) (f : ℕ)
           (clrf_silent s wc.inside f n ps r m (operands.Byte to) (slot (layout s) to) (ac r)) (soon_left s f loops (record r { z = 1 }) (suc n) c (left_to s f loops (n + 1) (suc n) c (omega arith) l)) pa a va))
       by false q h l =
           let code = number_code value ++ store_code to in
-          let d3 = dear_three None (store_code to) in
+          let d3 = dear_three (store_code to) in
           let dr = dear s f my_user n 4 code h refl (omega (arith, d3)) in
           let r' : Registers = record r { w = value } in
           let v = at s t (thread s f n ps r) m wc in
@@ -139,7 +139,7 @@ module _ (s : Site) (t : Machine) (wc : World Held) (calm : Calm s wc) (f : ℕ)
   copy_private : (to from : Byte) (n : ℕ) (r : Registers) (c : List Task) → is_private from ≡ true → is_own s.q f from 1 ≡ true → Fits r → Has (block s f) n (copy_code to from) → Left s f loops (n + 2) c
       → After s 1 6 (put s.q to (cm from) c f pr st cm wc) (at s t (thread s f n ps r) m wc)
   copy_private to from n r c e o fits h l =
-      let d3 = dear_three None (copy_code to from) in
+      let d3 = dear_three (copy_code to from) in
       let dr = dear s f my_user n 6 (copy_code to from) h refl (omega (arith, d3)) in
       let k = slot (layout s) from in
       let r' = loaded s r (m k) in
@@ -214,7 +214,7 @@ module _ (s : Site) (t : Machine) (wc : World Held) (calm : Calm s wc) (f : ℕ)
       when_after s 1 6 (is_own s.q f (Result x k) 1) (put s.q to (cm (Result x k)) c f pr st cm wc) (at s t (thread s f n ps r) m wc) (λ o. copy_private to (Result x k) n r c refl o fits h l)
   copy_goes to (Static o k) n r c fits h l =
       let code = syms.File Movf (operands.Byte (Static o k)) into.W ∷ [] in
-      let d3 = dear_three None code in
+      let d3 = dear_three code in
       let dr = dear s f my_user n 3 code (h.0, tt) refl (omega (arith, d3)) in
       let d = machine f pr (Put to (cm (Static o k)) ∷ c) st cm (noting_if (s.q.is_watched o) (ReadOf (cells.Static o k) (cm (Static o k))) wc) in
       when_after s 1 3 (nat_lt k (static_bytes s.q o)) (core.Goes d) (at s t (thread s f n ps r) m wc) (λ va.
@@ -222,7 +222,7 @@ module _ (s : Site) (t : Machine) (wc : World Held) (calm : Calm s wc) (f : ℕ)
       (static_read (operands.Byte (Static o k)) to o k n r c (λ q. shared_access s wc.inside false r o k (lt_of k (static_bytes s.q o) va) q) (λ q. constant_access s wc.inside r o k (lt_of k (static_bytes s.q o) va) q) va fits h.0 h.1 (λ r' a b. soon_left s f loops r' (suc n + 1) c (left_to s f loops (n + 2) (suc n + 1) c (omega arith) l))))
   copy_goes to (Device a) n r c fits h l =
       let code = syms.File Movf (operands.Byte (Device a)) into.W ∷ [] in
-      let d3 = dear_three None code in
+      let d3 = dear_three code in
       let dr = dear s f my_user n 3 code (h.0, tt) refl (omega (arith, d3)) in
       let d = machine f pr (Put to (Number (device_value s.o a wc)) ∷ c) st cm (after_device_read Number s.o a wc) in
       when_after s 1 3 (is_register a && nat_eq (lowest a) a) (core.Goes d) (at s t (thread s f n ps r) m wc) (λ va.
@@ -233,7 +233,7 @@ module _ (s : Site) (t : Machine) (wc : World Held) (calm : Calm s wc) (f : ℕ)
   pub put_goes : (to : Byte) (held : Held) (n : ℕ) (r : Registers) (c : List Task) → Fits r → Shown s held r.w → Has (block s f) n (store_to to ∷ []) → Soon s f loops r (n + 1) c
       → After s 1 3 (put s.q to held c f pr st cm wc) (at s t (thread s f n ps r) m wc)
   put_goes to held n r c fits sh h soon =
-      let d3 = dear_three None (store_to to ∷ []) in
+      let d3 = dear_three (store_to to ∷ []) in
       let dr = dear s f my_user n 3 (store_to to ∷ []) h refl (omega (arith, d3)) in
       let v = at s t (thread s f n ps r) m wc in
       after_map s 1 (s.price (names.Copy f) n + 0) 1 3 (put s.q to held c f pr st cm wc) v v (put_moves s.q to held c f pr st cm wc) (λ d w. weaken s v d 1 (s.price (names.Copy f) n + 0) 1 3 (omega arith) dr w)

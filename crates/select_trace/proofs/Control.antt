@@ -206,7 +206,7 @@ module _ (s : Site) (t : Machine) (wc : World Held) (calm : Calm s wc) (f : ℕ)
           let tot : total s f n head ≡ total s f n tc + (s.price (names.Copy f) n' + (s.price (names.Copy f) (suc n') + 0)) = total_append s f n tc (jump_code to) in
           let le = test_length test size in
           let lh : length head ≡ length tc + 2 = len_append tc (jump_code to) in
-          let d3 = dear_three None head in
+          let d3 = dear_three head in
           let dr = dear s f user n (4 * size + 16) head h (straight_append tc _ _ (test_free test size) refl) (omega (arith, d3, lh, le)) in
           subst (λ y. After s 1 (4 * size + 16) y (at s t (thread s f n ps r) m wc)) (sym (some holds q))
           (weaken s (at s t (thread s f n ps r) m wc) (d holds) 1 (total s f n tc + (s.price (names.Copy f) n' + (s.price (names.Copy f) (suc n') + 0))) 1 (4 * size + 16) (omega arith) (omega (arith, dr, tot))

@@ -23,7 +23,6 @@ use Rattle.sym_code.specs.declared.code.Operand.TheVariants as operands
 use Rattle.sym_code.specs.declared.code.Register.TheVariants.{Fsr, Status}
 use Rattle.sym_code.specs.declared.code.Sym.TheVariants as syms
 use Rattle.select_code.specs.Pieces.{byte_behind}
-use Rattle.select_wide.specs.Links.{named_behind}
 use Rattle.select_wide.specs.Pieces.{rising}
 use Rattle.select_wide.specs.Pointers.{pointer_code, load_byte_code, load_code, store_byte_code, store_all_code}
 use Rattle.select_trace.proofs.Truths.{same_nat}
@@ -134,13 +133,11 @@ module _ (s : Site) (t : Machine) (wc : World Held) (calm : Calm s wc) (f : ℕ)
       let y2 = syms.Bit Bcf (operands.Register Status) 7 in
       let y3 = syms.Bit Btfsc (operands.Byte (byte_behind p 1)) 0 in
       let y4 = syms.Bit Bsf (operands.Register Status) 7 in
-      let l0 = named_behind None y0 in
-      let l3 = named_behind l0 y3 in
-      let c0 = dear_one None y0 (y1 ∷ y2 ∷ y3 ∷ y4 ∷ []) in
-      let c1 = dear_movwf_register l0 Fsr (y2 ∷ y3 ∷ y4 ∷ []) in
-      let c2 = dear_bit_register l0 Bcf Status 7 (y3 ∷ y4 ∷ []) in
-      let c3 = dear_one l0 y3 (y4 ∷ []) in
-      let c4 = dear_bit_register l3 Bsf Status 7 [] in
+      let c0 = dear_one y0 (y1 ∷ y2 ∷ y3 ∷ y4 ∷ []) in
+      let c1 = dear_movwf_register Fsr (y2 ∷ y3 ∷ y4 ∷ []) in
+      let c2 = dear_bit_register Bcf Status 7 (y3 ∷ y4 ∷ []) in
+      let c3 = dear_one y3 (y4 ∷ []) in
+      let c4 = dear_bit_register Bsf Status 7 [] in
       let dr = dear s f b_user n 14 (pointer_code p) h refl (omega (arith, c0, c1, c2, c3, c4)) in
       weaken s (at s t (thread s f n ps r) m wc) d 4 (q n + (q n1 + (q n2 + (q n3 + (q n4 + 0))))) 1 14 (omega arith) dr
       (word s t wc calm f ps b_user n r m y0 r1 None d 3 (q n1 + (q n2 + (q n3 + (q n4 + 0)))) h.0 refl refl (movf_silent s wc.inside f n ps r m (operands.Byte p) k0 ac0)

@@ -27,10 +27,12 @@ use Rattle.sym_code.specs.declared.code.Register.TheVariants.{Fsr, Indf, Status}
 use Rattle.sym_code.specs.declared.code.Sym.{Sym}
 use Rattle.sym_code.specs.declared.code.Sym.TheVariants as syms
 use Rattle.select_code.specs.Pieces.{byte_behind}
-use Rattle.select_wide.specs.Links.{dear_words, named_behind}
-use Rattle.select_wide.specs.Pointers.{address_code}
-use Rattle.select_trace.proofs.Truths.{and_left, and_right, lt_of, le_of, same_nat}
-use Rattle.select_trace.proofs.Standing.{Has}
+use Rattle.select_wide.specs.Pieces.{rising}
+use Rattle.select_wide.specs.Pointers.{address_code, pointer_code, load_byte_code, load_code, store_byte_code, store_all_code}
+use Rattle.sym_code.specs.Touching.{touches}
+use Rattle.select_trace.proofs.Truths.{and_left, and_right, lt_of, le_of, same_nat, nat_same, nat_other}
+use Rattle.select_trace.proofs.Standing.{Has, moved, has_front, has_back}
+use Rattle.select_trace.proofs.Labels.{len_append}
 use Rattle.select_trace.proofs.Placed as placed
 use Rattle.select_trace.proofs.Placed.{slot}
 use Rattle.select_trace.proofs.Sites.{Site, layout}
@@ -45,23 +47,23 @@ use Rattle.select_trace.proofs.Tests.{behind_none, own_part, own_behind}
 use Rattle.select_trace.proofs.Control.{left_to, here_left, when_after}
 use Rattle.select_trace.proofs.Stores.{fit_with, with_small}
 use Rattle.select_trace.proofs.Values.{own_agrees}
-use Rattle.select_trace.proofs.Prices.{one_three}
+use Rattle.select_trace.proofs.Prices.{dear_words, one_three, dear_three}
 
 -- ---- prices of instructions that name no byte by its name
-pub dear_one : (last : Option Byte) (x : Sym) (y : List Sym) → dear_words last (x ∷ y) ≤ 3 + dear_words (named_behind last x) y
-dear_one last x y = let h = one_three last x in omega (arith, h)
+pub dear_one : (x : Sym) (y : List Sym) → dear_words (x ∷ y) ≤ 3 + dear_words y
+dear_one x y = let h = one_three x in omega (arith, h)
 
-pub dear_literal : (last : Option Byte) (op : _) (v : Literal) (y : List Sym) → dear_words last (syms.Literal op v ∷ y) ≡ 1 + dear_words last y
-dear_literal last op v y = omega arith
+pub dear_literal : (op : _) (v : Literal) (y : List Sym) → dear_words (syms.Literal op v ∷ y) ≡ 1 + dear_words y
+dear_literal op v y = omega arith
 
-pub dear_movwf_register : (last : Option Byte) (r : _) (y : List Sym) → dear_words last (syms.Movwf (operands.Register r) ∷ y) ≡ 1 + dear_words last y
-dear_movwf_register last r y = omega arith
+pub dear_movwf_register : (r : _) (y : List Sym) → dear_words (syms.Movwf (operands.Register r) ∷ y) ≡ 1 + dear_words y
+dear_movwf_register r y = omega arith
 
-pub dear_file_register : (last : Option Byte) (op : _) (r : _) (d : _) (y : List Sym) → dear_words last (syms.File op (operands.Register r) d ∷ y) ≡ 1 + dear_words last y
-dear_file_register last op r d y = omega arith
+pub dear_file_register : (op : _) (r : _) (d : _) (y : List Sym) → dear_words (syms.File op (operands.Register r) d ∷ y) ≡ 1 + dear_words y
+dear_file_register op r d y = omega arith
 
-pub dear_bit_register : (last : Option Byte) (op : _) (r : _) (d : ℕ) (y : List Sym) → dear_words last (syms.Bit op (operands.Register r) d ∷ y) ≡ 1 + dear_words last y
-dear_bit_register last op r d y = omega arith
+pub dear_bit_register : (op : _) (r : _) (d : ℕ) (y : List Sym) → dear_words (syms.Bit op (operands.Register r) d ∷ y) ≡ 1 + dear_words y
+dear_bit_register op r d y = omega arith
 
 -- ---- instructions
 module _ (s : Site) (i : Bool) (f n : ℕ) (ps : List Position) (r : Registers) (m : Memory) where
@@ -153,11 +155,10 @@ module _ (s : Site) (t : Machine) (wc : World Held) (calm : Calm s wc) (f : ℕ)
       let ac0 : access_of s.g wc.inside true r0 (operands.Byte to) ≡ Silent k0 = ap (λ z. access_of s.g wc.inside true r0 (operands.Byte z)) (sym (behind_none to)) ∙ own_access s wc.inside true r0 f a_user fit.root l0 o0 in
       let ac1 : access_of s.g wc.inside true r1 (operands.Byte (byte_behind to 1)) ≡ Silent k1 = ap (λ z. access_of s.g wc.inside true r1 (operands.Byte z)) b1 ∙ own_access s wc.inside true r1 f a_user fit.root l1 o1 in
       let p = s.price (names.Copy f) in
-      let d3a = dear_one None (syms.Movwf (operands.Byte to)) (syms.Literal Movlw (literals.High place) ∷ syms.Movwf (operands.Byte (byte_behind to 1)) ∷ []) in
-      let la = named_behind None (syms.Movwf (operands.Byte to)) in
-      let d3b = dear_one la (syms.Movwf (operands.Byte (byte_behind to 1))) [] in
-      let la4 = dear_literal la Movlw (literals.High place) (syms.Movwf (operands.Byte (byte_behind to 1)) ∷ []) in
-      let la5 = dear_literal None Movlw (literals.Low place) (syms.Movwf (operands.Byte to) ∷ syms.Literal Movlw (literals.High place) ∷ syms.Movwf (operands.Byte (byte_behind to 1)) ∷ []) in
+      let d3a = dear_one (syms.Movwf (operands.Byte to)) (syms.Literal Movlw (literals.High place) ∷ syms.Movwf (operands.Byte (byte_behind to 1)) ∷ []) in
+      let d3b = dear_one (syms.Movwf (operands.Byte (byte_behind to 1))) [] in
+      let la4 = dear_literal Movlw (literals.High place) (syms.Movwf (operands.Byte (byte_behind to 1)) ∷ []) in
+      let la5 = dear_literal Movlw (literals.Low place) (syms.Movwf (operands.Byte to) ∷ syms.Literal Movlw (literals.High place) ∷ syms.Movwf (operands.Byte (byte_behind to 1)) ∷ []) in
       let dr = dear s f a_user n 8 (address_code to place) h refl (omega (arith, d3a, d3b, la4, la5)) in
       weaken s (at s t (thread s f n ps r) m wc) d 4 (p n + (p n1 + (p n2 + (p n3 + 0)))) 1 8 (omega arith) dr
       (word s t wc calm f ps a_user n r m (syms.Literal Movlw (literals.Low place)) r0 None d 3 (p n1 + (p n2 + (p n3 + 0))) h.0 refl refl (literal_is s wc.inside f n ps r m (literals.Low place))

@@ -1,12 +1,14 @@
 -- What some instructions cost together.
-use Rattle.std.proofs.Common.{◌≡◌, ℕ, zero, suc, ◌+◌, ◌*◌, ◌≤◌, Bool, true, false, cond, if◌then◌else◌, List, [], ◌∷◌, ◌++◌, length, Option, Some, None, refl, ◌∙◌, arith}
+use Rattle.std.proofs.Common.{◌≡◌, ℕ, zero, suc, ◌+◌, ◌*◌, ◌<◌, ◌≤◌, Bool, true, false, not, cond, if◌then◌else◌, List, [], ◌∷◌, ◌++◌, length, Option, Some, None, refl, sym, ap, ◌∙◌, subst, arith}
+use Rattle.std.proofs.lemmas.List.Sums.{sum_by-cons}
 use Rattle.core_code.specs.declared.code.Byte.{Byte}
 use Rattle.math_helpers.specs.Shape.{is_straight}
-use Rattle.sym_code.specs.Touching.{touches}
+use Rattle.sym_code.specs.Words.{is_common, most_of_operand, most_of_one, most_words}
+use Rattle.sym_code.specs.declared.code.Operand.{Operand}
+use Rattle.sym_code.specs.declared.code.Operand.TheVariants as operands
 use Rattle.sym_code.specs.declared.code.Sym.{Sym}
 use Rattle.sym_code.specs.declared.code.Sym.TheVariants as syms
 use Rattle.select_code.specs.Pieces.{test_code, ors_code}
-use Rattle.select_wide.specs.Links.{bank_touched, bank_words, page_words, has_bank, named_behind, dear_words}
 use Rattle.select_trace.proofs.Labels.{is_label, unlabelled, len_append}
 
 -- an instruction in front of straight code
@@ -37,32 +39,42 @@ straight_append (a ∷ c ∷ x) b y e h =
     let f = head_free a (c ∷ x) e in
     straight_more a c (x ++ b ∷ y) f.0 (straight_append (c ∷ x) b y f.1 h)
 
-bank_two : (last o : Option Byte) → bank_words last o ≤ 2
-bank_two last None = omega arith
-bank_two last (Some b) = by (has_bank last b)
+-- ---- the words of some instructions with all selects that they may need
+abbrev pub dear_words : List Sym → ℕ
+dear_words [] = 0
+dear_words (s ∷ rest) = most_of_one s + dear_words rest
+
+pub most_is : (x : List Sym) → most_words x ≡ dear_words x
+most_is [] = refl
+most_is (s ∷ rest) = sum_by-cons most_of_one s rest ∙ ap (λ n. most_of_one s + n) (most_is rest)
+
+operand_three : (file : Operand) → most_of_operand file ≤ 3
+operand_three (operands.Byte byte) = by (is_common byte)
   where
-    by : (t : Bool) → (if t then 0 else 2) ≤ 2
+    by : (t : Bool) → (if t then 1 else 3) ≤ 3
     by true = omega arith
     by false = omega arith
+operand_three (operands.Register register) = omega arith
+operand_three (operands.Saved saved) = omega arith
 
-pub one_three : (last : Option Byte) (x : Sym) → 1 + bank_words last (bank_touched (touches x)) + page_words x ≤ 3
-one_three last (syms.File a c d) = let h = bank_two last (bank_touched (touches (syms.File a c d))) in omega (arith, h)
-one_three last (syms.Movwf a) = let h = bank_two last (bank_touched (touches (syms.Movwf a))) in omega (arith, h)
-one_three last (syms.Clrf a) = let h = bank_two last (bank_touched (touches (syms.Clrf a))) in omega (arith, h)
-one_three last (syms.Bit a c d) = let h = bank_two last (bank_touched (touches (syms.Bit a c d))) in omega (arith, h)
-one_three last (syms.Literal a c) = omega arith
-one_three last (syms.Plain a) = omega arith
-one_three last (syms.Call a) = omega arith
-one_three last (syms.Goto a) = omega arith
-one_three last (syms.Label l) = omega arith
-one_three last (syms.SelectBank a c) = omega arith
-one_three last (syms.SelectPage a c) = omega arith
+pub one_three : (x : Sym) → most_of_one x ≤ 3
+one_three (syms.File a c d) = operand_three c
+one_three (syms.Movwf a) = operand_three a
+one_three (syms.Clrf a) = operand_three a
+one_three (syms.Bit a c d) = operand_three c
+one_three (syms.Literal a c) = omega arith
+one_three (syms.Plain a) = omega arith
+one_three (syms.Call a) = omega arith
+one_three (syms.Goto a) = omega arith
+one_three (syms.Label l) = omega arith
+one_three (syms.SelectBank a c) = omega arith
+one_three (syms.SelectPage a c) = omega arith
 
-pub dear_three : (last : Option Byte) (x : List Sym) → dear_words last x ≤ 3 * length x
-dear_three last [] = omega arith
-dear_three last (a ∷ x) =
-    let h = one_three last a in
-    let g = dear_three (named_behind last a) x in
+pub dear_three : (x : List Sym) → dear_words x ≤ 3 * length x
+dear_three [] = omega arith
+dear_three (a ∷ x) =
+    let h = one_three a in
+    let g = dear_three x in
     omega (arith, h, g)
 
 ors_length : (test : Byte) (k : ℕ) → length (ors_code test k) ≡ k

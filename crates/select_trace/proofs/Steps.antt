@@ -19,7 +19,6 @@ use Rattle.sym_code.specs.declared.code.Label.TheVariants.{Inner}
 use Rattle.sym_code.specs.declared.code.Sym.{Sym}
 use Rattle.sym_code.specs.declared.code.Sym.TheVariants as syms
 use Rattle.sym_code.specs.declared.code.Target.TheVariants as targets
-use Rattle.select_wide.specs.Links.{dear_words}
 use Rattle.select_trace.proofs.Truths.{if_true, or_left}
 use Rattle.select_trace.proofs.Standing.{Has, stand_word, stand_label}
 use Rattle.select_trace.proofs.Sites.{Site, layout}
@@ -27,7 +26,8 @@ use Rattle.select_trace.proofs.Machines.{at, lower, Calm, inside_as, running_at,
 use Rattle.select_trace.proofs.Live.{IsUser, is_live, below, Passing, Chain}
 use Rattle.select_trace.proofs.Memory.{Agree}
 use Rattle.select_trace.proofs.Blocks.{block, is_leaver, next_lands, here_lands}
-use Rattle.select_trace.proofs.Relation.{place, Here, Frames, AreBytes, Stands, least_at, most_at, stop, further, Went, weaken}
+use Rattle.select_trace.proofs.Relation.{place, Here, Frames, AreBytes, Stands, least_at, most_at, Path, stop, further, Went, weaken}
+use Rattle.select_trace.proofs.Prices.{dear_words, most_is}
 
 abbrev pub thread : Site → ℕ → ℕ → List Position → Registers → Thread
 thread s f n ps r = record { rest = None; at = Some (place s f n); stack = ps; registers = r }
@@ -106,13 +106,14 @@ taken (c ∷ b) (suc n) (a ∷ x) h = taken b n (a ∷ x) (h.0, less c b (suc n)
     less c b n [] h = tt
     less c b n (y ∷ x) h = (h.0, less c b (suc n) x h.1)
 
-pub dear : (s : Site) (f : ℕ) → IsUser s f → (n hi : ℕ) (x : List Sym) → Has (block s f) n x → is_straight x ≡ true → dear_words None x ≤ hi → total s f n x ≤ hi
+pub dear : (s : Site) (f : ℕ) → IsUser s f → (n hi : ℕ) (x : List Sym) → Has (block s f) n x → is_straight x ≡ true → dear_words x ≤ hi → total s f n x ≤ hi
 dear s f u n hi x h q le =
-    let a = s.chosen.prices f u.copy u.there u.user n x (taken (block s f) n x h) q in
+    let a = (s.chosen.prices f u.copy u.there u.user).each n x (taken (block s f) n x h) q in
+    let all = most_is x in
     let e = total_is s f n x in
-    omega (arith, a, e, le)
+    omega (arith, a, all, e, le)
 
-pub priced : (s : Site) (v : Machine) (d : core.Machine) (f : ℕ) → IsUser s f → (n lo lo' hi : ℕ) (x : List Sym) → Has (block s f) n x → is_straight x ≡ true → dear_words None x ≤ hi → lo' ≤ lo → Went s v d lo (total s f n x) → Went s v d lo' hi
+pub priced : (s : Site) (v : Machine) (d : core.Machine) (f : ℕ) → IsUser s f → (n lo lo' hi : ℕ) (x : List Sym) → Has (block s f) n x → is_straight x ≡ true → dear_words x ≤ hi → lo' ≤ lo → Went s v d lo (total s f n x) → Went s v d lo' hi
 priced s v d f u n lo lo' hi x h q le ll r = weaken s v d lo (total s f n x) lo' hi ll (dear s f u n hi x h q le) r
 
 -- ---- the instruction that stands at n

@@ -25,7 +25,6 @@ use Rattle.sym_code.specs.declared.code.Register.TheVariants.{Fsr, Indf}
 use Rattle.sym_code.specs.declared.code.Sym.{Sym}
 use Rattle.sym_code.specs.declared.code.Sym.TheVariants as syms
 use Rattle.select_code.specs.Pieces.{byte_behind}
-use Rattle.select_wide.specs.Links.{dear_words, named_behind}
 use Rattle.select_wide.specs.Pointers.{advance_code, load_byte_code, store_byte_code}
 use Rattle.select_trace.proofs.Truths.{or_true, and_left, and_right, both, or_right, or_left, lt_of, of_lt, same_nat, nat_other, flip, if_false}
 use Rattle.select_trace.proofs.Standing.{Has, moved, has_front, has_back, has_join}
@@ -47,7 +46,8 @@ use Rattle.select_trace.proofs.Testing.{total_append}
 use Rattle.select_trace.proofs.Control.{left_to, when_after}
 use Rattle.select_trace.proofs.Control as control
 use Rattle.select_trace.proofs.Stores.{store_goes, static_store, private_goes}
-use Rattle.select_trace.proofs.Bytes.{put_moves, after_map, static_read}
+use Rattle.select_trace.proofs.Bytes.{soon_left, soon_to, put_moves, after_map, static_read}
+use Rattle.select_trace.proofs.Prices.{dear_words}
 use Rattle.select_trace.proofs.Pointing.{dear_one, dear_movwf_register, dear_file_register, advances, indf_is}
 use Rattle.select_trace.proofs.Loads.{loading_soon, storing_soon}
 
@@ -72,9 +72,9 @@ step_straight : (j : ℕ) (b : Sym) (y : List Sym) → is_straight (b ∷ y) ≡
 step_straight zero b y h = h
 step_straight (suc j) b y h = h
 
-step_dear : (j : ℕ) (y : List Sym) → dear_words None (step_code j ++ y) ≤ 1 + dear_words None y
+step_dear : (j : ℕ) (y : List Sym) → dear_words (step_code j ++ y) ≤ 1 + dear_words y
 step_dear zero y = omega arith
-step_dear (suc j) y = let h = dear_file_register None Incf Fsr into.File y in omega (arith, h)
+step_dear (suc j) y = let h = dear_file_register Incf Fsr into.File y in omega (arith, h)
 
 truth_small : (b : Bool) → truth b < 2
 truth_small true = omega arith
@@ -227,7 +227,7 @@ module _ (s : Site) (t : Machine) (wc : World Held) (calm : Calm s wc) (f : ℕ)
       let d = machine f pr (Put to (cm (Static o offset)) ∷ loading (behind to 1) (Fixed o) (offset + 1) k c) st cm (noting_if (s.q.is_watched o) (ReadOf (cells.Static o offset) (cm (Static o offset))) wc) in
       let len : length (load_byte_code first j) ≡ length sc + 2 = ap length li ∙ len_append sc tail in
       let d1 = step_dear j (mi ∷ []) in
-      let d2 = dear_file_register None Movf Indf into.W [] in
+      let d2 = dear_file_register Movf Indf into.W [] in
       let tot : total s f n (sc ++ mi ∷ []) ≡ total s f n sc + (s.price (names.Copy f) n1 + 0) = total_append s f n sc (mi ∷ []) in
       let dr = dear s f c_user n 3 (sc ++ mi ∷ []) (has_join_one n sc mi hs ht.0) (step_straight j mi [] refl) (omega (arith, d1, d2)) in
       weaken s (at s t (thread s f n ps r) m wc) d 1 (total s f n sc + (s.price (names.Copy f) n1 + 0)) 1 3 (omega arith) (omega (arith, dr, tot))
@@ -256,8 +256,8 @@ module _ (s : Site) (t : Machine) (wc : World Held) (calm : Calm s wc) (f : ℕ)
       let rest = loading (behind to 1) (FrameOf g) (offset + 1) k c in
       let len : length (load_byte_code first j) ≡ length sc + 2 = ap length li ∙ len_append sc tail in
       let d1 = step_dear j tail in
-      let d2 = dear_file_register None Movf Indf into.W (relation.store_to to ∷ []) in
-      let d3 = dear_one None (relation.store_to to) [] in
+      let d2 = dear_file_register Movf Indf into.W (relation.store_to to ∷ []) in
+      let d3 = dear_one (relation.store_to to) [] in
       let tot : total s f n (sc ++ tail) ≡ total s f n sc + (s.price (names.Copy f) n1 + (s.price (names.Copy f) (suc n1) + 0)) = total_append s f n sc tail in
       let dr = dear s f c_user n 6 (sc ++ tail) hb (step_straight j mi (relation.store_to to ∷ []) refl) (omega (arith, d1, d2, d3)) in
       let v = at s t (thread s f n ps r) m wc in
@@ -315,8 +315,8 @@ module _ (s : Site) (t : Machine) (wc : World Held) (calm : Calm s wc) (f : ℕ)
       let d = machine f pr rest st cm' wd in
       let len : length (store_byte_code first j) ≡ length sc + 2 = ap length li ∙ len_append sc tail in
       let d1 = step_dear j tail in
-      let d2 = dear_one None mf (mi ∷ []) in
-      let d3 = dear_movwf_register (named_behind None mf) Indf [] in
+      let d2 = dear_one mf (mi ∷ []) in
+      let d3 = dear_movwf_register Indf [] in
       let tot : total s f n (sc ++ tail) ≡ total s f n sc + (s.price (names.Copy f) n1 + (s.price (names.Copy f) (suc n1) + 0)) = total_append s f n sc tail in
       let dr = dear s f c_user n 6 (sc ++ tail) hb (step_straight j mf (mi ∷ []) refl) (omega (arith, d1, d2, d3)) in
       let v = at s t (thread s f n ps r) m wc in

@@ -1,5 +1,5 @@
 -- What selection and the helpers keep together: symbolic code follows byte code.
-use Rattle.std.specs.Prelude.{ℕ, ◌+◌, ◌≡◌, ◌<◌, ◌≤◌, nat_eq, nat_lt, Bool, true, false, ◌&&◌, if◌then◌else◌, List, [], ◌∷◌, ◌++◌, length, take, drop, Option, Some, None, slice_get, slice_index_or}
+use Rattle.std.specs.Prelude.{ℕ, ◌+◌, ◌≡◌, ◌<◌, ◌≤◌, nat_lt, Bool, true, false, ◌&&◌, List, [], ◌∷◌, ◌++◌, length, take, drop, Option, Some, None, slice_get, slice_index_or}
 use Rattle.std.specs.List.{All}
 use Rattle.pic_world.specs.World.{Outside, event_as}
 use Rattle.pic_world.specs.declared.Root.{Root}
@@ -23,18 +23,19 @@ use Rattle.core_code.specs.declared.code.Byte.{Byte}
 use Rattle.core_code.specs.declared.code.Byte.TheVariants as bytes
 use Rattle.sym_code.specs.Correct.{IsBegun, AreEntries}
 use Rattle.sym_code.specs.Effect.{Setting, Memory}
-use Rattle.sym_code.specs.Layout.{IsLaidOut, IsOf, frame, shown}
+use Rattle.sym_code.specs.Layout.{DataLayout, IsLaidOut, IsOf, frame, shown}
 use Rattle.sym_code.specs.Machine.{Entry, sym_start}
 use Rattle.sym_code.specs.Registers.{Registers}
 use Rattle.sym_code.specs.Runs as sym
 use Rattle.sym_code.specs.declared.code.BlockName.{BlockName}
 use Rattle.sym_code.specs.declared.code.BlockName.TheVariants.{Copy}
-use Rattle.sym_code.specs.declared.code.Sym.{Sym}
-use Rattle.sym_code.specs.declared.code.Operand.{Operand}
+use Rattle.sym_code.specs.declared.code.LiteralOperation.TheVariants.{Retlw}
 use Rattle.sym_code.specs.declared.code.Operand.TheVariants as operands
-use Rattle.sym_code.specs.declared.code.Sym.TheVariants.{Call, Goto}
-use Rattle.sym_code.specs.Touching.{touches}
-use Rattle.sym_code.specs.Words.{is_common}
+use Rattle.sym_code.specs.declared.code.PlainOperation.TheVariants.{Return, Retfie}
+use Rattle.sym_code.specs.declared.code.Register.TheVariants.{Status}
+use Rattle.sym_code.specs.declared.code.Sym.{Sym}
+use Rattle.sym_code.specs.declared.code.Sym.TheVariants as syms
+use Rattle.sym_code.specs.Words.{most_words}
 use Rattle.math_helpers.specs.Routines.{helper_code}
 use Rattle.math_helpers.specs.Shape.{frame_size, is_straight, sum_from, ArePriced}
 use Rattle.select_wide.specs.Blocks.{is_user, body_at, code_by}
@@ -71,56 +72,37 @@ pub record IsBody (q : Program) (bodies : List Body) (c : ℕ) : Type 0 where
   pub bytes : all_set_bytes (trees_of (q.body c)) ≡ true
 
 -- ---- prices
--- the byte whose bank an instruction needs; what stands in every bank needs none
-abbrev pub bank_named : Operand → Option Byte
-bank_named (operands.Byte byte) = if is_common byte then None else Some byte
-bank_named (operands.Register register) = None
-bank_named (operands.Saved saved) = None
+-- a byte of this frame, of so many bytes, or one that stands in every bank
+abbrev pub IsNearByte : ℕ → ℕ → Byte → Type 0
+IsNearByte c size (bytes.Frame d k) = (d ≡ c) × (k < size)
+IsNearByte c size (bytes.Result r k) = Unit {0}
+IsNearByte c size _ = ⊥
 
-abbrev pub bank_touched : Option (Operand × Bool) → Option Byte
-bank_touched None = None
-bank_touched (Some touched) = bank_named touched.0
+-- an instruction that asks for no bank but that of the frame, and for no page; it goes on behind, and no bank is selected by it
+abbrev pub IsNear : ℕ → ℕ → Sym → Type 0
+IsNear c size (syms.File op (operands.Byte byte) into) = IsNearByte c size byte
+IsNear c size (syms.Movwf (operands.Byte byte)) = IsNearByte c size byte
+IsNear c size (syms.Clrf (operands.Byte byte)) = IsNearByte c size byte
+IsNear c size (syms.Bit op (operands.Byte byte) n) = IsNearByte c size byte
+IsNear c size (syms.Bit op (operands.Register Status) n) = n < 5
+IsNear c size (syms.Literal Retlw value) = ⊥
+IsNear c size (syms.Literal op value) = Unit {0}
+IsNear c size (syms.Plain Return) = ⊥
+IsNear c size (syms.Plain Retfie) = ⊥
+IsNear c size (syms.Plain op) = Unit {0}
+IsNear c size _ = ⊥
 
--- An object stands in one bank whole, and so does a frame.
-abbrev pub in_one_bank : Byte → Byte → Bool
-in_one_bank (bytes.Static n j) (bytes.Static m k) = nat_eq n m
-in_one_bank (bytes.Frame c j) (bytes.Frame d k) = nat_eq c d
-in_one_bank (bytes.Device a) (bytes.Device b) = nat_eq a b
-in_one_bank _ _ = false
+abbrev pub AreNear : ℕ → ℕ → List Sym → Type 0
+AreNear c size [] = Unit {0}
+AreNear c size (s ∷ list) = IsNear c size s × AreNear c size list
 
--- the bank of the byte that was named last is selected
-abbrev pub has_bank : Option Byte → Byte → Bool
-has_bank None byte = false
-has_bank (Some last) byte = in_one_bank last byte
-
--- two selects for a byte's bank, where it isn't selected, and two for a target's page
-abbrev pub bank_words : Option Byte → Option Byte → ℕ
-bank_words last None = 0
-bank_words last (Some byte) = if has_bank last byte then 0 else 2
-
-abbrev pub page_words : Sym → ℕ
-page_words (Call target) = 2
-page_words (Goto target) = 2
-page_words _ = 0
-
--- what is named last behind an instruction; a call leaves any bank
-abbrev pub or_last : Option Byte → Option Byte → Option Byte
-or_last last None = last
-or_last last (Some byte) = Some byte
-
-abbrev pub named_behind : Option Byte → Sym → Option Byte
-named_behind last (Call target) = None
-named_behind last s = or_last last (bank_touched (touches s))
-
--- the words of some instructions with all selects that they may need, where this byte was named last before them
-abbrev pub dear_words : Option Byte → List Sym → ℕ
-dear_words last [] = 0
-dear_words last (s ∷ rest) = 1 + bank_words last (bank_touched (touches s)) + page_words s + dear_words (named_behind last s) rest
-
--- Wherever some instructions stand one behind the other, and the last of them is no skip, before which the selects of the following
--- one would stand, they cost no more than this together.
-abbrev pub AreDear : (ℕ → ℕ) → List Sym → Type 0
-AreDear price list = (n : ℕ) (part : List Sym) → take (length part) (drop n list) ≡ part → is_straight part ≡ true → sum_from price n part ≤ dear_words None part
+-- What some instructions cost together that stand one behind the other, where the last of them is no skip, before which the selects
+-- of the following one would stand: no more than their words with all selects that they may need; and where they ask for no bank but
+-- that of one frame, the selects of it once.
+pub record AreDear (l : DataLayout) (price : ℕ → ℕ) (list : List Sym) : Type 0 where
+  pub each : (n : ℕ) (part : List Sym) → take (length part) (drop n list) ≡ part → is_straight part ≡ true → sum_from price n part ≤ most_words part
+  pub near : (n : ℕ) (part : List Sym) → take (length part) (drop n list) ≡ part → is_straight part ≡ true → (c : ℕ) → AreNear c (frame l c).size part
+      → sum_from price n part ≤ length part + 2
 
 abbrev pub is_inside : Root → Bool
 is_inside Main = false
@@ -160,7 +142,7 @@ pub record IsSelected (q : Program) (copies : List FnCopy) (bodies : List Body) 
   pub level : ℕ → ℕ
   pub levels : HasLevels q copies g.limit level
   -- what instructions cost
-  pub prices : (c : ℕ) (copy : FnCopy) → slice_get copies c ≡ Some copy → is_user copy.function ≡ true → AreDear (price (Copy c)) (g.program.block (Copy c))
+  pub prices : (c : ℕ) (copy : FnCopy) → slice_get copies c ≡ Some copy → is_user copy.function ≡ true → AreDear g.program.layout (price (Copy c)) (g.program.block (Copy c))
   pub routine_prices : (c : ℕ) (copy : FnCopy) (h : Helper) → slice_get copies c ≡ Some copy → copy.function ≡ callee.Helper h → ArePriced (price (Copy c)) (helper_code h copy.root c)
 
 -- ---- what is kept

@@ -1,1 +1,5 @@
+pub mod Branches
+pub mod Passing
 pub mod Progress
+pub mod Seen
+pub mod Telling

@@ -1,5 +1,26 @@
 //! The source machine: its state, and its micro-steps.
 
+ghost use Rattle.std.specs.Prelude.{ℕ, ◌≡◌, ◌∷◌, ◌≤◌, ◌+◌, IfSome, IfNone, [], true, false, drop, take, reverse, slice_get};
+ghost use Rattle.std.specs.Vec.{vec_len, vec_capacity};
+ghost use Rattle.c_typed.specs.Trees.{Program};
+ghost use Rattle.c_typed.specs.Views.{program_of, expression_of};
+ghost use Rattle.pic_map.specs.MapContent.{MapContent};
+ghost use Rattle.pic_world.specs.World.{World as Worlds, Outside, left, entered};
+ghost use Rattle.src_machine.specs.Seen.{waiting, interrupted_in, stack_of, above, memory_of, state_in, silent, HasRoom};
+ghost use Rattle.src_machine.specs.Telling.{Tells, with_taken, is_quiet, is_interrupted};
+ghost use Rattle.src_memory.specs.Seen.{IsWorld};
+ghost use Rattle.src_memory.specs.Shape.{IsShaped};
+ghost use Rattle.src_rules.specs.Accesses.{goes};
+ghost use Rattle.src_rules.specs.State as rules;
+ghost use Rattle.src_machine.specs.Passing.{values_among, value_in, are_values, missing_in, given, called, FitFrom, FitAt, FitCall};
+ghost use Rattle.src_rules.specs.Step.{body_of, copy_of, call, call_in, enter, refused, with_values, has_missing};
+ghost use Rattle.src_values.specs.Memory.{fresh};
+ghost use Rattle.src_values.specs.Seen.{focus_in, got_in, has_values, values_on, frames_behind};
+ghost use Rattle.src_values.specs.Control as control;
+ghost use Rattle.src_values.specs.declared.objects.Byte.{Byte as Bytes};
+ghost use Rattle.src_machine.specs.declared.machine.Machine.{Machine as AnyMachine};
+ghost use Rattle.src_values.specs.declared.objects.Object.{Object as AnyObject};
+
 use c_typed::{TExpr, Typed};
 use pic_map::Map;
 use pic_world::{Event, Root, Script};
@@ -52,7 +73,7 @@ pub(crate) struct Machine<'a> {
     room: usize,
     pub memory: Memory,
     pub world: World,
-    handler: Option<u32>,
+    handler: Option<usize>,
 }
 
 // What can wait at a time. A function is active at most once for each root, where a program has no recursion. In
@@ -177,122 +198,339 @@ impl<'a> Machine<'a> {
                 left,
             } => self.copy_write(to, from, byte, left),
             Focus::Spell { spot, text, left } => self.spell(spot, text, left),
-            Focus::Blank { at, left } => self.blank(at, left),
+            Focus::Blank { at, end } => self.blank(at, end),
             Focus::Calls => self.call(),
             Focus::Leaves(value) => self.leave(value),
-            Focus::Compares { value, next } => self.compares(value, next),
+            Focus::Compares { value, cases, next } => self.compares(value, cases, next),
             Focus::Over => Outcome::Idle,
         }
     }
 
     // The handler is called whole: what it interrupts waits below it.
-    fn enter(&mut self, handler: u32) -> Outcome {
+    #[tactic(auto, using(crate::proofs::Tops::uninterrupted))]
+    fn enter(&mut self, handler: usize) -> Outcome
+        ensures tells { HasRoom 2 self.old → is_interrupted (waiting self.old) ≡ false → (o : Outside) (a : AnyObject → ℕ) (w : Worlds Bytes) → IsWorld o self.old.world w → Tells o a result self.new (enter (program_of self.old.program.now) handler (focus_in self.old.focus) (stack_of self.old) self.old.copy (memory_of self.old) w) }
+        ensures shape { (p : Program) (map : MapContent) → IsShaped p map self.old.memory → IsShaped p map self.new.memory }
+    {
         self.world.enter();
         self.interrupted = self.focus;
         self.wait(Pending::Resumes(self.copy));
         self.enter_copy(Root::Isr, handler);
-        self.go(Focus::Past)
+        self.focus = Focus::Past;
+        Outcome::Went(None)
     }
 
     /// What the handler interrupted goes on.
-    pub fn resume(&mut self, copy: CopyOf) -> Outcome {
+    pub fn resume(&mut self, copy: CopyOf) -> Outcome
+        ensures tells { (o : Outside) (a : AnyObject → ℕ) (w : Worlds Bytes) → IsWorld o self.old.world w → Tells o a result self.new (goes copy (interrupted_in self.old) (stack_of self.old) (memory_of self.old) (left w)) }
+        ensures others { self.new ≡ record self.old { world = self.new.world; copy = copy; focus = self.old.interrupted } }
+    {
         self.world.leave();
         self.copy = copy;
-        self.go(self.interrupted)
+        self.focus = self.interrupted;
+        Outcome::Went(None)
     }
 
     // A function's body begins, with all variables of the copy unset.
-    fn enter_copy(&mut self, root: Root, function: u32) {
+    fn enter_copy(&mut self, root: Root, function: usize)
+        ensures waits { HasRoom 1 self.old → stack_of self.new ≡ body_of (program_of self.old.program.now) function (stack_of self.old) }
+        ensures copy { self.new.copy ≡ copy_of root function }
+        ensures memory { memory_of self.new ≡ fresh (memory_of self.old) (copy_of root function) }
+        ensures shape { (p : Program) (map : MapContent) → IsShaped p map self.old.memory → IsShaped p map self.new.memory }
+        ensures others { self.new ≡ record self.old { copy = self.new.copy; memory = self.new.memory; stack = self.new.stack } }
+    {
         self.copy = CopyOf { root, function };
         self.memory.clear_copy(self.copy);
         self.begin_body(function);
     }
 
     // The statements of a function's body wait.
-    fn begin_body(&mut self, function: u32) {
+    fn begin_body(&mut self, function: usize)
+        ensures waits { HasRoom 1 self.old → stack_of self.new ≡ body_of (program_of self.old.program.now) function (stack_of self.old) }
+        ensures others { self.new ≡ record self.old { stack = self.new.stack } }
+        ensures room { vec_capacity self.old.stack ≤ vec_capacity self.new.stack }
+        ensures len { vec_len self.new.stack ≤ vec_len self.old.stack + 1 }
+    {
         let program = self.program;
-        if let Some(found) = program.functions.get(function as usize) {
-            self.wait(Pending::Before(&found.body, 0));
+        match program.functions.get(function) {
+            Some(found) => self.wait(Pending::Before(&found.body, 0)),
+            None => self.wait(Pending::Ended),
         }
     }
 
     // All arguments have their values: the function is called.
-    fn call(&mut self) -> Outcome {
-        match self.stack.pop() {
-            Some(Pending::In(expr, Got::Passed(count))) => match expr {
+    #[tactic(auto, using(crate::proofs::Calls::calls, crate::proofs::Calls::calls_no_part, crate::proofs::Calls::fit_call))]
+    fn call_for(&mut self, expr: &'a TExpr, got: Got) -> Outcome
+        ensures tells { HasRoom 3 self.old → (map : MapContent) (w : Worlds Bytes) → IsShaped (program_of self.old.program.now) map self.old.memory → FitCall (program_of self.old.program.now) self.old.copy (control.In (expression_of expr.now) (got_in (expression_of expr.now) got (values_on (waiting self.old))) ∷ frames_behind (interrupted_in self.old) (has_values got) (waiting self.old)) → silent result self.new w ≡ call_in (program_of self.old.program.now) (expression_of expr.now) (got_in (expression_of expr.now) got (values_on (waiting self.old))) (frames_behind (interrupted_in self.old) (has_values got) (waiting self.old)) self.old.copy (memory_of self.old) w }
+        ensures shape { (p : Program) (map : MapContent) → IsShaped p map self.old.memory → IsShaped p map self.new.memory }
+        ensures others { self.new ≡ record self.old { copy = self.new.copy; memory = self.new.memory; stack = self.new.stack; focus = self.new.focus } }
+        ensures quiet { is_quiet result ≡ true }
+    {
+        match got {
+            Got::Passed => match expr {
                 TExpr::Call { function, line, .. } => {
-                    self.call_with(expr, *function, count, *line)
+                    self.call_with(expr, *function as usize, *line)
                 }
-                _ => Outcome::Lost,
+                TExpr::Constant { .. }
+                | TExpr::Read { .. }
+                | TExpr::Address { .. }
+                | TExpr::Convert { .. }
+                | TExpr::Cast { .. }
+                | TExpr::Unary { .. }
+                | TExpr::Binary { .. }
+                | TExpr::Offset { .. }
+                | TExpr::Difference { .. }
+                | TExpr::Logical { .. }
+                | TExpr::Conditional { .. }
+                | TExpr::Comma { .. }
+                | TExpr::Assign { .. }
+                | TExpr::StructAssign { .. }
+                | TExpr::Update { .. }
+                | TExpr::Step { .. } => Outcome::Lost,
             },
-            _ => Outcome::Lost,
+            Got::Nothing
+            | Got::Chosen
+            | Got::One(_)
+            | Got::At(_)
+            | Got::AtWith(_, _)
+            | Got::Stores(_, _)
+            | Got::Copies
+            | Got::Args(_)
+            | Got::Called => Outcome::Lost,
+        }
+    }
+
+    /// What waits on top is called.
+    pub(crate) fn call(&mut self) -> Outcome
+        ensures tells { HasRoom 2 self.old → (map : MapContent) (w : Worlds Bytes) → IsShaped (program_of self.old.program.now) map self.old.memory → FitCall (program_of self.old.program.now) self.old.copy (stack_of self.old) → silent result self.new w ≡ call (program_of self.old.program.now) (stack_of self.old) self.old.copy (memory_of self.old) w }
+        ensures shape { (p : Program) (map : MapContent) → IsShaped p map self.old.memory → IsShaped p map self.new.memory }
+        ensures others { self.new ≡ record self.old { copy = self.new.copy; memory = self.new.memory; stack = self.new.stack; focus = self.new.focus } }
+        ensures quiet { is_quiet result ≡ true }
+    {
+        let Some(top) = self.take_off() else {
+            return Outcome::Lost;
+        };
+        match top {
+            Pending::In(expr, got) => self.call_for(expr, got),
+            Pending::Value(_)
+            | Pending::To(_)
+            | Pending::Doing(_, _)
+            | Pending::Before(_, _)
+            | Pending::Ended
+            | Pending::Returns(_)
+            | Pending::Resumes(_) => Outcome::Lost,
         }
     }
 
     // A call gives the parameters their values, and all other variables of the copy none.
-    fn call_with(&mut self, expr: &'a TExpr, function: u32, count: usize, line: u32) -> Outcome {
-        let first = self.stack.len().saturating_sub(count);
+    #[tactic(auto, using(crate::proofs::Passing::call_goes, crate::proofs::Passing::values_split))]
+    fn call_with(&mut self, expr: &'a TExpr, function: usize, line: u32) -> Outcome
+        ensures tells { HasRoom 3 self.old → (map : MapContent) (w : Worlds Bytes) → IsShaped (program_of self.old.program.now) map self.old.memory → FitFrom (program_of self.old.program.now) (copy_of self.old.copy.root function) 0 (values_on (waiting self.old)) → silent result self.new w ≡ called (program_of self.old.program.now) (expression_of expr.now) function line (values_on (waiting self.old)) (frames_behind (interrupted_in self.old) true (waiting self.old)) self.old.copy (memory_of self.old) w }
+        ensures shape { (p : Program) (map : MapContent) → IsShaped p map self.old.memory → IsShaped p map self.new.memory }
+        ensures others { self.new ≡ record self.old { copy = self.new.copy; memory = self.new.memory; stack = self.new.stack; focus = self.new.focus } }
+        ensures quiet { is_quiet result ≡ true }
+    {
+        let first = self.first_value();
         if self.has_missing(first) {
             return undefined(Undef::Unset, line);
         }
-        let caller = self.copy;
         let callee = CopyOf {
+            root: self.copy.root,
+            function,
+        };
+        self.pass(callee, first);
+        self.begin_call(expr, function)
+    }
+
+    // The body of the function that is called begins.
+    fn begin_call(&mut self, expr: &'a TExpr, function: usize) -> Outcome
+        ensures tells { HasRoom 3 self.old → (w : Worlds Bytes) → silent result self.new w ≡ goes (copy_of self.old.copy.root function) control.Past (body_of (program_of self.old.program.now) function (control.Returns self.old.copy ∷ control.In (expression_of expr.now) control.Called ∷ stack_of self.old)) (memory_of self.old) w }
+        ensures others { self.new ≡ record self.old { copy = self.new.copy; stack = self.new.stack; focus = self.new.focus } }
+        ensures quiet { is_quiet result ≡ true }
+    {
+        let caller = self.copy;
+        self.wait(Pending::In(expr, Got::Called));
+        self.wait(Pending::Returns(caller));
+        self.copy = CopyOf {
             root: caller.root,
             function,
         };
-        self.memory.clear_copy(callee);
-        self.give_values(callee, first);
-        self.stack.truncate(first);
-        self.wait(Pending::In(expr, Got::Called));
-        self.wait(Pending::Returns(caller));
-        self.copy = callee;
         self.begin_body(function);
         self.go(Focus::Past)
     }
 
-    // The parameters of a copy get the values from this one on.
-    fn give_values(&mut self, copy: CopyOf, first: usize) {
-        let mut number = 0u32;
-        for at in first..self.stack.len() {
-            if let Some(Pending::Value(value)) = self.stack.get(at).copied() {
+    // The variables of a copy get the values from this one on, which go off the stack, and all others none.
+    fn pass(&mut self, copy: CopyOf, first: usize)
+        ensures memory { (p : Program) (map : MapContent) → IsShaped p map self.old.memory → are_values (drop first self.old.stack.items) ≡ true → FitFrom p copy 0 (values_among (drop first self.old.stack.items)) → memory_of self.new ≡ with_values (fresh (memory_of self.old) copy) copy 0 (values_among (drop first self.old.stack.items)) }
+        ensures shape { (p : Program) (map : MapContent) → IsShaped p map self.old.memory → IsShaped p map self.new.memory }
+        ensures waits { waiting self.new ≡ reverse (take first self.old.stack.items) }
+        ensures len { vec_len self.new.stack ≤ vec_len self.old.stack }
+        ensures room { vec_capacity self.new.stack ≡ vec_capacity self.old.stack }
+        ensures others { self.new ≡ record self.old { memory = self.new.memory; stack = self.new.stack } }
+    {
+        self.memory.clear_copy(copy);
+        self.give_values(copy, first);
+        self.stack.truncate(first);
+    }
+
+    // Whether a value stands at this place.
+    fn has_value(&self, at: usize) -> bool
+        ensures { result ≡ value_in (slice_get self.now.stack.items at) }
+    {
+        let Some(pending) = self.stack.get(at) else {
+            return false;
+        };
+        match pending {
+            Pending::Value(_) => true,
+            Pending::In(_, _)
+            | Pending::To(_)
+            | Pending::Doing(_, _)
+            | Pending::Before(_, _)
+            | Pending::Ended
+            | Pending::Returns(_)
+            | Pending::Resumes(_) => false,
+        }
+    }
+
+    // Where the lowest of the values stands that are on top of the stack.
+    #[tactic(auto, using(crate::proofs::Passing::values_back, crate::proofs::Passing::none_back, crate::proofs::Passing::values_at_end))]
+    fn first_value(&self) -> usize
+        ensures all { are_values (drop result self.now.stack.items) ≡ true }
+        ensures below { values_on (reverse (take result self.now.stack.items)) ≡ [] }
+    {
+        let mut first = self.stack.len();
+        while 0 < first {
+            let before = first - 1;
+            if !self.has_value(before) {
+                break;
+            }
+            first = before;
+        }
+        first
+    }
+
+    // What waits at this place becomes the value of a variable, if it is a value.
+    fn give_value(&mut self, copy: CopyOf, number: usize, at: usize)
+        ensures memory { (p : Program) (map : MapContent) → IsShaped p map self.old.memory → FitAt p copy number (slice_get self.old.stack.items at) → memory_of self.new ≡ given (memory_of self.old) copy number (slice_get self.old.stack.items at) }
+        ensures shape { (p : Program) (map : MapContent) → IsShaped p map self.old.memory → IsShaped p map self.new.memory }
+        ensures others { self.new ≡ record self.old { memory = self.new.memory } }
+    {
+        let Some(pending) = self.stack.get(at) else {
+            return;
+        };
+        match pending {
+            Pending::Value(value) => {
+                let value = *value;
                 self.memory
                     .put_value(Object::Variable { copy, number }, value);
             }
-            number = number.saturating_add(1);
+            Pending::In(_, _)
+            | Pending::To(_)
+            | Pending::Doing(_, _)
+            | Pending::Before(_, _)
+            | Pending::Ended
+            | Pending::Returns(_)
+            | Pending::Resumes(_) => {}
+        }
+    }
+
+    // The parameters of a copy get the values from this one on.
+    #[tactic(auto, using(crate::proofs::Passing::gives_first, crate::proofs::Passing::gives_step))]
+    fn give_values(&mut self, copy: CopyOf, first: usize)
+        ensures memory { (p : Program) (map : MapContent) → IsShaped p map self.old.memory → are_values (drop first self.old.stack.items) ≡ true → FitFrom p copy 0 (values_among (drop first self.old.stack.items)) → memory_of self.new ≡ with_values (memory_of self.old) copy 0 (values_among (drop first self.old.stack.items)) }
+        ensures shape { (p : Program) (map : MapContent) → IsShaped p map self.old.memory → IsShaped p map self.new.memory }
+        ensures others { self.new ≡ record self.old { memory = self.new.memory } }
+    {
+        let mut number = 0;
+        for at in first..self.stack.len() {
+            self.give_value(copy, number, at);
+            number += 1;
+        }
+    }
+
+    // Whether a value at this place is missing.
+    fn is_missing(&self, at: usize) -> bool
+        ensures { result ≡ missing_in (slice_get self.now.stack.items at) }
+    {
+        let Some(pending) = self.stack.get(at) else {
+            return false;
+        };
+        match pending {
+            Pending::Value(value) => match value {
+                Datum::Missing => true,
+                Datum::Number(_) | Datum::Pointer(_) => false,
+            },
+            Pending::In(_, _)
+            | Pending::To(_)
+            | Pending::Doing(_, _)
+            | Pending::Before(_, _)
+            | Pending::Ended
+            | Pending::Returns(_)
+            | Pending::Resumes(_) => false,
         }
     }
 
     // Whether a value from this one on is missing.
-    fn has_missing(&self, first: usize) -> bool {
+    #[tactic(auto, using(crate::proofs::Passing::missing_here, crate::proofs::Passing::missing_on, crate::proofs::Passing::missing_nowhere))]
+    fn has_missing(&self, first: usize) -> bool
+        ensures { result ≡ has_missing (values_among (drop first self.now.stack.items)) }
+    {
         for at in first..self.stack.len() {
-            match self.stack.get(at) {
-                Some(Pending::Value(Datum::Missing)) => return true,
-                _ => {}
+            if self.is_missing(at) {
+                return true;
             }
         }
         false
     }
 
     /// Something more waits. There is room for it.
-    pub(crate) fn wait(&mut self, pending: Pending<'a>) {
+    pub(crate) fn wait(&mut self, pending: Pending<'a>)
+        ensures waits { HasRoom 1 self.old → waiting self.new ≡ pending.entry ∷ waiting self.old }
+        ensures others { self.new ≡ record self.old { stack = self.new.stack } }
+        ensures room { vec_capacity self.old.stack ≤ vec_capacity self.new.stack }
+        ensures len { vec_len self.new.stack ≤ vec_len self.old.stack + 1 }
+    {
         let _ = self.stack.push(pending);
     }
 
+    /// What waits on top goes off.
+    #[tactic(auto, using(crate::proofs::Tops::taken, crate::proofs::Tops::taken_none))]
+    pub(crate) fn take_off(&mut self) -> Option<Pending<'a>>
+        ensures waits { waiting self.old ≡ with_taken result (waiting self.new) }
+        ensures others { self.new ≡ record self.old { stack = self.new.stack } }
+        ensures len { IfSome result (λ p. vec_len self.new.stack + 1 ≡ vec_len self.old.stack) }
+        ensures none { IfNone result (waiting self.new ≡ []) }
+        ensures room { vec_capacity self.new.stack ≡ vec_capacity self.old.stack }
+    {
+        self.stack.pop()
+    }
+
     /// What the next micro-step is about.
-    pub(crate) fn go(&mut self, focus: Focus<'a>) -> Outcome {
+    pub(crate) fn go(&mut self, focus: Focus<'a>) -> Outcome
+        ensures tells { (w : Worlds Bytes) → silent result self.new w ≡ goes self.old.copy (focus_in focus.entry) (stack_of self.old) (memory_of self.old) w }
+        ensures others { self.new ≡ record self.old { focus = focus.entry } }
+        ensures quiet { is_quiet result ≡ true }
+    {
         self.focus = focus;
         Outcome::Went(None)
     }
 
     /// What the next micro-step is about, and what waits for it.
-    pub(crate) fn go_waiting(&mut self, focus: Focus<'a>, pending: Pending<'a>) -> Outcome {
+    pub(crate) fn go_waiting(&mut self, focus: Focus<'a>, pending: Pending<'a>) -> Outcome
+        ensures tells { HasRoom 1 self.old → (w : Worlds Bytes) → silent result self.new w ≡ goes self.old.copy (focus_in focus.entry) (above self.old pending.entry) (memory_of self.old) w }
+        ensures others { self.new ≡ record self.old { stack = self.new.stack; focus = self.new.focus } }
+        ensures quiet { is_quiet result ≡ true }
+    {
         self.wait(pending);
         self.go(focus)
     }
 }
 
 /// A step that is undefined.
-pub(crate) fn undefined(kind: Undef, line: u32) -> Outcome {
+pub(crate) fn undefined(kind: Undef, line: u32) -> Outcome
+    ensures tells { (m : _) (w : Worlds Bytes) → silent result m w ≡ rules.Undefined kind line }
+    ensures quiet { is_quiet result ≡ true }
+{
     Outcome::Undefined { kind, line }
 }
 
@@ -304,12 +542,26 @@ fn taker_in(root: Root) -> Taker {
 }
 
 // Without a handler the next step is undefined, if it isn't so for another reason.
-fn refused(line: Option<u32>, outcome: Outcome) -> Outcome {
+#[tactic(auto, using(crate::proofs::Tellings::refuses))]
+fn refused(line: Option<u32>, outcome: Outcome) -> Outcome
+    ensures { (o : Outside) (a : AnyObject → ℕ) (m : AnyMachine) (x : rules.Outcome) → Tells o a outcome m x → Tells o a result m (refused line x) }
+{
     match outcome {
-        Outcome::Undefined { .. } | Outcome::Lost => outcome,
-        Outcome::Went(_) | Outcome::Idle => match line {
-            Some(line) => undefined(Undef::Handler, line),
-            None => outcome,
+        Outcome::Undefined { kind, line } => Outcome::Undefined { kind, line },
+        Outcome::Lost => Outcome::Lost,
+        Outcome::Went(event) => match line {
+            Some(line) => Outcome::Undefined {
+                kind: Undef::Handler,
+                line,
+            },
+            None => Outcome::Went(event),
+        },
+        Outcome::Idle => match line {
+            Some(line) => Outcome::Undefined {
+                kind: Undef::Handler,
+                line,
+            },
+            None => Outcome::Idle,
         },
     }
 }

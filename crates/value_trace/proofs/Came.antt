@@ -2,12 +2,12 @@
 use Rattle.std.proofs.Common.{◌≡◌, ◌≢◌, ℕ, zero, suc, ◌+◌, ◌*◌, ◌<◌, ◌≤◌, Bool, true, not, nat_lt, List, [], ◌∷◌, ◌++◌, length, take, drop, Option, Some, None, slice_get, refl, sym, ap, ◌∙◌, arith}
 use Rattle.core_code.specs.declared.code.Byte.{Byte}
 use Rattle.math_helpers.specs.Shape.{is_straight, sum_from}
-use Rattle.select_wide.specs.Links.{dear_words}
 use Rattle.select_wide.specs.Moves.{copies_code}
 use Rattle.sym_code.specs.Effect.{Memory, Quiet, Stuck, effect, effect_of, is_in_page, call, jump_to}
 use Rattle.sym_code.specs.Programs.{Position, position, stand, lands}
 use Rattle.sym_code.specs.Quiet.{Scene, quiet_run, quiet_cost, quiet_by}
 use Rattle.sym_code.specs.Registers.{Registers, Fits}
+use Rattle.sym_code.specs.Words.{most_words}
 use Rattle.sym_code.specs.declared.code.BlockName.TheVariants.{Copy}
 use Rattle.sym_code.specs.declared.code.Sym.{Sym}
 use Rattle.sym_code.specs.declared.code.Sym.TheVariants as syms
@@ -19,7 +19,7 @@ use Rattle.select_trace.proofs.Placed.{slot}
 use Rattle.select_trace.proofs.Sites.{Site, layout}
 use Rattle.select_trace.proofs.Live.{IsUser}
 use Rattle.select_trace.proofs.Blocks.{block}
-use Rattle.select_trace.proofs.Prices.{dear_three}
+use Rattle.select_trace.proofs.Prices.{most_is, dear_three}
 use Rattle.select_trace.proofs.Relation.{place}
 use Rattle.select_trace.proofs.Steps.{thread, effect_word}
 use Rattle.select_trace.proofs.Values.{scene}
@@ -85,9 +85,10 @@ take_front (x ∷ xs) ys = ap (λ (zs : List Sym). x ∷ zs) (take_front xs ys)
 
 pub sum_three : (s : Site) (f n : ℕ) (list : List Sym) → IsUser s f → Has (block s f) n list → is_straight list ≡ true → sum_from (s.price (Copy f)) n list ≤ 3 * length list
 sum_three s f n list u h straight =
-    let a : sum_from (s.price (Copy f)) n list ≤ dear_words None list = s.chosen.prices f u.copy u.there u.user n list (ap (take (length list)) (has_drop (block s f) n list h) ∙ take_front list (drop (n + length list) (block s f))) straight in
-    let b : dear_words None list ≤ 3 * length list = dear_three None list in
-    omega (arith, a, b)
+    let a : sum_from (s.price (Copy f)) n list ≤ most_words list = (s.chosen.prices f u.copy u.there u.user).each n list (ap (take (length list)) (has_drop (block s f) n list h) ∙ take_front list (drop (n + length list) (block s f))) straight in
+    let b = dear_three list in
+    let all = most_is list in
+    omega (arith, a, b, all)
 
 -- ---- copies
 pub record Moved (s : Site) (i : Bool) (f : ℕ) (ps : List Position) (n : ℕ) (r : Registers) (m : Memory) (to from : Byte) (w : ℕ) : Type 0 where

@@ -8,8 +8,8 @@ use Rattle.core_code.specs.Machine.{Waiting, is_own}
 use Rattle.core_code.specs.declared.code.Byte.{Byte}
 use Rattle.math_helpers.specs.Shape.{is_straight, sum_from}
 use Rattle.math_helpers.specs.Wanted.{byte_at}
-use Rattle.select_wide.specs.Links.{dear_words}
-use Rattle.sym_code.specs.Effect.{Setting, Memory, root_of}
+use Rattle.sym_code.specs.Effect.{Setting, Thread, Memory, root_of}
+use Rattle.sym_code.specs.Layout.{frame}
 use Rattle.sym_code.specs.Machine.{Machine}
 use Rattle.sym_code.specs.Programs.{Position, position, stand}
 use Rattle.sym_code.specs.Quiet.{Scene, quiet_run, quiet_cost}
@@ -20,8 +20,8 @@ use Rattle.sym_code.specs.declared.code.Sym.{Sym}
 use Rattle.sym_code.specs.declared.code.Sym.TheVariants as syms
 use Rattle.select_trace.proofs.Standing.{Has}
 use Rattle.select_trace.proofs.Sites.{Site, layout}
-use Rattle.select_trace.proofs.Live.{IsUser, is_live, below, chain_user, one_to_one}
-use Rattle.select_trace.proofs.Memory.{Shown}
+use Rattle.select_trace.proofs.Live.{IsUser, user_below, is_live, below, chain_user, one_to_one, valid_on}
+use Rattle.select_trace.proofs.Memory.{Shown, Agrees, Agree, agree_bytes}
 use Rattle.select_trace.proofs.Blocks.{block}
 use Rattle.select_trace.proofs.Relation.{place}
 use Rattle.select_trace.proofs.Steps.{Fit}
@@ -29,7 +29,7 @@ use Rattle.select_trace.proofs.Values.{scene, Arrives, computes_arrive}
 use Rattle.helper_trace.specs.Operators.{Computes}
 use Rattle.helper_trace.specs.Silent.{number_at, OwnsBytes, IsIn, AreStraight, Begins}
 use Rattle.helper_trace.proofs.Names.{IsOwnOne}
-use Rattle.value_trace.proofs.Lengths.{dear_own}
+use Rattle.value_trace.proofs.Lengths.{near_own}
 use Rattle.value_trace.proofs.Setup.{slot_is, owns, has_drop, behind_lands}
 
 take_front : (xs ys : List Sym) → take (length xs) (xs ++ ys) ≡ xs
@@ -39,9 +39,9 @@ take_front (x ∷ xs) ys = ap (λ (zs : List Sym). x ∷ zs) (take_front xs ys)
 -- what the code costs with its selects
 pub cost_of : (s : Site) (f : ℕ) → IsUser s f → (root : Root) (n : ℕ) (list : List Sym) → Has (block s f) n list → AreStraight (λ b. IsIn root f (s.q.frame_bytes f) b 1) list → is_straight list ≡ true → sum_from (s.price (Copy f)) n list ≤ length list + 2
 cost_of s f u root n list h all straight =
-    let a : sum_from (s.price (Copy f)) n list ≤ dear_words None list = s.chosen.prices f u.copy u.there u.user n list (ap (take (length list)) (has_drop (block s f) n list h) ∙ take_front list (drop (n + length list) (block s f))) straight in
-    let b : dear_words None list ≤ length list + 2 = dear_own root f (s.q.frame_bytes f) list all in
-    omega arith
+    let fits : s.q.frame_bytes f ≤ (frame (layout s) f).size = s.chosen.layout.frame_sizes f (user_below s f u) in
+    (s.chosen.prices f u.copy u.there u.user).near n list (ap (take (length list)) (has_drop (block s f) n list h) ∙ take_front list (drop (n + length list) (block s f))) straight f
+    (near_own root f (s.q.frame_bytes f) (frame (layout s) f).size fits list all)
 
 -- ---- where an operation begins
 module _ (s : Site) (t : Machine) (wc : World Held) (f : ℕ) (pr : Option ℕ) (st : List Waiting) (loops : List ℕ) (ps : List Position) (cm : bytes.Memory) (m : Memory) (fit : Fit s t wc f pr st loops ps cm m) (r : Registers) (fits : Fits r) where

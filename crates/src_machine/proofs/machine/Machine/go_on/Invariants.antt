@@ -1,0 +1,16 @@
+use Rattle.std.proofs.Common.{ℕ, ◌≡◌}
+use Rattle.std.specs.Vec.{vec_len}
+use Rattle.pic_world.specs.World.{World}
+use Rattle.src_machine.specs.Seen.{stack_of, memory_of, HasRoom}
+use Rattle.src_rules.specs.Statements.{continue_at}
+use Rattle.src_values.specs.declared.objects.Byte.{Byte}
+use Rattle.src_machine.proofs.machine.Machine.go_on.Given as goal
+
+abbrev pub invariant-loop-top : goal.invariant-loop-top
+invariant-loop-top l =
+    ((w : World Byte) → continue_at (stack_of l.self) l.initial.self.copy (memory_of l.initial.self) w ≡ continue_at (stack_of l.initial.self) l.initial.self.copy (memory_of l.initial.self) w)
+    × (l.self ≡ record l.initial.self { stack = l.self.stack })
+    × (HasRoom 0 l.initial.self → HasRoom 0 l.self)
+
+abbrev pub decreases-loop-top : goal.decreases-loop-top
+decreases-loop-top l = vec_len l.self.stack
