@@ -1,0 +1,11 @@
+mod Rows
+mod Stores
+mod Numbers
+mod Knows
+mod Early
+mod Steps
+mod Walk
+mod Jumps
+mod Parts
+mod Whole
+mod Final
