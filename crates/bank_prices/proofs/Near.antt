@@ -102,11 +102,11 @@ module _ (placed : Placed) (own : BlockName) (bank c size : ℕ) (frame_bank : (
 
   near_jmp : (part : List Sym) → AreNear c size part → jmp part ≡ false
   near_jmp [] h = refl
-  near_jmp (s ∷ part) h = by_skip (is_skip s)
+  near_jmp (s ∷ part) h = by_skip (is_skip s) (near_jmp part h.1)
     where
-      by_skip : (b : Bool) → (if b then jmp part else jumps s) ≡ false
-      by_skip true = near_jmp part h.1
-      by_skip false = near_jumps s h.0
+      by_skip : (b : Bool) → jmp part ≡ false → (if b then jmp part else jumps s) ≡ false
+      by_skip true e = e
+      by_skip false e = near_jumps s h.0
 
   -- ---- straight instructions
   -- what a run of skips and the instruction behind it need doesn't depend on what stands behind that
