@@ -574,26 +574,26 @@ module _ (g : Setting) (h : Ground) (image input : List ℕ) (hd : ℕ) (x : IsI
       unfolding entered
       interrupts =
           let vec = x.vector has in
-          let S0 = taken_state in
+          let entered_state = taken_state in
           let ents = st.entries in
           let t2 = with_entry (at_front g.program hd (e t.entries)) t in
-          let S_is : pushed S.pc (record S { pc = 4; intcon = clear_bit 7 S.intcon }) ≡ S0 = enter_done S st.ranged.stack in
-          let pc4 : S0.pc ≡ 4 = refl in
-          let dec : row_of (slice_index image S0.pc) ≡ Some (saving_ins 0) = vec.saves 0 (omega arith) in
-          let like0 : S0 ≡ like (saved 0 S0) S0 = refl in
-          let onn = saves_on input 0 S0 S0 (omega arith) like0 in
-          let T0 = perform (row input S0.pc (saving_ins 0)) S0 in
-          let T_is : perform (execute image input) S0 ≡ T0 = performs image input S0 (saving_ins 0) dec in
+          let entered_is : pushed S.pc (record S { pc = 4; intcon = clear_bit 7 S.intcon }) ≡ entered_state = enter_done S st.ranged.stack in
+          let pc4 : entered_state.pc ≡ 4 = refl in
+          let dec : row_of (slice_index image entered_state.pc) ≡ Some (saving_ins 0) = vec.saves 0 (omega arith) in
+          let like0 : entered_state ≡ like (saved 0 entered_state) entered_state = refl in
+          let onn = saves_on input 0 entered_state entered_state (omega arith) like0 in
+          let saved_state = perform (row input entered_state.pc (saving_ins 0)) entered_state in
+          let perform_is : perform (execute image input) entered_state ≡ saved_state = performs image input entered_state (saving_ins 0) dec in
           let words' = main_words g h image hd x.vector st.thread in
           let lw = words_length g h image input hd x st.thread.stack [] in
           let gd = st.good.deep in let dp = x.depth has in
           let small' = spot_below st.there in
           let pcs : S.pc ≡ spot g h st.thread.at % 8192 = a.at.pc ∙ (let q = small' in omega arith) in
-          let stack' : IsOn S0.stack 0 words' = subst (λ (z : State). IsOn z.stack 0 words') S_is (pcs, (on_push S.pc S.stack (words g h st.thread.stack []) (omega arith) a.at.stack).1) in
-          let depth' : S0.pushes ≡ S0.pops + length words' = subst (λ (z : State). z.pushes ≡ z.pops + length words') S_is (let q = a.at.depth in omega arith) in
-          let sees' : Sees S0 lowr = subst (λ (z : State). Sees z lowr) S_is (record { w = a.at.sees.w; z = a.at.sees.z; dc = a.at.sees.dc; c = a.at.sees.c; fsr = a.at.sees.fsr; bank = a.at.sees.bank; page = a.at.sees.page; banks = a.at.sees.banks; pages = a.at.sees.pages }) in
-          let ranged' : IsRanged S0 = entered_ranged input x.small S st.ranged in
-          let entered' : IsEntered g h image hd x.vector t2 st.thread S0 = record {
+          let stack' : IsOn entered_state.stack 0 words' = subst (λ (z : State). IsOn z.stack 0 words') entered_is (pcs, (on_push S.pc S.stack (words g h st.thread.stack []) (omega arith) a.at.stack).1) in
+          let depth' : entered_state.pushes ≡ entered_state.pops + length words' = subst (λ (z : State). z.pushes ≡ z.pops + length words') entered_is (let q = a.at.depth in omega arith) in
+          let sees' : Sees entered_state lowr = subst (λ (z : State). Sees z lowr) entered_is (record { w = a.at.sees.w; z = a.at.sees.z; dc = a.at.sees.dc; c = a.at.sees.c; fsr = a.at.sees.fsr; bank = a.at.sees.bank; page = a.at.sees.page; banks = a.at.sees.banks; pages = a.at.sees.pages }) in
+          let ranged' : IsRanged entered_state = entered_ranged input x.small S st.ranged in
+          let entered' : IsEntered g h image hd x.vector t2 st.thread entered_state = record {
             inside = refl;
             gie = entered_disabled t.world.control;
             isr = ap (at_front g.program hd) isr_is;
@@ -609,11 +609,11 @@ module _ (g : Setting) (h : Ground) (image input : List ℕ) (hd : ℕ) (x : IsI
           ∙ ap (λ z. Goes (record t2 { world = record t2.world { control = z } })) (sym (raised_entered more t.world.control)) in
           let keeps : (p q : ℕ) → raised_by p (raised_by q t.world.control) ≡ raised_by q t.world.control → raised_by p (raised_by q (control.entered t.world.control)) ≡ raised_by q (control.entered t.world.control) = λ p q f.
           ap (raised_by p) (raised_entered q t.world.control) ∙ raised_entered p (raised_by q t.world.control) ∙ ap control.entered f ∙ sym (raised_entered q t.world.control) in
-          let T_pc : (perform (execute image input) S0).pc ≡ 4 + 1 = ap (λ (z : State). z.pc) T_is ∙ ap (λ (z : State). z.pc) onn in
-          let there : observed watch dt ≡ dt = elsewhere watch dt st.met (ne_eqb (perform (execute image input) S0).pc watch.halt (λ q. vec.clear 1 (omega arith) (sym T_pc ∙ q ∙ halt_is))) in
+          let pc_behind : (perform (execute image input) entered_state).pc ≡ 4 + 1 = ap (λ (z : State). z.pc) perform_is ∙ ap (λ (z : State). z.pc) onn in
+          let there : observed watch dt ≡ dt = elsewhere watch dt st.met (ne_eqb (perform (execute image input) entered_state).pc watch.halt (λ q. vec.clear 1 (omega arith) (sym pc_behind ∙ q ∙ halt_is))) in
           record {
             modelled = ap is_modelled dec;
-            keeps = λ b q. ap (λ (z : Moment). slice_index z.state.ram b) there ∙ ap (λ (z : State). slice_index z.ram b) T_is ∙ ap (λ (z : State). slice_index z.ram b) onn ∙ saved_keeps 0 S0 (omega arith) b q;
+            keeps = λ b q. ap (λ (z : Moment). slice_index z.state.ram b) there ∙ ap (λ (z : State). slice_index z.ram b) perform_is ∙ ap (λ (z : State). slice_index z.ram b) onn ∙ saved_keeps 0 entered_state (omega arith) b q;
             ground = h;
             image_then = x;
             halt_then = halt_is;
@@ -639,18 +639,18 @@ module _ (g : Setting) (h : Ground) (image input : List ℕ) (hd : ℕ) (x : IsI
               main_good = st.main_good;
               good = st.good;
               rest = st.rest;
-              bytes = subst (λ (q : State). Same g h image input hd x q.ram st.memory) (sym T_is) (subst (λ (m : List ℕ). Same g h image input hd x m st.memory) (sym (ap (λ (z : State). z.ram) onn)) (saved_bytes 0 S0 (omega arith) st.bytes));
+              bytes = subst (λ (q : State). Same g h image input hd x q.ram st.memory) (sym perform_is) (subst (λ (m : List ℕ). Same g h image input hd x m st.memory) (sym (ap (λ (z : State). z.ram) onn)) (saved_bytes 0 entered_state (omega arith) st.bytes));
               shows = record {
-                control = ap control_of T_is ∙ saves_control input 0 S0 S0 (omega arith) like0 ∙ control_entered S ∙ ap control.entered st.shows.control;
-                taken = ap (λ (q : State). q.taken) T_is ∙ ap (λ (z : State). z.taken) onn ∙ st.shows.taken;
-                trace = ap (λ z. c.trace ++ events_of ranges z) (accesses_are image input S0 (saving_ins 0) dec) ∙ ap (λ z. c.trace ++ z) (saving_silent input x.reaches g.program.layout x.laid 0 S0.pc S0 (omega arith)) ∙ append-nil c.trace ∙ st.shows.trace;
+                control = ap control_of perform_is ∙ saves_control input 0 entered_state entered_state (omega arith) like0 ∙ control_entered S ∙ ap control.entered st.shows.control;
+                taken = ap (λ (q : State). q.taken) perform_is ∙ ap (λ (z : State). z.taken) onn ∙ st.shows.taken;
+                trace = ap (λ z. c.trace ++ events_of ranges z) (accesses_are image input entered_state (saving_ins 0) dec) ∙ ap (λ z. c.trace ++ z) (saving_silent input x.reaches g.program.layout x.laid 0 entered_state.pc entered_state (omega arith)) ∙ append-nil c.trace ∙ st.shows.trace;
                 handling = ap (λ z. true && not (is_return_from_interrupt z)) dec;
               };
               there = st.there;
               met = st.met;
               going = st.going;
-              ranged = executed_ranged input x.small S0 ranged' image;
-              mode = subst (λ (q : State). Mode g h image hd x.vector t2 st.thread q 1) (sym T_is) (Saving has 1 S0 (omega arith) (omega arith) refl entered' onn);
+              ranged = executed_ranged input x.small entered_state ranged' image;
+              mode = subst (λ (q : State). Mode g h image hd x.vector t2 st.thread q 1) (sym perform_is) (Saving has 1 entered_state (omega arith) (omega arith) refl entered' onn);
             });
           } where
             spot_below : IsThere g h image hd x.vector st.thread c.ended → spot g h st.thread.at < 8192

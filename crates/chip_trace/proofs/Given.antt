@@ -62,8 +62,8 @@ module _ (g : Setting) (h : Ground) (c : chip.Setting) (hd : ℕ) (x : IsImage g
   abbrev pub M : Memory
   M = memory_at g h c hd x halt_is ranges_is start only main_is first started
 
-  abbrev pub T0 : Machine
-  T0 = t0 g h c hd x halt_is ranges_is start only main_is first started
+  abbrev pub first_machine : Machine
+  first_machine = t0 g h c hd x halt_is ranges_is start only main_is first started
 
   abbrev pub S : ℕ → Schedule
   S = P g h c hd x halt_is ranges_is start only main_is first started
@@ -77,18 +77,18 @@ module _ (g : Setting) (h : Ground) (c : chip.Setting) (hd : ℕ) (x : IsImage g
 
     -- ---- the trace and the bytes
     -- where the early run stands at a machine whose trace and bytes the chip has
-    pub met_by : (at' least : ℕ) (u : Machine) → settled (over c.inputs (S (suc N))) (sym_run g E (over c.inputs (S (suc N))) at' T0) ≡ u → least ≤ at' → (moment c N).trace ≡ map event_of u.world.trace
+    pub met_by : (at' least : ℕ) (u : Machine) → settled (over c.inputs (S (suc N))) (sym_run g E (over c.inputs (S (suc N))) at' first_machine) ≡ u → least ≤ at' → (moment c N).trace ≡ map event_of u.world.trace
         → ((k : ℕ) (cell : Cell) → (moment c N).met ≡ true → owner g.program.layout k ≡ Watched cell → slice_index (moment c N).state.ram k ≡ u.memory k) → IsMet g c E R M N least
     met_by at' least u is le tr by =
         let o = sym (outside_is g h c hd x halt_is ranges_is start only main_is first started N N) in
-        let run = sym_run g E (over c.inputs (S (suc N))) at' T0 in
+        let run = sym_run g E (over c.inputs (S (suc N))) at' first_machine in
         let same_trace : run.world.trace ≡ u.world.trace = ap (λ (z : Machine). z.world.trace) (sym (settled_is c.inputs (S (suc N)) run) ∙ is) in
         let same_memory : run.memory ≡ u.memory = ap (λ (z : Machine). z.memory) is in
         record {
           at = at';
           behind = le;
-          trace = tr ∙ ap (map event_of) (sym same_trace) ∙ ap (λ z. map event_of (sym_run g E z at' T0).world.trace) o;
-          bytes = λ k cell m w. by k cell m w ∙ ap (λ (z : Memory). z k) (sym same_memory) ∙ ap (λ z. (sym_run g E z at' T0).memory k) o;
+          trace = tr ∙ ap (map event_of) (sym same_trace) ∙ ap (λ z. map event_of (sym_run g E z at' first_machine).world.trace) o;
+          bytes = λ k cell m w. by k cell m w ∙ ap (λ (z : Memory). z k) (sym same_memory) ∙ ap (λ z. (sym_run g E z at' first_machine).memory k) o;
         }
 
     early_bytes : (from to debt : ℕ) (kn : At from to N debt) (k : ℕ) (cell : Cell) → owner g.program.layout k ≡ Watched cell → slice_index (moment c N).state.ram k ≡ kn.stands.early.memory k

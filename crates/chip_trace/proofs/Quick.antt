@@ -38,7 +38,7 @@ use Rattle.sym_code.specs.Cost.{Prices}
 use Rattle.sym_code.specs.Machine.{Still, gone}
 use Rattle.chip_trace.proofs.Past.{watched_somebody}
 use Rattle.chip_trace.proofs.Whole.{e, outside_is, one_on}
-use Rattle.chip_trace.proofs.Given.{A, E, R, M, T0, S, At, stands, met_by, met_at_index}
+use Rattle.chip_trace.proofs.Given.{A, E, R, M, first_machine, S, At, stands, met_by, met_at_index}
 
 -- ---- costs rise
 pub cost_rises : (g : Setting) (p : Prices) (e : Entry) (o : Outside) (t : Machine) (i d n : ℕ) → n ≡ d + i → cost_by g p e o i t ≤ cost_by g p e o n t
@@ -78,8 +78,8 @@ module _ (g : Setting) (h : Ground) (c : chip.Setting) (hd : ℕ) (x : IsImage g
   abbrev mm : Memory
   mm = M g h c hd x halt_is ranges_is start only main_is first started N
 
-  abbrev tt0 : Machine
-  tt0 = T0 g h c hd x halt_is ranges_is start only main_is first started N
+  abbrev start_machine : Machine
+  start_machine = first_machine g h c hd x halt_is ranges_is start only main_is first started N
 
   abbrev ss : ℕ → Schedule
   ss = S g h c hd x halt_is ranges_is start only main_is first started N
@@ -183,31 +183,31 @@ module _ (g : Setting) (h : Ground) (c : chip.Setting) (hd : ℕ) (x : IsImage g
 
     -- ---- the first moment of the early run with that trace
     abbrev most : ℕ → ℕ
-    most k = cost_by g dear_prices ee O k tt0
+    most k = cost_by g dear_prices ee O k start_machine
 
-    x_is : (settled O (sym_run g ee O X.stands.index tt0) ≡ raised (far (suc N - t) t (suc N) (omega arith)).0 X.stands.early) × (most X.stands.index ≡ X.stands.hi)
+    x_is : (settled O (sym_run g ee O X.stands.index start_machine) ≡ raised (far (suc N - t) t (suc N) (omega arith)).0 X.stands.early) × (most X.stands.index ≡ X.stands.hi)
     x_is =
         let f = far (suc N - t) t (suc N) (omega arith) in
         let l = same_length (tr t) X.stands.early.world.trace X.stands.shows.trace in
         let y = X.stands.comes (ss (suc N)) f.0 (subst (λ z. Extends (ss t) z f.0 (ss (suc N))) l f.1) in (y.0, y.2)
 
-    x_long : length (sym_run g ee O X.stands.index tt0).world.trace ≡ length (tr t)
+    x_long : length (sym_run g ee O X.stands.index start_machine).world.trace ≡ length (tr t)
     x_long =
         let l = same_length (tr t) X.stands.early.world.trace X.stands.shows.trace in
-        ap (λ (z : Machine). length z.world.trace) (sym (settled_is c.inputs (ss (suc N)) (sym_run g ee O X.stands.index tt0)) ∙ x_is.0) ∙ sym l
+        ap (λ (z : Machine). length z.world.trace) (sym (settled_is c.inputs (ss (suc N)) (sym_run g ee O X.stands.index start_machine)) ∙ x_is.0) ∙ sym l
 
-    module _ (i j : ℕ) (shorter : (k : ℕ) → k < i → length (sym_run g ee O k tt0).world.trace < length (tr t)) (rich : most j + slack ≤ most i + (N - t)) where
+    module _ (i j : ℕ) (shorter : (k : ℕ) → k < i → length (sym_run g ee O k start_machine).world.trace < length (tr t)) (rich : most j + slack ≤ most i + (N - t)) where
       before_x : most i ≤ X.stands.hi
       before_x =
           ⊎_elim
           (λ lt. let a = shorter X.stands.index lt in let b = x_long in absurd (omega arith))
-          (λ ge. let r = cost_rises g dear_prices ee O tt0 i (X.stands.index - i) X.stands.index (omega arith) in let q = x_is.1 in omega arith)
+          (λ ge. let r = cost_rises g dear_prices ee O start_machine i (X.stands.index - i) X.stands.index (omega arith) in let q = x_is.1 in omega arith)
           (cases_lt X.stands.index i)
 
       -- what is behind a moment costs too much
       behind_it : (k : ℕ) → X.stands.hi + (N - t) ≤ most k + 109 → j ≤ k
       behind_it k le' =
-          ⊎_elim (λ lt. let r = cost_rises g dear_prices ee O tt0 k (j - k) j (omega arith) in let b = before_x in absurd (omega arith)) (λ ge. ge) (cases_lt k j)
+          ⊎_elim (λ lt. let r = cost_rises g dear_prices ee O start_machine k (j - k) j (omega arith) in let b = before_x in absurd (omega arith)) (λ ge. ge) (cases_lt k j)
 
       -- where moment t is the last one
       at_once : N ≡ t → IsMet g c ee rr mm N j
@@ -217,12 +217,12 @@ module _ (g : Setting) (h : Ground) (c : chip.Setting) (hd : ℕ) (x : IsImage g
           let st = y.1.stands in
           let l = same_length (tr N) st.early.world.trace st.shows.trace in
           let a = st.comes (ss (suc N)) (arriving c.arrivals N) (subst (λ z. Extends (ss N) z (arriving c.arrivals N) (ss (suc N))) l (schedule_goes_on tr c.arrivals N)) in
-          let long : length (sym_run g ee O st.index tt0).world.trace ≡ length (tr N) = ap (λ (z : Machine). length z.world.trace) (sym (settled_is c.inputs (ss (suc N)) (sym_run g ee O st.index tt0)) ∙ a.0) ∙ sym l in
+          let long : length (sym_run g ee O st.index start_machine).world.trace ≡ length (tr N) = ap (λ (z : Machine). length z.world.trace) (sym (settled_is c.inputs (ss (suc N)) (sym_run g ee O st.index start_machine)) ∙ a.0) ∙ sym l in
           let same : length (tr N) ≡ length (tr t) = ap (λ z. length (tr z)) e' in
           met_at_index g h c hd x halt_is ranges_is start only main_is first started N running 100 a0 y.0 j y.1
           (⊎_elim
           (λ lt. let q = shorter st.index lt in absurd (omega arith))
-          (λ ge. ⊎_elim (λ lt. omega arith) (λ ge2. let r = cost_rises g dear_prices ee O tt0 i (j - i) j (omega arith) in absurd (omega arith)) (cases_lt j i))
+          (λ ge. ⊎_elim (λ lt. omega arith) (λ ge2. let r = cost_rises g dear_prices ee O start_machine i (j - i) j (omega arith) in absurd (omega arith)) (cases_lt j i))
           (cases_lt st.index i))
 
       module _ (d : ℕ) (later : N ≡ suc d + t) where
@@ -267,8 +267,8 @@ module _ (g : Setting) (h : Ground) (c : chip.Setting) (hd : ℕ) (x : IsImage g
               let z = none_arrives N (omega arith) (omega arith) in
               subst (λ m. Extends (ss N) (length Y.stands.early.world.trace) m (ss (suc N))) z (subst (λ z. Extends (ss N) z (arriving c.arrivals N) (ss (suc N))) y_long (schedule_goes_on tr c.arrivals N))
 
-          there : (settled O (sym_run g ee O k0 tt0) ≡ u0) × (cost_by g least_prices ee O k0 tt0 ≡ Y.stands.lo + Y.stands.ahead) × (most k0 ≡ Y.stands.hi + Y.stands.ahead)
-          there = comes_main g ee c.inputs tt0 least_prices dear_prices (λ p. refl) (λ p. refl) (ss N) (ss (suc N)) Y.stands.index Y.stands.ahead Y.stands.early Y.stands.lo Y.stands.hi Y.stands.thread Y.stands.memory out off Y.stands.comes same_schedule Y.stands.acts
+          there : (settled O (sym_run g ee O k0 start_machine) ≡ u0) × (cost_by g least_prices ee O k0 start_machine ≡ Y.stands.lo + Y.stands.ahead) × (most k0 ≡ Y.stands.hi + Y.stands.ahead)
+          there = comes_main g ee c.inputs start_machine least_prices dear_prices (λ p. refl) (λ p. refl) (ss N) (ss (suc N)) Y.stands.index Y.stands.ahead Y.stands.early Y.stands.lo Y.stands.hi Y.stands.thread Y.stands.memory out off Y.stands.comes same_schedule Y.stands.acts
 
           bytes_there : (k : ℕ) (cell : Cell) → (moment c N).met ≡ true → owner g.program.layout k ≡ Watched cell → slice_index (moment c N).state.ram k ≡ Y.stands.memory k
           bytes_there k cell m w = Y.stands.bytes k (watched_somebody cell (owner g.program.layout k) w)
@@ -283,21 +283,21 @@ module _ (g : Setting) (h : Ground) (c : chip.Setting) (hd : ℕ) (x : IsImage g
               met_there (behind_it k0 (omega arith))
 
           -- main has ended, and stays
-          stays : sym_step_at g ee O u0 ≡ Still → (b : ℕ) → sym_run g ee O (b + k0) tt0 ≡ sym_run g ee O k0 tt0
+          stays : sym_step_at g ee O u0 ≡ Still → (b : ℕ) → sym_run g ee O (b + k0) start_machine ≡ sym_run g ee O k0 start_machine
           unfolding sym_run sym_step
-          stays still zero = let z : zero + k0 ≡ k0 = omega arith in ap (λ k. sym_run g ee O k tt0) z
+          stays still zero = let z : zero + k0 ≡ k0 = omega arith in ap (λ k. sym_run g ee O k start_machine) z
           stays still (suc b) =
               let z : suc b + k0 ≡ suc (b + k0) = omega arith in
-              let r = sym_run g ee O k0 tt0 in
-              ap (λ k. sym_run g ee O k tt0) z ∙ ap (λ v. gone v (sym_step g ee O v)) (stays still b) ∙ ap (λ v. gone r (sym_step_at g ee O v)) there.0 ∙ ap (gone r) still
+              let r = sym_run g ee O k0 start_machine in
+              ap (λ k. sym_run g ee O k start_machine) z ∙ ap (λ v. gone v (sym_step g ee O v)) (stays still b) ∙ ap (λ v. gone r (sym_step_at g ee O v)) there.0 ∙ ap (gone r) still
 
           by_rest : effect g false Y.stands.thread Y.stands.memory ≡ Rests → IsMet g c ee rr mm N j
           by_rest rest =
               ⊎_elim
               (λ lt.
-              let still : sym_step_at g ee O u0 ≡ Still = off_steps g ee c.inputs tt0 O u0 off ∙ main_rests g ee c.inputs tt0 O u0 out rest in
+              let still : sym_step_at g ee O u0 ≡ Still = off_steps g ee c.inputs start_machine O u0 off ∙ main_rests g ee c.inputs start_machine O u0 out rest in
               let z : (j - k0) + k0 ≡ j = omega arith in
-              let same : sym_run g ee O j tt0 ≡ sym_run g ee O k0 tt0 = ap (λ k. sym_run g ee O k tt0) (sym z) ∙ stays still (j - k0) in
+              let same : sym_run g ee O j start_machine ≡ sym_run g ee O k0 start_machine = ap (λ k. sym_run g ee O k start_machine) (sym z) ∙ stays still (j - k0) in
               met_by g h c hd x halt_is ranges_is start only main_is first started N running j j u0 (ap (settled O) same ∙ there.0) (omega arith) Y.stands.shows.trace bytes_there)
               (λ ge. met_there ge)
               (cases_lt k0 j)
@@ -318,5 +318,5 @@ module _ (g : Setting) (h : Ground) (c : chip.Setting) (hd : ℕ) (x : IsImage g
     pub pace : (i j : ℕ) → ComesTo (early g c ee rr mm N) (length (moment c t).trace) i → (early g c ee rr mm N).most j + slack ≤ (early g c ee rr mm N).most i + (N - t) → IsMet g c ee rr mm N j
     pace i j comes rich =
         let o = outside_is g h c hd x halt_is ranges_is start only main_is first started N N in
-        paced i j (λ k lt. subst (λ z. length (sym_run g ee z k tt0).world.trace < length (tr t)) o (comes.before k lt))
-        (subst (λ z. cost_by g dear_prices ee z j tt0 + slack ≤ cost_by g dear_prices ee z i tt0 + (N - t)) o rich)
+        paced i j (λ k lt. subst (λ z. length (sym_run g ee z k start_machine).world.trace < length (tr t)) o (comes.before k lt))
+        (subst (λ z. cost_by g dear_prices ee z j start_machine + slack ≤ cost_by g dear_prices ee z i start_machine + (N - t)) o rich)

@@ -1,8 +1,9 @@
 //! How values are read and written, byte by byte: each byte is a step. The node that a value belongs to waits below,
 //! until all bytes are done.
 
-ghost use Rattle.std.specs.Prelude.{◌≡◌, ◌<◌, ◌^◌, ◌+◌, ◌-◌, true, ℕ, List, drop, length, Option, Some, None, map};
+ghost use Rattle.std.specs.Prelude.{◌≡◌, ◌≤◌, ◌<◌, ◌^◌, ◌+◌, ◌-◌, true, ℕ, List, drop, Option, Some, None, map};
 ghost use Rattle.c_typed.specs.Trees.{Program};
+ghost use Rattle.c_typed.specs.Types.{type_bytes};
 ghost use Rattle.c_typed.specs.Views.{program_of, item_of, expression_of, statement_of};
 ghost use Rattle.pic_map.specs.MapContent.{MapContent};
 ghost use Rattle.pic_world.specs.World.{World as Worlds, Outside};
@@ -213,7 +214,7 @@ impl<'a> Machine<'a> {
     }
 
     pub(crate) fn fetch(&mut self, spot: Spot, read: ReadBytes, script: &Script) -> Outcome
-        ensures { (s : Setting) (map : MapContent) (w : Worlds Bytes) → IsAt s map self.old w → IsGoing self.old → s.outside ≡ outside_by script.now → IsKnown s.program (byte_met spot (memory_of self.old)) → has_next spot → length (read_of read) < 4 → Tells s.outside (address_of s.program map) result self.new (rules.fetch s spot (read_of read) (stack_of self.old) self.old.copy (memory_of self.old) w) }
+        ensures { (s : Setting) (map : MapContent) (w : Worlds Bytes) → IsAt s map self.old w → IsGoing self.old → s.outside ≡ outside_by script.now → IsKnown s.program (byte_met spot (memory_of self.old)) → has_next spot → type_bytes s.program.sizes (stated_type (stack_of self.old)) ≤ 4 → Tells s.outside (address_of s.program map) result self.new (rules.fetch s spot (read_of read) (stack_of self.old) self.old.copy (memory_of self.old) w) }
     {
         let ty = self.read_ty();
         if self.program.bytes_of(ty) <= read.count() as u64 {

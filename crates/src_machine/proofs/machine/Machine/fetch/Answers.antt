@@ -32,7 +32,7 @@ returns-in-Ok c = λ s map w here going outside known next few.
     (fetch_on s c.args.spot (read_of c.args.read) c.read_ty-ty.result (focus_in c.args.self.now.focus) (stack_of c.args.self.now) c.args.self.now.copy (memory_of c.args.self.now) w c.read_ty-ty.ensures
     (subst (λ p. length (read_of c.args.read) < type_bytes p.sizes c.read_ty-ty.result) (sym here.program) (omega (arith, c.if-bytes_of-count.false, c.bytes_of.ensures, c.count.ensures))) going)
     (took_from s.outside (address_of s.program map) _ c.take_byte.result c.in-Ok.taken _ _ c.after.result c.args.self.now c.take_byte.new.self c.after.new.self _ c.in-Ok.is (c.take_byte.ensures.access s map w here outside known) c.after.ensures.outcome c.take_byte.ensures.others c.after.ensures.others
-    (ap (λ x. control.Fetch x (read_of c.and-read.result)) (c.next_byte-spot.ensures next) ∙ ap (λ x. control.Fetch (next_byte c.args.spot) x) (c.and-read.ensures few)))
+    (ap (λ x. control.Fetch x (read_of c.and-read.result)) (c.next_byte-spot.ensures next) ∙ ap (λ x. control.Fetch (next_byte c.args.spot) x) (c.and-read.ensures (let four = subst (λ ty. type_bytes s.program.sizes ty ≤ 4) (sym c.read_ty-ty.ensures) few in let less = subst (λ p. length (read_of c.args.read) < type_bytes p.sizes c.read_ty-ty.result) (sym here.program) (omega (arith, c.if-bytes_of-count.false, c.bytes_of.ensures, c.count.ensures)) in omega (arith, four, less)))))
 
 pub returns-in-Err : goal.returns-in-Err
 returns-in-Err c = λ s map w here going outside known next few.
