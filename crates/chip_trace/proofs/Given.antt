@@ -8,6 +8,7 @@ use Rattle.pic_chip.specs.State.{State}
 use Rattle.pic_world.specs.World.{Schedule, event_of}
 use Rattle.pic_world.specs.Arrivals.{arriving}
 use Rattle.core_code.specs.Bytes.{Held}
+use Rattle.sym_code.specs.Cost.{least_prices, cost_by}
 use Rattle.sym_code.specs.Effect.{Setting, Thread, Memory}
 use Rattle.sym_code.specs.Layout.{owner, Watched}
 use Rattle.sym_code.specs.Machine.{Machine, Entry, settled, sym_run}
@@ -77,9 +78,10 @@ module _ (g : Setting) (h : Ground) (c : chip.Setting) (hd : ℕ) (x : IsImage g
 
     -- ---- the trace and the bytes
     -- where the early run stands at a machine whose trace and bytes the chip has
-    pub met_by : (at' least : ℕ) (u : Machine) → settled (over c.inputs (S (suc N))) (sym_run g E (over c.inputs (S (suc N))) at' first_machine) ≡ u → least ≤ at' → (moment c N).trace ≡ map event_of u.world.trace
-        → ((k : ℕ) (cell : Cell) → (moment c N).met ≡ true → owner g.program.layout k ≡ Watched cell → slice_index (moment c N).state.ram k ≡ u.memory k) → IsMet g c E R M N least
-    met_by at' least u is le tr by =
+    pub met_by : (at' from' : ℕ) (u : Machine) → settled (over c.inputs (S (suc N))) (sym_run g E (over c.inputs (S (suc N))) at' first_machine) ≡ u
+        → cost_by g least_prices E (over c.inputs (S (suc N))) at' first_machine ≤ N → from' ≤ at' → (moment c N).trace ≡ map event_of u.world.trace
+        → ((k : ℕ) (cell : Cell) → (moment c N).met ≡ true → owner g.program.layout k ≡ Watched cell → slice_index (moment c N).state.ram k ≡ u.memory k) → IsMet g c E R M N from'
+    met_by at' from' u is cheap le tr by =
         let o = sym (outside_is g h c hd x halt_is ranges_is start only main_is first started N N) in
         let run = sym_run g E (over c.inputs (S (suc N))) at' first_machine in
         let same_trace : run.world.trace ≡ u.world.trace = ap (λ (z : Machine). z.world.trace) (sym (settled_is c.inputs (S (suc N)) run) ∙ is) in
@@ -87,6 +89,7 @@ module _ (g : Setting) (h : Ground) (c : chip.Setting) (hd : ℕ) (x : IsImage g
         record {
           at = at';
           behind = le;
+          soon = subst (λ z. cost_by g least_prices E z at' first_machine ≤ N) o cheap;
           trace = tr ∙ ap (map event_of) (sym same_trace) ∙ ap (λ z. map event_of (sym_run g E z at' first_machine).world.trace) o;
           bytes = λ k cell m w. by k cell m w ∙ ap (λ (z : Memory). z k) (sym same_memory) ∙ ap (λ z. (sym_run g E z at' first_machine).memory k) o;
         }
@@ -97,18 +100,21 @@ module _ (g : Setting) (h : Ground) (c : chip.Setting) (hd : ℕ) (x : IsImage g
         ∙ ahead_outside g x.outside kn.stands.ahead kn.stands.early.main kn.stands.early.memory kn.stands.thread kn.stands.memory k kn.stands.main_good (ap (writes_silently false) w) kn.stands.acts
 
     -- the chip's own moment of the early run
-    pub met_at_index : (from to debt least : ℕ) (kn : At from to N debt) → least ≤ kn.stands.index → IsMet g c E R M N least
-    met_at_index from to debt least kn le =
+    pub met_at_index : (from to debt from' : ℕ) (kn : At from to N debt) → from' ≤ kn.stands.index → IsMet g c E R M N from'
+    met_at_index from to debt from' kn le =
         let l = same_length (moment c N).trace kn.stands.early.world.trace kn.stands.shows.trace in
         let more = arriving c.arrivals N in
         let a = kn.stands.comes (S (suc N)) more (subst (λ z. Extends (S N) z more (S (suc N))) l (schedule_goes_on (traces g h c hd x halt_is ranges_is start only main_is first started) c.arrivals N)) in
-        met_by kn.stands.index least (raised more kn.stands.early) a.0 le kn.stands.shows.trace (λ k cell m w. early_bytes from to debt kn k cell w)
+        let costs = a.1 in
+        let low = kn.stands.cheap in
+        met_by kn.stands.index from' (raised more kn.stands.early) a.0 (omega arith) le kn.stands.shows.trace (λ k cell m w. early_bytes from to debt kn k cell w)
 
     at_first : N < A → IsMet g c E R M N 0
-    unfolding sym_run
+    unfolding sym_run cost_by
     at_first lt = record {
       at = 0;
       behind = omega arith;
+      soon = omega arith;
       trace = (early_moments c N (λ k lk. started.first_met k (omega arith))).trace;
       bytes = λ k cell m w. let f = sym m ∙ started.first_met N lt in absurd (cc);
     }

@@ -1,5 +1,5 @@
 -- Where no flag arrives any more, the chip takes no more instructions for a stretch than the early run, and a few.
-use Rattle.std.proofs.Common.{◌≡◌, ℕ, zero, suc, ◌+◌, ◌-◌, ◌<◌, ◌≤◌, ◌⊎◌, inl, inr, Bool, true, false, List, ◌++◌, length, Some, refl, sym, ap, ◌∙◌, subst, ⊎_elim, arith, length-append}
+use Rattle.std.proofs.Common.{◌≡◌, ℕ, zero, suc, ◌+◌, ◌-◌, ◌<◌, ◌≤◌, ◌⊎◌, inl, inr, Bool, true, false, List, ◌++◌, length, Some, None, refl, sym, ap, ◌∙◌, subst, ⊎_elim, arith, length-append}
 use Rattle.std.specs.Prelude.{if◌then◌else◌, slice_index, bit_or}
 use Rattle.std.proofs.lemmas.Bool.{cases_lt}
 use Rattle.pic_chip.specs.Run as chip
@@ -11,8 +11,8 @@ use Rattle.pic_world.specs.World.{Schedule, Outside}
 use Rattle.pic_world.specs.Arrivals.{arriving}
 use Rattle.pic_world.specs.declared.Event.{Event}
 use Rattle.core_code.specs.Bytes.{Held}
-use Rattle.sym_code.specs.Cost.{least_prices, cost_by}
-use Rattle.sym_code.specs.Effect.{Setting, Thread, Memory, Rests, effect}
+use Rattle.sym_code.specs.Cost.{least_prices, cost_by, step_cost, step_cost_at, thread_cost, instruction_cost}
+use Rattle.sym_code.specs.Effect.{Setting, Thread, Memory, Effect, Rests, effect}
 use Rattle.sym_code.specs.Layout.{owner, Watched}
 use Rattle.sym_code.specs.Machine.{Machine, Entry, settled, sym_step, sym_step_at, sym_run}
 use Rattle.sym_code.specs.Programs.{front}
@@ -22,7 +22,8 @@ use Rattle.chip_trace.specs.Arriving.{slack, IsQuiet, ComesTo, IsMet, IsRunning,
 use Rattle.chip_trace.proofs.Image.{IsImage, same_length, observed_long}
 use Rattle.chip_trace.proofs.MainStep.{dear_prices}
 use Rattle.chip_trace.proofs.Relations.{Ground}
-use Rattle.chip_trace.proofs.Runs.{over, raised, raised_none, Extends, exactly, settled_is, off_steps, main_rests, comes_main}
+use Rattle.chip_trace.proofs.Runs.{over, raised, raised_none, Extends, exactly, settled_is, off_steps, main_rests, main_cost, comes_main}
+use Rattle.chip_trace.proofs.Sound.{IsSound, sound}
 use Rattle.chip_trace.proofs.Schedules.{nothing_arrives, goes_on as schedule_goes_on}
 use Rattle.chip_trace.proofs.Stands.{Mode, InMain, Saving, Selecting, InHandler, Leaving, IsSince}
 use Rattle.pic_world.specs.declared.Cell.{Cell}
@@ -273,8 +274,11 @@ module _ (g : Setting) (h : Ground) (c : chip.Setting) (hd : ℕ) (x : IsImage g
           bytes_there : (k : ℕ) (cell : Cell) → (moment c N).met ≡ true → owner g.program.layout k ≡ Watched cell → slice_index (moment c N).state.ram k ≡ Y.stands.memory k
           bytes_there k cell m w = Y.stands.bytes k (watched_somebody cell (owner g.program.layout k) w)
 
+          cheap_there : cost_by g least_prices ee O k0 start_machine ≤ N
+          cheap_there = let costs = there.1 in let low = Y.stands.cheap in omega arith
+
           met_there : j ≤ k0 → IsMet g c ee rr mm N j
-          met_there jl = met_by g h c hd x halt_is ranges_is start only main_is first started N running k0 j u0 there.0 jl Y.stands.shows.trace bytes_there
+          met_there jl = met_by g h c hd x halt_is ranges_is start only main_is first started N running k0 j u0 there.0 cheap_there jl Y.stands.shows.trace bytes_there
 
           by_ahead : Y.stands.idle ≤ debt' → IsMet g c ee rr mm N j
           by_ahead le' =
@@ -291,6 +295,27 @@ module _ (g : Setting) (h : Ground) (c : chip.Setting) (hd : ℕ) (x : IsImage g
               let r = sym_run g ee O k0 start_machine in
               ap (λ k. sym_run g ee O k start_machine) z ∙ ap (λ v. gone v (sym_step g ee O v)) (stays still b) ∙ ap (λ v. gone r (sym_step_at g ee O v)) there.0 ∙ ap (gone r) still
 
+          -- .. and costs nothing
+          at_none : effect g false Y.stands.thread Y.stands.memory ≡ Rests → Y.stands.thread.at ≡ None
+          at_none rest = (subst (λ (z : Effect). IsSound g false Y.stands.thread z) rest (sound g false Y.image_then.outside Y.stands.thread Y.stands.memory Y.stands.good)).1
+
+          free : effect g false Y.stands.thread Y.stands.memory ≡ Rests → step_cost_at g least_prices u0 ≡ 0
+          free rest =
+              main_cost g ee c.inputs start_machine least_prices u0 out off
+              ∙ ap (thread_cost g least_prices false Y.stands.thread Y.stands.memory) Y.stands.rest
+              ∙ ap (λ q. instruction_cost least_prices q (effect g false Y.stands.thread Y.stands.memory)) (at_none rest)
+
+          stays_free : effect g false Y.stands.thread Y.stands.memory ≡ Rests → sym_step_at g ee O u0 ≡ Still → (b : ℕ)
+              → cost_by g least_prices ee O (b + k0) start_machine ≡ cost_by g least_prices ee O k0 start_machine
+          unfolding cost_by step_cost
+          stays_free rest still zero = let z : zero + k0 ≡ k0 = omega arith in ap (λ k. cost_by g least_prices ee O k start_machine) z
+          stays_free rest still (suc b) =
+              let z : suc b + k0 ≡ suc (b + k0) = omega arith in
+              let before = cost_by g least_prices ee O (b + k0) start_machine in
+              let nothing : before + 0 ≡ before = omega arith in
+              ap (λ k. cost_by g least_prices ee O k start_machine) z ∙ ap (λ v. before + step_cost_at g least_prices (settled O v)) (stays still b)
+              ∙ ap (λ v. before + step_cost_at g least_prices v) there.0 ∙ ap (λ v. before + v) (free rest) ∙ nothing ∙ stays_free rest still b
+
           by_rest : effect g false Y.stands.thread Y.stands.memory ≡ Rests → IsMet g c ee rr mm N j
           by_rest rest =
               ⊎_elim
@@ -298,7 +323,8 @@ module _ (g : Setting) (h : Ground) (c : chip.Setting) (hd : ℕ) (x : IsImage g
               let still : sym_step_at g ee O u0 ≡ Still = off_steps g ee c.inputs start_machine O u0 off ∙ main_rests g ee c.inputs start_machine O u0 out rest in
               let z : (j - k0) + k0 ≡ j = omega arith in
               let same : sym_run g ee O j start_machine ≡ sym_run g ee O k0 start_machine = ap (λ k. sym_run g ee O k start_machine) (sym z) ∙ stays still (j - k0) in
-              met_by g h c hd x halt_is ranges_is start only main_is first started N running j j u0 (ap (settled O) same ∙ there.0) (omega arith) Y.stands.shows.trace bytes_there)
+              let cheap : cost_by g least_prices ee O j start_machine ≤ N = subst (λ k. cost_by g least_prices ee O k start_machine ≤ N) z (let f = stays_free rest still (j - k0) in let l = cheap_there in omega arith) in
+              met_by g h c hd x halt_is ranges_is start only main_is first started N running j j u0 (ap (settled O) same ∙ there.0) cheap (omega arith) Y.stands.shows.trace bytes_there)
               (λ ge. met_there ge)
               (cases_lt k0 j)
 

@@ -190,11 +190,13 @@ module _ (g : Setting) (c : chip.Setting) where
   IsQuiet t n = (a : Arrival) → Contains c.arrivals a → t < a.t → n < a.t
 
   -- ---- what is kept
-  -- At moment n the early run has come to one of its own, this one or a later one: their traces are the same, and behind main's
-  -- first instruction so is each byte of a static object that isn't const.
-  pub record IsMet (e : Entry) (r : Registers) (m : Memory) (n least : ℕ) : Type 0 where
+  -- At moment n the early run has come to one of its own, the given one or a later one, which takes n instructions at most by the
+  -- least that they cost: their traces are the same, and behind main's first instruction so is each byte of a static object that
+  -- isn't const.
+  pub record IsMet (e : Entry) (r : Registers) (m : Memory) (n first : ℕ) : Type 0 where
     pub at : ℕ
-    pub behind : least ≤ at
+    pub behind : first ≤ at
+    pub soon : (early e r m n).least at ≤ n
     pub trace : (moment c n).trace ≡ map event_of ((early e r m n).trace at)
     pub bytes : (k : ℕ) (cell : Cell) → (moment c n).met ≡ true → owner g.program.layout k ≡ Watched cell
         → slice_index (moment c n).state.ram k ≡ (sym_run g e (outside_at n) at (sym_start g.program r m)).memory k

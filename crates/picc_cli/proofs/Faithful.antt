@@ -12,7 +12,7 @@ use Rattle.pic_world.specs.declared.Root.TheVariants.{Main}
 use Rattle.picc_cli.specs.declared.program.Assignment.{Assignment}
 use Rattle.pic_map.specs.MapContent.{FrameLine, ObjectLine}
 use Rattle.run_links.specs.Runs.{IsFrontOf}
-use Rattle.picc_core.specs.Headline.{ComesTo, HasNext, Follows, IsFaithful, setting_of, is_guarded}
+use Rattle.headline.specs.Headline.{ComesTo, HasNext, Follows, IsFaithful, setting_of, is_guarded}
 use Rattle.picc_cli.specs.PortProgram.{AllFit, events_of, run_of, source_of}
 use Rattle.picc_cli.specs.PortCode.{HasCode, map_of}
 use Rattle.picc_cli.proofs.Ticks.{not_due}

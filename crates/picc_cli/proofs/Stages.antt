@@ -16,7 +16,7 @@ use Rattle.picc_cli.specs.declared.program.Assignment.{Assignment}
 use Rattle.picc_cli.specs.declared.program.Side.{Side}
 use Rattle.picc_cli.specs.declared.program.Side.TheVariants.{Port, Tris}
 use Rattle.pic_map.specs.MapContent.{watch_of}
-use Rattle.picc_core.specs.Headline.{setting_of}
+use Rattle.headline.specs.Headline.{setting_of}
 use Rattle.picc_cli.specs.PortProgram.{IsFine, AllFit, address, event_of, events_of}
 use Rattle.picc_cli.specs.PortCode.{HasCode, select, main_address, halt_address, map_of}
 use Rattle.picc_cli.proofs.Ticks.{IsCalm, flagged, gie_stays, goes, behind, steps, bank_of, stores, shows, selects, select_notes}

@@ -11,7 +11,7 @@ use Rattle.pic_map.specs.MapContent.{MapContent}
 use Rattle.pic_map.specs.MapFile.{IsMapFile}
 use Rattle.picc_core.specs.Compiled.{IsPlaced, IsWithinDepth}
 use Rattle.picc_core.specs.Texts.{HasTree}
-use Rattle.picc_core.specs.Headline.{IsFaithful}
+use Rattle.headline.specs.Headline.{IsFaithful}
 use Rattle.picc_cli.specs.PortProgram.{IsProgram, source_of}
 
 -- The headline: the text is a program, the two files are a HEX file and a map file, the HEX file in the one form

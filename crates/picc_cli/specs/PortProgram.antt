@@ -8,7 +8,7 @@ use Rattle.picc_cli.specs.declared.program.Assignment.{Assignment}
 use Rattle.picc_cli.specs.declared.program.Side.{Side}
 use Rattle.picc_cli.specs.declared.program.Side.TheVariants.{Port, Tris}
 use Rattle.pic_map.specs.MapContent.{FrameLine}
-use Rattle.picc_core.specs.Headline.{Source, SourceRun}
+use Rattle.headline.specs.Headline.{Source, SourceRun}
 
 -- ---- spelling
 -- one of the ports A to E

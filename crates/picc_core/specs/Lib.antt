@@ -4,7 +4,5 @@ pub mod Answers
 pub mod Blocks
 pub mod Compiled
 pub mod Agreement
-pub mod Headline
-pub mod SourceOf
 pub mod Accepted
 pub mod Joined

@@ -16,7 +16,7 @@ use Rattle.src_rules.specs.Step.{step}
 use Rattle.src_values.specs.Memory.{Setting, first_memory}
 use Rattle.src_memory.specs.Shown.{address_of, shown, shown_byte}
 use Rattle.src_values.specs.declared.objects.Object.TheVariants.{Fixed}
-use Rattle.picc_core.specs.Headline.{Source, SourceRun, IsFaithful}
+use Rattle.headline.specs.Headline.{Source, SourceRun, IsFaithful}
 
 -- ---- runs
 abbrev pub setting_of : Program → Outside → Setting
