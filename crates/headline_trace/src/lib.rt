@@ -1,0 +1,2 @@
+//! From the links to the headline.
+#![tactic(auto)]
