@@ -60,7 +60,7 @@ module _ (c : chip.Setting) where
     by true = omega arith
     by false = let a = inner m.met in let l = observed_long c.watch (stepped c.image c.inputs c.watch.ranges mask m) in omega arith
 
-  moment_long : (n : ℕ) → length (moment c n).trace ≤ length (moment c (suc n)).trace
+  pub moment_long : (n : ℕ) → length (moment c n).trace ≤ length (moment c (suc n)).trace
   unfolding moment
   moment_long n = next_long (arriving c.arrivals n) (moment c n)
 

@@ -1,3 +1,4 @@
 pub mod Events
 pub mod Owners
 pub mod Watched
+pub mod Following
