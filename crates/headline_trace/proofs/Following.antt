@@ -135,9 +135,9 @@ module _ {E F : Type 0} (show : E → F) (u : Run E) (steps : ℕ → ℕ) (node
 
   -- ---- pace
   -- From a moment on at which the other's trace has come to a length, its next m steps cost no more than they may.
-  pub step_by : (i m long from at k : ℕ) (d : Goes u i) → IsFirst (λ j. length (u.trace j)) long from → from ≤ i → steps i ≤ steps from + m
+  pub step_by : (i m long from k : ℕ) (d : Goes u i) → IsFirst (λ j. length (u.trace j)) long from → from ≤ i → steps i ≤ steps from + m
       → length (b.trace k) ≡ long → b.most ((followed i d).at i) ≤ b.most k + step_price * (m + 1)
-  step_by i m long from at k d first le few here = by from first le few where
+  step_by i m long from k d first le few here = by from first le few where
     by : (from : ℕ) → IsFirst (λ j. length (u.trace j)) long from → from ≤ i → steps i ≤ steps from + m → b.most ((followed i d).at i) ≤ b.most k + step_price * (m + 1)
     by zero first le few =
         let link = followed i d in
@@ -154,3 +154,12 @@ module _ {E F : Type 0} (show : E → F) (u : Run E) (steps : ℕ → ℕ) (node
         let p = steady.price last in let q = steady.price i in let o = steady.once last in
         let z = run.dearer (link.at last) k behind in
         omega arith
+
+  -- From its beginning on its first m steps cost no more than they may.
+  pub steps_first : (i m : ℕ) (d : Goes u i) → steps i ≤ m → b.most ((followed i d).at i) ≤ b.most 0 + step_price * m
+  steps_first i m d few =
+      let link = followed i d in
+      let f = link.fast 0 i (omega arith) (omega arith) in
+      let p = steady.price 0 in let q = steady.price i in let n = steady.none_yet in
+      let z : b.most (link.at 0) ≡ b.most 0 = ap b.most link.starts in
+      omega arith

@@ -2,3 +2,5 @@ pub mod Events
 pub mod Owners
 pub mod Watched
 pub mod Following
+pub mod Moments
+pub mod Joining
