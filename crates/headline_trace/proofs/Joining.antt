@@ -75,7 +75,7 @@ module _ {E : Type 0} (show : E → Happening ℕ) (above : Outside → Run E) (
       (goes_where n clean k le) i cheap short
 
   -- ---- the trace
-  met : (n : ℕ) → IsClean source content c n → IsMet g c (entry n) begins m n 0
+  pub met : (n : ℕ) → IsClean source content c n → IsMet g c (entry n) begins m n 0
   met n clean = (arrives n).2.meets (running n clean)
 
   met_long : (n j : ℕ) (x : IsMet g c (entry n) begins m n j) → length (moment c n).trace ≡ length ((b n n).trace x.at)

@@ -4,3 +4,5 @@ pub mod Watched
 pub mod Following
 pub mod Moments
 pub mod Joining
+pub mod Steady
+pub mod Sources

@@ -17,7 +17,7 @@ use Rattle.sym_code.specs.declared.code.Sym.{Sym}
 use Rattle.chip_trace.specs.Arriving.{keeps_out}
 use Rattle.chip_trace.proofs.Effects.{writes_silently}
 use Rattle.chip_trace.proofs.Sound.{IsGood, IsLoud, IsOwn, IsSound, is_copy, stand_block, sound}
-use Rattle.headline_trace.specs.Words.{writes, written_by, last_written}
+use Rattle.headline.specs.Headline.{writes, written_by, last_written}
 use Rattle.headline_trace.proofs.Events.{input_same, kept_same}
 use Rattle.headline_trace.proofs.Owners.{owner_back, watched_back}
 
