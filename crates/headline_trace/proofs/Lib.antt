@@ -4,5 +4,6 @@ pub mod Watched
 pub mod Following
 pub mod Moments
 pub mod Joining
+pub mod Ends
 pub mod Steady
 pub mod Sources
