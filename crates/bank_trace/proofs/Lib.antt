@@ -17,4 +17,4 @@ mod Moments
 mod Hops
 mod Following
 mod Premises
-mod Chosen
+pub mod Chosen

@@ -1,16 +1,15 @@
 -- Runs of symbolic code: a step makes one event at most, and a run is one in the sense of links.
-use Rattle.std.proofs.Common.{◌≡◌, ℕ, zero, suc, ◌+◌, ◌-◌, ◌<◌, ◌≤◌, ◌⊎◌, inl, inr, Bool, true, false, List, [], ◌∷◌, ◌++◌, length, take, Option, Some, None, refl, sym, ap, ◌∙◌, subst, ⊎_elim, arith, length-append}
+use Rattle.std.proofs.Common.{◌≡◌, ℕ, zero, suc, ◌+◌, ◌-◌, ◌≤◌, ◌⊎◌, inl, inr, Bool, true, false, List, [], ◌∷◌, ◌++◌, length, take, Option, Some, None, refl, sym, ap, ◌∙◌, subst, arith}
 use Rattle.std.proofs.lemmas.List.{take-append-le, length-take}
 use Rattle.std.proofs.Math.Seq.{take-length, take-append_seam}
 use Rattle.std.specs.Prelude.{if◌then◌else◌}
-use Rattle.pic_world.specs.Registers.{is_register}
 use Rattle.pic_world.specs.Control.{is_stored, with_stored}
 use Rattle.pic_world.specs.World.{Outside, World, Happening, Ended, arrived, entered, left, noted, is_due, after_device_read, after_device_write, input_used, value_kept}
 use Rattle.run_links.specs.Runs.{Run, IsRun, IsFrontOf}
 use Rattle.sym_code.specs.Cost.{Prices, cost_by, step_cost, least_prices, most_prices}
 use Rattle.sym_code.specs.Effect.{Setting, Thread, Memory, Effect, Stuck, Quiet, Reads, Writes, Leaves, Ends, Rests, Loud, Port, Shared, effect}
-use Rattle.sym_code.specs.Machine.{Machine, Entry, Next, Goes, Stops, Still, Made, sym_step, sym_step_at, sym_run, gone, settled, acted, act, moved, checked, made, made_write, read_by, wrote_by, is_forbidden, lands_at, itself, enter, running, with_entry, at_front, write_by}
-use Rattle.sym_code.specs.Programs.{Program, front, lands}
+use Rattle.sym_code.specs.Machine.{Machine, Entry, Next, Goes, Stops, Still, Made, sym_step, sym_step_at, sym_run, gone, settled, acted, act, moved, checked, made_write, read_by, wrote_by, is_forbidden, lands_at, enter, running, with_entry, at_front, write_by}
+use Rattle.sym_code.specs.Programs.{front, lands}
 use Rattle.sym_code.specs.Runs.{run_of, is_still, goes_on}
 use Rattle.sym_code.specs.declared.code.BlockName.{BlockName}
 use Rattle.sym_code.specs.declared.code.BlockName.TheVariants.{Copy}
@@ -104,6 +103,7 @@ unfolding sym_step arrived
 step_longer g e o t = gone_settled o t (sym_step_at g e o (settled o t)) (by (is_due (settled o t).world)) where
   u : Machine
   u = settled o t
+
   by : (b : Bool) → Longer t.world.trace (gone u (if b then enter g e g.program.handler u else act g o u)).world.trace
   by true = entered_longer g e g.program.handler u
   by false = acted_longer g o u (effect g u.world.inside (running u) u.memory)

@@ -1,12 +1,11 @@
 -- What a run that follows another one has by a moment of its own: the trace is a front of the other's, and the other's next steps are
 -- done in time.
-use Rattle.std.proofs.Common.{◌≡◌, ℕ, zero, suc, ◌+◌, ◌-◌, ◌*◌, ◌<◌, ◌≤◌, ◌⊎◌, inl, inr, Bool, true, false, List, [], ◌∷◌, ◌++◌, map, length, take, refl, sym, ap, ◌∙◌, subst, ⊎_elim, arith, length-append}
+use Rattle.std.proofs.Common.{◌≡◌, ℕ, zero, suc, ◌+◌, ◌-◌, ◌*◌, ◌<◌, ◌≤◌, ◌⊎◌, inl, inr, Bool, true, false, List, [], ◌∷◌, map, length, take, refl, sym, ap, ◌∙◌, subst, ⊎_elim, arith}
 use Rattle.std.proofs.lemmas.Bool.{cases_lt}
-use Rattle.std.proofs.lemmas.List.{length-map, take-append-le, length-take}
+use Rattle.std.proofs.lemmas.List.{length-map}
 use Rattle.std.proofs.Math.Nat.{add-mul}
 use Rattle.std.proofs.Math.Seq.{take-length}
-use Rattle.run_links.specs.Runs.{Run, IsRun, IsFrontOf, Goes, Follows, IsFollowed, IsWithin}
-use Rattle.run_links.specs.Laws.{Counts}
+use Rattle.run_links.specs.Runs.{Run, IsRun, IsFrontOf, Goes, IsFollowed, IsWithin}
 use Rattle.headline_trace.specs.Carried.{step_price, IsSteady}
 use Rattle.headline_trace.proofs.Events.{front_of_same, front_length}
 

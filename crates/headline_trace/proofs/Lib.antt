@@ -7,3 +7,7 @@ pub mod Joining
 pub mod Ends
 pub mod Steady
 pub mod Sources
+pub mod Showing
+pub mod Beginning
+pub mod Chains
+pub mod Whole

@@ -1,5 +1,5 @@
 -- Moments of the chip: its trace only grows, and main that is met stays so.
-use Rattle.std.proofs.Common.{◌≡◌, ℕ, zero, suc, ◌+◌, ◌-◌, ◌<◌, ◌≤◌, Bool, true, false, length, List, [], ◌∷◌, ◌++◌, refl, sym, ap, ◌∙◌, subst, arith}
+use Rattle.std.proofs.Common.{◌≡◌, ℕ, zero, suc, ◌+◌, ◌-◌, ◌≤◌, Bool, true, false, length, [], ◌∷◌, ◌++◌, sym, subst, arith}
 use Rattle.std.specs.Prelude.{if◌then◌else◌, not, ◌&&◌, nat_eq}
 use Rattle.pic_chip.specs.Run.{Setting, Moment, moment, next_moment, observed, stepped, ends_at}
 use Rattle.pic_world.specs.Arrivals.{arriving}

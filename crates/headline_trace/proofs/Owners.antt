@@ -1,5 +1,5 @@
 -- A watched byte is known by its cell: no two bytes have the same one.
-use Rattle.std.proofs.Common.{◌≡◌, ◌≢◌, ℕ, zero, suc, ◌+◌, ◌-◌, ◌<◌, ◌≤◌, ◌⊎◌, inl, inr, Bool, true, false, List, [], ◌∷◌, length, Option, Some, None, refl, sym, ap, ◌∙◌, subst, ⊎_elim, arith}
+use Rattle.std.proofs.Common.{◌≡◌, ℕ, suc, ◌+◌, ◌-◌, ◌<◌, ◌≤◌, ◌⊎◌, inl, inr, Bool, true, false, List, [], ◌∷◌, Option, Some, None, refl, sym, ap, ◌∙◌, subst, ⊎_elim, arith}
 use Rattle.std.specs.Prelude.{if◌then◌else◌, nat_lt, nat_le, not, ◌&&◌, slice_get}
 use Rattle.std.proofs.lemmas.Bool.{cases_lt, lt-ltb, le-ltb, leb-true}
 use Rattle.pic_world.specs.declared.Root.TheVariants.{Main, Isr}
@@ -157,5 +157,5 @@ pub owner_back : (l : DataLayout) (k j : ℕ) (cell : Cell) → owner l k ≡ Wa
 unfolding owner
 owner_back l k j cell e f =
     address_back k j (object_back l.objects (chip.address_of k) (chip.address_of j) cell
-      (watched_is l (chip.address_of k) (object_at l.objects 0 (chip.address_of k)) cell e)
-      (watched_is l (chip.address_of j) (object_at l.objects 0 (chip.address_of j)) cell f))
+    (watched_is l (chip.address_of k) (object_at l.objects 0 (chip.address_of k)) cell e)
+    (watched_is l (chip.address_of j) (object_at l.objects 0 (chip.address_of j)) cell f))

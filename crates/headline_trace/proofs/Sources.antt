@@ -6,8 +6,7 @@ use Rattle.std.proofs.lemmas.Bool.{eq-eqb}
 use Rattle.c_typed.specs.Trees as tree
 use Rattle.c_typed.specs.Trees.{Statement, Program}
 use Rattle.c_typed.specs.Types.{type_bytes}
-use Rattle.pic_world.specs.Bits.{bit}
-use Rattle.pic_world.specs.World.{Happening, ReadOf, WriteOf, Ended, World, Outside, arrived, is_due, device_value, after_device_write, sets_gie}
+use Rattle.pic_world.specs.World.{Happening, ReadOf, WriteOf, Ended, World, arrived, is_due, after_device_write, sets_gie}
 use Rattle.pic_world.specs.declared.Cell.TheVariants as cells
 use Rattle.pic_world.specs.declared.Root.{Root}
 use Rattle.src_rules.proofs.Changes.{trace_grows}
@@ -17,10 +16,10 @@ use Rattle.src_rules.specs.Accesses.{after_taking, after_putting, fetch, skim, w
 use Rattle.src_rules.specs.Laws.{Adds, IsProper, IsOfBytes, below}
 use Rattle.src_rules.specs.Runs.{run, moment, gone}
 use Rattle.src_rules.specs.Standing.{IsThere, IsByteAt, MemoryStands, Keeps, Stands}
-use Rattle.src_rules.specs.State.{State, state, Outcome, Went, Undefined, Idle, Lost}
+use Rattle.src_rules.specs.State.{State, Outcome, Went, Undefined, Idle, Lost}
 use Rattle.src_rules.specs.Statements.{unwound, proceed, begin}
-use Rattle.src_rules.specs.Step.{act, step, step_at, interrupted, refused, refused_at, enter, start}
-use Rattle.src_values.specs.Accesses.{Taking, Takes, Breaks, Putting, Puts, Refuses, read_fault, write_fault, event_at, taken_unless, device_taken, take_byte, put_unless, device_put, put_byte, with_bit}
+use Rattle.src_rules.specs.Step.{act, step, interrupted, refused, start}
+use Rattle.src_values.specs.Accesses.{Taking, Takes, Breaks, Putting, Puts, Refuses, read_fault, write_fault, event_at, taken_unless, take_byte, put_unless, device_put, put_byte, with_bit}
 use Rattle.src_values.specs.Control as control
 use Rattle.src_values.specs.Control.{Focus, Fetch, Skim, Write, PutBit, CopyRead, CopyWrite, Spell, Blank, Stage, Pending, In, To, Doing, Before, Returns, Resumes, line_at, active, read_type}
 use Rattle.src_values.specs.Counting.{counted_line}
@@ -238,6 +237,7 @@ step_comes s t = by (is_due (arrived s.outside t.world)) (handler_in s.program) 
   due : (h : Option ℕ) → Comes t.memory (interrupted s h t.focus t.stack t.copy t.memory (arrived s.outside t.world))
   due (Some h) = tt
   due None = refused_comes t.memory (counted_line s.program t.copy t.focus t.stack) _ (act_comes s (arrived s.outside t.world) t.focus t.stack t.copy t.memory)
+
   by : (b : Bool) (h : Option ℕ) → Comes t.memory (if b then interrupted s h t.focus t.stack t.copy t.memory (arrived s.outside t.world) else act s t.focus t.stack t.copy t.memory (arrived s.outside t.world))
   by true h = due h
   by false h = act_comes s (arrived s.outside t.world) t.focus t.stack t.copy t.memory

@@ -1,11 +1,10 @@
 -- The source's run as the headline needs it: a micro-step makes one event at most and counts as one step at most, and the next step
 -- that counts comes, or there is none.
-use Rattle.std.proofs.Common.{◌≡◌, ℕ, zero, suc, ◌+◌, ◌-◌, ◌*◌, ◌<◌, ◌≤◌, ◌⊎◌, inl, inr, Bool, true, false, not, ◌&&◌, ◌||◌, List, [], ◌∷◌, ◌++◌, length, length-append, Option, Some, None, refl, sym, ap, ◌∙◌, subst, ⊎_elim, arith}
+use Rattle.std.proofs.Common.{◌≡◌, ℕ, zero, suc, ◌+◌, ◌-◌, ◌*◌, ◌<◌, ◌≤◌, ◌⊎◌, inl, inr, Bool, true, false, not, ◌&&◌, ◌||◌, List, [], ◌∷◌, length, length-append, Option, Some, None, refl, sym, ap, ◌∙◌, subst, ⊎_elim, arith}
 use Rattle.std.specs.Prelude.{is_none}
 use Rattle.std.proofs.lemmas.Bool.{cases_lt}
 use Rattle.pic_world.specs.World.{Happening}
 use Rattle.run_links.specs.Runs.{Run}
-use Rattle.run_links.specs.Laws.{Counts}
 use Rattle.src_rules.specs.Laws.{IsProper, IsOfBytes, Adds, IsReadyBehind}
 use Rattle.src_rules.specs.Runs.{run, moment, gone, is_taken, one_if, steps_by, is_ready, ready, fault_of, is_idle}
 use Rattle.src_rules.specs.Standing.{Keeps}
@@ -101,7 +100,7 @@ module _ (s : Setting) where
       uncounted (suc k) le =
           let z : n + suc k ≡ suc (n + k) = omega arith in
           let none : one_if (counts s (moment s (n + k)) && is_taken (step s (moment s (n + k)))) ≡ 0 =
-            ap (λ b. one_if (b && is_taken (step s (moment s (n + k))))) (ap (counts s) (at k) ∙ (behind.before k (omega arith)).0) in
+          ap (λ b. one_if (b && is_taken (step s (moment s (n + k))))) (ap (counts s) (at k) ∙ (behind.before k (omega arith)).0) in
           let below = uncounted k (omega arith) in
           let q : steps_by s (n + suc k) ≡ steps_by s (suc (n + k)) = ap (steps_by s) z in
           omega arith
@@ -132,6 +131,7 @@ module _ (s : Setting) where
       next b before now = by (step s (moment s last)) refl where
         few : (i : ℕ) → i ≤ last → steps_by s i < suc b
         few = few_before (suc b) before (omega arith)
+
         by : (x : Outcome) → step s (moment s last) ≡ x → Reached (suc b)
         by (Went v event) is = (suc last, (λ i lt. few i (omega arith)), inl (let c = is_counted (Went v event) is refl in omega arith))
         by (Undefined kind line) is = (last, (λ i lt. few i (omega arith)), inr (inr (few last (omega arith), ap (λ x. is_none (fault_of x)) is)))

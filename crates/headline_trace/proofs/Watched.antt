@@ -1,15 +1,14 @@
 -- A watched byte is the last one that the trace wrote there, or the first one: it changes by its events alone.
-use Rattle.std.proofs.Common.{◌≡◌, ◌≢◌, ℕ, zero, suc, ◌+◌, ◌<◌, ◌≤◌, ◌⊎◌, inl, inr, Bool, true, false, List, [], ◌∷◌, ◌++◌, map, length, Option, Some, None, refl, sym, ap, ◌∙◌, subst, ⊎_elim, arith}
+use Rattle.std.proofs.Common.{◌≡◌, ℕ, zero, suc, Bool, true, false, List, [], ◌∷◌, ◌++◌, map, Option, Some, None, refl, sym, ap, ◌∙◌, subst, ⊎_elim, arith}
 use Rattle.std.specs.Prelude.{if◌then◌else◌, nat_eq, ◌&&◌, slice_get}
 use Rattle.std.proofs.lemmas.Bool.{cases_eq, eq-eqb, ne_eqb}
-use Rattle.pic_world.specs.Control.{is_stored, with_stored}
-use Rattle.pic_world.specs.World.{Outside, World, Happening, ReadOf, WriteOf, Ended, arrived, entered, left, noted, is_due, event_of, after_device_read, after_device_write, device_value, input_used, value_kept}
+use Rattle.pic_world.specs.World.{Outside, World, Happening, ReadOf, WriteOf, Ended, arrived, entered, left, is_due, event_of, after_device_read, after_device_write, device_value}
 use Rattle.pic_world.specs.declared.Cell.{Cell}
 use Rattle.pic_world.specs.declared.Cell.TheVariants as cells
 use Rattle.pic_world.specs.declared.Event.{Event}
 use Rattle.sym_code.specs.Effect.{Setting, Thread, Memory, Write, written, Effect, Stuck, Quiet, Reads, Writes, Leaves, Ends, Rests, Loud, Port, Shared, effect}
 use Rattle.sym_code.specs.Layout.{DataLayout, owner, Watched}
-use Rattle.sym_code.specs.Machine.{Machine, Entry, Next, Goes, Stops, Still, Made, sym_step, sym_step_at, sym_run, gone, settled, acted, act, moved, checked, made, made_write, read_by, wrote_by, write_by, is_forbidden, lands_at, itself, enter, running, with_entry, at_front, sym_start}
+use Rattle.sym_code.specs.Machine.{Machine, Entry, Next, Goes, Stops, Still, Made, sym_step, sym_step_at, sym_run, gone, settled, acted, act, moved, checked, made_write, read_by, wrote_by, write_by, is_forbidden, lands_at, itself, enter, running, with_entry, at_front, sym_start}
 use Rattle.sym_code.specs.Programs.{front, lands, position}
 use Rattle.sym_code.specs.Registers.{Registers}
 use Rattle.sym_code.specs.declared.code.BlockName.TheVariants.{Copy}
@@ -136,6 +135,7 @@ module _ (g : Setting) (first : Memory) where
       written_loud (Port address) own =
           subst (λ z. Holds t.memory (z ++ WriteOf (cells.Device address) (itself v) ∷ [])) (sym (kept_same address v t.world)) (silent_event t.memory t.world.trace _ (λ j k. refl) told.bytes)
       written_loud (Shared number cell) own = loud_write number cell v t.memory t.world.trace own told.bytes
+
       by : (f : Bool) → IsRight i t (if f then None else Some (record { thread = th; write = write_by b v; world = wrote_by t.world b v }))
       by true = tt
       by false = (good, written_loud b loud)
@@ -179,8 +179,10 @@ module _ (g : Setting) (first : Memory) where
     told_step e o t told = told_gone o t (sym_step_at g e o (settled o t)) told (by (is_due (settled o t).world)) where
       u : Machine
       u = settled o t
+
       told_u : IsTold u
       told_u = told_in t (arrived o t.world) refl told
+
       by : (b : Bool) → IsTold (gone u (if b then enter g e g.program.handler u else act g o u))
       by true = told_entered e g.program.handler u told_u
       by false = told_acted o u (effect g u.world.inside (running u) u.memory) told_u (sound g u.world.inside outside (running u) u.memory (running_good u told_u))

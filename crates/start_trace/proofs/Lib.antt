@@ -8,4 +8,4 @@ mod Walk
 mod Jumps
 mod Parts
 mod Whole
-mod Final
+pub mod Final

@@ -1,0 +1,68 @@
+-- A program with its code in every language of the compiler, and what all links together say of it.
+use Rattle.std.specs.Prelude.{ℕ, ◌≡◌, ◌<◌, Bool, true, false, List, Option, map}
+use Rattle.std.specs.Global.{Global}
+use Rattle.std.specs.List.{All}
+use Rattle.std.specs.declared.vec.Vec.{Vec}
+use Rattle.c_typed.specs.Trees.{Program}
+use Rattle.call_graph.specs.declared.types.FnCopy.{FnCopy}
+use Rattle.pic_chip.specs.Run.{IsStart}
+use Rattle.pic_chip.specs.declared.Start.{Start}
+use Rattle.pic_map.specs.MapContent.{MapContent, range_of, watch_of}
+use Rattle.pic_map.specs.declared.Placed.{Placed}
+use Rattle.pic_world.specs.declared.Arrival.{Arrival}
+use Rattle.core_code.specs.declared.code.Body.{Body}
+use Rattle.core_code.specs.declared.code.FirstByte.{FirstByte}
+use Rattle.sym_code.specs.Effect.{Setting}
+use Rattle.sym_code.specs.Layout.{DataLayout, frame}
+use Rattle.sym_code.specs.Programs.{block_in}
+use Rattle.sym_code.specs.declared.code.SymBlock.{SymBlock}
+use Rattle.code_place.specs.Layouts.{program_of, page_of, layout_of}
+use Rattle.src_memory.specs.Shown.{frame_address}
+use Rattle.src_rules.specs.Standing.{IsReached}
+use Rattle.src_values.specs.Objects.{function_at}
+use Rattle.src_values.specs.declared.objects.CopyOf.{CopyOf}
+use Rattle.lower_stmt.specs.Programs.{core_of}
+use Rattle.lower_trace.specs.Lowering.{IsLowerable, Lowers, copy_number}
+use Rattle.select_wide.specs.Links.{IsSelected}
+use Rattle.bank_page.specs.Links.{HasSelects, price_in}
+use Rattle.chip_trace.specs.Arriving.{IsAssembled}
+use Rattle.start_trace.specs.Starting.{IsBeginning, held_in}
+use Rattle.headline.specs.Headline.{Follows, setting_of}
+use Rattle.headline.specs.SourceOf.{source_of}
+use Rattle.headline_trace.specs.Carried.{frame_of}
+
+-- By the names of the map the frames of copies are found where the code has them.
+pub record IsNamed (p : Program) (copies : List FnCopy) (content : MapContent) (l : DataLayout) : Type 0 where
+  pub frames : (c : CopyOf) → IsReached p c → frame_address content.frames c.root (function_at p c.function).name ≡ (frame l (copy_number copies c.root c.function)).address
+
+-- symbolic code as it was selected, without selects, and with them
+abbrev pub bare_setting : List SymBlock → List SymBlock → Option ℕ → Placed → List ℕ → (Bool → ℕ) → Setting
+bare_setting given made handler placed at limit = record { program = program_of given handler placed; banked = false; page_of = page_of made at; limit = limit }
+
+abbrev pub full_setting : List SymBlock → Option ℕ → Placed → List ℕ → (Bool → ℕ) → Setting
+full_setting made handler placed at limit = record { program = program_of made handler placed; banked = true; page_of = page_of made at; limit = limit }
+
+-- A typed program with its copies, its byte code, symbolic code without and with selects, the words of its image, and its map.
+pub record IsLinked (p : Program) (copies : List FnCopy) (bodies : List Body) (statics : List (Vec FirstByte Global)) (reaches : ℕ → ℕ → Bool) (given made : List SymBlock)
+    (handler : Option ℕ) (placed : Placed) (at : List ℕ) (limit : Bool → ℕ) (image : List ℕ) (content : MapContent) : Type 0 where
+  pub lowerable : IsLowerable p copies
+  pub selected : IsSelected (core_of p copies) copies bodies reaches (bare_setting given made handler placed at limit) (price_in (block_in made))
+  pub selects : HasSelects given made handler placed at (bare_setting given made handler placed at limit) (full_setting made handler placed at limit)
+  pub assembled : IsAssembled made at placed handler image (watch_of content) (full_setting made handler placed at limit)
+  pub beginning : IsBeginning made placed handler statics (full_setting made handler placed at limit)
+  pub statics_are : held_in statics ≡ (core_of p copies).first
+  -- the map has the lines of the placing
+  pub objects : map range_of content.objects ≡ (layout_of placed).objects
+  pub frames : map frame_of content.frames ≡ (layout_of placed).frames
+  pub named : IsNamed p copies content (layout_of placed)
+
+-- If lowering keeps what the source does, then the image does on the chip what the program says: from anything that power-on leaves,
+-- over any input list and any arrivals.
+abbrev pub MakesHeadline : Type 0
+MakesHeadline =
+    Lowers
+    → (p : Program) (copies : List FnCopy) (bodies : List Body) (statics : List (Vec FirstByte Global)) (reaches : ℕ → ℕ → Bool) (given made : List SymBlock)
+    (handler : Option ℕ) (placed : Placed) (at : List ℕ) (limit : Bool → ℕ) (image : List ℕ) (content : MapContent)
+    → IsLinked p copies bodies statics reaches given made handler placed at limit image content
+    → (start : Start) (inputs : List ℕ) (arrivals : List Arrival) → IsStart start → All (λ byte. byte < 256) inputs
+    → Follows (source_of p copies content) content (setting_of content image start inputs arrivals)
