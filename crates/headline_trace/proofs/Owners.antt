@@ -2,12 +2,12 @@
 use Rattle.std.proofs.Common.{◌≡◌, ℕ, suc, ◌+◌, ◌-◌, ◌<◌, ◌≤◌, ◌⊎◌, inl, inr, Bool, true, false, List, [], ◌∷◌, Option, Some, None, refl, sym, ap, ◌∙◌, subst, ⊎_elim, arith}
 use Rattle.std.specs.Prelude.{if◌then◌else◌, nat_lt, nat_le, not, ◌&&◌, slice_get}
 use Rattle.std.proofs.lemmas.Bool.{cases_lt, lt-ltb, le-ltb, leb-true}
-use Rattle.pic_world.specs.declared.Root.TheVariants.{Main, Isr}
 use Rattle.pic_chip.specs.Address as chip
 use Rattle.pic_chip.specs.Run.{Range, covers, object_at}
 use Rattle.pic_world.specs.declared.Cell.{Cell}
 use Rattle.pic_world.specs.declared.Cell.TheVariants as cells
-use Rattle.sym_code.specs.Layout.{DataLayout, FrameRange, Owner, Watched, Constant, Of, Nobody, owner, owner_by, private_owner, frame_owner, covers_any}
+use Rattle.chip_trace.proofs.Addresses.{shown_cell}
+use Rattle.sym_code.specs.Layout.{DataLayout, Owner, Watched, Constant, Of, Nobody, owner}
 
 -- ---- addresses of general bytes
 -- They rise with the number.
@@ -122,40 +122,6 @@ object_back : (rs : List Range) (a b : ℕ) (cell : Cell) → object_at rs 0 a �
 object_back rs a b cell e f = shown_back rs a b cell (shows rs 0 a cell e) (shows rs 0 b cell f)
 
 -- ---- owners
-is_watched : Owner → Bool
-is_watched (Watched cell) = true
-is_watched Constant = false
-is_watched (Of root) = false
-is_watched Nobody = false
-
-frame_unwatched : (fs : List FrameRange) (address : ℕ) → is_watched (frame_owner fs address) ≡ false
-unfolding is_watched
-frame_unwatched [] address = refl
-frame_unwatched (f ∷ fs) address = by (frame_unwatched fs address) (nat_le f.address address && nat_lt address (f.address + f.size)) where
-  by : is_watched (frame_owner fs address) ≡ false → (b : Bool) → is_watched (if b then Of f.root else frame_owner fs address) ≡ false
-  by below true = refl
-  by below false = below
-
-private_unwatched : (l : DataLayout) (address : ℕ) → is_watched (private_owner l address) ≡ false
-unfolding is_watched
-private_unwatched l address = by (nat_le 0x70 address && nat_lt address 0x74) (nat_le 0x74 address && nat_lt address 0x78) where
-  by : (a b : Bool) → is_watched (if a then Of Main else if b then Of Isr else frame_owner l.frames address) ≡ false
-  by true b = refl
-  by false true = refl
-  by false false = frame_unwatched l.frames address
-
-watched_is : (l : DataLayout) (address : ℕ) (o : Option Cell) (cell : Cell) → owner_by l address o ≡ Watched cell → o ≡ Some cell
-unfolding is_watched
-watched_is l address (Some c) cell is = ap Some (watched_back c cell is)
-watched_is l address None cell is = by (covers_any l.objects address) is where
-  by : (b : Bool) → (if b then Constant else private_owner l address) ≡ Watched cell → None ≡ Some cell
-  by true is' = absurd (cc)
-  by false is' = absurd (let f = sym (private_unwatched l address) ∙ ap is_watched is' in cc)
-
 -- two watched bytes of one cell are one
 pub owner_back : (l : DataLayout) (k j : ℕ) (cell : Cell) → owner l k ≡ Watched cell → owner l j ≡ Watched cell → k ≡ j
-unfolding owner
-owner_back l k j cell e f =
-    address_back k j (object_back l.objects (chip.address_of k) (chip.address_of j) cell
-    (watched_is l (chip.address_of k) (object_at l.objects 0 (chip.address_of k)) cell e)
-    (watched_is l (chip.address_of j) (object_at l.objects 0 (chip.address_of j)) cell f))
+owner_back l k j cell e f = address_back k j (object_back l.objects (chip.address_of k) (chip.address_of j) cell (shown_cell l k cell e) (shown_cell l j cell f))
