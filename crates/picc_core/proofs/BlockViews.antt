@@ -10,7 +10,7 @@ use Rattle.sym_code.specs.declared.code.BlockName.TheVariants.{Start}
 use Rattle.sym_code.specs.declared.code.Sym.{Sym}
 use Rattle.sym_code.specs.declared.code.SymBlock.{SymBlock}
 use Rattle.select_wide.specs.Blocks.{blocks_from, views_of}
-use Rattle.picc_core.specs.Joined.{helpers_from, IsJoined}
+use Rattle.program_code.specs.Joined.{helpers_from, IsJoined}
 
 abbrev Views : Type 0
 Views = List (BlockName × List Sym)

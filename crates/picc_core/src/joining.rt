@@ -3,7 +3,7 @@
 ghost use Rattle.std.specs.Prelude.{◌≡◌, ◌++◌, IfOk, OnOk};
 ghost use Rattle.std.specs.List.Sorted.{IsPermutation};
 ghost use Rattle.select_wide.specs.Blocks.{views_of};
-ghost use Rattle.picc_core.specs.Joined.{helper_at, helpers_from, IsJoined};
+ghost use Rattle.program_code.specs.Joined.{helper_at, helpers_from, IsJoined};
 
 use crate::code_order::rank_at;
 use bank_page::selects;

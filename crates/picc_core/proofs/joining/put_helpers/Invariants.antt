@@ -1,6 +1,6 @@
 use Rattle.std.proofs.Common.{◌≡◌, ◌++◌, drop}
 use Rattle.select_wide.specs.Blocks.{views_of}
-use Rattle.picc_core.specs.Joined.{helpers_from}
+use Rattle.program_code.specs.Joined.{helpers_from}
 use Rattle.picc_core.proofs.joining.put_helpers.Given as goal
 
 abbrev pub invariant-loop-number : goal.invariant-loop-number
