@@ -1,2 +1,4 @@
 pub mod Members
 pub mod Blocks
+pub mod Rows
+pub mod Bodies
