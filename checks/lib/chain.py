@@ -1,6 +1,6 @@
 """The definitions that definitions stand on: follows the lines `use Rattle.CRATE.specs.PATH` of the files of specs/ of this repository.
 
-As a program: the arguments are the folder of the repository and files of specs/, as picc_core/Headline. It prints each file
+As a program: the arguments are the folder of the repository and files of specs/, as headline/Headline. It prints each file
 that these stand on, themselves included, with its number of lines, and below them the number of files and of lines. Types that the
 code declares (`specs.declared`) and the definitions of the kit's library (`std`) are not followed."""
 import os

@@ -5,11 +5,11 @@ import sys
 
 from chain import chain, lines_of
 
-HEADLINE = ['picc_core/Headline', 'picc_cli/PortProgram', 'hex_image/HexFile', 'hex_image/HexText', 'pic_map/MapFile']
+HEADLINE = ['headline/Headline', 'picc_cli/PortProgram', 'hex_image/HexFile', 'hex_image/HexText', 'pic_map/MapFile']
 TOTALS = {
     'In all': HEADLINE,
     'contract': ['picc_cli/Command', 'picc_cli/CommandView', 'picc_cli/Finished', 'picc_cli/Simulation', 'host_io/Host'],
-    'source': ['picc_core/SourceOf'],
+    'source': ['headline/SourceOf'],
 }
 ROW = re.compile(r'^\| `(\w+/\w+)` \| (\d+) \|', re.MULTILINE)
 
