@@ -2,4 +2,5 @@ pub mod Branches
 pub mod Passing
 pub mod Progress
 pub mod Seen
+pub mod Stepping
 pub mod Telling

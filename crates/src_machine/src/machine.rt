@@ -7,14 +7,15 @@ ghost use Rattle.c_typed.specs.Views.{program_of, expression_of};
 ghost use Rattle.pic_map.specs.MapContent.{MapContent};
 ghost use Rattle.pic_world.specs.World.{World as Worlds, Outside, left, entered};
 ghost use Rattle.src_machine.specs.Seen.{waiting, interrupted_in, stack_of, above, memory_of, state_in, silent, HasRoom};
+ghost use Rattle.src_machine.specs.Stepping.{CanStep, TellsStep};
 ghost use Rattle.src_machine.specs.Telling.{Tells, with_taken, is_quiet, is_interrupted};
-ghost use Rattle.src_memory.specs.Seen.{IsWorld};
+ghost use Rattle.src_memory.specs.Seen.{IsWorld, outside_by};
 ghost use Rattle.src_memory.specs.Shape.{IsShaped};
 ghost use Rattle.src_rules.specs.Accesses.{goes};
 ghost use Rattle.src_rules.specs.State as rules;
 ghost use Rattle.src_machine.specs.Passing.{values_among, value_in, are_values, missing_in, given, called, FitFrom, FitAt, FitCall};
 ghost use Rattle.src_rules.specs.Step.{body_of, copy_of, call, call_in, enter, refused, with_values, has_missing};
-ghost use Rattle.src_values.specs.Memory.{fresh};
+ghost use Rattle.src_values.specs.Memory.{fresh, Setting};
 ghost use Rattle.src_values.specs.Seen.{focus_in, got_in, has_values, values_on, frames_behind};
 ghost use Rattle.src_values.specs.Control as control;
 ghost use Rattle.src_values.specs.declared.objects.Byte.{Byte as Bytes};
@@ -158,7 +159,9 @@ impl<'a> Machine<'a> {
 
     // A micro-step, what took it, and whether it counts as a step. Arrivals come first, then the handler if
     // it is due.
-    fn micro_step(&mut self, script: &Script) -> (Taker, bool, Outcome) {
+    fn micro_step(&mut self, script: &Script) -> (Taker, bool, Outcome)
+        ensures tells { (s : Setting) (map : MapContent) (w : Worlds Bytes) → s.outside ≡ outside_by script.now → CanStep s map self.old w → TellsStep s map (state_in self.old w) result.0 result.1 result.2 self.old self.new }
+    {
         self.world.arrive(script);
         let due = self.world.is_due();
         if due {
