@@ -18,3 +18,7 @@ pub mod Turns
 pub mod Waiting
 pub mod Bytes
 pub mod Scalars
+pub mod NodeCounts
+pub mod Light
+pub mod Shortness
+pub mod Near

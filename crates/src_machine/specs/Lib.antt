@@ -3,4 +3,5 @@ pub mod Passing
 pub mod Progress
 pub mod Seen
 pub mod Stepping
+pub mod Steps
 pub mod Telling

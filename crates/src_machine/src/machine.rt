@@ -82,6 +82,7 @@ pub(crate) struct Machine<'a> {
 // statement, an expression, a place, a call that goes on. A switch whose body runs has two, but then its value's
 // nodes have none. The value of an argument that waits for its call has a node of its own. So an activation has
 // two frames more than nodes at most, those of its body and of its caller, and what the handler interrupts is one.
+#[tactic(auto, using(crate::proofs::Near::weighs, crate::proofs::NodeCounts::few_nodes))]
 fn room_of(program: &Typed) -> usize {
     let more = (program.functions.len() as u64).saturating_mul(2);
     program
