@@ -22,3 +22,7 @@ pub mod NodeCounts
 pub mod Light
 pub mod Shortness
 pub mod Near
+pub mod Ready
+pub mod Waits
+pub mod Going
+pub mod Following

@@ -1,12 +1,14 @@
 -- The nodes of a tree of the code are those of it as pure data.
-use Rattle.std.proofs.Common.{◌≡◌, ◌≤◌, ℕ, ◌+◌, List, [], ◌∷◌, Option, Some, None, map, length, refl, sym, ap, subst, ◌∙◌, arith}
+use Rattle.std.proofs.Common.{◌≡◌, ◌≤◌, ℕ, ◌+◌, ◌*◌, List, [], ◌∷◌, Option, Some, None, map, length, refl, sym, ap, subst, ◌∙◌, arith}
 use Rattle.std.specs.Global.{Box}
+use Rattle.std.proofs.lemmas.List.{length-map}
+use Rattle.src_machine.specs.Steps.{most_waiting}
 use Rattle.std.specs.Option.{option_map}
 use Rattle.c_typed.specs.Nodes as counted
 use Rattle.c_typed.specs.Nodes.{total, expression_nodes, place_nodes, any_nodes, statement_nodes, arm_nodes, last_nodes, function_nodes, program_nodes}
 use Rattle.c_typed.specs.TreeNodes as pure
 use Rattle.c_typed.specs.TreeNodes.{nodes_in, nodes_of_all, nodes_at, nodes_in_any, items_nodes, nodes_of_body, arms_nodes, functions_nodes, nodes_of}
-use Rattle.c_typed.specs.Trees.{Expression, Place, Statement, Arm}
+use Rattle.c_typed.specs.Trees.{Expression, Place, Statement, Arm, FunctionTree, Program}
 use Rattle.c_typed.specs.Views as views
 use Rattle.c_typed.specs.Views.{expression_of, place_of, arguments_of, item_of, statement_of, arm_of, statements_of, arms_of, function_of, program_of}
 use Rattle.c_typed.specs.declared.expression.TExpr.{TExpr}
@@ -171,12 +173,19 @@ pub program_counts : (p : Typed) → nodes_of (program_of p) ≡ program_nodes p
 program_counts p = functions_count p.functions.items
 
 -- each function is a node
-functions_few : (fs : List Function) → length fs ≤ program_nodes fs
+functions_few : (fs : List FunctionTree) → length fs ≤ functions_nodes fs
 functions_few [] = omega arith
 functions_few (f ∷ fs) = let i = functions_few fs in omega arith
+
+pub few_functions : (p : Program) → length p.functions ≤ nodes_of p
+few_functions p = functions_few p.functions
 
 pub few_nodes : (p : Typed) → nodes_of (program_of p) ≤ 268435456
 few_nodes p = let c = program_counts p in let s = p.small in omega arith
 
-pub few_functions : (p : Typed) → length p.functions.items ≤ nodes_of (program_of p)
-few_functions p = let c = program_counts p in let f = functions_few p.functions.items in omega arith
+-- the room of a machine
+pub room_fits : (p : Typed) → 2 * (program_nodes p.functions.items + length p.functions.items) + 3 ≤ 2147483648
+room_fits p = let c = program_counts p in let f = few_functions (program_of p) in let l = length-map p.functions.items function_of in let s = few_nodes p in omega arith
+
+pub room_is : (p : Typed) → 2 * (program_nodes p.functions.items + length p.functions.items) ≡ most_waiting (program_of p)
+room_is p = let c = program_counts p in let l = length-map p.functions.items function_of in omega arith

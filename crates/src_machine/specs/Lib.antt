@@ -4,4 +4,5 @@ pub mod Progress
 pub mod Seen
 pub mod Stepping
 pub mod Steps
+pub mod Sources
 pub mod Telling

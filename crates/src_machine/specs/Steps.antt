@@ -7,6 +7,7 @@ use Rattle.c_typed.specs.Trees.{Program}
 use Rattle.call_graph.specs.Levels.{IsAcyclic}
 use Rattle.pic_map.specs.MapContent.{MapContent}
 use Rattle.pic_world.specs.World.{World, Outside, arrived}
+use Rattle.src_machine.specs.Progress.{taken_by}
 use Rattle.src_machine.specs.Seen.{IsAt, state_in}
 use Rattle.src_machine.specs.Stepping.{Rests, is_ending, taker_of}
 use Rattle.src_machine.specs.Telling.{Tells}
@@ -77,5 +78,5 @@ pub record TellsTake (s : Setting) (map : MapContent) (t : State) (by : Taker) (
   pub program : after.program ≡ before.program
   pub handler : after.handler ≡ before.handler
   pub shaped : IsShaped s.program map after.memory
-  pub few : is_ending (outcome_of end) ≡ false → events_of after.world ≤ events_of before.world + 1
+  pub few : is_ending (outcome_of end) ≡ false → events_of after.world ≤ events_of before.world + taken_by end
   pub room : vec_capacity before.stack ≤ vec_capacity after.stack

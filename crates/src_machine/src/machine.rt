@@ -1,6 +1,6 @@
 //! The source machine: its state, and its micro-steps.
 
-ghost use Rattle.std.specs.Prelude.{ℕ, ◌≡◌, ◌∷◌, ◌≤◌, ◌+◌, IfSome, IfNone, [], true, false, drop, take, reverse, slice_get};
+ghost use Rattle.std.specs.Prelude.{ℕ, ◌≡◌, ◌∷◌, ◌≤◌, ◌+◌, IfOk, IfSome, IfNone, length, [], true, false, drop, take, reverse, slice_get};
 ghost use Rattle.std.specs.Vec.{vec_len, vec_capacity};
 ghost use Rattle.c_typed.specs.Trees.{Program};
 ghost use Rattle.c_typed.specs.Views.{program_of, expression_of};
@@ -8,6 +8,10 @@ ghost use Rattle.pic_map.specs.MapContent.{MapContent};
 ghost use Rattle.pic_world.specs.World.{World as Worlds, Outside, left, entered};
 ghost use Rattle.src_machine.specs.Seen.{waiting, interrupted_in, stack_of, above, memory_of, state_in, silent, HasRoom};
 ghost use Rattle.src_machine.specs.Stepping.{CanStep, TellsStep};
+ghost use Rattle.src_machine.specs.Steps.{CanGo, IsGiven, TellsTake, most_waiting, went_if};
+ghost use Rattle.src_machine.specs.Sources.{BeginsAt};
+ghost use Rattle.pic_map.specs.MapView.{content_of};
+ghost use Rattle.src_values.specs.Objects.{main_of};
 ghost use Rattle.src_machine.specs.Telling.{Tells, with_taken, is_quiet, is_interrupted};
 ghost use Rattle.src_memory.specs.Seen.{IsWorld, outside_by};
 ghost use Rattle.src_memory.specs.Shape.{IsShaped};
@@ -70,40 +74,42 @@ pub(crate) struct Machine<'a> {
     // the focus that the handler interrupted
     pub interrupted: Focus<'a>,
     pub stack: Vec<Pending<'a>>,
-    // how many frames have room
-    room: usize,
     pub memory: Memory,
     pub world: World,
     handler: Option<usize>,
 }
 
-// What can wait at a time. A function is active at most once for each root, where a program has no recursion. In
-// one activation the nodes from its body down to where it stands have one frame each: a list of statements, a
-// statement, an expression, a place, a call that goes on. A switch whose body runs has two, but then its value's
-// nodes have none. The value of an argument that waits for its call has a node of its own. So an activation has
-// two frames more than nodes at most, those of its body and of its caller, and what the handler interrupts is one.
-#[tactic(auto, using(crate::proofs::Near::weighs, crate::proofs::NodeCounts::few_nodes))]
-fn room_of(program: &Typed) -> usize {
-    let more = (program.functions.len() as u64).saturating_mul(2);
-    program
-        .nodes()
-        .saturating_add(more)
-        .min(0x3000_0000)
-        .saturating_mul(2)
-        .saturating_add(8) as usize
+// So much can wait at a time, and three more in a micro-step. A function is active at most once for each root, where a
+// program has no recursion. In one activation the nodes from its body down to where it stands have one frame each: a list of
+// statements, a statement, an expression, a place, a call that goes on. A switch whose body runs has two, but then its
+// value's nodes have none. The value of an argument that waits for its call has a node of its own. So an activation has at
+// most a frame for each node, and one for its caller or for what the handler interrupted.
+#[tactic(auto, using(crate::proofs::NodeCounts::room_fits, crate::proofs::NodeCounts::room_is))]
+fn room_of(program: &Typed) -> usize
+    ensures { result ≡ most_waiting (program_of program.now) + 3 }
+{
+    2 * (program.nodes() as usize + program.functions.len()) + 3
+}
+
+// The number of main.
+fn main_or_first(program: &Typed) -> usize
+    ensures { result ≡ main_of (program_of program.now) }
+{
+    match main_in(program) {
+        Some(main) => main,
+        None => 0,
+    }
 }
 
 impl<'a> Machine<'a> {
     /// A program before its first step, with all the room that its run needs.
-    pub fn new(alloc: Global, program: &'a Typed, map: &'a Map) -> Result<Machine<'a>, AllocError> {
+    pub fn new(alloc: Global, program: &'a Typed, map: &'a Map) -> Result<Machine<'a>, AllocError>
+        ensures begins { IfOk result (λ m. (s : Setting) → s.program ≡ program_of program.now → IsGiven s → length s.program.statics ≤ 65536 → BeginsAt s (content_of map.now) m) }
+    {
         let memory = Memory::new(alloc, program, map)?;
-        let room = room_of(program);
         let mut stack = Vec::new(alloc);
-        stack.try_reserve(room)?;
-        let main = match main_in(program) {
-            Some(main) => main,
-            None => 0,
-        };
+        stack.try_reserve(room_of(program))?;
+        let main = main_or_first(program);
         let mut machine = Machine {
             program,
             copy: CopyOf {
@@ -113,7 +119,6 @@ impl<'a> Machine<'a> {
             focus: Focus::Past,
             interrupted: Focus::Past,
             stack,
-            room,
             memory,
             world: World::new(),
             handler: handler_in(program),
@@ -125,34 +130,29 @@ impl<'a> Machine<'a> {
     /// The same program at the same place, with room of its own.
     pub fn copy(&self) -> Result<Machine<'a>, AllocError> {
         let mut stack = self.stack.clone()?;
-        stack.try_reserve(self.room.saturating_sub(self.stack.len()))?;
+        stack.try_reserve(self.stack.capacity() - self.stack.len())?;
         Ok(Machine {
             program: self.program,
             copy: self.copy,
             focus: self.focus,
             interrupted: self.interrupted,
             stack,
-            room: self.room,
             memory: self.memory.clone()?,
             world: self.world,
             handler: self.handler,
         })
     }
 
-    /// Micro-steps up to one that counts as a step, and what took it.
-    pub fn step(&mut self, script: &Script) -> (Taker, SrcEnd) {
-        for _ in 0..u64::MAX {
+    /// Micro-steps up to one that counts as a step, and what took it. Less is left to do after each of the others, and at the first
+    /// less than the loop has turns.
+    pub fn step(&mut self, script: &Script) -> (Taker, SrcEnd)
+        ensures { (s : Setting) (map : MapContent) (w : Worlds Bytes) → s.outside ≡ outside_by script.now → CanGo s map self.old w → TellsTake s map (state_in self.old w) result.0 result.1 self.old self.new }
+    {
+        for _done in 0..u128::MAX {
             let (taker, counts, outcome) = self.micro_step(script);
-            match outcome {
-                Outcome::Went(event) => {
-                    if counts {
-                        return (taker, SrcEnd::Went(event));
-                    }
-                }
-                Outcome::Undefined { kind, line } => {
-                    return (taker, SrcEnd::Undefined { kind, line });
-                }
-                Outcome::Idle | Outcome::Lost => break,
+            match end_of(counts, outcome) {
+                Some(end) => return (taker, end),
+                None => {}
             }
         }
         (Taker::Main, SrcEnd::Idle)
@@ -536,6 +536,21 @@ pub(crate) fn undefined(kind: Undef, line: u32) -> Outcome
     ensures quiet { is_quiet result ≡ true }
 {
     Outcome::Undefined { kind, line }
+}
+
+// How a step ends, if it ends with this micro-step.
+fn end_of(counts: bool, outcome: Outcome) -> Option<SrcEnd>
+    ensures { result ≡ went_if counts outcome }
+{
+    match outcome {
+        Outcome::Went(event) => if counts {
+            Some(SrcEnd::Went(event))
+        } else {
+            None
+        },
+        Outcome::Undefined { kind, line } => Some(SrcEnd::Undefined { kind, line }),
+        Outcome::Idle | Outcome::Lost => Some(SrcEnd::Idle),
+    }
 }
 
 fn taker_in(root: Root) -> Taker {
