@@ -18,3 +18,6 @@ pub mod Turns
 pub mod Waiting
 pub mod Bytes
 pub mod Scalars
+pub mod Premises
+pub mod Acting
+pub mod Microsteps

@@ -1,5 +1,5 @@
 -- What a micro-step of the code is given, and what it tells: the one of the definition, who takes it, and whether it counts.
-use Rattle.std.specs.Prelude.{ℕ, ◌≡◌, ◌+◌, ◌≤◌, Bool, Option, Some, None}
+use Rattle.std.specs.Prelude.{ℕ, ◌≡◌, ◌+◌, ◌≤◌, Bool, true, false, Option, Some, None}
 use Rattle.std.specs.Vec.{vec_capacity}
 use Rattle.pic_map.specs.MapContent.{MapContent}
 use Rattle.pic_world.specs.World.{World, Outside, arrived}
@@ -48,14 +48,21 @@ Rests s (ends.Went event) m t = Unit {0}
 Rests s (ends.Undefined kind line) m t = Unit {0}
 Rests s ends.Lost m t = Unit {0}
 
+-- the run is over with an undefined step
+abbrev pub is_ending : Outcome → Bool
+is_ending (ends.Went event) = false
+is_ending (ends.Undefined kind line) = true
+is_ending ends.Idle = false
+is_ending ends.Lost = false
+
 -- What a micro-step from a state tells, and what it keeps.
-pub record TellsStep (s : Setting) (map : MapContent) (t : State) (taker : Taker) (counted : Bool) (outcome : Outcome) (before after : Machine) : Type 0 where
+pub record TellsStep (s : Setting) (map : MapContent) (t : State) (by : Taker) (counts_one : Bool) (outcome : Outcome) (before after : Machine) : Type 0 where
   pub told : Tells s.outside (address_of s.program map) outcome after (step s t)
-  pub counted : counted ≡ counts s t
-  pub taker : taker ≡ taker_of s t
+  pub counted : counts_one ≡ counts s t
+  pub taker : by ≡ taker_of s t
   pub rests : Rests s outcome after t
   pub program : after.program ≡ before.program
   pub handler : after.handler ≡ before.handler
   pub shaped : IsShaped s.program map after.memory
-  pub few : events_of after.world ≤ events_of before.world + 1
+  pub few : is_ending outcome ≡ false → events_of after.world ≤ events_of before.world + 1
   pub room : vec_capacity before.stack ≤ vec_capacity after.stack
