@@ -1,9 +1,6 @@
 -- The micro-step of a focus, where the state stands: what each transition needs is there.
-use Rattle.std.proofs.Common.{◌≡◌, ℕ, ◌+◌, ◌-◌, ◌<◌, ◌≤◌, ◌^◌, Bool, true, false, List, [], ◌∷◌, Option, refl, sym, ap, ◌∙◌, subst, arith, drop}
-use Rattle.std.specs.Borrow.{Bor}
-use Rattle.std.specs.Vec.{vec_len, vec_capacity}
+use Rattle.std.proofs.Common.{◌≡◌, ℕ, ◌-◌, ◌<◌, ◌≤◌, ◌^◌, true, false, Option, refl, sym, ap, ◌∙◌, subst, arith, drop}
 use Rattle.c_typed.specs.Types.{type_bytes}
-use Rattle.c_typed.specs.Trees.{Program}
 use Rattle.c_typed.specs.Views.{program_of, expression_of, place_of}
 use Rattle.pic_map.specs.MapContent.{MapContent}
 use Rattle.pic_world.specs.World.{World, Outside}
@@ -11,7 +8,7 @@ use Rattle.src_machine.proofs.Bytes.{setting_at, silent_tells}
 use Rattle.src_machine.proofs.Premises.{byte_known, met_known, value_known, no_value, call_fits, end_small}
 use Rattle.src_machine.proofs.Tellings.{tells_silent}
 use Rattle.src_machine.specs.Passing.{FitCall}
-use Rattle.src_machine.specs.Seen.{waiting, interrupted_in, stack_of, memory_of, silent, setting_of, HasRoom, HasNoValue, IsAt, IsGoing}
+use Rattle.src_machine.specs.Seen.{waiting, interrupted_in, stack_of, memory_of, silent, setting_of, HasRoom, HasNoValue, IsGoing}
 use Rattle.src_machine.specs.Stepping.{CanStep}
 use Rattle.src_machine.specs.Telling.{Tells, is_quiet}
 use Rattle.src_machine.specs.declared.machine.Machine.{Machine}

@@ -1,9 +1,9 @@
 -- A micro-step of the code: arrivals come first, then the handler if it is due, and otherwise what the focus says.
-use Rattle.std.proofs.Common.{◌≡◌, ℕ, ◌+◌, ◌<◌, ◌≤◌, ◌^◌, Bool, true, false, ◌&&◌, List, [], ◌∷◌, ◌++◌, length, Option, Some, None, is_some, refl, sym, ap, ◌∙◌, subst, arith}
+use Rattle.std.proofs.Common.{◌≡◌, ℕ, ◌+◌, ◌≤◌, Bool, true, false, ◌&&◌, List, [], ◌∷◌, length, Option, Some, None, is_some, refl, sym, ap, ◌∙◌, subst, arith}
 use Rattle.std.proofs.lemmas.Bool.{false≢true}
 use Rattle.std.proofs.lemmas.List.{length-append}
 use Rattle.std.specs.Prelude.{if◌then◌else◌}
-use Rattle.std.specs.Vec.{vec_len, vec_capacity}
+use Rattle.std.specs.Vec.{vec_capacity}
 use Rattle.c_typed.specs.Trees.{Program}
 use Rattle.c_typed.specs.Views.{program_of}
 use Rattle.pic_map.specs.MapContent.{MapContent}
@@ -145,7 +145,7 @@ went_steps o a ends.Idle m t event h = absurd h
 went_steps o a ends.Lost m t event h = refl
 
 -- ---- the three cases
--- which fields may change
+-- a micro-step leaves the program and the handler's number alone
 abbrev pub IsOf : Machine → Machine → Type 0
 IsOf new old = (new.program ≡ old.program) × (new.handler ≡ old.handler)
 

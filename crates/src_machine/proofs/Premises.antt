@@ -1,12 +1,12 @@
 -- What micro-steps of the code need, of a state that stands.
-use Rattle.std.proofs.Common.{◌≡◌, ℕ, ◌+◌, ◌-◌, ◌<◌, ◌≤◌, ◌^◌, Bool, true, false, List, [], ◌∷◌, ◌++◌, length, Option, Some, None, refl, sym, ap, ◌∙◌, subst, arith}
+use Rattle.std.proofs.Common.{◌≡◌, ℕ, ◌+◌, ◌-◌, ◌<◌, ◌≤◌, ◌^◌, Bool, true, false, List, [], ◌∷◌, refl, sym, ap, ◌∙◌, arith}
 use Rattle.std.proofs.lemmas.Bool.{false≢true}
 use Rattle.c_typed.specs.Trees as tree
 use Rattle.c_typed.specs.Trees.{Expressions, Program, VariableTree}
 use Rattle.c_typed.specs.Types.{type_bytes, type_of}
 use Rattle.c_typed.specs.declared.types.Ty.{Ty}
 use Rattle.pic_world.specs.Roots.{same_root}
-use Rattle.pic_world.specs.declared.Root.TheVariants.{Main, Isr}
+use Rattle.pic_world.specs.declared.Root.TheVariants.{Isr}
 use Rattle.src_machine.specs.Passing.{FitFrom, FitCall}
 use Rattle.src_machine.specs.Telling.{is_interrupted}
 use Rattle.src_memory.specs.Accessed.{byte_met}
@@ -21,9 +21,9 @@ use Rattle.src_values.specs.Control as control
 use Rattle.src_values.specs.Control.{Focus, Passed, In}
 use Rattle.src_values.specs.Data.{Datum}
 use Rattle.src_values.specs.Memory.{Memory}
-use Rattle.src_values.specs.Objects.{function_at, variables_of, object_bytes}
+use Rattle.src_values.specs.Objects.{function_at, variables_of}
 use Rattle.src_values.specs.Seen.{values_on, frames_behind, frames_in, unless_of_call, has_values}
-use Rattle.src_values.specs.Values.{byte_count, byte_of}
+use Rattle.src_values.specs.Values.{byte_of}
 use Rattle.src_values.specs.declared.control.Pending.{Pending}
 use Rattle.src_values.specs.declared.control.Pending.TheVariants as frames
 use Rattle.src_values.specs.declared.objects.Byte.{Byte}

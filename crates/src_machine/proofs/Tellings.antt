@@ -1,5 +1,5 @@
 -- A micro-step that makes no event and leaves the world alone, beside those that don't.
-use Rattle.std.proofs.Common.{◌≡◌, ℕ, true, false, List, [], Option, Some, None, refl, sym, subst, ap}
+use Rattle.std.proofs.Common.{◌≡◌, ℕ, true, false, [], Option, Some, None, refl, sym, subst, ap}
 use Rattle.pic_world.specs.World.{World, Outside, Ended, noted}
 use Rattle.pic_world.specs.declared.Event.TheVariants.{End}
 use Rattle.src_machine.specs.Seen.{silent, waiting, interrupted_in, stack_of, memory_of}

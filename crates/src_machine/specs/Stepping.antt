@@ -1,8 +1,8 @@
 -- What a micro-step of the code is given, and what it tells: the one of the definition, who takes it, and whether it counts.
-use Rattle.std.specs.Prelude.{ℕ, ◌≡◌, ◌+◌, ◌≤◌, Bool, true, false, Option, Some, None}
+use Rattle.std.specs.Prelude.{◌≡◌, ◌+◌, ◌≤◌, Bool, true, false}
 use Rattle.std.specs.Vec.{vec_capacity}
 use Rattle.pic_map.specs.MapContent.{MapContent}
-use Rattle.pic_world.specs.World.{World, Outside, arrived}
+use Rattle.pic_world.specs.World.{World, arrived}
 use Rattle.pic_world.specs.declared.Root.{Root}
 use Rattle.pic_world.specs.declared.Root.TheVariants as roots
 use Rattle.src_machine.specs.Seen.{HasRoom, IsAt, state_in}
@@ -56,9 +56,9 @@ is_ending ends.Idle = false
 is_ending ends.Lost = false
 
 -- What a micro-step from a state tells, and what it keeps.
-pub record TellsStep (s : Setting) (map : MapContent) (t : State) (by : Taker) (counts_one : Bool) (outcome : Outcome) (before after : Machine) : Type 0 where
+pub record TellsStep (s : Setting) (map : MapContent) (t : State) (by : Taker) (counting : Bool) (outcome : Outcome) (before after : Machine) : Type 0 where
   pub told : Tells s.outside (address_of s.program map) outcome after (step s t)
-  pub counted : counts_one ≡ counts s t
+  pub counted : counting ≡ counts s t
   pub taker : by ≡ taker_of s t
   pub rests : Rests s outcome after t
   pub program : after.program ≡ before.program

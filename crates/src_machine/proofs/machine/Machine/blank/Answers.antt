@@ -1,21 +1,17 @@
-use Rattle.std.proofs.Common.{◌≡◌, ◌<◌, ◌≤◌, ◌+◌, ◌-◌, ℕ, true, false, arith, refl, sym, subst, length, map, drop, List, suc, Some, ap, ◌∙◌}
-use Rattle.src_machine.specs.Seen.{stack_of, memory_of, active_in, setting_of, IsListOf, is_scalar, waiting, interrupted_in}
+use Rattle.std.proofs.Common.{◌+◌, ◌-◌, arith, sym, subst, map, drop, ap, ◌∙◌}
+use Rattle.src_machine.specs.Seen.{stack_of, memory_of, active_in, waiting, interrupted_in}
 use Rattle.src_machine.specs.Telling.{Tells}
-use Rattle.src_memory.specs.Shape.{IsKnown, IsShaped}
+use Rattle.src_memory.specs.Shape.{IsShaped}
 use Rattle.src_memory.specs.Shown.{address_of}
-use Rattle.src_rules.specs.Accesses.{after_putting, fetched, items, stored_for, behind_first}
+use Rattle.src_rules.specs.Accesses.{after_putting}
 use Rattle.src_values.specs.Accesses.{put_byte}
 use Rattle.src_values.specs.Control as control
 use Rattle.src_values.specs.Control.{line_at}
-use Rattle.src_values.specs.Objects.{next_byte, behind, local_of}
-use Rattle.src_values.specs.Seen.{focus_in, datum_of, read_of, statement_in, stage_in, frames_in, list_on, list_seen}
-use Rattle.src_values.specs.Values.{byte_of, fits_behind}
-use Rattle.src_rules.specs.Accesses as rules
-use Rattle.c_typed.specs.Types.{type_bytes}
+use Rattle.src_values.specs.Objects.{behind, local_of}
+use Rattle.src_values.specs.Seen.{focus_in, frames_in, list_on, list_seen}
 use Rattle.c_typed.specs.Views.{item_of, program_of}
 use Rattle.src_values.specs.Lists.{covered_from}
 use Rattle.src_values.specs.declared.objects.Byte.TheVariants as bytes
-use Rattle.c_typed.proofs.Shapes.{show_statement_init_list, show_statement_init_scalar}
 use Rattle.src_machine.proofs.Bytes.{blank_on, blank_over, blank_start, put_told, stored_tells}
 use Rattle.src_machine.proofs.machine.Machine.blank.Goals as goal
 

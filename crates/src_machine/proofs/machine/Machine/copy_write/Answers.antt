@@ -1,15 +1,11 @@
-use Rattle.std.proofs.Common.{◌≡◌, ◌<◌, ◌≤◌, ◌+◌, ◌-◌, ℕ, true, false, arith, refl, sym, subst, ap, ◌∙◌}
-use Rattle.src_machine.specs.Seen.{stack_of, memory_of, active_in}
+use Rattle.std.proofs.Common.{subst, ap, ◌∙◌}
+use Rattle.src_machine.specs.Seen.{stack_of, memory_of}
 use Rattle.src_machine.specs.Telling.{Tells}
-use Rattle.src_memory.specs.Shape.{IsKnown}
 use Rattle.src_memory.specs.Shown.{address_of}
-use Rattle.src_rules.specs.Accesses.{after_putting}
-use Rattle.src_values.specs.Accesses.{put_byte}
 use Rattle.src_values.specs.Control as control
 use Rattle.src_values.specs.Control.{line_at}
 use Rattle.src_values.specs.Objects.{next_byte}
-use Rattle.src_values.specs.Seen.{focus_in, datum_of}
-use Rattle.src_values.specs.Values.{byte_of}
+use Rattle.src_values.specs.Seen.{focus_in}
 use Rattle.src_machine.proofs.Bytes.{put_told, copy_write_on}
 use Rattle.src_machine.proofs.machine.Machine.copy_write.Goals as goal
 

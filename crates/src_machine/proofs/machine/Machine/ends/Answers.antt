@@ -1,4 +1,3 @@
-use Rattle.std.proofs.Common.{refl}
 use Rattle.pic_world.specs.World.{Ended}
 use Rattle.src_machine.proofs.Tellings.{ended_tells}
 use Rattle.src_machine.proofs.machine.Machine.ends.Goals as goal
