@@ -166,20 +166,20 @@ impl<'a> Machine<'a> {
     {
         self.world.arrive(script);
         if !self.world.is_due() {
-            let (taker, line, outcome) = self.go_on_counted(script);
+            let (taker, line, outcome) = self.act_counted(script);
             return (taker, line.is_some(), outcome);
         }
         match self.handler {
             Some(handler) => (Taker::Interrupt, true, self.enter(handler)),
             None => {
-                let (taker, line, outcome) = self.go_on_counted(script);
+                let (taker, line, outcome) = self.act_counted(script);
                 (taker, line.is_some(), refused(line, outcome))
             }
         }
     }
 
     // The micro-step of the focus, what takes it, and the line of the step that it is, if it counts as one.
-    fn go_on_counted(&mut self, script: &Script) -> (Taker, Option<u32>, Outcome)
+    fn act_counted(&mut self, script: &Script) -> (Taker, Option<u32>, Outcome)
         ensures taker { result.0 ≡ taker_at false self.old.copy.root }
         ensures line { result.1 ≡ stated_line (program_of self.old.program.now) self.old.copy (focus_in self.old.focus) (stack_of self.old) }
         ensures tells { (s : Setting) (map : MapContent) (w : Worlds Bytes) → s.outside ≡ outside_by script.now → CanStep s map self.old w → Tells s.outside (address_of s.program map) result.2 self.new (act s (focus_in self.old.focus) (stack_of self.old) self.old.copy (memory_of self.old) w) }

@@ -14,7 +14,7 @@ returns-then-not-is_due c = record {
   tells = λ s map w outside here.
       let before = c.args.self.now in
       let world = c.arrive.new.self in
-      let turn = c.go_on_counted-taker in
+      let turn = c.act_counted-taker in
       let is = arrives s.outside (outside_by c.args.script.now) before.world world w outside (c.arrive.ensures.world w) here.at.world in
       subst (λ one. TellsStep s map (state_in before w) turn.result.0 one turn.result.2 before turn.new.self) (sym c.is_some.ensures)
       (acted_told s map before turn.new.self world w turn.result.2 here is (ap (λ m. m.program) turn.ensures.others, ap (λ m. m.handler) turn.ensures.others) turn.ensures.shape turn.ensures.room turn.result.0 turn.result.1 turn.ensures.taker turn.ensures.line
@@ -37,7 +37,7 @@ returns-in-None c = record {
   tells = λ s map w outside here.
       let before = c.args.self.now in
       let world = c.arrive.new.self in
-      let turn = c.go_on_counted-taker-in-None in
+      let turn = c.act_counted-taker-in-None in
       let is = arrives s.outside (outside_by c.args.script.now) before.world world w outside (c.arrive.ensures.world w) here.at.world in
       subst (λ one. TellsStep s map (state_in before w) turn.result.0 one c.refused.result before turn.new.self) (sym c.is_some-in-None.ensures)
       (refused_told s map before turn.new.self world w c.refused.result here is (ap (λ m. m.program) turn.ensures.others, ap (λ m. m.handler) turn.ensures.others) turn.ensures.shape turn.ensures.room turn.result.0 turn.result.1 turn.ensures.taker turn.ensures.line
