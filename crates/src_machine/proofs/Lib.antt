@@ -18,6 +18,9 @@ pub mod Turns
 pub mod Waiting
 pub mod Bytes
 pub mod Scalars
+pub mod Premises
+pub mod Acting
+pub mod Microsteps
 pub mod NodeCounts
 pub mod Light
 pub mod Shortness

@@ -1,8 +1,8 @@
 -- What a micro-step of the code is given, and what it tells: the one of the definition, who takes it, and whether it counts.
-use Rattle.std.specs.Prelude.{ℕ, ◌≡◌, ◌+◌, ◌≤◌, Bool, true, false, Option, Some, None}
+use Rattle.std.specs.Prelude.{◌≡◌, ◌+◌, ◌≤◌, Bool, true, false}
 use Rattle.std.specs.Vec.{vec_capacity}
 use Rattle.pic_map.specs.MapContent.{MapContent}
-use Rattle.pic_world.specs.World.{World, Outside, arrived}
+use Rattle.pic_world.specs.World.{World, arrived}
 use Rattle.pic_world.specs.declared.Root.{Root}
 use Rattle.pic_world.specs.declared.Root.TheVariants as roots
 use Rattle.src_machine.specs.Seen.{HasRoom, IsAt, state_in}

@@ -7,18 +7,20 @@ ghost use Rattle.c_typed.specs.Views.{program_of, expression_of};
 ghost use Rattle.pic_map.specs.MapContent.{MapContent};
 ghost use Rattle.pic_world.specs.World.{World as Worlds, Outside, left, entered};
 ghost use Rattle.src_machine.specs.Seen.{waiting, interrupted_in, stack_of, above, memory_of, state_in, silent, HasRoom};
-ghost use Rattle.src_machine.specs.Stepping.{CanStep, TellsStep};
+ghost use Rattle.src_machine.specs.Stepping.{CanStep, TellsStep, taker_at};
 ghost use Rattle.src_machine.specs.Steps.{CanGo, IsGiven, TellsTake, most_waiting, went_if};
 ghost use Rattle.src_machine.specs.Sources.{BeginsAt};
 ghost use Rattle.pic_map.specs.MapView.{content_of};
 ghost use Rattle.src_values.specs.Objects.{main_of};
-ghost use Rattle.src_machine.specs.Telling.{Tells, with_taken, is_quiet, is_interrupted};
+ghost use Rattle.src_machine.specs.Telling.{Tells, with_taken, is_quiet, is_idle, is_interrupted};
 ghost use Rattle.src_memory.specs.Seen.{IsWorld, outside_by};
 ghost use Rattle.src_memory.specs.Shape.{IsShaped};
+ghost use Rattle.src_memory.specs.Shown.{address_of};
 ghost use Rattle.src_rules.specs.Accesses.{goes};
 ghost use Rattle.src_rules.specs.State as rules;
 ghost use Rattle.src_machine.specs.Passing.{values_among, value_in, are_values, missing_in, given, called, FitFrom, FitAt, FitCall};
-ghost use Rattle.src_rules.specs.Step.{body_of, copy_of, call, call_in, enter, refused, with_values, has_missing};
+ghost use Rattle.src_rules.specs.Step.{body_of, copy_of, act, call, call_in, enter, refused, with_values, has_missing};
+ghost use Rattle.src_values.specs.Counting.{counted_line as stated_line};
 ghost use Rattle.src_values.specs.Memory.{fresh, Setting};
 ghost use Rattle.src_values.specs.Seen.{focus_in, got_in, has_values, values_on, frames_behind};
 ghost use Rattle.src_values.specs.Control as control;
@@ -164,20 +166,42 @@ impl<'a> Machine<'a> {
         ensures tells { (s : Setting) (map : MapContent) (w : Worlds Bytes) → s.outside ≡ outside_by script.now → CanStep s map self.old w → TellsStep s map (state_in self.old w) result.0 result.1 result.2 self.old self.new }
     {
         self.world.arrive(script);
-        let due = self.world.is_due();
-        if due {
-            if let Some(handler) = self.handler {
-                return (Taker::Interrupt, true, self.enter(handler));
+        if !self.world.is_due() {
+            let (taker, line, outcome) = self.act_counted(script);
+            return (taker, line.is_some(), outcome);
+        }
+        match self.handler {
+            Some(handler) => (Taker::Interrupt, true, self.enter(handler)),
+            None => {
+                let (taker, line, outcome) = self.act_counted(script);
+                (taker, line.is_some(), refused(line, outcome))
             }
         }
-        let taker = taker_in(self.copy.root);
-        let line = counted_line(self.program, self.copy, self.focus, self.stack.last());
-        let outcome = self.act(script);
-        let outcome = if due { refused(line, outcome) } else { outcome };
-        (taker, line.is_some(), outcome)
     }
 
-    fn act(&mut self, script: &Script) -> Outcome {
+    // The micro-step of the focus, what takes it, and the line of the step that it is, if it counts as one.
+    fn act_counted(&mut self, script: &Script) -> (Taker, Option<u32>, Outcome)
+        ensures taker { result.0 ≡ taker_at false self.old.copy.root }
+        ensures line { result.1 ≡ stated_line (program_of self.old.program.now) self.old.copy (focus_in self.old.focus) (stack_of self.old) }
+        ensures tells { (s : Setting) (map : MapContent) (w : Worlds Bytes) → s.outside ≡ outside_by script.now → CanStep s map self.old w → Tells s.outside (address_of s.program map) result.2 self.new (act s (focus_in self.old.focus) (stack_of self.old) self.old.copy (memory_of self.old) w) }
+        ensures others { self.new ≡ record self.old { copy = self.new.copy; focus = self.new.focus; stack = self.new.stack; memory = self.new.memory; world = self.new.world } }
+        ensures shape { (p : Program) (map : MapContent) → IsShaped p map self.old.memory → IsShaped p map self.new.memory }
+        ensures room { vec_capacity self.old.stack ≤ vec_capacity self.new.stack }
+        ensures rests { is_idle result.2 ≡ true → self.new ≡ self.old }
+    {
+        let taker = taker_in(self.copy.root);
+        let line = counted_line(self.program, self.copy, self.focus, self.top());
+        (taker, line, self.act(script))
+    }
+
+    // The micro-step that the focus says.
+    fn act(&mut self, script: &Script) -> Outcome
+        ensures tells { (s : Setting) (map : MapContent) (w : Worlds Bytes) → s.outside ≡ outside_by script.now → CanStep s map self.old w → Tells s.outside (address_of s.program map) result self.new (act s (focus_in self.old.focus) (stack_of self.old) self.old.copy (memory_of self.old) w) }
+        ensures others { self.new ≡ record self.old { copy = self.new.copy; focus = self.new.focus; stack = self.new.stack; memory = self.new.memory; world = self.new.world } }
+        ensures shape { (p : Program) (map : MapContent) → IsShaped p map self.old.memory → IsShaped p map self.new.memory }
+        ensures room { vec_capacity self.old.stack ≤ vec_capacity self.new.stack }
+        ensures rests { is_idle result ≡ true → self.new ≡ self.old }
+    {
         match self.focus {
             Focus::Eval(expr) => self.eval(expr),
             Focus::Find(place) => self.find(place),
@@ -215,6 +239,8 @@ impl<'a> Machine<'a> {
     fn enter(&mut self, handler: usize) -> Outcome
         ensures tells { HasRoom 2 self.old → is_interrupted (waiting self.old) ≡ false → (o : Outside) (a : AnyObject → ℕ) (w : Worlds Bytes) → IsWorld o self.old.world w → Tells o a result self.new (enter (program_of self.old.program.now) handler (focus_in self.old.focus) (stack_of self.old) self.old.copy (memory_of self.old) w) }
         ensures shape { (p : Program) (map : MapContent) → IsShaped p map self.old.memory → IsShaped p map self.new.memory }
+        ensures others { self.new ≡ record self.old { copy = self.new.copy; focus = self.new.focus; interrupted = self.new.interrupted; stack = self.new.stack; memory = self.new.memory; world = self.new.world } }
+        ensures room { vec_capacity self.old.stack ≤ vec_capacity self.new.stack }
     {
         self.world.enter();
         self.interrupted = self.focus;
@@ -228,6 +254,7 @@ impl<'a> Machine<'a> {
     pub fn resume(&mut self, copy: CopyOf) -> Outcome
         ensures tells { (o : Outside) (a : AnyObject → ℕ) (w : Worlds Bytes) → IsWorld o self.old.world w → Tells o a result self.new (goes copy (interrupted_in self.old) (stack_of self.old) (memory_of self.old) (left w)) }
         ensures others { self.new ≡ record self.old { world = self.new.world; copy = copy; focus = self.old.interrupted } }
+        ensures quiet { is_quiet result ≡ true }
     {
         self.world.leave();
         self.copy = copy;
@@ -242,6 +269,7 @@ impl<'a> Machine<'a> {
         ensures memory { memory_of self.new ≡ fresh (memory_of self.old) (copy_of root function) }
         ensures shape { (p : Program) (map : MapContent) → IsShaped p map self.old.memory → IsShaped p map self.new.memory }
         ensures others { self.new ≡ record self.old { copy = self.new.copy; memory = self.new.memory; stack = self.new.stack } }
+        ensures room { vec_capacity self.old.stack ≤ vec_capacity self.new.stack }
     {
         self.copy = CopyOf { root, function };
         self.memory.clear_copy(self.copy);
@@ -269,6 +297,7 @@ impl<'a> Machine<'a> {
         ensures shape { (p : Program) (map : MapContent) → IsShaped p map self.old.memory → IsShaped p map self.new.memory }
         ensures others { self.new ≡ record self.old { copy = self.new.copy; memory = self.new.memory; stack = self.new.stack; focus = self.new.focus } }
         ensures quiet { is_quiet result ≡ true }
+        ensures room { vec_capacity self.old.stack ≤ vec_capacity self.new.stack }
     {
         match got {
             Got::Passed => match expr {
@@ -310,6 +339,7 @@ impl<'a> Machine<'a> {
         ensures shape { (p : Program) (map : MapContent) → IsShaped p map self.old.memory → IsShaped p map self.new.memory }
         ensures others { self.new ≡ record self.old { copy = self.new.copy; memory = self.new.memory; stack = self.new.stack; focus = self.new.focus } }
         ensures quiet { is_quiet result ≡ true }
+        ensures room { vec_capacity self.old.stack ≤ vec_capacity self.new.stack }
     {
         let Some(top) = self.take_off() else {
             return Outcome::Lost;
@@ -333,6 +363,7 @@ impl<'a> Machine<'a> {
         ensures shape { (p : Program) (map : MapContent) → IsShaped p map self.old.memory → IsShaped p map self.new.memory }
         ensures others { self.new ≡ record self.old { copy = self.new.copy; memory = self.new.memory; stack = self.new.stack; focus = self.new.focus } }
         ensures quiet { is_quiet result ≡ true }
+        ensures room { vec_capacity self.old.stack ≤ vec_capacity self.new.stack }
     {
         let first = self.first_value();
         if self.has_missing(first) {
@@ -351,6 +382,7 @@ impl<'a> Machine<'a> {
         ensures tells { HasRoom 3 self.old → (w : Worlds Bytes) → silent result self.new w ≡ goes (copy_of self.old.copy.root function) control.Past (body_of (program_of self.old.program.now) function (control.Returns self.old.copy ∷ control.In (expression_of expr.now) control.Called ∷ stack_of self.old)) (memory_of self.old) w }
         ensures others { self.new ≡ record self.old { copy = self.new.copy; stack = self.new.stack; focus = self.new.focus } }
         ensures quiet { is_quiet result ≡ true }
+        ensures room { vec_capacity self.old.stack ≤ vec_capacity self.new.stack }
     {
         let caller = self.copy;
         self.wait(Pending::In(expr, Got::Called));
@@ -524,6 +556,7 @@ impl<'a> Machine<'a> {
         ensures tells { HasRoom 1 self.old → (w : Worlds Bytes) → silent result self.new w ≡ goes self.old.copy (focus_in focus.entry) (above self.old pending.entry) (memory_of self.old) w }
         ensures others { self.new ≡ record self.old { stack = self.new.stack; focus = self.new.focus } }
         ensures quiet { is_quiet result ≡ true }
+        ensures room { vec_capacity self.old.stack ≤ vec_capacity self.new.stack }
     {
         self.wait(pending);
         self.go(focus)
@@ -553,7 +586,9 @@ fn end_of(counts: bool, outcome: Outcome) -> Option<SrcEnd>
     }
 }
 
-fn taker_in(root: Root) -> Taker {
+fn taker_in(root: Root) -> Taker
+    ensures { result ≡ taker_at false root }
+{
     match root {
         Root::Main => Taker::Main,
         Root::Isr => Taker::Handler,
@@ -563,7 +598,8 @@ fn taker_in(root: Root) -> Taker {
 // Without a handler the next step is undefined, if it isn't so for another reason.
 #[tactic(auto, using(crate::proofs::Tellings::refuses))]
 fn refused(line: Option<u32>, outcome: Outcome) -> Outcome
-    ensures { (o : Outside) (a : AnyObject → ℕ) (m : AnyMachine) (x : rules.Outcome) → Tells o a outcome m x → Tells o a result m (refused line x) }
+    ensures tells { (o : Outside) (a : AnyObject → ℕ) (m : AnyMachine) (x : rules.Outcome) → Tells o a outcome m x → Tells o a result m (refused line x) }
+    ensures idle { is_idle result ≡ true → is_idle outcome ≡ true }
 {
     match outcome {
         Outcome::Undefined { kind, line } => Outcome::Undefined { kind, line },
