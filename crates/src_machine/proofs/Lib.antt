@@ -18,3 +18,14 @@ pub mod Turns
 pub mod Waiting
 pub mod Bytes
 pub mod Scalars
+pub mod Premises
+pub mod Acting
+pub mod Microsteps
+pub mod NodeCounts
+pub mod Light
+pub mod Shortness
+pub mod Near
+pub mod Ready
+pub mod Waits
+pub mod Going
+pub mod Following

@@ -1,9 +1,9 @@
 -- A micro-step that makes no event and leaves the world alone, beside those that don't.
-use Rattle.std.proofs.Common.{◌≡◌, ℕ, true, false, List, [], Option, Some, None, refl, sym, subst, ap}
+use Rattle.std.proofs.Common.{◌≡◌, ℕ, true, false, [], Option, Some, None, refl, sym, subst, ap}
 use Rattle.pic_world.specs.World.{World, Outside, Ended, noted}
 use Rattle.pic_world.specs.declared.Event.TheVariants.{End}
 use Rattle.src_machine.specs.Seen.{silent, waiting, interrupted_in, stack_of, memory_of}
-use Rattle.src_machine.specs.Telling.{Tells, is_quiet}
+use Rattle.src_machine.specs.Telling.{Tells, is_quiet, is_idle}
 use Rattle.src_machine.specs.declared.machine.Machine.{Machine}
 use Rattle.src_machine.specs.declared.machine.Outcome.{Outcome}
 use Rattle.src_machine.specs.declared.machine.Outcome.TheVariants.{Went, Undefined, Idle, Lost}
@@ -20,6 +20,13 @@ use Rattle.src_values.specs.declared.control.Focus.TheVariants.{Over}
 use Rattle.src_values.specs.declared.objects.Byte.{Byte}
 use Rattle.src_values.specs.declared.objects.Object.{Object}
 use Rattle.src_values.specs.declared.objects.Undef.TheVariants.{Handler}
+
+-- such a micro-step isn't the end
+pub quiet_steps : (r : Outcome) → is_quiet r ≡ true → is_idle r ≡ false
+quiet_steps (Went event) h = refl
+quiet_steps (Undefined kind line) h = refl
+quiet_steps Idle h = absurd (cc)
+quiet_steps Lost h = refl
 
 tells_itself : (o : Outside) (a : Object → ℕ) (r : Outcome) (m : Machine) (w : World Byte) → IsWorld o m.world w → is_quiet r ≡ true → Tells o a r m (silent r m w)
 tells_itself o a (Went None) m w is quiet = (refl, is, refl)

@@ -39,6 +39,13 @@ is_quiet (Undefined kind line) = true
 is_quiet Idle = false
 is_quiet Lost = true
 
+-- there is no step to take
+abbrev pub is_idle : Outcome → Bool
+is_idle (Went event) = false
+is_idle (Undefined kind line) = false
+is_idle Idle = true
+is_idle Lost = false
+
 -- ---- stacks
 -- the stack from which the top was taken
 abbrev pub with_taken : Option Pending → List Pending → List Pending

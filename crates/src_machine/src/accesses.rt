@@ -1,7 +1,8 @@
 //! How values are read and written, byte by byte: each byte is a step. The node that a value belongs to waits below,
 //! until all bytes are done.
 
-ghost use Rattle.std.specs.Prelude.{◌≡◌, ◌≤◌, ◌<◌, ◌^◌, ◌+◌, ◌-◌, true, ℕ, List, drop, Option, Some, None, map};
+ghost use Rattle.std.specs.Prelude.{◌≡◌, ◌≤◌, ◌<◌, ◌^◌, ◌+◌, ◌-◌, true, false, ℕ, List, drop, Option, Some, None, map};
+ghost use Rattle.std.specs.Vec.{vec_capacity};
 ghost use Rattle.c_typed.specs.Trees.{Program};
 ghost use Rattle.c_typed.specs.Types.{type_bytes};
 ghost use Rattle.c_typed.specs.Views.{program_of, item_of, expression_of, statement_of};
@@ -9,7 +10,7 @@ ghost use Rattle.pic_map.specs.MapContent.{MapContent};
 ghost use Rattle.pic_world.specs.World.{World as Worlds, Outside};
 ghost use Rattle.src_machine.specs.Seen.{waiting, active_in, interrupted_in, stack_of, memory_of, calls_from, silent, setting_of, HasRoom, IsAt, IsGoing, only_reads, is_read, IsListOf, is_scalar};
 ghost use Rattle.src_machine.specs.Branches.{HasItems};
-ghost use Rattle.src_machine.specs.Telling.{Tells, is_quiet};
+ghost use Rattle.src_machine.specs.Telling.{Tells, is_quiet, is_idle};
 ghost use Rattle.src_machine.specs.declared.machine.Outcome.TheVariants as AnyOutcome;
 ghost use Rattle.src_memory.specs.Accessed.{TellsTaking, TellsPutting, is_alive_at, byte_met, fits_by};
 ghost use Rattle.src_memory.specs.Seen.{outside_by};
@@ -167,7 +168,9 @@ impl<'a> Machine<'a> {
     // Goes on after a write.
     #[tactic(auto, using(crate::proofs::Taking::put_not))]
     fn after_putting(&mut self, access: Result<Option<Event>, Undef>, focus: Focus<'a>) -> Outcome
-        ensures { (o : Outside) (address : AnyObject → ℕ) (given : stated.Putting) → TellsPutting o address access (memory_of self.old) self.old.world given → Tells o address result self.new (rules.after_putting given (focus_in focus.entry) self.old.copy (stack_of self.old) (stated_line (stack_of self.old))) }
+        ensures tells { (o : Outside) (address : AnyObject → ℕ) (given : stated.Putting) → TellsPutting o address access (memory_of self.old) self.old.world given → Tells o address result self.new (rules.after_putting given (focus_in focus.entry) self.old.copy (stack_of self.old) (stated_line (stack_of self.old))) }
+        ensures others { self.new ≡ record self.old { focus = self.new.focus } }
+        ensures steps { is_idle result ≡ false }
     {
         match access {
             Ok(event) => self.after(event, focus),
@@ -196,6 +199,7 @@ impl<'a> Machine<'a> {
         ensures tells { (w : Worlds Bytes) → silent result self.new w ≡ rules.fetched (datum_of value) (stack_of self.old) self.old.copy (memory_of self.old) w }
         ensures others { self.new ≡ record self.old { stack = self.new.stack; focus = self.new.focus } }
         ensures quiet { is_quiet result ≡ true }
+        ensures room { vec_capacity self.old.stack ≤ vec_capacity self.new.stack }
     {
         if self.only_reads() {
             let _ = self.stack.pop();
@@ -213,8 +217,12 @@ impl<'a> Machine<'a> {
         }
     }
 
+    #[tactic(auto, using(crate::proofs::Tellings::quiet_steps))]
     pub(crate) fn fetch(&mut self, spot: Spot, read: ReadBytes, script: &Script) -> Outcome
-        ensures { (s : Setting) (map : MapContent) (w : Worlds Bytes) → IsAt s map self.old w → IsGoing self.old → s.outside ≡ outside_by script.now → IsKnown s.program (byte_met spot (memory_of self.old)) → has_next spot → type_bytes s.program.sizes (stated_type (stack_of self.old)) ≤ 4 → Tells s.outside (address_of s.program map) result self.new (rules.fetch s spot (read_of read) (stack_of self.old) self.old.copy (memory_of self.old) w) }
+        ensures tells { (s : Setting) (map : MapContent) (w : Worlds Bytes) → IsAt s map self.old w → IsGoing self.old → s.outside ≡ outside_by script.now → IsKnown s.program (byte_met spot (memory_of self.old)) → has_next spot → type_bytes s.program.sizes (stated_type (stack_of self.old)) ≤ 4 → Tells s.outside (address_of s.program map) result self.new (rules.fetch s spot (read_of read) (stack_of self.old) self.old.copy (memory_of self.old) w) }
+        ensures others { self.new ≡ record self.old { stack = self.new.stack; focus = self.new.focus; world = self.new.world } }
+        ensures room { vec_capacity self.old.stack ≤ vec_capacity self.new.stack }
+        ensures steps { is_idle result ≡ false }
     {
         let ty = self.read_ty();
         if self.program.bytes_of(ty) <= read.count() as u64 {
@@ -230,8 +238,12 @@ impl<'a> Machine<'a> {
         }
     }
 
+    #[tactic(auto, using(crate::proofs::Tellings::quiet_steps))]
     pub(crate) fn skim(&mut self, spot: Spot, left: u64, script: &Script) -> Outcome
-        ensures { (s : Setting) (map : MapContent) (w : Worlds Bytes) (last : Option Bytes) → IsAt s map self.old w → IsGoing self.old → s.outside ≡ outside_by script.now → IsKnown s.program (byte_met spot (memory_of self.old)) → has_next spot → Tells s.outside (address_of s.program map) result self.new (rules.skim s spot left last (stack_of self.old) self.old.copy (memory_of self.old) w) }
+        ensures tells { (s : Setting) (map : MapContent) (w : Worlds Bytes) (last : Option Bytes) → IsAt s map self.old w → IsGoing self.old → s.outside ≡ outside_by script.now → IsKnown s.program (byte_met spot (memory_of self.old)) → has_next spot → Tells s.outside (address_of s.program map) result self.new (rules.skim s spot left last (stack_of self.old) self.old.copy (memory_of self.old) w) }
+        ensures others { self.new ≡ record self.old { stack = self.new.stack; focus = self.new.focus; world = self.new.world } }
+        ensures room { vec_capacity self.old.stack ≤ vec_capacity self.new.stack }
+        ensures steps { is_idle result ≡ false }
     {
         if left == 0 {
             return self.fetched(Datum::Missing);
@@ -261,6 +273,7 @@ impl<'a> Machine<'a> {
         ensures tells { HasRoom 1 self.old → HasItems (statement_in code.entry) items.now → (o : Outside) (w : Worlds Bytes) → silent result self.new w ≡ stated_items (setting_of self.old o) (statement_in code.entry) object (drop at (map item_of items.now.items)) (stack_of self.old) self.old.copy (memory_of self.old) w }
         ensures others { self.new ≡ record self.old { stack = self.new.stack; focus = self.new.focus } }
         ensures quiet { is_quiet result ≡ true }
+        ensures room { vec_capacity self.old.stack ≤ vec_capacity self.new.stack }
     {
         let Some(item) = items.get(at) else {
             let end = object_bytes(self.program, object);
@@ -299,6 +312,7 @@ impl<'a> Machine<'a> {
         ensures tells { HasRoom 1 self.old → IsListOf (statement_in code.entry) local (map item_of items.now.items) → (o : Outside) (w : Worlds Bytes) → silent result self.new w ≡ rules.stored_for (setting_of self.old o) (statement_in code.entry) (stage_in (statement_in code.entry) stage) (stack_of self.old) self.old.copy (memory_of self.old) w }
         ensures others { self.new ≡ record self.old { stack = self.new.stack; focus = self.new.focus } }
         ensures quiet { is_quiet result ≡ true }
+        ensures room { vec_capacity self.old.stack ≤ vec_capacity self.new.stack }
     {
         match stage {
             Stage::Items(at) => {
@@ -327,6 +341,7 @@ impl<'a> Machine<'a> {
         ensures tells { is_scalar (statement_in code.entry) ≡ true → (o : Outside) (w : Worlds Bytes) → silent result self.new w ≡ rules.stored_for (setting_of self.old o) (statement_in code.entry) (stage_in (statement_in code.entry) stage) (stack_of self.old) self.old.copy (memory_of self.old) w }
         ensures others { self.new ≡ record self.old { stack = self.new.stack; focus = self.new.focus } }
         ensures quiet { is_quiet result ≡ true }
+        ensures room { vec_capacity self.old.stack ≤ vec_capacity self.new.stack }
     {
         match stage {
             Stage::Fills => self.go(Focus::Past),
@@ -348,6 +363,7 @@ impl<'a> Machine<'a> {
         ensures tells { HasRoom 1 self.old → (o : Outside) (w : Worlds Bytes) → silent result self.new w ≡ rules.stored_for (setting_of self.old o) (statement_in code.entry) (stage_in (statement_in code.entry) stage) (stack_of self.old) self.old.copy (memory_of self.old) w }
         ensures others { self.new ≡ record self.old { stack = self.new.stack; focus = self.new.focus } }
         ensures quiet { is_quiet result ≡ true }
+        ensures room { vec_capacity self.old.stack ≤ vec_capacity self.new.stack }
     {
         if let Some((local, items)) = list_at(Some(&Pending::Doing(code, stage))) {
             return self.stored_in_list(code, local, items, stage);
@@ -366,6 +382,7 @@ impl<'a> Machine<'a> {
         ensures tells { (values : List AnyDatum) (w : Worlds Bytes) → silent result self.new w ≡ rules.stored_in (expression_of expr.now) (got_in (expression_of expr.now) got values) (stack_of self.old) self.old.copy (memory_of self.old) w }
         ensures others { self.new ≡ record self.old { stack = self.new.stack; focus = self.new.focus } }
         ensures quiet { is_quiet result ≡ true }
+        ensures room { vec_capacity self.old.stack ≤ vec_capacity self.new.stack }
     {
         match got {
             Got::Stores(spot, value) => self.go(Focus::Holds(answer_of(expr, spot, value))),
@@ -386,6 +403,7 @@ impl<'a> Machine<'a> {
         ensures tells { HasRoom 0 self.old → (o : Outside) (w : Worlds Bytes) → silent result self.new w ≡ rules.stored (setting_of self.old o) (stack_of self.old) self.old.copy (memory_of self.old) w }
         ensures others { self.new ≡ record self.old { stack = self.new.stack; focus = self.new.focus } }
         ensures quiet { is_quiet result ≡ true }
+        ensures room { vec_capacity self.old.stack ≤ vec_capacity self.new.stack }
     {
         match self.take_off() {
             Some(Pending::In(expr, got)) => self.stored_in(expr, got),
@@ -404,7 +422,9 @@ impl<'a> Machine<'a> {
 
     // The register of a bit is read, and written next.
     fn read_bit(&mut self, register: u8, bit: u8, value: Datum, script: &Script) -> Outcome
-        ensures { (s : Setting) (map : MapContent) (w : Worlds Bytes) → IsAt s map self.old w → IsGoing self.old → HasRoom 0 self.old → s.outside ≡ outside_by script.now → Tells s.outside (address_of s.program map) result self.new (rules.read_bit s register bit (datum_of value) (stack_of self.old) self.old.copy (memory_of self.old) w) }
+        ensures tells { (s : Setting) (map : MapContent) (w : Worlds Bytes) → IsAt s map self.old w → IsGoing self.old → HasRoom 0 self.old → s.outside ≡ outside_by script.now → Tells s.outside (address_of s.program map) result self.new (rules.read_bit s register bit (datum_of value) (stack_of self.old) self.old.copy (memory_of self.old) w) }
+        ensures others { self.new ≡ record self.old { focus = self.new.focus; world = self.new.world } }
+        ensures steps { is_idle result ≡ false }
     {
         let (old, event) = self.world.read_register(register, script);
         let focus = Focus::PutBit {
@@ -419,7 +439,10 @@ impl<'a> Machine<'a> {
     // The byte of a value of this number is written.
     fn write_byte(&mut self, spot: Spot, value: Datum, at: u8) -> Outcome
         requires { at < 4 }
-        ensures { (s : Setting) (map : MapContent) (w : Worlds Bytes) → IsAt s map self.old w → IsGoing self.old → HasRoom 0 self.old → IsKnown s.program (values.byte_of (datum_of value) at) → has_next spot → Tells s.outside (address_of s.program map) result self.new (rules.after_putting (stated.put_byte s (active_in self.old) self.old.copy.root spot (values.byte_of (datum_of value) at) (memory_of self.old) w) (AnyFocus.Write (objects.next_byte spot) (datum_of value) (at + 1)) self.old.copy (stack_of self.old) (stated_line (stack_of self.old))) }
+        ensures tells { (s : Setting) (map : MapContent) (w : Worlds Bytes) → IsAt s map self.old w → IsGoing self.old → HasRoom 0 self.old → IsKnown s.program (values.byte_of (datum_of value) at) → has_next spot → Tells s.outside (address_of s.program map) result self.new (rules.after_putting (stated.put_byte s (active_in self.old) self.old.copy.root spot (values.byte_of (datum_of value) at) (memory_of self.old) w) (AnyFocus.Write (objects.next_byte spot) (datum_of value) (at + 1)) self.old.copy (stack_of self.old) (stated_line (stack_of self.old))) }
+        ensures others { self.new ≡ record self.old { focus = self.new.focus; memory = self.new.memory; world = self.new.world } }
+        ensures shape { (p : Program) (map : MapContent) → IsShaped p map self.old.memory → IsShaped p map self.new.memory }
+        ensures steps { is_idle result ≡ false }
     {
         let access = self.put_byte(spot, byte_of(value, at));
         let spot = next_byte(spot);
@@ -427,8 +450,13 @@ impl<'a> Machine<'a> {
         self.after_putting(access, Focus::Write { spot, value, at })
     }
 
+    #[tactic(auto, using(crate::proofs::Tellings::quiet_steps))]
     pub(crate) fn write(&mut self, spot: Spot, value: Datum, at: u8, script: &Script) -> Outcome
-        ensures { (s : Setting) (map : MapContent) (w : Worlds Bytes) → IsAt s map self.old w → IsGoing self.old → HasRoom 0 self.old → s.outside ≡ outside_by script.now → IsKnown s.program (values.byte_of (datum_of value) at) → has_next spot → Tells s.outside (address_of s.program map) result self.new (rules.write s spot (datum_of value) at (stack_of self.old) self.old.copy (memory_of self.old) w) }
+        ensures tells { (s : Setting) (map : MapContent) (w : Worlds Bytes) → IsAt s map self.old w → IsGoing self.old → HasRoom 0 self.old → s.outside ≡ outside_by script.now → IsKnown s.program (values.byte_of (datum_of value) at) → has_next spot → Tells s.outside (address_of s.program map) result self.new (rules.write s spot (datum_of value) at (stack_of self.old) self.old.copy (memory_of self.old) w) }
+        ensures others { self.new ≡ record self.old { stack = self.new.stack; focus = self.new.focus; memory = self.new.memory; world = self.new.world } }
+        ensures shape { (p : Program) (map : MapContent) → IsShaped p map self.old.memory → IsShaped p map self.new.memory }
+        ensures room { vec_capacity self.old.stack ≤ vec_capacity self.new.stack }
+        ensures steps { is_idle result ≡ false }
     {
         if written_bytes(spot, value) <= at {
             return self.stored();
@@ -440,7 +468,9 @@ impl<'a> Machine<'a> {
     }
 
     pub(crate) fn put_bit(&mut self, register: u8, bit: u8, value: Datum, old: u8) -> Outcome
-        ensures { bit < 8 → (s : Setting) (map : MapContent) (w : Worlds Bytes) → IsAt s map self.old w → IsGoing self.old → HasRoom 0 self.old → Tells s.outside (address_of s.program map) result self.new (rules.put_bit s register bit (datum_of value) old (stack_of self.old) self.old.copy (memory_of self.old) w) }
+        ensures tells { bit < 8 → (s : Setting) (map : MapContent) (w : Worlds Bytes) → IsAt s map self.old w → IsGoing self.old → HasRoom 0 self.old → Tells s.outside (address_of s.program map) result self.new (rules.put_bit s register bit (datum_of value) old (stack_of self.old) self.old.copy (memory_of self.old) w) }
+        ensures others { self.new ≡ record self.old { focus = self.new.focus; world = self.new.world } }
+        ensures steps { is_idle result ≡ false }
     {
         let number = with_bit(old, bit, lowest_bit(value));
         let access = self.world.put_register(register, number);
@@ -448,8 +478,12 @@ impl<'a> Machine<'a> {
         self.after_putting(access, Focus::Write { spot, value, at: 1 })
     }
 
+    #[tactic(auto, using(crate::proofs::Tellings::quiet_steps))]
     pub(crate) fn copy_read(&mut self, to: Spot, from: Spot, left: u64, script: &Script) -> Outcome
-        ensures { (s : Setting) (map : MapContent) (w : Worlds Bytes) → IsAt s map self.old w → IsGoing self.old → HasRoom 0 self.old → s.outside ≡ outside_by script.now → IsKnown s.program (byte_met from (memory_of self.old)) → Tells s.outside (address_of s.program map) result self.new (rules.copy_read s to from left (stack_of self.old) self.old.copy (memory_of self.old) w) }
+        ensures tells { (s : Setting) (map : MapContent) (w : Worlds Bytes) → IsAt s map self.old w → IsGoing self.old → HasRoom 0 self.old → s.outside ≡ outside_by script.now → IsKnown s.program (byte_met from (memory_of self.old)) → Tells s.outside (address_of s.program map) result self.new (rules.copy_read s to from left (stack_of self.old) self.old.copy (memory_of self.old) w) }
+        ensures others { self.new ≡ record self.old { stack = self.new.stack; focus = self.new.focus; world = self.new.world } }
+        ensures room { vec_capacity self.old.stack ≤ vec_capacity self.new.stack }
+        ensures steps { is_idle result ≡ false }
     {
         if left == 0 {
             return self.stored();
@@ -469,7 +503,10 @@ impl<'a> Machine<'a> {
     }
 
     pub(crate) fn copy_write(&mut self, to: Spot, from: Spot, byte: Byte, left: u64) -> Outcome
-        ensures { (s : Setting) (map : MapContent) (w : Worlds Bytes) → IsAt s map self.old w → IsGoing self.old → HasRoom 0 self.old → IsKnown s.program byte → has_next to → has_next from → Tells s.outside (address_of s.program map) result self.new (rules.copy_write s to from byte left (stack_of self.old) self.old.copy (memory_of self.old) w) }
+        ensures tells { (s : Setting) (map : MapContent) (w : Worlds Bytes) → IsAt s map self.old w → IsGoing self.old → HasRoom 0 self.old → IsKnown s.program byte → has_next to → has_next from → Tells s.outside (address_of s.program map) result self.new (rules.copy_write s to from byte left (stack_of self.old) self.old.copy (memory_of self.old) w) }
+        ensures others { self.new ≡ record self.old { focus = self.new.focus; memory = self.new.memory; world = self.new.world } }
+        ensures shape { (p : Program) (map : MapContent) → IsShaped p map self.old.memory → IsShaped p map self.new.memory }
+        ensures steps { is_idle result ≡ false }
     {
         let access = self.put_byte(to, byte);
         let to = next_byte(to);
@@ -477,8 +514,13 @@ impl<'a> Machine<'a> {
         self.after_putting(access, Focus::CopyRead { to, from, left })
     }
 
+    #[tactic(auto, using(crate::proofs::Tellings::quiet_steps))]
     pub(crate) fn spell(&mut self, spot: Spot, text: &'a [u8], left: u64) -> Outcome
-        ensures { (s : Setting) (map : MapContent) (w : Worlds Bytes) → IsAt s map self.old w → IsGoing self.old → HasRoom 0 self.old → has_next spot → Tells s.outside (address_of s.program map) result self.new (rules.spell s spot text.now left (stack_of self.old) self.old.copy (memory_of self.old) w) }
+        ensures tells { (s : Setting) (map : MapContent) (w : Worlds Bytes) → IsAt s map self.old w → IsGoing self.old → HasRoom 0 self.old → has_next spot → Tells s.outside (address_of s.program map) result self.new (rules.spell s spot text.now left (stack_of self.old) self.old.copy (memory_of self.old) w) }
+        ensures others { self.new ≡ record self.old { stack = self.new.stack; focus = self.new.focus; memory = self.new.memory; world = self.new.world } }
+        ensures shape { (p : Program) (map : MapContent) → IsShaped p map self.old.memory → IsShaped p map self.new.memory }
+        ensures room { vec_capacity self.old.stack ≤ vec_capacity self.new.stack }
+        ensures steps { is_idle result ≡ false }
     {
         if left == 0 {
             return self.stored();
@@ -494,8 +536,13 @@ impl<'a> Machine<'a> {
     }
 
     /// The next byte without an item becomes 0.
+    #[tactic(auto, using(crate::proofs::Tellings::quiet_steps))]
     pub(crate) fn blank(&mut self, at: u64, end: u64) -> Outcome
-        ensures { end < 2 ^ 64 - 1 → (s : Setting) (map : MapContent) (w : Worlds Bytes) → IsAt s map self.old w → IsGoing self.old → HasRoom 0 self.old → Tells s.outside (address_of s.program map) result self.new (rules.blank s at (end - at) (stack_of self.old) self.old.copy (memory_of self.old) w) }
+        ensures tells { end < 2 ^ 64 - 1 → (s : Setting) (map : MapContent) (w : Worlds Bytes) → IsAt s map self.old w → IsGoing self.old → HasRoom 0 self.old → Tells s.outside (address_of s.program map) result self.new (rules.blank s at (end - at) (stack_of self.old) self.old.copy (memory_of self.old) w) }
+        ensures others { self.new ≡ record self.old { stack = self.new.stack; focus = self.new.focus; memory = self.new.memory; world = self.new.world } }
+        ensures shape { (p : Program) (map : MapContent) → IsShaped p map self.old.memory → IsShaped p map self.new.memory }
+        ensures room { vec_capacity self.old.stack ≤ vec_capacity self.new.stack }
+        ensures steps { is_idle result ≡ false }
     {
         let Some((local, items)) = list_at(self.top()) else {
             return Outcome::Lost;

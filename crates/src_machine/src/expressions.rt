@@ -1,10 +1,12 @@
 //! How expressions and places begin, and what follows a place that was found: the left operand comes first, and the node
 //! waits for it.
 
-ghost use Rattle.std.specs.Prelude.{◌≡◌, true, map};
+ghost use Rattle.std.specs.Prelude.{◌≡◌, ◌≤◌, true, map};
+ghost use Rattle.std.specs.Vec.{vec_capacity};
 ghost use Rattle.c_typed.specs.Views.{expression_of, place_of, statement_of, arguments_of};
 ghost use Rattle.pic_world.specs.World.{World as Worlds, Outside};
 ghost use Rattle.src_machine.specs.Seen.{waiting, interrupted_in, stack_of, memory_of, silent, setting_of, HasRoom, HasNoValue, AreArgumentsOf};
+ghost use Rattle.src_machine.specs.Telling.{is_quiet};
 ghost use Rattle.src_rules.specs.Expressions as rules;
 ghost use Rattle.src_values.specs.Control as control;
 ghost use Rattle.src_values.specs.Seen.{values_on, frames_behind, expressions_from, got_in, has_values, statement_in, stage_in};
@@ -28,7 +30,10 @@ impl<'a> Machine<'a> {
         arguments: &'a Vec<TExpr>,
         count: usize,
     ) -> Outcome
-        ensures { HasRoom 1 self.old → AreArgumentsOf (expression_of call.now) (arguments_of (map expression_of arguments.now.items)) → (w : Worlds Bytes) → silent result self.new w ≡ rules.arguments (expression_of call.now) (values_on (waiting self.old)) (expressions_from count (arguments_of (map expression_of arguments.now.items))) (frames_behind (interrupted_in self.old) true (waiting self.old)) self.old.copy (memory_of self.old) w }
+        ensures tells { HasRoom 1 self.old → AreArgumentsOf (expression_of call.now) (arguments_of (map expression_of arguments.now.items)) → (w : Worlds Bytes) → silent result self.new w ≡ rules.arguments (expression_of call.now) (values_on (waiting self.old)) (expressions_from count (arguments_of (map expression_of arguments.now.items))) (frames_behind (interrupted_in self.old) true (waiting self.old)) self.old.copy (memory_of self.old) w }
+        ensures others { self.new ≡ record self.old { stack = self.new.stack; focus = self.new.focus } }
+        ensures quiet { is_quiet result ≡ true }
+        ensures room { vec_capacity self.old.stack ≤ vec_capacity self.new.stack }
     {
         match arguments.get(count) {
             None => self.go_waiting(Focus::Calls, Pending::In(call, Got::Passed)),
@@ -42,7 +47,10 @@ impl<'a> Machine<'a> {
     /// An expression begins.
     #[tactic(auto, using(crate::proofs::Begins::begins, crate::proofs::Parts::eval_call_above, crate::proofs::Parts::arguments_of_call))]
     pub(crate) fn eval(&mut self, expr: &'a TExpr) -> Outcome
-        ensures { HasRoom 1 self.old → HasNoValue self.old → (w : Worlds Bytes) → silent result self.new w ≡ rules.eval (expression_of expr.now) (stack_of self.old) self.old.copy (memory_of self.old) w }
+        ensures tells { HasRoom 1 self.old → HasNoValue self.old → (w : Worlds Bytes) → silent result self.new w ≡ rules.eval (expression_of expr.now) (stack_of self.old) self.old.copy (memory_of self.old) w }
+        ensures others { self.new ≡ record self.old { stack = self.new.stack; focus = self.new.focus } }
+        ensures quiet { is_quiet result ≡ true }
+        ensures room { vec_capacity self.old.stack ≤ vec_capacity self.new.stack }
     {
         let here = Pending::In(expr, Got::Nothing);
         match expr {
@@ -71,7 +79,10 @@ impl<'a> Machine<'a> {
     /// A place is looked for.
     #[tactic(auto, using(crate::proofs::Places::finds))]
     pub(crate) fn find(&mut self, place: &'a TPlace) -> Outcome
-        ensures { HasRoom 1 self.old → (o : Outside) (w : Worlds Bytes) → silent result self.new w ≡ rules.find (setting_of self.old o) (place_of place.now) (stack_of self.old) self.old.copy (memory_of self.old) w }
+        ensures tells { HasRoom 1 self.old → (o : Outside) (w : Worlds Bytes) → silent result self.new w ≡ rules.find (setting_of self.old o) (place_of place.now) (stack_of self.old) self.old.copy (memory_of self.old) w }
+        ensures others { self.new ≡ record self.old { stack = self.new.stack; focus = self.new.focus } }
+        ensures quiet { is_quiet result ≡ true }
+        ensures room { vec_capacity self.old.stack ≤ vec_capacity self.new.stack }
     {
         match place {
             TPlace::Name { object, .. } => {
@@ -92,7 +103,10 @@ impl<'a> Machine<'a> {
     // The first place of an expression was found.
     #[tactic(auto, using(crate::proofs::Places::first_places))]
     fn found_first(&mut self, expr: &'a TExpr, spot: Spot) -> Outcome
-        ensures { HasRoom 1 self.old → (o : Outside) (w : Worlds Bytes) → silent result self.new w ≡ rules.found_in (setting_of self.old o) (expression_of expr.now) control.Nothing spot (stack_of self.old) self.old.copy (memory_of self.old) w }
+        ensures tells { HasRoom 1 self.old → (o : Outside) (w : Worlds Bytes) → silent result self.new w ≡ rules.found_in (setting_of self.old o) (expression_of expr.now) control.Nothing spot (stack_of self.old) self.old.copy (memory_of self.old) w }
+        ensures others { self.new ≡ record self.old { stack = self.new.stack; focus = self.new.focus } }
+        ensures quiet { is_quiet result ≡ true }
+        ensures room { vec_capacity self.old.stack ≤ vec_capacity self.new.stack }
     {
         let here = Pending::In(expr, Got::At(spot));
         match expr {
@@ -125,7 +139,10 @@ impl<'a> Machine<'a> {
     // The second place of an expression was found: a structure is copied from it to the first one.
     #[tactic(auto, using(crate::proofs::Places::second_places))]
     fn found_second(&mut self, expr: &'a TExpr, to: Spot, from: Spot) -> Outcome
-        ensures { HasRoom 1 self.old → (o : Outside) (w : Worlds Bytes) → silent result self.new w ≡ rules.found_in (setting_of self.old o) (expression_of expr.now) (control.At to) from (stack_of self.old) self.old.copy (memory_of self.old) w }
+        ensures tells { HasRoom 1 self.old → (o : Outside) (w : Worlds Bytes) → silent result self.new w ≡ rules.found_in (setting_of self.old o) (expression_of expr.now) (control.At to) from (stack_of self.old) self.old.copy (memory_of self.old) w }
+        ensures others { self.new ≡ record self.old { stack = self.new.stack; focus = self.new.focus } }
+        ensures quiet { is_quiet result ≡ true }
+        ensures room { vec_capacity self.old.stack ≤ vec_capacity self.new.stack }
     {
         match expr {
             TExpr::StructAssign { size, .. } => {
@@ -155,7 +172,10 @@ impl<'a> Machine<'a> {
     // An expression takes a place.
     #[tactic(auto, using(crate::proofs::Places::no_places))]
     fn found_in(&mut self, expr: &'a TExpr, got: Got, spot: Spot) -> Outcome
-        ensures { HasRoom 1 self.old → (o : Outside) (w : Worlds Bytes) → silent result self.new w ≡ rules.found_in (setting_of self.old o) (expression_of expr.now) (got_in (expression_of expr.now) got (values_on (waiting self.old))) spot (frames_behind (interrupted_in self.old) (has_values got) (waiting self.old)) self.old.copy (memory_of self.old) w }
+        ensures tells { HasRoom 1 self.old → (o : Outside) (w : Worlds Bytes) → silent result self.new w ≡ rules.found_in (setting_of self.old o) (expression_of expr.now) (got_in (expression_of expr.now) got (values_on (waiting self.old))) spot (frames_behind (interrupted_in self.old) (has_values got) (waiting self.old)) self.old.copy (memory_of self.old) w }
+        ensures others { self.new ≡ record self.old { stack = self.new.stack; focus = self.new.focus } }
+        ensures quiet { is_quiet result ≡ true }
+        ensures room { vec_capacity self.old.stack ≤ vec_capacity self.new.stack }
     {
         match got {
             Got::Nothing => self.found_first(expr, spot),
@@ -174,7 +194,10 @@ impl<'a> Machine<'a> {
     // A member, so many bytes behind the start of its structure.
     #[tactic(auto, using(crate::proofs::Places::members))]
     fn found_to(&mut self, place: &'a TPlace, spot: Spot) -> Outcome
-        ensures { (o : Outside) (w : Worlds Bytes) → silent result self.new w ≡ rules.found_to (setting_of self.old o) (place_of place.now) spot (stack_of self.old) self.old.copy (memory_of self.old) w }
+        ensures tells { (o : Outside) (w : Worlds Bytes) → silent result self.new w ≡ rules.found_to (setting_of self.old o) (place_of place.now) spot (stack_of self.old) self.old.copy (memory_of self.old) w }
+        ensures others { self.new ≡ record self.old { stack = self.new.stack; focus = self.new.focus } }
+        ensures quiet { is_quiet result ≡ true }
+        ensures room { vec_capacity self.old.stack ≤ vec_capacity self.new.stack }
     {
         match place {
             TPlace::Member { offset, line, .. } => match spot {
@@ -191,7 +214,10 @@ impl<'a> Machine<'a> {
     // The structure that the item of this number of a list begins with.
     #[tactic(auto, using(crate::proofs::Items::found_items))]
     fn found_item(&mut self, code: Code<'a>, statement: &'a TStmt, at: usize, from: Spot) -> Outcome
-        ensures { HasRoom 1 self.old → statement_in code.entry ≡ statement_of statement.now → (o : Outside) (w : Worlds Bytes) → silent result self.new w ≡ rules.found_for (setting_of self.old o) (statement_of statement.now) (stage_in (statement_of statement.now) (stages.AtItem at)) from (stack_of self.old) self.old.copy (memory_of self.old) w }
+        ensures tells { HasRoom 1 self.old → statement_in code.entry ≡ statement_of statement.now → (o : Outside) (w : Worlds Bytes) → silent result self.new w ≡ rules.found_for (setting_of self.old o) (statement_of statement.now) (stage_in (statement_of statement.now) (stages.AtItem at)) from (stack_of self.old) self.old.copy (memory_of self.old) w }
+        ensures others { self.new ≡ record self.old { stack = self.new.stack; focus = self.new.focus } }
+        ensures quiet { is_quiet result ≡ true }
+        ensures room { vec_capacity self.old.stack ≤ vec_capacity self.new.stack }
     {
         match statement {
             TStmt::InitList { local, items, .. } => match items.get(at) {
@@ -222,7 +248,10 @@ impl<'a> Machine<'a> {
     // A statement takes a place.
     #[tactic(auto, using(crate::proofs::Items::no_finds))]
     fn found_for(&mut self, code: Code<'a>, stage: Stage, from: Spot) -> Outcome
-        ensures { HasRoom 1 self.old → (o : Outside) (w : Worlds Bytes) → silent result self.new w ≡ rules.found_for (setting_of self.old o) (statement_in code.entry) (stage_in (statement_in code.entry) stage) from (stack_of self.old) self.old.copy (memory_of self.old) w }
+        ensures tells { HasRoom 1 self.old → (o : Outside) (w : Worlds Bytes) → silent result self.new w ≡ rules.found_for (setting_of self.old o) (statement_in code.entry) (stage_in (statement_in code.entry) stage) from (stack_of self.old) self.old.copy (memory_of self.old) w }
+        ensures others { self.new ≡ record self.old { stack = self.new.stack; focus = self.new.focus } }
+        ensures quiet { is_quiet result ≡ true }
+        ensures room { vec_capacity self.old.stack ≤ vec_capacity self.new.stack }
     {
         let Some(statement) = code.statement() else {
             return Outcome::Lost;
@@ -245,7 +274,10 @@ impl<'a> Machine<'a> {
     /// A place was found: the node that waits takes it.
     #[tactic(auto, using(crate::proofs::Shapes::top_first))]
     pub(crate) fn found(&mut self, spot: Spot) -> Outcome
-        ensures { (o : Outside) (w : Worlds Bytes) → silent result self.new w ≡ rules.found (setting_of self.old o) spot (stack_of self.old) self.old.copy (memory_of self.old) w }
+        ensures tells { (o : Outside) (w : Worlds Bytes) → silent result self.new w ≡ rules.found (setting_of self.old o) spot (stack_of self.old) self.old.copy (memory_of self.old) w }
+        ensures others { self.new ≡ record self.old { stack = self.new.stack; focus = self.new.focus } }
+        ensures quiet { is_quiet result ≡ true }
+        ensures room { vec_capacity self.old.stack ≤ vec_capacity self.new.stack }
     {
         match self.stack.pop() {
             Some(Pending::In(expr, got)) => self.found_in(expr, got, spot),

@@ -1,9 +1,11 @@
 //! Where a value goes: the node that waits for it takes it.
 
-ghost use Rattle.std.specs.Prelude.{◌≡◌, drop, map};
+ghost use Rattle.std.specs.Prelude.{◌≡◌, ◌≤◌, true, drop, map};
+ghost use Rattle.std.specs.Vec.{vec_capacity};
 ghost use Rattle.c_typed.specs.Views.{place_of, statement_of, statements_of};
 ghost use Rattle.pic_world.specs.World.{World as Worlds, Outside};
 ghost use Rattle.src_machine.specs.Seen.{stack_of, above, memory_of, silent, setting_of, HasRoom, IsGoing};
+ghost use Rattle.src_machine.specs.Telling.{is_quiet};
 ghost use Rattle.src_rules.specs.Accesses.{goes};
 ghost use Rattle.src_rules.specs.Giving as rules;
 ghost use Rattle.src_rules.specs.Statements.{unwound};
@@ -24,7 +26,10 @@ use src_values::{Datum, Spot, Undef};
 impl<'a> Machine<'a> {
     // Goes on with a value that is used. A missing one is undefined.
     fn used(&mut self, value: Datum, line: u32, focus: Focus<'a>, pending: Pending<'a>) -> Outcome
-        ensures { HasRoom 1 self.old → (w : Worlds Bytes) → silent result self.new w ≡ rules.used (datum_of value) line (goes self.old.copy (focus_in focus.entry) (above self.old pending.entry) (memory_of self.old) w) }
+        ensures tells { HasRoom 1 self.old → (w : Worlds Bytes) → silent result self.new w ≡ rules.used (datum_of value) line (goes self.old.copy (focus_in focus.entry) (above self.old pending.entry) (memory_of self.old) w) }
+        ensures others { self.new ≡ record self.old { stack = self.new.stack; focus = self.new.focus } }
+        ensures quiet { is_quiet result ≡ true }
+        ensures room { vec_capacity self.old.stack ≤ vec_capacity self.new.stack }
     {
         match value {
             Datum::Missing => undefined(Undef::Unset, line),
@@ -35,7 +40,10 @@ impl<'a> Machine<'a> {
     // What a pointer points to.
     #[tactic(auto, using(crate::proofs::Places::pointed))]
     fn take_to(&mut self, place: &'a TPlace, value: Datum) -> Outcome
-        ensures { (w : Worlds Bytes) → silent result self.new w ≡ rules.take_to (place_of place.now) (datum_of value) (stack_of self.old) self.old.copy (memory_of self.old) w }
+        ensures tells { (w : Worlds Bytes) → silent result self.new w ≡ rules.take_to (place_of place.now) (datum_of value) (stack_of self.old) self.old.copy (memory_of self.old) w }
+        ensures others { self.new ≡ record self.old { stack = self.new.stack; focus = self.new.focus } }
+        ensures quiet { is_quiet result ≡ true }
+        ensures room { vec_capacity self.old.stack ≤ vec_capacity self.new.stack }
     {
         match place {
             TPlace::Deref { line, .. } => match value {
@@ -50,7 +58,10 @@ impl<'a> Machine<'a> {
     // A switch goes on at the statement of this number.
     #[tactic(auto, using(crate::proofs::Gives::all_behind))]
     fn jump(&mut self, code: Code<'a>, statements: &'a Vec<TStmt>, target: u32) -> Outcome
-        ensures { HasRoom 2 self.old → (w : Worlds Bytes) → silent result self.new w ≡ rules.jump (statement_in code.entry) target (statements_of (map statement_of statements.now.items)) (stack_of self.old) self.old.copy (memory_of self.old) w }
+        ensures tells { HasRoom 2 self.old → (w : Worlds Bytes) → silent result self.new w ≡ rules.jump (statement_in code.entry) target (statements_of (map statement_of statements.now.items)) (stack_of self.old) self.old.copy (memory_of self.old) w }
+        ensures others { self.new ≡ record self.old { stack = self.new.stack; focus = self.new.focus } }
+        ensures quiet { is_quiet result ≡ true }
+        ensures room { vec_capacity self.old.stack ≤ vec_capacity self.new.stack }
     {
         self.wait(Pending::Doing(code, Stage::Turns));
         self.go_waiting(Focus::Past, Pending::Before(statements, target as usize))
@@ -67,7 +78,10 @@ impl<'a> Machine<'a> {
         cases: &'a Vec<TCase>,
         next: usize,
     ) -> Outcome
-        ensures { HasRoom 2 self.old → (w : Worlds Bytes) → silent result self.new w ≡ rules.compares_in (statement_in code.entry) (statements_of (map statement_of statements.now.items)) default (datum_of value) (drop next cases.now.items) (stack_of self.old) self.old.copy (memory_of self.old) w }
+        ensures tells { HasRoom 2 self.old → (w : Worlds Bytes) → silent result self.new w ≡ rules.compares_in (statement_in code.entry) (statements_of (map statement_of statements.now.items)) default (datum_of value) (drop next cases.now.items) (stack_of self.old) self.old.copy (memory_of self.old) w }
+        ensures others { self.new ≡ record self.old { stack = self.new.stack; focus = self.new.focus } }
+        ensures quiet { is_quiet result ≡ true }
+        ensures room { vec_capacity self.old.stack ≤ vec_capacity self.new.stack }
     {
         match cases.get(next) {
             None => match default {
@@ -97,7 +111,10 @@ impl<'a> Machine<'a> {
         cases: &'a Vec<TCase>,
         next: usize,
     ) -> Outcome
-        ensures { HasRoom 2 self.old → statement_in code.entry ≡ statement_of statement.now → (w : Worlds Bytes) → silent result self.new w ≡ rules.compares_for (statement_of statement.now) control.Chooses (datum_of value) (drop next cases.now.items) (stack_of self.old) self.old.copy (memory_of self.old) w }
+        ensures tells { HasRoom 2 self.old → statement_in code.entry ≡ statement_of statement.now → (w : Worlds Bytes) → silent result self.new w ≡ rules.compares_for (statement_of statement.now) control.Chooses (datum_of value) (drop next cases.now.items) (stack_of self.old) self.old.copy (memory_of self.old) w }
+        ensures others { self.new ≡ record self.old { stack = self.new.stack; focus = self.new.focus } }
+        ensures quiet { is_quiet result ≡ true }
+        ensures room { vec_capacity self.old.stack ≤ vec_capacity self.new.stack }
     {
         match statement {
             TStmt::Switch {
@@ -129,7 +146,10 @@ impl<'a> Machine<'a> {
         cases: &'a Vec<TCase>,
         next: usize,
     ) -> Outcome
-        ensures { HasRoom 2 self.old → (w : Worlds Bytes) → silent result self.new w ≡ rules.compares_for (statement_in code.entry) (stage_in (statement_in code.entry) stage) (datum_of value) (drop next cases.now.items) (stack_of self.old) self.old.copy (memory_of self.old) w }
+        ensures tells { HasRoom 2 self.old → (w : Worlds Bytes) → silent result self.new w ≡ rules.compares_for (statement_in code.entry) (stage_in (statement_in code.entry) stage) (datum_of value) (drop next cases.now.items) (stack_of self.old) self.old.copy (memory_of self.old) w }
+        ensures others { self.new ≡ record self.old { stack = self.new.stack; focus = self.new.focus } }
+        ensures quiet { is_quiet result ≡ true }
+        ensures room { vec_capacity self.old.stack ≤ vec_capacity self.new.stack }
     {
         let Some(statement) = code.statement() else {
             return Outcome::Lost;
@@ -152,7 +172,10 @@ impl<'a> Machine<'a> {
     /// Labels are compared with the value of a switch, one a step.
     #[tactic(auto, using(crate::proofs::Shapes::top_first))]
     pub(crate) fn compares(&mut self, value: Datum, cases: &'a Vec<TCase>, next: usize) -> Outcome
-        ensures { HasRoom 1 self.old → (w : Worlds Bytes) → silent result self.new w ≡ rules.compares (datum_of value) (drop next cases.now.items) (stack_of self.old) self.old.copy (memory_of self.old) w }
+        ensures tells { HasRoom 1 self.old → (w : Worlds Bytes) → silent result self.new w ≡ rules.compares (datum_of value) (drop next cases.now.items) (stack_of self.old) self.old.copy (memory_of self.old) w }
+        ensures others { self.new ≡ record self.old { stack = self.new.stack; focus = self.new.focus } }
+        ensures quiet { is_quiet result ≡ true }
+        ensures room { vec_capacity self.old.stack ≤ vec_capacity self.new.stack }
     {
         match self.stack.pop() {
             Some(Pending::Doing(code, stage)) => {
@@ -178,7 +201,10 @@ impl<'a> Machine<'a> {
         at: usize,
         value: Datum,
     ) -> Outcome
-        ensures { HasRoom 1 self.old → statement_in code.entry ≡ statement_of statement.now → (o : Outside) (w : Worlds Bytes) → silent result self.new w ≡ rules.take_for (setting_of self.old o) (statement_of statement.now) (stage_in (statement_of statement.now) (stages.AtItem at)) (datum_of value) (stack_of self.old) self.old.copy (memory_of self.old) w }
+        ensures tells { HasRoom 1 self.old → statement_in code.entry ≡ statement_of statement.now → (o : Outside) (w : Worlds Bytes) → silent result self.new w ≡ rules.take_for (setting_of self.old o) (statement_of statement.now) (stage_in (statement_of statement.now) (stages.AtItem at)) (datum_of value) (stack_of self.old) self.old.copy (memory_of self.old) w }
+        ensures others { self.new ≡ record self.old { stack = self.new.stack; focus = self.new.focus } }
+        ensures quiet { is_quiet result ≡ true }
+        ensures room { vec_capacity self.old.stack ≤ vec_capacity self.new.stack }
     {
         match statement {
             TStmt::InitList { local, items, line } => match items.get(at) {
@@ -206,7 +232,10 @@ impl<'a> Machine<'a> {
 
     // The value of a return: the function is left.
     fn returned(&mut self, value: Datum, line: u32) -> Outcome
-        ensures { (w : Worlds Bytes) → silent result self.new w ≡ rules.used (datum_of value) line (goes self.old.copy (control.Leaves (datum_of value)) (unwound (stack_of self.old)) (memory_of self.old) w) }
+        ensures tells { (w : Worlds Bytes) → silent result self.new w ≡ rules.used (datum_of value) line (goes self.old.copy (control.Leaves (datum_of value)) (unwound (stack_of self.old)) (memory_of self.old) w) }
+        ensures others { self.new ≡ record self.old { stack = self.new.stack; focus = self.new.focus } }
+        ensures quiet { is_quiet result ≡ true }
+        ensures room { vec_capacity self.old.stack ≤ vec_capacity self.new.stack }
     {
         match value {
             Datum::Missing => undefined(Undef::Unset, line),
@@ -220,7 +249,10 @@ impl<'a> Machine<'a> {
     // A statement takes the value that it begins with.
     #[tactic(auto, using(crate::proofs::Gives::tests))]
     fn take_first(&mut self, code: Code<'a>, statement: &'a TStmt, value: Datum) -> Outcome
-        ensures { HasRoom 1 self.old → statement_in code.entry ≡ statement_of statement.now → (o : Outside) (w : Worlds Bytes) → silent result self.new w ≡ rules.take_for (setting_of self.old o) (statement_of statement.now) control.Tests (datum_of value) (stack_of self.old) self.old.copy (memory_of self.old) w }
+        ensures tells { HasRoom 1 self.old → statement_in code.entry ≡ statement_of statement.now → (o : Outside) (w : Worlds Bytes) → silent result self.new w ≡ rules.take_for (setting_of self.old o) (statement_of statement.now) control.Tests (datum_of value) (stack_of self.old) self.old.copy (memory_of self.old) w }
+        ensures others { self.new ≡ record self.old { stack = self.new.stack; focus = self.new.focus } }
+        ensures quiet { is_quiet result ≡ true }
+        ensures room { vec_capacity self.old.stack ≤ vec_capacity self.new.stack }
     {
         match statement {
             TStmt::Expr { .. } => self.go(Focus::Past),
@@ -255,6 +287,9 @@ impl<'a> Machine<'a> {
     fn take_turn(&mut self, code: Code<'a>, statement: &'a TStmt) -> Outcome
         ensures begins { HasRoom 1 self.old → statement_in code.entry ≡ statement_of statement.now → (v : values.Datum) (o : Outside) (w : Worlds Bytes) → silent result self.new w ≡ rules.take_for (setting_of self.old o) (statement_of statement.now) control.Begins v (stack_of self.old) self.old.copy (memory_of self.old) w }
         ensures steps { HasRoom 1 self.old → statement_in code.entry ≡ statement_of statement.now → (v : values.Datum) (o : Outside) (w : Worlds Bytes) → silent result self.new w ≡ rules.take_for (setting_of self.old o) (statement_of statement.now) control.Steps v (stack_of self.old) self.old.copy (memory_of self.old) w }
+        ensures others { self.new ≡ record self.old { stack = self.new.stack; focus = self.new.focus } }
+        ensures quiet { is_quiet result ≡ true }
+        ensures room { vec_capacity self.old.stack ≤ vec_capacity self.new.stack }
     {
         match statement {
             TStmt::Loop {
@@ -279,7 +314,10 @@ impl<'a> Machine<'a> {
     // The condition of the arm of this number has this value.
     #[tactic(auto, using(crate::proofs::Gives::arms_taken))]
     fn take_arm(&mut self, code: Code<'a>, statement: &'a TStmt, at: usize, value: Datum) -> Outcome
-        ensures { HasRoom 1 self.old → statement_in code.entry ≡ statement_of statement.now → (o : Outside) (w : Worlds Bytes) → silent result self.new w ≡ rules.take_for (setting_of self.old o) (statement_of statement.now) (stage_in (statement_of statement.now) (stages.Picks at)) (datum_of value) (stack_of self.old) self.old.copy (memory_of self.old) w }
+        ensures tells { HasRoom 1 self.old → statement_in code.entry ≡ statement_of statement.now → (o : Outside) (w : Worlds Bytes) → silent result self.new w ≡ rules.take_for (setting_of self.old o) (statement_of statement.now) (stage_in (statement_of statement.now) (stages.Picks at)) (datum_of value) (stack_of self.old) self.old.copy (memory_of self.old) w }
+        ensures others { self.new ≡ record self.old { stack = self.new.stack; focus = self.new.focus } }
+        ensures quiet { is_quiet result ≡ true }
+        ensures room { vec_capacity self.old.stack ≤ vec_capacity self.new.stack }
     {
         match statement {
             TStmt::If {
@@ -304,7 +342,10 @@ impl<'a> Machine<'a> {
     // A statement takes the value of its expression.
     #[tactic(auto, using(crate::proofs::Gives::no_values))]
     fn take_for(&mut self, code: Code<'a>, stage: Stage, value: Datum) -> Outcome
-        ensures { HasRoom 1 self.old → (o : Outside) (w : Worlds Bytes) → silent result self.new w ≡ rules.take_for (setting_of self.old o) (statement_in code.entry) (stage_in (statement_in code.entry) stage) (datum_of value) (stack_of self.old) self.old.copy (memory_of self.old) w }
+        ensures tells { HasRoom 1 self.old → (o : Outside) (w : Worlds Bytes) → silent result self.new w ≡ rules.take_for (setting_of self.old o) (statement_in code.entry) (stage_in (statement_in code.entry) stage) (datum_of value) (stack_of self.old) self.old.copy (memory_of self.old) w }
+        ensures others { self.new ≡ record self.old { stack = self.new.stack; focus = self.new.focus } }
+        ensures quiet { is_quiet result ≡ true }
+        ensures room { vec_capacity self.old.stack ≤ vec_capacity self.new.stack }
     {
         let Some(statement) = code.statement() else {
             return Outcome::Lost;
@@ -326,7 +367,10 @@ impl<'a> Machine<'a> {
     /// A value goes to the node that waits.
     #[tactic(auto, using(crate::proofs::Shapes::top_first))]
     pub(crate) fn give(&mut self, value: Datum) -> Outcome
-        ensures { HasRoom 1 self.old → IsGoing self.old → (o : Outside) (w : Worlds Bytes) → silent result self.new w ≡ rules.give (setting_of self.old o) (datum_of value) (stack_of self.old) self.old.copy (memory_of self.old) w }
+        ensures tells { HasRoom 1 self.old → IsGoing self.old → (o : Outside) (w : Worlds Bytes) → silent result self.new w ≡ rules.give (setting_of self.old o) (datum_of value) (stack_of self.old) self.old.copy (memory_of self.old) w }
+        ensures others { self.new ≡ record self.old { stack = self.new.stack; focus = self.new.focus } }
+        ensures quiet { is_quiet result ≡ true }
+        ensures room { vec_capacity self.old.stack ≤ vec_capacity self.new.stack }
     {
         match self.stack.pop() {
             Some(Pending::In(expr, got)) => self.take_in(expr, got, value),

@@ -1,20 +1,27 @@
 //! The source machine: its state, and its micro-steps.
 
-ghost use Rattle.std.specs.Prelude.{ℕ, ◌≡◌, ◌∷◌, ◌≤◌, ◌+◌, IfSome, IfNone, [], true, false, drop, take, reverse, slice_get};
+ghost use Rattle.std.specs.Prelude.{ℕ, ◌≡◌, ◌∷◌, ◌≤◌, ◌+◌, IfOk, IfSome, IfNone, length, [], true, false, drop, take, reverse, slice_get};
 ghost use Rattle.std.specs.Vec.{vec_len, vec_capacity};
 ghost use Rattle.c_typed.specs.Trees.{Program};
 ghost use Rattle.c_typed.specs.Views.{program_of, expression_of};
 ghost use Rattle.pic_map.specs.MapContent.{MapContent};
 ghost use Rattle.pic_world.specs.World.{World as Worlds, Outside, left, entered};
 ghost use Rattle.src_machine.specs.Seen.{waiting, interrupted_in, stack_of, above, memory_of, state_in, silent, HasRoom};
-ghost use Rattle.src_machine.specs.Telling.{Tells, with_taken, is_quiet, is_interrupted};
-ghost use Rattle.src_memory.specs.Seen.{IsWorld};
+ghost use Rattle.src_machine.specs.Stepping.{CanStep, TellsStep, taker_at};
+ghost use Rattle.src_machine.specs.Steps.{CanGo, IsGiven, TellsTake, most_waiting, went_if};
+ghost use Rattle.src_machine.specs.Sources.{BeginsAt};
+ghost use Rattle.pic_map.specs.MapView.{content_of};
+ghost use Rattle.src_values.specs.Objects.{main_of};
+ghost use Rattle.src_machine.specs.Telling.{Tells, with_taken, is_quiet, is_idle, is_interrupted};
+ghost use Rattle.src_memory.specs.Seen.{IsWorld, outside_by};
 ghost use Rattle.src_memory.specs.Shape.{IsShaped};
+ghost use Rattle.src_memory.specs.Shown.{address_of};
 ghost use Rattle.src_rules.specs.Accesses.{goes};
 ghost use Rattle.src_rules.specs.State as rules;
 ghost use Rattle.src_machine.specs.Passing.{values_among, value_in, are_values, missing_in, given, called, FitFrom, FitAt, FitCall};
-ghost use Rattle.src_rules.specs.Step.{body_of, copy_of, call, call_in, enter, refused, with_values, has_missing};
-ghost use Rattle.src_values.specs.Memory.{fresh};
+ghost use Rattle.src_rules.specs.Step.{body_of, copy_of, act, call, call_in, enter, refused, with_values, has_missing};
+ghost use Rattle.src_values.specs.Counting.{counted_line as stated_line};
+ghost use Rattle.src_values.specs.Memory.{fresh, Setting};
 ghost use Rattle.src_values.specs.Seen.{focus_in, got_in, has_values, values_on, frames_behind};
 ghost use Rattle.src_values.specs.Control as control;
 ghost use Rattle.src_values.specs.declared.objects.Byte.{Byte as Bytes};
@@ -69,39 +76,42 @@ pub(crate) struct Machine<'a> {
     // the focus that the handler interrupted
     pub interrupted: Focus<'a>,
     pub stack: Vec<Pending<'a>>,
-    // how many frames have room
-    room: usize,
     pub memory: Memory,
     pub world: World,
     handler: Option<usize>,
 }
 
-// What can wait at a time. A function is active at most once for each root, where a program has no recursion. In
-// one activation the nodes from its body down to where it stands have one frame each: a list of statements, a
-// statement, an expression, a place, a call that goes on. A switch whose body runs has two, but then its value's
-// nodes have none. The value of an argument that waits for its call has a node of its own. So an activation has
-// two frames more than nodes at most, those of its body and of its caller, and what the handler interrupts is one.
-fn room_of(program: &Typed) -> usize {
-    let more = (program.functions.len() as u64).saturating_mul(2);
-    program
-        .nodes()
-        .saturating_add(more)
-        .min(0x3000_0000)
-        .saturating_mul(2)
-        .saturating_add(8) as usize
+// So much can wait at a time, and three more in a micro-step. A function is active at most once for each root, where a
+// program has no recursion. In one activation the nodes from its body down to where it stands have one frame each: a list of
+// statements, a statement, an expression, a place, a call that goes on. A switch whose body runs has two, but then its
+// value's nodes have none. The value of an argument that waits for its call has a node of its own. So an activation has at
+// most a frame for each node, and one for its caller or for what the handler interrupted.
+#[tactic(auto, using(crate::proofs::NodeCounts::room_fits, crate::proofs::NodeCounts::room_is))]
+fn room_of(program: &Typed) -> usize
+    ensures { result ≡ most_waiting (program_of program.now) + 3 }
+{
+    2 * (program.nodes() as usize + program.functions.len()) + 3
+}
+
+// The number of main.
+fn main_or_first(program: &Typed) -> usize
+    ensures { result ≡ main_of (program_of program.now) }
+{
+    match main_in(program) {
+        Some(main) => main,
+        None => 0,
+    }
 }
 
 impl<'a> Machine<'a> {
     /// A program before its first step, with all the room that its run needs.
-    pub fn new(alloc: Global, program: &'a Typed, map: &'a Map) -> Result<Machine<'a>, AllocError> {
+    pub fn new(alloc: Global, program: &'a Typed, map: &'a Map) -> Result<Machine<'a>, AllocError>
+        ensures begins { IfOk result (λ m. (s : Setting) → s.program ≡ program_of program.now → IsGiven s → length s.program.statics ≤ 65536 → BeginsAt s (content_of map.now) m) }
+    {
         let memory = Memory::new(alloc, program, map)?;
-        let room = room_of(program);
         let mut stack = Vec::new(alloc);
-        stack.try_reserve(room)?;
-        let main = match main_in(program) {
-            Some(main) => main,
-            None => 0,
-        };
+        stack.try_reserve(room_of(program))?;
+        let main = main_or_first(program);
         let mut machine = Machine {
             program,
             copy: CopyOf {
@@ -111,7 +121,6 @@ impl<'a> Machine<'a> {
             focus: Focus::Past,
             interrupted: Focus::Past,
             stack,
-            room,
             memory,
             world: World::new(),
             handler: handler_in(program),
@@ -123,34 +132,29 @@ impl<'a> Machine<'a> {
     /// The same program at the same place, with room of its own.
     pub fn copy(&self) -> Result<Machine<'a>, AllocError> {
         let mut stack = self.stack.clone()?;
-        stack.try_reserve(self.room.saturating_sub(self.stack.len()))?;
+        stack.try_reserve(self.stack.capacity() - self.stack.len())?;
         Ok(Machine {
             program: self.program,
             copy: self.copy,
             focus: self.focus,
             interrupted: self.interrupted,
             stack,
-            room: self.room,
             memory: self.memory.clone()?,
             world: self.world,
             handler: self.handler,
         })
     }
 
-    /// Micro-steps up to one that counts as a step, and what took it.
-    pub fn step(&mut self, script: &Script) -> (Taker, SrcEnd) {
-        for _ in 0..u64::MAX {
+    /// Micro-steps up to one that counts as a step, and what took it. Less is left to do after each of the others, and at the first
+    /// less than the loop has turns.
+    pub fn step(&mut self, script: &Script) -> (Taker, SrcEnd)
+        ensures { (s : Setting) (map : MapContent) (w : Worlds Bytes) → s.outside ≡ outside_by script.now → CanGo s map self.old w → TellsTake s map (state_in self.old w) result.0 result.1 self.old self.new }
+    {
+        for _done in 0..u128::MAX {
             let (taker, counts, outcome) = self.micro_step(script);
-            match outcome {
-                Outcome::Went(event) => {
-                    if counts {
-                        return (taker, SrcEnd::Went(event));
-                    }
-                }
-                Outcome::Undefined { kind, line } => {
-                    return (taker, SrcEnd::Undefined { kind, line });
-                }
-                Outcome::Idle | Outcome::Lost => break,
+            match end_of(counts, outcome) {
+                Some(end) => return (taker, end),
+                None => {}
             }
         }
         (Taker::Main, SrcEnd::Idle)
@@ -158,22 +162,46 @@ impl<'a> Machine<'a> {
 
     // A micro-step, what took it, and whether it counts as a step. Arrivals come first, then the handler if
     // it is due.
-    fn micro_step(&mut self, script: &Script) -> (Taker, bool, Outcome) {
+    fn micro_step(&mut self, script: &Script) -> (Taker, bool, Outcome)
+        ensures tells { (s : Setting) (map : MapContent) (w : Worlds Bytes) → s.outside ≡ outside_by script.now → CanStep s map self.old w → TellsStep s map (state_in self.old w) result.0 result.1 result.2 self.old self.new }
+    {
         self.world.arrive(script);
-        let due = self.world.is_due();
-        if due {
-            if let Some(handler) = self.handler {
-                return (Taker::Interrupt, true, self.enter(handler));
+        if !self.world.is_due() {
+            let (taker, line, outcome) = self.act_counted(script);
+            return (taker, line.is_some(), outcome);
+        }
+        match self.handler {
+            Some(handler) => (Taker::Interrupt, true, self.enter(handler)),
+            None => {
+                let (taker, line, outcome) = self.act_counted(script);
+                (taker, line.is_some(), refused(line, outcome))
             }
         }
-        let taker = taker_in(self.copy.root);
-        let line = counted_line(self.program, self.copy, self.focus, self.stack.last());
-        let outcome = self.act(script);
-        let outcome = if due { refused(line, outcome) } else { outcome };
-        (taker, line.is_some(), outcome)
     }
 
-    fn act(&mut self, script: &Script) -> Outcome {
+    // The micro-step of the focus, what takes it, and the line of the step that it is, if it counts as one.
+    fn act_counted(&mut self, script: &Script) -> (Taker, Option<u32>, Outcome)
+        ensures taker { result.0 ≡ taker_at false self.old.copy.root }
+        ensures line { result.1 ≡ stated_line (program_of self.old.program.now) self.old.copy (focus_in self.old.focus) (stack_of self.old) }
+        ensures tells { (s : Setting) (map : MapContent) (w : Worlds Bytes) → s.outside ≡ outside_by script.now → CanStep s map self.old w → Tells s.outside (address_of s.program map) result.2 self.new (act s (focus_in self.old.focus) (stack_of self.old) self.old.copy (memory_of self.old) w) }
+        ensures others { self.new ≡ record self.old { copy = self.new.copy; focus = self.new.focus; stack = self.new.stack; memory = self.new.memory; world = self.new.world } }
+        ensures shape { (p : Program) (map : MapContent) → IsShaped p map self.old.memory → IsShaped p map self.new.memory }
+        ensures room { vec_capacity self.old.stack ≤ vec_capacity self.new.stack }
+        ensures rests { is_idle result.2 ≡ true → self.new ≡ self.old }
+    {
+        let taker = taker_in(self.copy.root);
+        let line = counted_line(self.program, self.copy, self.focus, self.top());
+        (taker, line, self.act(script))
+    }
+
+    // The micro-step that the focus says.
+    fn act(&mut self, script: &Script) -> Outcome
+        ensures tells { (s : Setting) (map : MapContent) (w : Worlds Bytes) → s.outside ≡ outside_by script.now → CanStep s map self.old w → Tells s.outside (address_of s.program map) result self.new (act s (focus_in self.old.focus) (stack_of self.old) self.old.copy (memory_of self.old) w) }
+        ensures others { self.new ≡ record self.old { copy = self.new.copy; focus = self.new.focus; stack = self.new.stack; memory = self.new.memory; world = self.new.world } }
+        ensures shape { (p : Program) (map : MapContent) → IsShaped p map self.old.memory → IsShaped p map self.new.memory }
+        ensures room { vec_capacity self.old.stack ≤ vec_capacity self.new.stack }
+        ensures rests { is_idle result ≡ true → self.new ≡ self.old }
+    {
         match self.focus {
             Focus::Eval(expr) => self.eval(expr),
             Focus::Find(place) => self.find(place),
@@ -211,6 +239,8 @@ impl<'a> Machine<'a> {
     fn enter(&mut self, handler: usize) -> Outcome
         ensures tells { HasRoom 2 self.old → is_interrupted (waiting self.old) ≡ false → (o : Outside) (a : AnyObject → ℕ) (w : Worlds Bytes) → IsWorld o self.old.world w → Tells o a result self.new (enter (program_of self.old.program.now) handler (focus_in self.old.focus) (stack_of self.old) self.old.copy (memory_of self.old) w) }
         ensures shape { (p : Program) (map : MapContent) → IsShaped p map self.old.memory → IsShaped p map self.new.memory }
+        ensures others { self.new ≡ record self.old { copy = self.new.copy; focus = self.new.focus; interrupted = self.new.interrupted; stack = self.new.stack; memory = self.new.memory; world = self.new.world } }
+        ensures room { vec_capacity self.old.stack ≤ vec_capacity self.new.stack }
     {
         self.world.enter();
         self.interrupted = self.focus;
@@ -224,6 +254,7 @@ impl<'a> Machine<'a> {
     pub fn resume(&mut self, copy: CopyOf) -> Outcome
         ensures tells { (o : Outside) (a : AnyObject → ℕ) (w : Worlds Bytes) → IsWorld o self.old.world w → Tells o a result self.new (goes copy (interrupted_in self.old) (stack_of self.old) (memory_of self.old) (left w)) }
         ensures others { self.new ≡ record self.old { world = self.new.world; copy = copy; focus = self.old.interrupted } }
+        ensures quiet { is_quiet result ≡ true }
     {
         self.world.leave();
         self.copy = copy;
@@ -238,6 +269,7 @@ impl<'a> Machine<'a> {
         ensures memory { memory_of self.new ≡ fresh (memory_of self.old) (copy_of root function) }
         ensures shape { (p : Program) (map : MapContent) → IsShaped p map self.old.memory → IsShaped p map self.new.memory }
         ensures others { self.new ≡ record self.old { copy = self.new.copy; memory = self.new.memory; stack = self.new.stack } }
+        ensures room { vec_capacity self.old.stack ≤ vec_capacity self.new.stack }
     {
         self.copy = CopyOf { root, function };
         self.memory.clear_copy(self.copy);
@@ -265,6 +297,7 @@ impl<'a> Machine<'a> {
         ensures shape { (p : Program) (map : MapContent) → IsShaped p map self.old.memory → IsShaped p map self.new.memory }
         ensures others { self.new ≡ record self.old { copy = self.new.copy; memory = self.new.memory; stack = self.new.stack; focus = self.new.focus } }
         ensures quiet { is_quiet result ≡ true }
+        ensures room { vec_capacity self.old.stack ≤ vec_capacity self.new.stack }
     {
         match got {
             Got::Passed => match expr {
@@ -306,6 +339,7 @@ impl<'a> Machine<'a> {
         ensures shape { (p : Program) (map : MapContent) → IsShaped p map self.old.memory → IsShaped p map self.new.memory }
         ensures others { self.new ≡ record self.old { copy = self.new.copy; memory = self.new.memory; stack = self.new.stack; focus = self.new.focus } }
         ensures quiet { is_quiet result ≡ true }
+        ensures room { vec_capacity self.old.stack ≤ vec_capacity self.new.stack }
     {
         let Some(top) = self.take_off() else {
             return Outcome::Lost;
@@ -329,6 +363,7 @@ impl<'a> Machine<'a> {
         ensures shape { (p : Program) (map : MapContent) → IsShaped p map self.old.memory → IsShaped p map self.new.memory }
         ensures others { self.new ≡ record self.old { copy = self.new.copy; memory = self.new.memory; stack = self.new.stack; focus = self.new.focus } }
         ensures quiet { is_quiet result ≡ true }
+        ensures room { vec_capacity self.old.stack ≤ vec_capacity self.new.stack }
     {
         let first = self.first_value();
         if self.has_missing(first) {
@@ -347,6 +382,7 @@ impl<'a> Machine<'a> {
         ensures tells { HasRoom 3 self.old → (w : Worlds Bytes) → silent result self.new w ≡ goes (copy_of self.old.copy.root function) control.Past (body_of (program_of self.old.program.now) function (control.Returns self.old.copy ∷ control.In (expression_of expr.now) control.Called ∷ stack_of self.old)) (memory_of self.old) w }
         ensures others { self.new ≡ record self.old { copy = self.new.copy; stack = self.new.stack; focus = self.new.focus } }
         ensures quiet { is_quiet result ≡ true }
+        ensures room { vec_capacity self.old.stack ≤ vec_capacity self.new.stack }
     {
         let caller = self.copy;
         self.wait(Pending::In(expr, Got::Called));
@@ -520,6 +556,7 @@ impl<'a> Machine<'a> {
         ensures tells { HasRoom 1 self.old → (w : Worlds Bytes) → silent result self.new w ≡ goes self.old.copy (focus_in focus.entry) (above self.old pending.entry) (memory_of self.old) w }
         ensures others { self.new ≡ record self.old { stack = self.new.stack; focus = self.new.focus } }
         ensures quiet { is_quiet result ≡ true }
+        ensures room { vec_capacity self.old.stack ≤ vec_capacity self.new.stack }
     {
         self.wait(pending);
         self.go(focus)
@@ -534,7 +571,24 @@ pub(crate) fn undefined(kind: Undef, line: u32) -> Outcome
     Outcome::Undefined { kind, line }
 }
 
-fn taker_in(root: Root) -> Taker {
+// How a step ends, if it ends with this micro-step.
+fn end_of(counts: bool, outcome: Outcome) -> Option<SrcEnd>
+    ensures { result ≡ went_if counts outcome }
+{
+    match outcome {
+        Outcome::Went(event) => if counts {
+            Some(SrcEnd::Went(event))
+        } else {
+            None
+        },
+        Outcome::Undefined { kind, line } => Some(SrcEnd::Undefined { kind, line }),
+        Outcome::Idle | Outcome::Lost => Some(SrcEnd::Idle),
+    }
+}
+
+fn taker_in(root: Root) -> Taker
+    ensures { result ≡ taker_at false root }
+{
     match root {
         Root::Main => Taker::Main,
         Root::Isr => Taker::Handler,
@@ -544,7 +598,8 @@ fn taker_in(root: Root) -> Taker {
 // Without a handler the next step is undefined, if it isn't so for another reason.
 #[tactic(auto, using(crate::proofs::Tellings::refuses))]
 fn refused(line: Option<u32>, outcome: Outcome) -> Outcome
-    ensures { (o : Outside) (a : AnyObject → ℕ) (m : AnyMachine) (x : rules.Outcome) → Tells o a outcome m x → Tells o a result m (refused line x) }
+    ensures tells { (o : Outside) (a : AnyObject → ℕ) (m : AnyMachine) (x : rules.Outcome) → Tells o a outcome m x → Tells o a result m (refused line x) }
+    ensures idle { is_idle result ≡ true → is_idle outcome ≡ true }
 {
     match outcome {
         Outcome::Undefined { kind, line } => Outcome::Undefined { kind, line },

@@ -1,9 +1,11 @@
 //! Expressions that take the value of a part.
 
-ghost use Rattle.std.specs.Prelude.{◌≡◌, ◌∷◌, true};
+ghost use Rattle.std.specs.Prelude.{◌≡◌, ◌≤◌, ◌∷◌, true};
+ghost use Rattle.std.specs.Vec.{vec_capacity};
 ghost use Rattle.c_typed.specs.Views.{expression_of};
 ghost use Rattle.pic_world.specs.World.{World as Worlds, Outside};
 ghost use Rattle.src_machine.specs.Seen.{waiting, interrupted_in, stack_of, memory_of, silent, setting_of, active_in, HasRoom, IsGoing};
+ghost use Rattle.src_machine.specs.Telling.{is_quiet};
 ghost use Rattle.src_rules.specs.Accesses.{goes};
 ghost use Rattle.src_rules.specs.Giving as giving;
 ghost use Rattle.src_values.specs.Control as control;
@@ -24,7 +26,10 @@ use src_values::{Datum, Pointer, Spot, Undef};
 impl<'a> Machine<'a> {
     // The value of an operator, or why it is undefined; or no rule is there.
     fn answered(&mut self, answer: Answer, line: u32) -> Outcome
-        ensures { (w : Worlds Bytes) → silent result self.new w ≡ giving.answered (answer_in answer) line (stack_of self.old) self.old.copy (memory_of self.old) w }
+        ensures tells { (w : Worlds Bytes) → silent result self.new w ≡ giving.answered (answer_in answer) line (stack_of self.old) self.old.copy (memory_of self.old) w }
+        ensures others { self.new ≡ record self.old { stack = self.new.stack; focus = self.new.focus } }
+        ensures quiet { is_quiet result ≡ true }
+        ensures room { vec_capacity self.old.stack ≤ vec_capacity self.new.stack }
     {
         match answer {
             Answer::Gives(value) => self.go(Focus::Holds(value)),
@@ -57,7 +62,10 @@ impl<'a> Machine<'a> {
         right: &'a TExpr,
         line: u32,
     ) -> Outcome
-        ensures { HasRoom 1 self.old → (w : Worlds Bytes) → silent result self.new w ≡ giving.logical (expression_of expr.now) op (datum_of value) (values.truth_of (datum_of value)) (expression_of right.now) line (stack_of self.old) self.old.copy (memory_of self.old) w }
+        ensures tells { HasRoom 1 self.old → (w : Worlds Bytes) → silent result self.new w ≡ giving.logical (expression_of expr.now) op (datum_of value) (values.truth_of (datum_of value)) (expression_of right.now) line (stack_of self.old) self.old.copy (memory_of self.old) w }
+        ensures others { self.new ≡ record self.old { stack = self.new.stack; focus = self.new.focus } }
+        ensures quiet { is_quiet result ≡ true }
+        ensures room { vec_capacity self.old.stack ≤ vec_capacity self.new.stack }
     {
         match truth_of(value) {
             None => undefined(Undef::Unset, line),
@@ -80,7 +88,10 @@ impl<'a> Machine<'a> {
         otherwise: &'a TExpr,
         line: u32,
     ) -> Outcome
-        ensures { HasRoom 1 self.old → (w : Worlds Bytes) → silent result self.new w ≡ giving.branch (values.truth_of (datum_of value)) line (goes self.old.copy (control.Eval (expression_of then.now)) (control.In (expression_of expr.now) control.Chosen ∷ stack_of self.old) (memory_of self.old) w) (goes self.old.copy (control.Eval (expression_of otherwise.now)) (control.In (expression_of expr.now) control.Chosen ∷ stack_of self.old) (memory_of self.old) w) }
+        ensures tells { HasRoom 1 self.old → (w : Worlds Bytes) → silent result self.new w ≡ giving.branch (values.truth_of (datum_of value)) line (goes self.old.copy (control.Eval (expression_of then.now)) (control.In (expression_of expr.now) control.Chosen ∷ stack_of self.old) (memory_of self.old) w) (goes self.old.copy (control.Eval (expression_of otherwise.now)) (control.In (expression_of expr.now) control.Chosen ∷ stack_of self.old) (memory_of self.old) w) }
+        ensures others { self.new ≡ record self.old { stack = self.new.stack; focus = self.new.focus } }
+        ensures quiet { is_quiet result ≡ true }
+        ensures room { vec_capacity self.old.stack ≤ vec_capacity self.new.stack }
     {
         match truth_of(value) {
             Some(true) => self.go_waiting(Focus::Eval(then), Pending::In(expr, Got::Chosen)),
@@ -92,7 +103,10 @@ impl<'a> Machine<'a> {
     // The first part of an expression has its value.
     #[tactic(auto, using(crate::proofs::Takes::first_parts))]
     fn take_first_part(&mut self, expr: &'a TExpr, value: Datum) -> Outcome
-        ensures { HasRoom 1 self.old → (o : Outside) (w : Worlds Bytes) → silent result self.new w ≡ giving.take_in (setting_of self.old o) (expression_of expr.now) control.Nothing (datum_of value) (stack_of self.old) self.old.copy (memory_of self.old) w }
+        ensures tells { HasRoom 1 self.old → (o : Outside) (w : Worlds Bytes) → silent result self.new w ≡ giving.take_in (setting_of self.old o) (expression_of expr.now) control.Nothing (datum_of value) (stack_of self.old) self.old.copy (memory_of self.old) w }
+        ensures others { self.new ≡ record self.old { stack = self.new.stack; focus = self.new.focus } }
+        ensures quiet { is_quiet result ≡ true }
+        ensures room { vec_capacity self.old.stack ≤ vec_capacity self.new.stack }
     {
         match expr {
             TExpr::Convert { ty, line, .. } | TExpr::Cast { ty, line, .. } => {
@@ -131,7 +145,10 @@ impl<'a> Machine<'a> {
     // Both operands have their values.
     #[tactic(auto, using(crate::proofs::Takes::right_lost, crate::proofs::Takes::right_offset, crate::proofs::Takes::right_difference, crate::proofs::Takes::right_logical, crate::proofs::Operands::both_given))]
     fn take_right(&mut self, expr: &'a TExpr, left: Datum, right: Datum) -> Outcome
-        ensures { IsGoing self.old → (o : Outside) (w : Worlds Bytes) → silent result self.new w ≡ giving.take_in (setting_of self.old o) (expression_of expr.now) (control.One (datum_of left)) (datum_of right) (stack_of self.old) self.old.copy (memory_of self.old) w }
+        ensures tells { IsGoing self.old → (o : Outside) (w : Worlds Bytes) → silent result self.new w ≡ giving.take_in (setting_of self.old o) (expression_of expr.now) (control.One (datum_of left)) (datum_of right) (stack_of self.old) self.old.copy (memory_of self.old) w }
+        ensures others { self.new ≡ record self.old { stack = self.new.stack; focus = self.new.focus } }
+        ensures quiet { is_quiet result ≡ true }
+        ensures room { vec_capacity self.old.stack ≤ vec_capacity self.new.stack }
     {
         match expr {
             TExpr::Binary { op, ty, line, .. } => {
@@ -176,7 +193,10 @@ impl<'a> Machine<'a> {
         old: Datum,
         line: u32,
     ) -> Outcome
-        ensures { HasRoom 1 self.old → (w : Worlds Bytes) → silent result self.new w ≡ giving.changes (answer_in answer) (expression_of expr.now) spot keeps (datum_of old) line (stack_of self.old) self.old.copy (memory_of self.old) w }
+        ensures tells { HasRoom 1 self.old → (w : Worlds Bytes) → silent result self.new w ≡ giving.changes (answer_in answer) (expression_of expr.now) spot keeps (datum_of old) line (stack_of self.old) self.old.copy (memory_of self.old) w }
+        ensures others { self.new ≡ record self.old { stack = self.new.stack; focus = self.new.focus } }
+        ensures quiet { is_quiet result ≡ true }
+        ensures room { vec_capacity self.old.stack ≤ vec_capacity self.new.stack }
     {
         match answer {
             Answer::Gives(value) => {
@@ -191,7 +211,10 @@ impl<'a> Machine<'a> {
 
     // A value is assigned to a place. A missing one is undefined.
     fn assigns(&mut self, expr: &'a TExpr, spot: Spot, value: Datum, line: u32) -> Outcome
-        ensures { HasRoom 1 self.old → (w : Worlds Bytes) → silent result self.new w ≡ giving.used (datum_of value) line (goes self.old.copy (control.Write spot (datum_of value) 0) (control.In (expression_of expr.now) (control.Stores spot (datum_of value)) ∷ stack_of self.old) (memory_of self.old) w) }
+        ensures tells { HasRoom 1 self.old → (w : Worlds Bytes) → silent result self.new w ≡ giving.used (datum_of value) line (goes self.old.copy (control.Write spot (datum_of value) 0) (control.In (expression_of expr.now) (control.Stores spot (datum_of value)) ∷ stack_of self.old) (memory_of self.old) w) }
+        ensures others { self.new ≡ record self.old { stack = self.new.stack; focus = self.new.focus } }
+        ensures quiet { is_quiet result ≡ true }
+        ensures room { vec_capacity self.old.stack ≤ vec_capacity self.new.stack }
     {
         match value {
             Datum::Missing => undefined(Undef::Unset, line),
@@ -205,7 +228,10 @@ impl<'a> Machine<'a> {
     // A node whose place was found.
     #[tactic(auto, using(crate::proofs::Takes::at_parts))]
     fn take_at(&mut self, expr: &'a TExpr, spot: Spot, value: Datum) -> Outcome
-        ensures { HasRoom 1 self.old → (o : Outside) (w : Worlds Bytes) → silent result self.new w ≡ giving.take_in (setting_of self.old o) (expression_of expr.now) (control.At spot) (datum_of value) (stack_of self.old) self.old.copy (memory_of self.old) w }
+        ensures tells { HasRoom 1 self.old → (o : Outside) (w : Worlds Bytes) → silent result self.new w ≡ giving.take_in (setting_of self.old o) (expression_of expr.now) (control.At spot) (datum_of value) (stack_of self.old) self.old.copy (memory_of self.old) w }
+        ensures others { self.new ≡ record self.old { stack = self.new.stack; focus = self.new.focus } }
+        ensures quiet { is_quiet result ≡ true }
+        ensures room { vec_capacity self.old.stack ≤ vec_capacity self.new.stack }
     {
         match expr {
             TExpr::Assign { line, .. } => self.assigns(expr, spot, value, *line),
@@ -246,7 +272,10 @@ impl<'a> Machine<'a> {
     // An update whose place was read.
     #[tactic(auto, using(crate::proofs::Takes::old_parts))]
     fn take_old(&mut self, expr: &'a TExpr, spot: Spot, right: Datum, old: Datum) -> Outcome
-        ensures { HasRoom 1 self.old → (o : Outside) (w : Worlds Bytes) → silent result self.new w ≡ giving.take_in (setting_of self.old o) (expression_of expr.now) (control.AtWith spot (datum_of right)) (datum_of old) (stack_of self.old) self.old.copy (memory_of self.old) w }
+        ensures tells { HasRoom 1 self.old → (o : Outside) (w : Worlds Bytes) → silent result self.new w ≡ giving.take_in (setting_of self.old o) (expression_of expr.now) (control.AtWith spot (datum_of right)) (datum_of old) (stack_of self.old) self.old.copy (memory_of self.old) w }
+        ensures others { self.new ≡ record self.old { stack = self.new.stack; focus = self.new.focus } }
+        ensures quiet { is_quiet result ≡ true }
+        ensures room { vec_capacity self.old.stack ≤ vec_capacity self.new.stack }
     {
         match expr {
             TExpr::Update {
@@ -282,7 +311,10 @@ impl<'a> Machine<'a> {
     // The operand that a condition chose has its value.
     #[tactic(auto, using(crate::proofs::Takes::chosen_parts))]
     fn take_chosen(&mut self, expr: &'a TExpr, value: Datum) -> Outcome
-        ensures { (o : Outside) (w : Worlds Bytes) → silent result self.new w ≡ giving.take_in (setting_of self.old o) (expression_of expr.now) control.Chosen (datum_of value) (stack_of self.old) self.old.copy (memory_of self.old) w }
+        ensures tells { (o : Outside) (w : Worlds Bytes) → silent result self.new w ≡ giving.take_in (setting_of self.old o) (expression_of expr.now) control.Chosen (datum_of value) (stack_of self.old) self.old.copy (memory_of self.old) w }
+        ensures others { self.new ≡ record self.old { stack = self.new.stack; focus = self.new.focus } }
+        ensures quiet { is_quiet result ≡ true }
+        ensures room { vec_capacity self.old.stack ≤ vec_capacity self.new.stack }
     {
         match expr {
             TExpr::Conditional { .. } => self.go(Focus::Holds(value)),
@@ -308,7 +340,10 @@ impl<'a> Machine<'a> {
     // An argument of this number has its value.
     #[tactic(auto, using(crate::proofs::Takes::args_lost, crate::proofs::Parts::argument_passed, crate::proofs::Parts::arguments_of_call))]
     fn take_argument(&mut self, expr: &'a TExpr, count: usize, value: Datum) -> Outcome
-        ensures { HasRoom 2 self.old → (o : Outside) (w : Worlds Bytes) → silent result self.new w ≡ giving.take_in (setting_of self.old o) (expression_of expr.now) (got_in (expression_of expr.now) (AnyGot.Args count) (values_on (waiting self.old))) (datum_of value) (frames_behind (interrupted_in self.old) true (waiting self.old)) self.old.copy (memory_of self.old) w }
+        ensures tells { HasRoom 2 self.old → (o : Outside) (w : Worlds Bytes) → silent result self.new w ≡ giving.take_in (setting_of self.old o) (expression_of expr.now) (got_in (expression_of expr.now) (AnyGot.Args count) (values_on (waiting self.old))) (datum_of value) (frames_behind (interrupted_in self.old) true (waiting self.old)) self.old.copy (memory_of self.old) w }
+        ensures others { self.new ≡ record self.old { stack = self.new.stack; focus = self.new.focus } }
+        ensures quiet { is_quiet result ≡ true }
+        ensures room { vec_capacity self.old.stack ≤ vec_capacity self.new.stack }
     {
         match expr {
             TExpr::Call { arguments, .. } => {
@@ -337,7 +372,10 @@ impl<'a> Machine<'a> {
     /// An expression takes the value of a part.
     #[tactic(auto, using(crate::proofs::Takes::nowhere))]
     pub(crate) fn take_in(&mut self, expr: &'a TExpr, got: Got, value: Datum) -> Outcome
-        ensures { HasRoom 2 self.old → IsGoing self.old → (o : Outside) (w : Worlds Bytes) → silent result self.new w ≡ giving.take_in (setting_of self.old o) (expression_of expr.now) (got_in (expression_of expr.now) got (values_on (waiting self.old))) (datum_of value) (frames_behind (interrupted_in self.old) (has_values got) (waiting self.old)) self.old.copy (memory_of self.old) w }
+        ensures tells { HasRoom 2 self.old → IsGoing self.old → (o : Outside) (w : Worlds Bytes) → silent result self.new w ≡ giving.take_in (setting_of self.old o) (expression_of expr.now) (got_in (expression_of expr.now) got (values_on (waiting self.old))) (datum_of value) (frames_behind (interrupted_in self.old) (has_values got) (waiting self.old)) self.old.copy (memory_of self.old) w }
+        ensures others { self.new ≡ record self.old { stack = self.new.stack; focus = self.new.focus } }
+        ensures quiet { is_quiet result ≡ true }
+        ensures room { vec_capacity self.old.stack ≤ vec_capacity self.new.stack }
     {
         match got {
             Got::Nothing => self.take_first_part(expr, value),

@@ -1,7 +1,14 @@
 //! A run of a typed program, and how far it is.
 
-ghost use Rattle.std.specs.Prelude.{◌≡◌, ◌≤◌, ◌+◌, IfOk, None, Some};
-ghost use Rattle.src_machine.specs.Progress.{main_steps_of, runs_of, undefined_in, undefined_by, taken_by};
+ghost use Rattle.std.specs.Prelude.{◌≡◌, ◌≤◌, ◌<◌, ◌+◌, ◌^◌, ℕ, length, IfOk, None, Some};
+ghost use Rattle.c_typed.specs.Views.{program_of};
+ghost use Rattle.pic_map.specs.MapContent.{MapContent};
+ghost use Rattle.pic_map.specs.MapView.{content_of};
+ghost use Rattle.src_machine.specs.Progress.{main_steps_of, runs_of, undefined_in, undefined_by, taken_by, main_by, run_by, Notes};
+ghost use Rattle.src_machine.specs.Sources.{IsSource, TellsNext};
+ghost use Rattle.src_machine.specs.Steps.{IsGiven};
+ghost use Rattle.src_memory.specs.Seen.{outside_by};
+ghost use Rattle.src_values.specs.Memory.{Setting};
 
 use crate::machine::{Machine, SrcEnd, Taker};
 use c_typed::Typed;
@@ -35,6 +42,8 @@ impl<'a> Source<'a> {
         ensures main_steps { IfOk result (λ source. main_steps_of source ≡ 0) }
         ensures runs { IfOk result (λ source. runs_of source ≡ 0) }
         ensures defined { IfOk result (λ source. undefined_in source ≡ None) }
+        // It is the run of the definition, under any outside of which bytes come.
+        ensures begins { IfOk result (λ source. (s : Setting) → s.program ≡ program_of p.now → IsGiven s → length s.program.statics ≤ 65536 → IsSource s (content_of map.now) 0 source) }
     {
         Ok(Source {
             machine: Machine::new(alloc, p, map)?,
@@ -83,6 +92,8 @@ impl<'a> Source<'a> {
         ensures main_steps { main_steps_of self.old ≤ main_steps_of self.new }
         ensures runs { runs_of self.old ≤ runs_of self.new }
         ensures counted { main_steps_of self.new + runs_of self.new ≤ main_steps_of self.old + runs_of self.old + taken_by result }
+        // It is the next step of the definition's run, with its event, its kind and line, or none.
+        ensures follows { (s : Setting) (map : MapContent) (n : ℕ) → s.outside ≡ outside_by script.now → n + 1 < 2 ^ 60 → IsSource s map n self.old → TellsNext s map n result self.new }
     {
         if let Some(stop) = self.stop {
             return SrcEnd::Undefined {
@@ -91,12 +102,24 @@ impl<'a> Source<'a> {
             };
         }
         let (taker, end) = self.machine.step(script);
+        self.note(taker, end);
+        end
+    }
+
+    // A step that was taken counts, and an undefined one is kept.
+    fn note(&mut self, taker: Taker, end: SrcEnd)
+        ensures noted { Notes end taker self.old self.new }
+        ensures machine { self.new.machine ≡ self.old.machine }
+        ensures met { undefined_in self.old ≡ None → undefined_in self.new ≡ undefined_by end }
+        ensures main_steps { main_steps_of self.old ≤ main_steps_of self.new }
+        ensures runs { runs_of self.old ≤ runs_of self.new }
+        ensures counted { main_steps_of self.new + runs_of self.new ≤ main_steps_of self.old + runs_of self.old + taken_by end }
+    {
         match end {
             SrcEnd::Went(_) => self.count(taker),
             SrcEnd::Undefined { kind, line } => self.stop = Some(Stop { kind, line }),
             SrcEnd::Idle => {}
         }
-        end
     }
 
     // A step that was taken counts for main or as the begin of a run.
@@ -105,6 +128,9 @@ impl<'a> Source<'a> {
         ensures runs { runs_of self.old ≤ runs_of self.new }
         ensures counted { main_steps_of self.new + runs_of self.new ≤ main_steps_of self.old + runs_of self.old + 1 }
         ensures undefined { undefined_in self.new ≡ undefined_in self.old }
+        ensures adds_main { main_steps_of self.old < 2 ^ 60 → main_steps_of self.new ≡ main_steps_of self.old + main_by taker }
+        ensures adds_run { runs_of self.old < 2 ^ 60 → runs_of self.new ≡ runs_of self.old + run_by taker }
+        ensures machine { self.new.machine ≡ self.old.machine }
     {
         match taker {
             Taker::Main => self.main_steps = self.main_steps.saturating_add(1),

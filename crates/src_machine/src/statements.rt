@@ -8,7 +8,7 @@ ghost use Rattle.pic_map.specs.MapContent.{MapContent};
 ghost use Rattle.pic_world.specs.World.{World as Worlds, Outside};
 ghost use Rattle.src_machine.specs.Branches.{IsIf, HasItems, is_return, returned, resumes};
 ghost use Rattle.src_machine.specs.Seen.{waiting, interrupted_in, stack_of, above, memory_of, silent, setting_of, HasRoom};
-ghost use Rattle.src_machine.specs.Telling.{Tells, is_quiet};
+ghost use Rattle.src_machine.specs.Telling.{Tells, is_quiet, is_idle};
 ghost use Rattle.src_memory.specs.Seen.{IsWorld, events_of};
 ghost use Rattle.src_memory.specs.Shape.{IsShaped};
 ghost use Rattle.src_rules.specs.Accesses.{items as stated_items};
@@ -37,6 +37,7 @@ impl<'a> Machine<'a> {
         ensures tells { HasRoom 1 self.old → (w : Worlds Bytes) → silent result self.new w ≡ rules.turn (statement_in code.entry) (statement_of body.now.value) (stack_of self.old) self.old.copy (memory_of self.old) w }
         ensures others { self.new ≡ record self.old { stack = self.new.stack; focus = self.new.focus } }
         ensures quiet { is_quiet result ≡ true }
+        ensures room { vec_capacity self.old.stack ≤ vec_capacity self.new.stack }
     {
         self.go_waiting(
             Focus::Run(Code::Boxed(body)),
@@ -54,6 +55,7 @@ impl<'a> Machine<'a> {
         ensures tells { HasRoom 1 self.old → (w : Worlds Bytes) → silent result self.new w ≡ rules.test (statement_in code.entry) (option_map expression_of condition.now) (statement_of body.now.value) (stack_of self.old) self.old.copy (memory_of self.old) w }
         ensures others { self.new ≡ record self.old { stack = self.new.stack; focus = self.new.focus } }
         ensures quiet { is_quiet result ≡ true }
+        ensures room { vec_capacity self.old.stack ≤ vec_capacity self.new.stack }
     {
         match condition {
             Some(condition) => self.go_waiting(
@@ -75,6 +77,7 @@ impl<'a> Machine<'a> {
         ensures tells { HasRoom 1 self.old → (w : Worlds Bytes) → silent result self.new w ≡ rules.first_of (statement_in code.entry) (option_map expression_of begin.now) (option_map expression_of condition.now) (statement_of body.now.value) (stack_of self.old) self.old.copy (memory_of self.old) w }
         ensures others { self.new ≡ record self.old { stack = self.new.stack; focus = self.new.focus } }
         ensures quiet { is_quiet result ≡ true }
+        ensures room { vec_capacity self.old.stack ≤ vec_capacity self.new.stack }
     {
         match begin {
             Some(begin) => {
@@ -95,6 +98,7 @@ impl<'a> Machine<'a> {
         ensures tells { HasRoom 1 self.old → (w : Worlds Bytes) → silent result self.new w ≡ rules.next_of (statement_in code.entry) (option_map expression_of step.now) (option_map expression_of condition.now) (statement_of body.now.value) (stack_of self.old) self.old.copy (memory_of self.old) w }
         ensures others { self.new ≡ record self.old { stack = self.new.stack; focus = self.new.focus } }
         ensures quiet { is_quiet result ≡ true }
+        ensures room { vec_capacity self.old.stack ≤ vec_capacity self.new.stack }
     {
         match step {
             Some(step) => self.go_waiting(Focus::Eval(step), Pending::Doing(code, Stage::Steps)),
@@ -114,6 +118,7 @@ impl<'a> Machine<'a> {
         ensures tells { HasRoom 1 self.old → IsIf (statement_in code.entry) arms.now otherwise.now → (w : Worlds Bytes) → silent result self.new w ≡ rules.arms (statement_in code.entry) (arms_from at (arms_in (statement_in code.entry))) (last_arm_of otherwise.now) (stack_of self.old) self.old.copy (memory_of self.old) w }
         ensures others { self.new ≡ record self.old { stack = self.new.stack; focus = self.new.focus } }
         ensures quiet { is_quiet result ≡ true }
+        ensures room { vec_capacity self.old.stack ≤ vec_capacity self.new.stack }
     {
         match arms.get(at) {
             Some(arm) => self.go_waiting(
@@ -143,6 +148,7 @@ impl<'a> Machine<'a> {
         ensures tells { HasRoom 1 self.old → IsIf (statement_in code.entry) arms.now otherwise.now → (o : Outside) (w : Worlds Bytes) → silent result self.new w ≡ giving.take_for (setting_of self.old o) (statement_in code.entry) (stage_in (statement_in code.entry) (stages.Picks at)) (datum_of value) (stack_of self.old) self.old.copy (memory_of self.old) w }
         ensures others { self.new ≡ record self.old { stack = self.new.stack; focus = self.new.focus } }
         ensures quiet { is_quiet result ≡ true }
+        ensures room { vec_capacity self.old.stack ≤ vec_capacity self.new.stack }
     {
         let Some(arm) = arms.get(at) else {
             return Outcome::Lost;
@@ -164,6 +170,7 @@ impl<'a> Machine<'a> {
         ensures tells { (w : Worlds Bytes) → silent result self.new w ≡ rules.break_at (stack_of self.old) self.old.copy (memory_of self.old) w }
         ensures others { self.new ≡ record self.old { stack = self.new.stack; focus = self.new.focus } }
         ensures quiet { is_quiet result ≡ true }
+        ensures room { vec_capacity self.old.stack ≤ vec_capacity self.new.stack }
     {
         while let Some(top) = self.take_off() {
             match top {
@@ -197,6 +204,7 @@ impl<'a> Machine<'a> {
         ensures tells { HasRoom 0 self.old → (w : Worlds Bytes) → silent result self.new w ≡ rules.continue_at (stack_of self.old) self.old.copy (memory_of self.old) w }
         ensures others { self.new ≡ record self.old { stack = self.new.stack; focus = self.new.focus } }
         ensures quiet { is_quiet result ≡ true }
+        ensures room { vec_capacity self.old.stack ≤ vec_capacity self.new.stack }
     {
         while let Some(top) = self.take_off() {
             match top {
@@ -275,6 +283,7 @@ impl<'a> Machine<'a> {
         ensures tells { HasRoom 1 self.old → (w : Worlds Bytes) → silent result self.new w ≡ rules.proceed (control.Before (statements_of (map statement_of (drop at statements.now.items))) ∷ stack_of self.old) self.old.copy (memory_of self.old) w }
         ensures others { self.new ≡ record self.old { stack = self.new.stack; focus = self.new.focus } }
         ensures quiet { is_quiet result ≡ true }
+        ensures room { vec_capacity self.old.stack ≤ vec_capacity self.new.stack }
     {
         if at < statements.len() {
             self.go_waiting(
@@ -292,6 +301,7 @@ impl<'a> Machine<'a> {
         ensures tells { HasRoom 1 self.old → (w : Worlds Bytes) → silent result self.new w ≡ rules.turned (statement_in code.entry) control.Turns (stack_of self.old) self.old.copy (memory_of self.old) w }
         ensures others { self.new ≡ record self.old { stack = self.new.stack; focus = self.new.focus } }
         ensures quiet { is_quiet result ≡ true }
+        ensures room { vec_capacity self.old.stack ≤ vec_capacity self.new.stack }
     {
         let Some(statement) = code.statement() else {
             return Outcome::Lost;
@@ -323,6 +333,7 @@ impl<'a> Machine<'a> {
         ensures tells { (others : Arms) (w : Worlds Bytes) → silent result self.new w ≡ rules.turned (statement_in code.entry) (control.InArm others) (stack_of self.old) self.old.copy (memory_of self.old) w }
         ensures others { self.new ≡ record self.old { stack = self.new.stack; focus = self.new.focus } }
         ensures quiet { is_quiet result ≡ true }
+        ensures room { vec_capacity self.old.stack ≤ vec_capacity self.new.stack }
     {
         let Some(statement) = code.statement() else {
             return Outcome::Lost;
@@ -349,6 +360,7 @@ impl<'a> Machine<'a> {
         ensures tells { HasRoom 1 self.old → (w : Worlds Bytes) → silent result self.new w ≡ rules.turned (statement_in code.entry) (stage_in (statement_in code.entry) stage) (stack_of self.old) self.old.copy (memory_of self.old) w }
         ensures others { self.new ≡ record self.old { stack = self.new.stack; focus = self.new.focus } }
         ensures quiet { is_quiet result ≡ true }
+        ensures room { vec_capacity self.old.stack ≤ vec_capacity self.new.stack }
     {
         match stage {
             Stage::Turns => self.turned(code),
@@ -368,6 +380,8 @@ impl<'a> Machine<'a> {
     // Main ends with an event.
     fn ends(&mut self) -> Outcome
         ensures tells { waiting self.old ≡ [] → (o : Outside) (a : AnyObject → ℕ) (w : Worlds Bytes) → IsWorld o self.old.world w → events_of self.old.world < 2 ^ 60 → Tells o a result self.new (rules.proceed (stack_of self.old) self.old.copy (memory_of self.old) w) }
+        ensures others { self.new ≡ record self.old { focus = self.new.focus; world = self.new.world } }
+        ensures steps { is_idle result ≡ false }
     {
         self.world.note();
         self.focus = Focus::Over;
@@ -379,6 +393,7 @@ impl<'a> Machine<'a> {
         ensures tells { HasRoom 1 self.old → resumes top.entry ≡ false → (w : Worlds Bytes) → silent result self.new w ≡ rules.proceed (above self.old top.entry) self.old.copy (memory_of self.old) w }
         ensures others { self.new ≡ record self.old { stack = self.new.stack; focus = self.new.focus } }
         ensures quiet { is_quiet result ≡ true }
+        ensures room { vec_capacity self.old.stack ≤ vec_capacity self.new.stack }
     {
         match top {
             Pending::Before(statements, at) => self.statements(statements, at),
@@ -396,9 +411,12 @@ impl<'a> Machine<'a> {
 
     /// The end of a statement. Main ends with an event; a function ends without a value; after the handler
     /// what it interrupted goes on.
-    #[tactic(auto, using(crate::proofs::Tellings::tells_silent))]
+    #[tactic(auto, using(crate::proofs::Tellings::quiet_steps, crate::proofs::Tellings::tells_silent))]
     pub(crate) fn proceed(&mut self) -> Outcome
         ensures tells { HasRoom 0 self.old → (o : Outside) (a : AnyObject → ℕ) (w : Worlds Bytes) → IsWorld o self.old.world w → events_of self.old.world < 2 ^ 60 → Tells o a result self.new (rules.proceed (stack_of self.old) self.old.copy (memory_of self.old) w) }
+        ensures others { self.new ≡ record self.old { stack = self.new.stack; focus = self.new.focus; copy = self.new.copy; world = self.new.world } }
+        ensures room { vec_capacity self.old.stack ≤ vec_capacity self.new.stack }
+        ensures steps { is_idle result ≡ false }
     {
         let Some(top) = self.take_off() else {
             return self.ends();
@@ -421,6 +439,7 @@ impl<'a> Machine<'a> {
         ensures tells { (w : Worlds Bytes) → silent result self.new w ≡ rules.handed (datum_of value) caller (above self.old (frames.In expr.entry got)) (memory_of self.old) w }
         ensures others { self.new ≡ record self.old { stack = self.new.stack; focus = self.new.focus; copy = self.new.copy } }
         ensures quiet { is_quiet result ≡ true }
+        ensures room { vec_capacity self.old.stack ≤ vec_capacity self.new.stack }
     {
         match got {
             Got::Called => match expr {
@@ -462,6 +481,7 @@ impl<'a> Machine<'a> {
         ensures tells { (w : Worlds Bytes) → silent result self.new w ≡ rules.handed (datum_of value) caller (stack_of self.old) (memory_of self.old) w }
         ensures others { self.new ≡ record self.old { stack = self.new.stack; focus = self.new.focus; copy = self.new.copy } }
         ensures quiet { is_quiet result ≡ true }
+        ensures room { vec_capacity self.old.stack ≤ vec_capacity self.new.stack }
     {
         let Some(top) = self.take_off() else {
             return Outcome::Lost;
@@ -483,6 +503,7 @@ impl<'a> Machine<'a> {
         ensures tells { (w : Worlds Bytes) → silent result self.new w ≡ rules.leave (datum_of value) (stack_of self.old) (memory_of self.old) w }
         ensures others { self.new ≡ record self.old { stack = self.new.stack; focus = self.new.focus; copy = self.new.copy } }
         ensures quiet { is_quiet result ≡ true }
+        ensures room { vec_capacity self.old.stack ≤ vec_capacity self.new.stack }
     {
         let Some(top) = self.take_off() else {
             return Outcome::Lost;
@@ -523,6 +544,7 @@ impl<'a> Machine<'a> {
         ensures tells { HasRoom 1 self.old → (w : Worlds Bytes) → silent result self.new w ≡ rules.loops form (statement_in code.entry) (option_map expression_of begin.now) (option_map expression_of condition.now) (statement_of body.now.value) (stack_of self.old) self.old.copy (memory_of self.old) w }
         ensures others { self.new ≡ record self.old { stack = self.new.stack; focus = self.new.focus } }
         ensures quiet { is_quiet result ≡ true }
+        ensures room { vec_capacity self.old.stack ≤ vec_capacity self.new.stack }
     {
         match form {
             LoopForm::While | LoopForm::For => self.before_first(code, begin, condition, body),
@@ -531,9 +553,12 @@ impl<'a> Machine<'a> {
     }
 
     // A function is left.
-    #[tactic(auto, using(crate::proofs::Tellings::tells_silent))]
+    #[tactic(auto, using(crate::proofs::Tellings::quiet_steps, crate::proofs::Tellings::tells_silent))]
     fn returns(&mut self, code: Code<'a>, value: &'a Option<TExpr>) -> Outcome
         ensures tells { HasRoom 1 self.old → (o : Outside) (a : AnyObject → ℕ) (w : Worlds Bytes) → IsWorld o self.old.world w → events_of self.old.world < 2 ^ 60 → Tells o a result self.new (returned (statement_in code.entry) (option_map expression_of value.now) (stack_of self.old) self.old.copy (memory_of self.old) w) }
+        ensures others { self.new ≡ record self.old { stack = self.new.stack; focus = self.new.focus; copy = self.new.copy; world = self.new.world } }
+        ensures room { vec_capacity self.old.stack ≤ vec_capacity self.new.stack }
+        ensures steps { is_idle result ≡ false }
     {
         match value {
             Some(value) => self.go_waiting(Focus::Eval(value), Pending::Doing(code, Stage::Tests)),
@@ -550,6 +575,7 @@ impl<'a> Machine<'a> {
         ensures others { self.new ≡ record self.old { stack = self.new.stack; focus = self.new.focus; memory = self.new.memory } }
         ensures quiet { is_quiet result ≡ true }
         ensures shape { (p : Program) (map : MapContent) → IsShaped p map self.old.memory → IsShaped p map self.new.memory }
+        ensures room { vec_capacity self.old.stack ≤ vec_capacity self.new.stack }
     {
         let object = self.declared(local);
         self.items(code, object, items, 0)
@@ -562,6 +588,7 @@ impl<'a> Machine<'a> {
         ensures others { self.new ≡ record self.old { stack = self.new.stack; focus = self.new.focus; memory = self.new.memory } }
         ensures quiet { is_quiet result ≡ true }
         ensures shape { (p : Program) (map : MapContent) → IsShaped p map self.old.memory → IsShaped p map self.new.memory }
+        ensures room { vec_capacity self.old.stack ≤ vec_capacity self.new.stack }
     {
         let here = Pending::Doing(code, Stage::Tests);
         match statement {
@@ -600,9 +627,13 @@ impl<'a> Machine<'a> {
     }
 
     /// A statement begins.
-    #[tactic(auto, using(crate::proofs::Tellings::tells_silent, crate::proofs::Turns::returns, crate::proofs::Turns::starts_return))]
+    #[tactic(auto, using(crate::proofs::Tellings::quiet_steps, crate::proofs::Tellings::tells_silent, crate::proofs::Turns::returns, crate::proofs::Turns::starts_return))]
     pub(crate) fn begin(&mut self, code: Code<'a>) -> Outcome
         ensures tells { HasRoom 1 self.old → (o : Outside) (a : AnyObject → ℕ) (w : Worlds Bytes) → IsWorld o self.old.world w → events_of self.old.world < 2 ^ 60 → Tells o a result self.new (rules.begin (setting_of self.old o) (statement_in code.entry) (stack_of self.old) self.old.copy (memory_of self.old) w) }
+        ensures others { self.new ≡ record self.old { stack = self.new.stack; focus = self.new.focus; copy = self.new.copy; memory = self.new.memory; world = self.new.world } }
+        ensures shape { (p : Program) (map : MapContent) → IsShaped p map self.old.memory → IsShaped p map self.new.memory }
+        ensures room { vec_capacity self.old.stack ≤ vec_capacity self.new.stack }
+        ensures steps { is_idle result ≡ false }
     {
         let Some(statement) = code.statement() else {
             return self.go(Focus::Past);

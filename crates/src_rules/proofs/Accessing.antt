@@ -13,9 +13,9 @@ use Rattle.c_typed.specs.declared.types.Ty.TheVariants as types
 use Rattle.pic_world.specs.World.{World}
 use Rattle.src_rules.proofs.Answers.{read_stands}
 use Rattle.src_rules.proofs.Keeping.{Keeps, Around, on}
-use Rattle.src_rules.proofs.Places.{stepped_next, in_memory}
+use Rattle.src_rules.proofs.Places.{stepped_next, next_placed, in_memory}
 use Rattle.src_rules.proofs.Rules.{read_rule, update_rule, step_rule}
-use Rattle.src_rules.proofs.Touches.{ByteRead, NumbersFit, any_fits, take_stands, taking_keeps}
+use Rattle.src_rules.proofs.Touches.{ByteRead, NumbersFit, any_fits, take_stands, take_inside, taking_keeps, taking_keeps_at}
 use Rattle.src_values.specs.declared.objects.Pointer.TheVariants.{Null, Into}
 use Rattle.src_values.specs.Accesses.{take_byte}
 use Rattle.src_rules.specs.Accesses.{after_taking, fetched, fetch, skim, is_any}
@@ -47,7 +47,7 @@ fetches_in p c (tree.Update op place value operation size ty line) (AtWith spot 
 fetches_in p c (tree.Step op place operation size ty line) (At spot) k start n st = record { place = place; part = st.0.1; at = subst (IsSpotOf p c place) (sym n) st.2; type = (step_rule p op place operation size ty line st.0.0).0 }
 fetches_in p c _ _ k start n st = absurd n
 
-fetches_at : (p : Program) (c : CopyOf) (k : List Pending) (start : Spot) → Fetches k start → StackStands p c k → IsReadAt p c (read_type k) start
+pub fetches_at : (p : Program) (c : CopyOf) (k : List Pending) (start : Spot) → Fetches k start → StackStands p c k → IsReadAt p c (read_type k) start
 fetches_at p c [] start n st = absurd n
 fetches_at p c (In e got ∷ k) start n st = fetches_in p c e got k start n st
 fetches_at p c (To place ∷ k) start n st = absurd n
@@ -122,6 +122,7 @@ module _ (s : Setting) (input : All (λ byte. byte < 256) s.outside.input) where
         node = h.node;
         at = ap next_byte h.at ∙ (stepped_next (length read) h.start ∙ ap (λ n. stepped n h.start) (sym e));
         part = rw e (omega arith);
+        few = h.few;
         bytes = read_more s.program (read_type k) [] read byte h.bytes b;
       }
 
@@ -140,6 +141,14 @@ module _ (s : Setting) (input : All (λ byte. byte < 256) s.outside.input) where
   pub skim_keeps : (spot : Spot) (left : ℕ) (byte : Option Byte) (k : List Pending) (c : CopyOf) (m : Memory) (w : World Byte) → Around s.program c m w → SkimStands s.program k spot left → StackStands s.program c k → Keeps s.program (skim s spot left byte k c m w)
   skim_keeps spot zero byte k c m w a h st = fetched_keeps s.program c k m w h.start Missing a (skim_fetches k h.start h.node) st tt
   skim_keeps spot (suc left) byte k c m w a h st =
-      taking_keeps s.program is_any _ _ c k m w (line_at k) a st
-      (take_stands s (active c (Skim spot (suc left) byte) k) c.root is_any spot m w input a.memory a.control (any_fits spot))
-      (λ next b. record { start = h.start; done = h.done + 1; node = h.node; at = ap next_byte h.at ∙ stepped_next h.done h.start; all = let e = h.all in omega arith })
+      let live = active c (Skim spot (suc left) byte) k in
+      taking_keeps_at s.program is_any _ _ c k m w (line_at k) a st
+      (take_stands s live c.root is_any spot m w input a.memory a.control (any_fits spot))
+      (λ next u event is b. record {
+        start = h.start;
+        done = h.done + 1;
+        node = h.node;
+        at = ap next_byte h.at ∙ stepped_next h.done h.start;
+        near = next_placed s.program spot h.near (take_inside s live c.root is_any spot m w next u event is);
+        all = let e = h.all in omega arith;
+      })

@@ -1,14 +1,16 @@
 -- Places that were found, and values that a node takes, keep what stands.
-use Rattle.std.proofs.Common.{◌≡◌, ℕ, zero, suc, Bool, true, false, List, [], ◌∷◌, ◌++◌, Option, Some, None, refl, sym, ap, ◌∙◌, subst, arith, pos, ⊎_elim, append_assoc}
+use Rattle.std.proofs.Common.{◌≡◌, ℕ, zero, suc, ◌≤◌, Bool, true, false, List, [], ◌∷◌, ◌++◌, Option, Some, None, refl, sym, ap, ◌∙◌, subst, arith, pos, ⊎_elim, append_assoc}
 use Rattle.std.proofs.lemmas.Bool.{false≢true}
 use Rattle.std.specs.Prelude.{if◌then◌else◌}
+use Rattle.c_ints.specs.Range.{bytes_of}
 use Rattle.c_ints.specs.declared.operators.BinOp.{BinOp}
+use Rattle.c_ints.specs.declared.types.IntTy.{IntTy}
 use Rattle.c_ints.specs.declared.types.IntTy.TheVariants as int
 use Rattle.c_typed.specs.Rules.{integer_update_fits, integer_step_fits}
 use Rattle.c_typed.specs.Sameness.{is_array, is_pointer}
 use Rattle.c_typed.specs.Trees as tree
 use Rattle.c_typed.specs.Trees.{Expression, Expressions, Place, Item, Statement, Statements, Arm, Arms, Program}
-use Rattle.c_typed.specs.Types.{type_of, place_type}
+use Rattle.c_typed.specs.Types.{type_bytes, type_of, place_type}
 use Rattle.c_typed.specs.declared.expression.LogicalOp.{LogicalOp}
 use Rattle.c_typed.specs.declared.statement.TCase.{TCase}
 use Rattle.c_typed.specs.declared.types.Ty.{Ty}
@@ -16,14 +18,15 @@ use Rattle.c_typed.specs.declared.types.Ty.TheVariants as types
 use Rattle.pic_world.specs.World.{World}
 use Rattle.src_rules.proofs.Answers.{AnswerStands, truth_stands, converted_stands, unary_stands, binary_stands, offset_stands, difference_stands, update_stands, step_stands}
 use Rattle.src_rules.proofs.Keeping.{Keeps, Around, on, split_behind, arguments_keep}
-use Rattle.src_rules.proofs.Places.{IsPlaced, stepped_zero, spot_placed, in_memory, addressed, array_no_int, whole_in_memory, deref_pointer}
+use Rattle.src_rules.proofs.Places.{stepped_zero, spot_placed, in_memory, addressed, array_no_int, whole_in_memory, deref_pointer}
 use Rattle.src_rules.proofs.Rules.{IsUpdate, IsStep, moves_rule, read_rule, address_rule, convert_rule, cast_rule, unary_rule, binary_rule, offset_rule, difference_rule, choice_rule, comma_rule, assign_rule, update_rule, step_rule}
 use Rattle.src_rules.proofs.Statements.{StandsOn, turn_keeps, all_listed, unwound_stands, arms_keep, test_keeps, gives_to_call}
+use Rattle.src_rules.proofs.Writing.{item_within, list_there, local_placed}
 use Rattle.src_rules.specs.Accesses.{goes, fetching}
 use Rattle.src_rules.specs.Expressions.{address, takes, found_in, at_member, member_of, found_to, found_for, found}
 use Rattle.src_rules.specs.Giving.{answered, used, branch, logical, truth_given, changes, take_in, deref, take_to, statements_behind, jump, jump_if_any, compares_in, compares_for, compares, take_for, give}
-use Rattle.src_rules.specs.Parts.{IsExpressionOf, IsPlaceOf, AreStatementsOf, IsRunnable}
-use Rattle.src_rules.specs.Standing.{IsPointer, HasType, IsSpotOf, WaitsForValue, WaitsForPlace, SeeksIn, WaitsIn, WaitsTo, WaitsDoing, repeats, IsWritten, ComparesOf, Fetches, StackStands}
+use Rattle.src_rules.specs.Parts.{IsExpressionOf, IsPlaceOf, AreStatementsOf, IsRunnable, local_bytes}
+use Rattle.src_rules.specs.Standing.{IsPointer, HasType, IsPlaced, IsSpotOf, WaitsForValue, WaitsForPlace, SeeksIn, WaitsIn, WaitsTo, WaitsDoing, repeats, IsWritten, ComparesOf, Fetches, StackStands}
 use Rattle.src_rules.specs.Statements.{unwound}
 use Rattle.src_rules.specs.State.{Outcome}
 use Rattle.src_values.specs.Control.{Eval, Holds, Fetch, Compares, Got, Nothing, Chosen, One, At, AtWith, Args, Stage, Tests, Begins, Steps, Picks, Chooses, AtItem, Pending, In, To, Doing, Before, Returns, Resumes, active}
@@ -42,15 +45,26 @@ use Rattle.src_values.specs.declared.objects.Spot.TheVariants as spots
 abbrev Begun : Program → CopyOf → Expression → Got → List Pending → Spot → Type 0
 Begun p c e got k spot = Fetches (In e got ∷ k) spot × StackStands p c (In e got ∷ k)
 
-fetch_begins : (p : Program) (c : CopyOf) (e : Expression) (got : Got) (k : List Pending) (m : Memory) (w : World Byte) (spot : Spot) → Around p c m w → Begun p c e got k spot → Keeps p (goes c (Fetch spot []) (In e got ∷ k) m w)
-fetch_begins p c e got k m w spot a b = on a (record { start = spot; node = b.0; at = stepped_zero spot; part = omega arith; bytes = tt }) b.1
+pub int_few : (ty : IntTy) → bytes_of ty ≤ 4
+int_few int.Char = omega arith
+int_few int.SChar = omega arith
+int_few int.UChar = omega arith
+int_few int.Short = omega arith
+int_few int.UShort = omega arith
+int_few int.Int = omega arith
+int_few int.UInt = omega arith
+int_few int.Long = omega arith
+int_few int.ULong = omega arith
 
-read_begins : (p : Program) (c : CopyOf) (place : Place) (ty : Ty) (line : ℕ) (k : List Pending) (m : Memory) (w : World Byte) (spot : Spot) → Around p c m w → StackStands p c (In (tree.Read place ty line) (At spot) ∷ k) → is_array ty ≡ false → Keeps p (goes c (fetching spot ty p.sizes) (In (tree.Read place ty line) (At spot) ∷ k) m w)
-read_begins p c place types.Void line k m w spot a st e = on a (record { start = spot; done = 0; node = refl; at = stepped_zero spot; all = refl }) st
-read_begins p c place (types.Int ty) line k m w spot a st e = fetch_begins p c (tree.Read place (types.Int ty) line) (At spot) k m w spot a (refl, st)
-read_begins p c place (types.Pointer row) line k m w spot a st e = fetch_begins p c (tree.Read place (types.Pointer row) line) (At spot) k m w spot a (refl, st)
-read_begins p c place (types.Array x n y) line k m w spot a st e = absurd (false≢true (sym e))
-read_begins p c place (types.Struct n) line k m w spot a st e = on a (record { start = spot; done = 0; node = refl; at = stepped_zero spot; all = omega arith }) st
+fetch_begins : (p : Program) (c : CopyOf) (e : Expression) (got : Got) (k : List Pending) (m : Memory) (w : World Byte) (spot : Spot) → Around p c m w → Begun p c e got k spot → type_bytes p.sizes (type_of e) ≤ 4 → Keeps p (goes c (Fetch spot []) (In e got ∷ k) m w)
+fetch_begins p c e got k m w spot a b l = on a (record { start = spot; node = b.0; at = stepped_zero spot; part = omega arith; few = l; bytes = tt }) b.1
+
+read_begins : (p : Program) (c : CopyOf) (place : Place) (ty : Ty) (line : ℕ) (k : List Pending) (m : Memory) (w : World Byte) (spot : Spot) → Around p c m w → StackStands p c (In (tree.Read place ty line) (At spot) ∷ k) → IsPlaced p spot → is_array ty ≡ false → Keeps p (goes c (fetching spot ty p.sizes) (In (tree.Read place ty line) (At spot) ∷ k) m w)
+read_begins p c place types.Void line k m w spot a st t e = on a (record { start = spot; done = 0; node = refl; at = stepped_zero spot; near = t; all = refl }) st
+read_begins p c place (types.Int ty) line k m w spot a st t e = fetch_begins p c (tree.Read place (types.Int ty) line) (At spot) k m w spot a (refl, st) (int_few ty)
+read_begins p c place (types.Pointer row) line k m w spot a st t e = fetch_begins p c (tree.Read place (types.Pointer row) line) (At spot) k m w spot a (refl, st) (omega arith)
+read_begins p c place (types.Array x n y) line k m w spot a st t e = absurd (false≢true (sym e))
+read_begins p c place (types.Struct n) line k m w spot a st t e = on a (record { start = spot; done = 0; node = refl; at = stepped_zero spot; near = t; all = omega arith }) st
 
 -- an integer or a pointer is read byte by byte
 abbrev IsNumberOrPointer : Ty → Type 0
@@ -60,12 +74,12 @@ IsNumberOrPointer (types.Pointer row) = Unit {0}
 IsNumberOrPointer (types.Array x n y) = ⊥
 IsNumberOrPointer (types.Struct n) = ⊥
 
-change_begins : (p : Program) (c : CopyOf) (e : Expression) (got : Got) (ty : Ty) (k : List Pending) (m : Memory) (w : World Byte) (spot : Spot) → Around p c m w → Begun p c e got k spot → IsNumberOrPointer ty → Keeps p (goes c (fetching spot ty p.sizes) (In e got ∷ k) m w)
-change_begins p c e got types.Void k m w spot a b h = absurd h
-change_begins p c e got (types.Int ty) k m w spot a b h = fetch_begins p c e got k m w spot a b
-change_begins p c e got (types.Pointer row) k m w spot a b h = fetch_begins p c e got k m w spot a b
-change_begins p c e got (types.Array x n y) k m w spot a b h = absurd h
-change_begins p c e got (types.Struct n) k m w spot a b h = absurd h
+change_begins : (p : Program) (c : CopyOf) (e : Expression) (got : Got) (ty : Ty) (k : List Pending) (m : Memory) (w : World Byte) (spot : Spot) → Around p c m w → Begun p c e got k spot → type_of e ≡ ty → IsNumberOrPointer ty → Keeps p (goes c (fetching spot ty p.sizes) (In e got ∷ k) m w)
+change_begins p c e got types.Void k m w spot a b is h = absurd h
+change_begins p c e got (types.Int ty) k m w spot a b is h = fetch_begins p c e got k m w spot a b (rw is (int_few ty))
+change_begins p c e got (types.Pointer row) k m w spot a b is h = fetch_begins p c e got k m w spot a b (rw is (omega arith))
+change_begins p c e got (types.Array x n y) k m w spot a b is h = absurd h
+change_begins p c e got (types.Struct n) k m w spot a b is h = absurd h
 
 int_update_scalar : (op : BinOp) (value operation ty : Ty) → integer_update_fits op ty value operation ≡ true → IsNumberOrPointer ty
 int_update_scalar op value operation types.Void e = false≢true e
@@ -107,15 +121,15 @@ address_keeps p c place ty line k m w spot a e h st s =
 
 found_in_keeps : (s : Setting) (e : Expression) (got : Got) (spot : Spot) (k : List Pending) (c : CopyOf) (m : Memory) (w : World Byte) (sought : Place) → Around s.program c m w → SeeksIn e got sought → IsSpotOf s.program c sought spot → StackStands s.program c (In e got ∷ k) → Keeps s.program (found_in s e got spot k c m w)
 found_in_keeps s (tree.Read place ty line) Nothing spot k c m w sought a n h st =
-    read_begins s.program c place ty line k m w spot a (st.0, st.1, subst (λ q. IsSpotOf s.program c q spot) n h, st.3) (read_rule s.program place ty line st.0.0).1
+    read_begins s.program c place ty line k m w spot a (st.0, st.1, subst (λ q. IsSpotOf s.program c q spot) n h, st.3) (spot_placed s.program c place spot a.reached st.0.1 (subst (λ q. IsSpotOf s.program c q spot) n h)) (read_rule s.program place ty line st.0.0).1
 found_in_keeps s (tree.Address place ty line) Nothing spot k c m w sought a n h st = address_keeps s.program c place ty line k m w spot a st.0 st.1 st.3 (subst (λ q. IsSpotOf s.program c q spot) n h)
 found_in_keeps s (tree.Assign place value ty line) Nothing spot k c m w sought a n h st = on a (st.0.2, refl) (st.0, st.1, subst (λ q. IsSpotOf s.program c q spot) n h, st.3)
 found_in_keeps s (tree.StructAssign place from size line) Nothing spot k c m w sought a n h st = on a (st.0.2, refl) (st.0, st.1, subst (λ q. IsSpotOf s.program c q spot) n h, st.3)
 found_in_keeps s (tree.StructAssign place from size line) (At to) spot k c m w sought a n h st =
-    on a (record { first = to; other = spot; size = size; done = 0; node = (st.2, subst (λ q. IsSpotOf s.program c q spot) n h, refl); all = omega arith; written = stepped_zero to; read = stepped_zero spot }) (st.0, st.1, tt, st.3)
+    on a (record { first = to; other = spot; size = size; done = 0; node = (st.2, subst (λ q. IsSpotOf s.program c q spot) n h, refl); all = omega arith; written = stepped_zero to; read = stepped_zero spot; target = spot_placed s.program c place to a.reached st.0.1 st.2; source = spot_placed s.program c from spot a.reached st.0.2 (subst (λ q. IsSpotOf s.program c q spot) n h) }) (st.0, st.1, tt, st.3)
 found_in_keeps s (tree.Update op place value operation size ty line) Nothing spot k c m w sought a n h st = on a (st.0.2, refl) (st.0, st.1, subst (λ q. IsSpotOf s.program c q spot) n h, st.3)
 found_in_keeps s (tree.Step op place operation size ty line) Nothing spot k c m w sought a n h st =
-    change_begins s.program c (tree.Step op place operation size ty line) (At spot) ty k m w spot a (refl, (st.0, st.1, subst (λ q. IsSpotOf s.program c q spot) n h, st.3)) (step_scalar s.program operation ty (step_rule s.program op place operation size ty line st.0.0).1)
+    change_begins s.program c (tree.Step op place operation size ty line) (At spot) ty k m w spot a (refl, (st.0, st.1, subst (λ q. IsSpotOf s.program c q spot) n h, st.3)) refl (step_scalar s.program operation ty (step_rule s.program op place operation size ty line st.0.0).1)
 found_in_keeps s _ _ spot k c m w sought a n h st = absurd n
 
 member_case : (s : Setting) (whole : Place) (member offset : ℕ) (ty : _) (line : ℕ) (x : Reference) (o : Option Reference) (k : List Pending) (c : CopyOf) (m : Memory) (w : World Byte) → moved s.program x (pos offset) ≡ o → Around s.program c m w → IsSpotOf s.program c whole (spots.Memory x) → WaitsForPlace k (tree.Member whole member offset ty line) → StackStands s.program c k → Keeps s.program (at_member o line k c m w)
@@ -135,7 +149,7 @@ found_to_keeps s _ spot k c m w sought a n h st = absurd n
 
 found_for_keeps : (s : Setting) (t : Statement) (stage : Stage) (spot : Spot) (k : List Pending) (c : CopyOf) (m : Memory) (w : World Byte) (sought : Place) → Around s.program c m w → WaitsForPlace (Doing t stage ∷ k) sought → IsSpotOf s.program c sought spot → StackStands s.program c (Doing t stage ∷ k) → Keeps s.program (found_for s t stage spot k c m w)
 found_for_keeps s (tree.InitList local all line) (AtItem (tree.Struct offset from size) rest) spot k c m w sought a n h st =
-    on a (record { first = behind (local_of s.program c local) offset; other = spot; size = size; done = 0; node = (refl, subst (λ q. IsSpotOf s.program c q spot) n h, refl); all = omega arith; written = stepped_zero _; read = stepped_zero spot }) st
+    on a (record { first = behind (local_of s.program c local) offset; other = spot; size = size; done = 0; node = (refl, subst (λ q. IsSpotOf s.program c q spot) n h, refl); all = omega arith; written = stepped_zero _; read = stepped_zero spot; target = local_placed s.program c local offset a.reached (list_there s.program c local all st.0.1) (let l = item_within s.program c.function (local_bytes s.program c.function local) st.2.0 (tree.Struct offset from size) rest st.2.1 in omega arith); source = spot_placed s.program c from spot a.reached st.2.1.1.2 (subst (λ q. IsSpotOf s.program c q spot) n h) }) st
 found_for_keeps s _ _ spot k c m w sought a n h st = absurd n
 
 pub found_keeps : (s : Setting) (spot : Spot) (k : List Pending) (c : CopyOf) (m : Memory) (w : World Byte) (sought : Place) → Around s.program c m w → WaitsForPlace k sought → IsSpotOf s.program c sought spot → StackStands s.program c k → Keeps s.program (found s spot k c m w)
@@ -217,7 +231,7 @@ take_in_keeps s (tree.Assign place value t line) (At spot) v k c m w ty a n h st
     let g : HasType s.program t v = subst (λ q. HasType s.program q v) (n ∙ r.1) h in
     used_keeps s.program v line _ (on a (record { start = spot; type = t; node = (refl, refl); there = stepped_zero spot; typed = g; part = omega arith }) (st.0, st.1, (st.2, g), st.3))
 take_in_keeps s (tree.Update op place value operation size t line) (At spot) v k c m w ty a n h st =
-    change_begins s.program c (tree.Update op place value operation size t line) (AtWith spot v) t k m w spot a (refl, (st.0, st.1, (st.2, subst (λ q. HasType s.program q v) n h), st.3))
+    change_begins s.program c (tree.Update op place value operation size t line) (AtWith spot v) t k m w spot a (refl, (st.0, st.1, (st.2, subst (λ q. HasType s.program q v) n h), st.3)) refl
     (update_scalar s.program op (type_of value) operation size t (update_rule s.program op place value operation size t line st.0.0).1)
 take_in_keeps s (tree.Update op place value operation size t line) (AtWith spot u) v k c m w ty a n h st =
     changes_keep s.program _ (tree.Update op place value operation size t line) spot false v line k c m w a st.0 st.1 st.3 st.2.0

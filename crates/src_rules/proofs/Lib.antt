@@ -25,6 +25,7 @@ pub mod Telling
 pub mod Changes
 pub mod Distinct
 pub mod Sizes
+pub mod Nears
 pub mod Above
 pub mod Rooms
 pub mod Roomy

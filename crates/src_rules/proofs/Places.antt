@@ -22,7 +22,7 @@ use Rattle.src_rules.proofs.Rules.{the_pointer}
 use Rattle.src_rules.proofs.Values.{same_type_is}
 use Rattle.src_rules.specs.Expressions.{address}
 use Rattle.src_rules.specs.Parts.{IsPlaceOf}
-use Rattle.src_rules.specs.Standing.{IsReached, IsThere, IsPointer, IsSpotOf, stepped}
+use Rattle.src_rules.specs.Standing.{IsReached, IsThere, IsPointer, IsPlaced, IsInside, IsSpotOf, stepped}
 use Rattle.src_values.specs.Objects.{function_at, spot_of, moved, next_byte}
 use Rattle.src_values.specs.declared.objects.CopyOf.{CopyOf}
 use Rattle.src_values.specs.declared.objects.Pointer.{Pointer}
@@ -66,15 +66,17 @@ pub pointer_there : (p : Program) (x : Pointer) → IsPointer p x → SpotIsTher
 pointer_there p Null h = tt
 pointer_there p (Into object offset) h = h.0
 
-abbrev pub IsPlaced : Program → Spot → Type 0
-IsPlaced p (spots.Device address) = Unit {0}
-IsPlaced p (spots.Bit register number) = Unit {0}
-IsPlaced p (spots.Memory x) = IsPointer p x
-
 pub placed_there : (p : Program) (spot : Spot) → IsPlaced p spot → SpotIsThere p spot
 placed_there p (spots.Device address) h = tt
 placed_there p (spots.Bit register number) h = tt
 placed_there p (spots.Memory x) h = pointer_there p x h
+
+-- behind a byte of an object stands its next one, or its end
+pub next_placed : (p : Program) (spot : Spot) → IsPlaced p spot → IsInside p spot → IsPlaced p (next_byte spot)
+next_placed p (spots.Device address) h i = tt
+next_placed p (spots.Bit register number) h i = tt
+next_placed p (spots.Memory Null) h i = tt
+next_placed p (spots.Memory (Into object offset)) h i = (h.0, omega arith)
 
 static_there : (found : Option StaticTree) (xs : List StaticTree) (n : ℕ) (ty : Qualified) → slice_get xs n ≡ found → is_named false (option_map static_type found) ty ≡ true → n < length xs
 static_there None xs n ty is e = absurd (false≢true e)

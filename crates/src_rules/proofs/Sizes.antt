@@ -12,11 +12,12 @@ use Rattle.c_typed.specs.Trees.{FunctionTree, StaticTree, VariableTree, Program}
 use Rattle.c_typed.specs.Types.{type_bytes}
 use Rattle.c_typed.specs.declared.types.Ty.{Ty}
 use Rattle.c_typed.specs.declared.types.Ty.TheVariants as types
-use Rattle.src_rules.proofs.Starts.{all_at, sound_parts, function_there}
+use Rattle.src_rules.proofs.Starts.{all_at, sound_parts}
 use Rattle.src_rules.proofs.Stepping.{get_front}
 use Rattle.src_rules.proofs.Writing.{get_behind}
 use Rattle.src_rules.specs.Laws.{IsProper, ObjectsAreSmall}
-use Rattle.src_values.specs.Objects.{function_at, variables_of, bytes_of_static, bytes_of_variable, object_bytes}
+use Rattle.src_values.specs.Objects.{or_no_function, variables_of, bytes_of_static, bytes_of_variable, object_bytes}
+use Rattle.src_values.specs.declared.objects.Object.{Object}
 use Rattle.src_values.specs.declared.objects.Object.TheVariants.{Fixed, Variable}
 
 int_small : (ty : IntTy) → bytes_of ty ≤ 65535
@@ -71,10 +72,15 @@ module _ (p : Program) (f : FunctionTree) (fits : function_fits p f ≡ true) wh
       rw (ap (slice_get (variables_of f)) e ∙ get_behind f.params f.locals (n - length f.params)) (local_small (n - length f.params) (slice_get f.locals (n - length f.params)) refl))
       (cases_lt n (length f.params))
 
-pub small : ObjectsAreSmall
+function_small : (p : Program) → IsProper p → (f n : ℕ) (o : Option FunctionTree) → slice_get p.functions f ≡ o → bytes_of_variable p.sizes (slice_get (variables_of (or_no_function o)) n) ≤ 65535
+function_small p h f n None is = omega arith
+function_small p h f n (Some function) is = variable_small p function (all_at (function_fits p) p.functions f function (sound_parts p h.sound).1 is) n
+
+-- an object, be it there or not
+pub any_small : (p : Program) → IsProper p → (object : Object) → object_bytes p object ≤ 65535
 unfolding object_bytes
-small p h (Fixed n) t = static_small p h n (slice_get p.statics n) refl
-small p h (Variable c n) t =
-    let f = c.function in
-    let is = function_there p f t.0.there in
-    variable_small p (function_at p f) (all_at (function_fits p) p.functions f (function_at p f) (sound_parts p h.sound).1 is) n
+any_small p h (Fixed n) = static_small p h n (slice_get p.statics n) refl
+any_small p h (Variable c n) = function_small p h c.function n (slice_get p.functions c.function) refl
+
+pub small : ObjectsAreSmall
+small p h object there = any_small p h object

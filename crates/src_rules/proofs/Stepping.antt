@@ -48,7 +48,7 @@ pub called_reached : (p : Program) (c : CopyOf) (g : ℕ) → IsReached p c → 
 called_reached p c g r h l = record { root = r.root; entered = r.entered; chain = (_, chain_more (graph_of p) r.root r.chain.0 c.function g r.chain.1 h); there = l }
 
 -- ---- parameters
-typed_bytes : (p : Program) (ty : Ty) (v : Datum) → HasType p ty v → byte_count v ≤ type_bytes p.sizes ty
+pub typed_bytes : (p : Program) (ty : Ty) (v : Datum) → HasType p ty v → byte_count v ≤ type_bytes p.sizes ty
 typed_bytes p ty (Number q) h = rw h.0 (omega arith)
 typed_bytes p ty (Pointer x) h = pointer_bytes ty h.0
   where
@@ -61,10 +61,10 @@ typed_bytes p ty (Pointer x) h = pointer_bytes ty h.0
 typed_bytes p ty Missing h = omega arith
 
 -- the variables from this number on begin with these
-abbrev BeginWith : List VariableTree → ℕ → List VariableTree → Type 0
+abbrev pub BeginWith : List VariableTree → ℕ → List VariableTree → Type 0
 BeginWith all n vs = (j : ℕ) → j < length vs → (slice_get all (n + j) ≡ slice_get vs j) × (n + j < length all)
 
-begin_next : (all : List VariableTree) (n : ℕ) (v : VariableTree) (vs : List VariableTree) → BeginWith all n (v ∷ vs) → BeginWith all (n + 1) vs
+pub begin_next : (all : List VariableTree) (n : ℕ) (v : VariableTree) (vs : List VariableTree) → BeginWith all n (v ∷ vs) → BeginWith all (n + 1) vs
 begin_next all n v vs h j l =
     let g = h (suc j) (omega arith) in
     let e : n + suc j ≡ n + 1 + j = omega arith in
@@ -75,10 +75,10 @@ get_front [] ys j l = absurd (omega arith)
 get_front (x ∷ xs) ys zero l = refl
 get_front (x ∷ xs) ys (suc j) l = get_front xs ys j (omega arith)
 
-params_begin : (xs ys : List VariableTree) → BeginWith (xs ++ ys) 0 xs
+pub params_begin : (xs ys : List VariableTree) → BeginWith (xs ++ ys) 0 xs
 params_begin xs ys j l = let e : 0 + j ≡ j = omega arith in (ap (slice_get (xs ++ ys)) e ∙ get_front xs ys j l, omega (arith, length-append xs ys))
 
-first_bytes : (p : Program) (c : CopyOf) (n : ℕ) (q : VariableTree) (qs : List VariableTree) → BeginWith (variables_of (function_at p c.function)) n (q ∷ qs) → (object_bytes p (Variable c n) ≡ type_bytes p.sizes q.ty.ty) × (n < length (variables_of (function_at p c.function)))
+pub first_bytes : (p : Program) (c : CopyOf) (n : ℕ) (q : VariableTree) (qs : List VariableTree) → BeginWith (variables_of (function_at p c.function)) n (q ∷ qs) → (object_bytes p (Variable c n) ≡ type_bytes p.sizes q.ty.ty) × (n < length (variables_of (function_at p c.function)))
 unfolding object_bytes
 first_bytes p c n q qs b =
     let all = variables_of (function_at p c.function) in
@@ -138,7 +138,7 @@ module _ (s : Setting) (ok : IsRunnable s.program) where
     act_keeps (control.Write spot v at) k c m w a f st = write_keeps s input spot v at k c m w a f st
     act_keeps (control.PutBit register number v old) k c m w a f st = put_bit_keeps s input register number v old k c m w a f.0 f.1 st
     act_keeps (control.CopyRead to from left) k c m w a f st = copy_read_keeps s input to from left k c m w a f st
-    act_keeps (control.CopyWrite to from byte left) k c m w a f st = copy_write_keeps s input to from byte left k c m w a f.0 f.1 st
+    act_keeps (control.CopyWrite to from byte left) k c m w a f st = copy_write_keeps s input to from byte left k c m w a f.0 f.1 f.2 st
     act_keeps (control.Spell spot text left) k c m w a f st = spell_keeps s spot text left k c m w a f st
     act_keeps (control.Blank at left) k c m w a f st = blank_keeps s at left k c m w f.0 a st f.1 f.2
     act_keeps control.Calls k c m w a f st = call_keeps k c m w a st f

@@ -13,12 +13,12 @@ use Rattle.pic_world.specs.Bits.{set_bit, clear_bit}
 use Rattle.pic_world.specs.World.{World, device_value}
 use Rattle.src_rules.proofs.Keeping.{Keeps, Around}
 use Rattle.src_rules.proofs.Memories.{byte_of_stands}
-use Rattle.src_rules.proofs.Places.{SpotIsThere, is_bit, stepped_next, stepped_there, spot_there}
-use Rattle.src_rules.proofs.Touches.{any_fits, take_stands, device_taken_stands, device_stands, put_byte_stands, number_small, taking_keeps, putting_keeps}
+use Rattle.src_rules.proofs.Places.{SpotIsThere, is_bit, stepped_next, next_placed, stepped_there, spot_there}
+use Rattle.src_rules.proofs.Touches.{any_fits, take_stands, device_taken_stands, device_stands, put_byte_stands, number_small, take_inside, put_inside, taking_keeps, taking_keeps_at, putting_keeps, putting_keeps_at}
 use Rattle.src_rules.proofs.Writing.{EndsWrite, local_there, scalar_there, list_there, stored_keeps}
 use Rattle.src_rules.specs.Accesses.{is_any, stored, put_bit, write_at, write, copy_read, copy_write, first_or_zero, behind_first, spell, blank_at, blank_for, blank}
 use Rattle.src_rules.specs.Parts.{IsExpressionOf, IsPlaceOf, local_bytes}
-use Rattle.src_rules.specs.Standing.{IsReached, IsByte, IsSpotOf, stepped, IsWritten, Writes, Copying, Spells, BlanksOf, WriteStands, CopyStands, SpellStands, StackStands}
+use Rattle.src_rules.specs.Standing.{IsReached, IsByte, IsInside, IsSpotOf, stepped, IsWritten, Writes, Copying, Spells, BlanksOf, WriteStands, CopyStands, SpellStands, StackStands}
 use Rattle.src_values.specs.Accesses.{with_bit, device_taken}
 use Rattle.src_values.specs.Control.{Write, PutBit, CopyRead, CopyWrite, Spell, Stores, Copies, Stage, Fills, Items, Blanks, Pending, In, To, Doing, Before, Returns, Resumes, line_at, active}
 use Rattle.src_values.specs.Data.{Datum}
@@ -53,7 +53,7 @@ writes_end p c (Doing (tree.InitList local all line) (Items (tree.Scalar offset 
 writes_end p c _ start ty n = absurd n
 
 -- ---- bits
-bit_start : (n : ℕ) (start : Spot) (register number : ℕ) → spots.Bit register number ≡ stepped n start → start ≡ spots.Bit register number
+pub bit_start : (n : ℕ) (start : Spot) (register number : ℕ) → spots.Bit register number ≡ stepped n start → start ≡ spots.Bit register number
 bit_start n (spots.Device address) register number e = absurd (false≢true (sym (ap is_bit e)))
 bit_start n (spots.Bit a b) register number e = sym e
 bit_start n (spots.Memory Null) register number e = absurd (false≢true (sym (ap is_bit e)))
@@ -80,7 +80,7 @@ written_bit p c (tree.Update op place value operation size ty line) register num
 written_bit p c (tree.Step op place operation size ty line) register number e s = bit_below p c place register number e.1 s
 written_bit p c _ register number e s = absurd s
 
-writes_bit : (p : Program) (c : CopyOf) (k : List Pending) (register number : ℕ) (ty : Ty) → StackStands p c k → Writes p c k (spots.Bit register number) ty → number < 8
+pub writes_bit : (p : Program) (c : CopyOf) (k : List Pending) (register number : ℕ) (ty : Ty) → StackStands p c k → Writes p c k (spots.Bit register number) ty → number < 8
 writes_bit p c (In e (Stores spot v) ∷ k) register number ty st n = written_bit p c e register number st.0 (subst (IsWritten p c e) (sym n.0) st.2.0)
 writes_bit p c (Doing (tree.InitScalar local e line) Fills ∷ k) register number ty st n = absurd (false≢true (sym (ap is_bit n.0)))
 writes_bit p c (Doing (tree.InitList local all line) (Items (tree.Scalar offset e) rest) ∷ k) register number ty st n = absurd (false≢true (sym (ap is_bit n.0)))
@@ -169,15 +169,17 @@ module _ (s : Setting) (input : All (λ byte. byte < 256) s.outside.input) where
   pub copy_read_keeps : (to from : Spot) (left : ℕ) (k : List Pending) (c : CopyOf) (m : Memory) (w : World Byte) → Around s.program c m w → CopyStands s.program c k to from left → StackStands s.program c k → Keeps s.program (copy_read s to from left k c m w)
   copy_read_keeps to from zero k c m w a h st = stored_keeps s k c m w a st (copying_end s.program c k h.first h.other h.size h.node)
   copy_read_keeps to from (suc left) k c m w a h st =
-      taking_keeps s.program is_any _ (λ byte. CopyWrite to from byte left) c k m w (line_at k) a st
-      (take_stands s (active c (CopyRead to from (suc left)) k) c.root is_any from m w input a.memory a.control (any_fits from))
-      (λ byte b. (h, b.stands))
+      let live = active c (CopyRead to from (suc left)) k in
+      taking_keeps_at s.program is_any _ (λ byte. CopyWrite to from byte left) c k m w (line_at k) a st
+      (take_stands s live c.root is_any from m w input a.memory a.control (any_fits from))
+      (λ byte u event is b. (h, b.stands, take_inside s live c.root is_any from m w byte u event is))
 
-  pub copy_write_keeps : (to from : Spot) (byte : Byte) (left : ℕ) (k : List Pending) (c : CopyOf) (m : Memory) (w : World Byte) → Around s.program c m w → CopyStands s.program c k to from (suc left) → IsByte s.program byte → StackStands s.program c k → Keeps s.program (copy_write s to from byte left k c m w)
-  copy_write_keeps to from byte left k c m w a h b st =
-      putting_keeps s.program _ _ c k m w (line_at k) a st
-      (put_byte_stands s (active c (CopyWrite to from byte left) k) c.root to byte m w (rw h.written (stepped_there s.program h.done h.first (copying_in s.program c k h.first h.other h.size a.reached st h.node))) b a.memory a.control)
-      (record {
+  pub copy_write_keeps : (to from : Spot) (byte : Byte) (left : ℕ) (k : List Pending) (c : CopyOf) (m : Memory) (w : World Byte) → Around s.program c m w → CopyStands s.program c k to from (suc left) → IsByte s.program byte → IsInside s.program from → StackStands s.program c k → Keeps s.program (copy_write s to from byte left k c m w)
+  copy_write_keeps to from byte left k c m w a h b inside st =
+      let live = active c (CopyWrite to from byte left) k in
+      putting_keeps_at s.program _ _ c k m w (line_at k) a st
+      (put_byte_stands s live c.root to byte m w (rw h.written (stepped_there s.program h.done h.first (copying_in s.program c k h.first h.other h.size a.reached st h.node))) b a.memory a.control)
+      (λ n u event is. record {
         first = h.first;
         other = h.other;
         size = h.size;
@@ -186,6 +188,8 @@ module _ (s : Setting) (input : All (λ byte. byte < 256) s.outside.input) where
         all = let e = h.all in omega arith;
         written = ap next_byte h.written ∙ stepped_next h.done h.first;
         read = ap next_byte h.read ∙ stepped_next h.done h.other;
+        target = next_placed s.program to h.target (put_inside s live c.root to byte m w n u event is);
+        source = next_placed s.program from h.source inside;
       })
 
 -- ---- strings

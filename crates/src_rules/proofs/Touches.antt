@@ -1,6 +1,6 @@
 -- Reads and writes of one byte keep what stands.
-use Rattle.std.proofs.Common.{◌≡◌, ℕ, ◌<◌, Bool, true, false, not, List, Option, Some, None, refl, ◌∙◌, arith}
-use Rattle.std.proofs.lemmas.Bool.{ltb-true}
+use Rattle.std.proofs.Common.{◌≡◌, ℕ, ◌<◌, Bool, true, false, not, List, Option, Some, None, refl, ap, ◌∙◌, arith}
+use Rattle.std.proofs.lemmas.Bool.{false≢true, ltb-true}
 use Rattle.std.specs.List.{All}
 use Rattle.std.specs.Prelude.{if◌then◌else◌, nat_lt}
 use Rattle.c_typed.specs.Trees.{Program}
@@ -12,7 +12,7 @@ use Rattle.src_rules.proofs.Memories.{byte_of_at, put_stands}
 use Rattle.src_rules.proofs.Places.{SpotIsThere}
 use Rattle.src_rules.proofs.Worlds.{read_stands, read_inside, write_stands, write_inside, value_small}
 use Rattle.src_rules.specs.Accesses.{after_taking, after_putting, is_any}
-use Rattle.src_rules.specs.Standing.{IsThere, IsByte, MemoryStands, ControlStands, FocusStands, StackStands}
+use Rattle.src_rules.specs.Standing.{IsThere, IsByte, IsInside, MemoryStands, ControlStands, FocusStands, StackStands}
 use Rattle.src_values.specs.Accesses.{is_unset, noting, Taking, Takes, Breaks, Putting, Puts, Refuses, taken_unless, device_taken, take_byte, put_unless, device_put, put_byte}
 use Rattle.src_values.specs.Control.{Focus, Pending}
 use Rattle.src_values.specs.Memory.{Setting, Memory}
@@ -116,12 +116,66 @@ put_byte_stands s live root (spots.Memory Null) byte m w t b h c = tt
 put_byte_stands s live root (spots.Memory (Into object offset)) byte m w t b h c =
     put_by s.program object offset byte _ m w (nat_lt offset (object_bytes s.program object)) (is_alive live object) (breaks_isolation root object) refl t b h c
 
+-- ---- a byte that is taken or put is one of its object
+is_taken : Taking → Bool
+is_taken (Takes byte u event) = true
+is_taken (Breaks kind) = false
+
+is_put : Putting → Bool
+is_put (Puts m u event) = true
+is_put (Refuses kind) = false
+
+taken_case : (object : Object) (offset size : ℕ) (b : Bool) (rest : Option Undef) (byte : Byte) (w : World Byte) (event : Option (Happening Byte)) → nat_lt offset size ≡ b → is_taken (taken_unless (if not b then Some Outside else rest) byte w event) ≡ true → offset < size
+unfolding is_taken
+taken_case object offset size true rest byte w event e t = ltb-true offset size e
+taken_case object offset size false rest byte w event e t = absurd (false≢true t)
+
+put_case : (object : Object) (offset size : ℕ) (b : Bool) (rest : Option Undef) (byte : Byte) (event : Option (Happening Byte)) (m : Memory) (w : World Byte) → nat_lt offset size ≡ b → is_put (put_unless (if not b then Some Outside else rest) object offset byte event m w) ≡ true → offset < size
+unfolding is_put
+put_case object offset size true rest byte event m w e t = ltb-true offset size e
+put_case object offset size false rest byte event m w e t = absurd (false≢true t)
+
+took_inside : (s : Setting) (live : List CopyOf) (root : Root) (fits : Byte → Bool) (spot : Spot) (m : Memory) (w : World Byte) → is_taken (take_byte s live root fits spot m w) ≡ true → IsInside s.program spot
+unfolding take_byte
+took_inside s live root fits (spots.Device address) m w t = tt
+took_inside s live root fits (spots.Bit register number) m w t = tt
+took_inside s live root fits (spots.Memory Null) m w t = tt
+took_inside s live root fits (spots.Memory (Into object offset)) m w t = taken_case object offset (object_bytes s.program object) (nat_lt offset (object_bytes s.program object)) _ (m object offset) w _ refl t
+
+stored_inside : (s : Setting) (live : List CopyOf) (root : Root) (spot : Spot) (byte : Byte) (m : Memory) (w : World Byte) → is_put (put_byte s live root spot byte m w) ≡ true → IsInside s.program spot
+unfolding put_byte
+stored_inside s live root (spots.Device address) byte m w t = tt
+stored_inside s live root (spots.Bit register number) byte m w t = tt
+stored_inside s live root (spots.Memory Null) byte m w t = tt
+stored_inside s live root (spots.Memory (Into object offset)) byte m w t = put_case object offset (object_bytes s.program object) (nat_lt offset (object_bytes s.program object)) _ byte _ m w refl t
+
+pub take_inside : (s : Setting) (live : List CopyOf) (root : Root) (fits : Byte → Bool) (spot : Spot) (m : Memory) (w : World Byte) (byte : Byte) (u : World Byte) (event : Option (Happening Byte)) → take_byte s live root fits spot m w ≡ Takes byte u event → IsInside s.program spot
+unfolding is_taken
+take_inside s live root fits spot m w byte u event e = took_inside s live root fits spot m w (ap is_taken e)
+
+pub put_inside : (s : Setting) (live : List CopyOf) (root : Root) (spot : Spot) (byte : Byte) (m : Memory) (w : World Byte) (n : Memory) (u : World Byte) (event : Option (Happening Byte)) → put_byte s live root spot byte m w ≡ Puts n u event → IsInside s.program spot
+unfolding is_put
+put_inside s live root spot byte m w n u event e = stored_inside s live root spot byte m w (ap is_put e)
+
 -- ---- what a micro-step leaves behind a byte
 pub taking_keeps : (p : Program) (fits : Byte → Bool) (taking : Taking) (next : Byte → Focus) (c : CopyOf) (k : List Pending) (m : Memory) (w : World Byte) (line : ℕ)
     → Around p c m w → StackStands p c k → TakingStands p fits w taking → ((byte : Byte) → ByteRead p fits byte → FocusStands p c (next byte) k)
     → Keeps p (after_taking taking next c k m line)
 taking_keeps p fits (Takes byte u event) next c k m w line a st t f = record { reached = a.reached; focus = f byte t.0; stack = st; memory = a.memory; control = t.1; inside = t.2 ∙ a.inside }
 taking_keeps p fits (Breaks kind) next c k m w line a st t f = tt
+
+-- the same where what follows depends on the byte's being there
+pub taking_keeps_at : (p : Program) (fits : Byte → Bool) (taking : Taking) (next : Byte → Focus) (c : CopyOf) (k : List Pending) (m : Memory) (w : World Byte) (line : ℕ)
+    → Around p c m w → StackStands p c k → TakingStands p fits w taking → ((byte : Byte) (u : World Byte) (event : Option (Happening Byte)) → taking ≡ Takes byte u event → ByteRead p fits byte → FocusStands p c (next byte) k)
+    → Keeps p (after_taking taking next c k m line)
+taking_keeps_at p fits (Takes byte u event) next c k m w line a st t f = record { reached = a.reached; focus = f byte u event refl t.0; stack = st; memory = a.memory; control = t.1; inside = t.2 ∙ a.inside }
+taking_keeps_at p fits (Breaks kind) next c k m w line a st t f = tt
+
+pub putting_keeps_at : (p : Program) (putting : Putting) (next : Focus) (c : CopyOf) (k : List Pending) (m : Memory) (w : World Byte) (line : ℕ)
+    → Around p c m w → StackStands p c k → PuttingStands p w putting → ((n : Memory) (u : World Byte) (event : Option (Happening Byte)) → putting ≡ Puts n u event → FocusStands p c next k)
+    → Keeps p (after_putting putting next c k line)
+putting_keeps_at p (Puts n u event) next c k m w line a st t f = record { reached = a.reached; focus = f n u event refl; stack = st; memory = t.0; control = t.1; inside = t.2 ∙ a.inside }
+putting_keeps_at p (Refuses kind) next c k m w line a st t f = tt
 
 pub putting_keeps : (p : Program) (putting : Putting) (next : Focus) (c : CopyOf) (k : List Pending) (m : Memory) (w : World Byte) (line : ℕ)
     → Around p c m w → StackStands p c k → PuttingStands p w putting → FocusStands p c next k

@@ -1,12 +1,15 @@
 -- Writes, copies, strings and blanks keep what stands.
-use Rattle.std.proofs.Common.{◌≡◌, ℕ, suc, ◌+◌, ◌<◌, Bool, true, false, List, [], ◌∷◌, ◌++◌, length, refl, sym, ap, ◌∙◌, arith, pos}
+use Rattle.std.proofs.Common.{◌≡◌, ℕ, suc, ◌+◌, ◌-◌, ◌<◌, ◌≤◌, Bool, true, false, ◌&&◌, List, [], ◌∷◌, ◌++◌, length, refl, sym, ap, ◌∙◌, arith, pos}
+use Rattle.std.proofs.lemmas.Bool.{and_parts, leb-true}
 use Rattle.std.proofs.lemmas.List.{length-append}
 use Rattle.std.proofs.lemmas.Option.{slice_get_within}
-use Rattle.std.specs.Prelude.{if◌then◌else◌, slice_get}
+use Rattle.std.specs.Prelude.{if◌then◌else◌, nat_le, slice_get}
 use Rattle.c_ints.specs.declared.types.IntTy.TheVariants as int
+use Rattle.c_typed.specs.Sound.{item_start}
 use Rattle.c_typed.specs.Trees as tree
 use Rattle.c_typed.specs.Trees.{Expression, Place, Item, Statement, Program, VariableTree}
 use Rattle.c_typed.specs.Types.{type_of, place_type}
+use Rattle.c_typed.specs.Words.{item_bytes}
 use Rattle.c_typed.specs.declared.types.Ty.{Ty}
 use Rattle.pic_world.specs.World.{World}
 use Rattle.src_rules.proofs.Answers.{of_int}
@@ -15,7 +18,7 @@ use Rattle.src_rules.proofs.Places.{stepped_zero, bit_type}
 use Rattle.src_rules.proofs.Rules.{assign_rule, update_rule, step_rule}
 use Rattle.src_rules.specs.Accesses.{items, stored_in, stored_for, stored}
 use Rattle.src_rules.specs.Parts.{IsExpressionOf, IsStatementOf, IsFirstOf, IsListOf, AreItemsOf, local_bytes}
-use Rattle.src_rules.specs.Standing.{IsReached, IsThere, HasType, IsSpotOf, WaitsForEnd, listed, leaves, repeats, IsWritten, StackStands}
+use Rattle.src_rules.specs.Standing.{IsReached, IsThere, HasType, IsPlaced, IsSpotOf, WaitsForEnd, listed, leaves, repeats, IsWritten, StackStands}
 use Rattle.src_values.specs.Control.{Got, Stores, Copies, Stage, Fills, Items, Blanks, Pending, In, To, Doing, Before, Returns, Resumes}
 use Rattle.src_values.specs.Data.{Datum}
 use Rattle.src_values.specs.Memory.{Setting, Memory}
@@ -37,6 +40,19 @@ local_size p c local = let f = function_at p c.function in ap (bytes_of_variable
 
 pub local_there : (p : Program) (c : CopyOf) (local : ℕ) → IsReached p c → local < length (function_at p c.function).locals → IsThere p (local_of p c local)
 local_there p c local r h = let f = function_at p c.function in (r, omega (arith, length-append f.params f.locals))
+
+pub local_placed : (p : Program) (c : CopyOf) (local n : ℕ) → IsReached p c → local < length (function_at p c.function).locals → n ≤ local_bytes p c.function local → IsPlaced p (behind (local_of p c local) n)
+local_placed p c local n r h l = (local_there p c local r h, rw (local_size p c local) l)
+
+-- an item ends within its local
+pub item_within : (p : Program) (f size before : ℕ) (item : Item) (rest : List Item) → AreItemsOf p f size before (item ∷ rest) → item_start item + item_bytes p.sizes item ≤ size
+item_within p f size before item rest h =
+    let bytes = item_bytes p.sizes item in
+    let a = and_parts (nat_le before (item_start item)) (nat_le (item_start item) size && nat_le bytes (size - item_start item)) h.0 in
+    let b = and_parts (nat_le (item_start item) size) (nat_le bytes (size - item_start item)) a.1 in
+    let first = leb-true (item_start item) size b.0 in
+    let second = leb-true bytes (size - item_start item) b.1 in
+    omega arith
 
 pub scalar_there : (p : Program) (c : CopyOf) (local : ℕ) (e : Expression) → IsFirstOf p c.function local e → local < length (function_at p c.function).locals
 scalar_there p c local e h = slice_get_within (function_at p c.function).locals local h.variable h.there

@@ -86,6 +86,19 @@ stepped n (spots.Bit register number) = spots.Bit register number
 stepped n (spots.Memory Null) = spots.Memory Null
 stepped n (spots.Memory (Into object offset)) = spots.Memory (Into object (offset + n))
 
+-- A spot in memory is one that a pointer leads to ..
+abbrev pub IsPlaced : Program → Spot → Type 0
+IsPlaced p (spots.Device address) = Unit {0}
+IsPlaced p (spots.Bit register number) = Unit {0}
+IsPlaced p (spots.Memory x) = IsPointer p x
+
+-- .. and a byte of its object stands there
+abbrev pub IsInside : Program → Spot → Type 0
+IsInside p (spots.Device address) = Unit {0}
+IsInside p (spots.Bit register number) = Unit {0}
+IsInside p (spots.Memory Null) = Unit {0}
+IsInside p (spots.Memory (Into object offset)) = offset < object_bytes p object
+
 -- where a place is found in a copy: that of a fixed place is one spot
 abbrev pub IsSpotOf : Program → CopyOf → Place → Spot → Type 0
 IsSpotOf p c (tree.Name object ty line) spot = spot ≡ spot_of p c object
@@ -347,6 +360,8 @@ pub record FetchStands (p : Program) (k : List Pending) (spot : Spot) (read : Li
   pub node : Fetches k start
   pub at : spot ≡ stepped (length read) start
   pub part : length read ≤ type_bytes p.sizes (read_type k)
+  -- no structure is read as one value
+  pub few : type_bytes p.sizes (read_type k) ≤ 4
   pub bytes : AreRead p (read_type k) [] read
 
 pub record SkimStands (p : Program) (k : List Pending) (spot : Spot) (left : ℕ) : Type 0 where
@@ -354,6 +369,7 @@ pub record SkimStands (p : Program) (k : List Pending) (spot : Spot) (left : ℕ
   pub done : ℕ
   pub node : Skims k start
   pub at : spot ≡ stepped done start
+  pub near : IsPlaced p spot
   pub all : done + left ≡ type_bytes p.sizes (read_type k)
 
 pub record WriteStands (p : Program) (c : CopyOf) (k : List Pending) (spot : Spot) (v : Datum) (at : ℕ) : Type 0 where
@@ -373,6 +389,8 @@ pub record CopyStands (p : Program) (c : CopyOf) (k : List Pending) (to from : S
   pub all : done + left ≡ size
   pub written : to ≡ stepped done first
   pub read : from ≡ stepped done other
+  pub target : IsPlaced p to
+  pub source : IsPlaced p from
 
 pub record SpellStands (p : Program) (c : CopyOf) (k : List Pending) (spot : Spot) (text : List ℕ) (left : ℕ) : Type 0 where
   pub start : Spot
@@ -397,7 +415,7 @@ FocusStands p c (control.Skim spot left byte) k = SkimStands p k spot left
 FocusStands p c (control.Write spot v at) k = WriteStands p c k spot v at
 FocusStands p c (control.PutBit register number v old) k = WriteStands p c k (spots.Bit register number) v 0 × (old < 256)
 FocusStands p c (control.CopyRead to from left) k = CopyStands p c k to from left
-FocusStands p c (control.CopyWrite to from byte left) k = CopyStands p c k to from (suc left) × IsByte p byte
+FocusStands p c (control.CopyWrite to from byte left) k = CopyStands p c k to from (suc left) × IsByte p byte × IsInside p from
 FocusStands p c (control.Spell spot text left) k = SpellStands p c k spot text left
 FocusStands p c (control.Blank at left) k = (size : ℕ) × BlanksOf p c k size × (at + left ≡ size)
 FocusStands p c control.Calls k = CallsOf k

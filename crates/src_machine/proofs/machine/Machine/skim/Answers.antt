@@ -1,38 +1,27 @@
-use Rattle.std.proofs.Common.{◌≡◌, ◌<◌, ◌≤◌, ◌+◌, ◌-◌, ℕ, true, false, arith, refl, sym, subst, length, map, drop, List, suc, Some, ap, ◌∙◌}
-use Rattle.src_machine.specs.Seen.{stack_of, memory_of, active_in, setting_of, IsListOf, is_scalar, waiting, interrupted_in}
+use Rattle.std.proofs.Common.{◌-◌, arith, subst, Some, ap, ◌∙◌}
+use Rattle.src_machine.specs.Seen.{stack_of, memory_of}
 use Rattle.src_machine.specs.Telling.{Tells}
-use Rattle.src_memory.specs.Shape.{IsKnown}
 use Rattle.src_memory.specs.Shown.{address_of}
-use Rattle.src_rules.specs.Accesses.{after_putting, fetched, items, stored_for, behind_first}
-use Rattle.src_values.specs.Accesses.{put_byte}
 use Rattle.src_values.specs.Control as control
 use Rattle.src_values.specs.Control.{line_at}
-use Rattle.src_values.specs.Objects.{next_byte, behind, local_of}
-use Rattle.src_values.specs.Seen.{focus_in, datum_of, read_of, statement_in, stage_in, frames_in, list_on, list_seen}
-use Rattle.src_values.specs.Values.{byte_of, fits_behind}
-use Rattle.src_rules.specs.Accesses as rules
-use Rattle.c_typed.specs.Types.{type_bytes}
-use Rattle.c_typed.specs.Views.{item_of, program_of}
-use Rattle.src_values.specs.Lists.{covered_from}
-use Rattle.src_values.specs.declared.objects.Byte.TheVariants as bytes
-use Rattle.c_typed.proofs.Shapes.{show_statement_init_list, show_statement_init_scalar}
-use Rattle.src_machine.proofs.Bytes.{skim_on, skim_over, took_from, refused_take, silent_tells, stored_tells}
+use Rattle.src_values.specs.Seen.{focus_in}
+use Rattle.src_machine.proofs.Bytes.{skim_on, skim_over, took_from, refused_take, silent_tells}
 use Rattle.src_machine.proofs.machine.Machine.skim.Goals as goal
 
-pub returns-then-left-eq0 : goal.returns-then-left-eq0
-returns-then-left-eq0 c = λ s map w last here going outside known next.
+pub returns-then-left-eq0-clause-tells : goal.returns-then-left-eq0-clause-tells
+returns-then-left-eq0-clause-tells c = λ s map w last here going outside known next.
     subst (λ r. Tells s.outside (address_of s.program map) c.fetched.result c.fetched.new.self r) (skim_over s c.args.spot c.args.left last (stack_of c.args.self.now) c.args.self.now.copy (memory_of c.args.self.now) w c.if-left-eq0.true)
     (silent_tells s map (address_of s.program map) c.fetched.result c.args.self.now c.fetched.new.self w _ here c.fetched.ensures.others c.fetched.ensures.quiet (c.fetched.ensures.tells w))
 
-pub returns-in-Ok : goal.returns-in-Ok
-returns-in-Ok c = λ s map w last here going outside known next.
+pub returns-in-Ok-clause-tells : goal.returns-in-Ok-clause-tells
+returns-in-Ok-clause-tells c = λ s map w last here going outside known next.
     subst (λ r. Tells s.outside (address_of s.program map) c.after.result c.after.new.self r)
     (skim_on s c.args.spot c.args.left (c.args.left - 1) last (focus_in c.args.self.now.focus) (stack_of c.args.self.now) c.args.self.now.copy (memory_of c.args.self.now) w (omega (arith, c.if-left-eq0.false)) going)
     (took_from s.outside (address_of s.program map) _ c.take_byte.result c.in-Ok.taken _ _ c.after.result c.args.self.now c.take_byte.new.self c.after.new.self _ c.in-Ok.is (c.take_byte.ensures.access s map w here outside known) c.after.ensures.outcome c.take_byte.ensures.others c.after.ensures.others
     (ap (λ x. control.Skim x (c.args.left - 1) (Some c.in-Ok.taken.byte)) (c.next_byte.ensures next)))
 
-pub returns-in-Err : goal.returns-in-Err
-returns-in-Err c = λ s map w last here going outside known next.
+pub returns-in-Err-clause-tells : goal.returns-in-Err-clause-tells
+returns-in-Err-clause-tells c = λ s map w last here going outside known next.
     subst (λ r. Tells s.outside (address_of s.program map) c.undefined.result c.take_byte.new.self r)
     (skim_on s c.args.spot c.args.left (c.args.left - 1) last (focus_in c.args.self.now.focus) (stack_of c.args.self.now) c.args.self.now.copy (memory_of c.args.self.now) w (omega (arith, c.if-left-eq0.false)) going)
     (refused_take s.outside (address_of s.program map) _ c.take_byte.result c.in-Err.kind c.take_byte.new.self.world _ _ _ _ _ c.line.result c.undefined.result c.take_byte.new.self c.in-Err.is (c.take_byte.ensures.access s map w here outside known) c.undefined.ensures.tells (c.line.ensures ∙ ap (λ m. line_at (stack_of m)) c.take_byte.ensures.others))

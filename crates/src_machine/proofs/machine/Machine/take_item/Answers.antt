@@ -5,8 +5,8 @@ use Rattle.src_machine.specs.Seen.{stack_of, memory_of, setting_of}
 use Rattle.src_values.specs.Seen.{datum_of, statement_in}
 use Rattle.src_machine.proofs.machine.Machine.take_item.Goals as goal
 
-pub returns-in-Some-Scalar : goal.returns-in-Some-Scalar
-returns-in-Some-Scalar c = λ room same o w.
+pub returns-in-Some-Scalar-clause-tells : goal.returns-in-Some-Scalar-clause-tells
+returns-in-Some-Scalar-clause-tells c = λ room same o w.
     let looked = c.in-Some-Scalar.ensures.lookup in
-    c.used.ensures room w
+    c.used.ensures.tells room w
     ∙ scalar_taken (setting_of c.args.self.now o) c.args.statement.now c.in-InitList.local c.in-InitList.items c.in-InitList.line c.args.at c.in-Some-Scalar.offset c.in-Some-Scalar.field-0-1 c.in-Some-Scalar.field-0.now c.deref.result.now (datum_of c.args.value) (stack_of c.args.self.now) c.args.self.now.copy (memory_of c.args.self.now) w c.behind-spot.result (statement_in c.args.code) c.local_of.result c.in-InitList.is c.deref.ensures.value (ltb-true c.args.at (length c.deref.result.now) (sym looked.0)) looked.1 c.in-Some-Scalar.field-0-is same c.local_of.ensures c.behind-spot.ensures

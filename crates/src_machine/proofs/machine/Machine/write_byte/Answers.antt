@@ -12,9 +12,9 @@ use Rattle.src_values.specs.Seen.{datum_of}
 use Rattle.src_machine.proofs.Bytes.{put_told}
 use Rattle.src_machine.proofs.machine.Machine.write_byte.Goals as goal
 
-pub returns : goal.returns
-returns c = λ s map w here going room known next.
+pub returns-clause-tells : goal.returns-clause-tells
+returns-clause-tells c = λ s map w here going room known next.
     subst (λ byte. Tells s.outside (address_of s.program map) c.after_putting.result c.after_putting.new.self (after_putting (put_byte s (active_in c.args.self.now) c.args.self.now.copy.root c.args.spot byte (memory_of c.args.self.now) w) (control.Write (next_byte c.args.spot) (datum_of c.args.value) (c.args.at + 1)) c.args.self.now.copy (stack_of c.args.self.now) (line_at (stack_of c.args.self.now)))) c.byte_of.ensures
     (put_told s.outside (address_of s.program map) c.after_putting.result c.args.self.now c.put_byte-access.new.self c.after_putting.new.self _ _ _ c.put_byte-access.ensures.others
     (ap (λ x. control.Write x (datum_of c.args.value) (c.args.at + 1)) (c.next_byte-spot.ensures next))
-    (c.after_putting.ensures s.outside (address_of s.program map) _ (c.put_byte-access.ensures.access s map w here (subst (IsKnown s.program) (sym c.byte_of.ensures) known))))
+    (c.after_putting.ensures.tells s.outside (address_of s.program map) _ (c.put_byte-access.ensures.access s map w here (subst (IsKnown s.program) (sym c.byte_of.ensures) known))))
