@@ -1,5 +1,5 @@
 -- A source of the code behind one step more.
-use Rattle.std.proofs.Common.{◌≡◌, ◌≤◌, ◌<◌, ◌⊎◌, inl, inr, ⊎_elim, ℕ, zero, suc, ◌+◌, ◌*◌, ◌^◌, Bool, true, false, not, ◌||◌, ◌&&◌, min, length, Option, Some, None, option_map, refl, sym, ap, ◌∙◌, subst, arith}
+use Rattle.std.proofs.Common.{◌≡◌, ◌≤◌, ◌<◌, ◌⊎◌, inl, inr, ⊎_elim, ℕ, zero, suc, ◌+◌, Bool, true, false, not, ◌||◌, ◌&&◌, Option, Some, None, option_map, refl, sym, ap, ◌∙◌, subst, arith}
 use Rattle.std.proofs.lemmas.Bool.{false≢true}
 use Rattle.c_typed.specs.Views.{program_of}
 use Rattle.pic_map.specs.MapContent.{MapContent}
@@ -8,26 +8,24 @@ use Rattle.pic_world.specs.World.{World, Happening, arrived, world_at_start}
 use Rattle.pic_world.specs.declared.Event.{Event}
 use Rattle.pic_world.specs.declared.Root.{Root}
 use Rattle.pic_world.specs.declared.Root.TheVariants as roots
-use Rattle.src_machine.proofs.Ready.{ready_here, run_stands, run_goes}
-use Rattle.src_machine.specs.Progress.{main_steps_of, runs_of, undefined_in, taken_by, main_by, run_by, undefined_at, Notes}
-use Rattle.src_machine.specs.Seen.{IsAt, state_in}
-use Rattle.src_machine.specs.Stepping.{Rests, is_ending, taker_at, taker_of}
-use Rattle.src_machine.specs.Steps.{CanGo, IsGiven, IsOnRun, TellsTake, outcome_of, settled}
+use Rattle.src_machine.proofs.Ready.{ready_here}
+use Rattle.src_machine.specs.Progress.{main_steps_of, runs_of, undefined_in, main_by, run_by, undefined_at, Notes}
+use Rattle.src_machine.specs.Seen.{state_in}
+use Rattle.src_machine.specs.Stepping.{taker_at, taker_of}
+use Rattle.src_machine.specs.Steps.{CanGo, IsGiven, IsOnRun, TellsTake, settled}
 use Rattle.src_machine.specs.Sources.{BeginsAt, IsBehind, IsSource, TellsNext, event_in}
 use Rattle.src_machine.specs.Telling.{Tells}
-use Rattle.src_machine.specs.declared.machine.Machine.{Machine}
 use Rattle.src_machine.specs.declared.machine.Outcome.TheVariants as outcomes
 use Rattle.src_machine.specs.declared.machine.SrcEnd.{SrcEnd}
 use Rattle.src_machine.specs.declared.machine.SrcEnd.TheVariants as ends
 use Rattle.src_machine.specs.declared.machine.Taker.{Taker}
-use Rattle.src_machine.specs.declared.machine.Taker.TheVariants as takers
 use Rattle.src_machine.specs.declared.progress.Source.{Source}
 use Rattle.src_machine.specs.declared.progress.Stop.{Stop}
 use Rattle.src_memory.specs.Seen.{IsWorld, events_of}
 use Rattle.src_memory.specs.Shown.{address_of, shown}
 use Rattle.src_rules.proofs.Changes.{arrivals_once}
 use Rattle.src_rules.proofs.Readies.{comes, are_moments, compose}
-use Rattle.src_rules.specs.Runs.{after, begun_run, by_main, fault_after, fault_of, gone, is_idle, is_idle_after, is_main, is_ready, is_taken, main_step, main_steps_after, moment, one_if, ready, run, runs_after, take}
+use Rattle.src_rules.specs.Runs.{after, begun_run, by_main, fault_after, fault_of, gone, is_idle, is_idle_after, is_main, is_taken, main_step, main_steps_after, one_if, ready, run, runs_after, take}
 use Rattle.src_rules.specs.State.{State, Outcome, Went, Undefined, Idle, Lost}
 use Rattle.src_rules.specs.Step.{counts, enters, start, step}
 use Rattle.src_values.specs.Memory.{Setting}
@@ -65,7 +63,7 @@ take_behind : (s : Setting) (n : ℕ) (t : State) → IsBehind s n t → take s 
 take_behind s n t behind =
     ⊎_elim (λ e. ap (take s) e)
     (λ e. let i = sym (take_of_ready s (after s n)) ∙ idle_now s n e.0 in
-        ap (take s) e.1 ∙ (take_of_ready s _ ∙ (ap (step s) (settled_ready s (ready s (after s n)) i) ∙ (settled_idle s (ready s (after s n)) i ∙ sym (idle_now s n e.0)))))
+    ap (take s) e.1 ∙ (take_of_ready s _ ∙ (ap (step s) (settled_ready s (ready s (after s n)) i) ∙ (settled_idle s (ready s (after s n)) i ∙ sym (idle_now s n e.0)))))
     behind
 
 after_next : (s : Setting) (n : ℕ) (u : State) (event : Option (Happening Byte)) → take s (after s n) ≡ Went u event → after s (n + 1) ≡ u
@@ -165,16 +163,19 @@ module _ (s : Setting) (map : MapContent) (n : ℕ) (old new : Source) (source :
       let state_is : state_in new.machine u.world ≡ after s (n + 1) = sym told.0 ∙ sym after_is in
       let taken_by_is : by ≡ taker_of s (ready s (after s n)) = tells.taker ∙ ap (λ t. taker_of s (ready s t)) here in
       let few = tells.few refl in
-      let events = source.few in
-      (ap is_taken next, (told.2 ∙ ap (λ x. option_map (shown (address_of s.program map)) (event_in x)) (sym next), record {
-        world = u.world;
-        can = goes u.world (ends.Went event) tells told.1 (subst (IsOnRun s) (sym state_is) (after_on_run s source.can.given (n + 1))) (omega arith);
-        behind = inl state_is;
-        few = omega arith;
-        main_steps = m ∙ (ap (λ x. x + main_by by) source.main_steps ∙ (ap (λ x. main_steps_after s n + x) (ap main_by taken_by_is ∙ sym (main_counts s (ready s (after s n)) u happening stepped)) ∙ sym (main_steps_next s n)));
-        runs = r ∙ (ap (λ x. x + run_by by) source.runs ∙ (ap (λ x. runs_after s n + x) (ap run_by taken_by_is ∙ sym (run_counts s (ready s (after s n)) u happening stepped)) ∙ sym (runs_next s n)));
-        defined = d;
-      }))
+      let events = source.few in (
+        ap is_taken next,
+        told.2 ∙ ap (λ x. option_map (shown (address_of s.program map)) (event_in x)) (sym next),
+        record {
+          world = u.world;
+          can = goes u.world (ends.Went event) tells told.1 (subst (IsOnRun s) (sym state_is) (after_on_run s source.can.given (n + 1))) (omega arith);
+          behind = inl state_is;
+          few = omega arith;
+          main_steps = m ∙ (ap (λ x. x + main_by by) source.main_steps ∙ (ap (λ x. main_steps_after s n + x) (ap main_by taken_by_is ∙ sym (main_counts s (ready s (after s n)) u happening stepped)) ∙ sym (main_steps_next s n)));
+          runs = r ∙ (ap (λ x. x + run_by by) source.runs ∙ (ap (λ x. runs_after s n + x) (ap run_by taken_by_is ∙ sym (run_counts s (ready s (after s n)) u happening stepped)) ∙ sym (runs_next s n)));
+          defined = d;
+        },
+      )
 
   pub follows_went : (event : Option Event) → TellsTake s map now by (ends.Went event) old.machine new.machine → n + 1 < 1152921504606846976 → main_steps_of new ≡ main_steps_of old + main_by by → runs_of new ≡ runs_of old + run_by by → undefined_in new ≡ None
       → TellsNext s map n (ends.Went event) new
@@ -210,16 +211,18 @@ module _ (s : Setting) (map : MapContent) (n : ℕ) (old new : Source) (source :
       let state_is = tells.rests.0 ∙ rested idle in
       let few = tells.few refl in
       let events = source.few in
-      let bound = source.can.at.few in
-      (idle, record {
-        world = arrived s.outside (ready s now).world;
-        can = goes (arrived s.outside (ready s now).world) ends.Idle tells tells.rests.1 (subst (IsOnRun s) (sym state_is) (ready_on_run s source.can.given n)) (omega arith);
-        behind = inr (idle, state_is);
-        few = omega arith;
-        main_steps = m ∙ source.main_steps;
-        runs = r ∙ source.runs;
-        defined = d;
-      })
+      let bound = source.can.at.few in (
+        idle,
+        record {
+          world = arrived s.outside (ready s now).world;
+          can = goes (arrived s.outside (ready s now).world) ends.Idle tells tells.rests.1 (subst (IsOnRun s) (sym state_is) (ready_on_run s source.can.given n)) (omega arith);
+          behind = inr (idle, state_is);
+          few = omega arith;
+          main_steps = m ∙ source.main_steps;
+          runs = r ∙ source.runs;
+          defined = d;
+        },
+      )
 
 -- ---- as the code has it
 module _ (s : Setting) (map : MapContent) (n : ℕ) (old mid new : Source) (source : IsSource s map n old) (by : Taker) where

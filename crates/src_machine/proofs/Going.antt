@@ -1,5 +1,5 @@
 -- The loop of a step: micro-steps that don't count, and the one that ends it.
-use Rattle.std.proofs.Common.{◌≡◌, ◌≤◌, ◌<◌, ℕ, ◌+◌, ◌*◌, Bool, true, false, not, ◌||◌, length, reverse, Option, Some, None, refl, sym, ap, ◌∙◌, subst, arith}
+use Rattle.std.proofs.Common.{◌≡◌, ◌≤◌, ◌<◌, ℕ, ◌+◌, Bool, true, false, not, ◌||◌, length, Option, Some, None, refl, sym, ap, ◌∙◌, subst, arith}
 use Rattle.std.proofs.lemmas.Bool.{false≢true}
 use Rattle.std.specs.Vec.{vec_capacity}
 use Rattle.c_typed.specs.TreeNodes.{nodes_of}
@@ -14,7 +14,7 @@ use Rattle.src_machine.proofs.NodeCounts.{few_nodes, few_functions}
 use Rattle.src_machine.proofs.Ready.{lighter, ready_here, ready_on, run_goes, run_short, run_sized, run_stands}
 use Rattle.src_machine.proofs.Waits.{has_length, has_room}
 use Rattle.src_machine.specs.Progress.{taken_by}
-use Rattle.src_machine.specs.Seen.{IsAt, interrupted_in, stack_of, state_in, waiting}
+use Rattle.src_machine.specs.Seen.{interrupted_in, stack_of, state_in, waiting}
 use Rattle.src_machine.specs.Stepping.{CanStep, Rests, TellsStep, is_ending, taker_of}
 use Rattle.src_machine.specs.Steps.{CanGo, IsOnRun, TellsTake, most_waiting, outcome_of, went_if}
 use Rattle.src_machine.specs.Telling.{Tells}
@@ -24,7 +24,7 @@ use Rattle.src_machine.specs.declared.machine.Outcome.TheVariants as outcomes
 use Rattle.src_machine.specs.declared.machine.SrcEnd.{SrcEnd}
 use Rattle.src_machine.specs.declared.machine.SrcEnd.TheVariants as ends
 use Rattle.src_machine.specs.declared.machine.Taker.{Taker}
-use Rattle.src_memory.specs.Seen.{IsWorld, events_of, outside_by}
+use Rattle.src_memory.specs.Seen.{events_of, outside_by}
 use Rattle.src_memory.specs.Shown.{address_of}
 use Rattle.src_rules.proofs.Changes.{events_count}
 use Rattle.src_rules.proofs.Moments.{steps}

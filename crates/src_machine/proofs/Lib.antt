@@ -29,3 +29,4 @@ pub mod Ready
 pub mod Waits
 pub mod Going
 pub mod Following
+pub mod Beginning

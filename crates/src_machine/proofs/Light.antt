@@ -1,23 +1,23 @@
 -- How much is left to do before the next step that counts, at most: so that the code's loop comes to it.
-use Rattle.std.proofs.Common.{◌≡◌, ◌≤◌, ◌<◌, ℕ, zero, suc, ◌+◌, ◌*◌, Bool, true, false, List, [], ◌∷◌, Option, Some, None, map, drop, length, refl, sym, ap, subst, ◌∙◌, arith}
+use Rattle.std.proofs.Common.{◌≡◌, ◌≤◌, ◌<◌, ℕ, zero, suc, ◌+◌, ◌*◌, Bool, true, false, List, [], ◌∷◌, Option, Some, None, length, refl, arith}
 use Rattle.std.proofs.lemmas.Bool.{false≢true}
-use Rattle.std.proofs.lemmas.List.{length-map, length-drop}
 use Rattle.std.specs.Prelude.{slice_get}
-use Rattle.c_typed.specs.TreeNodes.{nodes_in, nodes_of_all, nodes_at, nodes_in_any, item_nodes, items_nodes, statement_nodes, nodes_of_body, arm_nodes, arms_nodes, last_nodes, functions_nodes, nodes_of}
+use Rattle.c_typed.specs.TreeNodes.{nodes_in, nodes_of_all, nodes_at, nodes_in_any, items_nodes, statement_nodes, nodes_of_body, arms_nodes, functions_nodes, nodes_of}
 use Rattle.c_typed.specs.Trees as tree
-use Rattle.c_typed.specs.Trees.{Expression, Expressions, Place, Item, Statement, Statements, Arm, Arms, LastArm, FunctionTree, Program}
-use Rattle.src_rules.proofs.Rooms.{body_nodes, cap, GotSized, StageSized, FocusSized, Sized, some_node}
-use Rattle.src_rules.specs.Parts.{IsStatementOf, IsArmOf, AreArmsOf, IsLastOf}
-use Rattle.src_rules.specs.Standing.{StageStands, StackStands}
+use Rattle.c_typed.specs.Trees.{Expression, Expressions, Place, Item, Statement, Statements, Arms, LastArm, FunctionTree, Program}
+use Rattle.src_rules.proofs.Rooms.{body_nodes, cap, GotSized, StageSized, Sized, some_node}
+use Rattle.src_rules.specs.Parts.{IsStatementOf, AreArmsOf, IsLastOf}
+use Rattle.src_rules.specs.Standing.{StageStands}
 use Rattle.src_rules.specs.Weights.{expression_weight, arguments_weight, place_weight, part_weight, items_weight, declarator_weight, statements_weight, last_weight, arms_weight, test_weight, step_weight, stage_weight}
 use Rattle.src_values.specs.Control.{Got, Nothing, At, AtWith, Args, Passed, Stage, Tests, Begins, Steps, Turns, Picks, AtItem, Items, Chooses, Pending, In, To, Doing, Before, Returns, Resumes}
-use Rattle.src_values.specs.Objects.{or_no_function, function_at}
+use Rattle.src_values.specs.Objects.{or_no_function}
 use Rattle.src_values.specs.Seen.{items_in}
 use Rattle.src_values.specs.declared.objects.CopyOf.{CopyOf}
 
 -- ---- expressions
 mutual
   unfolding expression_weight nodes_in
+
   pub expression_light : (e : Expression) → expression_weight e + 1 ≤ 8 * nodes_in e
   expression_light (tree.Constant value line) = omega arith
   expression_light (tree.Read place ty line) = let d = place_light place in omega arith

@@ -1,8 +1,7 @@
 -- A step of a machine of the code is near: the weight of its state has a bound.
-use Rattle.std.proofs.Common.{◌≡◌, ◌≤◌, ◌<◌, ℕ, zero, suc, ◌+◌, ◌*◌, Bool, true, false, List, [], ◌∷◌, map, drop, length, refl, sym, ap, subst, ◌∙◌, arith, length-drop}
+use Rattle.std.proofs.Common.{◌≡◌, ◌≤◌, ◌<◌, ℕ, ◌+◌, ◌*◌, Bool, true, false, List, [], ◌∷◌, map, drop, length, refl, ap, arith, length-drop}
 use Rattle.std.specs.Prelude.{if◌then◌else◌}
-use Rattle.c_typed.specs.TreeNodes.{nodes_in, nodes_at, statement_nodes, nodes_of_body, nodes_of}
-use Rattle.c_typed.specs.Trees as tree
+use Rattle.c_typed.specs.TreeNodes.{nodes_of_body, nodes_of}
 use Rattle.c_typed.specs.Trees.{Program}
 use Rattle.c_typed.specs.Views.{expression_of, place_of, statement_of, statements_of}
 use Rattle.src_machine.proofs.Light.{expression_light, place_light, part_light, declarator_light, statements_light, stage_light, cap_few}
@@ -11,10 +10,10 @@ use Rattle.src_rules.proofs.Rooms.{cap, FocusSized, Sized}
 use Rattle.src_rules.specs.Standing.{StackStands}
 use Rattle.src_rules.specs.State.{State}
 use Rattle.src_rules.specs.Step.{counts}
-use Rattle.src_rules.specs.Weights.{part_weight, statements_weight, stack_weight, focus_weight, weight}
+use Rattle.src_rules.specs.Weights.{statements_weight, stack_weight, focus_weight, weight}
 use Rattle.src_values.specs.Control as control
 use Rattle.src_values.specs.Memory.{Setting}
-use Rattle.src_values.specs.Seen.{focus_in, frames_behind, got_in, has_values, values_on, statement_in, stage_in, unless_of_call}
+use Rattle.src_values.specs.Seen.{focus_in, frames_behind, got_in, has_values, values_on, statement_in, stage_in}
 use Rattle.src_values.specs.declared.control.Focus.{Focus}
 use Rattle.src_values.specs.declared.control.Focus.TheVariants as focuses
 use Rattle.src_values.specs.declared.control.Pending.{Pending}

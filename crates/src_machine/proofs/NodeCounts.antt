@@ -1,11 +1,10 @@
 -- The nodes of a tree of the code are those of it as pure data.
 use Rattle.std.proofs.Common.{◌≡◌, ◌≤◌, ℕ, ◌+◌, ◌*◌, List, [], ◌∷◌, Option, Some, None, map, length, refl, sym, ap, subst, ◌∙◌, arith}
-use Rattle.std.specs.Global.{Box}
 use Rattle.std.proofs.lemmas.List.{length-map}
 use Rattle.src_machine.specs.Steps.{most_waiting}
 use Rattle.std.specs.Option.{option_map}
 use Rattle.c_typed.specs.Nodes as counted
-use Rattle.c_typed.specs.Nodes.{total, expression_nodes, place_nodes, any_nodes, statement_nodes, arm_nodes, last_nodes, function_nodes, program_nodes}
+use Rattle.c_typed.specs.Nodes.{total, expression_nodes, place_nodes, any_nodes, statement_nodes, arm_nodes, program_nodes}
 use Rattle.c_typed.specs.TreeNodes as pure
 use Rattle.c_typed.specs.TreeNodes.{nodes_in, nodes_of_all, nodes_at, nodes_in_any, items_nodes, nodes_of_body, arms_nodes, functions_nodes, nodes_of}
 use Rattle.c_typed.specs.Trees.{Expression, Place, Statement, Arm, FunctionTree, Program}

@@ -1,9 +1,8 @@
 -- The next step of a state, found one micro-step after another; and the states of a run, up to flags that have arrived.
-use Rattle.std.proofs.Common.{◌≡◌, ◌≤◌, ◌<◌, ◌⊎◌, inl, inr, ⊎_elim, ℕ, zero, suc, ◌+◌, ◌*◌, Bool, true, false, not, ◌||◌, length, Option, refl, sym, ap, ◌∙◌, subst, arith}
+use Rattle.std.proofs.Common.{◌≡◌, ◌≤◌, ◌<◌, ◌⊎◌, inl, ⊎_elim, ℕ, zero, suc, Bool, true, false, not, ◌||◌, Option, refl, sym, ap, ◌∙◌, subst, arith}
 use Rattle.std.proofs.lemmas.Bool.{false≢true}
 use Rattle.std.specs.Prelude.{if◌then◌else◌}
-use Rattle.pic_world.proofs.WorldLaws.{arrived_again}
-use Rattle.pic_world.specs.World.{Happening, Outside, arrived}
+use Rattle.pic_world.specs.World.{Happening, arrived}
 use Rattle.src_machine.specs.Steps.{IsGiven, IsOnRun, settled, most_waiting}
 use Rattle.src_rules.proofs.Changes.{arrivals_once}
 use Rattle.src_rules.proofs.Depths.{short}

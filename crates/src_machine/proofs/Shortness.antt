@@ -1,8 +1,8 @@
 -- Lists of the trees that the code has are those of vectors, so they are short.
-use Rattle.std.proofs.Common.{◌≡◌, ◌≤◌, ◌<◌, ℕ, ◌+◌, List, [], ◌∷◌, Option, Some, None, map, drop, length, refl, sym, ap, subst, ◌∙◌, arith, length-drop}
+use Rattle.std.proofs.Common.{◌≡◌, ◌<◌, List, [], ◌∷◌, Option, Some, None, map, drop, length, refl, sym, subst, arith, length-drop}
 use Rattle.std.proofs.lemmas.List.{length-map}
 use Rattle.c_typed.specs.Trees as tree
-use Rattle.c_typed.specs.Trees.{Statement, Statements, Arm}
+use Rattle.c_typed.specs.Trees.{Statement, Arm}
 use Rattle.c_typed.specs.Views as views
 use Rattle.c_typed.specs.Views.{item_of, statement_of, arm_of, statements_of}
 use Rattle.c_typed.specs.declared.statement.TArm.{TArm}
@@ -10,7 +10,6 @@ use Rattle.c_typed.specs.declared.statement.TStmt.{TStmt}
 use Rattle.c_typed.specs.declared.statement.TStmt.TheOpen as OpenStmt
 use Rattle.c_typed.specs.declared.statement.TStmt.TheFolds.{map-TStmt, ind-TStmt, fold-roll-TStmt}
 use Rattle.src_machine.proofs.Light.{HasShortList, AreShort, count_in, IsShort, FewAreLeft}
-use Rattle.src_values.specs.Control as control
 use Rattle.src_values.specs.Seen.{items_in, found_at, or_empty, statement_in, lost, at_item_of, items_of, picks_of, arms_from, arms_in, stage_in}
 use Rattle.src_values.specs.declared.control.Code.{Code}
 use Rattle.src_values.specs.declared.control.Stage.{Stage}

@@ -1,7 +1,7 @@
 -- What waits in the code has at most as many elements as the stack of the definition has entries.
-use Rattle.std.proofs.Common.{◌≡◌, ◌≤◌, ℕ, ◌+◌, ◌*◌, Bool, true, false, List, [], ◌∷◌, length, reverse, refl, arith, length-append}
+use Rattle.std.proofs.Common.{◌≡◌, ◌≤◌, ℕ, ◌+◌, Bool, true, false, List, [], ◌∷◌, length, reverse, refl, arith, length-append}
 use Rattle.std.proofs.lemmas.List.{length-reverse}
-use Rattle.std.specs.Vec.{vec_len, vec_capacity}
+use Rattle.std.specs.Vec.{vec_capacity}
 use Rattle.c_typed.specs.Trees.{Expression}
 use Rattle.c_typed.specs.Views.{expression_of}
 use Rattle.src_machine.specs.Seen.{HasRoom, interrupted_in, stack_of}

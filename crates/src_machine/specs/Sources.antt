@@ -1,10 +1,10 @@
 -- The run of the definition that a source of the code makes, step by step.
-use Rattle.std.specs.Prelude.{ℕ, ◌≡◌, ◌+◌, ◌≤◌, ◌⊎◌, Bool, true, Option, Some, None, option_map, length}
+use Rattle.std.specs.Prelude.{ℕ, ◌≡◌, ◌+◌, ◌≤◌, ◌⊎◌, true, Option, Some, None, option_map}
 use Rattle.pic_map.specs.MapContent.{MapContent}
 use Rattle.pic_world.specs.World.{Happening, World, world_at_start}
 use Rattle.src_machine.specs.Progress.{main_steps_of, runs_of, undefined_in}
 use Rattle.src_machine.specs.Seen.{state_in}
-use Rattle.src_machine.specs.Steps.{CanGo, IsGiven, settled}
+use Rattle.src_machine.specs.Steps.{CanGo, settled}
 use Rattle.src_machine.specs.declared.machine.Machine.{Machine}
 use Rattle.src_machine.specs.declared.machine.SrcEnd.{SrcEnd}
 use Rattle.src_machine.specs.declared.machine.SrcEnd.TheVariants as ends

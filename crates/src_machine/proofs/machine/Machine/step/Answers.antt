@@ -1,4 +1,4 @@
-use Rattle.std.proofs.Common.{sym, ◌∙◌, arith}
+use Rattle.std.proofs.Common.{sym, ◌∙◌}
 use Rattle.src_machine.proofs.Going.{begins, goes_on, ended, never}
 use Rattle.src_machine.proofs.machine.Machine.step.Goals as goal
 

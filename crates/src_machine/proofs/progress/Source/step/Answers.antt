@@ -1,4 +1,4 @@
-use Rattle.std.proofs.Common.{refl, sym, ap, ◌∙◌, arith}
+use Rattle.std.proofs.Common.{refl}
 use Rattle.src_machine.proofs.Following.{follows, never_defined}
 use Rattle.src_machine.proofs.progress.Source.step.Goals as goal
 
@@ -7,5 +7,5 @@ returns-in-Some-clause-follows c = λ s map n o l source. absurd (never_defined 
 
 pub returns-clause-follows : goal.returns-clause-follows
 returns-clause-follows c = λ s map n o l source.
-    follows s map n c.args.self.now c.step.new.self c.note.new.self source c.step.result.0 c.step.result.1
-    (c.step.ensures s map source.world o source.can) c.note.ensures.machine l c.note.ensures.noted refl refl refl
+    follows s map n c.args.self.now (record c.args.self.now { machine = c.step-taker.new.self }) c.note.new.self source c.step-taker.result.0 c.step-taker.result.1
+    (c.step-taker.ensures s map source.world o source.can) c.note.ensures.machine l c.note.ensures.noted refl refl refl
