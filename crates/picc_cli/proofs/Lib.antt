@@ -29,3 +29,5 @@ pub mod SizesTold
 pub mod FilesKept
 pub mod SimulationWhole
 pub mod AgreementWhole
+pub mod TracedRun
+pub mod TracedWhole

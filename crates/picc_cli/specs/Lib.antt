@@ -18,3 +18,4 @@ pub mod Simulation
 pub mod Summary
 pub mod Finished
 pub mod Generated
+pub mod Traced

@@ -6,6 +6,7 @@ ghost use Rattle.picc_cli.specs.Command.{form_of, is_simulation, words_of};
 ghost use Rattle.picc_cli.specs.CommandView.{IsWithin, form_view};
 ghost use Rattle.picc_cli.specs.Finished.{HasFiles, HasFaults, HasStatus, HasPrinted, HasTold, IsComplete};
 ghost use Rattle.picc_cli.specs.Simulation.{HasSimulated, board_of};
+ghost use Rattle.picc_cli.specs.Traced.{HasTraced};
 
 use crate::building::build_files;
 use crate::command::{Command, command_of};
@@ -56,6 +57,8 @@ pub fn picc<H: Host>(
     // A simulation runs the chip over the board, on what its three files hold: this is that run, its events, and what the board was
     // asked and told. Where a file isn't such as it is to be, the first such file is told.
     ensures simulated { IfSome (H.contents host.old) (λ old. HasSimulated (form_of (words_of words.now)) old (board_of (lists board.old) (follows board.old)) (board_of (lists board.new) (follows board.new)) (H.printed host.old) (H.printed host.new) result) }
+    // A trace prints the lines of the run of its program, by the definitions of the source.
+    ensures traced { IfSome (H.contents host.old) (λ old. HasTraced (form_of (words_of words.now)) old (H.printed host.old) (H.printed host.new) result) }
     ensures complete { IfSome (H.contents host.old) (λ old. IsComplete (H.kind host.old) (H.faults host.old) (H.faults host.new) (form_of (words_of words.now)) old result) }
     // The board is left as it was, but by a simulation whose files are such as they are to be.
     ensures board { is_simulation (form_of (words_of words.now)) ≡ false → board.new ≡ board.old }
@@ -84,6 +87,7 @@ fn run<H: Host>(
     ensures printed { HasPrinted (H.kind host.old) (option_map form_view command.entry) (H.printed host.old) (H.printed host.new) result }
     ensures told { IfSome (H.contents host.old) (λ old. HasTold (option_map form_view command.entry) old (H.contents host.new) (H.printed host.old) (H.printed host.new) result) }
     ensures simulated { IfSome (H.contents host.old) (λ old. HasSimulated (option_map form_view command.entry) old (board_of (lists board.old) (follows board.old)) (board_of (lists board.new) (follows board.new)) (H.printed host.old) (H.printed host.new) result) }
+    ensures traced { IfSome (H.contents host.old) (λ old. HasTraced (option_map form_view command.entry) old (H.printed host.old) (H.printed host.new) result) }
     ensures complete { IfSome (H.contents host.old) (λ old. IsComplete (H.kind host.old) (H.faults host.old) (H.faults host.new) (option_map form_view command.entry) old result) }
     ensures board { is_simulation (option_map form_view command.entry) ≡ false → board.new ≡ board.old }
     ensures refused { result ≡ 5 → board.new ≡ board.old }

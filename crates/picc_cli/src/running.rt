@@ -1,6 +1,6 @@
 //! The run of a program by the source machine, with its events as printed lines.
 
-ghost use Rattle.std.specs.Prelude.{◌≡◌, ◌⊎◌, ◌++◌, false, map, option_map, IsTrue, IfSome, IfNone, OnOk, OnErr};
+ghost use Rattle.std.specs.Prelude.{ℕ, ◌≡◌, ◌<◌, ◌^◌, ◌+◌, ◌⊎◌, ◌++◌, false, map, option_map, IsTrue, IfSome, IfNone, OnOk, OnErr};
 ghost use Rattle.c_typed.specs.Views.{program_of};
 ghost use Rattle.call_graph.specs.Copies.{AreCopies};
 ghost use Rattle.host_io.specs.Host.{HasCause, NoFailure, PrintsPrefix};
@@ -8,7 +8,12 @@ ghost use Rattle.pic_map.specs.EventText.{CanBeShown, event_text};
 ghost use Rattle.pic_map.specs.MapView.{content_of, object_of, frame_of};
 ghost use Rattle.picc_cli.specs.Said.{HasOutcomeCause};
 ghost use Rattle.picc_cli.specs.Trace.{IsMap, IsRunEnd, Leads, Takes, Stops, BreaksLine, is_fault};
+ghost use Rattle.picc_cli.specs.Traced.{Ran, Steps, map_of};
 ghost use Rattle.ram_place.specs.Placement.{IsPlacing};
+ghost use Rattle.src_machine.specs.Sources.{IsSource};
+ghost use Rattle.src_machine.specs.Steps.{IsGiven};
+ghost use Rattle.src_memory.specs.Seen.{outside_by};
+ghost use Rattle.src_values.specs.Memory.{Setting};
 
 use crate::tracing::Ended;
 use host_io::{Host, HostError};
@@ -18,7 +23,9 @@ use picc_core::Front;
 use src_machine::{Source, SrcEnd};
 use std::alloc::Global;
 
-/// Runs a program for at most so many steps, and prints the line of each event as it comes.
+/// Runs a program for at most so many steps, and prints the line of each event as it comes. No program that is placed has
+/// more than 65,536 static objects.
+#[tactic(auto, using(crate::proofs::TracedRun::run_never))]
 pub fn run<H: Host>(alloc: Global, host: &mut H, known: Front, script: &Script, steps: u32) -> Ended
     requires copies { AreCopies (program_of known.typed) known.copies.list.items }
     requires placed { IsPlacing (program_of known.typed) known.copies.list.items (map object_of known.placed.objects.items) (map frame_of known.placed.frames.items) }
@@ -29,8 +36,13 @@ pub fn run<H: Host>(alloc: Global, host: &mut H, known: Front, script: &Script, 
     ensures leads { Leads steps result (H.printed host.old) (H.printed host.new) }
     ensures cause { HasOutcomeCause (H.kind host.old) (H.faults host.old) (H.faults host.new) (is_fault result) }
     ensures sound { IsTrue (H.kind host.old).is_sound → is_fault result ≡ false }
+    // What is printed is the run of the program by the definitions of the source.
+    ensures ran { (s : Setting) → s.program ≡ program_of known.typed → s.outside ≡ outside_by script.now → IsGiven s → Ran s (map_of (map object_of known.placed.objects.items) (map frame_of known.placed.frames.items)) steps result (H.printed host.old) (H.printed host.new) }
 {
     let Front { typed, placed, .. } = known;
+    if typed.statics.len() > 65_536 {
+        return Ended::NoMemory;
+    }
     let map = Map {
         main: 0,
         halt: 0,
@@ -59,6 +71,7 @@ fn run_steps<H: Host>(
     ensures leads { Leads steps result (H.printed host.old) (H.printed host.new) }
     ensures cause { HasOutcomeCause (H.kind host.old) (H.faults host.old) (H.faults host.new) (is_fault result) }
     ensures sound { IsTrue (H.kind host.old).is_sound → is_fault result ≡ false }
+    ensures ran { (s : Setting) → s.outside ≡ outside_by script.now → IsSource s (content_of map.now) 0 source.old → Ran s (content_of map.now) steps result (H.printed host.old) (H.printed host.new) }
 {
     let mut taken = 0;
     while taken < steps {
@@ -71,6 +84,7 @@ fn run_steps<H: Host>(
 }
 
 /// Takes a step and prints the line of its event, if it makes one. `None` where the run goes on.
+#[tactic(auto, using(crate::proofs::TracedRun::step_silent, crate::proofs::TracedRun::step_told, crate::proofs::TracedRun::step_unprinted, crate::proofs::TracedRun::step_forgotten, crate::proofs::TracedRun::step_undefined, crate::proofs::TracedRun::step_idle))]
 fn take_step<H: Host>(
     alloc: Global,
     host: &mut H,
@@ -86,6 +100,7 @@ fn take_step<H: Host>(
     ensures stops { IfSome result (λ ended. Stops (content_of map.now) ended (H.printed host.old) (H.printed host.new)) }
     ensures cause { IfSome result (λ ended. HasOutcomeCause (H.kind host.old) (H.faults host.old) (H.faults host.new) (is_fault ended)) }
     ensures sound { IfSome result (λ ended. IsTrue (H.kind host.old).is_sound → is_fault ended ≡ false) }
+    ensures next { (s : Setting) (n : ℕ) → s.outside ≡ outside_by script.now → n + 1 < 2 ^ 60 → IsSource s (content_of map.now) n source.old → Steps s (content_of map.now) n source.new (H.printed host.old) (H.printed host.new) result }
 {
     match source.step(script) {
         SrcEnd::Went(None) => None,

@@ -8,6 +8,7 @@ ghost use Rattle.picc_cli.specs.Finished.{HasFaults, HasStatus, HasPrinted, HasT
 ghost use Rattle.picc_cli.specs.Lines as lines;
 ghost use Rattle.picc_cli.specs.Said.{Says, HasOutcomeCause};
 ghost use Rattle.picc_cli.specs.Trace.{Knows, FailsWithoutFiles, Leads, is_fault, last_line, status_of};
+ghost use Rattle.picc_cli.specs.Traced.{HasTraced, RunsBy};
 
 use crate::building::TEXT_LIMIT;
 use crate::command::Asked;
@@ -49,6 +50,7 @@ pub fn trace<H: Host>(alloc: Global, host: &mut H, asked: Asked<'_>) -> u8
     ensures printed { HasPrinted (H.kind host.old) (Some (Trace (asked_of asked.entry))) (H.printed host.old) (H.printed host.new) result }
     ensures told { IfSome (H.contents host.old) (λ old. HasTold (Some (Trace (asked_of asked.entry))) old (H.contents host.new) (H.printed host.old) (H.printed host.new) result) }
     ensures complete { IfSome (H.contents host.old) (λ old. IsComplete (H.kind host.old) (H.faults host.old) (H.faults host.new) (Some (Trace (asked_of asked.entry))) old result) }
+    ensures traced { IfSome (H.contents host.old) (λ old. HasTraced (Some (Trace (asked_of asked.entry))) old (H.printed host.old) (H.printed host.new) result) }
 {
     let ended = traced(alloc, host, asked);
     report(alloc, host, asked, ended)
@@ -92,6 +94,7 @@ fn traced<H: Host>(alloc: Global, host: &mut H, asked: Asked<'_>) -> Ended
     ensures leads { Leads asked.entry.steps result (H.printed host.old) (H.printed host.new) }
     ensures cause { HasOutcomeCause (H.kind host.old) (H.faults host.old) (H.faults host.new) (is_fault result) }
     ensures sound { FailsWithoutFiles (H.kind host.old) (H.contents host.old) (asked_of asked.entry) result }
+    ensures runs { IfSome (H.contents host.old) (λ old. RunsBy (asked_of asked.entry) old result (H.printed host.old) (H.printed host.new)) }
 {
     let text = match read_whole(alloc, host, asked.input, TEXT_LIMIT) {
         Ok(text) => text,

@@ -2,6 +2,7 @@ use Rattle.picc_cli.specs.Command.{form_of, words_of}
 use Rattle.picc_cli.proofs.Forms.{complete_by}
 use Rattle.picc_cli.proofs.Limits.{command_within}
 use Rattle.picc_cli.proofs.NothingDone.{no_files, no_print, no_told, no_end, not_simulated}
+use Rattle.picc_cli.proofs.TracedWhole.{not_traced}
 use Rattle.picc_cli.proofs.dispatch.picc.Goals as goal
 
 pub run-requires-clause-few : goal.run-requires-clause-few
@@ -29,3 +30,6 @@ pub returns-in-Ok-clause-complete : goal.returns-in-Ok-clause-complete
 returns-in-Ok-clause-complete g c =
     complete_by (form_of (words_of c.args.words.now)) _ c.in-Ok.ensures (g.H.Host.kind c.args.host.now) (g.H.Host.faults c.args.host.now)
     (g.H.Host.faults c.run.new.host) (g.H.Host.contents c.args.host.now) c.run.result c.run.ensures.complete
+
+pub returns-in-Err-clause-traced : goal.returns-in-Err-clause-traced
+returns-in-Err-clause-traced g c = not_traced (form_of (words_of c.args.words.now)) (g.H.Host.contents c.args.host.now) (g.H.Host.printed c.args.host.now)

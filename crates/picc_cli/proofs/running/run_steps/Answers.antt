@@ -1,4 +1,5 @@
 use Rattle.std.proofs.Common.{◌∙◌, arith}
+use Rattle.picc_cli.proofs.TracedRun.{run_begins, run_on, run_stops, run_ends}
 use Rattle.picc_cli.proofs.TraceRun.{took, stopped, all_taken}
 use Rattle.picc_cli.proofs.running.run_steps.Goals as goal
 
@@ -7,6 +8,7 @@ loop-taken-preserved g c =
     let so_far = c.loop-taken.invariant in
     record {
       within = omega arith;
+      ran = λ s outside begins. run_on s _ _ _ _ _ _ _ (so_far.ran s outside begins) (c.in-None.ensures.next s _ outside (omega arith) (so_far.ran s outside begins).at);
       lines = took _ _ _ _ _ so_far.lines c.in-None.ensures.goes_on;
       same_file = c.take_step.ensures.same_file ∙ so_far.same_file;
       same_contents = c.take_step.ensures.same_contents ∙ so_far.same_contents;
@@ -23,3 +25,20 @@ pub returns-clause-leads : goal.returns-clause-leads
 returns-clause-leads g c =
     let so_far = c.loop-taken.invariant in
     all_taken _ _ _ _ _ c.requires so_far.within so_far.lines
+
+pub loop-taken-holds : goal.loop-taken-holds
+loop-taken-holds g c = record {
+  within = omega arith;
+  lines = c.holds;
+  ran = λ s outside begins. run_begins s _ _ _ begins;
+}
+
+pub returns-in-Some-clause-ran : goal.returns-in-Some-clause-ran
+returns-in-Some-clause-ran g c = λ s outside begins.
+    let so_far = c.loop-taken.invariant in
+    run_stops s _ _ _ _ _ _ _ _ _ (omega arith) (so_far.ran s outside begins) (c.in-Some.ensures.next s _ outside (omega arith) (so_far.ran s outside begins).at)
+
+pub returns-clause-ran : goal.returns-clause-ran
+returns-clause-ran g c = λ s outside begins.
+    let so_far = c.loop-taken.invariant in
+    run_ends s _ _ _ _ _ _ so_far.within (omega arith) (so_far.ran s outside begins)

@@ -1,5 +1,6 @@
 use Rattle.picc_cli.specs.CommandView.{asked_of}
 use Rattle.picc_cli.proofs.TraceEnds.{trace_faults, trace_status, trace_printed, trace_told, trace_complete}
+use Rattle.picc_cli.proofs.TracedWhole.{trace_told as runs_told}
 use Rattle.picc_cli.proofs.tracing.trace.Goals as goal
 
 pub returns-clause-faults : goal.returns-clause-faults
@@ -20,3 +21,6 @@ returns-clause-told g c =
 pub returns-clause-complete : goal.returns-clause-complete
 returns-clause-complete g c =
     trace_complete (asked_of c.args.asked) _ _ c.traced-ended.result _ _ _ _ _ _ _ c.traced-ended.ensures.knows c.traced-ended.ensures.cause c.traced-ended.ensures.same_kind c.report.ensures.said
+
+pub returns-clause-traced : goal.returns-clause-traced
+returns-clause-traced g c = runs_told (asked_of c.args.asked) c.traced-ended.result _ _ _ _ _ _ _ _ c.traced-ended.ensures.runs c.report.ensures.said

@@ -1,5 +1,6 @@
 use Rattle.picc_cli.specs.CommandView.{asked_of}
 use Rattle.picc_cli.proofs.TraceFiles.{run_known, refused_known}
+use Rattle.picc_cli.proofs.TracedWhole.{runs_refused, traced_runs}
 use Rattle.picc_cli.proofs.tracing.traced.Goals as goal
 
 pub returns-in-Ok-front-clause-knows : goal.returns-in-Ok-front-clause-knows
@@ -12,3 +13,17 @@ returns-clause-knows g c =
     let tells = rw c.in-Err-Refused.field-0-is at c.in-Err-Refused.ensures.refused in
     refused_known (asked_of c.args.asked) _ _ _ _ c.in-Err-Refused.refusal _ _ c.in-Ok.ensures.bytes c.in-Ok.ensures.same_contents c.in-Ok-script_in.ensures.found
     c.deref.ensures.value tells c.in-Err-Refused.refusal-is
+
+pub returns-in-Ok-front-clause-runs : goal.returns-in-Ok-front-clause-runs
+returns-in-Ok-front-clause-runs g c =
+    traced_runs (asked_of c.args.asked) _ _ _ _ _ _ _ _ _ _ _ c.run.result c.in-Ok.ensures.bytes c.in-Ok.ensures.same_contents c.in-Ok-script_in.ensures.found
+    c.deref.ensures.value
+    (record {
+      tree = c.in-Ok-front.ensures.tree;
+      sound = c.in-Ok-front.known.typed.sound;
+      roots = c.in-Ok-front.ensures.roots;
+      acyclic = c.in-Ok-front.ensures.recursion;
+      are_copies = c.in-Ok-front.ensures.list;
+      placed = c.in-Ok-front.ensures.exact;
+    })
+    c.run.ensures.ran
