@@ -85,11 +85,12 @@ input_small : (lines : List (List ℕ)) (content : ScriptContent) → AreScriptL
 input_small lines content are = subst (All (λ b. b < 256)) (sym are.input) (inputs_small lines are.pieces are.tell)
 
 -- ---- the run
--- What a run is given: the text's tree, its typed program by the rules, its copies and places.
+-- What a run is given: the text's tree, its typed program by the rules and with numbers of their types, its copies and places.
 pub record IsFront (text : List ℕ) (program : Program) (copies : List FnCopy) (objects : List ObjectLine) (frames : List FrameLine) : Type 0 where
   pub tree : HasTree text
   pub sound : is_sound program ≡ true
   pub roots : broken_root program ≡ None
+  pub numbers : ProgramHasNumbers program
   pub acyclic : IsAcyclic (graph_of program)
   pub are_copies : AreCopies program copies
   pub placed : IsPlacing program copies objects frames
@@ -117,9 +118,10 @@ module _ (asked : Asked) (content : ScriptContent) (bytes text : List ℕ) (prog
         acyclic = front.acyclic;
         are_copies = front.are_copies;
         placed = front.placed;
-        ran = λ numbers.
+        numbers = front.numbers;
+        ran =
             ran (setting_of program (outside_of content.input content.arrivals)) refl refl
-            (record { proper = record { sound = front.sound; roots = front.roots; numbers = numbers }; acyclic = front.acyclic; bytes = input_small (lines_of script) content is.file });
+            (record { proper = record { sound = front.sound; roots = front.roots; numbers = front.numbers }; acyclic = front.acyclic; bytes = input_small (lines_of script) content is.file });
       }
 
   runs_at : (o : Contents) (ended : Ended) → IsRead asked.input 262145 bytes o → IsFile o asked.script (IsScriptInput content) → IsFront bytes program copies objects frames

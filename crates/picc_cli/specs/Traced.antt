@@ -80,8 +80,8 @@ map_of objects frames = record { main = 0; halt = 0; objects = objects; frames =
 
 -- ---- the whole
 -- Both files are such as they are to be: the text has a tree, and there is a typed program, which keeps the rules of typed programs, of
--- roots and of recursion, with the copies of its functions, and the places of its objects and frames. What is printed is its run under
--- the script, given that its constants, first bytes and characters are numbers of their types.
+-- roots and of recursion and whose numbers are of their types, with the copies of its functions, and the places of its objects and
+-- frames. What is printed is its run under the script.
 pub record Traces (asked : Asked) (old : Contents) (ended : Ended) (p q : Option (List ℕ)) : Type 0 where
   pub text : List ℕ
   pub script : ScriptContent
@@ -96,7 +96,8 @@ pub record Traces (asked : Asked) (old : Contents) (ended : Ended) (p q : Option
   pub acyclic : IsAcyclic (graph_of program)
   pub are_copies : AreCopies program copies
   pub placed : IsPlacing program copies content.objects content.frames
-  pub ran : ProgramHasNumbers program → Ran (setting_of program (outside_of script.input script.arrivals)) content asked.steps ended p q
+  pub numbers : ProgramHasNumbers program
+  pub ran : Ran (setting_of program (outside_of script.input script.arrivals)) content asked.steps ended p q
 
 -- of a trace whose run began; of the others this says nothing
 abbrev pub RunsBy : Asked → Contents → Ended → Option (List ℕ) → Option (List ℕ) → Type 0

@@ -19,6 +19,7 @@ use host_io::{Host, HostError, read_whole};
 use picc_core::{CompileError, Refusal, front};
 use src_machine::Undef;
 use std::alloc::Global;
+use typed_numbers::see_numbers;
 
 /// How a trace ended.
 #[derive(Drop)]
@@ -106,7 +107,10 @@ fn traced<H: Host>(alloc: Global, host: &mut H, asked: Asked<'_>) -> Ended
         Err(end) => return Ended::NoScript(end),
     };
     match front(alloc, &text) {
-        Ok(known) => run(alloc, host, known, &script, asked.steps),
+        Ok(known) => {
+            see_numbers(&known.typed);
+            run(alloc, host, known, &script, asked.steps)
+        }
         Err(CompileError::NoMemory) => Ended::NoMemory,
         Err(CompileError::Refused(refusal)) => Ended::Refused(refusal),
     }

@@ -22,6 +22,7 @@ returns-in-Ok-front-clause-runs g c =
       tree = c.in-Ok-front.ensures.tree;
       sound = c.in-Ok-front.known.typed.sound;
       roots = c.in-Ok-front.ensures.roots;
+      numbers = c.see_numbers.ensures;
       acyclic = c.in-Ok-front.ensures.recursion;
       are_copies = c.in-Ok-front.ensures.list;
       placed = c.in-Ok-front.ensures.exact;
