@@ -35,3 +35,5 @@ pub mod Calling
 pub mod Registers
 pub mod Pointing
 pub mod Starting
+pub mod Narrowing
+pub mod Converting
