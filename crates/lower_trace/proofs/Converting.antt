@@ -46,7 +46,7 @@ use Rattle.std.proofs.Common.{Bool, List, None, Option, Some, [], ap, arith, fal
 use Rattle.std.proofs.lemmas.Grind.{common_steps}
 
 -- ---- where byte code does nothing
-same_value : (z : Scene) (want : Bool) (n b : ℕ) (v u : Datum) (m : Memory) → byte_count u ≤ byte_count v → ((i : ℕ) → i < byte_count u → held z (byte_of v i) ≡ held z (byte_of u i)) → HasDatum z n b v m → HasIf want z n b u m
+pub same_value : (z : Scene) (want : Bool) (n b : ℕ) (v u : Datum) (m : Memory) → byte_count u ≤ byte_count v → ((i : ℕ) → i < byte_count u → held z (byte_of v i) ≡ held z (byte_of u i)) → HasDatum z n b v m → HasIf want z n b u m
 same_value z true n b v u m le s h = λ i lt. h i (omega arith) ∙ s i lt
 same_value z false n b v u m le s h = tt
 
@@ -104,7 +104,7 @@ not_wider from to at e = rw e refl
 is_wider_so : (from to : IntTy) (at : Byte) → nat_lt (bytes_of from) (bytes_of to) ≡ true → wider from to at ≡ code.Convert from to at ∷ []
 is_wider_so from to at e = rw e refl
 
-not_less : (a b : ℕ) → nat_lt a b ≡ false → b ≤ a
+pub not_less : (a b : ℕ) → nat_lt a b ≡ false → b ≤ a
 not_less a b e = grind (arith, common_steps)
 
 -- ---- what is converted

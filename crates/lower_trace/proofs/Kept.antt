@@ -8,7 +8,7 @@ use Rattle.c_ints.specs.declared.types.IntTy.TheVariants as int
 use Rattle.c_typed.specs.Trees as tree
 use Rattle.c_typed.specs.Trees.{Expression, Expressions, Place, Statement}
 use Rattle.core_code.specs.Bytes.{Memory, same_byte}
-use Rattle.core_code.specs.Machine.{static_bytes}
+use Rattle.core_code.specs.Machine.{static_bytes, object_bytes as core_bytes}
 use Rattle.core_code.specs.declared.code.Byte.TheVariants.{Frame, Result}
 use Rattle.lower_expr.specs.Bytes.{beyond, operation_type}
 use Rattle.lower_expr.specs.Rows.{step_number}
@@ -38,6 +38,7 @@ use Rattle.src_values.specs.declared.objects.Object as object
 use Rattle.src_values.specs.declared.objects.Object.TheVariants as objects
 use Rattle.src_values.specs.declared.objects.Spot as spot
 use Rattle.pic_world.specs.declared.Root.TheVariants.{Main, Isr}
+use Rattle.lower_trace.specs.Lowering.{object_as, offset_as}
 use Rattle.lower_trace.proofs.CodeLeft.{Scene, number, ground_in, core_in, wanted, base, above, stored, stored_at}
 use Rattle.lower_trace.proofs.Mirrors.{core_byte, HasDatum, at_byte, IsAt, HasArguments, Waits, HasReadIn, HasReadAt, HasIf, HasValue, Holds}
 
@@ -61,6 +62,9 @@ pub record SceneLaws (z : Scene) : Type 0 where
   pub bodies : (c : CopyOf) → IsReached z.program c → (core_in z).program.body (number z c) ≡ stmts_code (ground_in z c) outside (function_at z.program c.function).body ++ code.Leave ∷ []
   pub roots : (c : CopyOf) → IsReached z.program c → (core_in z).program.root (number z c) ≡ c.root
   pub handles : (h : ℕ) → handler_in z.program ≡ Some h → IsReached z.program (copy_of Isr h) × ((core_in z).program.handler ≡ Some (number z (copy_of Isr h)))
+  -- an object lies within the one that it is a part of in byte code, and offsets there have 16 bits
+  pub fits : (object : object.Object) → IsThere z.program object → offset_as z.program object + object_bytes z.program object ≤ core_bytes (core_in z).program (object_as z.copies object)
+  pub reach : (object : object.Object) → IsThere z.program object → core_bytes (core_in z).program (object_as z.copies object) ≤ 65535
   -- frames are small
   pub small : (n : ℕ) → (core_in z).program.frame_bytes n ≤ 96
 

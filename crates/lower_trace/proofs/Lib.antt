@@ -37,3 +37,9 @@ pub mod Pointing
 pub mod Starting
 pub mod Narrowing
 pub mod Converting
+pub mod Arguments
+pub mod ReadValues
+pub mod Moving
+pub mod Members
+pub mod FixedPlaces
+pub mod FixedReads

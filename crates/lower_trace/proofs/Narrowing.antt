@@ -10,14 +10,14 @@ use Rattle.std.specs.Int.{int_rem_euclid}
 
 -- ---- what is one modulo a span
 -- with a multiple of the span it is a natural
-lifted : (z : ℤ) (s : ℕ) → 0 < s → (k : ℕ) × (m : ℕ) × (z +ℤ pos (k * s) ≡ pos m)
+pub lifted : (z : ℤ) (s : ℕ) → 0 < s → (k : ℕ) × (m : ℕ) × (z +ℤ pos (k * s) ≡ pos m)
 lifted (pos n) s lt = (0, n, omega (arith, ints))
 lifted (negsuc n) s lt = (suc n, suc n * s - suc n, negative n s lt)
   where
     negative : (n s : ℕ) → 0 < s → negsuc n +ℤ pos (suc n * s) ≡ pos (suc n * s - suc n)
     negative n s lt = let h : suc n * 1 ≤ suc n * s = grind arith in omega (arith, ints, h)
 
-rem_of : (z : ℤ) (s k m : ℕ) → 0 < s → z +ℤ pos (k * s) ≡ pos m → unsigned_abs (int_rem_euclid z (pos s)) ≡ m % s
+pub rem_of : (z : ℤ) (s k m : ℕ) → 0 < s → z +ℤ pos (k * s) ≡ pos m → unsigned_abs (int_rem_euclid z (pos s)) ≡ m % s
 rem_of z s k m lt e = ap unsigned_abs (int_rem_euclid_is z (pos s) s k m lt refl e)
 
 rem_same : (y z : ℤ) (s k j : ℕ) → 0 < s → y +ℤ pos (k * s) ≡ z +ℤ pos (j * s) → unsigned_abs (int_rem_euclid y (pos s)) ≡ unsigned_abs (int_rem_euclid z (pos s))
@@ -51,7 +51,7 @@ mod_twice m q s x e =
     sym (ap (λ y. y % s) whole ∙ ap (λ y. (y + m % x) % s) parts ∙ mul-add-mod_self_right (m / x * q) s (m % x))
 
 -- ---- sizes of types
-sized : (ty : IntTy) (P : ℕ → Type 0) → P 1 → P 2 → P 4 → P (bytes_of ty)
+pub sized : (ty : IntTy) (P : ℕ → Type 0) → P 1 → P 2 → P 4 → P (bytes_of ty)
 sized int.Char P a b c = a
 sized int.SChar P a b c = a
 sized int.UChar P a b c = a
@@ -97,7 +97,7 @@ four_bytes p (suc (suc zero)) lt = omega arith
 four_bytes p (suc (suc (suc zero))) lt = omega arith
 four_bytes p (suc (suc (suc (suc i)))) lt = absurd (omega arith)
 
-low_bytes : (to : IntTy) (p i : ℕ) → i < bytes_of to → p % span to / 256 ^ i % 256 ≡ p / 256 ^ i % 256
+pub low_bytes : (to : IntTy) (p i : ℕ) → i < bytes_of to → p % span to / 256 ^ i % 256 ≡ p / 256 ^ i % 256
 low_bytes to p = sized to (λ b. (i : ℕ) → i < b → p % 2 ^ (8 * b) / 256 ^ i % 256 ≡ p / 256 ^ i % 256) (one_byte p) (two_bytes p) (four_bytes p)
 
 -- A number that is cut to a type with no more bytes keeps its low ones.
