@@ -43,3 +43,4 @@ pub mod Moving
 pub mod Members
 pub mod FixedPlaces
 pub mod FixedReads
+pub mod FixedFetches
