@@ -119,15 +119,15 @@ same_if : (z : Scene) (want : Bool) (n a b : ℕ) (v : Datum) (m : Memory) → a
 same_if z true n a b v m e h = λ i lt. ap (λ x. m (Frame n (x + i))) (sym e) ∙ h i lt
 same_if z false n a b v m e h = tt
 
-none_left : (X Y : Byte) (done count : ℕ) (r : List Task) → count ≤ done → todo (copies_from X Y done (count - done)) r ≡ r
+pub none_left : (X Y : Byte) (done count : ℕ) (r : List Task) → count ≤ done → todo (copies_from X Y done (count - done)) r ≡ r
 none_left X Y done count r le = let e : count - done ≡ 0 = omega arith in ap (λ i. todo (copies_from X Y done i) r) e
 
 module _ (z : Scene) where
   -- a value stands in its fixed place: the assignment has it
-  assigned : (place : Place) (right : Expression) (ty : Ty) (line : ℕ) (at : spot.Spot) (x : Pointer) (v : Datum) (done : ℕ) (X : Byte) (now : spot.Spot) (k : List Pending) (cp : CopyOf) (l : source.Memory) (w : World value.Byte) (c : Machine) → at ≡ spots.Memory x → spot_of (ground_in z cp).layout (ground_in z cp).copy place ≡ Fixed X → base (ground_in z cp) k ≤ 65535 → width (ground_in z cp).layout ty ≤ done
+  pub assigned : (place : Place) (right : Expression) (ty : Ty) (line : ℕ) (at : spot.Spot) (v : Datum) (done : ℕ) (X : Byte) (now : spot.Spot) (k : List Pending) (cp : CopyOf) (l : source.Memory) (w : World value.Byte) (c : Machine) → spot_of (ground_in z cp).layout (ground_in z cp).copy place ≡ Fixed X → base (ground_in z cp) k ≤ 65535 → width (ground_in z cp).layout ty ≤ done
       → Mirrors z (state cp (Write now v done) (In (tree.Assign place right ty line) (Stores at v) ∷ k) l w) c → Comes (core_in z) (Mirrors z (state cp (Value v) k l (arrived z.outside w))) 0 0 c
   unfolding active
-  assigned place right ty line at x v done X now k cp l w c is fixed small le h =
+  assigned place right ty line at v done X now k cp l w c fixed small le h =
       let g = ground_in z cp in
       let e = tree.Assign place right ty line in
       let b = base g k in
@@ -140,7 +140,7 @@ module _ (z : Scene) where
   pub assign_stored : (place : Place) (right : Expression) (ty : Ty) (line : ℕ) (x : Pointer) (v : Datum) (done : ℕ) (X : Byte) (now : spot.Spot) (k : List Pending) (cp : CopyOf) (l : source.Memory) (w : World value.Byte) (c : Machine) → spot_of (ground_in z cp).layout (ground_in z cp).copy place ≡ Fixed X → base (ground_in z cp) k ≤ 65535 → width (ground_in z cp).layout ty ≤ done
       → Mirrors z (state cp (Write now v done) (In (tree.Assign place right ty line) (Stores (spots.Memory x) v) ∷ k) l w) c → Follow z 0 0 c (stored_in (tree.Assign place right ty line) (Stores (spots.Memory x) v) k cp l (arrived z.outside w))
   unfolding kept_in
-  assign_stored place right ty line x v done X now k cp l w c fixed small le h = assigned place right ty line (spots.Memory x) x v done X now k cp l w c refl fixed small le h
+  assign_stored place right ty line x v done X now k cp l w c fixed small le h = assigned place right ty line (spots.Memory x) v done X now k cp l w c fixed small le h
 
   pub scalar_stored : (local : ℕ) (e : Expression) (line : ℕ) (v : Datum) (done : ℕ) (now : spot.Spot) (k : List Pending) (cp : CopyOf) (l : source.Memory) (w : World value.Byte) (c : Machine) → ground.width (ground_in z cp) e ≤ done
       → Mirrors z (state cp (Write now v done) (Doing (tree.InitScalar local e line) Fills ∷ k) l w) c → Follow z 0 0 c (stored_for (source_in z) (tree.InitScalar local e line) Fills k cp l (arrived z.outside w))

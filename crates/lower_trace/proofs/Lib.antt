@@ -44,3 +44,5 @@ pub mod Members
 pub mod FixedPlaces
 pub mod FixedReads
 pub mod FixedFetches
+pub mod FixedWrites
+pub mod Stored
