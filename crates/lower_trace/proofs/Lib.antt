@@ -46,3 +46,5 @@ pub mod FixedReads
 pub mod FixedFetches
 pub mod FixedWrites
 pub mod Stored
+pub mod Changing
+pub mod Updating
