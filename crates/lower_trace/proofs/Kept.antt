@@ -188,36 +188,36 @@ read_far z g (Returns d ∷ k) at read m m' s h = tt
 read_far z g (Resumes d x ∷ k) at read m m' s h = tt
 
 -- what waits in a frame is the same, if the bytes below the next part's value are
-pub waits_same : (z : Scene) (g : Ground) (b : ℕ) (e : Expression) (got : Got) (m m' : Memory) → ((y : ℕ) → y < above g b e got → m' (Frame g.copy y) ≡ m (Frame g.copy y)) → Below g b e got → Waits z g b e got m → Waits z g b e got m'
-waits_same z g b (tree.Binary op left right ty line) (One u) m m' s k h = datum_same z g.copy b u m m' (λ y le lt. s y (omega arith)) h
-waits_same z g b (tree.Offset op left right size ty line) (One u) m m' s k h = datum_same z g.copy b u m m' (λ y le lt. s y (omega arith)) h
-waits_same z g b (tree.Difference left right size line) (One u) m m' s k h = datum_same z g.copy b u m m' (λ y le lt. s y (omega arith)) h
-waits_same z g b (tree.Read place ty line) (At at) m m' s k h = at_same z g.copy b (spot_of g.layout g.copy place) at m m' (λ y le lt. s y (omega arith)) h
-waits_same z g b (tree.Assign place value ty line) (At at) m m' s k h = at_same z g.copy b (spot_of g.layout g.copy place) at m m' (λ y le lt. s y (omega arith)) h
-waits_same z g b (tree.Assign place value ty line) (Stores at v) m m' s k h = at_same z g.copy b (spot_of g.layout g.copy place) at m m' (λ y le lt. s y (omega arith)) h
-waits_same z g b (tree.StructAssign place from size line) (At at) m m' s k h = at_same z g.copy b (spot_of g.layout g.copy place) at m m' (λ y le lt. s y (omega arith)) h
-waits_same z g b (tree.Update op place value operation size ty line) (At at) m m' s k h = at_same z g.copy b (spot_of g.layout g.copy place) at m m' (λ y le lt. s y (omega arith)) h
-waits_same z g b (tree.Update op place value operation size ty line) (AtWith at u) m m' s k h =
+pub waits_same : (z : Scene) (g : Ground) (b : ℕ) (w : Bool) (e : Expression) (got : Got) (m m' : Memory) → ((y : ℕ) → y < above g b e got → m' (Frame g.copy y) ≡ m (Frame g.copy y)) → Below g b e got → Waits z g b w e got m → Waits z g b w e got m'
+waits_same z g b w (tree.Binary op left right ty line) (One u) m m' s k h = datum_same z g.copy b u m m' (λ y le lt. s y (omega arith)) h
+waits_same z g b w (tree.Offset op left right size ty line) (One u) m m' s k h = datum_same z g.copy b u m m' (λ y le lt. s y (omega arith)) h
+waits_same z g b w (tree.Difference left right size line) (One u) m m' s k h = datum_same z g.copy b u m m' (λ y le lt. s y (omega arith)) h
+waits_same z g b w (tree.Read place ty line) (At at) m m' s k h = at_same z g.copy b (spot_of g.layout g.copy place) at m m' (λ y le lt. s y (omega arith)) h
+waits_same z g b w (tree.Assign place value ty line) (At at) m m' s k h = at_same z g.copy b (spot_of g.layout g.copy place) at m m' (λ y le lt. s y (omega arith)) h
+waits_same z g b w (tree.Assign place value ty line) (Stores at v) m m' s k h = at_same z g.copy b (spot_of g.layout g.copy place) at m m' (λ y le lt. s y (omega arith)) h
+waits_same z g b w (tree.StructAssign place from size line) (At at) m m' s k h = at_same z g.copy b (spot_of g.layout g.copy place) at m m' (λ y le lt. s y (omega arith)) h
+waits_same z g b w (tree.Update op place value operation size ty line) (At at) m m' s k h = at_same z g.copy b (spot_of g.layout g.copy place) at m m' (λ y le lt. s y (omega arith)) h
+waits_same z g b w (tree.Update op place value operation size ty line) (AtWith at u) m m' s k h =
     let k0 = k.0 in
     let k1 = k.1 in
     (at_same z g.copy b (spot_of g.layout g.copy place) at m m' (λ y le lt. s y (omega arith)) h.0, datum_same z g.copy (behind_pointer g.layout g.copy b place) u m m' (λ y le lt. s y (omega arith)) h.1)
-waits_same z g b (tree.Update op place value operation size ty line) (Stores at v) m m' s k h = at_same z g.copy b (spot_of g.layout g.copy place) at m m' (λ y le lt. s y (omega arith)) h
-waits_same z g b (tree.Call function arguments ty line) (Args before more) m m' s k h = arguments_same z g b 0 arguments before (above g b (tree.Call function arguments ty line) (Args before more)) m m' s k h
-waits_same z g b (tree.Call function arguments ty line) (Passed values) m m' s k h = arguments_same z g b 0 arguments values (above g b (tree.Call function arguments ty line) (Passed values)) m m' s k h
-waits_same z g b (tree.Step op place operation size ty line) (At at) m m' s k h =
+waits_same z g b w (tree.Update op place value operation size ty line) (Stores at v) m m' s k h = at_same z g.copy b (spot_of g.layout g.copy place) at m m' (λ y le lt. s y (omega arith)) h
+waits_same z g b w (tree.Call function arguments ty line) (Args before more) m m' s k h = arguments_same z g b 0 arguments before (above g b (tree.Call function arguments ty line) (Args before more)) m m' s k h
+waits_same z g b w (tree.Call function arguments ty line) (Passed values) m m' s k h = arguments_same z g b 0 arguments values (above g b (tree.Call function arguments ty line) (Passed values)) m m' s k h
+waits_same z g b w (tree.Step op place operation size ty line) (At at) m m' s k h =
     let k0 = k.0 in
     let k1 = k.1 in
     let few = bytes_small (operation_type operation) in (
       at_same z g.copy b (spot_of g.layout g.copy place) at m m' (λ y le lt. s y (omega arith)) h.0,
       datum_same z g.copy (behind_pointer g.layout g.copy b place) (datum.Number (cut_to (operation_type operation) (pos (step_number operation size)))) m m' (λ y le lt. s y (omega arith)) h.1,
     )
-waits_same z g b (tree.Step op place operation size ty line) (Stores at v) m m' s k h =
+waits_same z g b w (tree.Step op place operation size ty line) (Stores at v) m m' s k h =
     let k0 = k.0 in
     let k1 = k.1 in (
       at_same z g.copy b (spot_of g.layout g.copy place) at m m' (λ y le lt. s y (omega arith)) h.0,
       λ keeps. datum_same z g.copy (beyond (stored g b (tree.Step op place operation size ty line)) (width g.layout operation)) v m m' (λ y le lt. s y (omega arith)) (h.1 keeps),
     )
-waits_same z g b _ _ m m' s k h = tt
+waits_same z g b w _ _ m m' s k h = tt
 
 -- ---- stacks
 pub base_end : (g : Ground) (k : List Pending) → WaitsForEnd k → base g k ≡ g.base
@@ -233,29 +233,29 @@ base_end g (Resumes d x ∷ k) h = refl
 abbrev pub SameFrame : ℕ → Memory → Memory → Type 0
 SameFrame n m m' = (y : ℕ) → m' (Frame n y) ≡ m (Frame n y)
 
-pub waits_far : (z : Scene) (g : Ground) (b : ℕ) (e : Expression) (got : Got) (m m' : Memory) → SameFrame g.copy m m' → Waits z g b e got m → Waits z g b e got m'
-waits_far z g b (tree.Binary op left right ty line) (One u) m m' s h = datum_same z g.copy b u m m' (λ y le lt. s y) h
-waits_far z g b (tree.Offset op left right size ty line) (One u) m m' s h = datum_same z g.copy b u m m' (λ y le lt. s y) h
-waits_far z g b (tree.Difference left right size line) (One u) m m' s h = datum_same z g.copy b u m m' (λ y le lt. s y) h
-waits_far z g b (tree.Read place ty line) (At at) m m' s h = at_same z g.copy b (spot_of g.layout g.copy place) at m m' (λ y le lt. s y) h
-waits_far z g b (tree.Assign place value ty line) (At at) m m' s h = at_same z g.copy b (spot_of g.layout g.copy place) at m m' (λ y le lt. s y) h
-waits_far z g b (tree.Assign place value ty line) (Stores at v) m m' s h = at_same z g.copy b (spot_of g.layout g.copy place) at m m' (λ y le lt. s y) h
-waits_far z g b (tree.StructAssign place from size line) (At at) m m' s h = at_same z g.copy b (spot_of g.layout g.copy place) at m m' (λ y le lt. s y) h
-waits_far z g b (tree.Update op place value operation size ty line) (At at) m m' s h = at_same z g.copy b (spot_of g.layout g.copy place) at m m' (λ y le lt. s y) h
-waits_far z g b (tree.Update op place value operation size ty line) (AtWith at u) m m' s h =
+pub waits_far : (z : Scene) (g : Ground) (b : ℕ) (w : Bool) (e : Expression) (got : Got) (m m' : Memory) → SameFrame g.copy m m' → Waits z g b w e got m → Waits z g b w e got m'
+waits_far z g b w (tree.Binary op left right ty line) (One u) m m' s h = datum_same z g.copy b u m m' (λ y le lt. s y) h
+waits_far z g b w (tree.Offset op left right size ty line) (One u) m m' s h = datum_same z g.copy b u m m' (λ y le lt. s y) h
+waits_far z g b w (tree.Difference left right size line) (One u) m m' s h = datum_same z g.copy b u m m' (λ y le lt. s y) h
+waits_far z g b w (tree.Read place ty line) (At at) m m' s h = at_same z g.copy b (spot_of g.layout g.copy place) at m m' (λ y le lt. s y) h
+waits_far z g b w (tree.Assign place value ty line) (At at) m m' s h = at_same z g.copy b (spot_of g.layout g.copy place) at m m' (λ y le lt. s y) h
+waits_far z g b w (tree.Assign place value ty line) (Stores at v) m m' s h = at_same z g.copy b (spot_of g.layout g.copy place) at m m' (λ y le lt. s y) h
+waits_far z g b w (tree.StructAssign place from size line) (At at) m m' s h = at_same z g.copy b (spot_of g.layout g.copy place) at m m' (λ y le lt. s y) h
+waits_far z g b w (tree.Update op place value operation size ty line) (At at) m m' s h = at_same z g.copy b (spot_of g.layout g.copy place) at m m' (λ y le lt. s y) h
+waits_far z g b w (tree.Update op place value operation size ty line) (AtWith at u) m m' s h =
     (at_same z g.copy b (spot_of g.layout g.copy place) at m m' (λ y le lt. s y) h.0, datum_same z g.copy (behind_pointer g.layout g.copy b place) u m m' (λ y le lt. s y) h.1)
-waits_far z g b (tree.Update op place value operation size ty line) (Stores at v) m m' s h = at_same z g.copy b (spot_of g.layout g.copy place) at m m' (λ y le lt. s y) h
-waits_far z g b (tree.Step op place operation size ty line) (At at) m m' s h = (
+waits_far z g b w (tree.Update op place value operation size ty line) (Stores at v) m m' s h = at_same z g.copy b (spot_of g.layout g.copy place) at m m' (λ y le lt. s y) h
+waits_far z g b w (tree.Step op place operation size ty line) (At at) m m' s h = (
   at_same z g.copy b (spot_of g.layout g.copy place) at m m' (λ y le lt. s y) h.0,
   datum_same z g.copy (behind_pointer g.layout g.copy b place) (datum.Number (cut_to (operation_type operation) (pos (step_number operation size)))) m m' (λ y le lt. s y) h.1,
 )
-waits_far z g b (tree.Step op place operation size ty line) (Stores at v) m m' s h = (
+waits_far z g b w (tree.Step op place operation size ty line) (Stores at v) m m' s h = (
   at_same z g.copy b (spot_of g.layout g.copy place) at m m' (λ y le lt. s y) h.0,
   λ keeps. datum_same z g.copy (beyond (stored g b (tree.Step op place operation size ty line)) (width g.layout operation)) v m m' (λ y le lt. s y) (h.1 keeps),
 )
-waits_far z g b (tree.Call function arguments ty line) (Args before more) m m' s h = arguments_far z g b 0 arguments before m m' s h
-waits_far z g b (tree.Call function arguments ty line) (Passed values) m m' s h = arguments_far z g b 0 arguments values m m' s h
-waits_far z g b _ _ m m' s h = tt
+waits_far z g b w (tree.Call function arguments ty line) (Args before more) m m' s h = arguments_far z g b 0 arguments before m m' s h
+waits_far z g b w (tree.Call function arguments ty line) (Passed values) m m' s h = arguments_far z g b 0 arguments values m m' s h
+waits_far z g b w _ _ m m' s h = tt
 
 pub value_far : (z : Scene) (g : Ground) (x : Focus) (k : List Pending) (m m' : Memory) → SameFrame g.copy m m' → ((i : ℕ) → m' (Result g.layout.root i) ≡ m (Result g.layout.root i)) → HasValue z g x k m → HasValue z g x k m'
 value_far z g (Eval e) k m m' s r h = tt
@@ -281,7 +281,7 @@ value_far z g Over k m m' s r h = tt
 pub holds_far : (z : Scene) (n : ℕ) (d : CopyOf) (k : List Pending) (m m' : Memory) → ((i : ℕ) → (i ≡ n → ⊥) → SameFrame i m m') → ((i : ℕ) → m' (Result Main i) ≡ m (Result Main i)) → (number z d ≡ n → ⊥) → Apart z n k → MainsWait k → Holds z (ground_in z d) k m → Holds z (ground_in z d) k m'
 holds_far z n d [] m m' s r far a w h = tt
 holds_far z n d (In e got ∷ k) m m' s r far a w h =
-    (waits_far z (ground_in z d) (base (ground_in z d) k) e got m m' (subst (λ i. SameFrame i m m') (sym (own_copy z d)) (s (number z d) far)) h.0, holds_far z n d k m m' s r far a w h.1)
+    (waits_far z (ground_in z d) (base (ground_in z d) k) (wanted k) e got m m' (subst (λ i. SameFrame i m m') (sym (own_copy z d)) (s (number z d) far)) h.0, holds_far z n d k m m' s r far a w h.1)
 holds_far z n d (To place ∷ k) m m' s r far a w h = holds_far z n d k m m' s r far a w h
 holds_far z n d (Doing t stage ∷ k) m m' s r far a w h = holds_far z n d k m m' s r far a w h
 holds_far z n d (Before ss ∷ k) m m' s r far a w h = holds_far z n d k m m' s r far a w h
@@ -296,7 +296,7 @@ pub holds_near : (z : Scene) (c : CopyOf) (k : List Pending) (m m' : Memory) →
 holds_near z c [] m m' s o r a w p h = tt
 holds_near z c (In e got ∷ k) m m' s o r a w p h =
     let le = p.1 in (
-      waits_same z (ground_in z c) (base (ground_in z c) k) e got m m' (λ y lt. subst (λ i. m' (Frame i y) ≡ m (Frame i y)) (sym (own_copy z c)) (s y lt)) p.0 h.0,
+      waits_same z (ground_in z c) (base (ground_in z c) k) (wanted k) e got m m' (λ y lt. subst (λ i. m' (Frame i y) ≡ m (Frame i y)) (sym (own_copy z c)) (s y lt)) p.0 h.0,
       holds_near z c k m m' (λ y lt. s y (omega arith)) o r a w p.2 h.1,
     )
 holds_near z c (To place ∷ k) m m' s o r a w p h = holds_near z c k m m' s o r a w p h

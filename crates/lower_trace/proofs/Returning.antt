@@ -68,7 +68,7 @@ Resumables (Resumes d x ∷ k) = IsResumable x × Resumables k
 
 pub holds_frames : (z : Scene) (c : CopyOf) (k : List Pending) (m m' : Memory) → Resumables k → ((i : ℕ) → SameFrame i m m') → Holds z (ground_in z c) k m → Holds z (ground_in z c) k m'
 holds_frames z c [] m m' r s h = tt
-holds_frames z c (In e got ∷ k) m m' r s h = (waits_far z (ground_in z c) (base (ground_in z c) k) e got m m' (s (ground_in z c).copy) h.0, holds_frames z c k m m' r s h.1)
+holds_frames z c (In e got ∷ k) m m' r s h = (waits_far z (ground_in z c) (base (ground_in z c) k) (wanted k) e got m m' (s (ground_in z c).copy) h.0, holds_frames z c k m m' r s h.1)
 holds_frames z c (To place ∷ k) m m' r s h = holds_frames z c k m m' r s h
 holds_frames z c (Doing t stage ∷ k) m m' r s h = holds_frames z c k m m' r s h
 holds_frames z c (Before ss ∷ k) m m' r s h = holds_frames z c k m m' r s h

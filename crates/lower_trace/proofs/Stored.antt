@@ -27,6 +27,7 @@ use Rattle.lower_trace.proofs.Kept.{Reached, SceneLaws, own_copy}
 use Rattle.lower_trace.proofs.Mirrors.{Agrees, HasDatum, HasIf, Holds, IsAt, Mirrors, at_byte}
 use Rattle.lower_trace.proofs.Operations.{Comes, comes_here, comes_within}
 use Rattle.lower_trace.proofs.Placed.{Placed}
+use Rattle.lower_trace.proofs.Written.{both}
 use Rattle.pic_world.specs.World.{World, arrived, is_due, left, world_as}
 use Rattle.src_rules.specs.Accesses.{write}
 use Rattle.src_rules.specs.Standing.{stepped}
@@ -50,7 +51,7 @@ kept_same z (spots.Bit register bit) X v e = absurd (cc)
 
 -- ---- a value that stands behind comes to the front, if it is wanted
 front_case : (z : Scene) (laws : SceneLaws z) (want : Bool) (y bytes : ℕ) (v : Datum) (k : List Pending) (cp : CopyOf) (l : source.Memory) (w : World value.Byte) (c : Machine) → wanted k ≡ want → Around z cp k → base (ground_in z cp) k + bytes ≤ (core_in z).program.frame_bytes (number z cp) → y + bytes ≤ (core_in z).program.frame_bytes (number z cp)
-    → base (ground_in z cp) k ≤ y → byte_count v ≤ bytes → bytes ≤ 4 → is_due (arrived z.outside w) ≡ false → HasDatum z (number z cp) y v c.memory → Agrees z (active cp (Value v) k) l c.memory → Holds z (ground_in z cp) k c.memory
+    → base (ground_in z cp) k ≤ y → byte_count v ≤ bytes → bytes ≤ 4 → is_due (arrived z.outside w) ≡ false → (want ≡ true → HasDatum z (number z cp) y v c.memory) → Agrees z (active cp (Value v) k) l c.memory → Holds z (ground_in z cp) k c.memory
     → Placed (core_in z) (number z cp) None (todo (copies_if want (Frame (number z cp) (base (ground_in z cp) k)) (Frame (number z cp) y) bytes) (code_after (ground_in z cp) k)) (stack_after z (ground_in z cp) k) c.memory (world_as (held z) (arrived z.outside w)) c
     → Comes (core_in z) (Mirrors z (state cp (Value v) k l (arrived z.outside w))) 24 0 c
 front_case z laws true y bytes v k cp l w c is around room from high count few due hv agrees holds p =
@@ -62,7 +63,7 @@ front_case z laws true y bytes v k cp l w c is around room from high count few d
     comes_within (core_in z) T (6 * bytes + 0) (bytes + 0) 24 0 c
     (move_then (core_in z) T n None (stack_after z g k) W (due_below z (arrived z.outside w) due) (again_below z w) (laws.small n) b y bytes (code_after g k) c.memory c 0 0 (inl high) room from p
     (λ d pd. comes_here (core_in z) T d
-    (gives z laws cp k l (arrived z.outside w) c.memory bytes (λ j. c.memory (Frame n (y + j))) v d around count (λ i lt. hv i lt)
+    (gives z laws cp k l (arrived z.outside w) c.memory bytes (λ j. c.memory (Frame n (y + j))) v d around count (λ i lt. hv refl i lt)
     (subst (λ x. Placed (core_in z) n None (code_after g k) (stack_after z g k) (with_bytes c.memory (Frame n b) bytes (λ j. c.memory (Frame n (y + j)))) x d) (same_below z w) pd)
     agrees holds)))
     (omega arith) (omega arith)
@@ -74,7 +75,7 @@ front_case z laws false y bytes v k cp l w c is around room from high count few 
 
 -- all bytes are written, and the value stands at y
 pub end_moved : (z : Scene) (laws : SceneLaws z) (e : Expression) (got : Got) (now : spot.Spot) (v u : Datum) (done y bytes : ℕ) (k : List Pending) (cp : CopyOf) (l : source.Memory) (w : World value.Byte) (c : Machine) → Around z cp k → base (ground_in z cp) k + bytes ≤ (core_in z).program.frame_bytes (number z cp) → y + bytes ≤ (core_in z).program.frame_bytes (number z cp)
-    → base (ground_in z cp) k ≤ y → byte_count u ≤ bytes → bytes ≤ 4 → is_due (arrived z.outside w) ≡ false → HasDatum z (ground_in z cp).copy y u c.memory
+    → base (ground_in z cp) k ≤ y → byte_count u ≤ bytes → bytes ≤ 4 → is_due (arrived z.outside w) ≡ false → (wanted k ≡ true → HasDatum z (ground_in z cp).copy y u c.memory)
     → code_at z (ground_in z cp) (Write now v done) (In e got ∷ k) ≡ todo (copies_if (wanted k) (Frame (ground_in z cp).copy (base (ground_in z cp) k)) (Frame (ground_in z cp).copy y) bytes) (code_after (ground_in z cp) k)
     → Mirrors z (state cp (Write now v done) (In e got ∷ k) l w) c → Comes (core_in z) (Mirrors z (state cp (Value u) k l (arrived z.outside w))) 24 0 c
 unfolding active
@@ -83,7 +84,7 @@ end_moved z laws e got now v u done y bytes k cp l w c around room from high cou
     let g = ground_in z cp in
     let b = base g k in
     let W = world_as (held z) (arrived z.outside w) in
-    front_case z laws (wanted k) y bytes u k cp l w c refl around room from high count few due (subst (λ i. HasDatum z i y u c.memory) (own_copy z cp) hu) h.agrees h.holds.1
+    front_case z laws (wanted k) y bytes u k cp l w c refl around room from high count few due (λ is. subst (λ i. HasDatum z i y u c.memory) (own_copy z cp) (hu is)) h.agrees h.holds.1
     (subst (λ i. Placed (core_in z) n None (todo (copies_if (wanted k) (Frame i b) (Frame i y) bytes) (code_after g k)) (stack_after z g k) c.memory W c) (own_copy z cp)
     (subst (λ x. Placed (core_in z) n None x (stack_after z g k) c.memory W c) left (placed_of z (state cp (Write now v done) (In e got ∷ k) l w) c h)))
 
@@ -146,7 +147,7 @@ module _ (z : Scene) (laws : SceneLaws z) (cp : CopyOf) (l : source.Memory) wher
       refl (omega arith) p.own_room start v done 24 w c is (own_spot z cp g.layout g.copy sought X start q.spot p.around.reached q.there q.found) p.open_is p.fit (λ a d. wide ∙ q.one a d) (p.all ∙ sym wide) (omega arith) due
       (λ le.
       subst (λ y. Follow z 24 0 c (Went (state cp (Value y) k l (arrived z.outside w)) None)) (sym (kept_same z start X v is))
-      (end_moved z laws e (Stores start v) (stepped done start) v v done (stored g b e) count k cp l w c p.below (omega arith) (omega arith) high (omega arith) (omega arith) due h.value
+      (end_moved z laws e (Stores start v) (stepped done start) v v done (stored g b e) count k cp l w c p.below (omega arith) (omega arith) high (omega arith) (omega arith) due (λ is. h.value)
       (ap (λ y. writing z g.layout.root y (stepped done start) (Frame g.copy b) (Frame g.copy (stored g b e)) count done r) q.spot ∙ none_left X (Frame g.copy (stored g b e)) done count r le)
       h))
       h
@@ -206,7 +207,7 @@ module _ (z : Scene) (laws : SceneLaws z) (cp : CopyOf) (l : source.Memory) wher
       (λ le.
       subst (λ y. Follow z 24 0 c (Went (state cp (Value y) k l (arrived z.outside w)) None)) (sym (step_end op start X u v sought operation size ty line is))
       (end_moved z laws e (Stores start u) (stepped done start) v u done (kept_at keeps old new) count k cp l w c p.below (omega arith) (kept_bound keeps old new count ((core_in z).program.frame_bytes (number z cp)) (omega arith) (omega arith)) (kept_high keeps old new b (omega arith) high) (omega arith) (omega arith) due
-      (kept_has keeps g.copy old new u c.memory (λ i. h.holds.0.1 i) (λ i. subst (λ y. HasDatum z g.copy new y c.memory) (sym (same_value_is i)) h.value))
+      (λ want. kept_has keeps g.copy old new u c.memory (λ i. h.holds.0.1 (both (wanted k) keeps want i)) (λ i. subst (λ y. HasDatum z g.copy new y c.memory) (sym (same_value_is i)) h.value))
       (ap (λ y. writing z g.layout.root y (stepped done start) (Frame g.copy b) (Frame g.copy new) count done r) q.spot ∙ none_left X (Frame g.copy new) done count r le
       ∙ ap (λ y. todo (copies_if (wanted k) (Frame g.copy b) y count) (code_after g k)) (given_is keeps g.copy old new))
       h))

@@ -57,33 +57,33 @@ arguments_high z g b before (tree.AndExpression e es) (v ∷ vs) m m' small s h 
     let q = beyond_high b before small in
     (datum_same z g.copy (beyond b before) v m m' (λ y le lt. s y (omega arith)) h.0, arguments_high z g b (beyond before (value_width g.layout e)) es vs m m' small s h.1)
 
-waits_high : (z : Scene) (g : Ground) (b : ℕ) (e : Expression) (got : Got) (m m' : Memory) → b ≤ 65535 → ((y : ℕ) → b ≤ y → m' (Frame g.copy y) ≡ m (Frame g.copy y)) → Waits z g b e got m → Waits z g b e got m'
-waits_high z g b (tree.Binary op left right ty line) (One u) m m' small s h = datum_same z g.copy b u m m' (λ y le lt. s y le) h
-waits_high z g b (tree.Offset op left right size ty line) (One u) m m' small s h = datum_same z g.copy b u m m' (λ y le lt. s y le) h
-waits_high z g b (tree.Difference left right size line) (One u) m m' small s h = datum_same z g.copy b u m m' (λ y le lt. s y le) h
-waits_high z g b (tree.Read place ty line) (At at) m m' small s h = at_same z g.copy b (spot_of g.layout g.copy place) at m m' (λ y le lt. s y le) h
-waits_high z g b (tree.Assign place value ty line) (At at) m m' small s h = at_same z g.copy b (spot_of g.layout g.copy place) at m m' (λ y le lt. s y le) h
-waits_high z g b (tree.Assign place value ty line) (Stores at v) m m' small s h = at_same z g.copy b (spot_of g.layout g.copy place) at m m' (λ y le lt. s y le) h
-waits_high z g b (tree.StructAssign place from size line) (At at) m m' small s h = at_same z g.copy b (spot_of g.layout g.copy place) at m m' (λ y le lt. s y le) h
-waits_high z g b (tree.Update op place value operation size ty line) (At at) m m' small s h = at_same z g.copy b (spot_of g.layout g.copy place) at m m' (λ y le lt. s y le) h
-waits_high z g b (tree.Update op place value operation size ty line) (AtWith at u) m m' small s h =
+waits_high : (z : Scene) (g : Ground) (b : ℕ) (w : Bool) (e : Expression) (got : Got) (m m' : Memory) → b ≤ 65535 → ((y : ℕ) → b ≤ y → m' (Frame g.copy y) ≡ m (Frame g.copy y)) → Waits z g b w e got m → Waits z g b w e got m'
+waits_high z g b w (tree.Binary op left right ty line) (One u) m m' small s h = datum_same z g.copy b u m m' (λ y le lt. s y le) h
+waits_high z g b w (tree.Offset op left right size ty line) (One u) m m' small s h = datum_same z g.copy b u m m' (λ y le lt. s y le) h
+waits_high z g b w (tree.Difference left right size line) (One u) m m' small s h = datum_same z g.copy b u m m' (λ y le lt. s y le) h
+waits_high z g b w (tree.Read place ty line) (At at) m m' small s h = at_same z g.copy b (spot_of g.layout g.copy place) at m m' (λ y le lt. s y le) h
+waits_high z g b w (tree.Assign place value ty line) (At at) m m' small s h = at_same z g.copy b (spot_of g.layout g.copy place) at m m' (λ y le lt. s y le) h
+waits_high z g b w (tree.Assign place value ty line) (Stores at v) m m' small s h = at_same z g.copy b (spot_of g.layout g.copy place) at m m' (λ y le lt. s y le) h
+waits_high z g b w (tree.StructAssign place from size line) (At at) m m' small s h = at_same z g.copy b (spot_of g.layout g.copy place) at m m' (λ y le lt. s y le) h
+waits_high z g b w (tree.Update op place value operation size ty line) (At at) m m' small s h = at_same z g.copy b (spot_of g.layout g.copy place) at m m' (λ y le lt. s y le) h
+waits_high z g b w (tree.Update op place value operation size ty line) (AtWith at u) m m' small s h =
     let q = beyond_high b (pointer_bytes (spot_of g.layout g.copy place)) small in
     (at_same z g.copy b (spot_of g.layout g.copy place) at m m' (λ y le lt. s y le) h.0, datum_same z g.copy (behind_pointer g.layout g.copy b place) u m m' (λ y le lt. s y (omega arith)) h.1)
-waits_high z g b (tree.Update op place value operation size ty line) (Stores at v) m m' small s h = at_same z g.copy b (spot_of g.layout g.copy place) at m m' (λ y le lt. s y le) h
-waits_high z g b (tree.Step op place operation size ty line) (At at) m m' small s h =
+waits_high z g b w (tree.Update op place value operation size ty line) (Stores at v) m m' small s h = at_same z g.copy b (spot_of g.layout g.copy place) at m m' (λ y le lt. s y le) h
+waits_high z g b w (tree.Step op place operation size ty line) (At at) m m' small s h =
     let q = beyond_high b (pointer_bytes (spot_of g.layout g.copy place)) small in (
       at_same z g.copy b (spot_of g.layout g.copy place) at m m' (λ y le lt. s y le) h.0,
       datum_same z g.copy (behind_pointer g.layout g.copy b place) (datum.Number (cut_to (operation_type operation) (pos (step_number operation size)))) m m' (λ y le lt. s y (omega arith)) h.1,
     )
-waits_high z g b (tree.Step op place operation size ty line) (Stores at v) m m' small s h =
+waits_high z g b w (tree.Step op place operation size ty line) (Stores at v) m m' small s h =
     let q = beyond_high b (pointer_bytes (spot_of g.layout g.copy place)) small in
     let r = beyond_twice (behind_pointer g.layout g.copy b place) (width g.layout operation) b q small in (
       at_same z g.copy b (spot_of g.layout g.copy place) at m m' (λ y le lt. s y le) h.0,
       λ keeps. datum_same z g.copy (beyond (stored g b (tree.Step op place operation size ty line)) (width g.layout operation)) v m m' (λ y le lt. s y (omega arith)) (h.1 keeps),
     )
-waits_high z g b (tree.Call function arguments ty line) (Args before more) m m' small s h = arguments_high z g b 0 arguments before m m' small s h
-waits_high z g b (tree.Call function arguments ty line) (Passed values) m m' small s h = arguments_high z g b 0 arguments values m m' small s h
-waits_high z g b _ _ m m' small s h = tt
+waits_high z g b w (tree.Call function arguments ty line) (Args before more) m m' small s h = arguments_high z g b 0 arguments before m m' small s h
+waits_high z g b w (tree.Call function arguments ty line) (Passed values) m m' small s h = arguments_high z g b 0 arguments values m m' small s h
+waits_high z g b w _ _ m m' small s h = tt
 
 same_object_clear : (z : Scene) (laws : SceneLaws z) (c : CopyOf) (object : object.Object) (offset y : ℕ) (m : Memory) (h : Held) → IsReached z.program c → (ground_in z c).base ≤ y → IsThere z.program object → offset < object_bytes z.program object → with_byte m (core_byte z object offset) h (Frame (number z c) y) ≡ m (Frame (number z c) y)
 same_object_clear z laws c (objects.Fixed i) offset y m h r le there lt = refl
@@ -191,7 +191,7 @@ holds_temps z c [] m m' s r there p reach h = tt
 holds_temps z c (In e got ∷ k) m m' s r there p reach h =
     let a = base_above (ground_in z c) k p.2 in
     let small = reach.0 in
-    (waits_high z (ground_in z c) (base (ground_in z c) k) e got m m' (omega arith) (λ y le. own_temps z c m m' (s c there) y (omega arith)) h.0, holds_temps z c k m m' s r there p.2 reach.1 h.1)
+    (waits_high z (ground_in z c) (base (ground_in z c) k) (wanted k) e got m m' (omega arith) (λ y le. own_temps z c m m' (s c there) y (omega arith)) h.0, holds_temps z c k m m' s r there p.2 reach.1 h.1)
 holds_temps z c (To place ∷ k) m m' s r there p reach h = holds_temps z c k m m' s r there p reach h
 holds_temps z c (Doing t stage ∷ k) m m' s r there p reach h = holds_temps z c k m m' s r there p.1 reach h
 holds_temps z c (Before ss ∷ k) m m' s r there p reach h = holds_temps z c k m m' s r there p.1 reach h
