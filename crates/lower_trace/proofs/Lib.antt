@@ -48,3 +48,4 @@ pub mod FixedWrites
 pub mod Stored
 pub mod Changing
 pub mod Updating
+pub mod Increments

@@ -59,7 +59,7 @@ use Rattle.src_values.specs.declared.objects.Spot as spot
 use Rattle.std.proofs.Common.{Bool, List, None, [], ap, arith, false, if◌then◌else◌, inr, refl, subst, sym, true, ℕ, ◌&&◌, ◌*◌, ◌+◌, ◌-◌, ◌∙◌, ◌∷◌, ◌≡◌, ◌≤◌}
 
 -- ---- code
-reading_row : (z : Scene) (s : place.Spot) (at : spot.Spot) (pointer to : Byte) (count : ℕ) (r : List Task) → todo (read_row s pointer to count) r ≡ reading z s at pointer to count [] r
+pub reading_row : (z : Scene) (s : place.Spot) (at : spot.Spot) (pointer to : Byte) (count : ℕ) (r : List Task) → todo (read_row s pointer to count) r ≡ reading z s at pointer to count [] r
 reading_row z (Fixed from) at pointer to count r =
     ap (λ y. todo y r) (copies_are to from count)
     ∙ (let e : count ≡ count - 0 = omega arith in ap (λ y. todo (copies_from to from 0 y) r) e)
@@ -67,7 +67,7 @@ reading_row z (Fixed from) at pointer to count r =
 reading_row z (Bit register bit) at pointer to count r = refl
 reading_row z Computed at pointer to count r = refl
 
-row_writes : (z : Scene) (root : Root) (s : place.Spot) (at : spot.Spot) (pointer from : Byte) (count : ℕ) (r : List Task) → todo (written_row s root pointer from count) r ≡ writing z root s at pointer from count 0 r
+pub row_writes : (z : Scene) (root : Root) (s : place.Spot) (at : spot.Spot) (pointer from : Byte) (count : ℕ) (r : List Task) → todo (written_row s root pointer from count) r ≡ writing z root s at pointer from count 0 r
 row_writes z root (Fixed to) at pointer from count r =
     ap (λ y. todo y r) (copies_are to from count) ∙ (let e : count ≡ count - 0 = omega arith in ap (λ y. todo (copies_from to from 0 y) r) e)
 row_writes z root (Bit register bit) at pointer from count r = refl
@@ -82,7 +82,7 @@ update_row_is z w l op to right operation size s where_is root at bytes from r =
     split
     ∙ reading_row z s where_is at (left_of s at (value_width l right)) bytes (todo (changed_rest from operation w false (value_width l right) (change_row (change_of (shifts_by_constant op right) operation size (constant_bits right)) op (operation_type operation) (left_of s at (value_width l right)) (right_of s at) (value_width l right)) s root at bytes) r)
 
-step_row_is : (z : Scene) (w : Bool) (l : Layout) (op : StepOp) (operation : Ty) (s : place.Spot) (where_is : spot.Spot) (root : Root) (at : Byte) (bytes : ℕ) (from : Ty) (r : List Task)
+pub step_row_is : (z : Scene) (w : Bool) (l : Layout) (op : StepOp) (operation : Ty) (s : place.Spot) (where_is : spot.Spot) (root : Root) (at : Byte) (bytes : ℕ) (from : Ty) (r : List Task)
     → todo (update_row (step_of w l op operation) s root at bytes from) r
     ≡ reading z s where_is at (left_of s at (width l operation)) bytes [] (todo (changed_rest from operation w (keeps_old op) (width l operation) (operator (step_operator op) (operation_type operation) (left_of s at (width l operation)) (right_of s at) ∷ []) s root at bytes) r)
 step_row_is z w l op operation s where_is root at bytes from r =
@@ -90,7 +90,7 @@ step_row_is z w l op operation s where_is root at bytes from r =
     split
     ∙ reading_row z s where_is at (left_of s at (width l operation)) bytes (todo (changed_rest from operation w (keeps_old op) (width l operation) (operator (step_operator op) (operation_type operation) (left_of s at (width l operation)) (right_of s at) ∷ []) s root at bytes) r)
 
-changed_code : (from operation : Ty) (wanted_is keeps : Bool) (count : ℕ) (change : List Tree) (s : place.Spot) (root : Root) (at : Byte) (bytes : ℕ) (r : List Task)
+pub changed_code : (from operation : Ty) (wanted_is keeps : Bool) (count : ℕ) (change : List Tree) (s : place.Spot) (root : Root) (at : Byte) (bytes : ℕ) (r : List Task)
     → todo (changed_rest from operation wanted_is keeps count change s root at bytes) r
     ≡ todo (widened from operation (left_of s at count)) (todo (copies_if (wanted_is && keeps) (lower.behind (left_of s at count) count) (left_of s at count) bytes) (todo change (todo (written_row s root at (left_of s at count) bytes) (todo (written_rest wanted_is keeps count s at bytes) r))))
 changed_code from operation wanted_is keeps count change s root at bytes r = simp todo_join
@@ -134,7 +134,7 @@ pub record Changes (z : Scene) (cp : CopyOf) (e : Expression) (k : List Pending)
   pub left_is : left ≡ right + count
   pub room : left + count + bytes_of x.ty ≤ (core_in z).program.frame_bytes (number z cp)
 
-number_changed : (z : Scene) (live : List CopyOf) (op : BinOp) (to : IntTy) (size : ℕ) (x y : Quantity) → IsSum op → change_answer z.program live op (types.Int to) size (types.Int x.ty) (datum.Number x) (datum.Number y) ≡ answers.Gives (datum.Number (cut_to x.ty (value_of op (cut_to to x.number) y).number))
+pub number_changed : (z : Scene) (live : List CopyOf) (op : BinOp) (to : IntTy) (size : ℕ) (x y : Quantity) → IsSum op → change_answer z.program live op (types.Int to) size (types.Int x.ty) (datum.Number x) (datum.Number y) ≡ answers.Gives (datum.Number (cut_to x.ty (value_of op (cut_to to x.number) y).number))
 unfolding change_answer converted
 number_changed z live op to size x y sum = ap (then_converted (types.Int x.ty)) (plain_answer z.program live op (types.Int to) (cut_to to x.number) y (sum_plain op sum))
 
