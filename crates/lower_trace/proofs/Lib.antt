@@ -49,3 +49,4 @@ pub mod Stored
 pub mod Changing
 pub mod Updating
 pub mod Increments
+pub mod Loading
