@@ -50,3 +50,4 @@ pub mod Changing
 pub mod Updating
 pub mod Increments
 pub mod Loading
+pub mod Pointed

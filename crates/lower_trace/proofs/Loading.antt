@@ -68,14 +68,14 @@ module _ (z : Scene) (laws : SceneLaws z) (cp : CopyOf) (k : List Pending) (l : 
   code_first : (at : spot.Spot) → reading_at z (ground_in z cp) k at [] ≡ Todo [] (code.Load (Frame (number z cp) to) (Frame (number z cp) at_pointer) count) ∷ r
   code_first at = reads.code at [] ∙ ap (λ i. Todo [] (code.Load (Frame i to) (Frame i at_pointer) count) ∷ r) (own_copy z cp)
 
-  code_variable : (d : CopyOf) (i f : ℕ) (read : List value.Byte) (j : ℕ) → length read ≡ suc j → reading_at z (ground_in z cp) k (spots.Memory (Into (objects.Variable d i) f)) read ≡ loading (Frame (number z cp) (to + suc j)) (bytes.FrameOf (number z d)) (variable_offset z.program d.function i + f) (count - suc j) r
+  pub code_variable : (d : CopyOf) (i f : ℕ) (read : List value.Byte) (j : ℕ) → length read ≡ suc j → reading_at z (ground_in z cp) k (spots.Memory (Into (objects.Variable d i) f)) read ≡ loading (Frame (number z cp) (to + suc j)) (bytes.FrameOf (number z d)) (variable_offset z.program d.function i + f) (count - suc j) r
   code_variable d i f [] j e = absurd (omega arith)
   code_variable d i f (x ∷ more) j e =
       reads.code (spots.Memory (Into (objects.Variable d i) f)) (x ∷ more)
       ∙ ap (λ y. loading (Frame (ground_in z cp).copy (to + y)) (bytes.FrameOf (number z d)) (variable_offset z.program d.function i + f) (count - y) r) e
       ∙ ap (λ y. loading (Frame y (to + suc j)) (bytes.FrameOf (number z d)) (variable_offset z.program d.function i + f) (count - suc j) r) (own_copy z cp)
 
-  code_static : (i f : ℕ) (read : List value.Byte) (j : ℕ) → length read ≡ suc j → reading_at z (ground_in z cp) k (spots.Memory (Into (objects.Fixed i) f)) read ≡ Put (Frame (number z cp) (to + j)) (held z (slice_index_or read j values.Unset)) ∷ loading (Frame (number z cp) (to + suc j)) (bytes.Fixed i) (0 + f) (count - suc j) r
+  pub code_static : (i f : ℕ) (read : List value.Byte) (j : ℕ) → length read ≡ suc j → reading_at z (ground_in z cp) k (spots.Memory (Into (objects.Fixed i) f)) read ≡ Put (Frame (number z cp) (to + j)) (held z (slice_index_or read j values.Unset)) ∷ loading (Frame (number z cp) (to + suc j)) (bytes.Fixed i) (0 + f) (count - suc j) r
   code_static i f [] j e = absurd (omega arith)
   code_static i f (x ∷ more) j e =
       reads.code (spots.Memory (Into (objects.Fixed i) f)) (x ∷ more)
