@@ -53,10 +53,10 @@ not_false true e = refl
 not_false false e = absurd (cc)
 
 -- the byte lies in the object, where a write is defined
-writable : (z : Scene) (live : List CopyOf) (root : Root) (object : object.Object) (offset : ℕ) → write_fault z.program live root object offset ≡ None → offset < object_bytes z.program object
+pub writable : (z : Scene) (live : List CopyOf) (root : Root) (object : object.Object) (offset : ℕ) → write_fault z.program live root object offset ≡ None → offset < object_bytes z.program object
 writable z live root object offset e = lt_of offset (object_bytes z.program object) (not_false _ (if_none (not (nat_lt offset (object_bytes z.program object))) _ _ e).0)
 
-static_holds : (z : Scene) (q : Program) (n offset : ℕ) (v : Datum) (i : ℕ) (w : World Held) → i < byte_count v → q.is_watched n ≡ true → may_hold q (Static n offset) (held z (byte_of v i)) w ≡ true
+pub static_holds : (z : Scene) (q : Program) (n offset : ℕ) (v : Datum) (i : ℕ) (w : World Held) → i < byte_count v → q.is_watched n ≡ true → may_hold q (Static n offset) (held z (byte_of v i)) w ≡ true
 static_holds z q n offset (datum.Number x) i w lt e = e
 static_holds z q n offset (datum.Pointer Null) i w lt e = e
 static_holds z q n offset (datum.Pointer (Into object f)) i w lt e = e

@@ -51,3 +51,4 @@ pub mod Updating
 pub mod Increments
 pub mod Loading
 pub mod Pointed
+pub mod Placing

@@ -183,7 +183,7 @@ value_temps z g (Leaves v) k m m' p small s r h = λ i lt. r i ∙ h i lt
 value_temps z g (Compares v labels) k m m' p small s r h = tt
 value_temps z g Over k m m' p small s r h = tt
 
-own_temps : (z : Scene) (c : CopyOf) (m m' : Memory) → SameTemps z c m m' → (y : ℕ) → (ground_in z c).base ≤ y → m' (Frame (ground_in z c).copy y) ≡ m (Frame (ground_in z c).copy y)
+pub own_temps : (z : Scene) (c : CopyOf) (m m' : Memory) → SameTemps z c m m' → (y : ℕ) → (ground_in z c).base ≤ y → m' (Frame (ground_in z c).copy y) ≡ m (Frame (ground_in z c).copy y)
 own_temps z c m m' s y le = subst (λ i. m' (Frame i y) ≡ m (Frame i y)) (sym (own_copy z c)) (s y le)
 
 pub holds_temps : (z : Scene) (c : CopyOf) (k : List Pending) (m m' : Memory) → ((d : CopyOf) → IsReached z.program d → SameTemps z d m m') → ((q : Root) (i : ℕ) → m' (Result q i) ≡ m (Result q i)) → IsReached z.program c → Piled (ground_in z c) k → Reached z (ground_in z c) k → Holds z (ground_in z c) k m → Holds z (ground_in z c) k m'
@@ -200,12 +200,12 @@ holds_temps z c (Resumes d x ∷ k) m m' s r there p reach h =
     (value_temps z (ground_in z d) x k m m' reach.2 reach.1 (own_temps z d m m' (s d reach.0)) (λ i. r (ground_in z d).layout.root i) h.0, holds_temps z d k m m' s r reach.0 reach.2 reach.3 h.1)
 
 -- ---- the step
-memory_object : (z : Scene) (object : object.Object) (offset : ℕ) (h : Held) (m : Memory) → memory_with (core_byte z object offset) h m ≡ with_byte m (core_byte z object offset) h
+pub memory_object : (z : Scene) (object : object.Object) (offset : ℕ) (h : Held) (m : Memory) → memory_with (core_byte z object offset) h m ≡ with_byte m (core_byte z object offset) h
 unfolding memory_with
 memory_object z (objects.Fixed n) offset h m = refl
 memory_object z (objects.Variable c n) offset h m = refl
 
-results_kept : (z : Scene) (object : object.Object) (offset : ℕ) (h : Held) (m : Memory) (q : Root) (i : ℕ) → with_byte m (core_byte z object offset) h (Result q i) ≡ m (Result q i)
+pub results_kept : (z : Scene) (object : object.Object) (offset : ℕ) (h : Held) (m : Memory) (q : Root) (i : ℕ) → with_byte m (core_byte z object offset) h (Result q i) ≡ m (Result q i)
 results_kept z (objects.Fixed n) offset h m q i = refl
 results_kept z (objects.Variable c n) offset h m q i = refl
 
