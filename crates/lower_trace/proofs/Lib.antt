@@ -52,3 +52,4 @@ pub mod Increments
 pub mod Loading
 pub mod Pointed
 pub mod Placing
+pub mod StoredPointed

@@ -155,8 +155,8 @@ pub record PointedPlace (z : Scene) (cp : CopyOf) (sought : Place) (x : Pointer)
   pub some : 0 < count
   pub few : count ≤ 4
 
-pointer_is : (z : Scene) (n b : ℕ) (x : Pointer) (m : Memory) → IsAt z n b Computed (spots.Memory x) m → HasDatum z n b (datum.Pointer x) m
-pointer_is z n b x m is = subst (λ y. HasDatum z n b (datum.Pointer y) m) (sym (spot_is x is.0 is.1)) is.2
+pub pointer_at : (z : Scene) (n b : ℕ) (x : Pointer) (m : Memory) → IsAt z n b Computed (spots.Memory x) m → HasDatum z n b (datum.Pointer x) m
+pointer_at z n b x m is = subst (λ y. HasDatum z n b (datum.Pointer y) m) (sym (spot_is x is.0 is.1)) is.2
 
 module _ (z : Scene) (laws : SceneLaws z) (cp : CopyOf) (l : source.Memory) where
   -- an expression that only reads: its value comes to the front
@@ -184,7 +184,7 @@ module _ (z : Scene) (laws : SceneLaws z) (cp : CopyOf) (l : source.Memory) wher
       ∙ ap (λ y. todo (copies (Frame y b) (Frame y to) count) (code_after g k)) (own_copy z cp) in
       pointed_fetch z laws cp f l to count b (code_after g f) (reads_read z g sought ty line start k Computed p.spot) around (omega arith) (omega arith) reach
       k ty x p.there wide (let q = p.some in omega arith) refl
-      (λ m d. pointer_is z g.copy b x m (subst (λ y. IsAt z g.copy b y start m) p.spot d.0))
+      (λ m d. pointer_at z g.copy b x m (subst (λ y. IsAt z g.copy b y start m) p.spot d.0))
       (λ v w2. refl)
       (λ v w2 m m' d short no_handler agrees holds only hv pd.
       let T = Mirrors z (state cp (Value v) k l (arrived z.outside w2)) in
@@ -217,7 +217,7 @@ module _ (z : Scene) (laws : SceneLaws z) (cp : CopyOf) (l : source.Memory) wher
       let to = above g b e (AtWith start u) in
       pointed_fetch z laws cp f l to (place_width g.layout sought) b (code_after g f) (reads_update z g op sought right operation size ty line start u k Computed p.spot) around (omega arith) high reach
       f ty x p.there wide (let q = p.some in omega arith) refl
-      (λ m d. pointer_is z g.copy b x m (subst (λ y. IsAt z g.copy b y start m) p.spot d.0.0))
+      (λ m d. pointer_at z g.copy b x m (subst (λ y. IsAt z g.copy b y start m) p.spot d.0.0))
       (λ v w2. refl)
       (λ v w2 m m' d short no_handler agrees holds only hv pd.
       comes_within (core_in z) (Mirrors z (state cp (Value v) f l (arrived z.outside w2))) 0 0 24 0 d
@@ -243,7 +243,7 @@ module _ (z : Scene) (laws : SceneLaws z) (cp : CopyOf) (l : source.Memory) wher
       let to = above g b e (At start) in
       pointed_fetch z laws cp f l to (place_width g.layout sought) b (code_after g f) (reads_step z g op sought operation size ty line start k Computed p.spot) around (omega arith) high reach
       f ty x p.there wide (let q = p.some in omega arith) refl
-      (λ m d. pointer_is z g.copy b x m (subst (λ y. IsAt z g.copy b y start m) p.spot d.0.0))
+      (λ m d. pointer_at z g.copy b x m (subst (λ y. IsAt z g.copy b y start m) p.spot d.0.0))
       (λ v w2. refl)
       (λ v w2 m m' d short no_handler agrees holds only hv pd.
       comes_within (core_in z) (Mirrors z (state cp (Value v) f l (arrived z.outside w2))) 0 0 24 0 d

@@ -163,19 +163,19 @@ module _ (z : Scene) (laws : SceneLaws z) (cp : CopyOf) (l : source.Memory) wher
   abbrev pub kept_at : Bool → ℕ → ℕ → ℕ
   kept_at keeps old new = if keeps then old else new
 
-  given_is : (keeps : Bool) (n old new : ℕ) → given_byte keeps (Frame n old) (Frame n new) ≡ Frame n (kept_at keeps old new)
+  pub given_is : (keeps : Bool) (n old new : ℕ) → given_byte keeps (Frame n old) (Frame n new) ≡ Frame n (kept_at keeps old new)
   given_is true n old new = refl
   given_is false n old new = refl
 
-  kept_has : (keeps : Bool) (n old new : ℕ) (u : Datum) (m : Memory) → (keeps ≡ true → HasDatum z n old u m) → (keeps ≡ false → HasDatum z n new u m) → HasDatum z n (kept_at keeps old new) u m
+  pub kept_has : (keeps : Bool) (n old new : ℕ) (u : Datum) (m : Memory) → (keeps ≡ true → HasDatum z n old u m) → (keeps ≡ false → HasDatum z n new u m) → HasDatum z n (kept_at keeps old new) u m
   kept_has true n old new u m a b = a refl
   kept_has false n old new u m a b = b refl
 
-  kept_bound : (keeps : Bool) (old new bytes most : ℕ) → old + bytes ≤ most → new + bytes ≤ most → kept_at keeps old new + bytes ≤ most
+  pub kept_bound : (keeps : Bool) (old new bytes most : ℕ) → old + bytes ≤ most → new + bytes ≤ most → kept_at keeps old new + bytes ≤ most
   kept_bound true old new bytes most a b = a
   kept_bound false old new bytes most a b = b
 
-  kept_high : (keeps : Bool) (old new low : ℕ) → low ≤ old → low ≤ new → low ≤ kept_at keeps old new
+  pub kept_high : (keeps : Bool) (old new low : ℕ) → low ≤ old → low ≤ new → low ≤ kept_at keeps old new
   kept_high true old new low a b = a
   kept_high false old new low a b = b
 
