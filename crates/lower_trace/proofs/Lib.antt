@@ -53,3 +53,5 @@ pub mod Loading
 pub mod Pointed
 pub mod Placing
 pub mod StoredPointed
+pub mod Helped
+pub mod Bits
