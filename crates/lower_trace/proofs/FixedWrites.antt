@@ -68,7 +68,7 @@ module _ (z : Scene) (laws : SceneLaws z) (cp : CopyOf) (k : List Pending) (l : 
       let less = lt_of (f + done) (object_bytes z.program o) inside in
       let target : lower.behind X done ≡ core_byte z o (f + done) =
       ap (λ y. lower.behind y done) (sym is) ∙ ap (Frame (number z cp)) (beyond_is (variable_offset z.program cp.function i + f) done (omega arith) ∙ (omega arith)) in
-      store_variable z laws cp k l around reach low X count from r code_is from_is room own_room i (f + done) (spots.Memory (Into o (f + done))) (next_byte (spots.Memory (Into o (f + done)))) v done line w c lt part there target due h
+      store_variable z laws cp k l around reach low X count from r code_is from_is room own_room i (f + done) (spots.Memory (Into o (f + done))) (next_byte (spots.Memory (Into o (f + done)))) v done line w c (λ y i. refl) (λ y i. refl) lt part there target due h
   variable_byte false i f v done line w c inside is there lt part due h = rw inside tt
 
   static_byte : (inside : Bool) (i f : ℕ) (v : Datum) (done line : ℕ) (w : World value.Byte) (c : Machine) → nat_lt (f + done) (object_bytes z.program (objects.Fixed i)) ≡ inside → core_byte z (objects.Fixed i) f ≡ X → i < length z.program.statics → is_watched z.program (objects.Fixed i) ≡ true → done < count → done < byte_count v → is_due (arrived z.outside w) ≡ false
@@ -81,7 +81,7 @@ module _ (z : Scene) (laws : SceneLaws z) (cp : CopyOf) (k : List Pending) (l : 
       let few = laws.reach o there in
       let less = lt_of (f + done) (object_bytes z.program o) inside in
       let target : lower.behind X done ≡ core_byte z o (f + done) = ap (λ y. lower.behind y done) (sym is) ∙ ap (Static i) (beyond_is (0 + f) done (omega arith) ∙ (omega arith)) in
-      store_static z laws cp k l around reach low X count from r code_is from_is room own_room i (f + done) (spots.Memory (Into o (f + done))) (next_byte (spots.Memory (Into o (f + done)))) v done line w c lt part there seen target due h
+      store_static z laws cp k l around reach low X count from r code_is from_is room own_room i (f + done) (spots.Memory (Into o (f + done))) (next_byte (spots.Memory (Into o (f + done)))) v done line w c (λ y i. refl) (λ y i. refl) lt part there seen target due h
   static_byte false i f v done line w c inside is there seen lt part due h = rw inside tt
 
   -- the byte that comes next, where a fixed place was found
@@ -99,7 +99,7 @@ module _ (z : Scene) (laws : SceneLaws z) (cp : CopyOf) (k : List Pending) (l : 
       let same_byte_is = byte_is_so (Device a) X is in
       let single = one a refl in
       let target : lower.behind X done ≡ Device a = ap (λ y. lower.behind y done) (sym same_byte_is) ∙ ap Device (little_same a done (omega arith) (device_small a own)) in
-      store_register z laws cp k l X count from r code_is from_is room (active cp (Write (spots.Device a) (datum.Number q) done) k) a (spots.Device a) (spots.Device a) q done (line_at k) w c lt part target (device_valid (core_in z).program (number z cp) a own) due h
+      store_register z laws cp k l X count from r code_is from_is room (active cp (Write (spots.Device a) (datum.Number q) done) k) a (spots.Device a) (spots.Device a) q done (line_at k) w c (λ y i. refl) (λ y i. refl) lt part target (device_valid (core_in z).program (number z cp) a own) due h
   store_fixed (spots.Device a) (datum.Pointer x) done line w c is own open_is for one lt part due h = absurd for
   store_fixed (spots.Device a) datum.Missing done line w c is own open_is for one lt part due h = absurd for
   store_fixed (spots.Bit register bit) v done line w c is own open_is for one lt part due h = absurd (cc)

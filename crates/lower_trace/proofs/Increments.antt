@@ -37,6 +37,7 @@ use Rattle.lower_trace.proofs.Narrowing.{low_bytes, narrow_bytes}
 use Rattle.lower_trace.proofs.Operations.{Comes, beyond_is, comes_within, sets_then}
 use Rattle.lower_trace.proofs.Placed.{Placed, todo_join}
 use Rattle.lower_trace.proofs.Places.{in_place_none}
+use Rattle.lower_trace.proofs.Takes.{first_standing}
 use Rattle.lower_trace.proofs.Updating.{Changes, changed_code, number_changed, row_writes, step_row_is}
 use Rattle.lower_trace.proofs.Written.{and_right, bytes_there}
 use Rattle.pic_world.specs.World.{World, arrived, is_due, world_as}
@@ -190,5 +191,6 @@ module _ (z : Scene) (laws : SceneLaws z) where
         ),
         holds_above z cp k c.memory m' left_at p.around (omega arith) only h.holds.1,
       )
-      (λ j lt. ap (λ t. m' (Frame t (stored g b e + j))) (own_copy z cp) ∙ ap (λ t. m' (Frame n (t + j))) left_is ∙ hr j (let st = ap bytes_of (sum_type f o sum) in omega arith) ∙ ap (λ t. held z (values.Number t)) (sym (narrow_bytes r.ty x.ty r.number j (let st = ap bytes_of (sum_type f o sum) in omega arith) lt)))))
+      (subst (λ y. HasDatum z g.copy (stored g b e) y m') (sym (first_standing at v))
+      (λ j lt. ap (λ t. m' (Frame t (stored g b e + j))) (own_copy z cp) ∙ ap (λ t. m' (Frame n (t + j))) left_is ∙ hr j (let st = ap bytes_of (sum_type f o sum) in omega arith) ∙ ap (λ t. held z (values.Number t)) (sym (narrow_bytes r.ty x.ty r.number j (let st = ap bytes_of (sum_type f o sum) in omega arith) lt))))))
       (omega arith) (omega arith))

@@ -40,7 +40,7 @@ use Rattle.src_values.specs.declared.objects.Spot as spot
 use Rattle.pic_world.specs.declared.Root.TheVariants.{Main, Isr}
 use Rattle.lower_trace.specs.Lowering.{object_as, offset_as}
 use Rattle.lower_trace.proofs.CodeLeft.{Scene, number, ground_in, core_in, wanted, base, above, stored, stored_at}
-use Rattle.lower_trace.proofs.Mirrors.{core_byte, HasDatum, at_byte, IsAt, HasArguments, Waits, HasReadIn, HasReadAt, HasIf, HasValue, Holds}
+use Rattle.lower_trace.proofs.Mirrors.{standing, core_byte, HasDatum, at_byte, IsAt, HasArguments, Waits, HasReadIn, HasReadAt, HasIf, HasValue, Holds}
 
 -- ---- what is known of a program and its copies
 pub record SceneLaws (z : Scene) : Type 0 where
@@ -266,7 +266,7 @@ value_far z g (Run t) k m m' s r h = tt
 value_far z g Past k m m' s r h = tt
 value_far z g (Fetch at read) k m m' s r h = read_far z g k at read m m' s h
 value_far z g (Skim at left byte) k m m' s r h = tt
-value_far z g (Write at v done) k m m' s r h = datum_same z g.copy (stored_at g k) v m m' (λ y le lt. s y) h
+value_far z g (Write at v done) k m m' s r h = datum_same z g.copy (stored_at g k) (standing at done v) m m' (λ y le lt. s y) h
 value_far z g (PutBit register bit v old) k m m' s r h = datum_same z g.copy (stored_at g k) (number_of int.UChar (lowest_bit v)) m m' (λ y le lt. s y) h
 value_far z g (CopyRead to from left) k m m' s r h = tt
 value_far z g (CopyWrite to from byte left) k m m' s r h = tt

@@ -1,6 +1,6 @@
 -- Which machine of byte code stands for a state of the source: where its code stands, which values its temporary bytes hold,
 -- and that objects of active copies agree.
-use Rattle.std.specs.Prelude.{◌≡◌, ℕ, ◌+◌, ◌-◌, ◌<◌, Bool, true, false, ◌&&◌, if◌then◌else◌, pos, List, [], ◌∷◌, length, Option, Some, None, slice_index_or}
+use Rattle.std.specs.Prelude.{◌≡◌, ℕ, zero, suc, ◌+◌, ◌-◌, ◌<◌, Bool, true, false, ◌&&◌, if◌then◌else◌, pos, List, [], ◌∷◌, length, Option, Some, None, slice_index_or}
 use Rattle.c_ints.specs.Operators.{cut_to}
 use Rattle.c_ints.specs.declared.types.IntTy.TheVariants as IntTy
 use Rattle.c_typed.specs.Trees as tree
@@ -121,11 +121,17 @@ abbrev pub HasIf : Bool → Scene → ℕ → ℕ → Datum → Memory → Type 
 HasIf true z n b v m = HasDatum z n b v m
 HasIf false z n b v m = Unit {0}
 
+-- what stands there of a value that is written: once the byte of a bit is done, the bit alone
+abbrev pub standing : spot.Spot → ℕ → Datum → Datum
+standing (spots.Bit register bit) zero v = v
+standing (spots.Bit register bit) (suc done) v = number_of IntTy.UChar (lowest_bit v)
+standing _ done v = v
+
 abbrev pub HasValue : Scene → Ground → Focus → List Pending → Memory → Type 0
 HasValue z g (Value v) k m = HasIf (wanted k) z g.copy (base g k) v m
 HasValue z g (Found at) k m = (place : Place) → WaitsForPlace k place → IsAt z g.copy (base g k) (spot_of g.layout g.copy place) at m
 HasValue z g (Fetch at read) k m = HasReadAt z g k at read m
-HasValue z g (Write at v done) k m = HasDatum z g.copy (stored_at g k) v m
+HasValue z g (Write at v done) k m = HasDatum z g.copy (stored_at g k) (standing at done v) m
 HasValue z g (PutBit register bit v old) k m = HasDatum z g.copy (stored_at g k) (number_of IntTy.UChar (lowest_bit v)) m
 HasValue z g (Leaves v) k m = (i : ℕ) → i < byte_count v → m (Result g.layout.root i) ≡ held z (byte_of v i)
 HasValue z g _ k m = Unit {0}

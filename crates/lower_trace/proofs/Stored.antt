@@ -24,7 +24,7 @@ use Rattle.lower_trace.proofs.FixedWrites.{IsFor, IsOpen, fixed_write, move_then
 use Rattle.lower_trace.proofs.Flow.{arrive}
 use Rattle.lower_trace.proofs.Giving.{Around, gives, placed_of}
 use Rattle.lower_trace.proofs.Kept.{Reached, SceneLaws, own_copy}
-use Rattle.lower_trace.proofs.Mirrors.{Agrees, HasDatum, HasIf, Holds, IsAt, Mirrors, at_byte}
+use Rattle.lower_trace.proofs.Mirrors.{Agrees, HasDatum, HasIf, Holds, IsAt, Mirrors, at_byte, standing}
 use Rattle.lower_trace.proofs.Operations.{Comes, comes_here, comes_within}
 use Rattle.lower_trace.proofs.Placed.{Placed}
 use Rattle.lower_trace.proofs.Written.{both}
@@ -39,6 +39,7 @@ use Rattle.src_values.specs.Memory as source
 use Rattle.src_values.specs.Values.{answer_of, byte_count, kept_in}
 use Rattle.src_values.specs.declared.objects.Byte as value
 use Rattle.src_values.specs.declared.objects.CopyOf.{CopyOf}
+use Rattle.src_values.specs.declared.objects.Pointer.TheVariants.{Into, Null}
 use Rattle.src_values.specs.declared.objects.Spot as spot
 use Rattle.src_values.specs.declared.objects.Spot.TheVariants as spots
 use Rattle.std.proofs.Common.{Bool, List, None, Some, ap, arith, false, if◌then◌else◌, inl, refl, subst, sym, true, ℕ, ◌*◌, ◌+◌, ◌∙◌, ◌∷◌, ◌≡◌, ◌≤◌}
@@ -48,6 +49,13 @@ unfolding kept_in
 kept_same z (spots.Memory x) X v e = refl
 kept_same z (spots.Device a) X v e = refl
 kept_same z (spots.Bit register bit) X v e = absurd (cc)
+
+-- it isn't the byte of a bit
+pub plain_spot : (z : Scene) (start : spot.Spot) (X : Byte) (done : ℕ) (v : Datum) → at_byte z start ≡ Some X → standing (stepped done start) done v ≡ v
+plain_spot z (spots.Memory Null) X done v e = refl
+plain_spot z (spots.Memory (Into o f)) X done v e = refl
+plain_spot z (spots.Device a) X done v e = refl
+plain_spot z (spots.Bit register bit) X done v e = absurd (cc)
 
 -- ---- a value that stands behind comes to the front, if it is wanted
 front_case : (z : Scene) (laws : SceneLaws z) (want : Bool) (y bytes : ℕ) (v : Datum) (k : List Pending) (cp : CopyOf) (l : source.Memory) (w : World value.Byte) (c : Machine) → wanted k ≡ want → Around z cp k → base (ground_in z cp) k + bytes ≤ (core_in z).program.frame_bytes (number z cp) → y + bytes ≤ (core_in z).program.frame_bytes (number z cp)
@@ -122,7 +130,7 @@ module _ (z : Scene) (laws : SceneLaws z) (cp : CopyOf) (l : source.Memory) wher
       (λ le.
       subst (λ y. Follow z 24 0 c (Went (state cp (Value y) k l (arrived z.outside w)) None)) (sym (kept_same z start X v is))
       (comes_within (core_in z) (Mirrors z (state cp (Value v) k l (arrived z.outside w))) 0 0 24 0 c
-      (assigned z sought right ty line start v done X (stepped done start) k cp l w c q.spot (omega arith) le h)
+      (assigned z sought right ty line start v done X (stepped done start) k cp l w c (plain_spot z start X done v is) q.spot (omega arith) le h)
       (omega arith) (omega arith)))
       h
 
@@ -147,7 +155,7 @@ module _ (z : Scene) (laws : SceneLaws z) (cp : CopyOf) (l : source.Memory) wher
       refl (omega arith) p.own_room start v done 24 w c is (own_spot z cp g.layout g.copy sought X start q.spot p.around.reached q.there q.found) p.open_is p.fit (λ a d. wide ∙ q.one a d) (p.all ∙ sym wide) (omega arith) due
       (λ le.
       subst (λ y. Follow z 24 0 c (Went (state cp (Value y) k l (arrived z.outside w)) None)) (sym (kept_same z start X v is))
-      (end_moved z laws e (Stores start v) (stepped done start) v v done (stored g b e) count k cp l w c p.below (omega arith) (omega arith) high (omega arith) (omega arith) due (λ is. h.value)
+      (end_moved z laws e (Stores start v) (stepped done start) v v done (stored g b e) count k cp l w c p.below (omega arith) (omega arith) high (omega arith) (omega arith) due (λ want. subst (λ y. HasDatum z g.copy (stored g b e) y c.memory) (plain_spot z start X done v is) h.value)
       (ap (λ y. writing z g.layout.root y (stepped done start) (Frame g.copy b) (Frame g.copy (stored g b e)) count done r) q.spot ∙ none_left X (Frame g.copy (stored g b e)) done count r le)
       h))
       h
@@ -207,7 +215,7 @@ module _ (z : Scene) (laws : SceneLaws z) (cp : CopyOf) (l : source.Memory) wher
       (λ le.
       subst (λ y. Follow z 24 0 c (Went (state cp (Value y) k l (arrived z.outside w)) None)) (sym (step_end op start X u v sought operation size ty line is))
       (end_moved z laws e (Stores start u) (stepped done start) v u done (kept_at keeps old new) count k cp l w c p.below (omega arith) (kept_bound keeps old new count ((core_in z).program.frame_bytes (number z cp)) (omega arith) (omega arith)) (kept_high keeps old new b (omega arith) high) (omega arith) (omega arith) due
-      (λ want. kept_has keeps g.copy old new u c.memory (λ i. h.holds.0.1 (both (wanted k) keeps want i)) (λ i. subst (λ y. HasDatum z g.copy new y c.memory) (sym (same_value_is i)) h.value))
+      (λ want. kept_has keeps g.copy old new u c.memory (λ i. h.holds.0.1 (both (wanted k) keeps want i)) (λ i. subst (λ y. HasDatum z g.copy new y c.memory) (sym (same_value_is i)) (subst (λ y. HasDatum z g.copy new y c.memory) (plain_spot z start X done v is) h.value)))
       (ap (λ y. writing z g.layout.root y (stepped done start) (Frame g.copy b) (Frame g.copy new) count done r) q.spot ∙ none_left X (Frame g.copy new) done count r le
       ∙ ap (λ y. todo (copies_if (wanted k) (Frame g.copy b) y count) (code_after g k)) (given_is keeps g.copy old new))
       h))

@@ -21,7 +21,7 @@ use Rattle.lower_trace.proofs.FixedWrites.{IsOpen}
 use Rattle.lower_trace.proofs.Giving.{Around}
 use Rattle.lower_trace.proofs.Kept.{Reached, SceneLaws}
 use Rattle.lower_trace.proofs.Loading.{ReachesAll}
-use Rattle.lower_trace.proofs.Mirrors.{HasDatum, IsAt, Mirrors}
+use Rattle.lower_trace.proofs.Mirrors.{HasDatum, IsAt, Mirrors, standing}
 use Rattle.lower_trace.proofs.Placing.{none_stored, pointed_write}
 use Rattle.lower_trace.proofs.Pointed.{PointedPlace, pointer_at}
 use Rattle.lower_trace.proofs.Stored.{end_moved, given_is, kept_at, kept_bound, kept_has, kept_high}
@@ -52,6 +52,10 @@ left_none : (z : Scene) (root : Root) (y : Pointer) (b from count done : ℕ) (n
 left_none z root y b from count zero n r some le = absurd (omega arith)
 left_none z root Null b from count (suc j) n r some le = refl
 left_none z root (Into o f) b from count (suc j) n r some le = none_stored (object_as z.copies o) (offset_as z.program o + f) (Frame n (from + suc j)) (suc j) count r le
+
+plain_memory : (x : Pointer) (done : ℕ) (v : Datum) → standing (stepped done (spots.Memory x)) done v ≡ v
+plain_memory Null done v = refl
+plain_memory (Into o f) done v = refl
 
 kept_memory : (x : Pointer) (v : Datum) → kept_in (spots.Memory x) v ≡ v
 unfolding kept_in
@@ -100,7 +104,7 @@ module _ (z : Scene) (laws : SceneLaws z) (cp : CopyOf) (l : source.Memory) wher
       (pointer_at z g.copy b x c.memory (subst (λ y. IsAt z g.copy b y start c.memory) q.spot h.holds.0)) (omega arith) due
       (λ le.
       subst (λ y. Follow z 24 0 c (Went (state cp (Value y) k l (arrived z.outside w)) None)) (sym (kept_memory x v))
-      (end_moved z laws e (Stores start v) (stepped done start) v v done (stored g b e) count k cp l w c p.below (omega arith) (omega arith) (omega arith) (omega arith) (omega arith) due (λ is. h.value)
+      (end_moved z laws e (Stores start v) (stepped done start) v v done (stored g b e) count k cp l w c p.below (omega arith) (omega arith) (omega arith) (omega arith) (omega arith) due (λ want. subst (λ y. HasDatum z g.copy (stored g b e) y c.memory) (plain_memory x done v) h.value)
       (ap (λ y. writing z g.layout.root y (stepped done start) (Frame g.copy b) (Frame g.copy (stored g b e)) count done r) q.spot
       ∙ ap (λ y. writing z g.layout.root Computed y (Frame g.copy b) (Frame g.copy (stored g b e)) count done r) to.1
       ∙ left_none z g.layout.root to.0 b (stored g b e) count done g.copy r (omega arith) le ∙ r_is)
@@ -132,7 +136,7 @@ module _ (z : Scene) (laws : SceneLaws z) (cp : CopyOf) (l : source.Memory) wher
       (pointer_at z g.copy b x c.memory (subst (λ y. IsAt z g.copy b y start c.memory) q.spot h.holds.0)) (omega arith) due
       (λ le.
       subst (λ y. Follow z 24 0 c (Went (state cp (Value y) k l (arrived z.outside w)) None)) (sym (kept_memory x v))
-      (end_moved z laws e (Stores start v) (stepped done start) v v done (stored g b e) count k cp l w c p.below (omega arith) (omega arith) (omega arith) (omega arith) (omega arith) due (λ is. h.value)
+      (end_moved z laws e (Stores start v) (stepped done start) v v done (stored g b e) count k cp l w c p.below (omega arith) (omega arith) (omega arith) (omega arith) (omega arith) due (λ want. subst (λ y. HasDatum z g.copy (stored g b e) y c.memory) (plain_memory x done v) h.value)
       (ap (λ y. writing z g.layout.root y (stepped done start) (Frame g.copy b) (Frame g.copy (stored g b e)) count done r) q.spot
       ∙ ap (λ y. writing z g.layout.root Computed y (Frame g.copy b) (Frame g.copy (stored g b e)) count done r) to.1
       ∙ left_none z g.layout.root to.0 b (stored g b e) count done g.copy r (omega arith) le)
@@ -179,7 +183,7 @@ module _ (z : Scene) (laws : SceneLaws z) (cp : CopyOf) (l : source.Memory) wher
       subst (λ y. Follow z 24 0 c (Went (state cp (Value y) k l (arrived z.outside w)) None)) (sym (step_answer op x u sought operation size ty line))
       (end_moved z laws e (Stores start u) (stepped done start) v u done (kept_at z laws cp l keeps old new) count k cp l w c p.below (omega arith)
       (kept_bound z laws cp l keeps old new count most (omega arith) (omega arith)) (kept_high z laws cp l keeps old new b (omega arith) (omega arith)) (omega arith) (omega arith) due
-      (λ want. kept_has z laws cp l keeps g.copy old new u c.memory (λ i. h.holds.0.1 (both (wanted k) keeps want i)) (λ i. subst (λ y. HasDatum z g.copy new y c.memory) (sym (same_value_is i)) h.value))
+      (λ want. kept_has z laws cp l keeps g.copy old new u c.memory (λ i. h.holds.0.1 (both (wanted k) keeps want i)) (λ i. subst (λ y. HasDatum z g.copy new y c.memory) (sym (same_value_is i)) (subst (λ y. HasDatum z g.copy new y c.memory) (plain_memory x done v) h.value)))
       (ap (λ y. writing z g.layout.root y (stepped done start) (Frame g.copy b) (Frame g.copy new) count done r) q.spot
       ∙ ap (λ y. writing z g.layout.root Computed y (Frame g.copy b) (Frame g.copy new) count done r) to.1
       ∙ left_none z g.layout.root to.0 b new count done g.copy r (omega arith) le

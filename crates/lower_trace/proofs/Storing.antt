@@ -40,7 +40,7 @@ use Rattle.lower_trace.proofs.Constants.{due_below, again_below}
 use Rattle.lower_trace.proofs.Fetching.{copies_step}
 use Rattle.lower_trace.proofs.Giving.{Around, placed_of, mirrors}
 use Rattle.lower_trace.proofs.Kept.{SceneLaws, SameTemps, Reached, Piled, own_copy, base_above, beyond_high, datum_same, at_same}
-use Rattle.lower_trace.proofs.Mirrors.{Mirrors, Agree, Agrees, Holds, HasValue, HasIf, HasReadIn, HasReadAt, HasArguments, Waits, core_byte}
+use Rattle.lower_trace.proofs.Mirrors.{HasDatum, standing, Mirrors, Agree, Agrees, Holds, HasValue, HasIf, HasReadIn, HasReadAt, HasArguments, Waits, core_byte}
 use Rattle.lower_trace.proofs.Operations.{Comes, beyond_is, own_frame, write_then}
 use Rattle.lower_trace.proofs.Placed.{Placed}
 use Rattle.lower_trace.proofs.Written.{off, nat_apart, and_false}
@@ -172,7 +172,7 @@ value_temps z g (Run t) k m m' p small s r h = tt
 value_temps z g Past k m m' p small s r h = tt
 value_temps z g (Fetch at read) k m m' p small s r h = let a = base_above g k p in read_high z g k at read m m' (λ y le. s y (omega arith)) h
 value_temps z g (Skim at left byte) k m m' p small s r h = tt
-value_temps z g (Write at v done) k m m' p small s r h = let a = stored_at_high g k p small in datum_same z g.copy (stored_at g k) v m m' (λ y le lt. s y (omega arith)) h
+value_temps z g (Write at v done) k m m' p small s r h = let a = stored_at_high g k p small in datum_same z g.copy (stored_at g k) (standing at done v) m m' (λ y le lt. s y (omega arith)) h
 value_temps z g (PutBit register bit v old) k m m' p small s r h = let a = stored_at_high g k p small in datum_same z g.copy (stored_at g k) (number_of int.UChar (lowest_bit v)) m m' (λ y le lt. s y (omega arith)) h
 value_temps z g (CopyRead to from left) k m m' p small s r h = tt
 value_temps z g (CopyWrite to from byte left) k m m' p small s r h = tt
@@ -211,7 +211,7 @@ results_kept z (objects.Variable c n) offset h m q i = refl
 
 module _ (z : Scene) (laws : SceneLaws z) (cp : CopyOf) (k : List Pending) (l : source.Memory) (around : Around z cp k) (reach : Reached z (ground_in z cp) k) (low : base (ground_in z cp) k ≤ 96) where
   -- The next byte of a value goes to a byte of an object: to a variable of the own frame, or to a static object, which is an event.
-  pub store_goes : (object : object.Object) (offset : ℕ) (at next : spot.Spot) (v : Datum) (done count from : ℕ) (X : Byte) (r : List Task) (w w' : World value.Byte) (c : Machine) → IsThere z.program object → offset < object_bytes z.program object → done < count → done < byte_count v
+  pub store_goes : (object : object.Object) (offset : ℕ) (at next : spot.Spot) (v : Datum) (done count from : ℕ) (X : Byte) (r : List Task) (w w' : World value.Byte) (c : Machine) → ((y : Datum) (i : ℕ) → standing at i y ≡ y) → ((y : Datum) (i : ℕ) → standing next i y ≡ y) → IsThere z.program object → offset < object_bytes z.program object → done < count → done < byte_count v
       → ((a : spot.Spot) (i : ℕ) → writing_at z (ground_in z cp) k a i ≡ todo (copies_from X (Frame (ground_in z cp).copy from) i (count - i)) r) → stored_at (ground_in z cp) k ≡ from
       → behind X done ≡ core_byte z object offset → from + count ≤ (core_in z).program.frame_bytes (number z cp)
       → is_others (number z cp) (core_byte z object offset) ≡ false → is_valid (core_in z).program (number z cp) (core_byte z object offset) ≡ true
@@ -220,7 +220,7 @@ module _ (z : Scene) (laws : SceneLaws z) (cp : CopyOf) (k : List Pending) (l : 
       → is_due (arrived z.outside w) ≡ false
       → Mirrors z (state cp (Write at v done) k l w) c → Comes (core_in z) (Mirrors z (state cp (Write next v (done + 1)) k (with_source l object offset (byte_of v done)) w')) 6 1 c
   unfolding active is_valid
-  store_goes object offset at next v done count from X r w w' c there inside lt part code_is from_is target room own valid may world due h =
+  store_goes object offset at next v done count from X r w w' c plain_at plain_next there inside lt part code_is from_is target room own valid may world due h =
       let n = number z cp in
       let g = ground_in z cp in
       let W = world_as (held z) (arrived z.outside w) in
@@ -232,7 +232,8 @@ module _ (z : Scene) (laws : SceneLaws z) (cp : CopyOf) (k : List Pending) (l : 
       let R = todo (copies_from X (Frame g.copy from) (done + 1) (count - (done + 1))) r in
       let now : writing_at z g k at done ≡ Todo [] (code.Copy x (Frame n (from + done))) ∷ R =
       code_is at done ∙ ap (λ ts. todo ts r) (copies_step X (Frame g.copy from) done count lt) ∙ ap (λ y. Todo [] (code.Copy y (behind (Frame g.copy from) done)) ∷ R) target ∙ ap (λ y. Todo [] (code.Copy x y) ∷ R) source_is in
-      let holds_byte : c.memory (Frame n (from + done)) ≡ held z byte = ap (λ i. c.memory (Frame i (from + done))) (sym (own_copy z cp)) ∙ ap (λ i. c.memory (Frame g.copy (i + done))) (sym from_is) ∙ h.value done part in
+      let has : HasDatum z g.copy (stored_at g k) v c.memory = subst (λ y. HasDatum z g.copy (stored_at g k) y c.memory) (plain_at v done) h.value in
+      let holds_byte : c.memory (Frame n (from + done)) ≡ held z byte = ap (λ i. c.memory (Frame i (from + done))) (sym (own_copy z cp)) ∙ ap (λ i. c.memory (Frame g.copy (i + done))) (sym from_is) ∙ has done part in
       let m' = with_byte c.memory x (held z byte) in
       let kept : (d : CopyOf) → IsReached z.program d → SameTemps z d c.memory m' = temps_kept z laws object offset there inside c.memory (held z byte) in
       write_then (core_in z) T n None (stack_after z g k) W (due_below z (arrived z.outside w) due) (again_below z w) x (Frame n (from + done)) R c.memory c refl (own_frame (core_in z).program n (from + done) 1 (omega arith)) own valid
@@ -245,4 +246,4 @@ module _ (z : Scene) (laws : SceneLaws z) (cp : CopyOf) (k : List Pending) (l : 
       (subst (λ y. Placed (core_in z) n None R (stack_after z g k) y (arrived z.outside (after_write x (c.memory (Frame n (from + done))) W)) d) (ap (λ y. memory_with x y c.memory) holds_byte ∙ memory_object z object offset (held z byte) c.memory) pd)))
       (store_agrees z laws object offset there inside c.memory (held z byte) (active cp (Write next v (done + 1)) k) l byte refl h.agrees)
       (holds_temps z cp k c.memory m' kept (results_kept z object offset (held z byte) c.memory) around.reached around.piled reach h.holds)
-      (value_temps z g (Write next v (done + 1)) k c.memory m' around.piled low (own_temps z cp c.memory m' (kept cp around.reached)) (results_kept z object offset (held z byte) c.memory g.layout.root) h.value))
+      (value_temps z g (Write next v (done + 1)) k c.memory m' around.piled low (own_temps z cp c.memory m' (kept cp around.reached)) (results_kept z object offset (held z byte) c.memory g.layout.root) (subst (λ y. HasDatum z g.copy (stored_at g k) y c.memory) (sym (plain_next v (done + 1))) has)))

@@ -41,6 +41,7 @@ use Rattle.lower_trace.proofs.Narrowing.{narrow_bytes}
 use Rattle.lower_trace.proofs.Operations.{Comes, beyond_is, comes_within}
 use Rattle.lower_trace.proofs.Placed.{Placed, todo_join}
 use Rattle.lower_trace.proofs.Places.{copies_are, in_place_none, putting_none}
+use Rattle.lower_trace.proofs.Takes.{first_standing}
 use Rattle.lower_trace.proofs.Written.{and_false}
 use Rattle.pic_world.specs.World.{World, arrived, is_due, left, world_as}
 use Rattle.pic_world.specs.declared.Root.{Root}
@@ -191,5 +192,6 @@ module _ (z : Scene) (laws : SceneLaws z) where
         at_same z g.copy b s at c.memory m' (λ t ge lt. subst (λ j. m' (Frame j t) ≡ c.memory (Frame j t)) (sym (own_copy z cp)) (only (Frame n t) (inr (omega arith)))) h.holds.0.0,
         holds_above z cp k c.memory m' left_at p.around (omega arith) only h.holds.1,
       )
-      (λ j lt. ap (λ t. m' (Frame t (stored g b e + j))) (own_copy z cp) ∙ ap (λ t. m' (Frame n (t + j))) left_is ∙ hr j (let st = ap bytes_of (sum_type op o sum) in omega arith) ∙ ap (λ t. held z (values.Number t)) (sym (narrow_bytes r.ty x.ty r.number j (let st = ap bytes_of (sum_type op o sum) in omega arith) lt)))))
+      (subst (λ y. HasDatum z g.copy (stored g b e) y m') (sym (first_standing at v))
+      (λ j lt. ap (λ t. m' (Frame t (stored g b e + j))) (own_copy z cp) ∙ ap (λ t. m' (Frame n (t + j))) left_is ∙ hr j (let st = ap bytes_of (sum_type op o sum) in omega arith) ∙ ap (λ t. held z (values.Number t)) (sym (narrow_bytes r.ty x.ty r.number j (let st = ap bytes_of (sum_type op o sum) in omega arith) lt))))))
       (omega arith) (omega arith))
