@@ -87,7 +87,7 @@ module _ (g : Setting) (T : Machine → Type 0) (n : ℕ) (a : Option ℕ) (s : 
       (comes_here g T d (next d (record { copy = refl; passing = refl; code = f.behind; stack = p.stack; memory = refl; world = refl }))))
       (omega arith) (omega arith)
 
-bit_there : (q : _) (n register bit_is : ℕ) → is_device register ≡ true → bit_is < 8 → has_bit q n register bit_is ≡ true
+pub bit_there : (q : _) (n register bit_is : ℕ) → is_device register ≡ true → bit_is < 8 → has_bit q n register bit_is ≡ true
 bit_there q n register bit_is d lt = both (is_valid q n (Device register)) (nat_lt bit_is 8) (device_valid q n register d) (lt_true bit_is 8 lt)
 
 -- ---- a bit is read: one byte, which the next step writes

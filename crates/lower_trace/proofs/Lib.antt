@@ -55,3 +55,4 @@ pub mod Placing
 pub mod StoredPointed
 pub mod Helped
 pub mod Bits
+pub mod BitWrites
