@@ -56,3 +56,5 @@ pub mod StoredPointed
 pub mod Helped
 pub mod Bits
 pub mod BitWrites
+pub mod Rests
+pub mod MemberPlaces
