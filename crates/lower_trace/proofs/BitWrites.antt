@@ -22,7 +22,6 @@ use Rattle.core_code.specs.declared.code.Byte.{Byte}
 use Rattle.lower_expr.specs.Bytes as lower
 use Rattle.lower_expr.specs.Bytes.{beyond}
 use Rattle.lower_expr.specs.Layout.{width}
-use Rattle.lower_expr.specs.Puts.{sets}
 use Rattle.lower_expr.specs.Rows.{bit_row, kept_row}
 use Rattle.lower_expr.specs.Spots.{pointer_bytes, spot_of}
 use Rattle.lower_expr.specs.declared.places.Spot.TheVariants.{Bit}

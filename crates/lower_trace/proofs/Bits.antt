@@ -1,10 +1,9 @@
 -- Bits of registers are read and written: a register is read for one of its bits, and written with the bit replaced.
 use Rattle.c_typed.specs.Fits.{is_device}
-use Rattle.c_typed.specs.Folding.{bits}
 use Rattle.core_code.specs.Bytes as bytes
 use Rattle.core_code.specs.Bytes.{Held, Memory, with_byte, with_bytes}
 use Rattle.core_code.specs.Cost.{cost_of}
-use Rattle.core_code.specs.Machine.{Machine, PutBack, PutBit, Setting, Task, Do as Todo, Waiting, act, after_read, after_write, goes, has_bit, is_own, is_valid, memory_with, operate, put}
+use Rattle.core_code.specs.Machine.{Machine, PutBack, PutBit, Setting, Task, Do as Todo, Waiting, act, after_read, after_write, has_bit, is_own, is_valid, memory_with, operate, put}
 use Rattle.core_code.specs.Tree as code
 use Rattle.core_code.specs.declared.code.Byte.TheVariants.{Device, Frame}
 use Rattle.core_code.specs.declared.code.Byte.{Byte}
@@ -21,7 +20,7 @@ use Rattle.lower_trace.proofs.Mirrors.{Agrees, HasIf, Holds, Mirrors}
 use Rattle.lower_trace.proofs.Operations.{Comes, comes_first, comes_here, comes_within, own_frame, own_put}
 use Rattle.lower_trace.proofs.Placed.{Placed, does, front, least_does, least_operates, most_does, most_operates, operates, other}
 use Rattle.lower_trace.proofs.Reading.{lt_true}
-use Rattle.lower_trace.proofs.Written.{both, bytes_there, on}
+use Rattle.lower_trace.proofs.Written.{both, bytes_there}
 use Rattle.pic_world.proofs.WorldLaws.{arrived_as, read_as, value_as}
 use Rattle.pic_world.specs.Bits.{bit}
 use Rattle.pic_world.specs.World.{World, after_device_read, after_device_write, arrived, device_value, is_due, sets_gie, world_as}

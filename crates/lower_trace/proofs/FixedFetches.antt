@@ -24,10 +24,8 @@ use Rattle.lower_trace.proofs.Giving.{Around}
 use Rattle.lower_trace.proofs.Kept.{SceneLaws}
 use Rattle.lower_trace.proofs.Mirrors.{Holds, IsAt, Mirrors, at_byte}
 use Rattle.lower_trace.proofs.Operations.{beyond_is, comes_within}
-use Rattle.lower_trace.proofs.Placed.{ends}
 use Rattle.lower_trace.proofs.ReadValues.{value_read_back}
 use Rattle.lower_trace.proofs.Reading.{lt_of}
-use Rattle.lower_trace.proofs.Written.{on}
 use Rattle.pic_world.specs.World.{World, arrived, is_due}
 use Rattle.src_rules.specs.Accesses.{fetch, fetch_as, fetched, goes}
 use Rattle.src_rules.specs.Parts.{IsPlaceOf}

@@ -30,7 +30,6 @@ use Rattle.pic_world.specs.World.{World, arrived, is_due}
 use Rattle.src_rules.specs.Accesses.{after_taking}
 use Rattle.src_rules.specs.Standing.{stepped}
 use Rattle.src_rules.specs.State.{state}
-use Rattle.src_rules.specs.Step.{start}
 use Rattle.src_values.specs.Accesses.{take_byte}
 use Rattle.src_values.specs.Control.{At, AtWith, Fetch, In, Pending, active}
 use Rattle.src_values.specs.Data.{Datum}

@@ -9,7 +9,6 @@ use Rattle.lower_expr.specs.Bytes as lower
 use Rattle.lower_expr.specs.Puts.{copies}
 use Rattle.lower_trace.proofs.Assigning.{store_static, store_variable}
 use Rattle.lower_trace.proofs.Beginnings.{Follow}
-use Rattle.lower_trace.proofs.Behind.{follows}
 use Rattle.lower_trace.proofs.CodeLeft.{Scene, base, copies_from, core_in, ground_in, number, source_in, stored_at, todo, writing_at}
 use Rattle.lower_trace.proofs.Converting.{not_less}
 use Rattle.lower_trace.proofs.FixedFetches.{follow_within}

@@ -14,7 +14,7 @@ use Rattle.c_typed.specs.declared.types.Ty.TheVariants as types
 use Rattle.c_typed.specs.declared.types.Ty.{Ty}
 use Rattle.core_code.specs.Bytes as bytes
 use Rattle.core_code.specs.Bytes.{with_bytes}
-use Rattle.core_code.specs.Machine.{Machine, Do as Todo, goes}
+use Rattle.core_code.specs.Machine.{Machine, Do as Todo}
 use Rattle.core_code.specs.Tree as code
 use Rattle.core_code.specs.declared.code.Byte.TheVariants.{Frame}
 use Rattle.lower_expr.specs.Bytes as lower

@@ -7,11 +7,9 @@ use Rattle.core_code.specs.Values.{pointer_in}
 use Rattle.core_code.specs.declared.code.Byte.TheVariants.{Frame, Static}
 use Rattle.core_code.specs.declared.code.Byte.{Byte}
 use Rattle.lower_expr.specs.declared.places.Spot.TheVariants.{Computed}
-use Rattle.lower_stmt.specs.Statements.{once}
 use Rattle.lower_trace.proofs.Beginnings.{Follow}
 use Rattle.lower_trace.proofs.CodeLeft.{Scene, core_in, ground_in, held, number, plain_behind, putting, reading_at, source_in, stack_after}
 use Rattle.lower_trace.proofs.Constants.{again_below, due_below}
-use Rattle.lower_trace.proofs.Cuts.{again}
 use Rattle.lower_trace.proofs.Fetching.{Reads, more_before, more_length, more_there, one_written, putting_last, read_more}
 use Rattle.lower_trace.proofs.Flow.{arrive}
 use Rattle.lower_trace.proofs.Giving.{Around, agrees_written, holds_written, mirrors, placed_of, value_high}
@@ -28,7 +26,6 @@ use Rattle.pic_world.specs.declared.Cell.TheVariants as cells
 use Rattle.src_rules.specs.Accesses.{after_taking}
 use Rattle.src_rules.specs.Standing.{IsThere}
 use Rattle.src_rules.specs.State.{state}
-use Rattle.src_rules.specs.Step.{step}
 use Rattle.src_values.specs.Accesses.{event_at, is_unset, noting, read_fault, take_byte, taken_unless}
 use Rattle.src_values.specs.Control.{Fetch, Pending, active, callers}
 use Rattle.src_values.specs.Data as datum

@@ -27,7 +27,7 @@ use Rattle.lower_trace.proofs.Changing.{above_written, agrees_above, holds_above
 use Rattle.lower_trace.proofs.CodeLeft.{Scene, base, code_after, core_in, ground_in, held, member_rest, number, source_in, stack_after, todo}
 use Rattle.lower_trace.proofs.Constants.{again_below, due_below}
 use Rattle.lower_trace.proofs.Flow.{arrive}
-use Rattle.lower_trace.proofs.Giving.{Around, agrees_same, gives, placed_of, value_high}
+use Rattle.lower_trace.proofs.Giving.{Around, agrees_same, placed_of, value_high}
 use Rattle.lower_trace.proofs.Handing.{little_is, own_result}
 use Rattle.lower_trace.proofs.Kept.{SameFrame, SceneLaws, own_copy, own_root}
 use Rattle.lower_trace.proofs.Members.{byte_is_so, spot_is}
@@ -35,7 +35,7 @@ use Rattle.lower_trace.proofs.Mirrors.{Agrees, HasDatum, HasValue, Holds, IsAt, 
 use Rattle.lower_trace.proofs.Moving.{binary_any_then, moved_so, pointer_value, set_result_then}
 use Rattle.lower_trace.proofs.Operating.{itself}
 use Rattle.lower_trace.proofs.Operations.{Comes, beyond_is, comes_within, own_frame}
-use Rattle.lower_trace.proofs.Placed.{Placed, other, todo_join}
+use Rattle.lower_trace.proofs.Placed.{Placed, todo_join}
 use Rattle.lower_trace.proofs.Places.{waits_one}
 use Rattle.lower_trace.proofs.Returning.{Resumables, holds_frames}
 use Rattle.lower_trace.proofs.Written.{and_false, both, byte_same, bytes_there, off, on, root_same, same_nat}
@@ -59,7 +59,7 @@ use Rattle.src_values.specs.declared.objects.Pointer.TheVariants.{Into, Null}
 use Rattle.src_values.specs.declared.objects.Pointer.{Pointer}
 use Rattle.src_values.specs.declared.objects.Spot as spot
 use Rattle.src_values.specs.declared.objects.Spot.TheVariants as spots
-use Rattle.std.proofs.Common.{Bool, List, None, Option, Some, [], ap, arith, false, if◌then◌else◌, nat_eq, nat_le, option_map, pos, refl, subst, suc, sym, true, unsigned_abs, zero, ℕ, ℤ, ◌%◌, ◌*◌, ◌++◌, ◌+ℤ◌, ◌+◌, ◌/◌, ◌||◌, ◌∙◌, ◌∷◌, ◌≡◌, ◌≤◌}
+use Rattle.std.proofs.Common.{Bool, List, None, Option, Some, [], ap, arith, false, if◌then◌else◌, nat_eq, nat_le, option_map, pos, refl, subst, suc, sym, true, unsigned_abs, zero, ℕ, ◌%◌, ◌*◌, ◌++◌, ◌+ℤ◌, ◌+◌, ◌/◌, ◌||◌, ◌∙◌, ◌∷◌, ◌≡◌, ◌≤◌}
 use Rattle.std.proofs.lemmas.Grind.{common_steps}
 use Rattle.std.proofs.lemmas.Int.{ints}
 use Rattle.std.specs.Ordering.{int_eq}

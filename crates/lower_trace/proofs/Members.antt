@@ -20,7 +20,6 @@ use Rattle.lower_expr.specs.Spots.{spot_of}
 use Rattle.lower_expr.specs.declared.places.Spot as place
 use Rattle.lower_expr.specs.declared.places.Spot.TheVariants.{Bit, Computed, Fixed}
 use Rattle.lower_trace.proofs.Beginnings.{Follow, rests}
-use Rattle.lower_trace.proofs.Behind.{follows}
 use Rattle.lower_trace.proofs.CodeLeft.{Scene, base, code_after, core_in, ground_in, held, number, plain, source_in, stack_after, todo, wanted}
 use Rattle.lower_trace.proofs.Constants.{again_below, due_below, same_below}
 use Rattle.lower_trace.proofs.Giving.{Around, gives, placed_of}

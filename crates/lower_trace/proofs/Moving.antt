@@ -16,7 +16,7 @@ use Rattle.core_code.specs.Values as core
 use Rattle.core_code.specs.Values.{Extent, Value, binary_value, or_number, right_type, value_in}
 use Rattle.core_code.specs.declared.code.Byte.TheVariants.{Frame, Result}
 use Rattle.core_code.specs.declared.code.Byte.{Byte}
-use Rattle.lower_trace.proofs.CodeLeft.{Scene, core_in, number, plain_behind}
+use Rattle.lower_trace.proofs.CodeLeft.{Scene, core_in, plain_behind}
 use Rattle.lower_trace.proofs.Giving.{gives}
 use Rattle.lower_trace.proofs.Kept.{SceneLaws}
 use Rattle.lower_trace.proofs.Mirrors.{HasDatum}
@@ -28,7 +28,6 @@ use Rattle.lower_trace.specs.Lowering.{object_as, offset_as}
 use Rattle.pic_world.specs.World.{World, arrived, is_due}
 use Rattle.pic_world.specs.declared.Root.{Root}
 use Rattle.src_rules.specs.Standing.{IsThere}
-use Rattle.src_rules.specs.Step.{counts}
 use Rattle.src_values.specs.Data as datum
 use Rattle.src_values.specs.Objects.{moved, object_bytes}
 use Rattle.src_values.specs.declared.objects.Object as object

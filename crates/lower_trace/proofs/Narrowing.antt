@@ -2,7 +2,7 @@
 use Rattle.c_ints.specs.Range.{bytes_of, cut, least, pattern, span, width}
 use Rattle.c_ints.specs.declared.types.IntTy.TheVariants as int
 use Rattle.c_ints.specs.declared.types.IntTy.{IntTy}
-use Rattle.std.proofs.Common.{ap, arith, negsuc, pos, refl, suc, sym, unsigned_abs, zero, ℕ, ℤ, ◌%◌, ◌*◌, ◌+ℤ◌, ◌+◌, ◌-ℤ◌, ◌-◌, ◌/◌, ◌<◌, ◌^◌, ◌∙◌, ◌∷◌, ◌≡◌, ◌≤◌}
+use Rattle.std.proofs.Common.{ap, arith, negsuc, pos, refl, suc, sym, unsigned_abs, zero, ℕ, ℤ, ◌%◌, ◌*◌, ◌+ℤ◌, ◌+◌, ◌-ℤ◌, ◌-◌, ◌/◌, ◌<◌, ◌^◌, ◌∙◌, ◌≡◌, ◌≤◌}
 use Rattle.std.proofs.Math.Nat.{mul-add-mod_self_right}
 use Rattle.std.proofs.lemmas.Int.{int_rem_euclid_is, ints}
 use Rattle.std.proofs.lemmas.Nat.{pow_pos}

@@ -1,16 +1,14 @@
 -- Values are written where pointers lead, byte by byte, and what follows the last byte.
 use Rattle.core_code.specs.Bytes as bytes
 use Rattle.core_code.specs.Bytes.{with_byte}
-use Rattle.core_code.specs.Machine.{Machine, StoreTo, Task, Do as Todo, after_write, goes, may_hold, memory_with, storing}
+use Rattle.core_code.specs.Machine.{Machine, StoreTo, Task, Do as Todo, after_write, may_hold, memory_with, storing}
 use Rattle.core_code.specs.Tree as code
 use Rattle.core_code.specs.Values.{pointer_in}
 use Rattle.core_code.specs.declared.code.Byte.TheVariants.{Frame}
 use Rattle.core_code.specs.declared.code.Byte.{Byte}
-use Rattle.lower_expr.specs.Bytes.{behind}
 use Rattle.lower_expr.specs.declared.places.Spot.TheVariants.{Computed}
 use Rattle.lower_trace.proofs.Assigning.{static_holds}
 use Rattle.lower_trace.proofs.Beginnings.{Follow}
-use Rattle.lower_trace.proofs.Behind.{follows}
 use Rattle.lower_trace.proofs.CodeLeft.{Scene, base, core_in, ground_in, held, number, source_in, stack_after, stored_at, writing, writing_at}
 use Rattle.lower_trace.proofs.Constants.{again_below, due_below}
 use Rattle.lower_trace.proofs.Converting.{not_less}

@@ -31,10 +31,9 @@ use Rattle.lower_trace.proofs.Loading.{ReachesAll, code_static, code_variable, f
 use Rattle.lower_trace.proofs.Members.{spot_is}
 use Rattle.lower_trace.proofs.Mirrors.{Agrees, HasDatum, HasRead, Holds, IsAt, Mirrors}
 use Rattle.lower_trace.proofs.Operations.{Comes, beyond_is, comes_here, comes_within, own_frame, put_then}
-use Rattle.lower_trace.proofs.Placed.{Placed, ends, front}
+use Rattle.lower_trace.proofs.Placed.{Placed}
 use Rattle.lower_trace.proofs.ReadValues.{value_read_back}
 use Rattle.lower_trace.proofs.Reading.{lt_of}
-use Rattle.lower_trace.proofs.Written.{on}
 use Rattle.pic_world.specs.World.{World, arrived, is_due, world_as}
 use Rattle.src_rules.proofs.Places.{SpotIsThere}
 use Rattle.src_rules.specs.Accesses.{after_taking, fetch, fetch_as, fetched, goes}

@@ -43,7 +43,7 @@ use Rattle.lower_trace.proofs.Placed.{Placed, todo_join}
 use Rattle.lower_trace.proofs.Places.{copies_are, in_place_none, putting_none}
 use Rattle.lower_trace.proofs.Takes.{first_standing}
 use Rattle.lower_trace.proofs.Written.{and_false}
-use Rattle.pic_world.specs.World.{World, arrived, is_due, left, world_as}
+use Rattle.pic_world.specs.World.{World, arrived, is_due, world_as}
 use Rattle.pic_world.specs.declared.Root.{Root}
 use Rattle.src_rules.specs.Giving.{changes, take_in}
 use Rattle.src_rules.specs.State.{state}
