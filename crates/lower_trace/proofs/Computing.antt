@@ -80,7 +80,7 @@ plain_unshifted ops.Rem p = absurd p
 plain_unshifted ops.Shl p = absurd p
 plain_unshifted ops.Shr p = absurd p
 
-plain_answer : (p : Program) (live : List CopyOf) (op : BinOp) (ty : Ty) (x y : Quantity) → IsPlain op → binary_answer p live op ty (datum.Number x) (datum.Number y) ≡ answers.Gives (datum.Number (value_of op x y))
+pub plain_answer : (p : Program) (live : List CopyOf) (op : BinOp) (ty : Ty) (x y : Quantity) → IsPlain op → binary_answer p live op ty (datum.Number x) (datum.Number y) ≡ answers.Gives (datum.Number (value_of op x y))
 unfolding binary_answer
 plain_answer p live op ty x y plain = ap (λ f. unless_bad f (on_values p live op (datum.Number x) (datum.Number y))) (plain_divides op ty y plain) ∙ ap number_or_overflow (plain_gives op x y plain)
 

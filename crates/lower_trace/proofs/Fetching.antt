@@ -81,7 +81,7 @@ pub record Reads (z : Scene) (g : Ground) (k : List Pending) (s : place.Spot) (t
   pub based : base g k ≡ to
 
 -- one byte more stands in its place
-read_more : (z : Scene) (n to : ℕ) (read : List value.Byte) (m : Memory) (h : Held) (j : ℕ) → HasRead z n to read j m → h ≡ held z (slice_index_or read j values.Unset) → HasRead z n to read (suc j) (with_byte m (Frame n (to + j)) h)
+pub read_more : (z : Scene) (n to : ℕ) (read : List value.Byte) (m : Memory) (h : Held) (j : ℕ) → HasRead z n to read j m → h ≡ held z (slice_index_or read j values.Unset) → HasRead z n to read (suc j) (with_byte m (Frame n (to + j)) h)
 read_more z n to read m h j has is i lt =
     ⊎_elim
     (λ l. off (bytes.same_byte (Frame n (to + i)) (Frame n (to + j))) h (m (Frame n (to + i))) (and_false _ _ (nat_apart (to + i) (to + j) (inl (omega arith)))) ∙ has i l)
@@ -92,7 +92,7 @@ read_more z n to read m h j has is i lt =
     ∙ is ∙ ap (λ x. held z (slice_index_or read x values.Unset)) (sym q))
     (cases_lt i j)
 
-one_written : (m : Memory) (n b : ℕ) (h : Held) → with_byte m (Frame n b) h ≡ with_bytes m (Frame n b) 1 (λ i. h)
+pub one_written : (m : Memory) (n b : ℕ) (h : Held) → with_byte m (Frame n b) h ≡ with_bytes m (Frame n b) 1 (λ i. h)
 one_written m n b h = let e : b ≡ b + 0 = omega arith in ap (λ y. with_byte m (Frame n y) h) e
 
 no_frame : (y : Byte) (n b : ℕ) → is_private y ≡ false → bytes.same_byte y (Frame n b) ≡ false

@@ -39,19 +39,19 @@ use Rattle.lower_trace.proofs.Operations.{Comes, comes_here, comes_within, beyon
 use Rattle.lower_trace.proofs.Placed.{Placed, todo_join}
 use Rattle.lower_trace.proofs.Written.{root_same, nat_same, nat_apart, both, off, on, and_false, bytes_clear}
 
-little_is : (n : ℕ) → n ≤ 255 → little_beyond 0 n ≡ n
+pub little_is : (n : ℕ) → n ≤ 255 → little_beyond 0 n ≡ n
 unfolding little_beyond
 little_is n le = grind (arith, common_steps)
 
-own_result : (g : Setting) (n k : ℕ) (r : Root) → g.program.root n ≡ r → k < 4 → is_own g.program n (Result r k) 1 ≡ true
+pub own_result : (g : Setting) (n k : ℕ) (r : Root) → g.program.root n ≡ r → k < 4 → is_own g.program n (Result r k) 1 ≡ true
 unfolding is_own
 own_result g n k r e lt = both (same_root r (g.program.root n)) (nat_le (k + 1) 4) (ap (same_root r) e ∙ root_same r) (grind (arith, common_steps))
 
-valid_result : (g : Setting) (n k : ℕ) (r : Root) → g.program.root n ≡ r → k < 4 → is_valid g.program n (Result r k) ≡ true
+pub valid_result : (g : Setting) (n k : ℕ) (r : Root) → g.program.root n ≡ r → k < 4 → is_valid g.program n (Result r k) ≡ true
 unfolding is_valid
 valid_result g n k r e lt = own_result g n k r e lt
 
-valid_frame : (g : Setting) (n k : ℕ) → k < g.program.frame_bytes n → is_valid g.program n (Frame n k) ≡ true
+pub valid_frame : (g : Setting) (n k : ℕ) → k < g.program.frame_bytes n → is_valid g.program n (Frame n k) ≡ true
 unfolding is_valid
 valid_frame g n k lt = own_frame g.program n k 1 (omega arith)
 

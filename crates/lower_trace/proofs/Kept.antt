@@ -8,7 +8,7 @@ use Rattle.c_ints.specs.declared.types.IntTy.TheVariants as int
 use Rattle.c_typed.specs.Trees as tree
 use Rattle.c_typed.specs.Trees.{Expression, Expressions, Place, Statement}
 use Rattle.core_code.specs.Bytes.{Memory, same_byte}
-use Rattle.core_code.specs.Machine.{static_bytes}
+use Rattle.core_code.specs.Machine.{static_bytes, object_bytes as core_bytes}
 use Rattle.core_code.specs.declared.code.Byte.TheVariants.{Frame, Result}
 use Rattle.lower_expr.specs.Bytes.{beyond, operation_type}
 use Rattle.lower_expr.specs.Rows.{step_number}
@@ -38,8 +38,9 @@ use Rattle.src_values.specs.declared.objects.Object as object
 use Rattle.src_values.specs.declared.objects.Object.TheVariants as objects
 use Rattle.src_values.specs.declared.objects.Spot as spot
 use Rattle.pic_world.specs.declared.Root.TheVariants.{Main, Isr}
+use Rattle.lower_trace.specs.Lowering.{object_as, offset_as}
 use Rattle.lower_trace.proofs.CodeLeft.{Scene, number, ground_in, core_in, wanted, base, above, stored, stored_at}
-use Rattle.lower_trace.proofs.Mirrors.{core_byte, HasDatum, at_byte, IsAt, HasArguments, Waits, HasReadIn, HasReadAt, HasIf, HasValue, Holds}
+use Rattle.lower_trace.proofs.Mirrors.{standing, core_byte, HasDatum, at_byte, IsAt, HasArguments, Waits, HasReadIn, HasReadAt, HasIf, HasValue, Holds}
 
 -- ---- what is known of a program and its copies
 pub record SceneLaws (z : Scene) : Type 0 where
@@ -61,6 +62,9 @@ pub record SceneLaws (z : Scene) : Type 0 where
   pub bodies : (c : CopyOf) → IsReached z.program c → (core_in z).program.body (number z c) ≡ stmts_code (ground_in z c) outside (function_at z.program c.function).body ++ code.Leave ∷ []
   pub roots : (c : CopyOf) → IsReached z.program c → (core_in z).program.root (number z c) ≡ c.root
   pub handles : (h : ℕ) → handler_in z.program ≡ Some h → IsReached z.program (copy_of Isr h) × ((core_in z).program.handler ≡ Some (number z (copy_of Isr h)))
+  -- an object lies within the one that it is a part of in byte code, and offsets there have 16 bits
+  pub fits : (object : object.Object) → IsThere z.program object → offset_as z.program object + object_bytes z.program object ≤ core_bytes (core_in z).program (object_as z.copies object)
+  pub reach : (object : object.Object) → IsThere z.program object → core_bytes (core_in z).program (object_as z.copies object) ≤ 65535
   -- frames are small
   pub small : (n : ℕ) → (core_in z).program.frame_bytes n ≤ 96
 
@@ -184,36 +188,36 @@ read_far z g (Returns d ∷ k) at read m m' s h = tt
 read_far z g (Resumes d x ∷ k) at read m m' s h = tt
 
 -- what waits in a frame is the same, if the bytes below the next part's value are
-pub waits_same : (z : Scene) (g : Ground) (b : ℕ) (e : Expression) (got : Got) (m m' : Memory) → ((y : ℕ) → y < above g b e got → m' (Frame g.copy y) ≡ m (Frame g.copy y)) → Below g b e got → Waits z g b e got m → Waits z g b e got m'
-waits_same z g b (tree.Binary op left right ty line) (One u) m m' s k h = datum_same z g.copy b u m m' (λ y le lt. s y (omega arith)) h
-waits_same z g b (tree.Offset op left right size ty line) (One u) m m' s k h = datum_same z g.copy b u m m' (λ y le lt. s y (omega arith)) h
-waits_same z g b (tree.Difference left right size line) (One u) m m' s k h = datum_same z g.copy b u m m' (λ y le lt. s y (omega arith)) h
-waits_same z g b (tree.Read place ty line) (At at) m m' s k h = at_same z g.copy b (spot_of g.layout g.copy place) at m m' (λ y le lt. s y (omega arith)) h
-waits_same z g b (tree.Assign place value ty line) (At at) m m' s k h = at_same z g.copy b (spot_of g.layout g.copy place) at m m' (λ y le lt. s y (omega arith)) h
-waits_same z g b (tree.Assign place value ty line) (Stores at v) m m' s k h = at_same z g.copy b (spot_of g.layout g.copy place) at m m' (λ y le lt. s y (omega arith)) h
-waits_same z g b (tree.StructAssign place from size line) (At at) m m' s k h = at_same z g.copy b (spot_of g.layout g.copy place) at m m' (λ y le lt. s y (omega arith)) h
-waits_same z g b (tree.Update op place value operation size ty line) (At at) m m' s k h = at_same z g.copy b (spot_of g.layout g.copy place) at m m' (λ y le lt. s y (omega arith)) h
-waits_same z g b (tree.Update op place value operation size ty line) (AtWith at u) m m' s k h =
+pub waits_same : (z : Scene) (g : Ground) (b : ℕ) (w : Bool) (e : Expression) (got : Got) (m m' : Memory) → ((y : ℕ) → y < above g b e got → m' (Frame g.copy y) ≡ m (Frame g.copy y)) → Below g b e got → Waits z g b w e got m → Waits z g b w e got m'
+waits_same z g b w (tree.Binary op left right ty line) (One u) m m' s k h = datum_same z g.copy b u m m' (λ y le lt. s y (omega arith)) h
+waits_same z g b w (tree.Offset op left right size ty line) (One u) m m' s k h = datum_same z g.copy b u m m' (λ y le lt. s y (omega arith)) h
+waits_same z g b w (tree.Difference left right size line) (One u) m m' s k h = datum_same z g.copy b u m m' (λ y le lt. s y (omega arith)) h
+waits_same z g b w (tree.Read place ty line) (At at) m m' s k h = at_same z g.copy b (spot_of g.layout g.copy place) at m m' (λ y le lt. s y (omega arith)) h
+waits_same z g b w (tree.Assign place value ty line) (At at) m m' s k h = at_same z g.copy b (spot_of g.layout g.copy place) at m m' (λ y le lt. s y (omega arith)) h
+waits_same z g b w (tree.Assign place value ty line) (Stores at v) m m' s k h = at_same z g.copy b (spot_of g.layout g.copy place) at m m' (λ y le lt. s y (omega arith)) h
+waits_same z g b w (tree.StructAssign place from size line) (At at) m m' s k h = at_same z g.copy b (spot_of g.layout g.copy place) at m m' (λ y le lt. s y (omega arith)) h
+waits_same z g b w (tree.Update op place value operation size ty line) (At at) m m' s k h = at_same z g.copy b (spot_of g.layout g.copy place) at m m' (λ y le lt. s y (omega arith)) h
+waits_same z g b w (tree.Update op place value operation size ty line) (AtWith at u) m m' s k h =
     let k0 = k.0 in
     let k1 = k.1 in
     (at_same z g.copy b (spot_of g.layout g.copy place) at m m' (λ y le lt. s y (omega arith)) h.0, datum_same z g.copy (behind_pointer g.layout g.copy b place) u m m' (λ y le lt. s y (omega arith)) h.1)
-waits_same z g b (tree.Update op place value operation size ty line) (Stores at v) m m' s k h = at_same z g.copy b (spot_of g.layout g.copy place) at m m' (λ y le lt. s y (omega arith)) h
-waits_same z g b (tree.Call function arguments ty line) (Args before more) m m' s k h = arguments_same z g b 0 arguments before (above g b (tree.Call function arguments ty line) (Args before more)) m m' s k h
-waits_same z g b (tree.Call function arguments ty line) (Passed values) m m' s k h = arguments_same z g b 0 arguments values (above g b (tree.Call function arguments ty line) (Passed values)) m m' s k h
-waits_same z g b (tree.Step op place operation size ty line) (At at) m m' s k h =
+waits_same z g b w (tree.Update op place value operation size ty line) (Stores at v) m m' s k h = at_same z g.copy b (spot_of g.layout g.copy place) at m m' (λ y le lt. s y (omega arith)) h
+waits_same z g b w (tree.Call function arguments ty line) (Args before more) m m' s k h = arguments_same z g b 0 arguments before (above g b (tree.Call function arguments ty line) (Args before more)) m m' s k h
+waits_same z g b w (tree.Call function arguments ty line) (Passed values) m m' s k h = arguments_same z g b 0 arguments values (above g b (tree.Call function arguments ty line) (Passed values)) m m' s k h
+waits_same z g b w (tree.Step op place operation size ty line) (At at) m m' s k h =
     let k0 = k.0 in
     let k1 = k.1 in
     let few = bytes_small (operation_type operation) in (
       at_same z g.copy b (spot_of g.layout g.copy place) at m m' (λ y le lt. s y (omega arith)) h.0,
       datum_same z g.copy (behind_pointer g.layout g.copy b place) (datum.Number (cut_to (operation_type operation) (pos (step_number operation size)))) m m' (λ y le lt. s y (omega arith)) h.1,
     )
-waits_same z g b (tree.Step op place operation size ty line) (Stores at v) m m' s k h =
+waits_same z g b w (tree.Step op place operation size ty line) (Stores at v) m m' s k h =
     let k0 = k.0 in
     let k1 = k.1 in (
       at_same z g.copy b (spot_of g.layout g.copy place) at m m' (λ y le lt. s y (omega arith)) h.0,
       λ keeps. datum_same z g.copy (beyond (stored g b (tree.Step op place operation size ty line)) (width g.layout operation)) v m m' (λ y le lt. s y (omega arith)) (h.1 keeps),
     )
-waits_same z g b _ _ m m' s k h = tt
+waits_same z g b w _ _ m m' s k h = tt
 
 -- ---- stacks
 pub base_end : (g : Ground) (k : List Pending) → WaitsForEnd k → base g k ≡ g.base
@@ -229,29 +233,29 @@ base_end g (Resumes d x ∷ k) h = refl
 abbrev pub SameFrame : ℕ → Memory → Memory → Type 0
 SameFrame n m m' = (y : ℕ) → m' (Frame n y) ≡ m (Frame n y)
 
-pub waits_far : (z : Scene) (g : Ground) (b : ℕ) (e : Expression) (got : Got) (m m' : Memory) → SameFrame g.copy m m' → Waits z g b e got m → Waits z g b e got m'
-waits_far z g b (tree.Binary op left right ty line) (One u) m m' s h = datum_same z g.copy b u m m' (λ y le lt. s y) h
-waits_far z g b (tree.Offset op left right size ty line) (One u) m m' s h = datum_same z g.copy b u m m' (λ y le lt. s y) h
-waits_far z g b (tree.Difference left right size line) (One u) m m' s h = datum_same z g.copy b u m m' (λ y le lt. s y) h
-waits_far z g b (tree.Read place ty line) (At at) m m' s h = at_same z g.copy b (spot_of g.layout g.copy place) at m m' (λ y le lt. s y) h
-waits_far z g b (tree.Assign place value ty line) (At at) m m' s h = at_same z g.copy b (spot_of g.layout g.copy place) at m m' (λ y le lt. s y) h
-waits_far z g b (tree.Assign place value ty line) (Stores at v) m m' s h = at_same z g.copy b (spot_of g.layout g.copy place) at m m' (λ y le lt. s y) h
-waits_far z g b (tree.StructAssign place from size line) (At at) m m' s h = at_same z g.copy b (spot_of g.layout g.copy place) at m m' (λ y le lt. s y) h
-waits_far z g b (tree.Update op place value operation size ty line) (At at) m m' s h = at_same z g.copy b (spot_of g.layout g.copy place) at m m' (λ y le lt. s y) h
-waits_far z g b (tree.Update op place value operation size ty line) (AtWith at u) m m' s h =
+pub waits_far : (z : Scene) (g : Ground) (b : ℕ) (w : Bool) (e : Expression) (got : Got) (m m' : Memory) → SameFrame g.copy m m' → Waits z g b w e got m → Waits z g b w e got m'
+waits_far z g b w (tree.Binary op left right ty line) (One u) m m' s h = datum_same z g.copy b u m m' (λ y le lt. s y) h
+waits_far z g b w (tree.Offset op left right size ty line) (One u) m m' s h = datum_same z g.copy b u m m' (λ y le lt. s y) h
+waits_far z g b w (tree.Difference left right size line) (One u) m m' s h = datum_same z g.copy b u m m' (λ y le lt. s y) h
+waits_far z g b w (tree.Read place ty line) (At at) m m' s h = at_same z g.copy b (spot_of g.layout g.copy place) at m m' (λ y le lt. s y) h
+waits_far z g b w (tree.Assign place value ty line) (At at) m m' s h = at_same z g.copy b (spot_of g.layout g.copy place) at m m' (λ y le lt. s y) h
+waits_far z g b w (tree.Assign place value ty line) (Stores at v) m m' s h = at_same z g.copy b (spot_of g.layout g.copy place) at m m' (λ y le lt. s y) h
+waits_far z g b w (tree.StructAssign place from size line) (At at) m m' s h = at_same z g.copy b (spot_of g.layout g.copy place) at m m' (λ y le lt. s y) h
+waits_far z g b w (tree.Update op place value operation size ty line) (At at) m m' s h = at_same z g.copy b (spot_of g.layout g.copy place) at m m' (λ y le lt. s y) h
+waits_far z g b w (tree.Update op place value operation size ty line) (AtWith at u) m m' s h =
     (at_same z g.copy b (spot_of g.layout g.copy place) at m m' (λ y le lt. s y) h.0, datum_same z g.copy (behind_pointer g.layout g.copy b place) u m m' (λ y le lt. s y) h.1)
-waits_far z g b (tree.Update op place value operation size ty line) (Stores at v) m m' s h = at_same z g.copy b (spot_of g.layout g.copy place) at m m' (λ y le lt. s y) h
-waits_far z g b (tree.Step op place operation size ty line) (At at) m m' s h = (
+waits_far z g b w (tree.Update op place value operation size ty line) (Stores at v) m m' s h = at_same z g.copy b (spot_of g.layout g.copy place) at m m' (λ y le lt. s y) h
+waits_far z g b w (tree.Step op place operation size ty line) (At at) m m' s h = (
   at_same z g.copy b (spot_of g.layout g.copy place) at m m' (λ y le lt. s y) h.0,
   datum_same z g.copy (behind_pointer g.layout g.copy b place) (datum.Number (cut_to (operation_type operation) (pos (step_number operation size)))) m m' (λ y le lt. s y) h.1,
 )
-waits_far z g b (tree.Step op place operation size ty line) (Stores at v) m m' s h = (
+waits_far z g b w (tree.Step op place operation size ty line) (Stores at v) m m' s h = (
   at_same z g.copy b (spot_of g.layout g.copy place) at m m' (λ y le lt. s y) h.0,
   λ keeps. datum_same z g.copy (beyond (stored g b (tree.Step op place operation size ty line)) (width g.layout operation)) v m m' (λ y le lt. s y) (h.1 keeps),
 )
-waits_far z g b (tree.Call function arguments ty line) (Args before more) m m' s h = arguments_far z g b 0 arguments before m m' s h
-waits_far z g b (tree.Call function arguments ty line) (Passed values) m m' s h = arguments_far z g b 0 arguments values m m' s h
-waits_far z g b _ _ m m' s h = tt
+waits_far z g b w (tree.Call function arguments ty line) (Args before more) m m' s h = arguments_far z g b 0 arguments before m m' s h
+waits_far z g b w (tree.Call function arguments ty line) (Passed values) m m' s h = arguments_far z g b 0 arguments values m m' s h
+waits_far z g b w _ _ m m' s h = tt
 
 pub value_far : (z : Scene) (g : Ground) (x : Focus) (k : List Pending) (m m' : Memory) → SameFrame g.copy m m' → ((i : ℕ) → m' (Result g.layout.root i) ≡ m (Result g.layout.root i)) → HasValue z g x k m → HasValue z g x k m'
 value_far z g (Eval e) k m m' s r h = tt
@@ -262,7 +266,7 @@ value_far z g (Run t) k m m' s r h = tt
 value_far z g Past k m m' s r h = tt
 value_far z g (Fetch at read) k m m' s r h = read_far z g k at read m m' s h
 value_far z g (Skim at left byte) k m m' s r h = tt
-value_far z g (Write at v done) k m m' s r h = datum_same z g.copy (stored_at g k) v m m' (λ y le lt. s y) h
+value_far z g (Write at v done) k m m' s r h = datum_same z g.copy (stored_at g k) (standing at done v) m m' (λ y le lt. s y) h
 value_far z g (PutBit register bit v old) k m m' s r h = datum_same z g.copy (stored_at g k) (number_of int.UChar (lowest_bit v)) m m' (λ y le lt. s y) h
 value_far z g (CopyRead to from left) k m m' s r h = tt
 value_far z g (CopyWrite to from byte left) k m m' s r h = tt
@@ -277,7 +281,7 @@ value_far z g Over k m m' s r h = tt
 pub holds_far : (z : Scene) (n : ℕ) (d : CopyOf) (k : List Pending) (m m' : Memory) → ((i : ℕ) → (i ≡ n → ⊥) → SameFrame i m m') → ((i : ℕ) → m' (Result Main i) ≡ m (Result Main i)) → (number z d ≡ n → ⊥) → Apart z n k → MainsWait k → Holds z (ground_in z d) k m → Holds z (ground_in z d) k m'
 holds_far z n d [] m m' s r far a w h = tt
 holds_far z n d (In e got ∷ k) m m' s r far a w h =
-    (waits_far z (ground_in z d) (base (ground_in z d) k) e got m m' (subst (λ i. SameFrame i m m') (sym (own_copy z d)) (s (number z d) far)) h.0, holds_far z n d k m m' s r far a w h.1)
+    (waits_far z (ground_in z d) (base (ground_in z d) k) (wanted k) e got m m' (subst (λ i. SameFrame i m m') (sym (own_copy z d)) (s (number z d) far)) h.0, holds_far z n d k m m' s r far a w h.1)
 holds_far z n d (To place ∷ k) m m' s r far a w h = holds_far z n d k m m' s r far a w h
 holds_far z n d (Doing t stage ∷ k) m m' s r far a w h = holds_far z n d k m m' s r far a w h
 holds_far z n d (Before ss ∷ k) m m' s r far a w h = holds_far z n d k m m' s r far a w h
@@ -292,7 +296,7 @@ pub holds_near : (z : Scene) (c : CopyOf) (k : List Pending) (m m' : Memory) →
 holds_near z c [] m m' s o r a w p h = tt
 holds_near z c (In e got ∷ k) m m' s o r a w p h =
     let le = p.1 in (
-      waits_same z (ground_in z c) (base (ground_in z c) k) e got m m' (λ y lt. subst (λ i. m' (Frame i y) ≡ m (Frame i y)) (sym (own_copy z c)) (s y lt)) p.0 h.0,
+      waits_same z (ground_in z c) (base (ground_in z c) k) (wanted k) e got m m' (λ y lt. subst (λ i. m' (Frame i y) ≡ m (Frame i y)) (sym (own_copy z c)) (s y lt)) p.0 h.0,
       holds_near z c k m m' (λ y lt. s y (omega arith)) o r a w p.2 h.1,
     )
 holds_near z c (To place ∷ k) m m' s o r a w p h = holds_near z c k m m' s o r a w p h

@@ -1,6 +1,6 @@
 -- Which machine of byte code stands for a state of the source: where its code stands, which values its temporary bytes hold,
 -- and that objects of active copies agree.
-use Rattle.std.specs.Prelude.{◌≡◌, ℕ, ◌+◌, ◌-◌, ◌<◌, Bool, true, false, if◌then◌else◌, pos, List, [], ◌∷◌, length, Option, Some, None, slice_index_or}
+use Rattle.std.specs.Prelude.{◌≡◌, ℕ, zero, suc, ◌+◌, ◌-◌, ◌<◌, Bool, true, false, ◌&&◌, if◌then◌else◌, pos, List, [], ◌∷◌, length, Option, Some, None, slice_index_or}
 use Rattle.c_ints.specs.Operators.{cut_to}
 use Rattle.c_ints.specs.declared.types.IntTy.TheVariants as IntTy
 use Rattle.c_typed.specs.Trees as tree
@@ -72,27 +72,27 @@ HasArguments z l n b before es [] m = Unit {0}
 HasArguments z l n b before tree.NoExpression (v ∷ vs) m = ⊥
 HasArguments z l n b before (tree.AndExpression e es) (v ∷ vs) m = HasDatum z n (beyond b before) v m × HasArguments z l n b (beyond before (value_width l e)) es vs m
 
--- what an expression that waits has, its value being due at b
-abbrev pub Waits : Scene → Ground → ℕ → Expression → Got → Memory → Type 0
-Waits z g b (tree.Binary op left right ty line) (One u) m = HasDatum z g.copy b u m
-Waits z g b (tree.Offset op left right size ty line) (One u) m = HasDatum z g.copy b u m
-Waits z g b (tree.Difference left right size line) (One u) m = HasDatum z g.copy b u m
-Waits z g b (tree.Read place ty line) (At at) m = IsAt z g.copy b (spot_of g.layout g.copy place) at m
-Waits z g b (tree.Assign place value ty line) (At at) m = IsAt z g.copy b (spot_of g.layout g.copy place) at m
-Waits z g b (tree.Assign place value ty line) (Stores at v) m = IsAt z g.copy b (spot_of g.layout g.copy place) at m
-Waits z g b (tree.StructAssign place from size line) (At at) m = IsAt z g.copy b (spot_of g.layout g.copy place) at m
-Waits z g b (tree.Update op place value operation size ty line) (At at) m = IsAt z g.copy b (spot_of g.layout g.copy place) at m
-Waits z g b (tree.Update op place value operation size ty line) (AtWith at u) m = IsAt z g.copy b (spot_of g.layout g.copy place) at m × HasDatum z g.copy (behind_pointer g.layout g.copy b place) u m
-Waits z g b (tree.Update op place value operation size ty line) (Stores at v) m = IsAt z g.copy b (spot_of g.layout g.copy place) at m
-Waits z g b (tree.Step op place operation size ty line) (At at) m =
+-- what an expression that waits has, its value being due at b, where it is wanted or not
+abbrev pub Waits : Scene → Ground → ℕ → Bool → Expression → Got → Memory → Type 0
+Waits z g b w (tree.Binary op left right ty line) (One u) m = HasDatum z g.copy b u m
+Waits z g b w (tree.Offset op left right size ty line) (One u) m = HasDatum z g.copy b u m
+Waits z g b w (tree.Difference left right size line) (One u) m = HasDatum z g.copy b u m
+Waits z g b w (tree.Read place ty line) (At at) m = IsAt z g.copy b (spot_of g.layout g.copy place) at m
+Waits z g b w (tree.Assign place value ty line) (At at) m = IsAt z g.copy b (spot_of g.layout g.copy place) at m
+Waits z g b w (tree.Assign place value ty line) (Stores at v) m = IsAt z g.copy b (spot_of g.layout g.copy place) at m
+Waits z g b w (tree.StructAssign place from size line) (At at) m = IsAt z g.copy b (spot_of g.layout g.copy place) at m
+Waits z g b w (tree.Update op place value operation size ty line) (At at) m = IsAt z g.copy b (spot_of g.layout g.copy place) at m
+Waits z g b w (tree.Update op place value operation size ty line) (AtWith at u) m = IsAt z g.copy b (spot_of g.layout g.copy place) at m × HasDatum z g.copy (behind_pointer g.layout g.copy b place) u m
+Waits z g b w (tree.Update op place value operation size ty line) (Stores at v) m = IsAt z g.copy b (spot_of g.layout g.copy place) at m
+Waits z g b w (tree.Step op place operation size ty line) (At at) m =
     IsAt z g.copy b (spot_of g.layout g.copy place) at m
     × HasDatum z g.copy (behind_pointer g.layout g.copy b place) (datum.Number (cut_to (operation_type operation) (pos (step_number operation size)))) m
-Waits z g b (tree.Step op place operation size ty line) (Stores at v) m =
+Waits z g b w (tree.Step op place operation size ty line) (Stores at v) m =
     IsAt z g.copy b (spot_of g.layout g.copy place) at m
-    × (keeps_old op ≡ true → HasDatum z g.copy (beyond (stored g b (tree.Step op place operation size ty line)) (width g.layout operation)) v m)
-Waits z g b (tree.Call function arguments ty line) (Args before more) m = HasArguments z g.layout g.copy b 0 arguments before m
-Waits z g b (tree.Call function arguments ty line) (Passed values) m = HasArguments z g.layout g.copy b 0 arguments values m
-Waits z g b _ _ m = Unit {0}
+    × ((w && keeps_old op) ≡ true → HasDatum z g.copy (beyond (stored g b (tree.Step op place operation size ty line)) (width g.layout operation)) v m)
+Waits z g b w (tree.Call function arguments ty line) (Args before more) m = HasArguments z g.layout g.copy b 0 arguments before m
+Waits z g b w (tree.Call function arguments ty line) (Passed values) m = HasArguments z g.layout g.copy b 0 arguments values m
+Waits z g b w _ _ m = Unit {0}
 
 -- how many of the bytes that were read stand in their places: a byte whose read may be an event is written by the next step
 abbrev pub in_place : place.Spot → spot.Spot → ℕ → ℕ
@@ -121,11 +121,17 @@ abbrev pub HasIf : Bool → Scene → ℕ → ℕ → Datum → Memory → Type 
 HasIf true z n b v m = HasDatum z n b v m
 HasIf false z n b v m = Unit {0}
 
+-- what stands there of a value that is written: once the byte of a bit is done, the bit alone
+abbrev pub standing : spot.Spot → ℕ → Datum → Datum
+standing (spots.Bit register bit) zero v = v
+standing (spots.Bit register bit) (suc done) v = number_of IntTy.UChar (lowest_bit v)
+standing _ done v = v
+
 abbrev pub HasValue : Scene → Ground → Focus → List Pending → Memory → Type 0
 HasValue z g (Value v) k m = HasIf (wanted k) z g.copy (base g k) v m
 HasValue z g (Found at) k m = (place : Place) → WaitsForPlace k place → IsAt z g.copy (base g k) (spot_of g.layout g.copy place) at m
 HasValue z g (Fetch at read) k m = HasReadAt z g k at read m
-HasValue z g (Write at v done) k m = HasDatum z g.copy (stored_at g k) v m
+HasValue z g (Write at v done) k m = HasDatum z g.copy (stored_at g k) (standing at done v) m
 HasValue z g (PutBit register bit v old) k m = HasDatum z g.copy (stored_at g k) (number_of IntTy.UChar (lowest_bit v)) m
 HasValue z g (Leaves v) k m = (i : ℕ) → i < byte_count v → m (Result g.layout.root i) ≡ held z (byte_of v i)
 HasValue z g _ k m = Unit {0}
@@ -133,7 +139,7 @@ HasValue z g _ k m = Unit {0}
 -- ---- all that waits
 abbrev pub Holds : Scene → Ground → List Pending → Memory → Type 0
 Holds z g [] m = Unit {0}
-Holds z g (In e got ∷ k) m = Waits z g (base g k) e got m × Holds z g k m
+Holds z g (In e got ∷ k) m = Waits z g (base g k) (wanted k) e got m × Holds z g k m
 Holds z g (To place ∷ k) m = Holds z g k m
 Holds z g (Doing t stage ∷ k) m = Holds z g k m
 Holds z g (Before ss ∷ k) m = Holds z g k m

@@ -59,7 +59,7 @@ pattern_small int.Long (negsuc a) = omega (arith, ints)
 pattern_small int.ULong (pos a) = omega (arith, ints)
 pattern_small int.ULong (negsuc a) = omega (arith, ints)
 
-one_digit : (x : ℕ) → x < 256 → digits_sum (λ i. x / 256 ^ i % 256) 1 ≡ x
+pub one_digit : (x : ℕ) → x < 256 → digits_sum (λ i. x / 256 ^ i % 256) 1 ≡ x
 unfolding digits_sum
 one_digit x lt = omega arith
 

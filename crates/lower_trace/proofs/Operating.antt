@@ -53,13 +53,13 @@ IsPlain ops.Eq = Unit {0}
 IsPlain ops.Ne = Unit {0}
 IsPlain _ = ⊥
 
-apart_operands : (n b w : ℕ) → misses (Frame n b) w (Frame n (b + w)) w ≡ true
+pub apart_operands : (n b w : ℕ) → misses (Frame n b) w (Frame n (b + w)) w ≡ true
 apart_operands n b w = grind (arith, common_steps)
 
-itself : (n b w : ℕ) → is_same_or_misses w (Frame n b) (Frame n b) ≡ true
+pub itself : (n b w : ℕ) → is_same_or_misses w (Frame n b) (Frame n b) ≡ true
 itself n b w = rw (byte_same (Frame n b)) refl
 
-or_true : (a b : Bool) → b ≡ true → (a || b) ≡ true
+pub or_true : (a b : Bool) → b ≡ true → (a || b) ≡ true
 or_true true b e = refl
 or_true false b e = e
 
@@ -90,7 +90,7 @@ plain_fits ops.Rem w count n b p = absurd p
 plain_fits ops.Shl w count n b p = absurd p
 plain_fits ops.Shr w count n b p = absurd p
 
-plain_alone : (op : BinOp) (count : Option ℕ) → IsPlain op → is_helped op count ≡ false
+pub plain_alone : (op : BinOp) (count : Option ℕ) → IsPlain op → is_helped op count ≡ false
 plain_alone ops.Add count p = refl
 plain_alone ops.And count p = refl
 plain_alone ops.Or count p = refl
@@ -108,7 +108,7 @@ plain_alone ops.Rem count p = absurd p
 plain_alone ops.Shl count p = absurd p
 plain_alone ops.Shr count p = absurd p
 
-plain_right : (op : BinOp) (ty : IntTy) → IsPlain op → right_type op ty ≡ ty
+pub plain_right : (op : BinOp) (ty : IntTy) → IsPlain op → right_type op ty ≡ ty
 plain_right ops.Add ty p = refl
 plain_right ops.And ty p = refl
 plain_right ops.Or ty p = refl
@@ -144,7 +144,7 @@ plain_gives ops.Rem a b p = absurd p
 plain_gives ops.Shl a b p = absurd p
 plain_gives ops.Shr a b p = absurd p
 
-plain_cost : (op : BinOp) (count : Option ℕ) (w : ℕ) → IsPlain op → binary_cost op count w ≤ 10 * w + 30
+pub plain_cost : (op : BinOp) (count : Option ℕ) (w : ℕ) → IsPlain op → binary_cost op count w ≤ 10 * w + 30
 plain_cost ops.Add count w p = omega arith
 plain_cost ops.And count w p = omega arith
 plain_cost ops.Or count w p = omega arith
@@ -162,7 +162,7 @@ plain_cost ops.Rem count w p = absurd p
 plain_cost ops.Shl count w p = absurd p
 plain_cost ops.Shr count w p = absurd p
 
-plain_least : (op : BinOp) → IsPlain op → least_binary op ≡ 1
+pub plain_least : (op : BinOp) → IsPlain op → least_binary op ≡ 1
 plain_least ops.Add p = refl
 plain_least ops.And p = refl
 plain_least ops.Or p = refl

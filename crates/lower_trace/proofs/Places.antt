@@ -85,7 +85,7 @@ pub copies_are : (to from : Byte) (n : ℕ) → copies to from n ≡ copies_from
 unfolding copies
 copies_are to from n = let e : 0 + n ≡ n = omega arith in sym (copies_between to from 0 n ∙ ap (copies to from) e)
 
-putting_none : (b : Bool) (z : Scene) (to : Byte) (c : List Task) → putting_if b z to [] c ≡ c
+pub putting_none : (b : Bool) (z : Scene) (to : Byte) (c : List Task) → putting_if b z to [] c ≡ c
 putting_none true z to c = refl
 putting_none false z to c = refl
 
@@ -93,7 +93,7 @@ private_none : (b : Bool) (i : ℕ) → i < (if b then 0 else 0) → ⊥
 private_none true i lt = omega arith
 private_none false i lt = omega arith
 
-in_place_none : (p : place.Spot) (at : spot.Spot) (i : ℕ) → i < in_place p at 0 → ⊥
+pub in_place_none : (p : place.Spot) (at : spot.Spot) (i : ℕ) → i < in_place p at 0 → ⊥
 in_place_none (Fixed from) at i lt = private_none (is_private from) i lt
 in_place_none (Bit register bit) at i lt = omega arith
 in_place_none Computed (spots.Memory (Into (where_is.Fixed n) offset)) i lt = omega arith

@@ -38,7 +38,7 @@ pub if_none : (b : Bool) (kind : Undef) (x : Option Undef) → (if b then Some k
 if_none true kind x e = absurd (cc)
 if_none false kind x e = (refl, e)
 
-not_false : (b : Bool) → not b ≡ false → b ≡ true
+pub not_false : (b : Bool) → not b ≡ false → b ≡ true
 not_false true e = refl
 not_false false e = absurd (cc)
 
@@ -53,7 +53,7 @@ pub record Readable (z : Scene) (live : List CopyOf) (object : object.Object) (o
   pub set : is_unset byte ≡ false
   pub alive : is_alive live object ≡ true
 
-readable : (z : Scene) (live : List CopyOf) (root : Root) (fits : value.Byte → Bool) (object : object.Object) (offset : ℕ) (byte : value.Byte) → read_fault z.program live root fits object offset byte ≡ None → Readable z live object offset byte
+pub readable : (z : Scene) (live : List CopyOf) (root : Root) (fits : value.Byte → Bool) (object : object.Object) (offset : ℕ) (byte : value.Byte) → read_fault z.program live root fits object offset byte ≡ None → Readable z live object offset byte
 readable z live root fits object offset byte e =
     let a = if_none (not (nat_lt offset (object_bytes z.program object))) _ _ e in
     let b = if_none (is_unset byte) _ _ a.1 in

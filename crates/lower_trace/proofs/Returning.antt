@@ -31,7 +31,7 @@ use Rattle.lower_trace.proofs.Giving.{placed_of, agrees_same}
 use Rattle.lower_trace.proofs.Handing.{results_then, result_there, frame_there, object_there}
 use Rattle.lower_trace.proofs.Kept.{SceneLaws, SameFrame, own_copy, own_root, waits_far, if_far, read_far, datum_same, at_same}
 use Rattle.lower_trace.proofs.Leaving.{IsResumable, Through, through, function_left}
-use Rattle.lower_trace.proofs.Mirrors.{Mirrors, Agrees, Holds, HasValue}
+use Rattle.lower_trace.proofs.Mirrors.{standing, Mirrors, Agrees, Holds, HasValue}
 use Rattle.lower_trace.proofs.Operations.{Comes, comes_within}
 use Rattle.lower_trace.proofs.Placed.{Placed, todo_join}
 
@@ -45,7 +45,7 @@ value_frames z g (Run t) k m m' x s h = tt
 value_frames z g Past k m m' x s h = tt
 value_frames z g (Fetch at read) k m m' x s h = read_far z g k at read m m' s h
 value_frames z g (Skim at left byte) k m m' x s h = tt
-value_frames z g (Write at v done) k m m' x s h = datum_same z g.copy (stored_at g k) v m m' (λ y le lt. s y) h
+value_frames z g (Write at v done) k m m' x s h = datum_same z g.copy (stored_at g k) (standing at done v) m m' (λ y le lt. s y) h
 value_frames z g (PutBit register bit v old) k m m' x s h = datum_same z g.copy (stored_at g k) (number_of int.UChar (lowest_bit v)) m m' (λ y le lt. s y) h
 value_frames z g (CopyRead to from left) k m m' x s h = tt
 value_frames z g (CopyWrite to from byte left) k m m' x s h = tt
@@ -68,7 +68,7 @@ Resumables (Resumes d x ∷ k) = IsResumable x × Resumables k
 
 pub holds_frames : (z : Scene) (c : CopyOf) (k : List Pending) (m m' : Memory) → Resumables k → ((i : ℕ) → SameFrame i m m') → Holds z (ground_in z c) k m → Holds z (ground_in z c) k m'
 holds_frames z c [] m m' r s h = tt
-holds_frames z c (In e got ∷ k) m m' r s h = (waits_far z (ground_in z c) (base (ground_in z c) k) e got m m' (s (ground_in z c).copy) h.0, holds_frames z c k m m' r s h.1)
+holds_frames z c (In e got ∷ k) m m' r s h = (waits_far z (ground_in z c) (base (ground_in z c) k) (wanted k) e got m m' (s (ground_in z c).copy) h.0, holds_frames z c k m m' r s h.1)
 holds_frames z c (To place ∷ k) m m' r s h = holds_frames z c k m m' r s h
 holds_frames z c (Doing t stage ∷ k) m m' r s h = holds_frames z c k m m' r s h
 holds_frames z c (Before ss ∷ k) m m' r s h = holds_frames z c k m m' r s h

@@ -40,7 +40,7 @@ use Rattle.lower_trace.proofs.Constants.{due_below, again_below}
 use Rattle.lower_trace.proofs.Fetching.{copies_step}
 use Rattle.lower_trace.proofs.Giving.{Around, placed_of, mirrors}
 use Rattle.lower_trace.proofs.Kept.{SceneLaws, SameTemps, Reached, Piled, own_copy, base_above, beyond_high, datum_same, at_same}
-use Rattle.lower_trace.proofs.Mirrors.{Mirrors, Agree, Agrees, Holds, HasValue, HasIf, HasReadIn, HasReadAt, HasArguments, Waits, core_byte}
+use Rattle.lower_trace.proofs.Mirrors.{HasDatum, standing, Mirrors, Agree, Agrees, Holds, HasValue, HasIf, HasReadIn, HasReadAt, HasArguments, Waits, core_byte}
 use Rattle.lower_trace.proofs.Operations.{Comes, beyond_is, own_frame, write_then}
 use Rattle.lower_trace.proofs.Placed.{Placed}
 use Rattle.lower_trace.proofs.Written.{off, nat_apart, and_false}
@@ -57,33 +57,33 @@ arguments_high z g b before (tree.AndExpression e es) (v ∷ vs) m m' small s h 
     let q = beyond_high b before small in
     (datum_same z g.copy (beyond b before) v m m' (λ y le lt. s y (omega arith)) h.0, arguments_high z g b (beyond before (value_width g.layout e)) es vs m m' small s h.1)
 
-waits_high : (z : Scene) (g : Ground) (b : ℕ) (e : Expression) (got : Got) (m m' : Memory) → b ≤ 65535 → ((y : ℕ) → b ≤ y → m' (Frame g.copy y) ≡ m (Frame g.copy y)) → Waits z g b e got m → Waits z g b e got m'
-waits_high z g b (tree.Binary op left right ty line) (One u) m m' small s h = datum_same z g.copy b u m m' (λ y le lt. s y le) h
-waits_high z g b (tree.Offset op left right size ty line) (One u) m m' small s h = datum_same z g.copy b u m m' (λ y le lt. s y le) h
-waits_high z g b (tree.Difference left right size line) (One u) m m' small s h = datum_same z g.copy b u m m' (λ y le lt. s y le) h
-waits_high z g b (tree.Read place ty line) (At at) m m' small s h = at_same z g.copy b (spot_of g.layout g.copy place) at m m' (λ y le lt. s y le) h
-waits_high z g b (tree.Assign place value ty line) (At at) m m' small s h = at_same z g.copy b (spot_of g.layout g.copy place) at m m' (λ y le lt. s y le) h
-waits_high z g b (tree.Assign place value ty line) (Stores at v) m m' small s h = at_same z g.copy b (spot_of g.layout g.copy place) at m m' (λ y le lt. s y le) h
-waits_high z g b (tree.StructAssign place from size line) (At at) m m' small s h = at_same z g.copy b (spot_of g.layout g.copy place) at m m' (λ y le lt. s y le) h
-waits_high z g b (tree.Update op place value operation size ty line) (At at) m m' small s h = at_same z g.copy b (spot_of g.layout g.copy place) at m m' (λ y le lt. s y le) h
-waits_high z g b (tree.Update op place value operation size ty line) (AtWith at u) m m' small s h =
+waits_high : (z : Scene) (g : Ground) (b : ℕ) (w : Bool) (e : Expression) (got : Got) (m m' : Memory) → b ≤ 65535 → ((y : ℕ) → b ≤ y → m' (Frame g.copy y) ≡ m (Frame g.copy y)) → Waits z g b w e got m → Waits z g b w e got m'
+waits_high z g b w (tree.Binary op left right ty line) (One u) m m' small s h = datum_same z g.copy b u m m' (λ y le lt. s y le) h
+waits_high z g b w (tree.Offset op left right size ty line) (One u) m m' small s h = datum_same z g.copy b u m m' (λ y le lt. s y le) h
+waits_high z g b w (tree.Difference left right size line) (One u) m m' small s h = datum_same z g.copy b u m m' (λ y le lt. s y le) h
+waits_high z g b w (tree.Read place ty line) (At at) m m' small s h = at_same z g.copy b (spot_of g.layout g.copy place) at m m' (λ y le lt. s y le) h
+waits_high z g b w (tree.Assign place value ty line) (At at) m m' small s h = at_same z g.copy b (spot_of g.layout g.copy place) at m m' (λ y le lt. s y le) h
+waits_high z g b w (tree.Assign place value ty line) (Stores at v) m m' small s h = at_same z g.copy b (spot_of g.layout g.copy place) at m m' (λ y le lt. s y le) h
+waits_high z g b w (tree.StructAssign place from size line) (At at) m m' small s h = at_same z g.copy b (spot_of g.layout g.copy place) at m m' (λ y le lt. s y le) h
+waits_high z g b w (tree.Update op place value operation size ty line) (At at) m m' small s h = at_same z g.copy b (spot_of g.layout g.copy place) at m m' (λ y le lt. s y le) h
+waits_high z g b w (tree.Update op place value operation size ty line) (AtWith at u) m m' small s h =
     let q = beyond_high b (pointer_bytes (spot_of g.layout g.copy place)) small in
     (at_same z g.copy b (spot_of g.layout g.copy place) at m m' (λ y le lt. s y le) h.0, datum_same z g.copy (behind_pointer g.layout g.copy b place) u m m' (λ y le lt. s y (omega arith)) h.1)
-waits_high z g b (tree.Update op place value operation size ty line) (Stores at v) m m' small s h = at_same z g.copy b (spot_of g.layout g.copy place) at m m' (λ y le lt. s y le) h
-waits_high z g b (tree.Step op place operation size ty line) (At at) m m' small s h =
+waits_high z g b w (tree.Update op place value operation size ty line) (Stores at v) m m' small s h = at_same z g.copy b (spot_of g.layout g.copy place) at m m' (λ y le lt. s y le) h
+waits_high z g b w (tree.Step op place operation size ty line) (At at) m m' small s h =
     let q = beyond_high b (pointer_bytes (spot_of g.layout g.copy place)) small in (
       at_same z g.copy b (spot_of g.layout g.copy place) at m m' (λ y le lt. s y le) h.0,
       datum_same z g.copy (behind_pointer g.layout g.copy b place) (datum.Number (cut_to (operation_type operation) (pos (step_number operation size)))) m m' (λ y le lt. s y (omega arith)) h.1,
     )
-waits_high z g b (tree.Step op place operation size ty line) (Stores at v) m m' small s h =
+waits_high z g b w (tree.Step op place operation size ty line) (Stores at v) m m' small s h =
     let q = beyond_high b (pointer_bytes (spot_of g.layout g.copy place)) small in
     let r = beyond_twice (behind_pointer g.layout g.copy b place) (width g.layout operation) b q small in (
       at_same z g.copy b (spot_of g.layout g.copy place) at m m' (λ y le lt. s y le) h.0,
       λ keeps. datum_same z g.copy (beyond (stored g b (tree.Step op place operation size ty line)) (width g.layout operation)) v m m' (λ y le lt. s y (omega arith)) (h.1 keeps),
     )
-waits_high z g b (tree.Call function arguments ty line) (Args before more) m m' small s h = arguments_high z g b 0 arguments before m m' small s h
-waits_high z g b (tree.Call function arguments ty line) (Passed values) m m' small s h = arguments_high z g b 0 arguments values m m' small s h
-waits_high z g b _ _ m m' small s h = tt
+waits_high z g b w (tree.Call function arguments ty line) (Args before more) m m' small s h = arguments_high z g b 0 arguments before m m' small s h
+waits_high z g b w (tree.Call function arguments ty line) (Passed values) m m' small s h = arguments_high z g b 0 arguments values m m' small s h
+waits_high z g b w _ _ m m' small s h = tt
 
 same_object_clear : (z : Scene) (laws : SceneLaws z) (c : CopyOf) (object : object.Object) (offset y : ℕ) (m : Memory) (h : Held) → IsReached z.program c → (ground_in z c).base ≤ y → IsThere z.program object → offset < object_bytes z.program object → with_byte m (core_byte z object offset) h (Frame (number z c) y) ≡ m (Frame (number z c) y)
 same_object_clear z laws c (objects.Fixed i) offset y m h r le there lt = refl
@@ -172,7 +172,7 @@ value_temps z g (Run t) k m m' p small s r h = tt
 value_temps z g Past k m m' p small s r h = tt
 value_temps z g (Fetch at read) k m m' p small s r h = let a = base_above g k p in read_high z g k at read m m' (λ y le. s y (omega arith)) h
 value_temps z g (Skim at left byte) k m m' p small s r h = tt
-value_temps z g (Write at v done) k m m' p small s r h = let a = stored_at_high g k p small in datum_same z g.copy (stored_at g k) v m m' (λ y le lt. s y (omega arith)) h
+value_temps z g (Write at v done) k m m' p small s r h = let a = stored_at_high g k p small in datum_same z g.copy (stored_at g k) (standing at done v) m m' (λ y le lt. s y (omega arith)) h
 value_temps z g (PutBit register bit v old) k m m' p small s r h = let a = stored_at_high g k p small in datum_same z g.copy (stored_at g k) (number_of int.UChar (lowest_bit v)) m m' (λ y le lt. s y (omega arith)) h
 value_temps z g (CopyRead to from left) k m m' p small s r h = tt
 value_temps z g (CopyWrite to from byte left) k m m' p small s r h = tt
@@ -183,7 +183,7 @@ value_temps z g (Leaves v) k m m' p small s r h = λ i lt. r i ∙ h i lt
 value_temps z g (Compares v labels) k m m' p small s r h = tt
 value_temps z g Over k m m' p small s r h = tt
 
-own_temps : (z : Scene) (c : CopyOf) (m m' : Memory) → SameTemps z c m m' → (y : ℕ) → (ground_in z c).base ≤ y → m' (Frame (ground_in z c).copy y) ≡ m (Frame (ground_in z c).copy y)
+pub own_temps : (z : Scene) (c : CopyOf) (m m' : Memory) → SameTemps z c m m' → (y : ℕ) → (ground_in z c).base ≤ y → m' (Frame (ground_in z c).copy y) ≡ m (Frame (ground_in z c).copy y)
 own_temps z c m m' s y le = subst (λ i. m' (Frame i y) ≡ m (Frame i y)) (sym (own_copy z c)) (s y le)
 
 pub holds_temps : (z : Scene) (c : CopyOf) (k : List Pending) (m m' : Memory) → ((d : CopyOf) → IsReached z.program d → SameTemps z d m m') → ((q : Root) (i : ℕ) → m' (Result q i) ≡ m (Result q i)) → IsReached z.program c → Piled (ground_in z c) k → Reached z (ground_in z c) k → Holds z (ground_in z c) k m → Holds z (ground_in z c) k m'
@@ -191,7 +191,7 @@ holds_temps z c [] m m' s r there p reach h = tt
 holds_temps z c (In e got ∷ k) m m' s r there p reach h =
     let a = base_above (ground_in z c) k p.2 in
     let small = reach.0 in
-    (waits_high z (ground_in z c) (base (ground_in z c) k) e got m m' (omega arith) (λ y le. own_temps z c m m' (s c there) y (omega arith)) h.0, holds_temps z c k m m' s r there p.2 reach.1 h.1)
+    (waits_high z (ground_in z c) (base (ground_in z c) k) (wanted k) e got m m' (omega arith) (λ y le. own_temps z c m m' (s c there) y (omega arith)) h.0, holds_temps z c k m m' s r there p.2 reach.1 h.1)
 holds_temps z c (To place ∷ k) m m' s r there p reach h = holds_temps z c k m m' s r there p reach h
 holds_temps z c (Doing t stage ∷ k) m m' s r there p reach h = holds_temps z c k m m' s r there p.1 reach h
 holds_temps z c (Before ss ∷ k) m m' s r there p reach h = holds_temps z c k m m' s r there p.1 reach h
@@ -200,18 +200,18 @@ holds_temps z c (Resumes d x ∷ k) m m' s r there p reach h =
     (value_temps z (ground_in z d) x k m m' reach.2 reach.1 (own_temps z d m m' (s d reach.0)) (λ i. r (ground_in z d).layout.root i) h.0, holds_temps z d k m m' s r reach.0 reach.2 reach.3 h.1)
 
 -- ---- the step
-memory_object : (z : Scene) (object : object.Object) (offset : ℕ) (h : Held) (m : Memory) → memory_with (core_byte z object offset) h m ≡ with_byte m (core_byte z object offset) h
+pub memory_object : (z : Scene) (object : object.Object) (offset : ℕ) (h : Held) (m : Memory) → memory_with (core_byte z object offset) h m ≡ with_byte m (core_byte z object offset) h
 unfolding memory_with
 memory_object z (objects.Fixed n) offset h m = refl
 memory_object z (objects.Variable c n) offset h m = refl
 
-results_kept : (z : Scene) (object : object.Object) (offset : ℕ) (h : Held) (m : Memory) (q : Root) (i : ℕ) → with_byte m (core_byte z object offset) h (Result q i) ≡ m (Result q i)
+pub results_kept : (z : Scene) (object : object.Object) (offset : ℕ) (h : Held) (m : Memory) (q : Root) (i : ℕ) → with_byte m (core_byte z object offset) h (Result q i) ≡ m (Result q i)
 results_kept z (objects.Fixed n) offset h m q i = refl
 results_kept z (objects.Variable c n) offset h m q i = refl
 
 module _ (z : Scene) (laws : SceneLaws z) (cp : CopyOf) (k : List Pending) (l : source.Memory) (around : Around z cp k) (reach : Reached z (ground_in z cp) k) (low : base (ground_in z cp) k ≤ 96) where
   -- The next byte of a value goes to a byte of an object: to a variable of the own frame, or to a static object, which is an event.
-  pub store_goes : (object : object.Object) (offset : ℕ) (at next : spot.Spot) (v : Datum) (done count from : ℕ) (X : Byte) (r : List Task) (w w' : World value.Byte) (c : Machine) → IsThere z.program object → offset < object_bytes z.program object → done < count → done < byte_count v
+  pub store_goes : (object : object.Object) (offset : ℕ) (at next : spot.Spot) (v : Datum) (done count from : ℕ) (X : Byte) (r : List Task) (w w' : World value.Byte) (c : Machine) → ((y : Datum) (i : ℕ) → standing at i y ≡ y) → ((y : Datum) (i : ℕ) → standing next i y ≡ y) → IsThere z.program object → offset < object_bytes z.program object → done < count → done < byte_count v
       → ((a : spot.Spot) (i : ℕ) → writing_at z (ground_in z cp) k a i ≡ todo (copies_from X (Frame (ground_in z cp).copy from) i (count - i)) r) → stored_at (ground_in z cp) k ≡ from
       → behind X done ≡ core_byte z object offset → from + count ≤ (core_in z).program.frame_bytes (number z cp)
       → is_others (number z cp) (core_byte z object offset) ≡ false → is_valid (core_in z).program (number z cp) (core_byte z object offset) ≡ true
@@ -220,7 +220,7 @@ module _ (z : Scene) (laws : SceneLaws z) (cp : CopyOf) (k : List Pending) (l : 
       → is_due (arrived z.outside w) ≡ false
       → Mirrors z (state cp (Write at v done) k l w) c → Comes (core_in z) (Mirrors z (state cp (Write next v (done + 1)) k (with_source l object offset (byte_of v done)) w')) 6 1 c
   unfolding active is_valid
-  store_goes object offset at next v done count from X r w w' c there inside lt part code_is from_is target room own valid may world due h =
+  store_goes object offset at next v done count from X r w w' c plain_at plain_next there inside lt part code_is from_is target room own valid may world due h =
       let n = number z cp in
       let g = ground_in z cp in
       let W = world_as (held z) (arrived z.outside w) in
@@ -232,7 +232,8 @@ module _ (z : Scene) (laws : SceneLaws z) (cp : CopyOf) (k : List Pending) (l : 
       let R = todo (copies_from X (Frame g.copy from) (done + 1) (count - (done + 1))) r in
       let now : writing_at z g k at done ≡ Todo [] (code.Copy x (Frame n (from + done))) ∷ R =
       code_is at done ∙ ap (λ ts. todo ts r) (copies_step X (Frame g.copy from) done count lt) ∙ ap (λ y. Todo [] (code.Copy y (behind (Frame g.copy from) done)) ∷ R) target ∙ ap (λ y. Todo [] (code.Copy x y) ∷ R) source_is in
-      let holds_byte : c.memory (Frame n (from + done)) ≡ held z byte = ap (λ i. c.memory (Frame i (from + done))) (sym (own_copy z cp)) ∙ ap (λ i. c.memory (Frame g.copy (i + done))) (sym from_is) ∙ h.value done part in
+      let has : HasDatum z g.copy (stored_at g k) v c.memory = subst (λ y. HasDatum z g.copy (stored_at g k) y c.memory) (plain_at v done) h.value in
+      let holds_byte : c.memory (Frame n (from + done)) ≡ held z byte = ap (λ i. c.memory (Frame i (from + done))) (sym (own_copy z cp)) ∙ ap (λ i. c.memory (Frame g.copy (i + done))) (sym from_is) ∙ has done part in
       let m' = with_byte c.memory x (held z byte) in
       let kept : (d : CopyOf) → IsReached z.program d → SameTemps z d c.memory m' = temps_kept z laws object offset there inside c.memory (held z byte) in
       write_then (core_in z) T n None (stack_after z g k) W (due_below z (arrived z.outside w) due) (again_below z w) x (Frame n (from + done)) R c.memory c refl (own_frame (core_in z).program n (from + done) 1 (omega arith)) own valid
@@ -245,4 +246,4 @@ module _ (z : Scene) (laws : SceneLaws z) (cp : CopyOf) (k : List Pending) (l : 
       (subst (λ y. Placed (core_in z) n None R (stack_after z g k) y (arrived z.outside (after_write x (c.memory (Frame n (from + done))) W)) d) (ap (λ y. memory_with x y c.memory) holds_byte ∙ memory_object z object offset (held z byte) c.memory) pd)))
       (store_agrees z laws object offset there inside c.memory (held z byte) (active cp (Write next v (done + 1)) k) l byte refl h.agrees)
       (holds_temps z cp k c.memory m' kept (results_kept z object offset (held z byte) c.memory) around.reached around.piled reach h.holds)
-      (value_temps z g (Write next v (done + 1)) k c.memory m' around.piled low (own_temps z cp c.memory m' (kept cp around.reached)) (results_kept z object offset (held z byte) c.memory g.layout.root) h.value))
+      (value_temps z g (Write next v (done + 1)) k c.memory m' around.piled low (own_temps z cp c.memory m' (kept cp around.reached)) (results_kept z object offset (held z byte) c.memory g.layout.root) (subst (λ y. HasDatum z g.copy (stored_at g k) y c.memory) (sym (plain_next v (done + 1))) has)))

@@ -1,5 +1,5 @@
 -- Nodes take the values of their parts, where byte code does nothing yet or only joins.
-use Rattle.std.proofs.Common.{◌≡◌, ℕ, ◌-◌, Bool, true, false, List, [], ◌∷◌, ◌++◌, None, refl, ap, ◌∙◌, subst, arith}
+use Rattle.std.proofs.Common.{◌≡◌, ℕ, ◌-◌, Bool, true, false, List, [], ◌∷◌, ◌++◌, None, refl, sym, ap, ◌∙◌, subst, arith}
 use Rattle.c_ints.specs.declared.operators.BinOp.{BinOp}
 use Rattle.c_typed.specs.Trees as tree
 use Rattle.c_typed.specs.Trees.{Expression, Expressions, Place}
@@ -40,9 +40,14 @@ use Rattle.lower_trace.proofs.Constants.{due_below, again_below}
 use Rattle.lower_trace.proofs.Flow.{arrive}
 use Rattle.lower_trace.proofs.Giving.{placed_of}
 use Rattle.lower_trace.proofs.Jumping.{join_then}
-use Rattle.lower_trace.proofs.Mirrors.{Mirrors, IsAt}
+use Rattle.lower_trace.proofs.Mirrors.{standing, HasDatum, Mirrors, IsAt}
 use Rattle.lower_trace.proofs.Places.{waits_one, copies_are}
 use Rattle.lower_trace.proofs.Placed.{todo_join}
+
+pub first_standing : (at : spot.Spot) (v : Datum) → standing at 0 v ≡ v
+first_standing (spots.Bit register bit) v = refl
+first_standing (spots.Memory x) v = refl
+first_standing (spots.Device address) v = refl
 
 module _ (z : Scene) where
   -- ---- left operands
@@ -111,13 +116,13 @@ module _ (z : Scene) where
       let g = ground_in z cp in
       rests z cp (Value (datum.Number q)) (Write at (datum.Number q) 0) (In e (At at) ∷ k) (In e (Stores at (datum.Number q)) ∷ k) l l w c h refl
       (writes_first g.layout.root (spot_of g.layout g.copy place) at g.copy (base g k) (behind_pointer g.layout g.copy (base g k) place) (width g.layout ty) (wanted k) (code_after g k))
-      refl h.agrees (h.holds.0, h.holds.1) h.value
+      refl h.agrees (h.holds.0, h.holds.1) (subst (λ y. HasDatum z g.copy (behind_pointer g.layout g.copy (base g k) place) y c.memory) (sym (first_standing at (datum.Number q))) h.value)
   assign_given place right ty line at (datum.Pointer x) k cp l w c h =
       let e = tree.Assign place right ty line in
       let g = ground_in z cp in
       rests z cp (Value (datum.Pointer x)) (Write at (datum.Pointer x) 0) (In e (At at) ∷ k) (In e (Stores at (datum.Pointer x)) ∷ k) l l w c h refl
       (writes_first g.layout.root (spot_of g.layout g.copy place) at g.copy (base g k) (behind_pointer g.layout g.copy (base g k) place) (width g.layout ty) (wanted k) (code_after g k))
-      refl h.agrees (h.holds.0, h.holds.1) h.value
+      refl h.agrees (h.holds.0, h.holds.1) (subst (λ y. HasDatum z g.copy (behind_pointer g.layout g.copy (base g k) place) y c.memory) (sym (first_standing at (datum.Pointer x))) h.value)
 
   -- ---- places that pointers lead to
   pub deref_given : (pointer : Expression) (ty : Qualified) (line : ℕ) (v : Datum) (k : List Pending) (cp : CopyOf) (l : source.Memory) (w : World value.Byte) (c : Machine) → WaitsForPlace k (tree.Deref pointer ty line)
