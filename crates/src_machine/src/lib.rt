@@ -2,8 +2,9 @@
 //!
 //! In: a typed program, a map that tells where its objects stand, input bytes and arrivals of interrupt flags. Out: the
 //! program's steps, each with the event that it makes.
-//! The definitions of a step, of its kinds of undefined steps and of runs are in specs/. The promise: every call ends; an
-//! undefined step is the last one; counts of steps and of runs never fall. That the steps are the defined ones is not proved.
+//! The promise: each step is the next one of the run by the definitions of src_rules, with the same event, or undefined with the same
+//! kind and line, or there is none, exactly where the definitions have it so; what `new` makes room for suffices for the whole run. Every
+//! call ends, an undefined step is the last one, and counts of steps and of runs are those of the run.
 #![tactic(auto)]
 
 mod accesses;
