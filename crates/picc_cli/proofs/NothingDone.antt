@@ -14,7 +14,7 @@ use Rattle.picc_cli.specs.Lines.{usage_line}
 use Rattle.picc_cli.specs.Summary.{summary_line}
 use Rattle.picc_cli.proofs.Endings.{add_nothing}
 
-nothing_of : (p : Option (List ℕ)) (text : List ℕ) → PrintsPrefix p p text
+pub nothing_of : (p : Option (List ℕ)) (text : List ℕ) → PrintsPrefix p p text
 nothing_of p [] = (0, omega arith, sym (add_nothing p))
 nothing_of p (c ∷ text) = (0, omega arith, sym (add_nothing p))
 

@@ -27,7 +27,6 @@ use Rattle.src_rules.specs.State.{State, Outcome, Went, Undefined as Faulty, Idl
 use Rattle.src_rules.specs.Step.{step, counts, start}
 use Rattle.src_values.specs.Memory.{Setting}
 use Rattle.src_values.specs.declared.objects.Byte.{Byte}
-use Rattle.src_values.specs.declared.objects.Undef.{Undef}
 
 -- ---- the trace of a run, a step at a time
 module _ (s : Setting) (given : IsGiven s) where
@@ -100,34 +99,21 @@ module _ (s : Setting) (content : MapContent) where
   events_of : (n : ℕ) (event : Option Event) → event ≡ option_map (shown (address_of s.program content)) (event_in (take s (after s n))) → events_at s content n ≡ option_to_list event
   events_of n event is = ap option_to_list (sym is)
 
-  pub step_silent : (n : ℕ) (next : Source) (old new : Option (List ℕ)) → TellsNext s content n (ends.Went None) next → new ≡ old → Steps s content n next old new None
-  step_silent n next old new tells same =
-      (tells.0, tells.2, same ∙ nothing_more content old ∙ ap (λ es. option_map (λ t. t ++ event_lines content es) old) (sym (events_of n None tells.1)))
+  pub step_silent : (n : ℕ) (event : Option Event) (next : Source) (old new : Option (List ℕ)) → event ≡ None → TellsNext s content n (ends.Went event) next → new ≡ old
+      → Steps s content n next old new None
+  step_silent n event next old new none tells same =
+      (tells.0, tells.2, same ∙ nothing_more content old ∙ ap (λ es. option_map (λ t. t ++ event_lines content es) old) (sym (events_of n None (sym none ∙ tells.1))))
 
-  pub step_told : (n : ℕ) (event : Event) (next : Source) (old new : Option (List ℕ)) → TellsNext s content n (ends.Went (Some event)) next
+  pub step_told : (n : ℕ) (told : Option Event) (event : Event) (next : Source) (old new : Option (List ℕ)) → told ≡ Some event → TellsNext s content n (ends.Went told) next
       → new ≡ option_map (λ t. t ++ event_text content event) old → Steps s content n next old new None
-  step_told n event next old new tells printed =
-      (tells.0, tells.2, printed ∙ ap (λ l. option_map (λ t. t ++ l) old) (one_more content event) ∙ ap (λ es. option_map (λ t. t ++ event_lines content es) old) (sym (events_of n (Some event) tells.1)))
+  step_told n told event next old new is tells printed =
+      (tells.0, tells.2, printed ∙ ap (λ l. option_map (λ t. t ++ l) old) (one_more content event) ∙ ap (λ es. option_map (λ t. t ++ event_lines content es) old) (sym (events_of n (Some event) (sym is ∙ tells.1))))
 
-  broken : (n : ℕ) (event : Event) (next : Source) (old new : Option (List ℕ)) → TellsNext s content n (ends.Went (Some event)) next → PrintsPrefix old new (event_text content event)
-      → (is_taken (take s (after s n)) ≡ true) × PrintsPrefix old new (event_lines content (events_at s content n))
-  broken n event next old new tells prefix =
-      (tells.0, subst (PrintsPrefix old new) (one_more content event ∙ ap (event_lines content) (sym (events_of n (Some event) tells.1))) prefix)
-
-  pub step_unprinted : (n : ℕ) (event : Event) (next : Source) (old new : Option (List ℕ)) → TellsNext s content n (ends.Went (Some event)) next → PrintsPrefix old new (event_text content event)
-      → Steps s content n next old new (Some CannotPrint)
-  step_unprinted n event next old new tells prefix = broken n event next old new tells prefix
-
-  pub step_forgotten : (n : ℕ) (event : Event) (next : Source) (old new : Option (List ℕ)) → TellsNext s content n (ends.Went (Some event)) next → PrintsPrefix old new (event_text content event)
-      → Steps s content n next old new (Some NoMemory)
-  step_forgotten n event next old new tells prefix = broken n event next old new tells prefix
-
-  pub step_undefined : (n : ℕ) (kind : Undef) (line : ℕ) (next : Source) (old new : Option (List ℕ)) → TellsNext s content n (ends.Undefined kind line) next → new ≡ old
-      → Steps s content n next old new (Some (Undefined kind line))
-  step_undefined n kind line next old new tells same = (tells, same)
-
-  pub step_idle : (n : ℕ) (next : Source) (old new : Option (List ℕ)) → TellsNext s content n ends.Idle next → new ≡ old → Steps s content n next old new (Some Done)
-  step_idle n next old new tells same = (tells.0, same)
+  -- the printing of an event's line broke off
+  pub step_broken : (n : ℕ) (told : Option Event) (event : Event) (next : Source) (old new : Option (List ℕ)) → told ≡ Some event → TellsNext s content n (ends.Went told) next
+      → PrintsPrefix old new (event_text content event) → (is_taken (take s (after s n)) ≡ true) × PrintsPrefix old new (event_lines content (events_at s content n))
+  step_broken n told event next old new is tells prefix =
+      (tells.0, subst (PrintsPrefix old new) (one_more content event ∙ ap (event_lines content) (sym (events_of n (Some event) (sym is ∙ tells.1)))) prefix)
 
   -- ---- a run
   -- it stands behind n steps, and has printed their events

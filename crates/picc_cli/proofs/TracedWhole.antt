@@ -4,11 +4,14 @@ use Rattle.std.specs.Prelude.{if◌then◌else◌}
 use Rattle.std.specs.List.{All}
 use Rattle.std.proofs.lemmas.Bool.{and_parts, leb-true}
 use Rattle.std.proofs.lemmas.List.Elements.{All-append, All-cons, All-nil}
+use Rattle.std.proofs.lemmas.List.{length-map}
 use Rattle.std.proofs.lemmas.Option.{cond_some}
 use Rattle.c_typed.specs.Chains.{graph_of}
 use Rattle.c_typed.specs.Roots.{broken_root}
 use Rattle.c_typed.specs.Sound.{is_sound}
 use Rattle.c_typed.specs.Trees.{Program}
+use Rattle.c_typed.specs.Views.{program_of, static_of}
+use Rattle.c_typed.specs.declared.program.Typed.{Typed}
 use Rattle.call_graph.specs.Copies.{AreCopies}
 use Rattle.call_graph.specs.Levels.{IsAcyclic}
 use Rattle.call_graph.specs.declared.types.FnCopy.{FnCopy}
@@ -85,6 +88,9 @@ input_small : (lines : List (List ℕ)) (content : ScriptContent) → AreScriptL
 input_small lines content are = subst (All (λ b. b < 256)) (sym are.input) (inputs_small lines are.pieces are.tell)
 
 -- ---- the run
+pub statics_few : (p : Program) (typed : Typed) → p ≡ program_of typed → length typed.statics.items ≤ 65536 → length p.statics ≤ 65536
+statics_few p typed is few = let shown = ap (λ (q : Program). length q.statics) is ∙ length-map typed.statics.items static_of in omega (arith, shown, few)
+
 -- What a run is given: the text's tree, its typed program by the rules and with numbers of their types, its copies and places.
 pub record IsFront (text : List ℕ) (program : Program) (copies : List FnCopy) (objects : List ObjectLine) (frames : List FrameLine) : Type 0 where
   pub tree : HasTree text
@@ -134,18 +140,14 @@ module _ (asked : Asked) (content : ScriptContent) (bytes text : List ℕ) (prog
   runs_at o CannotReadText read file front ran = tt
   runs_at o (NoScript end) read file front ran = tt
 
-  pub traced_runs : (old middle : Option Contents) (ended : Ended) → IfSome old (IsRead asked.input 262145 bytes) → middle ≡ old
+  pub traced_runs : (old middle : Option Contents) (first : Option (List ℕ)) (ended : Ended) → first ≡ p → IfSome old (IsRead asked.input 262145 bytes) → middle ≡ old
       → IfSome middle (λ o. IsFile o asked.script (IsScriptInput content)) → text ≡ bytes → IsFront text program copies objects frames
-      → RanFor program (outside_of content.input content.arrivals) (map_of objects frames) asked.steps ended p q → IfSome old (λ o. RunsBy asked o ended p q)
-  traced_runs None middle ended read same file e front ran = tt
-  traced_runs (Some o) middle ended read same file e front ran =
+      → RanFor program (outside_of content.input content.arrivals) (map_of objects frames) asked.steps ended first q → IfSome old (λ o. RunsBy asked o ended p q)
+  traced_runs None middle first ended printed read same file e front ran = tt
+  traced_runs (Some o) middle first ended printed read same file e front ran =
       runs_at o ended read (subst (λ c. IfSome c (λ o. IsFile o asked.script (IsScriptInput content))) same file)
-      (subst (λ t. IsFront t program copies objects frames) e front) ran
-
--- ---- a trace that didn't begin
-pub runs_refused : (asked : Asked) (old : Option Contents) (ended refused : Ended) (p q : Option (List ℕ)) → ended ≡ refused → ((o : Contents) → RunsBy asked o refused p q) → IfSome old (λ o. RunsBy asked o ended p q)
-runs_refused asked None ended refused p q is runs = tt
-runs_refused asked (Some o) ended refused p q is runs = subst (λ e. RunsBy asked o e p q) (sym is) (runs o)
+      (subst (λ t. IsFront t program copies objects frames) e front)
+      (λ s of outside given. subst (λ x. Ran s (map_of objects frames) asked.steps ended x q) printed (ran s of outside given))
 
 -- ---- the whole
 pub trace_told : (asked : Asked) (ended : Ended) (old : Option Contents) (kind : Kind) (first later : ℕ) (p middle q : Option (List ℕ)) (result : ℕ)

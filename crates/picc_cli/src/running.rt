@@ -55,6 +55,7 @@ pub fn run<H: Host>(alloc: Global, host: &mut H, known: Front, script: &Script, 
     }
 }
 
+#[tactic(auto, using(crate::proofs::TracedRun::run_begins, crate::proofs::TraceRun::begins))]
 fn run_steps<H: Host>(
     alloc: Global,
     host: &mut H,
@@ -84,7 +85,6 @@ fn run_steps<H: Host>(
 }
 
 /// Takes a step and prints the line of its event, if it makes one. `None` where the run goes on.
-#[tactic(auto, using(crate::proofs::TracedRun::step_silent, crate::proofs::TracedRun::step_told, crate::proofs::TracedRun::step_unprinted, crate::proofs::TracedRun::step_forgotten, crate::proofs::TracedRun::step_undefined, crate::proofs::TracedRun::step_idle))]
 fn take_step<H: Host>(
     alloc: Global,
     host: &mut H,

@@ -1,5 +1,5 @@
 use Rattle.std.proofs.Common.{◌∙◌, arith}
-use Rattle.picc_cli.proofs.TracedRun.{run_begins, run_on, run_stops, run_ends}
+use Rattle.picc_cli.proofs.TracedRun.{run_on, run_stops, run_ends}
 use Rattle.picc_cli.proofs.TraceRun.{took, stopped, all_taken}
 use Rattle.picc_cli.proofs.running.run_steps.Goals as goal
 
@@ -26,17 +26,10 @@ returns-clause-leads g c =
     let so_far = c.loop-taken.invariant in
     all_taken _ _ _ _ _ c.requires so_far.within so_far.lines
 
-pub loop-taken-holds : goal.loop-taken-holds
-loop-taken-holds g c = record {
-  within = omega arith;
-  lines = c.holds;
-  ran = λ s outside begins. run_begins s _ _ _ begins;
-}
-
 pub returns-in-Some-clause-ran : goal.returns-in-Some-clause-ran
 returns-in-Some-clause-ran g c = λ s outside begins.
     let so_far = c.loop-taken.invariant in
-    run_stops s _ _ _ _ _ _ _ _ _ (omega arith) (so_far.ran s outside begins) (c.in-Some.ensures.next s _ outside (omega arith) (so_far.ran s outside begins).at)
+    run_stops s _ _ _ _ _ c.take_step.new.source _ _ _ (omega arith) (so_far.ran s outside begins) (c.in-Some.ensures.next s _ outside (omega arith) (so_far.ran s outside begins).at)
 
 pub returns-clause-ran : goal.returns-clause-ran
 returns-clause-ran g c = λ s outside begins.

@@ -1,6 +1,7 @@
+use Rattle.std.proofs.Common.{◌∙◌}
 use Rattle.picc_cli.specs.CommandView.{asked_of}
 use Rattle.picc_cli.proofs.TraceFiles.{run_known, refused_known}
-use Rattle.picc_cli.proofs.TracedWhole.{runs_refused, traced_runs}
+use Rattle.picc_cli.proofs.TracedWhole.{traced_runs}
 use Rattle.picc_cli.proofs.tracing.traced.Goals as goal
 
 pub returns-in-Ok-front-clause-knows : goal.returns-in-Ok-front-clause-knows
@@ -16,7 +17,7 @@ returns-clause-knows g c =
 
 pub returns-in-Ok-front-clause-runs : goal.returns-in-Ok-front-clause-runs
 returns-in-Ok-front-clause-runs g c =
-    traced_runs (asked_of c.args.asked) _ _ _ _ _ _ _ _ _ _ _ c.run.result c.in-Ok.ensures.bytes c.in-Ok.ensures.same_contents c.in-Ok-script_in.ensures.found
+    traced_runs (asked_of c.args.asked) _ _ _ _ _ _ _ _ _ _ _ _ c.run.result (c.in-Ok-script_in.ensures.same_printed ∙ c.in-Ok.ensures.same_printed) c.in-Ok.ensures.bytes c.in-Ok.ensures.same_contents c.in-Ok-script_in.ensures.found
     c.deref.ensures.value
     (record {
       tree = c.in-Ok-front.ensures.tree;
