@@ -1,0 +1,3 @@
+mod Chain
+mod Selecting
+mod Paying
