@@ -1,3 +1,5 @@
 mod Chain
 mod Selecting
 mod Paying
+mod Operations
+mod Operators

@@ -260,6 +260,19 @@ module _ (c : ℕ) where
   pub bit_held : (op : BitOperation) (byte : Byte) (n : ℕ) (behind : Bool) → IsMine c byte → Pays true behind 1 true (skips_by_bit op) (syms.Bit op (operands.Byte byte) n ∷ [])
   bit_held op byte n behind h = held_mine (syms.Bit op (operands.Byte byte) n) byte behind (stands_bit op byte n h) h
 
+  -- a test that skips: nothing more is known behind it
+  pub bit_skips : (op : BitOperation) (byte : Byte) (n : ℕ) (has : Bool) → IsMine c byte → skips_by_bit op ≡ true → Pays has false (1 + extra has) has true (syms.Bit op (operands.Byte byte) n ∷ [])
+  bit_skips op byte n has h e =
+      let P : Bool → Type 0 = λ k. Pays has false (1 + extra has) has k (syms.Bit op (operands.Byte byte) n ∷ []) in
+      subst P e (by_parts (syms.Bit op (operands.Byte byte) n) has false has (extra has) (Some byte) (stands_bit op byte n h) (bank_one has byte (mine_own byte h)) (by_own (is_own c byte) (skips_by_bit op) (mine_own byte h) e))
+    where
+      or_false : (a : Bool) → (a || false) ≡ a
+      or_false true = refl
+      or_false false = refl
+
+      by_own : (o k : Bool) → o ≡ true → k ≡ true → (if o then has || not k else false) ≡ has
+      by_own o k e f = ap (λ (x : Bool). if x then has || not k else false) e ∙ ap (λ (x : Bool). has || not x) f ∙ or_false has
+
   pub file_mine : (op : FileOperation) (byte : Byte) (into : Into) (has : Bool) → IsMine c byte → skips_by_file op ≡ false → Pays has false (1 + extra has) true false (syms.File op (operands.Byte byte) into ∷ [])
   file_mine op byte into has h e = pays_mine (syms.File op (operands.Byte byte) into) byte has (stands_file op byte into h) h e
 
