@@ -3,3 +3,5 @@ mod Selecting
 mod Paying
 mod Operations
 mod Operators
+mod Lowered
+mod Puts

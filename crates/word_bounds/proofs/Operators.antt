@@ -50,6 +50,25 @@ use Rattle.word_bounds.proofs.Chain.{never}
 use Rattle.word_bounds.proofs.Paying.{extra, IsMine, IsEasy, easy_mine, mine_behind, easy_behind, Pays, pays_none, pays_on, pays_more, pays_less, pays_from, pays_most, pays_plain, skips_last, file_mine, file_held, bit_held, bit_skips, Tame, Held, Bare, held_on, held_tame, held_bare, tame_on, tame_behind, tame_more, held_more}
 use Rattle.word_bounds.proofs.Operations.{held_skip, number_bare, number_behind, xor_behind, flag_clear, flag_set, carry_off, file_one, file_tame, store_one, store_tame, zero_tame, copy_tame, rising_held, rising_alike, copies_tame, copies_out, clears_held, clears_tame, stores_held, links_tame, pair_tame, chain_in_place, sum_in_place, bits_tame}
 
+-- the words of an operator that works in place, the selects of the frame's bank apart
+abbrev pub binary_most : BinOp → ℕ → ℕ
+binary_most binop.Add w = 4 * w
+binary_most binop.Sub w = 4 * w
+binary_most binop.And w = 3 * w
+binary_most binop.Xor w = 3 * w
+binary_most binop.Or w = 3 * w
+binary_most binop.Eq w = 3 * w + 5
+binary_most binop.Ne w = 3 * w + 5
+binary_most binop.Lt w = 4 * w + 7
+binary_most binop.Gt w = 4 * w + 7
+binary_most binop.Le w = 4 * w + 7
+binary_most binop.Ge w = 4 * w + 7
+binary_most binop.Shl w = 8 * w + 9
+binary_most binop.Shr w = 8 * w + 9
+binary_most binop.Mul w = 14 * w + 3
+binary_most binop.Div w = 14 * w + 3
+binary_most binop.Rem w = 14 * w + 3
+
 module _ (c : ℕ) where
   -- ---- comparisons
   pub choice_held : (usual : ℕ) (test : BitOperation) (flag : Flag) (other : ℕ) → Pays c true false 1 true true (flag_code test flag) → Held c 3 (choice_code usual test flag other)
@@ -374,25 +393,6 @@ module _ (c : ℕ) where
   whole_bytes int.UInt = (1, refl, omega arith)
   whole_bytes int.Long = (3, refl, omega arith)
   whole_bytes int.ULong = (3, refl, omega arith)
-
-  -- the words of an operator that works in place, the selects of the frame's bank apart
-  abbrev pub binary_most : BinOp → ℕ → ℕ
-  binary_most binop.Add w = 4 * w
-  binary_most binop.Sub w = 4 * w
-  binary_most binop.And w = 3 * w
-  binary_most binop.Xor w = 3 * w
-  binary_most binop.Or w = 3 * w
-  binary_most binop.Eq w = 3 * w + 5
-  binary_most binop.Ne w = 3 * w + 5
-  binary_most binop.Lt w = 4 * w + 7
-  binary_most binop.Gt w = 4 * w + 7
-  binary_most binop.Le w = 4 * w + 7
-  binary_most binop.Ge w = 4 * w + 7
-  binary_most binop.Shl w = 8 * w + 9
-  binary_most binop.Shr w = 8 * w + 9
-  binary_most binop.Mul w = 14 * w + 3
-  binary_most binop.Div w = 14 * w + 3
-  binary_most binop.Rem w = 14 * w + 3
 
   module _ (list : List FnCopy) (root : Root) (before : List Tree) (at right : Byte) (same : same_byte at at ≡ true) (mine : IsMine c at) (other : IsMine c right) where
     abbrev Binary : BinOp → IntTy → Type 0
