@@ -5,3 +5,4 @@ mod Operations
 mod Operators
 mod Lowered
 mod Puts
+mod Rows

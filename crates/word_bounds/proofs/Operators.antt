@@ -69,6 +69,17 @@ binary_most binop.Mul w = 14 * w + 3
 binary_most binop.Div w = 14 * w + 3
 binary_most binop.Rem w = 14 * w + 3
 
+pub whole_bytes : (ty : IntTy) → (k : ℕ) × (bytes_of ty ≡ suc k) × (k < 4)
+whole_bytes int.Char = (0, refl, omega arith)
+whole_bytes int.SChar = (0, refl, omega arith)
+whole_bytes int.UChar = (0, refl, omega arith)
+whole_bytes int.Short = (1, refl, omega arith)
+whole_bytes int.UShort = (1, refl, omega arith)
+whole_bytes int.Int = (1, refl, omega arith)
+whole_bytes int.UInt = (1, refl, omega arith)
+whole_bytes int.Long = (3, refl, omega arith)
+whole_bytes int.ULong = (3, refl, omega arith)
+
 module _ (c : ℕ) where
   -- ---- comparisons
   pub choice_held : (usual : ℕ) (test : BitOperation) (flag : Flag) (other : ℕ) → Pays c true false 1 true true (flag_code test flag) → Held c 3 (choice_code usual test flag other)
@@ -312,7 +323,7 @@ module _ (c : ℕ) where
       by_below false e = soft_more 0 (7 * w + 10) [] (omega arith) soft_none
 
   -- ---- copies to anywhere
-  operand_three : (file : Operand) → most_of_operand file ≤ 3
+  pub operand_three : (file : Operand) → most_of_operand file ≤ 3
   operand_three (operands.Byte byte) = by_common (is_common byte)
     where
       by_common : (b : Bool) → (if b then 1 else 3) ≤ 3
@@ -383,17 +394,6 @@ module _ (c : ℕ) where
       subst (λ (n : ℕ). Loose (8 * k + 11 + 6 * count) (helped_code list root op ty to left right n count)) (sym e) (any_loose (int_helper op false ty) list root to left right k count h g)
 
   -- ---- operators on two values, in place
-  pub whole_bytes : (ty : IntTy) → (k : ℕ) × (bytes_of ty ≡ suc k) × (k < 4)
-  whole_bytes int.Char = (0, refl, omega arith)
-  whole_bytes int.SChar = (0, refl, omega arith)
-  whole_bytes int.UChar = (0, refl, omega arith)
-  whole_bytes int.Short = (1, refl, omega arith)
-  whole_bytes int.UShort = (1, refl, omega arith)
-  whole_bytes int.Int = (1, refl, omega arith)
-  whole_bytes int.UInt = (1, refl, omega arith)
-  whole_bytes int.Long = (3, refl, omega arith)
-  whole_bytes int.ULong = (3, refl, omega arith)
-
   module _ (list : List FnCopy) (root : Root) (before : List Tree) (at right : Byte) (same : same_byte at at ≡ true) (mine : IsMine c at) (other : IsMine c right) where
     abbrev Binary : BinOp → IntTy → Type 0
     Binary op ty = Loose (binary_most op (bytes_of ty)) (binary_code list root before op ty at at right)
