@@ -6,3 +6,6 @@ mod Operators
 mod Lowered
 mod Puts
 mod Rows
+mod Typing
+mod Nodes
+mod Expressions

@@ -95,7 +95,7 @@ shift_fits binop.Or constant w e = never e
 pub some_bytes : (ty : IntTy) → 1 ≤ bytes_of ty
 some_bytes ty = let b = whole_bytes ty in let e = b.1 in omega (arith, e)
 
-sum_words : (op : BinOp) (w : ℕ) → moves_by op ≡ true → binary_most op w ≡ 4 * w
+pub sum_words : (op : BinOp) (w : ℕ) → moves_by op ≡ true → binary_most op w ≡ 4 * w
 sum_words binop.Add w e = refl
 sum_words binop.Sub w e = refl
 sum_words binop.Mul w e = never e
