@@ -9,3 +9,4 @@ mod Rows
 mod Typing
 mod Nodes
 mod Expressions
+mod Declared
