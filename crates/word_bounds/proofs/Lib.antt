@@ -10,3 +10,4 @@ mod Typing
 mod Nodes
 mod Expressions
 mod Declared
+mod Segments
