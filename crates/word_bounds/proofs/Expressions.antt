@@ -54,6 +54,7 @@ module _ (list : List FnCopy) (root : Root) (end : Ending) (l : Layout) (c : ℕ
 
   mutual
     unfolding expr_code words fits rule_holds address_code place_words place_fits spot_of arguments_code arguments_words arguments_fit
+
     pub expr_takes : (wanted : Bool) (base : ℕ) (standing : Standing) (e : Expression) → fits p f standing e ≡ true → Takes list root end c (words l.sizes e) (expr_code l c base wanted e)
     expr_takes wanted base standing (tree.Constant value line) h = constant_node list root end l c base (bits value) (bytes_of value.ty)
     expr_takes wanted base standing (tree.Read place ty line) h =

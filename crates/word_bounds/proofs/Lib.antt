@@ -11,3 +11,5 @@ mod Nodes
 mod Expressions
 mod Declared
 mod Segments
+mod Statements
+mod Whole

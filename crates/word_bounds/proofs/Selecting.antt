@@ -253,8 +253,8 @@ module _ (placed : Placed) (own : BlockName) (c bank : ℕ) where
       let one = one_alone s in
       let few = few_for known has needs (due c has false (s ∷ rest)) met (chain.pays placed c bank has false (s ∷ rest) needs none fits found) in
       let more = later (λ e.
-          keeps_bank bank (known_with own known needs) s false (chain.not_lost placed c bank (loses s) (has_with c has (is_skip s) (byte_of s)) (at_front (is_skip s) h rest e)).0
-          (behind_page own bank (behind_bank own known needs) needs.page ∙ known_by known has needs.bank met (chain.ends placed c bank has false (s ∷ rest) needs none fits found e))) in
+      keeps_bank bank (known_with own known needs) s false (chain.not_lost placed c bank (loses s) (has_with c has (is_skip s) (byte_of s)) (at_front (is_skip s) h rest e)).0
+      (behind_page own bank (behind_bank own known needs) needs.page ∙ known_by known has needs.bank met (chain.ends placed c bank has false (s ∷ rest) needs none fits found e))) in
       omega (arith, put, first, one, few, more)
 
   -- ---- all of it

@@ -1,0 +1,87 @@
+-- The block of a function's copy has at most the function's stated words.
+use Rattle.std.proofs.Common.{◌≡◌, ℕ, zero, suc, ◌+◌, ◌≤◌, Bool, true, false, ◌&&◌, List, [], ◌∷◌, ◌++◌, map, length, Option, Some, None, slice_get, refl, sym, ap, ◌∙◌, subst, arith}
+use Rattle.std.proofs.lemmas.Option.{none-some, same_Some}
+use Rattle.std.specs.List.{list_all}
+use Rattle.c_typed.specs.Sound.{target_fits, structure_fits, static_fits, param_fits, local_fits, result_fits, function_fits, statements_fit, is_sound}
+use Rattle.c_typed.specs.Trees.{FunctionTree, Program}
+use Rattle.c_typed.specs.Words.{block_size, statements_words, variable_bytes}
+use Rattle.c_typed.specs.declared.calls.FnId.TheVariants as callee
+use Rattle.call_graph.specs.Numbers.{handler_at}
+use Rattle.call_graph.specs.declared.types.FnCopy.{FnCopy}
+use Rattle.core_code.specs.Tree as core
+use Rattle.core_code.specs.Tree.{Tree}
+use Rattle.core_code.specs.View.{trees_in}
+use Rattle.lower_stmt.specs.Bodies.{body_code}
+use Rattle.lower_stmt.specs.Frames.{ground_for}
+use Rattle.lower_stmt.specs.Ground.{Ground}
+use Rattle.lower_stmt.specs.Jumps.{outside}
+use Rattle.lower_stmt.specs.Statements.{stmts_code}
+use Rattle.pic_map.specs.declared.Placed.{Placed}
+use Rattle.pic_world.specs.declared.Root.{Root}
+use Rattle.ram_place.specs.Sizes.{block_words, size_or_none}
+use Rattle.select_code.specs.declared.control.Ending.{Ending}
+use Rattle.select_wide.specs.Blocks.{block_code, ending_at}
+use Rattle.sym_code.specs.Selects.{bare}
+use Rattle.sym_code.specs.Words.{words_in}
+use Rattle.sym_code.specs.declared.code.Sym.{Sym}
+use Rattle.sym_code.specs.declared.code.SymBlock.{SymBlock}
+use Rattle.bank_page.specs.Selected.{IsExact}
+use Rattle.word_bounds.specs.Bounds.{AreBanked, IsBlockOf, WordsAreStated}
+use Rattle.word_bounds.specs.Counting.{counted}
+use Rattle.word_bounds.proofs.Chain.{never}
+use Rattle.word_bounds.proofs.Lowered.{some_code, Takes, takes_on, takes_more}
+use Rattle.word_bounds.proofs.Typing.{and_first, and_last}
+use Rattle.word_bounds.proofs.Segments.{leave_takes}
+use Rattle.word_bounds.proofs.Selecting.{selects_are_counted}
+use Rattle.word_bounds.proofs.Statements.{statements_take}
+
+function_there : (test : FunctionTree → Bool) (functions : List FunctionTree) (function : ℕ) (f : FunctionTree) → list_all test functions ≡ true → slice_get functions function ≡ Some f → test f ≡ true
+function_there test [] function f h e = absurd (none-some f e)
+function_there test (g ∷ gs) zero f h e = subst (λ (x : FunctionTree). test x ≡ true) (same_Some g f e) (and_first (test g) (list_all test gs) h)
+function_there test (g ∷ gs) (suc k) f h e = function_there test gs k f (and_last (test g) (list_all test gs) h) e
+
+body_fits : (p : Program) (function : ℕ) (f : FunctionTree) → is_sound p ≡ true → slice_get p.functions function ≡ Some f → statements_fit p f true false false f.body ≡ true
+body_fits p function f sound there =
+    let functions = list_all (function_fits p) p.functions in
+    let statics = list_all (static_fits p) p.statics in
+    let structures = list_all (structure_fits p) p.structures in
+    let rest = and_last (list_all (target_fits p) p.targets) (structures && (statics && functions)) sound in
+    let all = and_last statics functions (and_last structures (statics && functions) rest) in
+    let fits = function_there (function_fits p) p.functions function f all there in
+    let body = statements_fit p f true false false f.body in
+    let locals = list_all (local_fits p) f.locals in
+    let params = list_all (param_fits p) f.params in
+    and_last locals body (and_last params (locals && body) (and_last (result_fits p f.result) (params && (locals && body)) fits))
+
+-- a body's code, and its end
+body_takes : (list : List FnCopy) (root : Root) (end : Ending) (p : Program) (f : FunctionTree) (g : Ground) → p.sizes ≡ g.layout.sizes → g.bytes ≡ map (variable_bytes g.layout.sizes) f.locals → statements_fit p f true false false f.body ≡ true
+    → Takes list root end g.copy (4 + statements_words g.layout.sizes g.bytes f.body) (body_code g f)
+body_takes list root end p f g same bytes h =
+    let n = statements_words g.layout.sizes g.bytes f.body in
+    takes_more list root end g.copy (n + 3) (4 + n) (body_code g f) (omega arith)
+    (takes_on list root end g.copy n 3 (stmts_code g outside f.body) (core.Leave ∷ []) (statements_take list root end p f g same bytes outside true false false f.body h) (leave_takes list root end p f g))
+
+-- what is counted for all of some code
+counted_all : (c n : ℕ) (code : List Sym) → ((rest : List Sym) → counted c false false (code ++ rest) ≤ n + counted c false false rest) → counted c false false code ≤ n
+counted_all c n code h =
+    let l = h [] in
+    let e = ap (counted c false false) (append_none code) in
+    omega (arith, l, e)
+  where
+    append_none : (xs : List Sym) → xs ++ [] ≡ xs
+    append_none [] = refl
+    append_none (x ∷ xs) = ap (λ l. x ∷ l) (append_none xs)
+
+pub words_are_stated : WordsAreStated
+words_are_stated p copies placed number bank function f given made sound there block exact none banked =
+    let body = block.body in
+    let end = ending_at (handler_at copies) number in
+    let g = ground_for p copies number body.root f in
+    let code = some_code copies body.root end number [] 0 [] (body_code g f) in
+    let is : given.list.items ≡ code = block.selected ∙ ap (some_code copies body.root end number [] 0 []) block.lowered in
+    let takes = body_takes copies body.root end p f g refl refl (body_fits p function f sound there) [] 0 [] in
+    let all = counted_all number (block_size p.sizes f) code takes in
+    let same = ap (counted number false false) is in
+    let few = selects_are_counted placed given made number bank exact none banked in
+    let stated : block_words p (callee.User function) ≡ block_size p.sizes f = ap (size_or_none (block_size p.sizes)) there in
+    omega (arith, all, same, few, stated)
