@@ -1,5 +1,5 @@
 -- How many words the code of some operations of byte code takes, wherever they stand in a body.
-use Rattle.std.proofs.Common.{◌≡◌, ℕ, zero, suc, ◌+◌, ◌-◌, ◌*◌, ◌≤◌, ◌<◌, Bool, true, false, cond, min, List, [], ◌∷◌, ◌++◌, length, length-append, Option, Some, None, option_map, refl, sym, ap, ◌∙◌, subst, append_assoc, arith}
+use Rattle.std.proofs.Common.{◌≡◌, ℕ, zero, suc, ◌+◌, ◌-◌, ◌*◌, ◌≤◌, ◌<◌, Bool, true, false, not, ◌&&◌, cond, min, List, [], ◌∷◌, ◌++◌, length, length-append, Option, Some, None, option_map, refl, sym, ap, ◌∙◌, subst, append_assoc, arith}
 use Rattle.std.proofs.lemmas.List.Sums.{sum_by-cons}
 use Rattle.std.proofs.lemmas.Option.{none-some, same_Some}
 use Rattle.call_graph.specs.declared.types.FnCopy.{FnCopy}
@@ -8,6 +8,7 @@ use Rattle.core_code.specs.Tree.{Tree, Trees, many, list_of, trees_of}
 use Rattle.core_code.specs.declared.code.Byte.{Byte}
 use Rattle.core_code.specs.declared.code.Byte.TheVariants as bytes
 use Rattle.pic_world.specs.declared.Root.{Root}
+use Rattle.sym_code.specs.Selects.{is_select}
 use Rattle.sym_code.specs.Words.{most_words, most_of_one}
 use Rattle.sym_code.specs.declared.code.BitOperation.TheVariants.{Btfsc}
 use Rattle.sym_code.specs.declared.code.FileOperation.TheVariants.{Movf, Iorwf}
@@ -26,7 +27,7 @@ use Rattle.select_code.specs.declared.control.Ending.{Ending}
 use Rattle.select_code.specs.declared.pieces.Flag.TheVariants.{Zero}
 use Rattle.select_wide.specs.Selection.{wide_code}
 use Rattle.word_bounds.specs.Counting.{has_behind, counted}
-use Rattle.word_bounds.proofs.Chain.{never}
+use Rattle.word_bounds.proofs.Chain.{never, has_none, none_later}
 use Rattle.word_bounds.proofs.Paying.{extra, IsMine, IsEasy, easy_mine, mine_behind, Pays, pays_none, pays_on, pays_more, pays_less, pays_from, pays_most, pays_plain, skips_last, Tame, Held, held_on, held_tame, tame_on, tame_more, held_more}
 use Rattle.word_bounds.proofs.Operations.{rising_held, file_one, file_tame, flag_clear, clrw_bare}
 use Rattle.word_bounds.proofs.Operators.{Loose}
@@ -165,18 +166,18 @@ module _ (list : List FnCopy) (root : Root) (end : Ending) (c : ℕ) where
   pub goto_pays : (label : Label) (has behind : Bool) → Pays c has behind 3 false false (goto_code label)
   goto_pays label has behind =
       let one = sum_by-cons most_of_one (syms.Goto (target.Label label)) [] in
-      pays_more c has behind false false (most_words (goto_code label)) 3 (goto_code label) (omega (arith, one)) (pays_most c has behind (goto_code label))
+      pays_more c has behind false false (most_words (goto_code label)) 3 (goto_code label) (omega (arith, one)) (pays_most c has behind (goto_code label) refl)
 
   pub label_pays : (label : Label) (has : Bool) → Pays c has false 0 false false (label_code label)
   label_pays label has =
       let one = sum_by-cons most_of_one (syms.Label label) [] in
-      pays_more c has false false false (most_words (label_code label)) 0 (label_code label) (omega (arith, one)) (pays_most c has false (label_code label))
+      pays_more c has false false false (most_words (label_code label)) 0 (label_code label) (omega (arith, one)) (pays_most c has false (label_code label) refl)
 
   pub jump_pays : (label : Label) → Pays c false false 4 false false (jump_code label)
   jump_pays label = pays_on c false false false true false false 1 3 (flag_code Btfsc Zero) (goto_code label) (flag_free false) (goto_pays label false true)
     where
       flag_free : (has : Bool) → Pays c has false 1 has true (flag_code Btfsc Zero)
-      flag_free has = pays_plain c (syms.Bit Btfsc (operands.Register Status) (flag_bit Zero)) has false (refl, refl, refl, refl)
+      flag_free has = pays_plain c (syms.Bit Btfsc (operands.Register Status) (flag_bit Zero)) has false (refl, refl, refl, refl, refl)
 
   if_pays : (form : IfForm) (at n h f : ℕ) (test : List Sym) (holds fails : ℕ → List Sym) → Pays c false false n false false test → ((k : ℕ) → Pays c false false h false false (holds k)) → ((k : ℕ) → Pays c false false f false false (fails k))
       → Pays c false false (n + 7 + h + f) false false (if_code form at test holds fails)
@@ -215,13 +216,24 @@ module _ (list : List FnCopy) (root : Root) (end : Ending) (c : ℕ) where
   label_for_goto [] has behind label to rest = omega arith
   label_for_goto (s ∷ P) has behind label to rest = let h = label_for_goto P (has_behind c has behind s) (is_skip s) label to rest in omega (arith, h)
 
+  none_before : (P : List Sym) (label : Label) (to : Target) → has_none (P ++ syms.Goto to ∷ []) ≡ true → has_none (P ++ label_code label) ≡ true
+  none_before [] label to e = refl
+  none_before (s ∷ P) label to e = by_first (is_select s) (has_none (P ++ syms.Goto to ∷ [])) (has_none (P ++ label_code label)) e (none_before P label to (none_later s (P ++ syms.Goto to ∷ []) e))
+    where
+      by_first : (a b d : Bool) → (not a && b) ≡ true → d ≡ true → (not a && d) ≡ true
+      by_first true b d e f = e
+      by_first false b d e f = f
+
   short_pays : (n : ℕ) (P : List Sym) (label : Label) (to : Target) → Pays c false false n false false (P ++ syms.Goto to ∷ []) → Pays c false false n false false (P ++ label_code label)
-  short_pays n P label to p rest =
-      let l = label_for_goto P false false label to rest in
-      let f = p rest in
-      let a = ap (counted c false false) (append_assoc P (label_code label) rest) in
-      let b = ap (counted c false false) (append_assoc P (syms.Goto to ∷ []) rest) in
-      omega (arith, l, f, a, b)
+  short_pays n P label to p = (
+    λ rest.
+        let l = label_for_goto P false false label to rest in
+        let f = p.0 rest in
+        let a = ap (counted c false false) (append_assoc P (label_code label) rest) in
+        let b = ap (counted c false false) (append_assoc P (syms.Goto to ∷ []) rest) in
+        omega (arith, l, f, a, b),
+    none_before P label to p.1,
+  )
 
   -- the first of some operations
   first_is : (xs ys : List Tree) (loops : List ℕ) (at : ℕ) (before : List Tree) → parts_code (λ at before tree. wide_code list root before tree) end loops at before (trees_of (xs ++ ys)) (length xs) ≡ some_code loops at before xs

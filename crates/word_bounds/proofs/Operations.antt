@@ -50,46 +50,46 @@ module _ (c : ℕ) where
 
   -- ---- single instructions
   pub number_bare : (value : ℕ) → Bare c 1 (number_code value)
-  number_bare value has = pays_plain c (syms.Literal Movlw (Number value)) has false (refl, refl, refl, refl)
+  number_bare value has = pays_plain c (syms.Literal Movlw (Number value)) has false (refl, refl, refl, refl, refl)
 
   pub movlw_bare : (value : Literal) → Bare c 1 (syms.Literal Movlw value ∷ [])
-  movlw_bare value has = pays_plain c (syms.Literal Movlw value) has false (refl, refl, refl, refl)
+  movlw_bare value has = pays_plain c (syms.Literal Movlw value) has false (refl, refl, refl, refl, refl)
 
   pub number_behind : (value : ℕ) → Pays c true true 1 true false (number_code value)
-  number_behind value = pays_plain c (syms.Literal Movlw (Number value)) true true (refl, refl, refl, refl)
+  number_behind value = pays_plain c (syms.Literal Movlw (Number value)) true true (refl, refl, refl, refl, refl)
 
   pub xor_behind : (value : ℕ) → Pays c true true 1 true false (syms.Literal Xorlw (Number value) ∷ [])
-  xor_behind value = pays_plain c (syms.Literal Xorlw (Number value)) true true (refl, refl, refl, refl)
+  xor_behind value = pays_plain c (syms.Literal Xorlw (Number value)) true true (refl, refl, refl, refl, refl)
 
   pub flag_clear : (flag : Flag) → Pays c true false 1 true true (flag_code Btfsc flag)
-  flag_clear flag = pays_plain c (syms.Bit Btfsc (operands.Register Status) (flag_bit flag)) true false (refl, refl, refl, refl)
+  flag_clear flag = pays_plain c (syms.Bit Btfsc (operands.Register Status) (flag_bit flag)) true false (refl, refl, refl, refl, refl)
 
   pub flag_set : (flag : Flag) → Pays c true false 1 true true (flag_code Btfss flag)
-  flag_set flag = pays_plain c (syms.Bit Btfss (operands.Register Status) (flag_bit flag)) true false (refl, refl, refl, refl)
+  flag_set flag = pays_plain c (syms.Bit Btfss (operands.Register Status) (flag_bit flag)) true false (refl, refl, refl, refl, refl)
 
   pub carry_off : Bare c 1 (flag_code Bcf Carry)
-  carry_off has = pays_plain c (syms.Bit Bcf (operands.Register Status) (flag_bit Carry)) has false (refl, refl, refl, refl)
+  carry_off has = pays_plain c (syms.Bit Bcf (operands.Register Status) (flag_bit Carry)) has false (refl, refl, refl, refl, refl)
 
   pub irp_off : Bare c 1 (flag_code Bcf Irp)
-  irp_off has = pays_plain c (syms.Bit Bcf (operands.Register Status) (flag_bit Irp)) has false (refl, refl, refl, refl)
+  irp_off has = pays_plain c (syms.Bit Bcf (operands.Register Status) (flag_bit Irp)) has false (refl, refl, refl, refl, refl)
 
   pub irp_on : Pays c true true 1 true false (flag_code Bsf Irp)
-  irp_on = pays_plain c (syms.Bit Bsf (operands.Register Status) (flag_bit Irp)) true true (refl, refl, refl, refl)
+  irp_on = pays_plain c (syms.Bit Bsf (operands.Register Status) (flag_bit Irp)) true true (refl, refl, refl, refl, refl)
 
   pub to_fsr : Bare c 1 (syms.Movwf (operands.Register Fsr) ∷ [])
-  to_fsr has = pays_plain c (syms.Movwf (operands.Register Fsr)) has false (refl, refl, refl, refl)
+  to_fsr has = pays_plain c (syms.Movwf (operands.Register Fsr)) has false (refl, refl, refl, refl, refl)
 
   pub next_fsr : Bare c 1 (syms.File Incf (operands.Register Fsr) File ∷ [])
-  next_fsr has = pays_plain c (syms.File Incf (operands.Register Fsr) File) has false (refl, refl, refl, refl)
+  next_fsr has = pays_plain c (syms.File Incf (operands.Register Fsr) File) has false (refl, refl, refl, refl, refl)
 
   pub from_indf : Bare c 1 (syms.File Movf (operands.Register Indf) W ∷ [])
-  from_indf has = pays_plain c (syms.File Movf (operands.Register Indf) W) has false (refl, refl, refl, refl)
+  from_indf has = pays_plain c (syms.File Movf (operands.Register Indf) W) has false (refl, refl, refl, refl, refl)
 
   pub to_indf : Bare c 1 (syms.Movwf (operands.Register Indf) ∷ [])
-  to_indf has = pays_plain c (syms.Movwf (operands.Register Indf)) has false (refl, refl, refl, refl)
+  to_indf has = pays_plain c (syms.Movwf (operands.Register Indf)) has false (refl, refl, refl, refl, refl)
 
   pub clrw_bare : Bare c 1 (syms.Plain Clrw ∷ [])
-  clrw_bare has = pays_plain c (syms.Plain Clrw) has false (refl, refl, refl, refl)
+  clrw_bare has = pays_plain c (syms.Plain Clrw) has false (refl, refl, refl, refl, refl)
 
   -- a byte of the frame or a result, where the frame's bank is selected
   pub file_one : (op : FileOperation) (byte : Byte) (into : Into) → skips_by_file op ≡ false → IsEasy c byte → Held c 1 (file_code op byte into)
@@ -108,10 +108,10 @@ module _ (c : ℕ) where
   store_one byte h = store_held c byte false h
 
   pub store_result : (r : Root) (k : ℕ) → Bare c 1 (store_code (bytes.Result r k))
-  store_result r k has = pays_plain c (syms.Movwf (operands.Byte (bytes.Result r k))) has false (refl, refl, refl, refl)
+  store_result r k has = pays_plain c (syms.Movwf (operands.Byte (bytes.Result r k))) has false (refl, refl, refl, refl, refl)
 
   pub load_result : (r : Root) (k : ℕ) → Bare c 1 (file_code Movf (bytes.Result r k) W)
-  load_result r k has = pays_plain c (syms.File Movf (operands.Byte (bytes.Result r k)) W) has false (refl, refl, refl, refl)
+  load_result r k has = pays_plain c (syms.File Movf (operands.Byte (bytes.Result r k)) W) has false (refl, refl, refl, refl, refl)
 
   -- ---- a number to a byte
   set_by : (byte : Byte) (value : ℕ) (clears : Bool) → IsMine c byte → Tame c 2 (cond clears (clear_code byte) (number_code value ++ store_code byte))
@@ -128,7 +128,7 @@ module _ (c : ℕ) where
   zero_tame (bytes.Device address) h has = absurd h
 
   result_by : (r : Root) (k value : ℕ) (clears : Bool) → Bare c 2 (cond clears (clear_code (bytes.Result r k)) (number_code value ++ store_code (bytes.Result r k)))
-  result_by r k value true has = pays_more c has false has false 1 2 (clear_code (bytes.Result r k)) (omega arith) (pays_plain c (syms.Clrf (operands.Byte (bytes.Result r k))) has false (refl, refl, refl, refl))
+  result_by r k value true has = pays_more c has false has false 1 2 (clear_code (bytes.Result r k)) (omega arith) (pays_plain c (syms.Clrf (operands.Byte (bytes.Result r k))) has false (refl, refl, refl, refl, refl))
   result_by r k value false has = bare_on c 1 1 (number_code value) (store_code (bytes.Result r k)) (number_bare value) (store_result r k) has
 
   pub set_result : (r : Root) (k value : ℕ) → Bare c 2 (set_code (bytes.Result r k) value)

@@ -168,7 +168,7 @@ module _ (c : ℕ) where
       (pays_on c has false has false has true 1 (1 + extra has) (number_code 0) (if_bit_code top 7) (number_bare c 0 has) (bit_skips c Btfsc top 7 has h refl)) (behind_skip has))
     where
       behind_skip : (has : Bool) → Pays c has true 1 has false (number_code 255)
-      behind_skip has = pays_plain c (syms.Literal Movlw (Number 255)) has true (refl, refl, refl, refl)
+      behind_skip has = pays_plain c (syms.Literal Movlw (Number 255)) has true (refl, refl, refl, refl, refl)
 
   widening_by : (signed : Bool) (top new : Byte) (n : ℕ) (has : Bool) → IsMine c top → IsMine c new → Pays c has false (n + 3 + (extra has + extra has)) false false (if signed then sign_code top ++ stores_code new n else clears_code new n)
   widening_by true top new n has h g =
@@ -341,7 +341,7 @@ module _ (c : ℕ) where
       omega (arith, first, last, one, two)
 
   pub copy_pays : (to from : Byte) (has : Bool) → Pays c has false 6 false false (copy_code to from)
-  copy_pays to from has = let l = copy_most to from in pays_more c has false false false (most_words (copy_code to from)) 6 (copy_code to from) l (pays_most c has false (copy_code to from))
+  copy_pays to from has = let l = copy_most to from in pays_more c has false false false (most_words (copy_code to from)) 6 (copy_code to from) l (pays_most c has false (copy_code to from) refl)
 
   pub copies_any : (to from : Byte) (w : ℕ) (has : Bool) → Pays c has false (6 * w) false false (copies_code to from w)
   copies_any to from zero has = pays_less c has false has false false 0 [] (λ e. never e) (pays_none c has false)
@@ -355,7 +355,7 @@ module _ (c : ℕ) where
       let last = sum_by-cons most_of_one (syms.Movwf (operands.Byte to)) [] in
       let two = operand_three (operands.Byte to) in
       pays_more c has false false false (1 + extra has + most_words (store_code to)) (4 + extra has) (copy_code to from) (omega (arith, last, two))
-      (pays_on c has false true false false false (1 + extra has) (most_words (store_code to)) (file_code Movf from W) (store_code to) (file_mine c Movf from W has h refl) (pays_most c true false (store_code to)))
+      (pays_on c has false true false false false (1 + extra has) (most_words (store_code to)) (file_code Movf from W) (store_code to) (file_mine c Movf from W has h refl) (pays_most c true false (store_code to) refl))
 
   copies_first : (to from : Byte) (k : ℕ) (has : Bool) → IsMine c from → Pays c has false (6 * k + 4 + extra has) false false (copies_code to from (suc k))
   copies_first to from zero has h = copy_first (byte_behind to 0) (byte_behind from 0) has (mine_behind c from 0 h)
@@ -367,7 +367,7 @@ module _ (c : ℕ) where
   pub enter_pays : (copy : ℕ) (has : Bool) → Pays c has false 3 false false (enter_code copy)
   enter_pays copy has =
       let one = sum_by-cons most_of_one (syms.Call (Block (Copy copy))) [] in
-      pays_more c has false false false (most_words (enter_code copy)) 3 (enter_code copy) (omega (arith, one)) (pays_most c has false (enter_code copy))
+      pays_more c has false false false (most_words (enter_code copy)) 3 (enter_code copy) (omega (arith, one)) (pays_most c has false (enter_code copy) refl)
 
   helper_loose : (copy : ℕ) (root : Root) (to left right : Byte) (k count : ℕ) → IsMine c to → IsMine c left → Loose (8 * k + 11 + 6 * count) (helper_call_code copy root to left right (suc k) count)
   helper_loose copy root to left right k count h g has =

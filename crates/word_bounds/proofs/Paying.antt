@@ -3,6 +3,7 @@ use Rattle.std.proofs.Common.{◌≡◌, ℕ, zero, suc, ◌+◌, ◌*◌, ◌�
 use Rattle.std.proofs.lemmas.List.Sums.{sum_by-cons}
 use Rattle.core_code.specs.declared.code.Byte.{Byte}
 use Rattle.core_code.specs.declared.code.Byte.TheVariants as bytes
+use Rattle.sym_code.specs.Selects.{is_select}
 use Rattle.sym_code.specs.Words.{is_common, words_of_one, most_of_operand, most_of_one, most_words}
 use Rattle.sym_code.specs.Touching.{is_file, is_bit_write}
 use Rattle.sym_code.specs.declared.code.BitOperation.{BitOperation}
@@ -15,7 +16,7 @@ use Rattle.sym_code.specs.declared.code.Sym.TheVariants as syms
 use Rattle.sym_code.specs.declared.code.Target.{Target}
 use Rattle.bank_page.specs.Kinds.{is_skip, skips_by_file, skips_by_bit, byte_named, byte_of, target_of}
 use Rattle.word_bounds.specs.Counting.{is_own, bank_words, page_words, select_words, loses, has_with, has_behind, counted}
-use Rattle.word_bounds.proofs.Chain.{never}
+use Rattle.word_bounds.proofs.Chain.{never, has_none, none_later}
 use Rattle.select_code.specs.Pieces.{byte_behind}
 
 -- the selects of the frame's bank, where it isn't selected
@@ -93,33 +94,38 @@ module _ (c : ℕ) where
 
   -- ---- the words of a list, from what is selected before it, behind a skip or not, to the same behind it
   abbrev pub Pays : Bool → Bool → ℕ → Bool → Bool → List Sym → Type 0
-  Pays has behind n last skips code = (rest : List Sym) → counted c has behind (code ++ rest) ≤ n + counted c last skips rest
+  Pays has behind n last skips code = ((rest : List Sym) → counted c has behind (code ++ rest) ≤ n + counted c last skips rest) × (has_none code ≡ true)
+
+  none_on : (xs ys : List Sym) → has_none xs ≡ true → has_none ys ≡ true → has_none (xs ++ ys) ≡ true
+  none_on [] ys p q = q
+  none_on (s ∷ xs) ys p q = by_first (is_select s) (has_none xs) (has_none (xs ++ ys)) p (none_on xs ys (none_later s xs p) q)
+    where
+      by_first : (a b d : Bool) → (not a && b) ≡ true → d ≡ true → (not a && d) ≡ true
+      by_first true b d e f = e
+      by_first false b d e f = f
 
   pub pays_none : (has behind : Bool) → Pays has behind 0 has behind []
-  pays_none has behind rest = omega arith
+  pays_none has behind = (λ rest. omega arith, refl)
 
   pub pays_on : (has behind mid between last skips : Bool) (n m : ℕ) (xs ys : List Sym) → Pays has behind n mid between xs → Pays mid between m last skips ys → Pays has behind (n + m) last skips (xs ++ ys)
-  pays_on has behind mid between last skips n m xs ys p q rest =
-      let e = ap (counted c has behind) (append_assoc xs ys rest) in
-      let f = p (ys ++ rest) in
-      let g = q rest in
-      omega (arith, e, f, g)
+  pays_on has behind mid between last skips n m xs ys p q = (
+    λ rest.
+        let e = ap (counted c has behind) (append_assoc xs ys rest) in
+        let f = p.0 (ys ++ rest) in
+        let g = q.0 rest in
+        omega (arith, e, f, g),
+    none_on xs ys p.1 q.1,
+  )
 
   pub pays_more : (has behind last skips : Bool) (n m : ℕ) (xs : List Sym) → n ≤ m → Pays has behind n last skips xs → Pays has behind m last skips xs
-  pays_more has behind last skips n m xs l p rest = let f = p rest in omega (arith, f, l)
+  pays_more has behind last skips n m xs l p = (λ rest. let f = p.0 rest in omega (arith, f, l), p.1)
 
   -- less is known behind it, or more before it
   pub pays_less : (has behind last less skips : Bool) (n : ℕ) (xs : List Sym) → (less ≡ true → last ≡ true) → Pays has behind n last skips xs → Pays has behind n less skips xs
-  pays_less has behind last less skips n xs h p rest =
-      let f = p rest in
-      let g = fewer last less skips rest h in
-      omega (arith, f, g)
+  pays_less has behind last less skips n xs h p = (λ rest. let f = p.0 rest in let g = fewer last less skips rest h in omega (arith, f, g), p.1)
 
   pub pays_from : (has less behind last skips : Bool) (n : ℕ) (xs : List Sym) → (less ≡ true → has ≡ true) → Pays less behind n last skips xs → Pays has behind n last skips xs
-  pays_from has less behind last skips n xs h p rest =
-      let f = p rest in
-      let g = fewer has less behind (xs ++ rest) h in
-      omega (arith, f, g)
+  pays_from has less behind last skips n xs h p = (λ rest. let f = p.0 rest in let g = fewer has less behind (xs ++ rest) h in omega (arith, f, g), p.1)
 
   -- ---- any instruction
   named_most : (byte : Byte) (has k : Bool) → is_common byte ≡ k → 1 + bank_words c has (if k then None else Some byte) ≤ (if k then 1 else 3)
@@ -154,13 +160,16 @@ module _ (c : ℕ) where
   skips_last behind [] = behind
   skips_last behind (s ∷ list) = skips_last (is_skip s) list
 
-  pub pays_most : (has behind : Bool) (list : List Sym) → Pays has behind (most_words list) false (skips_last behind list) list
-  pays_most has behind [] rest = let l = fewer has false behind rest (λ e. never e) in omega (arith, l)
-  pays_most has behind (s ∷ list) rest =
+  most_spent : (has behind : Bool) (list rest : List Sym) → counted c has behind (list ++ rest) ≤ most_words list + counted c false (skips_last behind list) rest
+  most_spent has behind [] rest = let l = fewer has false behind rest (λ e. never e) in omega (arith, l)
+  most_spent has behind (s ∷ list) rest =
       let one = one_most s has in
-      let more = pays_most (has_behind c has behind s) (is_skip s) list rest in
+      let more = most_spent (has_behind c has behind s) (is_skip s) list rest in
       let sum = sum_by-cons most_of_one s list in
       omega (arith, one, more, sum)
+
+  pub pays_most : (has behind : Bool) (list : List Sym) → has_none list ≡ true → Pays has behind (most_words list) false (skips_last behind list) list
+  pays_most has behind list none = (λ rest. most_spent has behind list rest, none)
 
   -- ---- an instruction on a byte of the frame or a result
   -- a byte of the frame: from here on its bank is selected
@@ -178,7 +187,7 @@ module _ (c : ℕ) where
 
   -- what an instruction is by its parts, where these are given
   abbrev pub Stands : Sym → Option Byte → Type 0
-  Stands s o = (words_of_one s ≡ 1) × (byte_of s ≡ o) × (target_of s ≡ None) × (loses s ≡ false)
+  Stands s o = (is_select s ≡ false) × (words_of_one s ≡ 1) × (byte_of s ≡ o) × (target_of s ≡ None) × (loses s ≡ false)
 
   bank_one : (has : Bool) (byte : Byte) → is_own c byte ≡ true → bank_words c has (Some byte) ≤ extra has
   bank_one true byte e = let f : (if is_own c byte then 0 else 2) ≡ extra true = ap {B = ℕ} (λ (o : Bool). if o then 0 else 2) e in omega (arith, f)
@@ -188,14 +197,17 @@ module _ (c : ℕ) where
   own_last has skips byte e f = ap (λ (o : Bool). if o then has || not skips else false) e ∙ f
 
   by_parts : (s : Sym) (has behind last : Bool) (n : ℕ) (o : Option Byte) → Stands s o → bank_words c has o ≤ n → has_with c has (behind || is_skip s) o ≡ last → Pays has behind (1 + n) last (is_skip s) (s ∷ [])
-  by_parts s has behind last n o is l at rest =
-      let words = is.0 in
-      let bank = ap (λ (x : Option Byte). bank_words c has x) is.1 in
-      let page = ap page_words is.2 in
-      let known : has_behind c has behind s ≡ last =
-      ap (λ (k : Bool). if k then false else has_with c has (behind || is_skip s) (byte_of s)) is.3 ∙ ap (λ (x : Option Byte). has_with c has (behind || is_skip s) x) is.1 ∙ at in
-      let more = ap (λ (h : Bool). counted c h (is_skip s) rest) known in
-      omega (arith, words, bank, page, l, more)
+  by_parts s has behind last n o is l at = (
+    λ rest.
+        let words = is.1 in
+        let bank = ap (λ (x : Option Byte). bank_words c has x) is.2 in
+        let page = ap page_words is.3 in
+        let known : has_behind c has behind s ≡ last =
+        ap (λ (k : Bool). if k then false else has_with c has (behind || is_skip s) (byte_of s)) is.4 ∙ ap (λ (x : Option Byte). has_with c has (behind || is_skip s) x) is.2 ∙ at in
+        let more = ap (λ (h : Bool). counted c h (is_skip s) rest) known in
+        omega (arith, words, bank, page, l, more),
+    ap (λ (k : Bool). not k && true) is.0,
+  )
 
   and_none : (a b : Bool) → ((a && false) && b) ≡ false
   and_none true b = refl
@@ -203,25 +215,25 @@ module _ (c : ℕ) where
 
   -- instructions that name a byte of the frame
   stands_file : (op : FileOperation) (byte : Byte) (into : Into) → IsMine c byte → Stands (syms.File op (operands.Byte byte) into) (Some byte)
-  stands_file op (bytes.Frame d k) into h = (refl, refl, refl, and_none (is_file into) true)
+  stands_file op (bytes.Frame d k) into h = (refl, refl, refl, refl, and_none (is_file into) true)
   stands_file op (bytes.Static object offset) into h = absurd h
   stands_file op (bytes.Result r k) into h = absurd h
   stands_file op (bytes.Device address) into h = absurd h
 
   stands_store : (byte : Byte) → IsMine c byte → Stands (syms.Movwf (operands.Byte byte)) (Some byte)
-  stands_store (bytes.Frame d k) h = (refl, refl, refl, refl)
+  stands_store (bytes.Frame d k) h = (refl, refl, refl, refl, refl)
   stands_store (bytes.Static object offset) h = absurd h
   stands_store (bytes.Result r k) h = absurd h
   stands_store (bytes.Device address) h = absurd h
 
   stands_clear : (byte : Byte) → IsMine c byte → Stands (syms.Clrf (operands.Byte byte)) (Some byte)
-  stands_clear (bytes.Frame d k) h = (refl, refl, refl, refl)
+  stands_clear (bytes.Frame d k) h = (refl, refl, refl, refl, refl)
   stands_clear (bytes.Static object offset) h = absurd h
   stands_clear (bytes.Result r k) h = absurd h
   stands_clear (bytes.Device address) h = absurd h
 
   stands_bit : (op : BitOperation) (byte : Byte) (n : ℕ) → IsMine c byte → Stands (syms.Bit op (operands.Byte byte) n) (Some byte)
-  stands_bit op (bytes.Frame d k) n h = (refl, refl, refl, and_none (is_bit_write op) (nat_eq n 5 || nat_eq n 6))
+  stands_bit op (bytes.Frame d k) n h = (refl, refl, refl, refl, and_none (is_bit_write op) (nat_eq n 5 || nat_eq n 6))
   stands_bit op (bytes.Static object offset) n h = absurd h
   stands_bit op (bytes.Result r k) n h = absurd h
   stands_bit op (bytes.Device address) n h = absurd h
@@ -247,13 +259,13 @@ module _ (c : ℕ) where
 
   pub file_held : (op : FileOperation) (byte : Byte) (into : Into) (behind : Bool) → IsEasy c byte → Pays true behind 1 true (skips_by_file op) (syms.File op (operands.Byte byte) into ∷ [])
   file_held op (bytes.Frame d k) into behind h = held_mine (syms.File op (operands.Byte (bytes.Frame d k)) into) (bytes.Frame d k) behind (stands_file op (bytes.Frame d k) into h) h
-  file_held op (bytes.Result r k) into behind h = pays_plain (syms.File op (operands.Byte (bytes.Result r k)) into) true behind (refl, refl, refl, and_none (is_file into) true)
+  file_held op (bytes.Result r k) into behind h = pays_plain (syms.File op (operands.Byte (bytes.Result r k)) into) true behind (refl, refl, refl, refl, and_none (is_file into) true)
   file_held op (bytes.Static object offset) into behind h = absurd h
   file_held op (bytes.Device address) into behind h = absurd h
 
   pub store_held : (byte : Byte) (behind : Bool) → IsEasy c byte → Pays true behind 1 true false (syms.Movwf (operands.Byte byte) ∷ [])
   store_held (bytes.Frame d k) behind h = held_mine (syms.Movwf (operands.Byte (bytes.Frame d k))) (bytes.Frame d k) behind (stands_store (bytes.Frame d k) h) h
-  store_held (bytes.Result r k) behind h = pays_plain (syms.Movwf (operands.Byte (bytes.Result r k))) true behind (refl, refl, refl, refl)
+  store_held (bytes.Result r k) behind h = pays_plain (syms.Movwf (operands.Byte (bytes.Result r k))) true behind (refl, refl, refl, refl, refl)
   store_held (bytes.Static object offset) behind h = absurd h
   store_held (bytes.Device address) behind h = absurd h
 

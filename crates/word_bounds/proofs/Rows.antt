@@ -297,7 +297,7 @@ module _ (list : List FnCopy) (root : Root) (end : Ending) (c : ℕ) where
           let e = sum_by-cons most_of_one (syms.Movwf (operands.Byte to)) [] in
           let x = operand_three c (operands.Byte (bytes.Device register)) in
           let y = operand_three c (operands.Byte to) in
-          pays_more c false false false false (most_words (bit_read_code to register bit)) 8 (bit_read_code to register bit) (omega (arith, a, b, d, e, x, y)) (pays_most c false false (bit_read_code to register bit))
+          pays_more c false false false false (most_words (bit_read_code to register bit)) 8 (bit_read_code to register bit) (omega (arith, a, b, d, e, x, y)) (pays_most c false false (bit_read_code to register bit) refl)
 
   -- so many bytes that a pointer points to
   load_any : (to pointer : Byte) (w : ℕ) → IsMine c to → IsMine c pointer → Tame c (3 * w + 5) (load_code to pointer w)
@@ -342,10 +342,10 @@ module _ (list : List FnCopy) (root : Root) (end : Ending) (c : ℕ) where
       (pays_on c true false false false false false (1 + 3 + most_words on) 3 (bit_code Btfss from 0 ++ goto_code first ++ on) (goto_code last)
       (pays_on c true false false false false false (1 + 3) (most_words on) (bit_code Btfss from 0 ++ goto_code first) on
       (pays_on c true false true true false false 1 3 (bit_code Btfss from 0) (goto_code first) (bit_held c Btfss from 0 false h) (goto_pays list root end c first true true))
-      (pays_most c false false on))
+      (pays_most c false false on refl))
       (goto_pays list root end c last false false))
       (label_pays list root end c first false))
-      (pays_most c false false off))
+      (pays_most c false false off refl))
       (label_pays list root end c last false))
 
   bit_takes : (r : Root) (register bit : ℕ) (from : Byte) → IsMine c from → Takes list root end c 20 (bit_row r register bit from)
@@ -398,14 +398,14 @@ module _ (list : List FnCopy) (root : Root) (end : Ending) (c : ℕ) where
       let l = operand_three c (operands.Byte from) in
       let one = sum_by-cons most_of_one (syms.File Movf (operands.Byte from) W) [] in
       pays_more c has false true false (most_words (file_code Movf from W) + (1 + extra false)) (7 + extra has) (copy_code to from) (omega (arith, l, one))
-      (pays_on c has false false false true false (most_words (file_code Movf from W)) (1 + extra false) (file_code Movf from W) (store_code to) (pays_most c has false (file_code Movf from W)) (store_mine c to false h))
+      (pays_on c has false false false true false (most_words (file_code Movf from W)) (1 + extra false) (file_code Movf from W) (store_code to) (pays_most c has false (file_code Movf from W) refl) (store_mine c to false h))
 
   copy_from : (to from : Byte) → IsMine c from → Pays c true false 7 false false (copy_code to from)
   copy_from to from h =
       let l = operand_three c (operands.Byte to) in
       let one = sum_by-cons most_of_one (syms.Movwf (operands.Byte to)) [] in
       pays_more c true false false false (1 + 0 + most_words (store_code to)) 7 (copy_code to from) (omega (arith, l, one))
-      (pays_on c true false true false false false (1 + 0) (most_words (store_code to)) (file_code Movf from W) (store_code to) (file_mine c Movf from W true h refl) (pays_most c true false (store_code to)))
+      (pays_on c true false true false false false (1 + 0) (most_words (store_code to)) (file_code Movf from W) (store_code to) (file_mine c Movf from W true h refl) (pays_most c true false (store_code to) refl))
 
   load_one : (to pointer : Byte) → IsMine c to → IsMine c pointer → (has : Bool) → Costs list root end c has (7 + extra has) true (code.Load to pointer 1 ∷ [])
   load_one to pointer h g has = costs_one list root end c has true (7 + extra has) (code.Load to pointer 1) (λ loops place before. load_tame c to pointer h g 0 has)

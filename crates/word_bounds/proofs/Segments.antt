@@ -99,7 +99,7 @@ module _ (list : List FnCopy) (root : Root) (end : Ending) (p : Program) (f : Fu
   leave_pays ending.Restore = goto_pays list root end g.copy label.Restore false false
   leave_pays ending.Return =
       let one = sum_by-cons most_of_one (syms.Plain plain.Return) [] in
-      pays_more g.copy false false false false (most_words (leave_code ending.Return)) 3 (leave_code ending.Return) (omega (arith, one)) (pays_most g.copy false false (leave_code ending.Return))
+      pays_more g.copy false false false false (most_words (leave_code ending.Return)) 3 (leave_code ending.Return) (omega (arith, one)) (pays_most g.copy false false (leave_code ending.Return) refl)
 
   pub leave_takes : Takes list root end g.copy 3 (core.Leave ∷ [])
   leave_takes = takes_one list root end g.copy 3 core.Leave (λ loops at before. leave_pays end)

@@ -1,5 +1,5 @@
 -- The block of a function's copy has at most the function's stated words.
-use Rattle.std.proofs.Common.{◌≡◌, ℕ, zero, suc, ◌+◌, ◌≤◌, Bool, true, false, ◌&&◌, List, [], ◌∷◌, ◌++◌, map, length, Option, Some, None, slice_get, refl, sym, ap, ◌∙◌, subst, arith}
+use Rattle.std.proofs.Common.{◌≡◌, ℕ, zero, suc, ◌+◌, ◌≤◌, Bool, true, false, not, ◌&&◌, if◌then◌else◌, List, [], ◌∷◌, ◌++◌, map, length, Option, Some, None, slice_get, refl, sym, ap, ◌∙◌, subst, arith}
 use Rattle.std.proofs.lemmas.Option.{none-some, same_Some}
 use Rattle.std.specs.List.{list_all}
 use Rattle.c_typed.specs.Sound.{target_fits, structure_fits, static_fits, param_fits, local_fits, result_fits, function_fits, statements_fit, is_sound}
@@ -26,9 +26,10 @@ use Rattle.sym_code.specs.Words.{words_in}
 use Rattle.sym_code.specs.declared.code.Sym.{Sym}
 use Rattle.sym_code.specs.declared.code.SymBlock.{SymBlock}
 use Rattle.bank_page.specs.Selected.{IsExact}
-use Rattle.word_bounds.specs.Bounds.{AreBanked, IsBlockOf, WordsAreStated}
+use Rattle.word_bounds.specs.Bounds.{AreBanked, IsBlockOf, BlocksAreBare, WordsAreStated}
 use Rattle.word_bounds.specs.Counting.{counted}
-use Rattle.word_bounds.proofs.Chain.{never}
+use Rattle.word_bounds.proofs.Chain.{never, has_none, none_first, none_later}
+use Rattle.word_bounds.proofs.Paying.{Pays}
 use Rattle.word_bounds.proofs.Lowered.{some_code, Takes, takes_on, takes_more}
 use Rattle.word_bounds.proofs.Typing.{and_first, and_last}
 use Rattle.word_bounds.proofs.Segments.{leave_takes}
@@ -61,6 +62,11 @@ body_takes list root end p f g same bytes h =
     takes_more list root end g.copy (n + 3) (4 + n) (body_code g f) (omega arith)
     (takes_on list root end g.copy n 3 (stmts_code g outside f.body) (core.Leave ∷ []) (statements_take list root end p f g same bytes outside true false false f.body h) (leave_takes list root end p f g))
 
+-- a list without selects is what taking them out leaves
+none_bare : (code : List Sym) → has_none code ≡ true → bare code ≡ code
+none_bare [] e = refl
+none_bare (s ∷ code) e = ap (λ (b : Bool). if not b then s ∷ bare code else bare code) (none_first s code e) ∙ ap (λ (l : List Sym). s ∷ l) (none_bare code (none_later s code e))
+
 -- what is counted for all of some code
 counted_all : (c n : ℕ) (code : List Sym) → ((rest : List Sym) → counted c false false (code ++ rest) ≤ n + counted c false false rest) → counted c false false code ≤ n
 counted_all c n code h =
@@ -72,16 +78,39 @@ counted_all c n code h =
     append_none [] = refl
     append_none (x ∷ xs) = ap (λ l. x ∷ l) (append_none xs)
 
+-- the code of a copy's block
+module _ (p : Program) (copies : List FnCopy) (number function : ℕ) (f : FunctionTree) (given : SymBlock) (sound : is_sound p ≡ true) (there : slice_get p.functions function ≡ Some f) (block : IsBlockOf p copies number f given) where
+  abbrev root : Root
+  root = block.body.root
+
+  abbrev end : Ending
+  end = ending_at (handler_at copies) number
+
+  abbrev code : List Sym
+  code = some_code copies root end number [] 0 [] (body_code (ground_for p copies number root f) f)
+
+  code_is : given.list.items ≡ code
+  code_is = block.selected ∙ ap (some_code copies root end number [] 0 []) block.lowered
+
+  code_pays : Pays number false false (block_size p.sizes f) false false code
+  code_pays = body_takes copies root end p f (ground_for p copies number root f) refl refl (body_fits p function f sound there) [] 0 []
+
+  pub all_counted : counted number false false given.list.items ≤ block_size p.sizes f
+  all_counted =
+      let all = counted_all number (block_size p.sizes f) code code_pays.0 in
+      let same = ap (counted number false false) code_is in
+      omega (arith, all, same)
+
+  pub all_bare : bare given.list.items ≡ given.list.items
+  all_bare = ap bare code_is ∙ none_bare code code_pays.1 ∙ sym code_is
+
+pub blocks_are_bare : BlocksAreBare
+blocks_are_bare p copies number function f given sound there block = all_bare p copies number function f given sound there block
+
 pub words_are_stated : WordsAreStated
-words_are_stated p copies placed number bank function f given made sound there block exact none banked =
-    let body = block.body in
-    let end = ending_at (handler_at copies) number in
-    let g = ground_for p copies number body.root f in
-    let code = some_code copies body.root end number [] 0 [] (body_code g f) in
-    let is : given.list.items ≡ code = block.selected ∙ ap (some_code copies body.root end number [] 0 []) block.lowered in
-    let takes = body_takes copies body.root end p f g refl refl (body_fits p function f sound there) [] 0 [] in
-    let all = counted_all number (block_size p.sizes f) code takes in
-    let same = ap (counted number false false) is in
+words_are_stated p copies placed number bank function f given made sound there block exact banked =
+    let all = all_counted p copies number function f given sound there block in
+    let none = all_bare p copies number function f given sound there block in
     let few = selects_are_counted placed given made number bank exact none banked in
     let stated : block_words p (callee.User function) ≡ block_size p.sizes f = ap (size_or_none (block_size p.sizes)) there in
-    omega (arith, all, same, few, stated)
+    omega (arith, all, few, stated)

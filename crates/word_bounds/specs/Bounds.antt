@@ -43,9 +43,13 @@ pub record IsBlockOf (p : Program) (copies : List FnCopy) (number : ℕ) (f : Fu
   pub lowered : trees_in body.code.items ≡ body_code (ground_for p copies number body.root f) f
   pub selected : block.list.items ≡ block_code copies number body
 
+-- Selection puts no select into the block of a function's copy.
+abbrev pub BlocksAreBare : Type 0
+BlocksAreBare = (p : Program) (copies : List FnCopy) (number function : ℕ) (f : FunctionTree) (given : SymBlock) → is_sound p ≡ true → slice_get p.functions function ≡ Some f → IsBlockOf p copies number f given → bare given.list.items ≡ given.list.items
+
 -- The block of each copy of a function has at most the function's stated words, its selects among them, where the bytes of the
 -- copy's frame that it names stand in one bank.
 abbrev pub WordsAreStated : Type 0
 WordsAreStated =
     (p : Program) (copies : List FnCopy) (placed : Placed) (number bank function : ℕ) (f : FunctionTree) (given made : SymBlock) → is_sound p ≡ true → slice_get p.functions function ≡ Some f
-    → IsBlockOf p copies number f given → IsExact placed given made → bare given.list.items ≡ given.list.items → AreBanked placed number bank given.list.items → words_in made.list.items ≤ block_words p (User function)
+    → IsBlockOf p copies number f given → IsExact placed given made → AreBanked placed number bank given.list.items → words_in made.list.items ≤ block_words p (User function)
