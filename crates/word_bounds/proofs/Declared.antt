@@ -1,15 +1,13 @@
 -- The code of locals that are given values takes at most its stated words.
-use Rattle.std.proofs.Common.{◌≡◌, ℕ, zero, suc, ◌+◌, ◌-◌, ◌*◌, ◌≤◌, ◌<◌, Bool, true, false, not, ◌&&◌, ◌||◌, min, nat_le, nat_lt, nat_eq, if◌then◌else◌, List, [], ◌∷◌, ◌++◌, map, length, Option, Some, None, slice_get, slice_index, refl, sym, ap, ◌∙◌, subst, leb-true, eqb-true, arith}
-use Rattle.std.proofs.lemmas.Bool.{ltb-true, ltb-false, lt-ltb, leb-false}
-use Rattle.std.proofs.lemmas.Option.{none-some, same_Some}
-use Rattle.std.specs.List.{list_any}
+use Rattle.std.proofs.Common.{◌≡◌, ℕ, zero, suc, ◌+◌, ◌-◌, ◌*◌, ◌≤◌, ◌<◌, Bool, true, false, ◌&&◌, ◌||◌, min, nat_le, nat_lt, nat_eq, if◌then◌else◌, List, [], ◌∷◌, ◌++◌, slice_index, refl, sym, ap, subst, leb-true, arith}
+use Rattle.std.proofs.lemmas.Bool.{ltb-true, ltb-false, leb-false}
 use Rattle.c_typed.specs.Fits.{source_of, goes_to, fits, place_fits}
 use Rattle.c_typed.specs.Sameness.{is_struct}
-use Rattle.c_typed.specs.Sound.{value_fits, item_start, copied_item_fits, item_fits, lies_within, items_fit}
+use Rattle.c_typed.specs.Sound.{item_start, item_fits, lies_within, items_fit}
 use Rattle.c_typed.specs.Trees as tree
 use Rattle.c_typed.specs.Trees.{Expression, Place, Item, VariableTree, FunctionTree, Program}
 use Rattle.c_typed.specs.Types.{type_bytes, type_of, value_bytes, place_type, form_of}
-use Rattle.c_typed.specs.Words.{words, place_words, struct_words, item_words, items_words, item_bytes, items_bytes, variable_bytes}
+use Rattle.c_typed.specs.Words.{words, place_words, struct_words, item_words, items_words, item_bytes, items_bytes}
 use Rattle.c_typed.specs.declared.expression.PlaceForm.TheVariants as form
 use Rattle.c_typed.specs.declared.standing.Standing.TheVariants.{Used}
 use Rattle.call_graph.specs.declared.types.FnCopy.{FnCopy}
@@ -17,13 +15,12 @@ use Rattle.core_code.specs.Tree as core
 use Rattle.core_code.specs.Tree.{Tree}
 use Rattle.core_code.specs.declared.code.Byte.{Byte}
 use Rattle.lower_expr.specs.Bytes.{behind}
-use Rattle.lower_expr.specs.Layout.{width}
-use Rattle.lower_expr.specs.Lowering.{pointer_code, address_code, expr_code}
+use Rattle.lower_expr.specs.Lowering.{pointer_code, address_code}
 use Rattle.lower_expr.specs.Puts.{copies}
 use Rattle.lower_expr.specs.Rows.{struct_row}
 use Rattle.lower_expr.specs.Spots.{spot_of}
 use Rattle.lower_expr.specs.declared.places.Spot.TheVariants.{Fixed}
-use Rattle.lower_stmt.specs.Declarators.{scalar_code, text_code, struct_code, item_code, items_code, offset_of, is_within, covers, is_covered, rest_code, list_code}
+use Rattle.lower_stmt.specs.Declarators.{scalar_code, text_code, item_code, items_code, offset_of, is_within, covers, is_covered, rest_code, list_code}
 use Rattle.lower_stmt.specs.Ground.{Ground, first, local_byte, local_bytes, value_code}
 use Rattle.lower_stmt.specs.Ground as ground
 use Rattle.pic_world.specs.declared.Root.{Root}

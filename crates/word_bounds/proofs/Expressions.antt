@@ -1,22 +1,21 @@
 -- The code of an expression takes at most its stated words.
-use Rattle.std.proofs.Common.{◌≡◌, ℕ, ◌+◌, ◌*◌, ◌≤◌, Bool, true, false, ◌&&◌, ◌||◌, List, [], ◌∷◌, ◌++◌, slice_get, refl, sym, ap, ◌∙◌, subst, arith}
+use Rattle.std.proofs.Common.{◌≡◌, ℕ, ◌+◌, ◌≤◌, Bool, true, false, ◌&&◌, List, [], ◌∷◌, ◌++◌, slice_get, refl, ap, arith}
 use Rattle.c_ints.specs.Range.{bytes_of}
-use Rattle.c_typed.specs.Fits.{goes_to, source_of, no_params, rule_holds, place_rule_holds, params_of, operand_standing, fits, place_fits, arguments_fit}
+use Rattle.c_typed.specs.Fits.{goes_to, source_of, rule_holds, place_rule_holds, params_of, operand_standing, fits, place_fits, arguments_fit}
 use Rattle.c_typed.specs.Folding.{bits, constant_bits}
 use Rattle.c_typed.specs.Trees as tree
 use Rattle.c_typed.specs.Trees.{Expression, Expressions, Place, VariableTree, FunctionTree, Program}
-use Rattle.c_typed.specs.Types.{type_of, place_type, type_bytes, is_constant, form_of}
+use Rattle.c_typed.specs.Types.{type_of, is_constant, form_of}
 use Rattle.c_typed.specs.Words.{words, place_words, arguments_words, difference_words, offset_words, member_words}
 use Rattle.c_typed.specs.declared.expression.PlaceForm.{PlaceForm}
-use Rattle.c_typed.specs.declared.expression.PlaceForm.TheVariants as form
 use Rattle.c_typed.specs.declared.standing.Standing.{Standing}
 use Rattle.c_typed.specs.declared.standing.Standing.TheVariants.{Used, Pointed}
 use Rattle.call_graph.specs.declared.types.FnCopy.{FnCopy}
 use Rattle.core_code.specs.Tree.{Tree}
 use Rattle.core_code.specs.declared.code.Byte.TheVariants as bytes
 use Rattle.lower_expr.specs.Bytes.{beyond}
-use Rattle.lower_expr.specs.Layout.{Layout, width, value_width, copy_of}
-use Rattle.lower_expr.specs.Lowering.{pointer_code, behind_pointer, change_code, shifts_by_constant, is_pointer, arguments_width, expr_code, address_code, arguments_code}
+use Rattle.lower_expr.specs.Layout.{Layout, value_width, copy_of}
+use Rattle.lower_expr.specs.Lowering.{pointer_code, behind_pointer, is_pointer, expr_code, address_code, arguments_code}
 use Rattle.lower_expr.specs.Rows.{offset_row, difference_row, member_row}
 use Rattle.lower_expr.specs.Spots.{spot_of, member_spot}
 use Rattle.lower_expr.specs.declared.places.Spot.{Spot}

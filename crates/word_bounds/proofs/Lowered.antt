@@ -1,12 +1,11 @@
 -- How many words the code of some operations of byte code takes, wherever they stand in a body.
-use Rattle.std.proofs.Common.{◌≡◌, ℕ, zero, suc, ◌+◌, ◌-◌, ◌*◌, ◌≤◌, ◌<◌, Bool, true, false, not, ◌&&◌, cond, min, List, [], ◌∷◌, ◌++◌, length, length-append, Option, Some, None, option_map, refl, sym, ap, ◌∙◌, subst, append_assoc, arith}
+use Rattle.std.proofs.Common.{◌≡◌, ℕ, zero, suc, ◌+◌, ◌*◌, ◌≤◌, Bool, true, false, not, ◌&&◌, cond, List, [], ◌∷◌, ◌++◌, length, length-append, Option, Some, None, option_map, refl, sym, ap, ◌∙◌, subst, append_assoc, arith}
 use Rattle.std.proofs.lemmas.List.Sums.{sum_by-cons}
 use Rattle.std.proofs.lemmas.Option.{none-some, same_Some}
 use Rattle.call_graph.specs.declared.types.FnCopy.{FnCopy}
 use Rattle.core_code.specs.Tree as code
 use Rattle.core_code.specs.Tree.{Tree, Trees, many, list_of, trees_of}
 use Rattle.core_code.specs.declared.code.Byte.{Byte}
-use Rattle.core_code.specs.declared.code.Byte.TheVariants as bytes
 use Rattle.pic_world.specs.declared.Root.{Root}
 use Rattle.sym_code.specs.Selects.{is_select}
 use Rattle.sym_code.specs.Words.{most_words, most_of_one}
@@ -22,14 +21,14 @@ use Rattle.sym_code.specs.declared.code.Target.{Target}
 use Rattle.sym_code.specs.declared.code.Target.TheVariants as target
 use Rattle.bank_page.specs.Kinds.{is_skip}
 use Rattle.select_code.specs.Pieces.{byte_behind, file_code, flag_bit, flag_code, ors_code, test_code, jump_code, goto_code, label_code, first_label, second_label}
-use Rattle.select_code.specs.Selected.{code_of, parts_code, first_code, IfForm, Jumps, Half, Whole, if_form, if_code, turned, loop_code, is_exit, short_list, short_turn}
+use Rattle.select_code.specs.Selected.{code_of, parts_code, first_code, IfForm, Jumps, Half, Whole, if_form, if_code, turned, is_exit, short_list}
 use Rattle.select_code.specs.declared.control.Ending.{Ending}
 use Rattle.select_code.specs.declared.pieces.Flag.TheVariants.{Zero}
 use Rattle.select_wide.specs.Selection.{wide_code}
 use Rattle.word_bounds.specs.Counting.{has_behind, counted}
 use Rattle.word_bounds.proofs.Chain.{never, has_none, none_later}
-use Rattle.word_bounds.proofs.Paying.{extra, IsMine, IsEasy, easy_mine, mine_behind, Pays, pays_none, pays_on, pays_more, pays_less, pays_from, pays_most, pays_plain, skips_last, Tame, Held, held_on, held_tame, tame_on, tame_more, held_more}
-use Rattle.word_bounds.proofs.Operations.{rising_held, file_one, file_tame, flag_clear, clrw_bare}
+use Rattle.word_bounds.proofs.Paying.{extra, IsMine, easy_mine, mine_behind, Pays, pays_none, pays_on, pays_more, pays_less, pays_from, pays_most, pays_plain, Tame, Held, held_on, tame_on, held_more}
+use Rattle.word_bounds.proofs.Operations.{file_one, file_tame, clrw_bare}
 use Rattle.word_bounds.proofs.Operators.{Loose}
 
 -- the words of a test, with the frame's selects

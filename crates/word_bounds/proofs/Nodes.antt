@@ -1,35 +1,35 @@
 -- How many words each kind of expression takes, given those of its parts.
-use Rattle.std.proofs.Common.{◌≡◌, ℕ, zero, suc, ◌+◌, ◌-◌, ◌*◌, ◌≤◌, Bool, true, false, ◌&&◌, min, if◌then◌else◌, List, [], ◌∷◌, ◌++◌, append_assoc, refl, sym, ap, ◌∙◌, subst, arith}
+use Rattle.std.proofs.Common.{◌≡◌, ℕ, ◌+◌, ◌*◌, ◌≤◌, Bool, true, false, ◌&&◌, List, [], ◌∷◌, ◌++◌, refl, sym, ap, ◌∙◌, subst, arith}
 use Rattle.c_ints.specs.Range.{bytes_of}
 use Rattle.c_ints.specs.declared.operators.BinOp.{BinOp}
 use Rattle.c_ints.specs.declared.operators.BinOp.TheVariants as binop
 use Rattle.c_ints.specs.declared.operators.UnOp.{UnOp}
 use Rattle.c_ints.specs.declared.operators.UnOp.TheVariants as unop
 use Rattle.c_ints.specs.declared.types.IntTy.TheVariants.{UInt}
-use Rattle.c_typed.specs.Folding.{bits, constant_bits}
+use Rattle.c_typed.specs.Folding.{constant_bits}
 use Rattle.c_typed.specs.Room.{arguments_bytes}
 use Rattle.c_typed.specs.Rules.{unary_fits, binary_fits, moves_by, update_fits, step_fits}
-use Rattle.c_typed.specs.Sameness.{is_scalar, is_plain_int, is_promoted, same_type}
+use Rattle.c_typed.specs.Sameness.{is_scalar, is_plain_int}
 use Rattle.c_typed.specs.Trees as tree
 use Rattle.c_typed.specs.Trees.{Expression, Expressions, Place, Program}
-use Rattle.c_typed.specs.Types.{type_bytes, type_of, value_bytes, place_type, place_bytes, form_of, member_form, is_constant}
-use Rattle.c_typed.specs.Words.{read_words, store_words, address_words, convert_words, unary_words, operator_words, change_words, offset_words, computed_words, update_words, struct_words, step_operator, step_words, kept_words}
+use Rattle.c_typed.specs.Types.{type_bytes, type_of, place_type, place_bytes, form_of, member_form, is_constant}
+use Rattle.c_typed.specs.Words.{read_words, store_words, address_words, convert_words, unary_words, operator_words, change_words, offset_words, update_words, struct_words, step_operator, step_words}
 use Rattle.c_typed.specs.declared.expression.LogicalOp.{LogicalOp}
 use Rattle.c_typed.specs.declared.expression.PlaceForm.{PlaceForm}
 use Rattle.c_typed.specs.declared.expression.PlaceForm.TheVariants as form
 use Rattle.c_typed.specs.declared.expression.StepOp.{StepOp}
 use Rattle.c_typed.specs.declared.expression.StepOp.TheVariants.{PreIncrement, PreDecrement, PostIncrement, PostDecrement}
 use Rattle.c_typed.specs.declared.types.Ty.{Ty}
-use Rattle.c_typed.specs.declared.types.Ty.TheVariants.{Void, Int, Pointer, Array, Struct}
+use Rattle.c_typed.specs.declared.types.Ty.TheVariants.{Void, Int, Pointer}
 use Rattle.call_graph.specs.declared.types.FnCopy.{FnCopy}
 use Rattle.core_code.specs.Tree.{Tree}
 use Rattle.core_code.specs.declared.code.Byte.{Byte}
 use Rattle.core_code.specs.declared.code.Byte.TheVariants as bytes
 use Rattle.lower_expr.specs.Bytes.{beyond, behind, operation_type}
-use Rattle.lower_expr.specs.Layout.{Layout, width, value_width, place_width, object_byte, copy_of}
-use Rattle.lower_expr.specs.Lowering.{pointer_code, behind_pointer, shifts_by_constant, change_code, is_pointer, arguments_width, update_of, step_of}
-use Rattle.lower_expr.specs.Puts.{copies, copies_if, sets, operator, test_size, choice}
-use Rattle.lower_expr.specs.Rows.{is_shift, unary_row, binary_row, value_row, read_row, written_row, widened, logical_row, tested, change_by, change_of, change_row, given_byte, update_at, update_row, step_row, step_number, keeps_old, called_row, struct_row, assigned_row, address_row}
+use Rattle.lower_expr.specs.Layout.{Layout, width, value_width, place_width}
+use Rattle.lower_expr.specs.Lowering.{shifts_by_constant, change_code, arguments_width, update_of, step_of}
+use Rattle.lower_expr.specs.Puts.{copies_if, sets, operator, test_size, choice}
+use Rattle.lower_expr.specs.Rows.{is_shift, unary_row, binary_row, value_row, read_row, written_row, widened, logical_row, tested, change_of, change_row, given_byte, update_row, step_row, step_number, keeps_old, called_row, struct_row, assigned_row, address_row}
 use Rattle.lower_expr.specs.Spots.{spot_of, member_spot, pointer_bytes}
 use Rattle.lower_expr.specs.declared.places.Spot.{Spot}
 use Rattle.lower_expr.specs.declared.places.Spot.TheVariants.{Fixed, Bit, Computed}
@@ -40,8 +40,8 @@ use Rattle.word_bounds.proofs.Paying.{IsMine, own_frame}
 use Rattle.word_bounds.proofs.Operators.{binary_most}
 use Rattle.word_bounds.proofs.Lowered.{Takes, takes_on, takes_more, takes_none, test_most}
 use Rattle.word_bounds.proofs.Puts.{mine_lower, sets_takes, near_if, widened_takes, operator_takes, choice_takes, test_four}
-use Rattle.word_bounds.proofs.Rows.{form_at, some_bytes, sum_words, binary_takes, minus_takes, not_takes, bang_takes, truth_takes, logical_takes, moved_takes, offset_takes, difference_takes, member_takes, address_takes, read_takes, value_takes, written_takes, assigned_takes, called_takes, struct_takes}
-use Rattle.word_bounds.proofs.Typing.{IsNumber, Operates, OnInteger, OnPointer, scalar_some, unary_number, binary_number, binary_small, offset_moves, update_operates, step_operates, and_first, and_last}
+use Rattle.word_bounds.proofs.Rows.{form_at, some_bytes, sum_words, binary_takes, minus_takes, not_takes, bang_takes, truth_takes, logical_takes, moved_takes, address_takes, read_takes, value_takes, written_takes, assigned_takes, called_takes, struct_takes}
+use Rattle.word_bounds.proofs.Typing.{Operates, OnInteger, OnPointer, scalar_some, unary_number, binary_number, binary_small, update_operates, step_operates, and_first}
 
 -- ---- sizes
 pub width_within : (l : Layout) (ty : Ty) → width l ty ≤ type_bytes l.sizes ty

@@ -1,14 +1,12 @@
 -- How many words the code of single operations takes on bytes of the frame.
-use Rattle.std.proofs.Common.{◌≡◌, ℕ, zero, suc, ◌+◌, ◌-◌, ◌*◌, ◌/◌, ◌%◌, ◌≤◌, ◌<◌, Bool, true, false, cond, not, ◌&&◌, ◌||◌, nat_eq, min, ltb, if◌then◌else◌, List, [], ◌∷◌, ◌++◌, Option, Some, None, refl, sym, ap, ◌∙◌, subst, ne_eqb, arith}
+use Rattle.std.proofs.Common.{◌≡◌, ℕ, zero, suc, ◌+◌, ◌*◌, ◌≤◌, Bool, true, false, cond, ◌&&◌, nat_eq, min, if◌then◌else◌, List, [], ◌∷◌, ◌++◌, refl, sym, ap, ◌∙◌, subst, ne_eqb, arith}
 use Rattle.core_code.specs.Bytes.{same_byte}
 use Rattle.core_code.specs.declared.code.Byte.{Byte}
 use Rattle.core_code.specs.declared.code.Byte.TheVariants as bytes
 use Rattle.pic_world.specs.declared.Root.{Root}
-use Rattle.sym_code.specs.Words.{most_words, most_of_operand}
-use Rattle.sym_code.specs.declared.code.BitOperation.{BitOperation}
 use Rattle.sym_code.specs.declared.code.BitOperation.TheVariants.{Bcf, Bsf, Btfsc, Btfss}
 use Rattle.sym_code.specs.declared.code.FileOperation.{FileOperation}
-use Rattle.sym_code.specs.declared.code.FileOperation.TheVariants.{Movf, Iorwf, Xorwf, Andwf, Addwf, Subwf, Comf, Incf, Incfsz, Rlf, Rrf}
+use Rattle.sym_code.specs.declared.code.FileOperation.TheVariants.{Movf, Incf, Incfsz}
 use Rattle.sym_code.specs.declared.code.Into.{Into}
 use Rattle.sym_code.specs.declared.code.Into.TheVariants.{W, File}
 use Rattle.sym_code.specs.declared.code.Literal.{Literal}
@@ -20,17 +18,17 @@ use Rattle.sym_code.specs.declared.code.Register.TheVariants.{Status, Fsr, Indf}
 use Rattle.sym_code.specs.declared.code.Sym.{Sym}
 use Rattle.sym_code.specs.declared.code.Sym.TheVariants as syms
 use Rattle.bank_page.specs.Kinds.{skips_by_file}
-use Rattle.select_code.specs.Pieces.{byte_behind, file_code, store_code, clear_code, number_code, flag_bit, flag_code, bit_code, is_clearable, set_code, copy_code, ors_code, test_code}
+use Rattle.select_code.specs.Pieces.{byte_behind, file_code, store_code, clear_code, number_code, flag_bit, flag_code, is_clearable, set_code, copy_code}
 use Rattle.select_code.specs.declared.pieces.Flag.{Flag}
-use Rattle.select_code.specs.declared.pieces.Flag.TheVariants.{Carry, Zero, Irp}
-use Rattle.select_wide.specs.Pieces.{rising, register_code, register_store_code, literal_code, if_bit_code, pair_code, choice_code, truth_code, sign_code}
+use Rattle.select_code.specs.declared.pieces.Flag.TheVariants.{Carry, Irp}
+use Rattle.select_wide.specs.Pieces.{rising, register_code, register_store_code, literal_code, if_bit_code, pair_code}
 use Rattle.select_wide.specs.Moves.{copies_code, stores_code, clears_code}
 use Rattle.select_wide.specs.Pointers.{address_code, pointer_code, load_byte_code, load_code, store_byte_code, store_all_code}
-use Rattle.select_wide.specs.Sums.{chain_operation, unless_carried, further_code, link_code, apart_code, chain_byte_code, chain_code, sum_code, bits_byte_code, bits_at_code, bits_code}
+use Rattle.select_wide.specs.Sums.{chain_operation, unless_carried, further_code, link_code, apart_code, chain_byte_code, chain_code, sum_code, bits_at_code, bits_code}
 use Rattle.select_wide.specs.declared.operands.Chain.{Chain}
 use Rattle.select_wide.specs.declared.operands.Chain.TheVariants.{Sum, Difference}
 use Rattle.word_bounds.proofs.Chain.{never}
-use Rattle.word_bounds.proofs.Paying.{extra, IsMine, IsEasy, easy_mine, mine_behind, easy_behind, Pays, pays_none, pays_on, pays_more, pays_less, pays_most, pays_plain, file_held, store_held, bit_held, file_mine, store_mine, clear_mine, Tame, Held, Bare, held_on, held_tame, held_bare, tame_on, tame_behind, bare_on, tame_more, held_more}
+use Rattle.word_bounds.proofs.Paying.{extra, IsMine, IsEasy, easy_mine, mine_behind, easy_behind, Pays, pays_none, pays_on, pays_more, pays_plain, file_held, store_held, bit_held, file_mine, store_mine, clear_mine, Tame, Held, Bare, held_on, held_tame, held_bare, tame_on, tame_behind, bare_on, tame_more}
 
 module _ (c : ℕ) where
   -- ---- behind a skip

@@ -1,10 +1,9 @@
 -- How many words the code of operators takes on bytes of the frame.
-use Rattle.std.proofs.Common.{◌≡◌, ℕ, zero, suc, ◌+◌, ◌-◌, ◌*◌, ◌/◌, ◌%◌, ◌≤◌, ◌<◌, ◌⊎◌, inl, inr, Bool, true, false, cond, not, ◌&&◌, ◌||◌, nat_eq, min, ltb, if◌then◌else◌, List, [], ◌∷◌, ◌++◌, Option, Some, None, refl, sym, ap, ◌∙◌, subst, ne_eqb, arith}
+use Rattle.std.proofs.Common.{◌≡◌, ℕ, zero, suc, ◌+◌, ◌-◌, ◌*◌, ◌/◌, ◌%◌, ◌≤◌, ◌<◌, ◌⊎◌, inl, inr, Bool, true, false, nat_eq, ltb, if◌then◌else◌, List, [], ◌∷◌, ◌++◌, Option, Some, None, refl, sym, ◌∙◌, subst, arith}
 use Rattle.std.proofs.lemmas.Bool.{ltb-true}
-use Rattle.std.proofs.lemmas.List.Sums.{sum_by-append, sum_by-cons}
+use Rattle.std.proofs.lemmas.List.Sums.{sum_by-cons}
 use Rattle.c_ints.specs.declared.operators.BinOp.{BinOp}
 use Rattle.c_ints.specs.declared.operators.BinOp.TheVariants as binop
-use Rattle.c_ints.specs.declared.operators.UnOp.TheVariants as unop
 use Rattle.c_ints.specs.declared.types.IntTy.{IntTy}
 use Rattle.c_ints.specs.declared.types.IntTy.TheVariants as int
 use Rattle.c_ints.specs.Range.{bytes_of}
@@ -20,7 +19,7 @@ use Rattle.core_code.specs.declared.code.Byte.TheVariants as bytes
 use Rattle.pic_world.specs.declared.Root.{Root}
 use Rattle.sym_code.specs.Words.{most_words, most_of_one, most_of_operand, is_common}
 use Rattle.sym_code.specs.declared.code.BitOperation.{BitOperation}
-use Rattle.sym_code.specs.declared.code.BitOperation.TheVariants.{Bcf, Bsf, Btfsc, Btfss}
+use Rattle.sym_code.specs.declared.code.BitOperation.TheVariants.{Bcf, Btfsc, Btfss}
 use Rattle.sym_code.specs.declared.code.BlockName.TheVariants.{Copy}
 use Rattle.sym_code.specs.declared.code.FileOperation.TheVariants.{Movf, Andwf, Iorwf, Xorwf, Comf, Incf, Rlf, Rrf}
 use Rattle.sym_code.specs.declared.code.Into.TheVariants.{W, File}
@@ -31,7 +30,6 @@ use Rattle.sym_code.specs.declared.code.Operand.TheVariants as operands
 use Rattle.sym_code.specs.declared.code.Sym.{Sym}
 use Rattle.sym_code.specs.declared.code.Sym.TheVariants as syms
 use Rattle.sym_code.specs.declared.code.Target.TheVariants.{Block}
-use Rattle.bank_page.specs.Kinds.{is_skip}
 use Rattle.select_code.specs.Pieces.{byte_behind, file_code, store_code, number_code, flag_code, set_code, copy_code}
 use Rattle.select_code.specs.declared.pieces.Flag.{Flag}
 use Rattle.select_code.specs.declared.pieces.Flag.TheVariants.{Carry, Zero}
@@ -39,16 +37,16 @@ use Rattle.select_wide.specs.Calls.{enter_code, helper_call_code, copy_call_code
 use Rattle.select_wide.specs.Comparisons.{difference_bits_code, differences_code, equality_code, turn_code, signs_code, links_code, order_code}
 use Rattle.select_wide.specs.Moves.{copies_code, stores_code, clears_code}
 use Rattle.select_wide.specs.Pieces.{rising, literal_code, if_bit_code, pair_code, choice_code, truth_code, sign_code}
-use Rattle.select_wide.specs.Shifts.{raised_code, bytes_up_code, bytes_down_code, bytes_way_code, bytes_code, bit_up_code, bit_down_code, bit_shift_code, bit_shifts_code, in_place_code, moved_code, shift_code}
-use Rattle.select_wide.specs.Single.{is_signed, complement_code, increment_byte_code, increment_code, unary_code, widening_code}
+use Rattle.select_wide.specs.Shifts.{raised_code, bytes_up_code, bytes_down_code, bytes_way_code, bit_up_code, bit_down_code, bit_shift_code, bit_shifts_code, in_place_code, shift_code}
+use Rattle.select_wide.specs.Single.{is_signed, complement_code, increment_byte_code, increment_code, widening_code}
 use Rattle.select_wide.specs.Selection.{way_of, shifted_code, binary_code}
-use Rattle.select_wide.specs.Sums.{link_code, chain_code, sum_code, bits_code}
+use Rattle.select_wide.specs.Sums.{chain_code, sum_code, bits_code}
 use Rattle.select_wide.specs.declared.operands.Chain.TheVariants.{Difference}
 use Rattle.select_wide.specs.declared.operands.Way.{Way}
 use Rattle.select_wide.specs.declared.operands.Way.TheVariants.{Left, Right, SignedRight}
 use Rattle.word_bounds.proofs.Chain.{never}
-use Rattle.word_bounds.proofs.Paying.{extra, IsMine, IsEasy, easy_mine, mine_behind, easy_behind, Pays, pays_none, pays_on, pays_more, pays_less, pays_from, pays_most, pays_plain, skips_last, file_mine, file_held, bit_held, bit_skips, Tame, Held, Bare, held_on, held_tame, held_bare, tame_on, tame_behind, tame_more, held_more}
-use Rattle.word_bounds.proofs.Operations.{held_skip, number_bare, number_behind, xor_behind, flag_clear, flag_set, carry_off, file_one, file_tame, store_one, store_tame, zero_tame, copy_tame, rising_held, rising_alike, copies_tame, copies_out, clears_held, clears_tame, stores_held, links_tame, pair_tame, chain_in_place, sum_in_place, bits_tame}
+use Rattle.word_bounds.proofs.Paying.{extra, IsMine, IsEasy, easy_mine, mine_behind, easy_behind, Pays, pays_none, pays_on, pays_more, pays_less, pays_most, pays_plain, file_mine, file_held, bit_held, bit_skips, Tame, Held, Bare, held_on, held_tame, held_bare, tame_on, tame_more, held_more}
+use Rattle.word_bounds.proofs.Operations.{held_skip, number_bare, number_behind, xor_behind, flag_clear, flag_set, carry_off, file_one, file_tame, store_one, store_tame, zero_tame, copy_tame, rising_held, rising_alike, copies_tame, copies_out, clears_tame, stores_held, links_tame, pair_tame, chain_in_place, sum_in_place, bits_tame}
 
 -- the words of an operator that works in place, the selects of the frame's bank apart
 abbrev pub binary_most : BinOp → ℕ → ℕ

@@ -1,5 +1,5 @@
 -- How many words some instructions take whatever stands behind them, and whether the frame's bank is selected then.
-use Rattle.std.proofs.Common.{◌≡◌, ℕ, zero, suc, ◌+◌, ◌*◌, ◌≤◌, Bool, true, false, not, ◌&&◌, ◌||◌, nat_eq, if◌then◌else◌, List, [], ◌∷◌, ◌++◌, length, Option, Some, None, refl, sym, ap, ◌∙◌, subst, append_assoc, eq-eqb, ne_eqb, arith}
+use Rattle.std.proofs.Common.{◌≡◌, ℕ, ◌+◌, ◌≤◌, Bool, true, false, not, ◌&&◌, ◌||◌, nat_eq, if◌then◌else◌, List, [], ◌∷◌, ◌++◌, Option, Some, None, refl, ap, ◌∙◌, subst, append_assoc, eq-eqb, arith}
 use Rattle.std.proofs.lemmas.List.Sums.{sum_by-cons}
 use Rattle.core_code.specs.declared.code.Byte.{Byte}
 use Rattle.core_code.specs.declared.code.Byte.TheVariants as bytes
@@ -13,7 +13,6 @@ use Rattle.sym_code.specs.declared.code.Operand.{Operand}
 use Rattle.sym_code.specs.declared.code.Operand.TheVariants as operands
 use Rattle.sym_code.specs.declared.code.Sym.{Sym}
 use Rattle.sym_code.specs.declared.code.Sym.TheVariants as syms
-use Rattle.sym_code.specs.declared.code.Target.{Target}
 use Rattle.bank_page.specs.Kinds.{is_skip, skips_by_file, skips_by_bit, byte_named, byte_of, target_of}
 use Rattle.word_bounds.specs.Counting.{is_own, bank_words, page_words, select_words, loses, has_with, has_behind, counted}
 use Rattle.word_bounds.proofs.Chain.{never, has_none, none_later}

@@ -1,12 +1,10 @@
 -- How many words the rows of the code of expressions take: numbers, copies, conversions and choices.
-use Rattle.std.proofs.Common.{◌≡◌, ℕ, zero, suc, ◌+◌, ◌-◌, ◌*◌, ◌≤◌, ◌<◌, Bool, true, false, ◌&&◌, nat_eq, cond, min, nat_lt, if◌then◌else◌, List, [], ◌∷◌, ◌++◌, Option, Some, None, refl, sym, ap, ◌∙◌, subst, eq-eqb, arith}
+use Rattle.std.proofs.Common.{◌≡◌, ℕ, zero, suc, ◌+◌, ◌-◌, ◌*◌, ◌≤◌, Bool, true, false, ◌&&◌, nat_eq, cond, nat_lt, if◌then◌else◌, List, [], ◌∷◌, refl, sym, subst, eq-eqb, arith}
 use Rattle.c_ints.specs.Range.{bytes_of}
 use Rattle.c_ints.specs.declared.operators.BinOp.{BinOp}
 use Rattle.c_ints.specs.declared.operators.BinOp.TheVariants as binop
-use Rattle.c_ints.specs.declared.operators.UnOp.{UnOp}
-use Rattle.c_ints.specs.declared.operators.UnOp.TheVariants as unop
 use Rattle.c_ints.specs.declared.types.IntTy.{IntTy}
-use Rattle.c_ints.specs.declared.types.IntTy.TheVariants.{UInt, UChar}
+use Rattle.c_ints.specs.declared.types.IntTy.TheVariants.{UInt}
 use Rattle.c_typed.specs.Types.{type_bytes}
 use Rattle.c_typed.specs.Words.{convert_words}
 use Rattle.c_typed.specs.declared.types.Ty.{Ty}
@@ -17,18 +15,17 @@ use Rattle.core_code.specs.Tree as code
 use Rattle.core_code.specs.Tree.{Tree, many}
 use Rattle.core_code.specs.declared.code.Byte.{Byte}
 use Rattle.core_code.specs.declared.code.Byte.TheVariants as bytes
-use Rattle.lower_expr.specs.Bytes.{behind, little_beyond, byte_at, is_wider, number_type, operation_type}
+use Rattle.lower_expr.specs.Bytes.{behind, little_beyond, byte_at}
 use Rattle.lower_expr.specs.Puts.{copies, copies_if, sets, operator, test_size, choice}
-use Rattle.lower_expr.specs.Rows.{wider, widened_number, widened, tested}
+use Rattle.lower_expr.specs.Rows.{wider, widened}
 use Rattle.pic_world.specs.declared.Root.{Root}
 use Rattle.select_code.specs.Sized.{is_cut}
 use Rattle.select_code.specs.declared.control.Ending.{Ending}
-use Rattle.sym_code.specs.declared.code.Sym.{Sym}
 use Rattle.select_wide.specs.Selection.{wide_code}
-use Rattle.word_bounds.proofs.Paying.{extra, IsMine, IsEasy, easy_mine, Pays, pays_on, pays_more, pays_less, Tame, Bare, file_mine, store_mine}
+use Rattle.word_bounds.proofs.Paying.{IsMine, IsEasy, Pays, pays_more}
 use Rattle.word_bounds.proofs.Operations.{set_tame, zero_tame, set_result, copy_tame, copy_out, sum_in_place}
-use Rattle.word_bounds.proofs.Operators.{Loose, loose_none, loose_more, binary_most, binary_loose, copy_pays, widening_pays, whole_bytes}
-use Rattle.word_bounds.proofs.Lowered.{One, Costs, Takes, Tames, Helds, Tamed, one_more, costs_more, costs_less, costs_none, costs_one, costs_on, takes_on, takes_more, takes_none, takes_one, tames_on, tames_more, tames_one, takes_tames, helds_on, helds_more, helds_one, helds_tames, many_one, test_most, if_one}
+use Rattle.word_bounds.proofs.Operators.{loose_none, binary_most, binary_loose, copy_pays, widening_pays}
+use Rattle.word_bounds.proofs.Lowered.{Costs, Takes, Tames, Helds, Tamed, costs_more, costs_none, costs_one, takes_on, takes_more, takes_none, takes_one, tames_on, tames_more, tames_one, takes_tames, helds_on, helds_more, helds_one, many_one, test_most, if_one}
 
 -- ---- bytes behind others
 pub mine_lower : (c : ℕ) (byte : Byte) (k : ℕ) → IsMine c byte → IsMine c (behind byte k)

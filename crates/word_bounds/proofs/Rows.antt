@@ -1,5 +1,5 @@
 -- How many words the rows of the code of expressions take: operators, pointers and places.
-use Rattle.std.proofs.Common.{◌≡◌, ℕ, zero, suc, ◌+◌, ◌-◌, ◌*◌, ◌/◌, ◌%◌, ◌≤◌, ◌<◌, ◌⊎◌, inl, inr, Bool, true, false, ◌&&◌, min, nat_lt, nat_eq, if◌then◌else◌, List, [], ◌∷◌, ◌++◌, Option, Some, None, refl, sym, ap, ◌∙◌, subst, eqb-true, append_assoc, arith}
+use Rattle.std.proofs.Common.{◌≡◌, ℕ, zero, suc, ◌+◌, ◌-◌, ◌*◌, ◌/◌, ◌%◌, ◌≤◌, ◌⊎◌, inl, inr, Bool, true, false, ◌&&◌, nat_lt, nat_eq, if◌then◌else◌, List, [], ◌∷◌, ◌++◌, refl, sym, ap, ◌∙◌, subst, eqb-true, append_assoc, arith}
 use Rattle.std.proofs.lemmas.List.Sums.{sum_by-cons}
 use Rattle.c_ints.specs.Range.{bytes_of}
 use Rattle.c_ints.specs.declared.operators.BinOp.{BinOp}
@@ -10,27 +10,24 @@ use Rattle.c_ints.specs.declared.types.IntTy.{IntTy}
 use Rattle.c_ints.specs.declared.types.IntTy.TheVariants.{UInt, UChar}
 use Rattle.c_ints.specs.declared.types.IntTy.TheVariants as intty
 use Rattle.c_typed.specs.Rules.{moves_by}
-use Rattle.c_typed.specs.Types.{type_bytes}
-use Rattle.c_typed.specs.Words.{read_words, store_words, address_words, member_words, operator_words, digits_within, offset_words, difference_words, struct_words}
+use Rattle.c_typed.specs.Words.{read_words, store_words, address_words, operator_words, digits_within, offset_words, difference_words, struct_words}
 use Rattle.c_typed.specs.declared.expression.LogicalOp.{LogicalOp}
 use Rattle.c_typed.specs.declared.expression.LogicalOp.TheVariants as logical
 use Rattle.c_typed.specs.declared.expression.PlaceForm.{PlaceForm}
 use Rattle.c_typed.specs.declared.expression.PlaceForm.TheVariants as form
-use Rattle.c_typed.specs.declared.types.Ty.{Ty}
 use Rattle.call_graph.specs.declared.types.FnCopy.{FnCopy}
-use Rattle.core_code.specs.Bytes.{same_byte}
 use Rattle.core_code.specs.Tree as code
 use Rattle.core_code.specs.Tree.{Tree, many}
 use Rattle.core_code.specs.declared.code.Byte.{Byte}
 use Rattle.core_code.specs.declared.code.Byte.TheVariants as bytes
-use Rattle.lower_expr.specs.Bytes.{beyond, little_beyond, behind, byte_at, operation_type}
-use Rattle.lower_expr.specs.Puts.{copies, copies_if, sets, operator, test_size, choice}
-use Rattle.lower_expr.specs.Rows.{tested, unary_row, logical_row, is_shift, shift_row, binary_row, odd_part, multiples, scaled, moved, moved_right, offset_row, quotient_row, difference_row, member_row, address_row, read_row, pointed_row, value_row, bit_row, written_row, kept_row, assigned_row, called_row, side_of, taken, given, advance, advances, structure_bytes, structure_row, through_row, struct_row}
+use Rattle.lower_expr.specs.Bytes.{beyond, little_beyond, behind, byte_at}
+use Rattle.lower_expr.specs.Puts.{copies, copies_if, sets, operator, test_size}
+use Rattle.lower_expr.specs.Rows.{tested, logical_row, is_shift, shift_row, binary_row, odd_part, multiples, scaled, moved, moved_right, offset_row, difference_row, member_row, address_row, read_row, pointed_row, value_row, bit_row, written_row, assigned_row, called_row, side_of, taken, given, advance, advances, structure_bytes, structure_row, through_row, struct_row}
 use Rattle.lower_expr.specs.Spots.{pointer_bytes}
 use Rattle.lower_expr.specs.declared.places.Spot.{Spot}
 use Rattle.lower_expr.specs.declared.places.Spot.TheVariants.{Fixed, Bit, Computed}
 use Rattle.pic_world.specs.declared.Root.{Root}
-use Rattle.select_code.specs.Pieces.{bit_read_code, bit_write_code, bit_code, goto_code, label_code, first_label, second_label, file_code, store_code, number_code, copy_code}
+use Rattle.select_code.specs.Pieces.{bit_read_code, bit_write_code, bit_code, goto_code, label_code, first_label, second_label, file_code, store_code, copy_code}
 use Rattle.select_code.specs.declared.control.Ending.{Ending}
 use Rattle.sym_code.specs.Words.{most_words, most_of_one}
 use Rattle.sym_code.specs.declared.code.BitOperation.{BitOperation}
@@ -40,16 +37,15 @@ use Rattle.sym_code.specs.declared.code.Into.TheVariants.{W}
 use Rattle.sym_code.specs.declared.code.Literal.TheVariants.{Number}
 use Rattle.sym_code.specs.declared.code.LiteralOperation.TheVariants.{Movlw}
 use Rattle.sym_code.specs.declared.code.Operand.TheVariants as operands
-use Rattle.sym_code.specs.declared.code.Sym.{Sym}
 use Rattle.sym_code.specs.declared.code.Sym.TheVariants as syms
 use Rattle.select_wide.specs.Pointers.{pointer_code, load_code, store_all_code}
 use Rattle.select_wide.specs.Single.{complement_code, increment_code, unary_code}
 use Rattle.word_bounds.proofs.Chain.{never}
-use Rattle.word_bounds.proofs.Paying.{extra, IsMine, IsEasy, easy_mine, own_frame, Pays, pays_none, pays_on, pays_more, pays_less, pays_from, pays_most, bit_held, file_mine, store_mine, Tame, Held, held_on, held_tame, tame_on, tame_more}
+use Rattle.word_bounds.proofs.Paying.{extra, IsMine, IsEasy, easy_mine, Pays, pays_none, pays_on, pays_more, pays_most, bit_held, file_mine, store_mine, Tame, tame_on, tame_more}
 use Rattle.word_bounds.proofs.Operations.{load_tame, store_all_tame, pointer_tame, address_tame, bits_tame, sum_tame}
 use Rattle.word_bounds.proofs.Operators.{whole_bytes, binary_most, operand_three, complement_tame, minus_tame, enter_pays}
-use Rattle.word_bounds.proofs.Lowered.{One, Costs, Takes, Tames, Helds, Tamed, one_more, costs_more, costs_less, costs_from, costs_none, costs_one, costs_on, takes_on, takes_more, takes_none, takes_one, tames_on, tames_more, tames_one, takes_tames, helds_on, helds_more, helds_one, helds_tames, many_one, goto_pays, label_pays, test_most}
-use Rattle.word_bounds.proofs.Puts.{mine_lower, test_four, test_some, sets_tames, sets_takes, nought_takes, one_takes, result_one, copies_takes, copies_helds, copies_tames, copies_near, results_takes, near_if, results_if, operator_takes, operator_held, add_tamed, choice_takes}
+use Rattle.word_bounds.proofs.Lowered.{Costs, Takes, Tames, Helds, costs_more, costs_less, costs_none, costs_one, costs_on, takes_on, takes_more, takes_none, takes_one, tames_on, tames_one, takes_tames, helds_on, helds_more, helds_one, helds_tames, many_one, goto_pays, label_pays, test_most}
+use Rattle.word_bounds.proofs.Puts.{mine_lower, test_four, test_some, sets_tames, sets_takes, nought_takes, one_takes, result_one, copies_takes, copies_helds, copies_tames, near_if, results_if, operator_takes, operator_held, add_tamed, choice_takes}
 
 -- ---- operators against their stated words
 pub operator_fits : (op : BinOp) (constant : Bool) (w : ℕ) → 1 ≤ w → (is_shift op && constant) ≡ false → binary_most op w + 2 ≤ operator_words op constant w

@@ -1,17 +1,16 @@
 -- How many words the parts of statements take that hold no other statement: jumps, conditions, and the loops of a switch.
-use Rattle.std.proofs.Common.{◌≡◌, ℕ, zero, suc, ◌+◌, ◌-◌, ◌*◌, ◌≤◌, Bool, true, false, not, ◌&&◌, nat_eq, nat_le, if◌then◌else◌, List, [], ◌∷◌, ◌++◌, Option, Some, None, option_map, refl, sym, ap, ◌∙◌, subst, arith}
+use Rattle.std.proofs.Common.{◌≡◌, ℕ, zero, suc, ◌+◌, ◌*◌, ◌≤◌, Bool, true, false, List, [], ◌∷◌, ◌++◌, Option, Some, None, refl, sym, subst, arith}
 use Rattle.c_ints.specs.Range.{bytes_of, pattern}
 use Rattle.c_ints.specs.declared.operators.BinOp.TheVariants.{Eq}
 use Rattle.c_ints.specs.declared.types.IntTy.{IntTy}
 use Rattle.c_ints.specs.declared.types.IntTy.TheVariants as int
 use Rattle.c_typed.specs.Fits.{fits}
 use Rattle.c_typed.specs.Sameness.{is_promoted}
-use Rattle.c_typed.specs.Sound.{condition_fits, any_condition_fits, any_fits}
+use Rattle.c_typed.specs.Sound.{any_condition_fits, any_fits}
 use Rattle.c_typed.specs.Sameness.{is_scalar}
 use Rattle.c_typed.specs.Trees.{Expression, FunctionTree, Program}
 use Rattle.c_typed.specs.Types.{type_bytes, type_of, value_bytes}
 use Rattle.c_typed.specs.Words.{words, any_words, condition_words, cases_words}
-use Rattle.c_typed.specs.declared.standing.Standing.{Standing}
 use Rattle.c_typed.specs.declared.standing.Standing.TheVariants.{Used}
 use Rattle.c_typed.specs.declared.statement.TCase.{TCase}
 use Rattle.c_typed.specs.declared.types.Ty.{Ty}
@@ -20,9 +19,7 @@ use Rattle.call_graph.specs.declared.types.FnCopy.{FnCopy}
 use Rattle.core_code.specs.Tree as core
 use Rattle.core_code.specs.Tree.{Tree, many}
 use Rattle.core_code.specs.declared.code.Byte.{Byte}
-use Rattle.lower_expr.specs.Bytes.{operation_type, behind}
-use Rattle.lower_expr.specs.Layout.{width}
-use Rattle.lower_expr.specs.Lowering.{expr_code}
+use Rattle.lower_expr.specs.Bytes.{operation_type}
 use Rattle.lower_expr.specs.Puts.{sets, test_size}
 use Rattle.lower_stmt.specs.Ground.{Ground, first, temporary, value_code, effect_code}
 use Rattle.lower_stmt.specs.Ground as ground
@@ -41,11 +38,11 @@ use Rattle.sym_code.specs.declared.code.Sym.TheVariants as syms
 use Rattle.std.proofs.lemmas.List.Sums.{sum_by-cons}
 use Rattle.select_wide.specs.Comparisons.{equality_code}
 use Rattle.word_bounds.proofs.Chain.{never}
-use Rattle.word_bounds.proofs.Paying.{extra, IsMine, own_frame, Pays, pays_none, pays_more, pays_less, pays_most, Tame, tame_more}
+use Rattle.word_bounds.proofs.Paying.{IsMine, own_frame, Pays, pays_none, pays_more, pays_most, Tame}
 use Rattle.word_bounds.proofs.Operators.{whole_bytes, equality_tame}
-use Rattle.word_bounds.proofs.Lowered.{one_code, tames_more, One, Costs, Takes, Tames, takes_on, takes_more, takes_none, takes_one, takes_tames, tames_one, helds_one, tames_on, many_one, if_one, once_one, loop_one, goto_pays, test_most}
+use Rattle.word_bounds.proofs.Lowered.{one_code, tames_more, One, Takes, Tames, takes_on, takes_more, takes_none, takes_one, takes_tames, helds_one, tames_on, many_one, if_one, once_one, loop_one, goto_pays, test_most}
 use Rattle.word_bounds.proofs.Puts.{mine_lower, sets_tames, test_four}
-use Rattle.word_bounds.proofs.Typing.{IsNumber, promoted_number, and_first, and_last}
+use Rattle.word_bounds.proofs.Typing.{promoted_number, and_last}
 use Rattle.word_bounds.proofs.Nodes.{width_within, width_some}
 use Rattle.word_bounds.proofs.Expressions.{expr_takes}
 

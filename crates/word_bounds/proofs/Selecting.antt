@@ -1,28 +1,27 @@
 -- What becomes of a block with its selects has at most the words that are counted.
-use Rattle.std.proofs.Common.{◌≡◌, ℕ, ◌+◌, ◌/◌, ◌≤◌, ◌⊎◌, inl, inr, Bool, true, false, not, ◌&&◌, ◌||◌, nat_eq, if◌then◌else◌, List, [], ◌∷◌, ◌++◌, length, Option, Some, None, refl, sym, ap, ◌∙◌, subst, append_assoc, arith}
-use Rattle.std.proofs.lemmas.Option.{none-some, same_Some}
+use Rattle.std.proofs.Common.{◌≡◌, ℕ, ◌+◌, ◌≤◌, inl, inr, Bool, true, false, not, ◌&&◌, ◌||◌, if◌then◌else◌, List, [], ◌∷◌, ◌++◌, length, Option, Some, None, refl, sym, ap, ◌∙◌, subst, arith}
+use Rattle.std.proofs.lemmas.Option.{none-some}
 use Rattle.std.proofs.lemmas.List.Sums.{sum_by-append, sum_by-cons}
 use Rattle.core_code.specs.declared.code.Byte.{Byte}
 use Rattle.pic_map.specs.declared.Placed.{Placed}
-use Rattle.sym_code.specs.Selects.{is_select, bare}
+use Rattle.sym_code.specs.Selects.{is_select}
 use Rattle.sym_code.specs.Words.{words_of_one, words_in}
 use Rattle.sym_code.specs.declared.code.BankBit.TheVariants as bank_bits
 use Rattle.sym_code.specs.declared.code.BlockName.{BlockName}
 use Rattle.sym_code.specs.declared.code.Sym.{Sym}
 use Rattle.sym_code.specs.declared.code.Sym.TheVariants as syms
-use Rattle.sym_code.specs.declared.code.SymBlock.{SymBlock}
 use Rattle.sym_code.specs.declared.code.Target.{Target}
 use Rattle.bank_page.specs.Kinds.{is_label, is_skip, byte_of, target_of}
 use Rattle.bank_page.specs.Known.{nothing, kept, left, after, ends, forgets, knows, learned, same_bit, is_bit, is_of_bit, writes_status, writes_pclath}
 use Rattle.bank_page.specs.Needs.{banked, needs_one, needs_in}
-use Rattle.bank_page.specs.Selected.{has_bank, front}
+use Rattle.bank_page.specs.Selected.{has_bank}
 use Rattle.bank_page.specs.Step.{rp0_of, rp1_of, bank_selects, page_selects, unknown, missing, behind_selects, behind_bank, missing_for, known_with, passed, put_of, state_of, selected_from}
 use Rattle.bank_page.specs.declared.known.Known.{Known}
 use Rattle.bank_page.specs.declared.needs.Needs.{Needs}
 use Rattle.bank_page.specs.declared.selecting.State.{State}
 use Rattle.bank_page.proofs.Chains as chains
-use Rattle.bank_page.proofs.Sizes.{cost, count_bank, count_page}
-use Rattle.word_bounds.specs.Counting.{is_own, select_words, loses, has_with, has_behind, counted}
+use Rattle.bank_page.proofs.Sizes.{count_bank, count_page}
+use Rattle.word_bounds.specs.Counting.{is_own, loses, has_with, has_behind, counted}
 use Rattle.word_bounds.specs.Bounds.{AreBanked, SelectsAreCounted}
 use Rattle.word_bounds.proofs.Chain as chain
 use Rattle.word_bounds.proofs.Chain.{never, has_none, none_first, none_later, bare_none, due, has_last, Banks}

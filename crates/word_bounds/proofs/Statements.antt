@@ -1,9 +1,9 @@
 -- The code of a statement takes at most its stated words.
-use Rattle.std.proofs.Common.{◌≡◌, ℕ, zero, suc, ◌+◌, ◌-◌, ◌*◌, ◌≤◌, Bool, true, false, not, ◌&&◌, nat_eq, if◌then◌else◌, List, [], ◌∷◌, ◌++◌, map, Option, Some, None, is_some, slice_get, slice_index, refl, sym, ap, ◌∙◌, subst, arith}
+use Rattle.std.proofs.Common.{◌≡◌, ℕ, zero, suc, ◌+◌, ◌-◌, ◌*◌, Bool, true, false, ◌&&◌, if◌then◌else◌, List, [], ◌∷◌, ◌++◌, map, Option, Some, None, is_some, slice_get, slice_index, refl, sym, ap, ◌∙◌, arith}
 use Rattle.std.proofs.lemmas.Option.{none-some, same_Some}
 use Rattle.c_typed.specs.Fits.{fits, goes_to, source_of}
-use Rattle.c_typed.specs.Sameness.{is_promoted, is_scalar, is_void}
-use Rattle.c_typed.specs.Sound.{any_fits, condition_fits, any_condition_fits, value_fits, local_is_there, first_value_fits, has_parts, items_fit, list_fits, loop_fits, cases_fit, default_fits, count_of, return_fits, switch_rule, is_some_arm, statement_fits, statements_fit, arm_fits, arms_fit, last_fits}
+use Rattle.c_typed.specs.Sameness.{is_promoted, is_scalar}
+use Rattle.c_typed.specs.Sound.{any_fits, condition_fits, any_condition_fits, first_value_fits, has_parts, items_fit, list_fits, loop_fits, cases_fit, default_fits, count_of, return_fits, switch_rule, is_some_arm, statement_fits, statements_fit, arm_fits, arms_fit, last_fits}
 use Rattle.c_typed.specs.Trees as tree
 use Rattle.c_typed.specs.Trees.{Expression, Item, Statement, Statements, Arm, Arms, LastArm, VariableTree, FunctionTree, Program}
 use Rattle.c_typed.specs.Types.{type_bytes, type_of, value_bytes}
@@ -15,15 +15,14 @@ use Rattle.c_typed.specs.declared.statement.LoopForm.TheVariants.{While, Do, For
 use Rattle.call_graph.specs.declared.types.FnCopy.{FnCopy}
 use Rattle.core_code.specs.Tree as core
 use Rattle.core_code.specs.Tree.{Tree, many}
-use Rattle.lower_expr.specs.Lowering.{expr_code}
-use Rattle.lower_expr.specs.Puts.{copies, choice}
+use Rattle.lower_expr.specs.Puts.{copies}
 use Rattle.lower_stmt.specs.Declarators.{scalar_code, list_code}
 use Rattle.lower_stmt.specs.Ground.{Ground, first, result_byte, local_byte, local_bytes, value_code, effect_code}
 use Rattle.lower_stmt.specs.Ground as ground
 use Rattle.lower_stmt.specs.Jumps.{outside, in_segment}
 use Rattle.lower_stmt.specs.Labels.{labels_of, has}
 use Rattle.lower_stmt.specs.Statements.{any_code, condition_code, once, jumps_in, loop_code, break_code, continue_code, return_code, arm_choice, segments_in, stmt_code, stmts_code, arms_code, arm_code, last_code, segments_code}
-use Rattle.lower_stmt.specs.Switches.{comparisons, begun_with, Segments, no_segments, cut, joined, around, for_labels}
+use Rattle.lower_stmt.specs.Switches.{comparisons, begun_with, Segments, no_segments, joined, around, for_labels}
 use Rattle.pic_world.specs.declared.Root.{Root}
 use Rattle.select_code.specs.declared.control.Ending.{Ending}
 use Rattle.word_bounds.proofs.Chain.{never}

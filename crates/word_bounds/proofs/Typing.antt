@@ -1,5 +1,5 @@
 -- What the typing rules say of the sizes of types.
-use Rattle.std.proofs.Common.{◌≡◌, ℕ, ◌+◌, ◌≤◌, Bool, true, false, not, ◌&&◌, ◌||◌, ◌⊎◌, inl, inr, nat_eq, if◌then◌else◌, List, Option, Some, None, refl, sym, ap, ◌∙◌, subst, eqb-true, arith}
+use Rattle.std.proofs.Common.{◌≡◌, ℕ, ◌≤◌, Bool, true, false, not, ◌&&◌, ◌||◌, ◌⊎◌, inl, inr, nat_eq, if◌then◌else◌, List, Option, Some, None, refl, sym, ap, ◌∙◌, subst, arith}
 use Rattle.c_ints.specs.Conversions.{promoted, common}
 use Rattle.c_ints.specs.Operators.{compares, shifts}
 use Rattle.c_ints.specs.Range.{bytes_of}
@@ -7,15 +7,14 @@ use Rattle.c_ints.specs.declared.operators.BinOp.{BinOp}
 use Rattle.c_ints.specs.declared.operators.BinOp.TheVariants as binop
 use Rattle.c_ints.specs.declared.types.IntTy.{IntTy}
 use Rattle.c_ints.specs.declared.types.IntTy.TheVariants as int
-use Rattle.c_typed.specs.Rules.{integers_fit, pointers_fit, point_alike, binary_fits, offset_fits, moves_by, moves, counts_in, is_writable, assign_fits, integer_update_fits, update_fits, integer_step_fits, step_fits}
-use Rattle.c_typed.specs.Sameness.{same_int, int_number, same_type, is_int, is_pointer, is_scalar, is_promoted, is_index, pointed}
+use Rattle.c_typed.specs.Rules.{point_alike, binary_fits, offset_fits, moves_by, moves, counts_in, is_writable, assign_fits, integer_update_fits, update_fits, integer_step_fits, step_fits}
+use Rattle.c_typed.specs.Sameness.{same_int, same_type, is_scalar, is_promoted, is_index, pointed}
 use Rattle.c_typed.specs.Trees.{Program}
 use Rattle.c_typed.specs.Types.{type_bytes}
 use Rattle.c_typed.specs.declared.types.Qualified.{Qualified}
 use Rattle.c_typed.specs.declared.types.Ty.{Ty}
 use Rattle.c_typed.specs.declared.types.Ty.TheVariants.{Void, Int, Pointer, Array, Struct}
 use Rattle.lower_expr.specs.Bytes.{operation_type}
-use Rattle.lower_expr.specs.Rows.{is_shift}
 use Rattle.word_bounds.proofs.Chain.{never}
 use Rattle.word_bounds.proofs.Operators.{whole_bytes}
 use Rattle.word_bounds.proofs.Rows.{some_bytes}

@@ -1,5 +1,5 @@
 -- The block of a function's copy has at most the function's stated words.
-use Rattle.std.proofs.Common.{◌≡◌, ℕ, zero, suc, ◌+◌, ◌≤◌, Bool, true, false, not, ◌&&◌, if◌then◌else◌, List, [], ◌∷◌, ◌++◌, map, length, Option, Some, None, slice_get, refl, sym, ap, ◌∙◌, subst, arith}
+use Rattle.std.proofs.Common.{◌≡◌, ℕ, zero, suc, ◌+◌, ◌≤◌, Bool, true, false, not, ◌&&◌, if◌then◌else◌, List, [], ◌∷◌, ◌++◌, map, Some, slice_get, refl, sym, ap, ◌∙◌, subst, arith}
 use Rattle.std.proofs.lemmas.Option.{none-some, same_Some}
 use Rattle.std.specs.List.{list_all}
 use Rattle.c_typed.specs.Sound.{target_fits, structure_fits, static_fits, param_fits, local_fits, result_fits, function_fits, statements_fit, is_sound}
@@ -10,25 +10,21 @@ use Rattle.call_graph.specs.Numbers.{handler_at}
 use Rattle.call_graph.specs.declared.types.FnCopy.{FnCopy}
 use Rattle.core_code.specs.Tree as core
 use Rattle.core_code.specs.Tree.{Tree}
-use Rattle.core_code.specs.View.{trees_in}
 use Rattle.lower_stmt.specs.Bodies.{body_code}
 use Rattle.lower_stmt.specs.Frames.{ground_for}
 use Rattle.lower_stmt.specs.Ground.{Ground}
 use Rattle.lower_stmt.specs.Jumps.{outside}
 use Rattle.lower_stmt.specs.Statements.{stmts_code}
-use Rattle.pic_map.specs.declared.Placed.{Placed}
 use Rattle.pic_world.specs.declared.Root.{Root}
 use Rattle.ram_place.specs.Sizes.{block_words, size_or_none}
 use Rattle.select_code.specs.declared.control.Ending.{Ending}
-use Rattle.select_wide.specs.Blocks.{block_code, ending_at}
+use Rattle.select_wide.specs.Blocks.{ending_at}
 use Rattle.sym_code.specs.Selects.{bare}
-use Rattle.sym_code.specs.Words.{words_in}
 use Rattle.sym_code.specs.declared.code.Sym.{Sym}
 use Rattle.sym_code.specs.declared.code.SymBlock.{SymBlock}
-use Rattle.bank_page.specs.Selected.{IsExact}
-use Rattle.word_bounds.specs.Bounds.{AreBanked, IsBlockOf, BlocksAreBare, WordsAreStated}
+use Rattle.word_bounds.specs.Bounds.{IsBlockOf, BlocksAreBare, WordsAreStated}
 use Rattle.word_bounds.specs.Counting.{counted}
-use Rattle.word_bounds.proofs.Chain.{never, has_none, none_first, none_later}
+use Rattle.word_bounds.proofs.Chain.{has_none, none_first, none_later}
 use Rattle.word_bounds.proofs.Paying.{Pays}
 use Rattle.word_bounds.proofs.Lowered.{some_code, Takes, takes_on, takes_more}
 use Rattle.word_bounds.proofs.Typing.{and_first, and_last}

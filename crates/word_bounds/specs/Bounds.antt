@@ -1,5 +1,5 @@
 -- What is promised of the words of blocks.
-use Rattle.std.specs.Prelude.{◌≡◌, ℕ, ◌/◌, ◌≤◌, true, false, List, [], ◌∷◌, Option, Some, None, slice_get}
+use Rattle.std.specs.Prelude.{◌≡◌, ℕ, ◌/◌, ◌≤◌, true, false, List, [], ◌∷◌, Some, slice_get}
 use Rattle.c_typed.specs.Sound.{is_sound}
 use Rattle.c_typed.specs.Trees.{FunctionTree, Program}
 use Rattle.c_typed.specs.declared.calls.FnId.TheVariants.{User}
@@ -7,7 +7,6 @@ use Rattle.call_graph.specs.declared.types.FnCopy.{FnCopy}
 use Rattle.ram_place.specs.Sizes.{block_words}
 use Rattle.core_code.specs.View.{trees_in}
 use Rattle.core_code.specs.declared.code.Body.{Body}
-use Rattle.core_code.specs.declared.code.Byte.{Byte}
 use Rattle.core_code.specs.declared.code.Byte.TheVariants as bytes
 use Rattle.pic_map.specs.declared.Placed.{Placed}
 use Rattle.sym_code.specs.Selects.{bare}
