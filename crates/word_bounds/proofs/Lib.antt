@@ -12,4 +12,5 @@ mod Expressions
 mod Declared
 mod Segments
 mod Statements
+mod Naming
 mod Whole
