@@ -13,4 +13,5 @@ mod Declared
 mod Segments
 mod Statements
 mod Naming
+mod Lying
 mod Whole
