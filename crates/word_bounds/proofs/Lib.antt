@@ -14,4 +14,5 @@ mod Segments
 mod Statements
 mod Naming
 mod Lying
+mod Rooms
 mod Whole

@@ -234,6 +234,12 @@ module _ (c size : ℕ) where
   SpotLies n (Bit register bit) = Unit {0}
   SpotLies n Computed = Unit {0}
 
+  -- a bit has a byte
+  abbrev pub BitHas : ℕ → Spot → Type 0
+  BitHas w (Fixed byte) = Unit {0}
+  BitHas w (Bit register bit) = 1 ≤ w
+  BitHas w Computed = Unit {0}
+
   pub member_lie : (at : Byte) (offset : ℕ) (r : Root) → Lies c size 2 at → AllLie (member_row at offset (bytes.Result r 0))
   member_lie at offset r h = by_none (nat_eq offset 0)
     where
@@ -246,14 +252,14 @@ module _ (c size : ℕ) where
   address_lie (Bit register bit) at h = tt
   address_lie Computed at h = tt
 
-  pub value_lie : (spot : Spot) (at : Byte) (w : ℕ) → SpotLies w spot → Lies c size (pointer_bytes spot + w) at → 1 ≤ w → AllLie (value_row spot at w)
+  pub value_lie : (spot : Spot) (at : Byte) (w : ℕ) → SpotLies w spot → Lies c size (pointer_bytes spot + w) at → BitHas w spot → AllLie (value_row spot at w)
   value_lie (Fixed from) at w s h l = copies_lie at from w (less (0 + w) w at (omega arith) h) s
   value_lie (Bit register bit) at w s h l = (less (0 + w) 1 at (omega (arith, l)) h, tt)
   value_lie Computed at w s h l =
       let second = past (2 + w) w 2 at (omega arith) h in
       ((second, less (2 + w) 2 at (omega arith) h), copies_lie at (behind at 2) w (less (2 + w) w at (omega arith) h) second)
 
-  pub read_lie : (spot : Spot) (pointer to : Byte) (w : ℕ) → SpotLies w spot → Lies c size (pointer_bytes spot) pointer → Lies c size w to → 1 ≤ w → AllLie (read_row spot pointer to w)
+  pub read_lie : (spot : Spot) (pointer to : Byte) (w : ℕ) → SpotLies w spot → Lies c size (pointer_bytes spot) pointer → Lies c size w to → BitHas w spot → AllLie (read_row spot pointer to w)
   read_lie (Fixed from) pointer to w s h g l = copies_lie to from w g s
   read_lie (Bit register bit) pointer to w s h g l = (less w 1 to l g, tt)
   read_lie Computed pointer to w s h g l = ((g, h), tt)

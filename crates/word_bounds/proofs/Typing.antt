@@ -60,7 +60,7 @@ promoted_some sizes (Array element count size) e = never e
 promoted_some sizes (Struct number) e = never e
 
 -- the same integer type
-same_bytes : (a b : IntTy) → same_int a b ≡ true → bytes_of a ≡ bytes_of b
+pub same_bytes : (a b : IntTy) → same_int a b ≡ true → bytes_of a ≡ bytes_of b
 same_bytes int.Char int.Char e = refl
 same_bytes int.Char int.SChar e = refl
 same_bytes int.Char int.UChar e = refl

@@ -1,8 +1,10 @@
 -- Which bytes of a copy's frame operations of byte code name, with those that stand behind them.
-use Rattle.std.specs.Prelude.{◌≡◌, ℕ, ◌+◌, ◌≤◌, nat_eq, true, List}
+use Rattle.std.specs.Prelude.{◌≡◌, ℕ, ◌+◌, ◌≤◌, nat_eq, true, false, List, [], ◌∷◌}
 use Rattle.c_ints.specs.Range.{bytes_of}
 use Rattle.c_ints.specs.declared.operators.BinOp.{BinOp}
 use Rattle.c_ints.specs.declared.operators.BinOp.TheVariants as binop
+use Rattle.c_typed.specs.declared.calls.FnId.{FnId}
+use Rattle.c_typed.specs.declared.calls.FnId.TheVariants as callee
 use Rattle.core_code.specs.Tree as code
 use Rattle.core_code.specs.Tree.{Tree, Trees}
 use Rattle.core_code.specs.declared.code.Byte.{Byte}
@@ -30,6 +32,13 @@ count_bytes binop.Shl w = 1
 count_bytes binop.Shr w = 1
 count_bytes op w = w
 
+-- What is called is another copy than this one, by the numbers of the functions' copies.
+abbrev pub CallsOthers : ℕ → (ℕ → ℕ) → List FnId → Type 0
+CallsOthers c copy_of [] = Unit {0}
+CallsOthers c copy_of (callee.User function ∷ calls) = (nat_eq c (copy_of function) ≡ false) × CallsOthers c copy_of calls
+CallsOthers c copy_of (callee.Helper helper ∷ calls) = CallsOthers c copy_of calls
+
+-- an operation names bytes of the frame alone that lie within it
 abbrev mutual
   pub TreeLies : ℕ → ℕ → Tree → Type 0
   TreeLies c size (code.Set to value) = Lies c size 1 to
