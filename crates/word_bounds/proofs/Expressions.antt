@@ -34,7 +34,7 @@ is_computed (Fixed byte) = false
 is_computed (Bit register bit) = true
 is_computed Computed = true
 
-whole_computed : (spot : Spot) (offset : ℕ) → is_computed (member_spot spot offset) ≡ true → is_computed spot ≡ true
+pub whole_computed : (spot : Spot) (offset : ℕ) → is_computed (member_spot spot offset) ≡ true → is_computed spot ≡ true
 whole_computed (Fixed byte) offset e = never e
 whole_computed (Bit register bit) offset e = refl
 whole_computed Computed offset e = refl

@@ -15,4 +15,5 @@ mod Statements
 mod Naming
 mod Lying
 mod Rooms
+mod Standing
 mod Whole

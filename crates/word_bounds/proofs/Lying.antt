@@ -31,7 +31,7 @@ use Rattle.word_bounds.proofs.Operators.{whole_bytes}
 use Rattle.word_bounds.proofs.Rows.{some_bytes}
 
 -- an operator's answer takes no more than the bytes of its type, or two
-answer_within : (op : BinOp) (w n : ℕ) → w ≤ n → 2 ≤ n → answer_bytes op w ≤ n
+pub answer_within : (op : BinOp) (w n : ℕ) → w ≤ n → 2 ≤ n → answer_bytes op w ≤ n
 answer_within binop.Eq w n l m = m
 answer_within binop.Ne w n l m = m
 answer_within binop.Lt w n l m = m
@@ -49,7 +49,7 @@ answer_within binop.Or w n l m = l
 answer_within binop.Shl w n l m = l
 answer_within binop.Shr w n l m = l
 
-count_within : (op : BinOp) (w n : ℕ) → w ≤ n → 1 ≤ n → count_bytes op w ≤ n
+pub count_within : (op : BinOp) (w n : ℕ) → w ≤ n → 1 ≤ n → count_bytes op w ≤ n
 count_within binop.Eq w n l m = l
 count_within binop.Ne w n l m = l
 count_within binop.Lt w n l m = l

@@ -70,7 +70,7 @@ no_start : {A : Type 0} (p : Program) (place : Qualified) (ty : Ty) (o : Option 
 no_start p place ty None a e h = never h
 no_start p place ty (Some element) a e h = never (sym (ap (λ (t : Option Qualified). is_the t element && a) e) ∙ h)
 
-address_two : (sizes : List ℕ) (p : Program) (standing : Standing) (memory reached : Bool) (place : Qualified) (ty : Ty) → leads_fits p standing memory reached place ty ≡ true → type_bytes sizes ty ≡ 2
+pub address_two : (sizes : List ℕ) (p : Program) (standing : Standing) (memory reached : Bool) (place : Qualified) (ty : Ty) → leads_fits p standing memory reached place ty ≡ true → type_bytes sizes ty ≡ 2
 address_two sizes p standing memory reached place (Pointer row) e = refl
 address_two sizes p standing memory reached place Void e = no_start p place Void (element_of p place place.ty) (is_indexed standing || (reached || not place.constant)) refl e
 address_two sizes p standing memory reached place (Int ty) e = no_start p place (Int ty) (element_of p place place.ty) (is_indexed standing || (reached || not place.constant)) refl e
@@ -84,7 +84,7 @@ unary_room_holds sizes unop.Not from ty operand e = omega arith
 unary_room_holds sizes unop.Bang from ty operand e = let two = same_type_bytes sizes ty (Int int.Int) (and_last (is_scalar from) (is_plain_int ty) e) in omega (arith, two)
 
 module _ (sizes : List ℕ) (p : Program) (f : FunctionTree) where
-  assigned_same : (source : Option Ty) (value ty : Ty) → goes_to p source value ty ≡ true → same_type value ty ≡ true
+  pub assigned_same : (source : Option Ty) (value ty : Ty) → goes_to p source value ty ≡ true → same_type value ty ≡ true
   assigned_same source value ty h = and_first (same_type value ty) (keeps_from p source ty) (and_last (is_scalar ty) (same_type value ty && keeps_from p source ty) h)
 
   -- the bytes of a value are among those that its expression takes
@@ -174,7 +174,7 @@ member_within p size before (n ∷ ms) k m l h e = by_place k e (λ j f. member_
     by_place zero e g = subst (λ (x : MemberTree). x.offset + type_bytes p.sizes x.ty.ty ≤ size) (same_Some n m e) here
     by_place (suc j) e g = g j e
 
-list_there : {A : Type 0} (test : A → Bool) (xs : List A) (k : ℕ) (x : A) → list_all test xs ≡ true → slice_get xs k ≡ Some x → test x ≡ true
+pub list_there : {A : Type 0} (test : A → Bool) (xs : List A) (k : ℕ) (x : A) → list_all test xs ≡ true → slice_get xs k ≡ Some x → test x ≡ true
 list_there test [] k x h e = absurd (none-some x e)
 list_there {A = A} test (y ∷ ys) zero x h e = subst (λ (z : A). test z ≡ true) (same_Some y x e) (and_first (test y) (list_all test ys) h)
 list_there test (y ∷ ys) (suc k) x h e = list_there test ys k x (and_last (test y) (list_all test ys) h) e

@@ -46,7 +46,7 @@ use Rattle.word_bounds.proofs.Typing.{promoted_number, and_last}
 use Rattle.word_bounds.proofs.Nodes.{width_within, width_some}
 use Rattle.word_bounds.proofs.Expressions.{expr_takes}
 
-promoted_two : (sizes : List ℕ) (ty : Ty) → is_promoted ty ≡ true → 2 ≤ type_bytes sizes ty
+pub promoted_two : (sizes : List ℕ) (ty : Ty) → is_promoted ty ≡ true → 2 ≤ type_bytes sizes ty
 promoted_two sizes (Int int.Char) e = never e
 promoted_two sizes (Int int.SChar) e = never e
 promoted_two sizes (Int int.UChar) e = never e

@@ -163,10 +163,10 @@ unary_number sizes (Array element count size) (Struct number) e = never e
 unary_number sizes (Struct one) (Struct number) e = never e
 
 -- ---- operators on two values
-alike_first : {A : Type 0} (p : Program) (b : Option Qualified) (more : Bool) → (point_alike None b && more) ≡ true → A
+pub alike_first : {A : Type 0} (p : Program) (b : Option Qualified) (more : Bool) → (point_alike None b && more) ≡ true → A
 alike_first p b more e = never e
 
-alike_last : {A : Type 0} (a : Option Qualified) (more : Bool) → (point_alike a None && more) ≡ true → A
+pub alike_last : {A : Type 0} (a : Option Qualified) (more : Bool) → (point_alike a None && more) ≡ true → A
 alike_last None more e = never e
 alike_last (Some a) more e = never e
 
@@ -494,7 +494,7 @@ or_either true b e = inl refl
 or_either false b e = inr e
 
 -- what is counted in is a pointer's target
-is_counted : (p : Program) (ty : Ty) (size : ℕ) → counts_in p (pointed p ty) size ≡ true → (row : ℕ) × (ty ≡ Pointer row)
+pub is_counted : (p : Program) (ty : Ty) (size : ℕ) → counts_in p (pointed p ty) size ≡ true → (row : ℕ) × (ty ≡ Pointer row)
 is_counted p (Pointer row) size e = (row, refl)
 is_counted p Void size e = never e
 is_counted p (Int ty) size e = never e
