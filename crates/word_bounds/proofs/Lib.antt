@@ -16,4 +16,5 @@ mod Naming
 mod Lying
 mod Rooms
 mod Standing
+mod Within
 mod Whole

@@ -71,7 +71,7 @@ two_right sizes binop.And left right ty e = let s = same_type_bytes sizes (Int l
 two_right sizes binop.Xor left right ty e = let s = same_type_bytes sizes (Int left) right (and_first (same_type (Int left) right) (same_type (Int left) ty) (and_last (is_promoted (Int left)) (same_type (Int left) right && same_type (Int left) ty) e)) in omega (arith, s)
 two_right sizes binop.Or left right ty e = let s = same_type_bytes sizes (Int left) right (and_first (same_type (Int left) right) (same_type (Int left) ty) (and_last (is_promoted (Int left)) (same_type (Int left) right && same_type (Int left) ty) e)) in omega (arith, s)
 
-binary_right : (sizes : List ℕ) (p : Program) (op : BinOp) (left right ty : Ty) → binary_fits p op left right ty ≡ true → count_bytes op (bytes_of (operation_type left)) ≤ type_bytes sizes right
+pub binary_right : (sizes : List ℕ) (p : Program) (op : BinOp) (left right ty : Ty) → binary_fits p op left right ty ≡ true → count_bytes op (bytes_of (operation_type left)) ≤ type_bytes sizes right
 binary_right sizes p op (Int left) right ty e = two_right sizes op left right ty e
 binary_right sizes p op (Pointer target) (Pointer other) ty e = count_within op 2 2 (omega arith) (omega arith)
 binary_right sizes p op (Pointer target) Void ty e = alike_last (pointed p (Pointer target)) (same_type ty (Int int.Int)) (and_last (compares op) (point_alike (pointed p (Pointer target)) None && same_type ty (Int int.Int)) e)
