@@ -17,4 +17,5 @@ mod Lying
 mod Rooms
 mod Standing
 mod Within
+mod Inside
 mod Whole

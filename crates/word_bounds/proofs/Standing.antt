@@ -90,7 +90,7 @@ index_two sizes ty e = by_either (same_type ty (Int int.Int)) (same_type ty (Int
     by_either false true f g e = same_type_bytes sizes ty (Int int.UInt) g
     by_either false false f g e = never e
 
-counted_two : (sizes : List ℕ) (p : Program) (ty : Ty) (size : ℕ) → counts_in p (pointed p ty) size ≡ true → type_bytes sizes ty ≡ 2
+pub counted_two : (sizes : List ℕ) (p : Program) (ty : Ty) (size : ℕ) → counts_in p (pointed p ty) size ≡ true → type_bytes sizes ty ≡ 2
 counted_two sizes p ty size e = let row = is_counted p ty size e in ap (type_bytes sizes) row.1
 
 moves_two : (sizes : List ℕ) (p : Program) (pointer index : Ty) (size : ℕ) (ty : Ty) → moves p pointer index size ty ≡ true → (type_bytes sizes pointer ≡ 2) × (type_bytes sizes index ≡ 2)
@@ -99,7 +99,7 @@ moves_two sizes p pointer index size ty e = (
   index_two sizes index (and_first (is_index index) (counts_in p (pointed p pointer) size && same_type pointer ty) e),
 )
 
-offset_two : (sizes : List ℕ) (p : Program) (op : BinOp) (left right : Ty) (size : ℕ) (ty : Ty) → offset_fits p op left right size ty ≡ true → (type_bytes sizes left ≡ 2) × (type_bytes sizes right ≡ 2)
+pub offset_two : (sizes : List ℕ) (p : Program) (op : BinOp) (left right : Ty) (size : ℕ) (ty : Ty) → offset_fits p op left right size ty ≡ true → (type_bytes sizes left ≡ 2) × (type_bytes sizes right ≡ 2)
 offset_two sizes p binop.Add left right size ty e = by_either (moves p left right size ty) refl e
   where
     by_either : (a : Bool) → moves p left right size ty ≡ a → (a || moves p right left size ty) ≡ true → (type_bytes sizes left ≡ 2) × (type_bytes sizes right ≡ 2)
@@ -121,7 +121,7 @@ offset_two sizes p binop.And left right size ty e = never e
 offset_two sizes p binop.Xor left right size ty e = never e
 offset_two sizes p binop.Or left right size ty e = never e
 
-alike_two : (sizes : List ℕ) (p : Program) (left right : Ty) (a : Bool) → (point_alike (pointed p left) (pointed p right) && a) ≡ true → type_bytes sizes right ≡ 2
+pub alike_two : (sizes : List ℕ) (p : Program) (left right : Ty) (a : Bool) → (point_alike (pointed p left) (pointed p right) && a) ≡ true → type_bytes sizes right ≡ 2
 alike_two sizes p left (Pointer row) a e = refl
 alike_two sizes p left Void a e = alike_last (pointed p left) a e
 alike_two sizes p left (Int ty) a e = alike_last (pointed p left) a e
@@ -160,13 +160,13 @@ named_bytes sizes local declared ty e = by_either (same_qualified declared ty) r
         omega (arith, none)
 
 -- a bit is no structure, which has members
-abbrev is_bit : Place → Bool
+abbrev pub is_bit : Place → Bool
 is_bit (tree.Bit register bit line) = true
 is_bit (tree.Name object ty line) = false
 is_bit (tree.Member whole member offset ty line) = false
 is_bit (tree.Deref pointer ty line) = false
 
-whole_no_bit : (p : Program) (whole : Place) (member offset : ℕ) (ty : Qualified) → member_fits (member_at p (place_type whole).ty member) (place_type whole) offset ty ≡ true → is_bit whole ≡ false
+pub whole_no_bit : (p : Program) (whole : Place) (member offset : ℕ) (ty : Qualified) → member_fits (member_at p (place_type whole).ty member) (place_type whole) offset ty ≡ true → is_bit whole ≡ false
 whole_no_bit p (tree.Bit register bit line) member offset ty e = never e
 whole_no_bit p (tree.Name object t line) member offset ty e = refl
 whole_no_bit p (tree.Member whole m o t line) member offset ty e = refl
@@ -298,7 +298,7 @@ module _ (c size : ℕ) (l : Layout) (p : Program) (f : FunctionTree) (has : Sta
   bit_has (tree.Member whole member offset ty line) = member_has (spot_of l c whole) (width l ty.ty) offset
 
   -- an address takes two bytes
-  two_room : (place : Place) → place_fits p f place ≡ true → is_computed (spot_of l c place) ≡ true → is_bit place ≡ false → 2 ≤ place_room l.sizes place
+  pub two_room : (place : Place) → place_fits p f place ≡ true → is_computed (spot_of l c place) ≡ true → is_bit place ≡ false → 2 ≤ place_room l.sizes place
   unfolding place_fits place_rule_holds spot_of place_room
   two_room (tree.Name object ty line) h e n = never e
   two_room (tree.Bit register bit line) h e n = never (sym n)
@@ -312,7 +312,7 @@ module _ (c size : ℕ) (l : Layout) (p : Program) (f : FunctionTree) (has : Sta
       two_room whole (and_last rule (place_fits p f whole) h) (whole_computed (spot_of l c whole) offset e) (whole_no_bit p whole member offset ty (and_first rule (place_fits p f whole) h))
 
   -- the address counts where there is one
-  pointer_lies : (spot : Spot) (address : List Tree) → (is_computed spot ≡ true → AllLie c size address) → AllLie c size (pointer_code spot address)
+  pub pointer_lies : (spot : Spot) (address : List Tree) → (is_computed spot ≡ true → AllLie c size address) → AllLie c size (pointer_code spot address)
   pointer_lies (Fixed byte) address h = tt
   pointer_lies (Bit register bit) address h = tt
   pointer_lies Computed address h = h refl
