@@ -35,14 +35,14 @@ use Rattle.word_bounds.proofs.Within.{at_base, read_within, convert_within, unar
 use Rattle.word_bounds.proofs.Lying.{AllLie, lie_on, SpotLies, sets_lie, offset_lie, difference_lie, member_lie, address_lie, struct_lie}
 
 -- the room of an operand that an operator stands behind
-unary_front : (c size : ℕ) (op : UnOp) (base operand from to : ℕ) → base + unary_room op operand from to ≤ size → base + operand ≤ size
+pub unary_front : (c size : ℕ) (op : UnOp) (base operand from to : ℕ) → base + unary_room op operand from to ≤ size → base + operand ≤ size
 unary_front c size unop.Plus base operand from to b = omega (arith, b)
 unary_front c size unop.Minus base operand from to b = omega (arith, b)
 unary_front c size unop.Not base operand from to b = omega (arith, b)
 unary_front c size unop.Bang base operand from to b = omega (arith, b)
 
 -- a structure that is copied has the bytes of both places
-struct_sizes : (p : Program) (sizes : List ℕ) (begins : Bool) (place from : Qualified) (elements : ℕ) → p.sizes ≡ sizes → copy_fits p begins place from elements ≡ true → (elements ≡ type_bytes sizes place.ty) × (elements ≡ type_bytes sizes from.ty)
+pub struct_sizes : (p : Program) (sizes : List ℕ) (begins : Bool) (place from : Qualified) (elements : ℕ) → p.sizes ≡ sizes → copy_fits p begins place from elements ≡ true → (elements ≡ type_bytes sizes place.ty) × (elements ≡ type_bytes sizes from.ty)
 struct_sizes p sizes begins place from elements is e =
     let rest = and_last (begins || is_writable place) (is_struct place.ty && (same_type place.ty from.ty && nat_eq elements (type_bytes p.sizes place.ty))) e in
     let both = and_last (is_struct place.ty) (same_type place.ty from.ty && nat_eq elements (type_bytes p.sizes place.ty)) rest in
@@ -185,7 +185,7 @@ module _ (c size : ℕ) (l : Layout) (p : Program) (f : FunctionTree) (has : Sta
         call_within c size l p f has wanted (copy_of l function) base arguments ty (arguments_code l c base 0 arguments) (others_last c (copy_of l) (arguments_calls arguments) (callee.User function ∷ []) o).0 (omega (arith, b))
         (arguments_lie base 0 0 arguments given (and_last (rule_holds p standing (tree.Call function arguments ty line)) (arguments_fit p f arguments given) h) (others_first c (copy_of l) (arguments_calls arguments) (callee.User function ∷ []) o) (omega arith) (omega (arith, b)))
 
-    address_lies : (base : ℕ) (place : Place) → place_fits p f place ≡ true → CallsOthers c (copy_of l) (place_calls place) → is_computed (spot_of l c place) ≡ true → base + place_room l.sizes place ≤ size → AllLie c size (address_code l c base place)
+    pub address_lies : (base : ℕ) (place : Place) → place_fits p f place ≡ true → CallsOthers c (copy_of l) (place_calls place) → is_computed (spot_of l c place) ≡ true → base + place_room l.sizes place ≤ size → AllLie c size (address_code l c base place)
     address_lies base (tree.Name object ty line) h o e b = never e
     address_lies base (tree.Bit register bit line) h o e b = tt
     address_lies base (tree.Member whole member offset ty line) h o e b =

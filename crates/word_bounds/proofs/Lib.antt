@@ -18,4 +18,5 @@ mod Rooms
 mod Standing
 mod Within
 mod Inside
+mod Bodies
 mod Whole

@@ -74,7 +74,7 @@ number_bytes sizes Void it e = absurd (none-some it e)
 number_bytes sizes (Array element count size) it e = absurd (none-some it e)
 number_bytes sizes (Struct number) it e = absurd (none-some it e)
 
-size_within : (s : ℕ) → test_size s ≤ s
+pub size_within : (s : ℕ) → test_size s ≤ s
 unfolding test_size
 size_within s = omega arith
 

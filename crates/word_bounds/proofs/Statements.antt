@@ -42,7 +42,7 @@ abbrev pub Jumps : Type 0
 Jumps = TypeOf outside
 
 -- a local's bytes
-local_is : (sizes : List ℕ) (locals : List VariableTree) (local : ℕ) (v : VariableTree) → slice_get locals local ≡ Some v → slice_index (map (variable_bytes sizes) locals) local ≡ type_bytes sizes v.ty.ty
+pub local_is : (sizes : List ℕ) (locals : List VariableTree) (local : ℕ) (v : VariableTree) → slice_get locals local ≡ Some v → slice_index (map (variable_bytes sizes) locals) local ≡ type_bytes sizes v.ty.ty
 local_is sizes [] local v e = absurd (none-some v e)
 local_is sizes (w ∷ ws) zero v e = ap (variable_bytes sizes) (same_Some w v e)
 local_is sizes (w ∷ ws) (suc k) v e = local_is sizes ws k v e
