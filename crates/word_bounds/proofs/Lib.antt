@@ -19,4 +19,5 @@ mod Standing
 mod Within
 mod Inside
 mod Bodies
+mod Placed
 mod Whole

@@ -1,7 +1,10 @@
 -- The block of a function's copy has at most the function's stated words.
-use Rattle.std.proofs.Common.{◌≡◌, ℕ, zero, suc, ◌+◌, ◌≤◌, Bool, true, false, not, ◌&&◌, if◌then◌else◌, List, [], ◌∷◌, ◌++◌, map, Some, slice_get, refl, sym, ap, ◌∙◌, subst, arith}
+use Rattle.std.proofs.Common.{◌≡◌, ℕ, zero, suc, ◌+◌, ◌/◌, ◌≤◌, Bool, true, false, not, ◌&&◌, if◌then◌else◌, List, [], ◌∷◌, ◌++◌, map, length, Some, slice_get, refl, sym, ap, ◌∙◌, subst, arith}
 use Rattle.std.proofs.lemmas.Option.{none-some, same_Some}
 use Rattle.std.specs.List.{list_all}
+use Rattle.c_typed.specs.Room.{frame_size}
+use Rattle.sym_code.specs.Layout.{frame}
+use Rattle.code_place.specs.Layouts.{layout_of}
 use Rattle.c_typed.specs.Sound.{target_fits, structure_fits, static_fits, param_fits, local_fits, result_fits, function_fits, statements_fit, is_sound}
 use Rattle.c_typed.specs.Trees.{FunctionTree, Program}
 use Rattle.c_typed.specs.Words.{block_size, statements_words, variable_bytes}
@@ -9,7 +12,7 @@ use Rattle.c_typed.specs.declared.calls.FnId.TheVariants as callee
 use Rattle.call_graph.specs.Numbers.{handler_at}
 use Rattle.call_graph.specs.declared.types.FnCopy.{FnCopy}
 use Rattle.core_code.specs.Tree as core
-use Rattle.core_code.specs.Tree.{Tree}
+use Rattle.core_code.specs.Tree.{Tree, trees_of}
 use Rattle.lower_stmt.specs.Bodies.{body_code}
 use Rattle.lower_stmt.specs.Frames.{ground_for}
 use Rattle.lower_stmt.specs.Ground.{Ground}
@@ -22,7 +25,7 @@ use Rattle.select_wide.specs.Blocks.{ending_at}
 use Rattle.sym_code.specs.Selects.{bare}
 use Rattle.sym_code.specs.declared.code.Sym.{Sym}
 use Rattle.sym_code.specs.declared.code.SymBlock.{SymBlock}
-use Rattle.word_bounds.specs.Bounds.{IsBlockOf, BlocksAreBare, WordsAreStated}
+use Rattle.word_bounds.specs.Bounds.{NamesWithin, IsProgram, IsBlockOf, HasFrame, BlocksAreBare, BlocksKeepWithin, WordsAreStated}
 use Rattle.word_bounds.specs.Counting.{counted}
 use Rattle.word_bounds.proofs.Chain.{has_none, none_first, none_later}
 use Rattle.word_bounds.proofs.Paying.{Pays}
@@ -31,24 +34,11 @@ use Rattle.word_bounds.proofs.Typing.{and_first, and_last}
 use Rattle.word_bounds.proofs.Segments.{leave_takes}
 use Rattle.word_bounds.proofs.Selecting.{selects_are_counted}
 use Rattle.word_bounds.proofs.Statements.{statements_take}
-
-function_there : (test : FunctionTree → Bool) (functions : List FunctionTree) (function : ℕ) (f : FunctionTree) → list_all test functions ≡ true → slice_get functions function ≡ Some f → test f ≡ true
-function_there test [] function f h e = absurd (none-some f e)
-function_there test (g ∷ gs) zero f h e = subst (λ (x : FunctionTree). test x ≡ true) (same_Some g f e) (and_first (test g) (list_all test gs) h)
-function_there test (g ∷ gs) (suc k) f h e = function_there test gs k f (and_last (test g) (list_all test gs) h) e
-
-body_fits : (p : Program) (function : ℕ) (f : FunctionTree) → is_sound p ≡ true → slice_get p.functions function ≡ Some f → statements_fit p f true false false f.body ≡ true
-body_fits p function f sound there =
-    let functions = list_all (function_fits p) p.functions in
-    let statics = list_all (static_fits p) p.statics in
-    let structures = list_all (structure_fits p) p.structures in
-    let rest = and_last (list_all (target_fits p) p.targets) (structures && (statics && functions)) sound in
-    let all = and_last statics functions (and_last structures (statics && functions) rest) in
-    let fits = function_there (function_fits p) p.functions function f all there in
-    let body = statements_fit p f true false false f.body in
-    let locals = list_all (local_fits p) f.locals in
-    let params = list_all (param_fits p) f.params in
-    and_last locals body (and_last params (locals && body) (and_last (result_fits p f.result) (params && (locals && body)) fits))
+use Rattle.word_bounds.proofs.Naming.{AreIn, in_trees}
+use Rattle.word_bounds.proofs.Lying.{AllLie, lie_on, trees_lie}
+use Rattle.word_bounds.proofs.Rooms.{Keeps}
+use Rattle.word_bounds.proofs.Bodies.{statements_lie}
+use Rattle.word_bounds.proofs.Placed.{function_keeps, stands, base_within, helpers_apart, all_banked}
 
 -- a body's code, and its end
 body_takes : (list : List FnCopy) (root : Root) (end : Ending) (p : Program) (f : FunctionTree) (g : Ground) → p.sizes ≡ g.layout.sizes → g.bytes ≡ map (variable_bytes g.layout.sizes) f.locals → statements_fit p f true false false f.body ≡ true
@@ -75,7 +65,7 @@ counted_all c n code h =
     append_none (x ∷ xs) = ap (λ l. x ∷ l) (append_none xs)
 
 -- the code of a copy's block
-module _ (p : Program) (copies : List FnCopy) (number function : ℕ) (f : FunctionTree) (given : SymBlock) (sound : is_sound p ≡ true) (there : slice_get p.functions function ≡ Some f) (block : IsBlockOf p copies number f given) where
+module _ (p : Program) (copies : List FnCopy) (number : ℕ) (f : FunctionTree) (given : SymBlock) (is : IsProgram p) (block : IsBlockOf p copies number f given) where
   abbrev root : Root
   root = block.body.root
 
@@ -88,8 +78,11 @@ module _ (p : Program) (copies : List FnCopy) (number function : ℕ) (f : Funct
   code_is : given.list.items ≡ code
   code_is = block.selected ∙ ap (some_code copies root end number [] 0 []) block.lowered
 
+  keeps : Keeps p f × (statements_fit p f true false false f.body ≡ true)
+  keeps = function_keeps p block.function f is block.found
+
   code_pays : Pays number false false (block_size p.sizes f) false false code
-  code_pays = body_takes copies root end p f (ground_for p copies number root f) refl refl (body_fits p function f sound there) [] 0 []
+  code_pays = body_takes copies root end p f (ground_for p copies number root f) refl refl keeps.1 [] 0 []
 
   pub all_counted : counted number false false given.list.items ≤ block_size p.sizes f
   all_counted =
@@ -100,13 +93,35 @@ module _ (p : Program) (copies : List FnCopy) (number function : ℕ) (f : Funct
   pub all_bare : bare given.list.items ≡ given.list.items
   all_bare = ap bare code_is ∙ none_bare code code_pays.1 ∙ sym code_is
 
+  all_lie : AllLie number (frame_size p.sizes f) (body_code (ground_for p copies number root f) f)
+  all_lie =
+      let g = ground_for p copies number root f in
+      lie_on number (frame_size p.sizes f) (stmts_code g outside f.body) (core.Leave ∷ [])
+      (statements_lie (frame_size p.sizes f) p f g (stands p copies root f number keeps.0) refl outside true false false f.body keeps.1 block.others (base_within p copies root f)) (tt, tt)
+
+  are_in : AreIn number (frame_size p.sizes f) code
+  are_in =
+      let ts = body_code (ground_for p copies number root f) f in
+      in_trees number (frame_size p.sizes f) copies root (helpers_apart copies number block.function block.copy root block.there block.is_function) end [] 0 [] (trees_of ts) (length ts) (trees_lie number (frame_size p.sizes f) ts all_lie)
+
+  names_within : (list : List Sym) → AreIn number (frame_size p.sizes f) list → NamesWithin number (frame_size p.sizes f) list
+  names_within [] h = tt
+  names_within (s ∷ list) h = (h.0, names_within list h.1)
+
+  pub all_within : NamesWithin number (frame_size p.sizes f) given.list.items
+  all_within = subst (NamesWithin number (frame_size p.sizes f)) (sym code_is) (names_within code are_in)
+
 pub blocks_are_bare : BlocksAreBare
-blocks_are_bare p copies number function f given sound there block = all_bare p copies number function f given sound there block
+blocks_are_bare p copies number f given is block = all_bare p copies number f given is block
+
+pub blocks_keep_within : BlocksKeepWithin
+blocks_keep_within p copies number f given is block = all_within p copies number f given is block
 
 pub words_are_stated : WordsAreStated
-words_are_stated p copies placed number bank function f given made sound there block exact banked =
-    let all = all_counted p copies number function f given sound there block in
-    let none = all_bare p copies number function f given sound there block in
-    let few = selects_are_counted placed given made number bank exact none banked in
-    let stated : block_words p (callee.User function) ≡ block_size p.sizes f = ap (size_or_none (block_size p.sizes)) there in
+words_are_stated p copies placed number f given made is block exact frame_is =
+    let all = all_counted p copies number f given is block in
+    let none = all_bare p copies number f given is block in
+    let banked = all_banked p placed number f frame_is given.list.items (all_within p copies number f given is block) in
+    let few = selects_are_counted placed given made number ((frame (layout_of placed) number).address / 128) exact none banked in
+    let stated : block_words p (callee.User block.function) ≡ block_size p.sizes f = ap (size_or_none (block_size p.sizes)) block.found in
     omega (arith, all, few, stated)

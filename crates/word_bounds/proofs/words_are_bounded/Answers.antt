@@ -1,5 +1,5 @@
 use Rattle.word_bounds.proofs.Selecting.{selects_are_counted}
-use Rattle.word_bounds.proofs.Whole.{blocks_are_bare, words_are_stated}
+use Rattle.word_bounds.proofs.Whole.{blocks_are_bare, blocks_keep_within, words_are_stated}
 use Rattle.word_bounds.proofs.words_are_bounded.Goals as goal
 
 pub returns-clause-counted : goal.returns-clause-counted
@@ -7,6 +7,9 @@ returns-clause-counted c = selects_are_counted
 
 pub returns-clause-bare : goal.returns-clause-bare
 returns-clause-bare c = blocks_are_bare
+
+pub returns-clause-within : goal.returns-clause-within
+returns-clause-within c = blocks_keep_within
 
 pub returns-clause-stated : goal.returns-clause-stated
 returns-clause-stated c = words_are_stated
