@@ -9,6 +9,8 @@ use Rattle.c_typed.specs.Room.{statements_room, variables_bytes, frame_size}
 use Rattle.c_typed.specs.Sound.{target_fits, structure_fits, static_fits, param_fits, local_fits, result_fits, function_fits, statements_fit, is_sound}
 use Rattle.c_typed.specs.Trees.{StructureTree, VariableTree, FunctionTree, Program}
 use Rattle.c_typed.specs.Types.{type_bytes}
+use Rattle.c_typed.specs.Views.{size_of, structure_of}
+use Rattle.c_typed.specs.declared.types.Structure.{Structure}
 use Rattle.c_typed.specs.declared.calls.FnId.{FnId}
 use Rattle.c_typed.specs.declared.calls.FnId.TheVariants as callee
 use Rattle.c_typed.specs.declared.calls.Helper.{Helper}
@@ -26,7 +28,7 @@ use Rattle.sym_code.specs.Layout.{FrameRange, no_frame, frame, lies_in, is_whole
 use Rattle.sym_code.specs.declared.code.Sym.{Sym}
 use Rattle.code_place.specs.Addresses.{frame_byte}
 use Rattle.code_place.specs.Layouts.{frame_of, layout_of}
-use Rattle.word_bounds.specs.Bounds.{IsBanked, AreBanked, NamesWithin, IsProgram, HasFrame}
+use Rattle.word_bounds.specs.Bounds.{IsBanked, AreBanked, NamesWithin, IsProgram, ProgramsKeepSizes, HasFrame}
 use Rattle.word_bounds.proofs.Chain.{never}
 use Rattle.word_bounds.proofs.Typing.{and_first, and_last}
 use Rattle.word_bounds.proofs.Rooms.{Keeps, list_there}
@@ -49,6 +51,14 @@ offset_within sizes at (w ∷ vs) (suc k) v e =
     let more = offset_within sizes (beyond at (type_bytes sizes w.ty.ty)) vs k v e in
     let step = beyond_within at (type_bytes sizes w.ty.ty) in
     omega (arith, more, step)
+
+-- ---- structures' sizes
+sizes_kept : (structures : List Structure) → map size_of structures ≡ map (λ (s : StructureTree). s.size) (map structure_of structures)
+sizes_kept [] = refl
+sizes_kept (s ∷ structures) = ap (λ (l : List ℕ). s.size ∷ l) (sizes_kept structures)
+
+pub programs_keep_sizes : ProgramsKeepSizes
+programs_keep_sizes p sound = record { sound = sound; sizes = sizes_kept p.structures.items }
 
 -- ---- what a function of a sound program keeps
 pub function_keeps : (p : Program) (function : ℕ) (f : FunctionTree) → IsProgram p → slice_get p.functions function ≡ Some f → Keeps p f × (statements_fit p f true false false f.body ≡ true)

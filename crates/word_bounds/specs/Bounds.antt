@@ -3,6 +3,8 @@ use Rattle.std.specs.Prelude.{◌≡◌, ℕ, ◌/◌, ◌<◌, ◌≤◌, true,
 use Rattle.c_typed.specs.Calls.{statements_calls}
 use Rattle.c_typed.specs.Room.{frame_size}
 use Rattle.c_typed.specs.Sound.{is_sound}
+use Rattle.c_typed.specs.Views.{program_of}
+use Rattle.c_typed.specs.declared.program.Typed.{Typed}
 use Rattle.c_typed.specs.Trees.{StructureTree, FunctionTree, Program}
 use Rattle.c_typed.specs.declared.calls.FnId.TheVariants as callee
 use Rattle.call_graph.specs.declared.types.FnCopy.{FnCopy}
@@ -46,6 +48,10 @@ SelectsAreCounted =
 pub record IsProgram (p : Program) : Type 0 where
   pub sound : is_sound p ≡ true
   pub sizes : p.sizes ≡ map (λ (s : StructureTree). s.size) p.structures
+
+-- The definitions' program of a typed one keeps the bytes of each structure, so it is one where it is sound.
+abbrev pub ProgramsKeepSizes : Type 0
+ProgramsKeepSizes = (p : Typed) → is_sound (program_of p) ≡ true → IsProgram (program_of p)
 
 -- The block that is selected for the body of a function's copy, as it is lowered. The function calls no copy of its own.
 pub record IsBlockOf (p : Program) (copies : List FnCopy) (number : ℕ) (f : FunctionTree) (block : SymBlock) : Type 0 where
