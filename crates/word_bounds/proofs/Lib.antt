@@ -19,5 +19,6 @@ mod Standing
 mod Within
 mod Inside
 mod Bodies
+mod Others
 mod Placed
 mod Whole

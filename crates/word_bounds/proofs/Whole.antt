@@ -38,6 +38,7 @@ use Rattle.word_bounds.proofs.Naming.{AreIn, in_trees}
 use Rattle.word_bounds.proofs.Lying.{AllLie, lie_on, trees_lie}
 use Rattle.word_bounds.proofs.Rooms.{Keeps}
 use Rattle.word_bounds.proofs.Bodies.{statements_lie}
+use Rattle.word_bounds.proofs.Others.{calls_others}
 use Rattle.word_bounds.proofs.Placed.{function_keeps, stands, base_within, helpers_apart, all_banked}
 
 -- a body's code, and its end
@@ -97,7 +98,7 @@ module _ (p : Program) (copies : List FnCopy) (number : ℕ) (f : FunctionTree) 
   all_lie =
       let g = ground_for p copies number root f in
       lie_on number (frame_size p.sizes f) (stmts_code g outside f.body) (core.Leave ∷ [])
-      (statements_lie (frame_size p.sizes f) p f g (stands p copies root f number keeps.0) refl outside true false false f.body keeps.1 block.others (base_within p copies root f)) (tt, tt)
+      (statements_lie (frame_size p.sizes f) p f g (stands p copies root f number keeps.0) refl outside true false false f.body keeps.1 (calls_others p copies number block.function block.copy f root block.known block.there block.is_function block.found block.called) (base_within p copies root f)) (tt, tt)
 
   are_in : AreIn number (frame_size p.sizes f) code
   are_in =

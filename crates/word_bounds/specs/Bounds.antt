@@ -7,6 +7,7 @@ use Rattle.c_typed.specs.Views.{program_of}
 use Rattle.c_typed.specs.declared.program.Typed.{Typed}
 use Rattle.c_typed.specs.Trees.{StructureTree, FunctionTree, Program}
 use Rattle.c_typed.specs.declared.calls.FnId.TheVariants as callee
+use Rattle.call_graph.specs.Copies.{AreCopies}
 use Rattle.call_graph.specs.declared.types.FnCopy.{FnCopy}
 use Rattle.ram_place.specs.Sizes.{block_words}
 use Rattle.core_code.specs.View.{trees_in}
@@ -23,10 +24,9 @@ use Rattle.bank_page.specs.Selected.{IsExact}
 use Rattle.lower_stmt.specs.Bodies.{body_code}
 use Rattle.lower_stmt.specs.Frames.{layout_for, ground_for}
 use Rattle.select_wide.specs.Blocks.{block_code}
-use Rattle.lower_expr.specs.Layout.{copy_of}
 use Rattle.sym_code.specs.Layout.{frame, is_whole}
 use Rattle.code_place.specs.Layouts.{layout_of}
-use Rattle.word_bounds.specs.Naming.{CallsOthers}
+use Rattle.word_bounds.specs.Naming.{HaveCopies}
 use Rattle.word_bounds.specs.Counting.{counted}
 
 -- a byte of the copy's frame stands in this bank
@@ -53,7 +53,8 @@ pub record IsProgram (p : Program) : Type 0 where
 abbrev pub ProgramsKeepSizes : Type 0
 ProgramsKeepSizes = (p : Typed) → is_sound (program_of p) ≡ true → IsProgram (program_of p)
 
--- The block that is selected for the body of a function's copy, as it is lowered. The function calls no copy of its own.
+-- The block that is selected for the body of a function's copy, as it is lowered. The copies are those of the program, and each function
+-- that it calls has one under its root.
 pub record IsBlockOf (p : Program) (copies : List FnCopy) (number : ℕ) (f : FunctionTree) (block : SymBlock) : Type 0 where
   pub copy : FnCopy
   pub there : slice_get copies number ≡ Some copy
@@ -63,7 +64,8 @@ pub record IsBlockOf (p : Program) (copies : List FnCopy) (number : ℕ) (f : Fu
   pub body : Body
   pub lowered : trees_in body.code.items ≡ body_code (ground_for p copies number body.root f) f
   pub selected : block.list.items ≡ block_code copies number body
-  pub others : CallsOthers number (copy_of (layout_for p copies body.root f)) (statements_calls f.body)
+  pub known : AreCopies p copies
+  pub called : HaveCopies (layout_for p copies body.root f).copies (statements_calls f.body)
 
 -- Where frames stand, this one has room for the function's bytes, and stands whole in a bank.
 pub record HasFrame (p : Program) (placed : Placed) (number : ℕ) (f : FunctionTree) : Type 0 where

@@ -1,5 +1,5 @@
 -- Which bytes of a copy's frame operations of byte code name, with those that stand behind them.
-use Rattle.std.specs.Prelude.{◌≡◌, ℕ, ◌+◌, ◌≤◌, nat_eq, true, false, List, [], ◌∷◌}
+use Rattle.std.specs.Prelude.{◌≡◌, ℕ, ◌+◌, ◌≤◌, nat_eq, true, false, List, [], ◌∷◌, Option, Some, slice_get}
 use Rattle.c_ints.specs.Range.{bytes_of}
 use Rattle.c_ints.specs.declared.operators.BinOp.{BinOp}
 use Rattle.c_ints.specs.declared.operators.BinOp.TheVariants as binop
@@ -37,6 +37,12 @@ abbrev pub CallsOthers : ℕ → (ℕ → ℕ) → List FnId → Type 0
 CallsOthers c copy_of [] = Unit {0}
 CallsOthers c copy_of (callee.User function ∷ calls) = (nat_eq c (copy_of function) ≡ false) × CallsOthers c copy_of calls
 CallsOthers c copy_of (callee.Helper helper ∷ calls) = CallsOthers c copy_of calls
+
+-- Each function that is called has a copy, by the copies' numbers.
+abbrev pub HaveCopies : List (Option ℕ) → List FnId → Type 0
+HaveCopies numbers [] = Unit {0}
+HaveCopies numbers (callee.User function ∷ calls) = ((k : ℕ) × (slice_get numbers function ≡ Some (Some k))) × HaveCopies numbers calls
+HaveCopies numbers (callee.Helper helper ∷ calls) = HaveCopies numbers calls
 
 -- an operation names bytes of the frame alone that lie within it
 abbrev mutual
