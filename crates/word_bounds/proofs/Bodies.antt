@@ -1,19 +1,15 @@
 -- The code of a statement names no byte of its copy's frame beyond its room.
-use Rattle.std.proofs.Common.{◌≡◌, ℕ, zero, suc, ◌+◌, ◌-◌, ◌*◌, ◌≤◌, ◌<◌, Bool, true, false, not, ◌&&◌, nat_eq, nat_le, max, min, if◌then◌else◌, List, [], ◌∷◌, ◌++◌, map, length, Option, Some, None, is_some, slice_get, slice_index, refl, sym, ap, ◌∙◌, subst, eqb-true, leb-true, arith}
-use Rattle.std.proofs.lemmas.Option.{none-some, same_Some}
+use Rattle.std.proofs.Common.{◌≡◌, ℕ, zero, suc, ◌+◌, ◌-◌, ◌*◌, ◌≤◌, Bool, true, false, ◌&&◌, nat_eq, nat_le, max, if◌then◌else◌, List, [], ◌∷◌, ◌++◌, map, Option, Some, None, is_some, slice_get, slice_index, refl, ap, ◌∙◌, eqb-true, leb-true, arith}
 use Rattle.c_ints.specs.Range.{bytes_of, pattern}
-use Rattle.c_ints.specs.declared.operators.BinOp.TheVariants.{Eq}
-use Rattle.c_ints.specs.declared.types.IntTy.{IntTy}
-use Rattle.c_typed.specs.Calls.{calls, place_calls, any_calls, item_calls, items_calls, statement_calls, statements_calls, arm_calls, arms_calls, last_calls}
+use Rattle.c_typed.specs.Calls.{calls, any_calls, item_calls, items_calls, statement_calls, statements_calls, arm_calls, arms_calls, last_calls}
 use Rattle.c_typed.specs.Fits.{source_of, goes_to, keeps_from, fits, place_fits}
-use Rattle.c_typed.specs.Room.{address_bytes, room, place_room, any_room, local_room, item_room, items_room, switch_room, statement_room, statements_room, arm_room, arms_room, last_room}
+use Rattle.c_typed.specs.Room.{room, any_room, local_room, item_room, items_room, switch_room, statement_room, statements_room, arm_room, arms_room, last_room}
 use Rattle.c_typed.specs.Sameness.{same_type, is_scalar, is_promoted, is_struct}
-use Rattle.c_typed.specs.Sound.{any_fits, condition_fits, any_condition_fits, value_fits, local_is_there, first_value_fits, item_start, copied_item_fits, item_fits, lies_within, has_parts, items_fit, list_fits, loop_fits, cases_fit, default_fits, count_of, return_fits, switch_rule, is_some_arm, statement_fits, statements_fit, arm_fits, arms_fit, last_fits}
+use Rattle.c_typed.specs.Sound.{any_fits, condition_fits, any_condition_fits, first_value_fits, item_start, item_fits, lies_within, has_parts, items_fit, list_fits, loop_fits, cases_fit, default_fits, count_of, return_fits, switch_rule, is_some_arm, statement_fits, statements_fit, arm_fits, arms_fit, last_fits}
 use Rattle.c_typed.specs.Trees as tree
 use Rattle.c_typed.specs.Trees.{Expression, Place, Item, Statement, Statements, Arm, Arms, LastArm, VariableTree, FunctionTree, Program}
-use Rattle.c_typed.specs.Types.{type_bytes, value_bytes, type_of, place_type, form_of}
+use Rattle.c_typed.specs.Types.{type_bytes, value_bytes, type_of, place_type}
 use Rattle.c_typed.specs.Words.{item_bytes, variable_bytes}
-use Rattle.c_typed.specs.declared.expression.PlaceForm.TheVariants as form
 use Rattle.c_typed.specs.declared.standing.Standing.TheVariants.{Used, Alone}
 use Rattle.c_typed.specs.declared.statement.LoopForm.{LoopForm}
 use Rattle.c_typed.specs.declared.statement.LoopForm.TheVariants.{While, Do, For}
@@ -21,28 +17,27 @@ use Rattle.c_typed.specs.declared.statement.TCase.{TCase}
 use Rattle.core_code.specs.Tree as core
 use Rattle.core_code.specs.Tree.{Tree, many}
 use Rattle.core_code.specs.declared.code.Byte.{Byte}
-use Rattle.core_code.specs.declared.code.Byte.TheVariants as bytes
 use Rattle.lower_expr.specs.Bytes.{behind, operation_type}
-use Rattle.lower_expr.specs.Layout.{copy_of, width}
+use Rattle.lower_expr.specs.Layout.{copy_of}
 use Rattle.lower_expr.specs.Lowering.{pointer_code, address_code}
-use Rattle.lower_expr.specs.Puts.{copies, sets, test_size, choice}
+use Rattle.lower_expr.specs.Puts.{copies, sets, test_size}
 use Rattle.lower_expr.specs.Rows.{struct_row}
 use Rattle.lower_expr.specs.Spots.{spot_of, pointer_bytes}
 use Rattle.lower_expr.specs.declared.places.Spot.TheVariants.{Fixed}
-use Rattle.lower_stmt.specs.Declarators.{scalar_code, text_code, struct_code, item_code, items_code, is_covered, rest_code, list_code}
+use Rattle.lower_stmt.specs.Declarators.{scalar_code, text_code, item_code, items_code, is_covered, rest_code, list_code}
 use Rattle.lower_stmt.specs.Ground.{Ground, first, temporary, local_byte, local_bytes, result_byte, value_code, effect_code}
 use Rattle.lower_stmt.specs.Ground as ground
-use Rattle.lower_stmt.specs.Jumps.{outside, in_segment}
+use Rattle.lower_stmt.specs.Jumps.{in_segment}
 use Rattle.lower_stmt.specs.Labels.{labels_of, has, segments_before}
-use Rattle.lower_stmt.specs.Statements.{any_code, condition_code, once, jumps_in, loop_code, break_code, continue_code, return_code, arm_choice, segments_in, stmt_code, stmts_code, arms_code, arm_code, last_code, segments_code}
+use Rattle.lower_stmt.specs.Statements.{any_code, condition_code, once, jumps_in, loop_code, return_code, segments_in, stmt_code, stmts_code, arms_code, arm_code, last_code, segments_code}
 use Rattle.lower_stmt.specs.Switches.{comparison, leading, case_code, cases_code, otherwise_segment, comparisons, begun_with, Segments, no_segments, joined, cut, nest, around, for_labels}
-use Rattle.word_bounds.specs.Naming.{Lies, TreeLies, TreesLie, CallsOthers}
+use Rattle.word_bounds.specs.Naming.{Lies, CallsOthers}
 use Rattle.word_bounds.proofs.Chain.{never}
 use Rattle.word_bounds.proofs.Typing.{and_first, and_last, promoted_number}
 use Rattle.word_bounds.proofs.Nodes.{width_within}
 use Rattle.word_bounds.proofs.Rooms.{same_type_bytes, room_holds}
 use Rattle.word_bounds.proofs.Standing.{Stand, pointer_same, others_first, others_last, spot_lies, pointer_lies}
-use Rattle.word_bounds.proofs.Within.{at_base, choice_within}
+use Rattle.word_bounds.proofs.Within.{choice_within}
 use Rattle.word_bounds.proofs.Inside.{expr_lies, address_lies}
 use Rattle.word_bounds.proofs.Lying.{size_within, AllLie, lie_on, trees_lie, own, less, past, sets_lie, copies_lie, struct_lie}
 use Rattle.word_bounds.proofs.Statements.{Jumps, local_is}

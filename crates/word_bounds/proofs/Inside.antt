@@ -1,27 +1,25 @@
 -- The code of an expression names no byte of its copy's frame beyond its room.
-use Rattle.std.proofs.Common.{◌≡◌, ℕ, zero, suc, ◌+◌, ◌-◌, ◌*◌, ◌≤◌, Bool, true, false, not, ◌&&◌, ◌||◌, nat_eq, max, List, [], ◌∷◌, ◌++◌, slice_get, refl, sym, ap, ◌∙◌, subst, eqb-true, arith}
+use Rattle.std.proofs.Common.{◌≡◌, ℕ, ◌+◌, ◌≤◌, Bool, true, false, ◌&&◌, ◌||◌, nat_eq, List, [], ◌∷◌, ◌++◌, slice_get, ap, ◌∙◌, eqb-true, arith}
 use Rattle.c_ints.specs.Range.{bytes_of}
 use Rattle.c_ints.specs.declared.operators.UnOp.{UnOp}
 use Rattle.c_ints.specs.declared.operators.UnOp.TheVariants as unop
 use Rattle.c_typed.specs.Calls.{calls, place_calls, arguments_calls, helper_calls, helper_for, difference_helper}
-use Rattle.c_typed.specs.Fits.{goes_to, source_of, keeps_from, assigned_fits, params_of, returns_type, operand_standing, rule_holds, place_rule_holds, member_at, fits, place_fits, arguments_fit, is_alone, is_local_name}
+use Rattle.c_typed.specs.Fits.{goes_to, source_of, params_of, operand_standing, rule_holds, place_rule_holds, member_at, fits, place_fits, arguments_fit, is_alone, is_local_name}
 use Rattle.c_typed.specs.Folding.{bits, constant_bits}
-use Rattle.c_typed.specs.Room.{address_bytes, unary_room, arguments_bytes, room, place_room, arguments_room}
-use Rattle.c_typed.specs.Rules.{read_fits, binary_fits, point_alike, counts_in, offset_fits, difference_fits, copy_fits, assign_fits, is_writable, member_fits, deref_fits, integer_update_fits, moves_by, moves, integer_step_fits}
-use Rattle.c_typed.specs.Sameness.{same_type, is_array, is_scalar, is_struct, pointed}
+use Rattle.c_typed.specs.Room.{unary_room, room, place_room, arguments_room}
+use Rattle.c_typed.specs.Rules.{point_alike, counts_in, copy_fits, assign_fits, is_writable, member_fits, deref_fits}
+use Rattle.c_typed.specs.Sameness.{same_type, is_struct, pointed}
 use Rattle.c_typed.specs.Trees as tree
 use Rattle.c_typed.specs.Trees.{Expression, Expressions, Place, VariableTree, FunctionTree, Program}
-use Rattle.c_typed.specs.Types.{type_bytes, value_bytes, type_of, place_type, place_bytes, form_of, is_constant}
+use Rattle.c_typed.specs.Types.{type_bytes, value_bytes, type_of, place_type, is_constant}
 use Rattle.c_typed.specs.declared.calls.FnId.TheVariants as callee
 use Rattle.c_typed.specs.declared.standing.Standing.{Standing}
 use Rattle.c_typed.specs.declared.standing.Standing.TheVariants.{Used, Pointed}
 use Rattle.c_typed.specs.declared.types.Qualified.{Qualified}
-use Rattle.core_code.specs.Tree.{Tree}
 use Rattle.core_code.specs.declared.code.Byte.TheVariants as bytes
 use Rattle.lower_expr.specs.Bytes.{beyond}
-use Rattle.lower_expr.specs.Layout.{Layout, width, value_width, copy_of}
+use Rattle.lower_expr.specs.Layout.{Layout, value_width, copy_of}
 use Rattle.lower_expr.specs.Lowering.{pointer_code, behind_pointer, shifts_by_constant, is_pointer, expr_code, address_code, arguments_code}
-use Rattle.lower_expr.specs.Puts.{choice}
 use Rattle.lower_expr.specs.Rows.{offset_row, difference_row, member_row, address_row, struct_row}
 use Rattle.lower_expr.specs.Spots.{spot_of, pointer_bytes}
 use Rattle.word_bounds.specs.Naming.{CallsOthers}
@@ -30,16 +28,16 @@ use Rattle.word_bounds.proofs.Typing.{and_first, and_last}
 use Rattle.word_bounds.proofs.Nodes.{width_within}
 use Rattle.word_bounds.proofs.Expressions.{is_computed, whole_computed}
 use Rattle.word_bounds.proofs.Rooms.{same_type_bytes, assigned_same, room_holds}
-use Rattle.word_bounds.proofs.Standing.{Stand, is_bit, whole_no_bit, offset_two, alike_two, counted_two, pointer_same, beyond_within, others_first, others_last, spot_lies, two_room, pointer_lies}
+use Rattle.word_bounds.proofs.Standing.{Stand, whole_no_bit, offset_two, counted_two, pointer_same, beyond_within, others_first, others_last, spot_lies, two_room, pointer_lies}
 use Rattle.word_bounds.proofs.Within.{at_base, read_within, convert_within, unary_within, binary_within, assign_within, logical_within, choice_within, update_within, step_within, call_within}
-use Rattle.word_bounds.proofs.Lying.{AllLie, lie_on, SpotLies, sets_lie, offset_lie, difference_lie, member_lie, address_lie, struct_lie}
+use Rattle.word_bounds.proofs.Lying.{AllLie, lie_on, sets_lie, offset_lie, difference_lie, member_lie, address_lie, struct_lie}
 
 -- the room of an operand that an operator stands behind
-pub unary_front : (c size : ℕ) (op : UnOp) (base operand from to : ℕ) → base + unary_room op operand from to ≤ size → base + operand ≤ size
-unary_front c size unop.Plus base operand from to b = omega (arith, b)
-unary_front c size unop.Minus base operand from to b = omega (arith, b)
-unary_front c size unop.Not base operand from to b = omega (arith, b)
-unary_front c size unop.Bang base operand from to b = omega (arith, b)
+pub unary_front : (size : ℕ) (op : UnOp) (base operand from to : ℕ) → base + unary_room op operand from to ≤ size → base + operand ≤ size
+unary_front size unop.Plus base operand from to b = omega (arith, b)
+unary_front size unop.Minus base operand from to b = omega (arith, b)
+unary_front size unop.Not base operand from to b = omega (arith, b)
+unary_front size unop.Bang base operand from to b = omega (arith, b)
 
 -- a structure that is copied has the bytes of both places
 pub struct_sizes : (p : Program) (sizes : List ℕ) (begins : Bool) (place from : Qualified) (elements : ℕ) → p.sizes ≡ sizes → copy_fits p begins place from elements ≡ true → (elements ≡ type_bytes sizes place.ty) × (elements ≡ type_bytes sizes from.ty)
@@ -74,7 +72,7 @@ module _ (c size : ℕ) (l : Layout) (p : Program) (f : FunctionTree) (has : Sta
     expr_lies wanted base standing (tree.Unary op operand ty line) h o b =
         let rule = rule_holds p standing (tree.Unary op operand ty line) in
         unary_within c size l p f has op base (room l.sizes operand) (type_of operand) ty (expr_code l c base true operand) (and_first rule (fits p f Used operand) h) b
-        (expr_lies true base Used operand (and_last rule (fits p f Used operand) h) o (unary_front c size op base (room l.sizes operand) (type_bytes l.sizes (type_of operand)) (type_bytes l.sizes ty) b))
+        (expr_lies true base Used operand (and_last rule (fits p f Used operand) h) o (unary_front size op base (room l.sizes operand) (type_bytes l.sizes (type_of operand)) (type_bytes l.sizes ty) b))
     expr_lies wanted base standing (tree.Binary op left right ty line) h o b =
         let rule = rule_holds p standing (tree.Binary op left right ty line) in
         let parts = and_last rule (fits p f Used left && fits p f Used right) h in

@@ -1,11 +1,9 @@
 -- The rows of the code of expressions name no byte of the frame beyond those that are counted for them.
-use Rattle.std.proofs.Common.{◌≡◌, ℕ, zero, suc, ◌+◌, ◌-◌, ◌*◌, ◌/◌, ◌%◌, ◌≤◌, ◌<◌, ◌⊎◌, inl, inr, Bool, true, false, ◌&&◌, min, nat_lt, nat_eq, if◌then◌else◌, List, [], ◌∷◌, ◌++◌, Option, Some, None, refl, sym, ap, ◌∙◌, subst, arith}
+use Rattle.std.proofs.Common.{◌≡◌, ℕ, zero, suc, ◌+◌, ◌/◌, ◌%◌, ◌≤◌, ◌<◌, Bool, true, false, nat_lt, nat_eq, if◌then◌else◌, List, [], ◌∷◌, ◌++◌, Option, Some, None, refl, sym, ap, ◌∙◌, arith}
 use Rattle.std.proofs.lemmas.Option.{none-some, same_Some}
 use Rattle.c_ints.specs.Range.{bytes_of}
 use Rattle.c_ints.specs.declared.operators.BinOp.{BinOp}
 use Rattle.c_ints.specs.declared.operators.BinOp.TheVariants as binop
-use Rattle.c_ints.specs.declared.operators.UnOp.{UnOp}
-use Rattle.c_ints.specs.declared.operators.UnOp.TheVariants as unop
 use Rattle.c_ints.specs.declared.types.IntTy.{IntTy}
 use Rattle.c_ints.specs.declared.types.IntTy.TheVariants.{UInt, UChar}
 use Rattle.c_ints.specs.declared.types.IntTy.TheVariants as intty
@@ -18,17 +16,15 @@ use Rattle.core_code.specs.Tree as code
 use Rattle.core_code.specs.Tree.{Tree, Trees, trees_of, many}
 use Rattle.core_code.specs.declared.code.Byte.{Byte}
 use Rattle.core_code.specs.declared.code.Byte.TheVariants as bytes
-use Rattle.lower_expr.specs.Bytes.{beyond, little_beyond, behind, byte_at, number_type, operation_type, is_wider}
+use Rattle.lower_expr.specs.Bytes.{beyond, behind, byte_at, number_type, is_wider}
 use Rattle.lower_expr.specs.Puts.{copies, copies_if, sets, operator, test_size, choice}
-use Rattle.lower_expr.specs.Rows.{wider, widened_number, widened, tested, unary_row, logical_row, shift_row, binary_row, odd_part, multiples, scaled, moved, moved_right, offset_row, quotient_row, difference_row, member_row, address_row, read_row, pointed_row, value_row, bit_row, written_row, kept_row, assigned_row, called_row, side_of, taken, given, advance, advances, structure_bytes, structure_row, through_row, struct_row}
+use Rattle.lower_expr.specs.Rows.{wider, widened_number, widened, tested, logical_row, shift_row, binary_row, odd_part, multiples, scaled, moved, moved_right, offset_row, difference_row, member_row, address_row, read_row, value_row, bit_row, written_row, assigned_row, called_row, side_of, taken, given, advance, advances, structure_bytes, through_row, struct_row}
 use Rattle.lower_expr.specs.Spots.{pointer_bytes}
 use Rattle.lower_expr.specs.declared.places.Spot.{Spot}
 use Rattle.lower_expr.specs.declared.places.Spot.TheVariants.{Fixed, Bit, Computed}
 use Rattle.pic_world.specs.declared.Root.{Root}
 use Rattle.word_bounds.specs.Naming.{Lies, TreeLies, TreesLie, answer_bytes, count_bytes}
 use Rattle.word_bounds.proofs.Chain.{never}
-use Rattle.word_bounds.proofs.Operators.{whole_bytes}
-use Rattle.word_bounds.proofs.Rows.{some_bytes}
 
 -- an operator's answer takes no more than the bytes of its type, or two
 pub answer_within : (op : BinOp) (w n : ℕ) → w ≤ n → 2 ≤ n → answer_bytes op w ≤ n

@@ -1,5 +1,5 @@
 -- The code of an operation names no byte but those that the operation names, and those that may stand behind them.
-use Rattle.std.proofs.Common.{◌≡◌, ℕ, zero, suc, ◌+◌, ◌-◌, ◌*◌, ◌/◌, ◌%◌, ◌≤◌, ◌<◌, Bool, true, false, cond, not, ◌&&◌, ◌||◌, nat_eq, min, ltb, if◌then◌else◌, List, [], ◌∷◌, ◌++◌, length, Option, Some, None, option_map, refl, sym, ap, ◌∙◌, subst, eq-eqb, eqb-true, arith}
+use Rattle.std.proofs.Common.{◌≡◌, ℕ, zero, suc, ◌+◌, ◌-◌, ◌/◌, ◌%◌, ◌≤◌, ◌<◌, Bool, true, false, cond, ◌&&◌, nat_eq, min, ltb, if◌then◌else◌, List, [], ◌∷◌, ◌++◌, length, Option, Some, None, option_map, refl, sym, ◌∙◌, subst, eq-eqb, arith}
 use Rattle.std.proofs.lemmas.Bool.{ltb-true, leb-false}
 use Rattle.std.proofs.lemmas.Option.{none-some, same_Some}
 use Rattle.pic_world.specs.declared.Root.{Root}
@@ -30,24 +30,23 @@ use Rattle.sym_code.specs.declared.code.Label.{Label}
 use Rattle.sym_code.specs.declared.code.Operand.TheVariants as operands
 use Rattle.sym_code.specs.declared.code.Register.TheVariants.{Fsr, Indf}
 use Rattle.sym_code.specs.declared.code.Sym.{Sym}
-use Rattle.sym_code.specs.declared.code.Sym.TheVariants as syms
 use Rattle.bank_page.specs.Kinds.{byte_named, byte_of}
 use Rattle.select_code.specs.Pieces.{byte_behind, file_code, store_code, clear_code, number_code, flag_code, bit_code, is_clearable, set_code, copy_code, ors_code, test_code, first_label, second_label, label_code, goto_code, jump_code, bit_read_code, bit_write_code}
-use Rattle.select_code.specs.Selected.{leave_code, call_code, jump_target, goes_to, IfForm, Jumps, Half, Whole, if_form, if_code, short_turn, turned, loop_code, single_code, code_of, first_code, parts_code}
+use Rattle.select_code.specs.Selected.{leave_code, jump_target, goes_to, IfForm, Jumps, Half, Whole, if_form, if_code, short_turn, turned, loop_code, code_of, first_code, parts_code}
 use Rattle.select_code.specs.Sized.{is_cut}
 use Rattle.select_code.specs.declared.control.Ending.{Ending}
 use Rattle.select_code.specs.declared.control.Ending.TheVariants as ending
 use Rattle.select_code.specs.declared.pieces.Flag.{Flag}
-use Rattle.select_code.specs.declared.pieces.Flag.TheVariants.{Carry, Zero, Irp}
-use Rattle.select_wide.specs.Calls.{enter_code, helper_call_code, copy_call_code, any_call_code, helped_code}
+use Rattle.select_code.specs.declared.pieces.Flag.TheVariants.{Carry, Zero}
+use Rattle.select_wide.specs.Calls.{enter_code, copy_call_code, any_call_code}
 use Rattle.select_wide.specs.Comparisons.{difference_bits_code, differences_code, equality_code, turn_code, signs_code, links_code, order_code}
 use Rattle.select_wide.specs.Moves.{copies_code, stores_code, clears_code}
-use Rattle.select_wide.specs.Pieces.{rising, register_code, register_store_code, literal_code, if_bit_code, pair_code, choice_code, truth_code, sign_code}
+use Rattle.select_wide.specs.Pieces.{rising, register_code, register_store_code, if_bit_code, pair_code, choice_code, truth_code, sign_code}
 use Rattle.select_wide.specs.Pointers.{address_code, pointer_code, advance_code, load_byte_code, load_code, store_byte_code, store_all_code}
 use Rattle.select_wide.specs.Selection.{way_of, shifted_code, binary_code, wide_code}
-use Rattle.select_wide.specs.Shifts.{raised_code, bytes_up_code, bytes_down_code, bytes_way_code, bit_up_code, bit_down_code, bit_shift_code, bit_shifts_code, in_place_code, shift_code}
-use Rattle.select_wide.specs.Single.{is_signed, complement_code, increment_byte_code, increment_code, bang_code, unary_code, widening_code}
-use Rattle.select_wide.specs.Sums.{further_code, link_code, apart_code, chain_byte_code, chain_operation, unless_carried, chain_code, sum_code, bits_byte_code, bits_at_code, bits_code}
+use Rattle.select_wide.specs.Shifts.{raised_code, bytes_down_code, bytes_way_code, bit_up_code, bit_down_code, bit_shift_code, bit_shifts_code, in_place_code, shift_code}
+use Rattle.select_wide.specs.Single.{is_signed, complement_code, increment_byte_code, increment_code, unary_code, widening_code}
+use Rattle.select_wide.specs.Sums.{further_code, link_code, apart_code, chain_byte_code, chain_operation, unless_carried, chain_code, sum_code, bits_at_code, bits_code}
 use Rattle.select_wide.specs.declared.operands.Chain.{Chain}
 use Rattle.select_wide.specs.declared.operands.Chain.TheVariants.{Sum, Difference}
 use Rattle.select_wide.specs.declared.operands.Way.{Way}

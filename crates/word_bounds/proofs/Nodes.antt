@@ -79,7 +79,7 @@ store_more form.Fixed w v l = omega (arith, l)
 store_more form.Bit w v l = omega arith
 store_more form.Computed w v l = omega (arith, l)
 
--- `&` of a bit isn't in the tree, and of a computed place the address is there
+-- a place's reads and writes, by its form and no fewer bytes
 pub reached_words : (l : Layout) (c : ℕ) (place : Place) (w v : ℕ) → w ≤ v → read_words (form_at (spot_of l c place)) w ≤ read_words (form_of place) v
 reached_words l c place w v h =
     let e = ap (λ f. read_words f w) (form_same l c place) in
@@ -144,7 +144,7 @@ module _ (list : List FnCopy) (root : Root) (end : Ending) (l : Layout) (c : ℕ
       let w = unary_words op (type_bytes l.sizes from) (type_bytes l.sizes ty) in
       takes_more list root end c (n + w) (w + n) (operand ++ unary_row op (operation_type ty) (bytes.Frame c base) (width l from)) (omega arith) (takes_on list root end c n w operand (unary_row op (operation_type ty) (bytes.Frame c base) (width l from)) p (unary_takes op base from ty e))
 
-  -- an operand that is left out takes nothing
+  -- an operand that has no code takes nothing
   pub right_takes : (left_out : Bool) (n : ℕ) (right : List Tree) → Takes list root end c n right → Takes list root end c n (change_code left_out right)
   right_takes true n right p = takes_more list root end c 0 n [] (omega arith) (takes_none list root end c)
   right_takes false n right p = p

@@ -1,5 +1,5 @@
 -- A function calls no copy of its own, since chains of calls to a copy are no longer than its level.
-use Rattle.std.proofs.Common.{◌≡◌, ℕ, zero, suc, ◌+◌, ◌≤◌, ◌<◌, ◌⊎◌, inl, inr, Bool, true, false, nat_eq, get_or, List, [], ◌∷◌, ◌++◌, length, length-append, map, replicate, Option, Some, None, slice_get, slice_set, refl, sym, ap, ◌∙◌, subst, eqb-true, arith}
+use Rattle.std.proofs.Common.{◌≡◌, ℕ, zero, suc, ◌+◌, ◌⊎◌, inl, inr, Bool, true, false, nat_eq, get_or, List, [], ◌∷◌, ◌++◌, length, length-append, map, replicate, Option, Some, None, slice_get, slice_set, refl, sym, ap, ◌∙◌, subst, eqb-true, arith}
 use Rattle.std.proofs.lemmas.Option.{none-some, same_Some}
 use Rattle.std.specs.List.{Contains}
 use Rattle.c_typed.specs.Calls.{statements_calls}
@@ -14,7 +14,6 @@ use Rattle.lower_stmt.specs.Frames.{user_number, under_root, function_under, mar
 use Rattle.pic_world.specs.declared.Root.{Root}
 use Rattle.pic_world.specs.declared.Root.TheVariants.{Main, Isr}
 use Rattle.word_bounds.specs.Naming.{CallsOthers, HaveCopies}
-use Rattle.word_bounds.proofs.Chain.{never}
 
 -- ---- elements
 abbrev Member : {A : Type 0} → A → List A → Type 0

@@ -1,12 +1,10 @@
 -- Where a copy's variables stand in its frame, and in which bank the frame stands.
-use Rattle.std.proofs.Common.{◌≡◌, ℕ, zero, suc, ◌+◌, ◌-◌, ◌/◌, ◌≤◌, ◌<◌, ◌⊎◌, inl, inr, Bool, true, false, ◌&&◌, ◌||◌, nat_eq, nat_le, get_or, if◌then◌else◌, List, [], ◌∷◌, ◌++◌, length, map, Option, Some, None, slice_get, slice_index, slice_index_or, refl, sym, ap, ◌∙◌, subst, ⊎_elim, leb-true, eqb-true, lt-ltb, arith}
+use Rattle.std.proofs.Common.{◌≡◌, ℕ, zero, suc, ◌+◌, ◌/◌, ◌≤◌, ◌<◌, ◌⊎◌, inl, inr, Bool, true, false, ◌&&◌, ◌||◌, nat_eq, nat_le, get_or, if◌then◌else◌, List, [], ◌∷◌, map, Option, Some, None, slice_get, slice_index, slice_index_or, refl, sym, ap, ◌∙◌, subst, ⊎_elim, leb-true, eqb-true, lt-ltb, arith}
 use Rattle.std.proofs.lemmas.List.Quantifiers.{position-Some}
-use Rattle.std.proofs.lemmas.Option.{none-some, same_Some, slice_get_within, get_or_from_slice_get}
-use Rattle.std.specs.List.{list_all, position}
-use Rattle.c_typed.specs.Calls.{statements_calls}
-use Rattle.c_typed.specs.Chains.{helper_number}
+use Rattle.std.proofs.lemmas.Option.{none-some, same_Some, get_or_from_slice_get}
+use Rattle.std.specs.List.{list_all}
 use Rattle.c_typed.specs.Room.{statements_room, variables_bytes, frame_size}
-use Rattle.c_typed.specs.Sound.{target_fits, structure_fits, static_fits, param_fits, local_fits, result_fits, function_fits, statements_fit, is_sound}
+use Rattle.c_typed.specs.Sound.{target_fits, structure_fits, static_fits, param_fits, local_fits, result_fits, function_fits, statements_fit}
 use Rattle.c_typed.specs.Trees.{StructureTree, VariableTree, FunctionTree, Program}
 use Rattle.c_typed.specs.Types.{type_bytes}
 use Rattle.c_typed.specs.Views.{size_of, structure_of}
@@ -17,7 +15,6 @@ use Rattle.c_typed.specs.declared.calls.Helper.{Helper}
 use Rattle.call_graph.specs.Numbers as numbers
 use Rattle.call_graph.specs.Numbers.{is_helper, is_copy_of}
 use Rattle.call_graph.specs.declared.types.FnCopy.{FnCopy}
-use Rattle.core_code.specs.declared.code.Byte.TheVariants as bytes
 use Rattle.lower_expr.specs.Bytes.{beyond}
 use Rattle.lower_stmt.specs.Frames.{offsets_from, end_from, base_of, layout_for}
 use Rattle.pic_map.specs.declared.FrameLine.{FrameLine}

@@ -1,41 +1,25 @@
 -- The bytes of values and places against the room that is counted for them.
-use Rattle.std.proofs.Common.{◌≡◌, ℕ, zero, suc, ◌+◌, ◌-◌, ◌*◌, ◌^◌, ◌%◌, ◌≤◌, ◌<◌, ◌⊎◌, inl, inr, Bool, true, false, not, ◌&&◌, ◌||◌, max, min, nat_eq, nat_lt, nat_le, if◌then◌else◌, List, [], ◌∷◌, ◌++◌, map, Option, Some, None, option_map, is_some, slice_get, slice_index, refl, sym, ap, ◌∙◌, subst, eqb-true, leb-true, arith}
-use Rattle.std.proofs.lemmas.Bool.{ltb-true, ltb-false}
+use Rattle.std.proofs.Common.{◌≡◌, ℕ, zero, suc, ◌+◌, ◌^◌, ◌%◌, ◌≤◌, Bool, true, false, not, ◌&&◌, ◌||◌, nat_eq, nat_lt, if◌then◌else◌, List, [], ◌∷◌, map, Option, Some, None, slice_get, slice_index, refl, sym, ap, ◌∙◌, subst, eqb-true, arith}
 use Rattle.std.proofs.lemmas.Option.{none-some, same_Some}
 use Rattle.std.specs.List.{list_all}
-use Rattle.c_ints.specs.Range.{bytes_of}
-use Rattle.c_ints.specs.declared.types.IntTy.{IntTy}
 use Rattle.c_ints.specs.declared.types.IntTy.TheVariants as int
 use Rattle.c_ints.specs.declared.operators.UnOp.{UnOp}
 use Rattle.c_ints.specs.declared.operators.UnOp.TheVariants as unop
-use Rattle.c_typed.specs.Fits.{source_of, goes_to, keeps_from, is_memory, is_reached, leads_fits, assigned_fits, sides_fit, is_side, is_indexed, rule_holds, place_rule_holds, declared_type, is_named, is_open, is_open_array, names_local, is_device, register_type, variable_type, static_type, member_at, fits, place_fits}
-use Rattle.c_typed.specs.Room.{address_bytes, room, unary_room}
-use Rattle.c_typed.specs.Rules.{address_fits, start_fits, is_start, unary_fits, choice_fits, copy_fits, assign_fits, is_writable, update_fits, integer_update_fits, moves_by, moves, step_fits, integer_step_fits, counts_in, member_fits}
-use Rattle.c_typed.specs.Sameness.{same_type, same_int, same_flag, same_qualified, is_scalar, is_plain_int, is_promoted, is_pointer, is_void, is_struct, is_complete, is_the, pointed, element_of, members_in, members_of}
-use Rattle.c_typed.specs.Sound.{object_fits, type_is_there, kept, members_fit, structure_fits, static_fits, local_fits, param_fits, initial_fits}
+use Rattle.c_typed.specs.Fits.{source_of, goes_to, keeps_from, is_memory, is_reached, leads_fits, sides_fit, is_side, is_indexed, rule_holds, member_at, fits, place_fits}
+use Rattle.c_typed.specs.Room.{room, unary_room}
+use Rattle.c_typed.specs.Rules.{is_start, unary_fits, choice_fits, assign_fits, is_writable, integer_update_fits, moves_by, moves, integer_step_fits, counts_in, member_fits}
+use Rattle.c_typed.specs.Sameness.{same_type, same_flag, is_scalar, is_plain_int, is_promoted, is_pointer, is_void, is_complete, is_the, pointed, element_of, members_in}
+use Rattle.c_typed.specs.Sound.{type_is_there, kept, members_fit, structure_fits, static_fits, local_fits, param_fits}
 use Rattle.c_typed.specs.Trees as tree
 use Rattle.c_typed.specs.Trees.{Expression, Place, MemberTree, StructureTree, VariableTree, StaticTree, FunctionTree, Program}
-use Rattle.c_typed.specs.Types.{type_bytes, value_bytes, type_of, place_type, place_bytes, form_of}
-use Rattle.c_typed.specs.declared.expression.Object.{Object}
-use Rattle.c_typed.specs.declared.expression.Object.TheVariants as object
+use Rattle.c_typed.specs.Types.{type_bytes, value_bytes, type_of, place_type}
 use Rattle.c_typed.specs.declared.standing.Standing.{Standing}
-use Rattle.c_typed.specs.declared.standing.Standing.TheVariants.{Used, Alone}
+use Rattle.c_typed.specs.declared.standing.Standing.TheVariants.{Used}
 use Rattle.c_typed.specs.declared.types.Qualified.{Qualified}
 use Rattle.c_typed.specs.declared.types.Ty.{Ty}
 use Rattle.c_typed.specs.declared.types.Ty.TheVariants.{Void, Int, Pointer, Array, Struct}
-use Rattle.core_code.specs.declared.code.Byte.{Byte}
-use Rattle.core_code.specs.declared.code.Byte.TheVariants as bytes
-use Rattle.lower_expr.specs.Bytes.{behind}
-use Rattle.lower_expr.specs.Layout.{Layout, object_byte}
-use Rattle.lower_expr.specs.Spots.{spot_of, member_spot, pointer_bytes}
-use Rattle.lower_expr.specs.declared.places.Spot.{Spot}
-use Rattle.lower_expr.specs.declared.places.Spot.TheVariants.{Fixed, Bit, Computed}
-use Rattle.word_bounds.specs.Naming.{Lies}
 use Rattle.word_bounds.proofs.Chain.{never}
-use Rattle.word_bounds.proofs.Rows.{form_at}
 use Rattle.word_bounds.proofs.Typing.{and_first, and_last, same_bytes}
-use Rattle.word_bounds.proofs.Nodes.{form_same}
-use Rattle.word_bounds.proofs.Lying.{less, past, SpotLies, BitHas}
 
 -- ---- types
 pub same_type_bytes : (sizes : List ℕ) (a b : Ty) → same_type a b ≡ true → type_bytes sizes a ≡ type_bytes sizes b

@@ -143,22 +143,22 @@ module _ (list : List FnCopy) (root : Root) (end : Ending) (c : ℕ) where
   binary_takes false op constant ty at right count size h g e l = plain_takes op constant ty at right h g e
 
   -- ---- operators on one value
-  unary_tamed : (op : UnOp) (ty : IntTy) (at : Byte) (m k w : ℕ) → IsMine c at → bytes_of ty ≡ suc k → Tame c m (unary_code op ty at) → Takes list root end c (m + 2) (code.Unary op ty at ∷ [])
-  unary_tamed op ty at m k w h e p = takes_tames list root end c m (code.Unary op ty at ∷ []) (tames_one list root end c m (code.Unary op ty at) (λ loops place before. p))
+  unary_tamed : (op : UnOp) (ty : IntTy) (at : Byte) (m : ℕ) → Tame c m (unary_code op ty at) → Takes list root end c (m + 2) (code.Unary op ty at ∷ [])
+  unary_tamed op ty at m p = takes_tames list root end c m (code.Unary op ty at ∷ []) (tames_one list root end c m (code.Unary op ty at) (λ loops place before. p))
 
   pub minus_takes : (ty : IntTy) (at : Byte) → IsMine c at → Takes list root end c (10 * bytes_of ty) (code.Unary unop.Minus ty at ∷ [])
   minus_takes ty at h =
       let b = whole_bytes ty in
       let e = b.1 in
       takes_more list root end c (3 * b.0 + 3 + 2) (10 * bytes_of ty) (code.Unary unop.Minus ty at ∷ []) (omega (arith, e))
-      (unary_tamed unop.Minus ty at (3 * b.0 + 3) b.0 0 h b.1 (subst (λ (w : ℕ). Tame c (3 * b.0 + 3) (complement_code at w ++ increment_code at w)) (sym b.1) (minus_tame c at h b.0)))
+      (unary_tamed unop.Minus ty at (3 * b.0 + 3) (subst (λ (w : ℕ). Tame c (3 * b.0 + 3) (complement_code at w ++ increment_code at w)) (sym b.1) (minus_tame c at h b.0)))
 
   pub not_takes : (ty : IntTy) (at : Byte) → IsMine c at → Takes list root end c (4 * bytes_of ty) (code.Unary unop.Not ty at ∷ [])
   not_takes ty at h =
       let b = whole_bytes ty in
       let e = b.1 in
       takes_more list root end c (b.0 + 1 + 2) (4 * bytes_of ty) (code.Unary unop.Not ty at ∷ []) (omega (arith, e))
-      (unary_tamed unop.Not ty at (b.0 + 1) b.0 0 h b.1 (subst (λ (w : ℕ). Tame c (b.0 + 1) (complement_code at w)) (sym b.1) (complement_tame c at h b.0)))
+      (unary_tamed unop.Not ty at (b.0 + 1) (subst (λ (w : ℕ). Tame c (b.0 + 1) (complement_code at w)) (sym b.1) (complement_tame c at h b.0)))
 
   pub bang_takes : (at : Byte) (size : ℕ) → IsMine c at → 1 ≤ size → Takes list root end c (4 * size + 16) (tested at size 0 1 ∷ [])
   bang_takes at size h l =

@@ -1,56 +1,44 @@
 -- The code of an expression names no byte of its copy's frame beyond the room that is counted for it.
-use Rattle.std.proofs.Common.{◌≡◌, ℕ, zero, suc, ◌+◌, ◌-◌, ◌*◌, ◌≤◌, ◌<◌, ◌⊎◌, inl, inr, Bool, true, false, not, ◌&&◌, ◌||◌, max, min, nat_eq, nat_le, if◌then◌else◌, List, [], ◌∷◌, ◌++◌, Option, Some, None, option_map, slice_get, slice_index, refl, sym, ap, ◌∙◌, subst, eqb-true, leb-true, arith}
-use Rattle.std.proofs.lemmas.Option.{none-some, same_Some}
-use Rattle.std.specs.List.{list_all}
-use Rattle.c_ints.specs.Operators.{compares, shifts}
+use Rattle.std.proofs.Common.{◌≡◌, ℕ, ◌+◌, ◌≤◌, Bool, true, false, ◌&&◌, ◌||◌, nat_eq, nat_le, if◌then◌else◌, List, [], ◌∷◌, ◌++◌, Option, Some, None, option_map, slice_get, slice_index, refl, sym, ap, ◌∙◌, eqb-true, leb-true, arith}
+use Rattle.c_ints.specs.Operators.{compares}
 use Rattle.c_ints.specs.Range.{bytes_of}
 use Rattle.c_ints.specs.declared.operators.BinOp.{BinOp}
 use Rattle.c_ints.specs.declared.operators.BinOp.TheVariants as binop
-use Rattle.c_ints.specs.declared.operators.UnOp.{UnOp}
-use Rattle.c_ints.specs.declared.operators.UnOp.TheVariants as unop
 use Rattle.c_ints.specs.declared.types.IntTy.{IntTy}
 use Rattle.c_ints.specs.declared.types.IntTy.TheVariants as int
-use Rattle.c_typed.specs.Calls.{calls, place_calls, arguments_calls, helper_calls, helper_for, difference_helper}
-use Rattle.c_typed.specs.Fits.{goes_to, source_of, assigned_fits, params_of, returns_type, operand_standing, rule_holds, place_rule_holds, declared_type, is_named, is_open, is_open_array, names_local, is_device, register_type, variable_type, static_type, member_at, fits, place_fits, arguments_fit}
-use Rattle.c_typed.specs.Folding.{bits, constant_bits}
-use Rattle.c_typed.specs.Room.{address_bytes, arguments_bytes, room, place_room, arguments_room}
-use Rattle.c_typed.specs.Rules.{read_fits, unary_fits, binary_fits, integers_fit, pointers_fit, point_alike, offset_fits, difference_fits, moves, counts_in, copy_fits, assign_fits, is_writable, update_fits, step_fits, member_fits, deref_fits, integer_update_fits, moves_by, integer_step_fits}
-use Rattle.c_typed.specs.Sameness.{same_type, same_flag, same_qualified, is_array, is_scalar, is_struct, is_plain_int, is_promoted, is_index, is_complete, is_the, pointed}
+use Rattle.c_typed.specs.Fits.{place_rule_holds, declared_type, is_named, is_open, names_local, is_device, register_type, variable_type, static_type, member_at, fits, place_fits}
+use Rattle.c_typed.specs.Room.{address_bytes, place_room}
+use Rattle.c_typed.specs.Rules.{binary_fits, integers_fit, point_alike, offset_fits, moves, counts_in, member_fits, deref_fits}
+use Rattle.c_typed.specs.Sameness.{same_type, same_flag, same_qualified, is_scalar, is_promoted, is_index, is_complete, pointed}
 use Rattle.c_typed.specs.Sound.{object_fits, type_is_there, static_fits, local_fits, param_fits, initial_fits}
 use Rattle.c_typed.specs.Trees as tree
 use Rattle.c_typed.specs.Trees.{Expression, Expressions, Place, VariableTree, StaticTree, FunctionTree, Program}
-use Rattle.c_typed.specs.Types.{type_bytes, value_bytes, type_of, place_type, place_bytes, form_of, is_constant}
+use Rattle.c_typed.specs.Types.{type_bytes, type_of, place_type, form_of}
 use Rattle.c_typed.specs.declared.calls.FnId.{FnId}
 use Rattle.c_typed.specs.declared.calls.FnId.TheVariants as callee
 use Rattle.c_typed.specs.declared.expression.Object.{Object}
 use Rattle.c_typed.specs.declared.expression.Object.TheVariants as object
-use Rattle.c_typed.specs.declared.expression.PlaceForm.TheVariants as form
-use Rattle.c_typed.specs.declared.standing.Standing.{Standing}
-use Rattle.c_typed.specs.declared.standing.Standing.TheVariants.{Used, Pointed}
+use Rattle.c_typed.specs.declared.standing.Standing.TheVariants.{Pointed}
 use Rattle.c_typed.specs.declared.types.Qualified.{Qualified}
 use Rattle.c_typed.specs.declared.types.Ty.{Ty}
 use Rattle.c_typed.specs.declared.types.Ty.TheVariants.{Void, Int, Pointer, Array, Struct}
-use Rattle.core_code.specs.Tree as code
 use Rattle.core_code.specs.Tree.{Tree}
-use Rattle.core_code.specs.declared.code.Byte.{Byte}
 use Rattle.core_code.specs.declared.code.Byte.TheVariants as bytes
-use Rattle.lower_expr.specs.Bytes.{beyond, behind, operation_type}
-use Rattle.lower_expr.specs.Layout.{Layout, width, value_width, place_width, object_byte, copy_of}
-use Rattle.lower_expr.specs.Lowering.{pointer_code, behind_pointer, shifts_by_constant, change_code, is_pointer, arguments_width, update_of, step_of, expr_code, address_code, arguments_code}
-use Rattle.lower_expr.specs.Rows.{is_shift, unary_row, binary_row, offset_row, difference_row, member_row, update_row, step_row, called_row}
+use Rattle.lower_expr.specs.Bytes.{beyond, operation_type}
+use Rattle.lower_expr.specs.Layout.{Layout, width, place_width, object_byte}
+use Rattle.lower_expr.specs.Lowering.{pointer_code}
 use Rattle.lower_expr.specs.Spots.{spot_of, member_spot, pointer_bytes}
 use Rattle.lower_expr.specs.declared.places.Spot.{Spot}
 use Rattle.lower_expr.specs.declared.places.Spot.TheVariants.{Fixed, Bit, Computed}
-use Rattle.word_bounds.specs.Naming.{Lies, TreeLies, TreesLie, CallsOthers, answer_bytes, count_bytes}
+use Rattle.word_bounds.specs.Naming.{Lies, CallsOthers, count_bytes}
 use Rattle.word_bounds.proofs.Chain.{never}
 use Rattle.word_bounds.proofs.Operators.{whole_bytes}
-use Rattle.word_bounds.proofs.Rows.{form_at, some_bytes}
-use Rattle.word_bounds.proofs.Typing.{IsNumber, and_first, and_last, same_bytes, is_counted, alike_first, alike_last, scalar_some, promoted_some, unary_number, binary_number}
-use Rattle.word_bounds.proofs.Nodes.{width_within, form_same}
+use Rattle.word_bounds.proofs.Rows.{form_at}
+use Rattle.word_bounds.proofs.Typing.{and_first, and_last, is_counted, alike_first, alike_last, promoted_some}
+use Rattle.word_bounds.proofs.Nodes.{form_same}
 use Rattle.word_bounds.proofs.Expressions.{is_computed, whole_computed}
-use Rattle.word_bounds.proofs.Segments.{promoted_two}
-use Rattle.word_bounds.proofs.Rooms.{Keeps, same_type_bytes, assigned_same, list_there, room_holds, in_whole}
-use Rattle.word_bounds.proofs.Lying.{count_within, AllLie, lie_on, own, less, past, SpotLies, BitHas, sets_lie, widened_lie, choice_lie, tested_lie, logical_lie, binary_lie, offset_lie, difference_lie, member_lie, address_lie, value_lie, assigned_lie, called_lie, struct_lie}
+use Rattle.word_bounds.proofs.Rooms.{Keeps, same_type_bytes, list_there, room_holds, in_whole}
+use Rattle.word_bounds.proofs.Lying.{count_within, AllLie, own, less, past, SpotLies, BitHas}
 
 -- ---- types
 two_right : (sizes : List ℕ) (op : BinOp) (left : IntTy) (right ty : Ty) → integers_fit op (Int left) right ty ≡ true → count_bytes op (bytes_of left) ≤ type_bytes sizes right

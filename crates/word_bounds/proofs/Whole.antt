@@ -1,11 +1,9 @@
 -- The block of a function's copy has at most the function's stated words.
-use Rattle.std.proofs.Common.{◌≡◌, ℕ, zero, suc, ◌+◌, ◌/◌, ◌≤◌, Bool, true, false, not, ◌&&◌, if◌then◌else◌, List, [], ◌∷◌, ◌++◌, map, length, Some, slice_get, refl, sym, ap, ◌∙◌, subst, arith}
-use Rattle.std.proofs.lemmas.Option.{none-some, same_Some}
-use Rattle.std.specs.List.{list_all}
+use Rattle.std.proofs.Common.{◌≡◌, ℕ, ◌+◌, ◌/◌, ◌≤◌, Bool, true, false, not, if◌then◌else◌, List, [], ◌∷◌, ◌++◌, map, length, refl, sym, ap, ◌∙◌, subst, arith}
 use Rattle.c_typed.specs.Room.{frame_size}
 use Rattle.sym_code.specs.Layout.{frame}
 use Rattle.code_place.specs.Layouts.{layout_of}
-use Rattle.c_typed.specs.Sound.{target_fits, structure_fits, static_fits, param_fits, local_fits, result_fits, function_fits, statements_fit, is_sound}
+use Rattle.c_typed.specs.Sound.{statements_fit}
 use Rattle.c_typed.specs.Trees.{FunctionTree, Program}
 use Rattle.c_typed.specs.Words.{block_size, statements_words, variable_bytes}
 use Rattle.c_typed.specs.declared.calls.FnId.TheVariants as callee
@@ -25,12 +23,11 @@ use Rattle.select_wide.specs.Blocks.{ending_at}
 use Rattle.sym_code.specs.Selects.{bare}
 use Rattle.sym_code.specs.declared.code.Sym.{Sym}
 use Rattle.sym_code.specs.declared.code.SymBlock.{SymBlock}
-use Rattle.word_bounds.specs.Bounds.{NamesWithin, IsProgram, IsBlockOf, HasFrame, BlocksAreBare, BlocksKeepWithin, WordsAreStated}
+use Rattle.word_bounds.specs.Bounds.{NamesWithin, IsProgram, IsBlockOf, BlocksAreBare, BlocksKeepWithin, WordsAreStated}
 use Rattle.word_bounds.specs.Counting.{counted}
 use Rattle.word_bounds.proofs.Chain.{has_none, none_first, none_later}
 use Rattle.word_bounds.proofs.Paying.{Pays}
 use Rattle.word_bounds.proofs.Lowered.{some_code, Takes, takes_on, takes_more}
-use Rattle.word_bounds.proofs.Typing.{and_first, and_last}
 use Rattle.word_bounds.proofs.Segments.{leave_takes}
 use Rattle.word_bounds.proofs.Selecting.{selects_are_counted}
 use Rattle.word_bounds.proofs.Statements.{statements_take}

@@ -1,51 +1,44 @@
 -- Each kind of expression names no byte of its copy's frame beyond its room, given that its parts don't.
-use Rattle.std.proofs.Common.{◌≡◌, ℕ, zero, suc, ◌+◌, ◌-◌, ◌*◌, ◌≤◌, ◌<◌, Bool, true, false, not, ◌&&◌, nat_eq, max, min, List, [], ◌∷◌, ◌++◌, Option, Some, None, slice_get, refl, sym, ap, ◌∙◌, subst, arith}
+use Rattle.std.proofs.Common.{◌≡◌, ℕ, ◌+◌, ◌*◌, ◌≤◌, Bool, true, false, not, ◌&&◌, nat_eq, max, List, [], ◌∷◌, ◌++◌, refl, sym, ap, subst, arith}
 use Rattle.c_ints.specs.Range.{bytes_of}
 use Rattle.c_ints.specs.declared.operators.BinOp.{BinOp}
-use Rattle.c_ints.specs.declared.operators.BinOp.TheVariants as binop
 use Rattle.c_ints.specs.declared.operators.UnOp.{UnOp}
 use Rattle.c_ints.specs.declared.operators.UnOp.TheVariants as unop
-use Rattle.c_ints.specs.declared.types.IntTy.{IntTy}
 use Rattle.c_ints.specs.declared.types.IntTy.TheVariants as int
-use Rattle.c_typed.specs.Calls.{calls, place_calls, arguments_calls, helper_calls, helper_for, difference_helper}
-use Rattle.c_typed.specs.Fits.{goes_to, source_of, keeps_from, assigned_fits, is_memory, is_reached, params_of, returns_type, operand_standing, rule_holds, place_rule_holds, member_at, fits, place_fits, arguments_fit}
-use Rattle.c_typed.specs.Folding.{bits, constant_bits}
-use Rattle.c_typed.specs.Room.{address_bytes, unary_room, arguments_bytes, room, place_room, arguments_room}
-use Rattle.c_typed.specs.Rules.{read_fits, unary_fits, binary_fits, point_alike, counts_in, offset_fits, difference_fits, copy_fits, assign_fits, is_writable, update_fits, step_fits, member_fits, deref_fits, integer_update_fits, moves_by, moves, integer_step_fits}
-use Rattle.c_typed.specs.Sameness.{same_type, is_array, is_scalar, is_struct, is_plain_int, is_promoted, pointed}
+use Rattle.c_typed.specs.Fits.{place_fits}
+use Rattle.c_typed.specs.Folding.{constant_bits}
+use Rattle.c_typed.specs.Room.{address_bytes, unary_room, arguments_bytes, room}
+use Rattle.c_typed.specs.Rules.{read_fits, unary_fits, binary_fits, assign_fits, is_writable, update_fits, step_fits, moves_by, moves}
+use Rattle.c_typed.specs.Sameness.{same_type, is_array, is_promoted}
 use Rattle.c_typed.specs.Trees as tree
 use Rattle.c_typed.specs.Trees.{Expression, Expressions, Place, VariableTree, FunctionTree, Program}
-use Rattle.c_typed.specs.Types.{type_bytes, value_bytes, type_of, place_type, place_bytes, form_of, is_constant}
+use Rattle.c_typed.specs.Types.{type_bytes, value_bytes, type_of, place_type, place_bytes, form_of}
 use Rattle.c_typed.specs.Words.{step_operator}
 use Rattle.c_typed.specs.declared.expression.StepOp.{StepOp}
 use Rattle.c_typed.specs.declared.expression.StepOp.TheVariants.{PreIncrement, PreDecrement, PostIncrement, PostDecrement}
 use Rattle.c_typed.specs.declared.expression.LogicalOp.{LogicalOp}
-use Rattle.c_typed.specs.declared.standing.Standing.{Standing}
-use Rattle.c_typed.specs.declared.standing.Standing.TheVariants.{Used, Pointed}
-use Rattle.c_typed.specs.declared.types.Qualified.{Qualified}
 use Rattle.c_typed.specs.declared.types.Ty.{Ty}
-use Rattle.c_typed.specs.declared.types.Ty.TheVariants.{Void, Int, Pointer, Array, Struct}
+use Rattle.c_typed.specs.declared.types.Ty.TheVariants.{Void, Int, Pointer}
 use Rattle.core_code.specs.Tree as code
 use Rattle.core_code.specs.Tree.{Tree}
 use Rattle.core_code.specs.declared.code.Byte.{Byte}
 use Rattle.core_code.specs.declared.code.Byte.TheVariants as bytes
 use Rattle.lower_expr.specs.Bytes.{beyond, behind, operation_type}
-use Rattle.lower_expr.specs.Layout.{Layout, width, value_width, place_width, copy_of}
-use Rattle.lower_expr.specs.Lowering.{pointer_code, behind_pointer, shifts_by_constant, change_code, is_pointer, arguments_width, update_of, step_of}
-use Rattle.lower_expr.specs.Puts.{copies, copies_if, sets, operator, choice}
-use Rattle.lower_expr.specs.Rows.{is_shift, tested, unary_row, logical_row, binary_row, widened, read_row, written_row, value_row, assigned_row, called_row, change_of, change_row, given_byte, keeps_old, update_row, step_row, step_number}
+use Rattle.lower_expr.specs.Layout.{Layout, width, value_width, place_width}
+use Rattle.lower_expr.specs.Lowering.{shifts_by_constant, change_code, arguments_width, update_of, step_of}
+use Rattle.lower_expr.specs.Puts.{copies_if, sets, operator, choice}
+use Rattle.lower_expr.specs.Rows.{tested, unary_row, logical_row, binary_row, widened, read_row, written_row, value_row, assigned_row, called_row, change_of, change_row, given_byte, keeps_old, update_row, step_row, step_number}
 use Rattle.lower_expr.specs.Spots.{spot_of, pointer_bytes}
 use Rattle.lower_expr.specs.declared.places.Spot.{Spot}
-use Rattle.pic_world.specs.declared.Root.{Root}
-use Rattle.word_bounds.specs.Naming.{Lies, TreeLies, CallsOthers, answer_bytes, count_bytes}
+use Rattle.word_bounds.specs.Naming.{Lies, TreeLies, count_bytes}
 use Rattle.word_bounds.proofs.Chain.{never}
 use Rattle.word_bounds.proofs.Rows.{some_bytes}
-use Rattle.word_bounds.proofs.Typing.{IsNumber, Operates, OnInteger, OnPointer, and_first, and_last, unary_number, binary_number, update_operates, step_operates}
-use Rattle.word_bounds.proofs.Nodes.{width_within, width_some}
+use Rattle.word_bounds.proofs.Typing.{Operates, OnInteger, OnPointer, and_first, and_last, unary_number, binary_number, update_operates, step_operates}
+use Rattle.word_bounds.proofs.Nodes.{width_within}
 use Rattle.word_bounds.proofs.Segments.{promoted_two}
-use Rattle.word_bounds.proofs.Rooms.{same_type_bytes, assigned_same, room_holds}
+use Rattle.word_bounds.proofs.Rooms.{same_type_bytes}
 use Rattle.word_bounds.proofs.Standing.{Stand, binary_right, pointer_same, beyond_within, spot_lies, bit_has}
-use Rattle.word_bounds.proofs.Lying.{count_within, AllLie, lie_on, own, less, past, SpotLies, BitHas, sets_lie, copies_lie, copies_if_lie, widened_lie, choice_lie, tested_lie, operator_lie, logical_lie, shift_lie, binary_lie, moved_lie, value_lie, read_lie, written_lie, assigned_lie, called_lie}
+use Rattle.word_bounds.proofs.Lying.{count_within, AllLie, lie_on, own, less, past, SpotLies, BitHas, sets_lie, copies_if_lie, widened_lie, choice_lie, tested_lie, operator_lie, logical_lie, shift_lie, binary_lie, moved_lie, value_lie, read_lie, written_lie, assigned_lie, called_lie}
 
 module _ (c size : ℕ) (l : Layout) (p : Program) (f : FunctionTree) (has : Stand c size l p f) where
   -- so many bytes from the base on
