@@ -1,0 +1,125 @@
+-- The block of a function's copy has at most the function's stated words.
+use Rattle.std.proofs.Common.{◌≡◌, ℕ, ◌+◌, ◌/◌, ◌≤◌, Bool, true, false, not, if◌then◌else◌, List, [], ◌∷◌, ◌++◌, map, length, refl, sym, ap, ◌∙◌, subst, arith}
+use Rattle.c_typed.specs.Room.{frame_size}
+use Rattle.sym_code.specs.Layout.{frame}
+use Rattle.code_place.specs.Layouts.{layout_of}
+use Rattle.c_typed.specs.Sound.{statements_fit}
+use Rattle.c_typed.specs.Trees.{FunctionTree, Program}
+use Rattle.c_typed.specs.Words.{block_size, statements_words, variable_bytes}
+use Rattle.c_typed.specs.declared.calls.FnId.TheVariants as callee
+use Rattle.call_graph.specs.Numbers.{handler_at}
+use Rattle.call_graph.specs.declared.types.FnCopy.{FnCopy}
+use Rattle.core_code.specs.Tree as core
+use Rattle.core_code.specs.Tree.{Tree, trees_of}
+use Rattle.lower_stmt.specs.Bodies.{body_code}
+use Rattle.lower_stmt.specs.Frames.{ground_for}
+use Rattle.lower_stmt.specs.Ground.{Ground}
+use Rattle.lower_stmt.specs.Jumps.{outside}
+use Rattle.lower_stmt.specs.Statements.{stmts_code}
+use Rattle.pic_world.specs.declared.Root.{Root}
+use Rattle.ram_place.specs.Sizes.{block_words, size_or_none}
+use Rattle.select_code.specs.declared.control.Ending.{Ending}
+use Rattle.select_wide.specs.Blocks.{ending_at}
+use Rattle.sym_code.specs.Selects.{bare}
+use Rattle.sym_code.specs.declared.code.Sym.{Sym}
+use Rattle.sym_code.specs.declared.code.SymBlock.{SymBlock}
+use Rattle.word_bounds.specs.Bounds.{NamesWithin, IsProgram, IsBlockOf, BlocksAreBare, BlocksKeepWithin, WordsAreStated}
+use Rattle.word_bounds.specs.Counting.{counted}
+use Rattle.word_bounds.proofs.Chain.{has_none, none_first, none_later}
+use Rattle.word_bounds.proofs.Paying.{Pays}
+use Rattle.word_bounds.proofs.Lowered.{some_code, Takes, takes_on, takes_more}
+use Rattle.word_bounds.proofs.Segments.{leave_takes}
+use Rattle.word_bounds.proofs.Selecting.{selects_are_counted}
+use Rattle.word_bounds.proofs.Statements.{statements_take}
+use Rattle.word_bounds.proofs.Naming.{AreIn, in_trees}
+use Rattle.word_bounds.proofs.Lying.{AllLie, lie_on, trees_lie}
+use Rattle.word_bounds.proofs.Rooms.{Keeps}
+use Rattle.word_bounds.proofs.Bodies.{statements_lie}
+use Rattle.word_bounds.proofs.Others.{calls_others}
+use Rattle.word_bounds.proofs.Placed.{function_keeps, stands, base_within, helpers_apart, all_banked}
+
+-- a body's code, and its end
+body_takes : (list : List FnCopy) (root : Root) (end : Ending) (p : Program) (f : FunctionTree) (g : Ground) → p.sizes ≡ g.layout.sizes → g.bytes ≡ map (variable_bytes g.layout.sizes) f.locals → statements_fit p f true false false f.body ≡ true
+    → Takes list root end g.copy (4 + statements_words g.layout.sizes g.bytes f.body) (body_code g f)
+body_takes list root end p f g same bytes h =
+    let n = statements_words g.layout.sizes g.bytes f.body in
+    takes_more list root end g.copy (n + 3) (4 + n) (body_code g f) (omega arith)
+    (takes_on list root end g.copy n 3 (stmts_code g outside f.body) (core.Leave ∷ []) (statements_take list root end p f g same bytes outside true false false f.body h) (leave_takes list root end p f g))
+
+-- a list without selects is what taking them out leaves
+none_bare : (code : List Sym) → has_none code ≡ true → bare code ≡ code
+none_bare [] e = refl
+none_bare (s ∷ code) e = ap (λ (b : Bool). if not b then s ∷ bare code else bare code) (none_first s code e) ∙ ap (λ (l : List Sym). s ∷ l) (none_bare code (none_later s code e))
+
+-- what is counted for all of some code
+counted_all : (c n : ℕ) (code : List Sym) → ((rest : List Sym) → counted c false false (code ++ rest) ≤ n + counted c false false rest) → counted c false false code ≤ n
+counted_all c n code h =
+    let l = h [] in
+    let e = ap (counted c false false) (append_none code) in
+    omega (arith, l, e)
+  where
+    append_none : (xs : List Sym) → xs ++ [] ≡ xs
+    append_none [] = refl
+    append_none (x ∷ xs) = ap (λ l. x ∷ l) (append_none xs)
+
+-- the code of a copy's block
+module _ (p : Program) (copies : List FnCopy) (number : ℕ) (f : FunctionTree) (given : SymBlock) (is : IsProgram p) (block : IsBlockOf p copies number f given) where
+  abbrev root : Root
+  root = block.body.root
+
+  abbrev end : Ending
+  end = ending_at (handler_at copies) number
+
+  abbrev code : List Sym
+  code = some_code copies root end number [] 0 [] (body_code (ground_for p copies number root f) f)
+
+  code_is : given.list.items ≡ code
+  code_is = block.selected ∙ ap (some_code copies root end number [] 0 []) block.lowered
+
+  keeps : Keeps p f × (statements_fit p f true false false f.body ≡ true)
+  keeps = function_keeps p block.function f is block.found
+
+  code_pays : Pays number false false (block_size p.sizes f) false false code
+  code_pays = body_takes copies root end p f (ground_for p copies number root f) refl refl keeps.1 [] 0 []
+
+  pub all_counted : counted number false false given.list.items ≤ block_size p.sizes f
+  all_counted =
+      let all = counted_all number (block_size p.sizes f) code code_pays.0 in
+      let same = ap (counted number false false) code_is in
+      omega (arith, all, same)
+
+  pub all_bare : bare given.list.items ≡ given.list.items
+  all_bare = ap bare code_is ∙ none_bare code code_pays.1 ∙ sym code_is
+
+  all_lie : AllLie number (frame_size p.sizes f) (body_code (ground_for p copies number root f) f)
+  all_lie =
+      let g = ground_for p copies number root f in
+      lie_on number (frame_size p.sizes f) (stmts_code g outside f.body) (core.Leave ∷ [])
+      (statements_lie (frame_size p.sizes f) p f g (stands p copies root f number keeps.0) refl outside true false false f.body keeps.1 (calls_others p copies number block.function block.copy f root block.known block.there block.is_function block.found block.called) (base_within p copies root f)) (tt, tt)
+
+  are_in : AreIn number (frame_size p.sizes f) code
+  are_in =
+      let ts = body_code (ground_for p copies number root f) f in
+      in_trees number (frame_size p.sizes f) copies root (helpers_apart copies number block.function block.copy root block.there block.is_function) end [] 0 [] (trees_of ts) (length ts) (trees_lie number (frame_size p.sizes f) ts all_lie)
+
+  names_within : (list : List Sym) → AreIn number (frame_size p.sizes f) list → NamesWithin number (frame_size p.sizes f) list
+  names_within [] h = tt
+  names_within (s ∷ list) h = (h.0, names_within list h.1)
+
+  pub all_within : NamesWithin number (frame_size p.sizes f) given.list.items
+  all_within = subst (NamesWithin number (frame_size p.sizes f)) (sym code_is) (names_within code are_in)
+
+pub blocks_are_bare : BlocksAreBare
+blocks_are_bare p copies number f given is block = all_bare p copies number f given is block
+
+pub blocks_keep_within : BlocksKeepWithin
+blocks_keep_within p copies number f given is block = all_within p copies number f given is block
+
+pub words_are_stated : WordsAreStated
+words_are_stated p copies placed number f given made is block exact frame_is =
+    let all = all_counted p copies number f given is block in
+    let none = all_bare p copies number f given is block in
+    let banked = all_banked p placed number f frame_is given.list.items (all_within p copies number f given is block) in
+    let few = selects_are_counted placed given made number ((frame (layout_of placed) number).address / 128) exact none banked in
+    let stated : block_words p (callee.User block.function) ≡ block_size p.sizes f = ap (size_or_none (block_size p.sizes)) block.found in
+    omega (arith, all, few, stated)
