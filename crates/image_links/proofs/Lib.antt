@@ -2,3 +2,4 @@ pub mod Members
 pub mod Blocks
 pub mod Rows
 pub mod Bodies
+pub mod Numbers
