@@ -3,3 +3,4 @@ pub mod Blocks
 pub mod Rows
 pub mod Bodies
 pub mod Numbers
+pub mod Evaluated
