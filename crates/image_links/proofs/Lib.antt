@@ -4,3 +4,4 @@ pub mod Rows
 pub mod Bodies
 pub mod Numbers
 pub mod Evaluated
+pub mod Stated
