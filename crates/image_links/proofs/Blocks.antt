@@ -34,7 +34,7 @@ pub name_itself : (a : BlockName) → same_name a a ≡ true
 name_itself Start = refl
 name_itself (Copy c) = eq-eqb c c refl
 
-some_back : (x y : FnCopy) → Some x ≡ Some y → x ≡ y
+pub some_back : (x y : FnCopy) → Some x ≡ Some y → x ≡ y
 some_back x y e = ap or_x e where
   or_x : Option FnCopy → FnCopy
   or_x None = x

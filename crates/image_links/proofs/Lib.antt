@@ -5,3 +5,4 @@ pub mod Bodies
 pub mod Numbers
 pub mod Evaluated
 pub mod Stated
+pub mod Lowered
