@@ -89,6 +89,7 @@ module _ (p : Program) (f : ℕ) (l : Layout) (copy : ℕ) where
 
   mutual
     unfolding expr_code address_code arguments_code
+
     pub expression_given : (base : ℕ) (wanted : Bool) (e : Expression) → IsExpressionOf p f e → AreGiven (expr_code l copy base wanted e)
     expression_given base wanted (tree.Constant value line) h = sets_given (Frame copy base) (bits value) (bytes_of value.ty)
     expression_given base wanted (tree.Read place ty line) h =

@@ -6,3 +6,4 @@ pub mod Numbers
 pub mod Evaluated
 pub mod Stated
 pub mod Lowered
+pub mod Bare

@@ -85,6 +85,7 @@ found_in [] c b has is = absurd has
 found_in (x ∷ bodies) c b has is = by (nat_eq x.copy c) refl has (λ h. found_in bodies c b h is) where
   later : nat_eq x.copy c ≡ false → IsFound bodies c → IsFound (x ∷ bodies) c
   later e found = record { body = found.body; there = ap (λ t. if t then Some x else body_at bodies c) e ∙ found.there; among = inr found.among; number = found.number }
+
   by : (t : Bool) → nat_eq x.copy c ≡ t → Has (x ∷ bodies) b → (Has bodies b → IsFound bodies c) → IsFound (x ∷ bodies) c
   by true e h below = record { body = x; there = ap (λ t. if t then Some x else body_at bodies c) e; among = inl refl; number = eqb-true x.copy c e }
   by false e (inl same) below = let f = sym e ∙ ap (λ (y : Body). nat_eq y.copy c) same ∙ eq-eqb b.copy c is in absurd (cc)
@@ -98,6 +99,7 @@ at_is (x ∷ bodies) c body is = by (nat_eq x.copy c) is (at_is bodies c body) w
     or_y : Option Body → Body
     or_y None = y
     or_y (Some w) = w
+
   by : (t : Bool) → (if t then Some x else body_at bodies c) ≡ Some body → (body_at bodies c ≡ Some body → Has bodies body) → Has (x ∷ bodies) body
   by true e below = inl (some_body x body e)
   by false e below = inr (below e)
@@ -130,7 +132,7 @@ module _ (p : Program) (copies : List FnCopy) (runs : IsRunnable p) (bodies : Li
   unfolding core_of
   body_there c copy is user =
       let view = has_map body_of bodies (tree_for p copies (0 + c) copy.root copy.function)
-          (subst (λ bs. Has bs (tree_for p copies (0 + c) copy.root copy.function)) (sym lowered) (has_body p copies 0 copies c copy is user)) in
+      (subst (λ bs. Has bs (tree_for p copies (0 + c) copy.root copy.function)) (sym lowered) (has_body p copies 0 copies c copy is user)) in
       let z : 0 + c ≡ c = omega arith in
       let found = found_in bodies c view.0 view.1 (ap (λ (t : BodyTree). t.copy) view.2 ∙ z) in
       let o = of_body found.body found.among in
@@ -138,7 +140,7 @@ module _ (p : Program) (copies : List FnCopy) (runs : IsRunnable p) (bodies : Li
       let place : o.place ≡ c = omega arith in
       let same : copy ≡ o.copy = some_back copy o.copy (sym is ∙ ap (slice_get copies) (sym place) ∙ o.there) in
       let tree : body_of found.body ≡ tree_for p copies c copy.root copy.function =
-          o.is ∙ ap (λ n. tree_for p copies n o.copy.root o.copy.function) number ∙ ap (λ (x : FnCopy). tree_for p copies c x.root x.function) (sym same) in
+      o.is ∙ ap (λ n. tree_for p copies n o.copy.root o.copy.function) number ∙ ap (λ (x : FnCopy). tree_for p copies c x.root x.function) (sym same) in
       let code : body_in p copies c (slice_get copies c) ≡ body_for p copies c copy.root copy.function = ap (body_in p copies c) is in
       let ends = ends_for p copies c copy.root copy.function user in
       record {

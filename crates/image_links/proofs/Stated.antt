@@ -155,6 +155,7 @@ module _ (p : Program) (f : ℕ) (g : Ground) where
 
   mutual
     unfolding stmt_code stmts_code arms_code arm_code last_code segments_code
+
     statement_given : (j : Jumps) (declares leaves repeats : Bool) (s : Statement) → IsStatementOf p f declares leaves repeats s → AreGiven (stmt_code g j s)
     statement_given j d w r (tree.Block ss line) h = statements_given j true w r ss h
     statement_given j d w r (tree.Empty line) h = none
