@@ -7,3 +7,4 @@ pub mod Evaluated
 pub mod Stated
 pub mod Lowered
 pub mod Bare
+pub mod Fronts
