@@ -8,3 +8,5 @@ pub mod Stated
 pub mod Lowered
 pub mod Bare
 pub mod Fronts
+pub mod Statics
+pub mod Outside
