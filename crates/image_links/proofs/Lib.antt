@@ -10,3 +10,4 @@ pub mod Bare
 pub mod Fronts
 pub mod Statics
 pub mod Outside
+pub mod Chosen
