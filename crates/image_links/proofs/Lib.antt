@@ -11,3 +11,4 @@ pub mod Fronts
 pub mod Statics
 pub mod Outside
 pub mod Chosen
+pub mod Entered
