@@ -12,3 +12,4 @@ pub mod Statics
 pub mod Outside
 pub mod Chosen
 pub mod Entered
+pub mod Laid
