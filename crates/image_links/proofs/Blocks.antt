@@ -34,7 +34,7 @@ pub name_itself : (a : BlockName) → same_name a a ≡ true
 name_itself Start = refl
 name_itself (Copy c) = eq-eqb c c refl
 
-some_back : (x y : FnCopy) → Some x ≡ Some y → x ≡ y
+pub some_back : (x y : FnCopy) → Some x ≡ Some y → x ≡ y
 some_back x y e = ap or_x e where
   or_x : Option FnCopy → FnCopy
   or_x None = x
@@ -128,7 +128,7 @@ module _ (core : CoreProgram) (copies : List FnCopy) (blocks : List SymBlock) (j
   bodies = core.bodies.items
 
   -- a block behind the start block is that of a copy
-  is_of : (b : SymBlock) → Has joined.order b → IsOf bodies copies 0 copies (b.name, b.list.items)
+  pub is_of : (b : SymBlock) → Has joined.order b → IsOf bodies copies 0 copies (b.name, b.list.items)
   is_of b has =
       let back = has_of joined.made b (Contains-permutation joined.order joined.made b (IsPermutation-sym joined.made joined.order joined.same) (of_has joined.order b has)) in
       let view = subst (λ vs. Has vs (b.name, b.list.items)) joined.views (map_has (λ (block : SymBlock). (block.name, block.list.items)) joined.made b back) in
@@ -156,6 +156,7 @@ module _ (core : CoreProgram) (copies : List FnCopy) (blocks : List SymBlock) (j
             let place : c ≡ o.place = omega arith in
             let same : copy ≡ o.copy = some_back copy o.copy (sym is ∙ ap (slice_get copies) place ∙ o.there) in
             ap (λ (v : View). v.1) o.is ∙ ap (λ n. code_of bodies copies n o.copy.root o.copy.function) (sym number) ∙ ap (λ (x : FnCopy). code_of bodies copies c x.root x.function) (sym same)
+
         found : (b : SymBlock) × Has joined.order b × (b.name ≡ Copy c)
         found =
             let v : View = (Copy (0 + c), code_of bodies copies (0 + c) copy.root copy.function) in

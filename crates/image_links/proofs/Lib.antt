@@ -2,3 +2,14 @@ pub mod Members
 pub mod Blocks
 pub mod Rows
 pub mod Bodies
+pub mod Numbers
+pub mod Evaluated
+pub mod Stated
+pub mod Lowered
+pub mod Bare
+pub mod Fronts
+pub mod Statics
+pub mod Outside
+pub mod Chosen
+pub mod Entered
+pub mod Laid

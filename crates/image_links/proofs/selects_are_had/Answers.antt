@@ -1,0 +1,5 @@
+use Rattle.image_links.proofs.Bare.{selects_had}
+use Rattle.image_links.proofs.selects_are_had.Goals as goal
+
+pub returns : goal.returns
+returns c = selects_had
