@@ -55,7 +55,6 @@ pub fn run<H: Host>(alloc: Global, host: &mut H, known: Front, script: &Script, 
     }
 }
 
-#[tactic(auto, using(crate::proofs::TracedRun::run_begins, crate::proofs::TraceRun::begins))]
 fn run_steps<H: Host>(
     alloc: Global,
     host: &mut H,

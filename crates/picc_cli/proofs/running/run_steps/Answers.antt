@@ -1,7 +1,19 @@
-use Rattle.std.proofs.Common.{◌∙◌, arith}
-use Rattle.picc_cli.proofs.TracedRun.{run_on, run_stops, run_ends}
-use Rattle.picc_cli.proofs.TraceRun.{took, stopped, all_taken}
+use Rattle.std.proofs.Common.{◌∙◌, arith, refl}
+use Rattle.pic_map.specs.MapView.{content_of}
+use Rattle.picc_cli.proofs.TracedRun.{run_begins, run_on, run_stops, run_ends}
+use Rattle.picc_cli.proofs.TraceRun.{begins, took, stopped, all_taken}
 use Rattle.picc_cli.proofs.running.run_steps.Goals as goal
+
+pub loop-taken-init : goal.loop-taken-init
+loop-taken-init g c = record {
+  within = omega arith;
+  lines = begins (content_of c.args.map.now) _;
+  same_file = refl;
+  same_contents = refl;
+  same_kind = refl;
+  ran = λ s outside begun. run_begins s _ _ _ begun;
+  same_faults = refl;
+}
 
 pub loop-taken-preserved : goal.loop-taken-preserved
 loop-taken-preserved g c =
