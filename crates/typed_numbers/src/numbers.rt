@@ -89,8 +89,7 @@ fn see_any(expr: &Option<TExpr>)
 
 fn see_text(bytes: &[u8])
     ensures { All (λ n. n < 256) bytes.now }
-{
-}
+{}
 
 fn see_item(item: &TItem)
     ensures { stated.ItemsHaveNumbers (item_of item.now ∷ []) }
@@ -187,8 +186,7 @@ fn see_arm(arm: &TArm)
 
 fn see_byte(_byte: u8)
     ensures { _byte < 256 }
-{
-}
+{}
 
 fn see_initial(initial: &Initial)
     ensures { stated.IsInitialByte initial.now.byte }
