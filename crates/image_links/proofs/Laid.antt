@@ -42,7 +42,7 @@ is_there (x ∷ xs) zero lt = (x, refl)
 is_there (x ∷ xs) (suc n) lt = is_there xs n (omega arith)
 
 -- what two views of a list have at one index
-mapped_at : {A B C : Type 0} (f : A → B) (g : A → C) (xs : List A) (n : ℕ) (d : C) (b : B) → slice_get (map f xs) n ≡ Some b → (x : A) × (f x ≡ b) × (slice_index_or (map g xs) n d ≡ g x)
+pub mapped_at : {A B C : Type 0} (f : A → B) (g : A → C) (xs : List A) (n : ℕ) (d : C) (b : B) → slice_get (map f xs) n ≡ Some b → (x : A) × (f x ≡ b) × (slice_index_or (map g xs) n d ≡ g x)
 mapped_at f g [] n d b is = absurd (cc)
 mapped_at f g (x ∷ xs) zero d b is = (x, some_is (f x) b is, refl)
 mapped_at f g (x ∷ xs) (suc n) d b is = mapped_at f g xs n d b is
@@ -91,7 +91,7 @@ whole : (taken : ℕ → Type 0) (size address : ℕ) → Stands taken size addr
 whole taken zero address stands = ap (λ a. is_whole a 0) (stands.0 refl)
 whole taken (suc size) address stands = lowest_whole taken (suc size) address (stands.1 (omega arith))
 
-frame_range : content.FrameLine → FrameRange
+abbrev pub frame_range : content.FrameLine → FrameRange
 frame_range line = record { root = line.root; address = line.address; size = line.size }
 
 bytes_long : (is : List Initial) (n : ℕ) → length (bytes_in is n) ≡ n
@@ -154,7 +154,6 @@ module _ (p : Program) (copies : List FnCopy) (placed : Placed) (placing : IsPla
     in_bank : is_whole address (sizes.frame_bytes p copy.function) ≡ true
 
   frame_at : (c : ℕ) (copy : FnCopy) → slice_get copies c ≡ Some copy → FrameStands c copy
-  unfolding frame_range
   frame_at c copy is =
       let lt : c < length copies = slice_get_within copies c copy is in
       let each = placing.each_frame in
@@ -168,10 +167,10 @@ module _ (p : Program) (copies : List FnCopy) (placed : Placed) (placing : IsPla
         in_bank = whole taken (sizes.frame_bytes p copy.function) line.0.address (subst (λ size. Stands taken size line.0.address) (ap (λ (x : content.FrameLine). x.size) here.0) here.1);
       }
 
-  objects_long : length (layout_of placed).objects ≡ length p.statics
+  pub objects_long : length (layout_of placed).objects ≡ length p.statics
   objects_long = length-map placed.objects.items places.range_of ∙ sym (length-map placed.objects.items object_of) ∙ placing.each_object
 
-  frames_long : length (layout_of placed).frames ≡ length copies
+  pub frames_long : length (layout_of placed).frames ≡ length copies
   frames_long = length-map placed.frames.items places.frame_of ∙ sym (length-map placed.frames.items frame_of) ∙ placing.each_frame
 
   -- each object stands whole in a bank, and so does each frame

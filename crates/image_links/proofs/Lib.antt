@@ -13,3 +13,4 @@ pub mod Outside
 pub mod Chosen
 pub mod Entered
 pub mod Laid
+pub mod Apart
