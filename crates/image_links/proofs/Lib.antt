@@ -14,3 +14,4 @@ pub mod Chosen
 pub mod Entered
 pub mod Laid
 pub mod Apart
+pub mod Had
