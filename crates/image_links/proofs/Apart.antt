@@ -1,8 +1,7 @@
 -- Objects and frames that may be live at the same time have no byte in common.
-use Rattle.std.proofs.Common.{◌≡◌, ◌≢◌, ℕ, zero, suc, ◌+◌, ◌<◌, ◌≤◌, ◌⊎◌, inl, inr, Bool, true, false, not, ◌&&◌, ◌||◌, nat_le, nat_lt, List, map, length, take, Option, Some, None, refl, sym, ap, ◌∙◌, subst, arith}
+use Rattle.std.proofs.Common.{◌≡◌, ℕ, zero, suc, ◌+◌, ◌<◌, ◌≤◌, inl, inr, Bool, true, false, not, ◌||◌, nat_le, nat_lt, List, map, length, take, Some, refl, sym, ap, ◌∙◌, arith}
 use Rattle.std.specs.Prelude.{slice_get}
 use Rattle.std.proofs.lemmas.Bool.{le-leb, lt-ltb, leb-true, leb-false}
-use Rattle.std.proofs.lemmas.Option.{slice_get_within}
 use Rattle.c_typed.specs.Chains.{graph_of, number_of, Reaches}
 use Rattle.c_typed.specs.Trees.{Program}
 use Rattle.call_graph.specs.declared.types.FnCopy.{FnCopy}
@@ -13,7 +12,7 @@ use Rattle.pic_map.specs.declared.Placed.{Placed}
 use Rattle.pic_world.specs.Roots.{same_root}
 use Rattle.pic_world.specs.declared.Root.{Root}
 use Rattle.pic_world.specs.declared.Root.TheVariants.{Main, Isr}
-use Rattle.ram_place.specs.Memory.{AreDisjoint, Stands, IsLowest, regions, covers}
+use Rattle.ram_place.specs.Memory.{AreDisjoint, Stands, IsLowest, regions}
 use Rattle.ram_place.specs.Placement.{IsPlacing, IsTaken, IsTakenFor, MayBeLive, LiveFramesAreDisjoint, FramesAreClear, ObjectsAreDisjoint}
 use Rattle.sym_code.specs.Layout.{FrameRange, IsLaidOut, no_range, no_frame, object, frame, are_apart, may_meet}
 use Rattle.code_place.specs.Layouts as places

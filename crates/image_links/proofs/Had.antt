@@ -1,5 +1,5 @@
 -- What follows of the clauses of the passes, put together.
-use Rattle.std.proofs.Common.{◌≡◌, sym, ap, ◌∙◌, subst}
+use Rattle.std.proofs.Common.{sym, subst}
 use Rattle.std.specs.Prelude.{List}
 use Rattle.call_graph.specs.Numbers.{handler_at}
 use Rattle.chip_trace.specs.Arriving.{HasVectorFor, HasHalt}

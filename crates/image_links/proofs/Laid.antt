@@ -1,5 +1,5 @@
 -- The layout that the placing makes is one of the program's objects and copies, and each object and frame stands whole in a bank.
-use Rattle.std.proofs.Common.{◌≡◌, ℕ, zero, suc, ◌+◌, ◌<◌, ◌≤◌, ◌⊎◌, inl, inr, Bool, true, false, not, ◌&&◌, ◌||◌, List, [], ◌∷◌, ◌++◌, map, length, take, Option, Some, None, refl, sym, ap, ◌∙◌, subst, ⊎_elim, arith}
+use Rattle.std.proofs.Common.{◌≡◌, ℕ, zero, suc, ◌+◌, ◌<◌, ◌≤◌, inl, inr, Bool, true, false, not, ◌||◌, List, [], ◌∷◌, map, length, take, Option, Some, None, refl, sym, ap, ◌∙◌, subst, arith}
 use Rattle.std.specs.Prelude.{slice_get, slice_index_or}
 use Rattle.std.proofs.lemmas.Bool.{le-leb}
 use Rattle.std.proofs.lemmas.List.{length-append, length-map}
@@ -13,9 +13,7 @@ use Rattle.c_typed.specs.declared.calls.Helper.{Helper}
 use Rattle.c_typed.specs.declared.calls.Helper.TheVariants.{Mul2, Mul4, Divu2, Divs2, Remu2, Rems2, Divu4, Divs4, Remu4, Rems4, Shl2, Shru2, Shrs2, Shl4, Shru4, Shrs4}
 use Rattle.c_typed.specs.declared.program.Initial.{Initial}
 use Rattle.call_graph.specs.declared.types.FnCopy.{FnCopy}
-use Rattle.core_code.specs.Bytes.{Held}
 use Rattle.core_code.specs.FirstBytes.{first_held}
-use Rattle.core_code.specs.declared.code.FirstByte.{FirstByte}
 use Rattle.lower_stmt.specs.Bodies.{first_bytes}
 use Rattle.lower_stmt.specs.FirstBytes.{byte_at, bytes_in, static_bytes}
 use Rattle.lower_stmt.specs.Programs.{size_or_none, function_in, function_at, isnt_const, root_in, statics_held, core_of}
@@ -24,12 +22,11 @@ use Rattle.pic_chip.specs.Run.{Range}
 use Rattle.pic_map.specs.MapContent as content
 use Rattle.pic_map.specs.MapView.{object_of, frame_of}
 use Rattle.pic_map.specs.declared.Placed.{Placed}
-use Rattle.pic_world.specs.declared.Root.{Root}
 use Rattle.ram_place.specs.Helpers as helpers
-use Rattle.ram_place.specs.Memory.{Stands, IsIn, IsLowest, IsLowestIn, regions}
-use Rattle.ram_place.specs.Placement.{IsPlacing, IsTaken, IsTakenFor, object_line, frame_line}
+use Rattle.ram_place.specs.Memory.{Stands, IsLowest, regions}
+use Rattle.ram_place.specs.Placement.{IsPlacing, IsTaken, IsTakenFor}
 use Rattle.ram_place.specs.Sizes as sizes
-use Rattle.sym_code.specs.Layout.{FrameRange, DataLayout, IsOf, no_range, no_frame, object, frame, lies_in, is_whole}
+use Rattle.sym_code.specs.Layout.{FrameRange, IsOf, no_range, no_frame, object, frame, lies_in, is_whole}
 use Rattle.code_place.specs.Layouts as places
 use Rattle.code_place.specs.Layouts.{layout_of}
 use Rattle.image_links.proofs.Numbers.{and_true}
