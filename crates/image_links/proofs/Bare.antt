@@ -1,5 +1,5 @@
 -- Blocks as they were selected have no selects, and taken out of those with selects they leave them.
-use Rattle.std.proofs.Common.{◌≡◌, ℕ, zero, suc, ◌+◌, inl, inr, Bool, true, false, not, ◌&&◌, nat_eq, if◌then◌else◌, List, [], ◌∷◌, ◌++◌, map, length, Option, Some, None, refl, sym, ap, ◌∙◌, subst}
+use Rattle.std.proofs.Common.{◌≡◌, ℕ, ◌+◌, inl, inr, Bool, true, false, not, ◌&&◌, nat_eq, if◌then◌else◌, List, [], ◌∷◌, ◌++◌, Option, Some, None, refl, sym, ap, ◌∙◌, subst}
 use Rattle.std.specs.Global.{Global}
 use Rattle.std.specs.declared.vec.Vec.{Vec}
 use Rattle.c_typed.specs.declared.calls.FnId.{FnId}
@@ -30,13 +30,12 @@ use Rattle.sym_code.specs.declared.code.Sym.TheVariants as syms
 use Rattle.sym_code.specs.declared.code.SymBlock.{SymBlock}
 use Rattle.bank_page.specs.Selected.{names_of, bare_lists}
 use Rattle.src_rules.proofs.Starts.{sound_runs}
-use Rattle.image_links.specs.Passed.{code_of, IsPassed, SelectsAreHad}
-use Rattle.image_links.specs.Plain.{is_plain, all_plain, all_given}
+use Rattle.image_links.specs.Passed.{code_of, SelectsAreHad}
+use Rattle.image_links.specs.Plain.{all_plain, all_given}
 use Rattle.image_links.proofs.Blocks.{is_of}
 use Rattle.image_links.proofs.Bodies.{body_plain, helper_plain}
 use Rattle.image_links.proofs.Lowered.{each_given}
 use Rattle.image_links.proofs.Members.{Has}
-use Rattle.image_links.proofs.Numbers.{and_true}
 use Rattle.image_links.proofs.Rows.{Plain, wide_plain}
 
 -- ---- lists whose instructions all pass a test

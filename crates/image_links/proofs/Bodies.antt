@@ -1,23 +1,21 @@
 -- What is selected for a body is plain code.
-use Rattle.std.proofs.Common.{◌≡◌, ℕ, zero, suc, ◌+◌, Bool, true, false, ◌&&◌, List, [], ◌∷◌, ◌++◌, length, Option, Some, None, refl, sym, ap, ◌∙◌}
-use Rattle.std.specs.Prelude.{cond, option_map, slice_get}
+use Rattle.std.proofs.Common.{◌≡◌, ℕ, zero, suc, ◌+◌, Bool, true, false, ◌&&◌, List, [], ◌∷◌, ◌++◌, length, Option, Some, None, refl}
+use Rattle.std.specs.Prelude.{cond, option_map}
 use Rattle.std.proofs.lemmas.Bool.{ltb-true}
 use Rattle.core_code.specs.Tree as trees
 use Rattle.core_code.specs.Tree.{Tree, Trees, list_of, trees_of}
-use Rattle.core_code.specs.declared.code.Byte.{Byte}
 use Rattle.c_typed.specs.declared.calls.Helper.{Helper}
 use Rattle.c_typed.specs.declared.calls.Helper.TheVariants.{Mul2, Mul4, Divu2, Divs2, Remu2, Rems2, Divu4, Divs4, Remu4, Rems4, Shl2, Shru2, Shrs2, Shl4, Shru4, Shrs4}
 use Rattle.math_helpers.specs.Routines.{helper_code}
 use Rattle.pic_world.specs.declared.Root.{Root}
 use Rattle.select_code.specs.Pieces.{first_label, second_label, label_code, goto_code, jump_code, test_code}
-use Rattle.select_code.specs.Selected.{Given, IfForm, Jumps, Half, Whole, leave_code, goes_to, jump_target, if_form, if_code, turned, loop_code, short_turn, single_code, code_of, first_code, parts_code, body_code}
+use Rattle.select_code.specs.Selected.{Given, IfForm, Jumps, Half, Whole, leave_code, goes_to, jump_target, if_form, if_code, turned, loop_code, short_turn, code_of, first_code, parts_code, body_code}
 use Rattle.select_code.specs.Sized.{is_cut}
 use Rattle.select_code.specs.declared.control.Ending.{Ending}
 use Rattle.select_code.specs.declared.control.Ending.TheVariants as endings
 use Rattle.sym_code.specs.declared.code.Label.{Label}
-use Rattle.sym_code.specs.declared.code.Label.TheVariants as labels
 use Rattle.sym_code.specs.declared.code.Sym.{Sym}
-use Rattle.image_links.specs.Plain.{is_plain, all_plain, is_given, all_given}
+use Rattle.image_links.specs.Plain.{is_given, all_given}
 use Rattle.image_links.proofs.Rows.{Plain, joined, set_plain, test_plain}
 
 both : (a b : Bool) → (a && b) ≡ true → (a ≡ true) × (b ≡ true)

@@ -1,11 +1,11 @@
 -- The first copy under a root is that of the root's own function.
-use Rattle.std.proofs.Common.{◌≡◌, ℕ, zero, suc, ◌+◌, ◌<◌, ◌≤◌, ◌⊎◌, inl, inr, Bool, true, false, nat_lt, List, [], ◌∷◌, length, Option, Some, None, refl, sym, ap, ◌∙◌, subst, ⊎_elim, arith}
+use Rattle.std.proofs.Common.{◌≡◌, ℕ, zero, suc, ◌<◌, ◌≤◌, inl, inr, Bool, true, false, nat_lt, List, [], ◌∷◌, length, Some, refl, sym, ap, ◌∙◌, subst, arith}
 use Rattle.std.specs.Prelude.{slice_get, slice_index_or}
 use Rattle.std.specs.List.{Contains}
 use Rattle.std.proofs.lemmas.Bool.{ltb-true, ltb-false}
 use Rattle.std.proofs.lemmas.List.Quantifiers.{position-Some}
 use Rattle.std.proofs.lemmas.Option.{slice_get_within}
-use Rattle.c_typed.specs.Chains.{graph_of, number_of, helper_number, IsChain, IsLevel}
+use Rattle.c_typed.specs.Chains.{graph_of, number_of, IsChain, IsLevel}
 use Rattle.c_typed.specs.Trees.{Program}
 use Rattle.c_typed.specs.declared.calls.FnId.{FnId}
 use Rattle.c_typed.specs.declared.calls.FnId.TheVariants as callees

@@ -1,5 +1,5 @@
 -- Byte code of an expression of a sound program sets bytes alone.
-use Rattle.std.proofs.Common.{◌≡◌, ℕ, zero, suc, ◌+◌, ◌<◌, Bool, true, false, ◌&&◌, nat_eq, nat_lt, if◌then◌else◌, List, [], ◌∷◌, ◌++◌, Option, Some, None, is_some, min, refl, sym, ap, ◌∙◌, arith}
+use Rattle.std.proofs.Common.{◌≡◌, ℕ, ◌+◌, Bool, true, false, ◌&&◌, nat_eq, nat_lt, if◌then◌else◌, List, [], ◌∷◌, ◌++◌, Some, None, is_some, min, refl, sym, ap, ◌∙◌, arith}
 use Rattle.std.proofs.lemmas.Bool.{eqb-true, lt-ltb}
 use Rattle.c_ints.specs.Range.{bytes_of}
 use Rattle.c_typed.specs.Fits.{place_rule_holds, is_named, is_device, register_type}
@@ -16,7 +16,7 @@ use Rattle.core_code.specs.declared.code.Byte.{Byte}
 use Rattle.core_code.specs.declared.code.Byte.TheVariants.{Static, Frame, Result, Device}
 use Rattle.lower_expr.specs.Bytes.{behind, beyond, little_beyond, operation_type}
 use Rattle.lower_expr.specs.Layout.{Layout, width, value_width, place_width, object_byte, copy_of}
-use Rattle.lower_expr.specs.Lowering.{pointer_code, behind_pointer, shifts_by_constant, change_code, is_pointer, arguments_width, update_of, step_of, expr_code, address_code, arguments_code}
+use Rattle.lower_expr.specs.Lowering.{behind_pointer, shifts_by_constant, change_code, is_pointer, arguments_width, expr_code, address_code, arguments_code}
 use Rattle.lower_expr.specs.Puts.{choice}
 use Rattle.lower_expr.specs.Rows.{tested, logical_row, step_number}
 use Rattle.lower_expr.specs.Spots.{spot_of, member_spot}
@@ -25,7 +25,6 @@ use Rattle.lower_expr.specs.declared.places.Spot.TheVariants.{Fixed, Bit, Comput
 use Rattle.pic_world.specs.Registers.{Register, registers, name_in}
 use Rattle.src_rules.specs.Parts.{IsExpressionOf, AreArgumentsOf, IsPlaceOf, ObeysIn}
 use Rattle.chip_trace.specs.Arriving.{is_near}
-use Rattle.image_links.specs.Plain.{is_given}
 use Rattle.image_links.proofs.Numbers.{AreGiven, IsNearSpot, none, one, join, sets_given, choice_given, widened_given, tested_given, unary_given, logical_given, binary_given, offset_given, difference_given, member_given, pointer_given, address_given, value_given, assigned_given, update_given, step_given, called_given, struct_given}
 
 -- ---- registers

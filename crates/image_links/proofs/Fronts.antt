@@ -1,6 +1,6 @@
 -- The start block with its selects: it is the first, the vector stands behind four words, and where main has ended it goes back to
 -- where it is.
-use Rattle.std.proofs.Common.{◌≡◌, ℕ, zero, suc, ◌+◌, ◌≤◌, Bool, true, false, not, ◌&&◌, ◌||◌, nat_eq, if◌then◌else◌, List, [], ◌∷◌, ◌++◌, length, Option, Some, None, refl, sym, ap, ◌∙◌, subst, arith}
+use Rattle.std.proofs.Common.{◌≡◌, ℕ, ◌+◌, Bool, true, false, not, ◌&&◌, nat_eq, if◌then◌else◌, List, [], ◌∷◌, ◌++◌, Option, Some, None, refl, sym, ap, ◌∙◌, subst, arith}
 use Rattle.std.specs.Option.{option_or}
 use Rattle.std.specs.Prelude.{slice_get}
 use Rattle.std.specs.Global.{Global}
@@ -15,7 +15,7 @@ use Rattle.core_code.specs.declared.code.Byte.TheVariants as bytes
 use Rattle.core_code.specs.declared.code.CoreProgram.{CoreProgram}
 use Rattle.core_code.specs.declared.code.FirstByte.{FirstByte}
 use Rattle.core_code.specs.declared.code.FirstByte.TheVariants as firsts
-use Rattle.isr_save.specs.Start.{saving, restoring, vector, byte_code, object_code, objects_code, start_code, reset, main, literal}
+use Rattle.isr_save.specs.Start.{vector, byte_code, object_code, objects_code, start_code, reset, main, literal}
 use Rattle.pic_map.specs.declared.Placed.{Placed}
 use Rattle.program_code.specs.Joined.{IsJoined}
 use Rattle.sym_code.specs.Programs.{block_in, same_name, same_label, label_from}
@@ -42,7 +42,6 @@ use Rattle.bank_page.specs.declared.selecting.State.{State}
 use Rattle.chip_trace.specs.Arriving.{HasVector, HasVectorFor, HasHalt}
 use Rattle.code_place.specs.Places.{block_place, first_place, at_if}
 use Rattle.image_links.proofs.Bare.{all_are, are_joined}
-use Rattle.image_links.proofs.Numbers.{and_true}
 
 -- ---- the first block
 pub record IsStartBlock (placed : Placed) (code : List Sym) (made : List SymBlock) : Type 0 where

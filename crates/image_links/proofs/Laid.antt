@@ -1,5 +1,5 @@
 -- The layout that the placing makes is one of the program's objects and copies, and each object and frame stands whole in a bank.
-use Rattle.std.proofs.Common.{◌≡◌, ℕ, zero, suc, ◌+◌, ◌<◌, ◌≤◌, ◌⊎◌, inl, inr, Bool, true, false, not, ◌&&◌, ◌||◌, List, [], ◌∷◌, ◌++◌, map, length, take, Option, Some, None, refl, sym, ap, ◌∙◌, subst, ⊎_elim, arith}
+use Rattle.std.proofs.Common.{◌≡◌, ℕ, zero, suc, ◌+◌, ◌<◌, ◌≤◌, inl, inr, Bool, true, false, not, ◌||◌, List, [], ◌∷◌, map, length, take, Option, Some, None, refl, sym, ap, ◌∙◌, subst, arith}
 use Rattle.std.specs.Prelude.{slice_get, slice_index_or}
 use Rattle.std.proofs.lemmas.Bool.{le-leb}
 use Rattle.std.proofs.lemmas.List.{length-append, length-map}
@@ -13,9 +13,7 @@ use Rattle.c_typed.specs.declared.calls.Helper.{Helper}
 use Rattle.c_typed.specs.declared.calls.Helper.TheVariants.{Mul2, Mul4, Divu2, Divs2, Remu2, Rems2, Divu4, Divs4, Remu4, Rems4, Shl2, Shru2, Shrs2, Shl4, Shru4, Shrs4}
 use Rattle.c_typed.specs.declared.program.Initial.{Initial}
 use Rattle.call_graph.specs.declared.types.FnCopy.{FnCopy}
-use Rattle.core_code.specs.Bytes.{Held}
 use Rattle.core_code.specs.FirstBytes.{first_held}
-use Rattle.core_code.specs.declared.code.FirstByte.{FirstByte}
 use Rattle.lower_stmt.specs.Bodies.{first_bytes}
 use Rattle.lower_stmt.specs.FirstBytes.{byte_at, bytes_in, static_bytes}
 use Rattle.lower_stmt.specs.Programs.{size_or_none, function_in, function_at, isnt_const, root_in, statics_held, core_of}
@@ -24,12 +22,11 @@ use Rattle.pic_chip.specs.Run.{Range}
 use Rattle.pic_map.specs.MapContent as content
 use Rattle.pic_map.specs.MapView.{object_of, frame_of}
 use Rattle.pic_map.specs.declared.Placed.{Placed}
-use Rattle.pic_world.specs.declared.Root.{Root}
 use Rattle.ram_place.specs.Helpers as helpers
-use Rattle.ram_place.specs.Memory.{Stands, IsIn, IsLowest, IsLowestIn, regions}
-use Rattle.ram_place.specs.Placement.{IsPlacing, IsTaken, IsTakenFor, object_line, frame_line}
+use Rattle.ram_place.specs.Memory.{Stands, IsLowest, regions}
+use Rattle.ram_place.specs.Placement.{IsPlacing, IsTaken, IsTakenFor}
 use Rattle.ram_place.specs.Sizes as sizes
-use Rattle.sym_code.specs.Layout.{FrameRange, DataLayout, IsOf, no_range, no_frame, object, frame, lies_in, is_whole}
+use Rattle.sym_code.specs.Layout.{FrameRange, IsOf, no_range, no_frame, object, frame, lies_in, is_whole}
 use Rattle.code_place.specs.Layouts as places
 use Rattle.code_place.specs.Layouts.{layout_of}
 use Rattle.image_links.proofs.Numbers.{and_true}
@@ -42,7 +39,7 @@ is_there (x ∷ xs) zero lt = (x, refl)
 is_there (x ∷ xs) (suc n) lt = is_there xs n (omega arith)
 
 -- what two views of a list have at one index
-mapped_at : {A B C : Type 0} (f : A → B) (g : A → C) (xs : List A) (n : ℕ) (d : C) (b : B) → slice_get (map f xs) n ≡ Some b → (x : A) × (f x ≡ b) × (slice_index_or (map g xs) n d ≡ g x)
+pub mapped_at : {A B C : Type 0} (f : A → B) (g : A → C) (xs : List A) (n : ℕ) (d : C) (b : B) → slice_get (map f xs) n ≡ Some b → (x : A) × (f x ≡ b) × (slice_index_or (map g xs) n d ≡ g x)
 mapped_at f g [] n d b is = absurd (cc)
 mapped_at f g (x ∷ xs) zero d b is = (x, some_is (f x) b is, refl)
 mapped_at f g (x ∷ xs) (suc n) d b is = mapped_at f g xs n d b is
@@ -91,7 +88,7 @@ whole : (taken : ℕ → Type 0) (size address : ℕ) → Stands taken size addr
 whole taken zero address stands = ap (λ a. is_whole a 0) (stands.0 refl)
 whole taken (suc size) address stands = lowest_whole taken (suc size) address (stands.1 (omega arith))
 
-frame_range : content.FrameLine → FrameRange
+abbrev pub frame_range : content.FrameLine → FrameRange
 frame_range line = record { root = line.root; address = line.address; size = line.size }
 
 bytes_long : (is : List Initial) (n : ℕ) → length (bytes_in is n) ≡ n
@@ -154,7 +151,6 @@ module _ (p : Program) (copies : List FnCopy) (placed : Placed) (placing : IsPla
     in_bank : is_whole address (sizes.frame_bytes p copy.function) ≡ true
 
   frame_at : (c : ℕ) (copy : FnCopy) → slice_get copies c ≡ Some copy → FrameStands c copy
-  unfolding frame_range
   frame_at c copy is =
       let lt : c < length copies = slice_get_within copies c copy is in
       let each = placing.each_frame in
@@ -168,10 +164,10 @@ module _ (p : Program) (copies : List FnCopy) (placed : Placed) (placing : IsPla
         in_bank = whole taken (sizes.frame_bytes p copy.function) line.0.address (subst (λ size. Stands taken size line.0.address) (ap (λ (x : content.FrameLine). x.size) here.0) here.1);
       }
 
-  objects_long : length (layout_of placed).objects ≡ length p.statics
+  pub objects_long : length (layout_of placed).objects ≡ length p.statics
   objects_long = length-map placed.objects.items places.range_of ∙ sym (length-map placed.objects.items object_of) ∙ placing.each_object
 
-  frames_long : length (layout_of placed).frames ≡ length copies
+  pub frames_long : length (layout_of placed).frames ≡ length copies
   frames_long = length-map placed.frames.items places.frame_of ∙ sym (length-map placed.frames.items frame_of) ∙ placing.each_frame
 
   -- each object stands whole in a bank, and so does each frame

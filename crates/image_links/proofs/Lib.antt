@@ -13,3 +13,5 @@ pub mod Outside
 pub mod Chosen
 pub mod Entered
 pub mod Laid
+pub mod Apart
+pub mod Had

@@ -1,5 +1,5 @@
 -- Code with its selects: numbers fit into their literals, and no code of a copy goes to the start block.
-use Rattle.std.proofs.Common.{◌≡◌, ℕ, zero, suc, ◌+◌, ◌<◌, inl, inr, Bool, true, false, not, ◌&&◌, nat_eq, nat_lt, if◌then◌else◌, List, [], ◌∷◌, ◌++◌, map, length, Option, Some, None, refl, sym, ap, ◌∙◌, subst, arith}
+use Rattle.std.proofs.Common.{◌≡◌, ℕ, zero, suc, ◌+◌, inl, inr, Bool, true, false, not, ◌&&◌, nat_eq, if◌then◌else◌, List, [], ◌∷◌, ◌++◌, map, Option, Some, None, refl, sym, ap, ◌∙◌, subst}
 use Rattle.std.specs.Prelude.{slice_get}
 use Rattle.std.specs.Global.{Global}
 use Rattle.std.specs.declared.vec.Vec.{Vec}
@@ -21,7 +21,7 @@ use Rattle.select_wide.specs.Blocks.{body_at}
 use Rattle.sym_code.specs.Programs.{block_in, same_name}
 use Rattle.sym_code.specs.Selects.{is_select, bare}
 use Rattle.sym_code.specs.declared.code.BlockName.{BlockName}
-use Rattle.sym_code.specs.declared.code.BlockName.TheVariants.{Start, Copy}
+use Rattle.sym_code.specs.declared.code.BlockName.TheVariants.{Copy}
 use Rattle.sym_code.specs.declared.code.Label.TheVariants as labels
 use Rattle.sym_code.specs.declared.code.Literal.TheVariants as values
 use Rattle.sym_code.specs.declared.code.Operand.TheVariants as operands
@@ -29,8 +29,7 @@ use Rattle.sym_code.specs.declared.code.Sym.{Sym}
 use Rattle.sym_code.specs.declared.code.Sym.TheVariants as syms
 use Rattle.sym_code.specs.declared.code.SymBlock.{SymBlock}
 use Rattle.chip_trace.specs.Arriving.{is_small, keeps_out}
-use Rattle.image_links.specs.Passed.{code_of}
-use Rattle.image_links.specs.Plain.{is_plain, all_plain, all_given}
+use Rattle.image_links.specs.Plain.{all_plain, all_given}
 use Rattle.image_links.proofs.Bare.{all_are, are_joined, in_blocks, code_plain}
 use Rattle.image_links.proofs.Blocks.{is_of}
 use Rattle.image_links.proofs.Members.{Has}

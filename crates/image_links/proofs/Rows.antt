@@ -1,6 +1,6 @@
 -- What is selected for an operation is plain code.
-use Rattle.std.proofs.Common.{◌≡◌, ℕ, zero, suc, ◌+◌, ◌-◌, ◌/◌, ◌%◌, ◌<◌, Bool, true, false, not, ◌&&◌, nat_eq, nat_lt, if◌then◌else◌, List, [], ◌∷◌, ◌++◌, length, Option, Some, None, refl, sym, ap, ◌∙◌, subst, arith}
-use Rattle.std.specs.Prelude.{cond, option_map, slice_get}
+use Rattle.std.proofs.Common.{◌≡◌, ℕ, zero, suc, ◌-◌, ◌/◌, ◌%◌, ◌<◌, Bool, true, false, ◌&&◌, nat_eq, if◌then◌else◌, List, [], ◌∷◌, ◌++◌, Option, Some, None, refl, ap, arith}
+use Rattle.std.specs.Prelude.{cond}
 use Rattle.std.proofs.Math.Dec.{ltb}
 use Rattle.std.proofs.lemmas.Bool.{lt-ltb}
 use Rattle.c_ints.specs.Range.{bytes_of}
@@ -19,16 +19,16 @@ use Rattle.core_code.specs.Tree.{Tree, Trees}
 use Rattle.core_code.specs.declared.code.Byte.{Byte}
 use Rattle.core_code.specs.declared.code.Byte.TheVariants.{Frame, Result}
 use Rattle.pic_world.specs.declared.Root.{Root}
-use Rattle.select_code.specs.Pieces.{set_code, copy_code, ors_code, test_code, clear_code, number_code, store_code, is_clearable, byte_behind}
-use Rattle.select_wide.specs.Calls.{helper_call_code, copy_call_code, any_call_code, helped_code}
-use Rattle.select_wide.specs.Comparisons.{difference_bits_code, differences_code, equality_code, signs_code, links_code, order_code}
+use Rattle.select_code.specs.Pieces.{set_code, ors_code, test_code, clear_code, number_code, store_code, is_clearable, byte_behind}
+use Rattle.select_wide.specs.Calls.{helper_call_code, copy_call_code, any_call_code}
+use Rattle.select_wide.specs.Comparisons.{differences_code, equality_code, signs_code, links_code, order_code}
 use Rattle.select_wide.specs.Moves.{copies_code, stores_code, clears_code}
-use Rattle.select_wide.specs.Pieces.{rising, choice_code, truth_code, sign_code}
-use Rattle.select_wide.specs.Pointers.{address_code, load_byte_code, load_code, store_byte_code, store_all_code, advance_code}
+use Rattle.select_wide.specs.Pieces.{rising, choice_code, truth_code}
+use Rattle.select_wide.specs.Pointers.{address_code, load_code, store_all_code, advance_code}
 use Rattle.select_wide.specs.Selection.{way_of, shifted_code, binary_code, wide_code}
-use Rattle.select_wide.specs.Shifts.{raised_code, bytes_up_code, bytes_down_code, bytes_way_code, bytes_code, bit_up_code, bit_down_code, bit_shift_code, bit_shifts_code, in_place_code, moved_code, shift_code}
+use Rattle.select_wide.specs.Shifts.{raised_code, bytes_down_code, bytes_way_code, bytes_code, bit_shift_code, in_place_code, moved_code, shift_code}
 use Rattle.select_wide.specs.Single.{is_signed, complement_code, increment_byte_code, increment_code, bang_code, unary_code, widening_code}
-use Rattle.select_wide.specs.Sums.{link_code, apart_code, chain_byte_code, chain_code, sum_code, bits_byte_code, bits_at_code, bits_code}
+use Rattle.select_wide.specs.Sums.{link_code, apart_code, chain_code, sum_code, bits_code}
 use Rattle.select_wide.specs.declared.operands.Chain.{Chain}
 use Rattle.select_wide.specs.declared.operands.Chain.TheVariants.{Sum, Difference}
 use Rattle.select_wide.specs.declared.operands.Way.{Way}

@@ -1,5 +1,5 @@
 -- Byte code of the statements of a sound program, and of each body, sets bytes alone.
-use Rattle.std.proofs.Common.{◌≡◌, ℕ, zero, suc, ◌+◌, ◌-◌, ◌*◌, ◌<◌, Bool, true, false, ◌&&◌, nat_eq, nat_lt, if◌then◌else◌, List, [], ◌∷◌, ◌++◌, length, Option, Some, None, refl, sym, ap, ◌∙◌, subst, arith}
+use Rattle.std.proofs.Common.{◌≡◌, ℕ, zero, suc, ◌+◌, ◌-◌, ◌<◌, Bool, true, false, ◌&&◌, if◌then◌else◌, List, [], ◌∷◌, ◌++◌, length, Option, Some, None, refl, ap, subst, arith}
 use Rattle.std.specs.Prelude.{slice_get, slice_index, slice_index_or}
 use Rattle.std.specs.List.{All}
 use Rattle.std.proofs.lemmas.Bool.{lt-ltb}
@@ -25,10 +25,10 @@ use Rattle.lower_expr.specs.Lowering.{address_code}
 use Rattle.lower_expr.specs.Puts.{choice, test_size}
 use Rattle.lower_expr.specs.Spots.{spot_of}
 use Rattle.lower_expr.specs.declared.places.Spot.TheVariants.{Fixed}
-use Rattle.lower_stmt.specs.Bodies.{body_code, code_of}
-use Rattle.lower_stmt.specs.Declarators.{scalar_code, text_code, struct_code, item_code, items_code, is_covered, rest_code, list_code}
+use Rattle.lower_stmt.specs.Bodies.{code_of}
+use Rattle.lower_stmt.specs.Declarators.{scalar_code, text_code, item_code, items_code, is_covered, rest_code}
 use Rattle.lower_stmt.specs.Frames.{ground_for}
-use Rattle.lower_stmt.specs.Ground.{Ground, first, temporary, result_byte, local_byte, local_bytes, width, value_code, effect_code}
+use Rattle.lower_stmt.specs.Ground.{Ground, first, temporary, result_byte, local_byte, local_bytes, width, value_code}
 use Rattle.lower_stmt.specs.Jumps.{outside, in_segment}
 use Rattle.lower_stmt.specs.Labels.{labels_of, has, segments_before}
 use Rattle.lower_stmt.specs.Programs.{body_for, body_in}
@@ -36,7 +36,6 @@ use Rattle.lower_stmt.specs.Statements.{any_code, condition_code, once, jumps_in
 use Rattle.lower_stmt.specs.Switches.{case_code, cases_code, comparisons, Segments, no_segments, cut, joined, begun_with, nest, around, for_labels}
 use Rattle.lower_stmt.specs.declared.jumps.Jumps.{Jumps}
 use Rattle.pic_world.specs.declared.Root.{Root}
-use Rattle.src_rules.specs.Parts as parts
 use Rattle.src_rules.specs.Parts.{IsExpressionOf, AnyIsOf, AnyConditionIsOf, IsItemOf, AreItemsOf, IsReturnOf, IsStatementOf, AreStatementsOf, IsArmOf, AreArmsOf, IsLastOf, IsRunnable}
 use Rattle.src_values.specs.Objects.{function_at, or_no_function}
 use Rattle.select_wide.specs.Links.{sets_bytes, all_set_bytes}

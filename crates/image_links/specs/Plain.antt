@@ -1,5 +1,5 @@
 -- Code that is selected for the body of a copy: no select stands in it, each literal is a byte, and it doesn't go to the start block.
-use Rattle.std.specs.Prelude.{ℕ, Bool, true, false, not, ◌&&◌, nat_lt, List, [], ◌∷◌}
+use Rattle.std.specs.Prelude.{Bool, true, not, ◌&&◌, nat_lt, List, [], ◌∷◌}
 use Rattle.core_code.specs.Tree as trees
 use Rattle.core_code.specs.Tree.{Tree, Trees}
 use Rattle.sym_code.specs.Selects.{is_select}

@@ -1,0 +1,33 @@
+-- What follows of the clauses of the passes, put together.
+use Rattle.std.proofs.Common.{sym, subst}
+use Rattle.std.specs.Prelude.{List}
+use Rattle.call_graph.specs.Numbers.{handler_at}
+use Rattle.chip_trace.specs.Arriving.{HasVectorFor, HasHalt}
+use Rattle.isr_save.specs.Start.{start_code}
+use Rattle.src_rules.proofs.Starts.{sound_runs}
+use Rattle.sym_code.specs.declared.code.Sym.{Sym}
+use Rattle.image_links.specs.Passed.{BodiesAreHad, StartIsHad, LayoutIsHad, LayoutServes}
+use Rattle.image_links.proofs.Apart.{laid_out}
+use Rattle.image_links.proofs.Fronts.{start_made, start_first, start_code_is, vector_for, halt_there}
+use Rattle.image_links.proofs.Laid.{layout_is}
+use Rattle.image_links.proofs.Lowered.{body_there}
+
+pub bodies_had : BodiesAreHad
+bodies_had p copies core given made placed at passed c copy is user =
+    body_there p copies (sound_runs p passed.sound passed.roots passed.numbers) core.bodies.items passed.bodies c copy is user
+
+pub start_had : StartIsHad
+start_had p copies core given made placed at passed =
+    let start = start_made placed core copies given made passed.joined passed.exact in
+    let code = start_code (handler_at copies) core.statics.items in
+    let is = sym (start_code_is placed code made start) in (
+      start_first placed code made start,
+      subst (λ (l : List Sym). HasVectorFor l (handler_at copies)) is (vector_for placed (handler_at copies) core.statics.items),
+      subst (λ (l : List Sym). HasHalt l) is (halt_there placed (handler_at copies) core.statics.items),
+    )
+
+pub layout_had : LayoutIsHad
+layout_had p copies placed placing = layout_is p copies placed placing
+
+pub layout_serves : LayoutServes
+layout_serves p copies placed placing objects clear frames reaches live = laid_out p copies placed placing reaches live objects clear frames
