@@ -58,3 +58,4 @@ pub mod Bits
 pub mod BitWrites
 pub mod Rests
 pub mod MemberPlaces
+pub mod Scaling
