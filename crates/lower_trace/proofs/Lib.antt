@@ -59,3 +59,5 @@ pub mod BitWrites
 pub mod Rests
 pub mod MemberPlaces
 pub mod Scaling
+pub mod PointerSums
+pub mod Offsets
