@@ -61,3 +61,4 @@ pub mod MemberPlaces
 pub mod Scaling
 pub mod PointerSums
 pub mod Offsets
+pub mod PointerSteps

@@ -54,7 +54,7 @@ pub moved_by : Bool → ℕ → ℤ → ℤ
 moved_by true size n = neg_ℤ (n *ℤ pos size)
 moved_by false size n = n *ℤ pos size
 
-distance_is : (minus : Bool) (size : ℕ) (n : ℤ) → distance (mover minus) size n ≡ moved_by minus size n
+pub distance_is : (minus : Bool) (size : ℕ) (n : ℤ) → distance (mover minus) size n ≡ moved_by minus size n
 unfolding moved_by
 distance_is true size n = refl
 distance_is false size n = refl
@@ -151,7 +151,7 @@ module _ (z : Scene) (laws : SceneLaws z) where
       let hn : HasDatum z n (b + 2) (datum.Number (uint (num * size % 65536))) m = subst (λ t. HasDatum z n (b + 2) (datum.Number (uint t)) m) (one_size num size one lt) (bits_there z n (b + 2) q m two range hq) in
       comes_within (core_in z) T (50 + 0) (1 + 0) 1562 0 c
       (pointer_sum_then z laws minus x y (moved_by minus size q.number) (num * size % 65536) n b (b + 2) T s w due now r m c 0 0 there is (omega arith) (same_distance minus q.ty q.number size two range) (apart_operands n b 2) (omega arith) (omega arith) hx hn p
-      (λ d m' above h pd. next d m' above h pd))
+      (λ d m' far above h pd. next d m' above h pd))
       (omega arith) (omega arith)
   move_goes false minus size x y q n b T s w due now r m c one two range some few there is room hx hq p next =
       let num = pattern q.ty q.number in
@@ -163,7 +163,7 @@ module _ (z : Scene) (laws : SceneLaws z) where
       (λ d1 m1 above1 h1 p1.
       pointer_sum_then z laws minus x y (moved_by minus size q.number) (num * size % 65536) n b (b + 4) T s w due now r m1 d1 0 0 there is (omega arith) (same_distance minus q.ty q.number size two range) (misses_high n b) (omega arith) (omega arith)
       (datum_above z n b (b + 4) (datum.Pointer x) m m1 (pointer_few x) above1 hx) h1 p1
-      (λ d m' above h pd. next d m' (above_then n b m m1 m' (lower_above n b (b + 4) m m1 (omega arith) above1) above) h pd)))
+      (λ d m' far above h pd. next d m' (above_then n b m m1 m' (lower_above n b (b + 4) m m1 (omega arith) above1) above) h pd)))
       (omega arith) (omega arith)
     where
       pointer_few : (x : Pointer) → b + byte_count (datum.Pointer x) ≤ b + 4

@@ -23,7 +23,7 @@ use Rattle.lower_trace.proofs.Operating.{itself, or_true, value_number}
 use Rattle.lower_trace.proofs.Operations.{Comes, own_frame}
 use Rattle.lower_trace.proofs.Placed.{Placed}
 use Rattle.lower_trace.proofs.Scaling.{uint, uint_range}
-use Rattle.lower_trace.proofs.Written.{both, bytes_there}
+use Rattle.lower_trace.proofs.Written.{both, bytes_clear, bytes_there}
 use Rattle.lower_trace.specs.Lowering.{object_as, offset_as}
 use Rattle.pic_world.specs.World.{World, arrived, is_due}
 use Rattle.src_rules.specs.Standing.{IsThere}
@@ -31,7 +31,7 @@ use Rattle.src_values.specs.Data as datum
 use Rattle.src_values.specs.Objects.{moved}
 use Rattle.src_values.specs.declared.objects.Pointer.TheVariants.{Into, Null}
 use Rattle.src_values.specs.declared.objects.Pointer.{Pointer}
-use Rattle.std.proofs.Common.{Bool, List, None, Option, Some, [], ap, arith, false, if◌then◌else◌, pos, refl, subst, suc, sym, true, zero, ℕ, ℤ, ◌*◌, ◌+ℤ◌, ◌+◌, ◌<◌, ◌∙◌, ◌∷◌, ◌≡◌, ◌≤◌}
+use Rattle.std.proofs.Common.{Bool, List, None, Option, Some, [], ap, arith, false, if◌then◌else◌, inr, pos, refl, subst, suc, sym, true, zero, ℕ, ℤ, ◌*◌, ◌+ℤ◌, ◌+◌, ◌<◌, ◌∙◌, ◌∷◌, ◌≡◌, ◌≤◌}
 use Rattle.std.proofs.lemmas.Grind.{common_steps}
 use Rattle.std.proofs.lemmas.Int.{ints}
 use Rattle.std.specs.Ordering.{int_eq}
@@ -124,7 +124,7 @@ module _ (z : Scene) (laws : SceneLaws z) where
   pub pointer_sum_then : (minus : Bool) (x y : Pointer) (by : ℤ) (num n b at : ℕ) (T : Machine → Type 0) (s : List Waiting) (w : World Held) (due : is_due w ≡ false) (now : arrived (core_in z).outside w ≡ w) (r : List Task) (m : Memory) (c : Machine) (q l : ℕ) → PointsThere z.program x → moved z.program x by ≡ Some y → num < 65536 → SameMove minus num by
       → misses (Frame n b) 2 (Frame n at) 2 ≡ true → b + 2 ≤ (core_in z).program.frame_bytes n → at + 2 ≤ (core_in z).program.frame_bytes n → HasDatum z n b (datum.Pointer x) m → HasDatum z n at (datum.Number (uint num)) m
       → Placed (core_in z) n None (Todo [] (code.Binary (mover minus) int.UInt (Frame n b) (Frame n b) (Frame n at)) ∷ r) s m w c
-      → ((d : Machine) (m' : Memory) → OnlyAbove n b m m' → HasDatum z n b (datum.Pointer y) m' → Placed (core_in z) n None r s m' w d → Comes (core_in z) T q l d) → Comes (core_in z) T (50 + q) (1 + l) c
+      → ((d : Machine) (m' : Memory) → ((t : ℕ) → b + 2 ≤ t → m' (Frame n t) ≡ m (Frame n t)) → OnlyAbove n b m m' → HasDatum z n b (datum.Pointer y) m' → Placed (core_in z) n None r s m' w d → Comes (core_in z) T q l d) → Comes (core_in z) T (50 + q) (1 + l) c
   unfolding extent
   pointer_sum_then minus Null y by num n b at T s w due now r m c q l there is lt same apart room from hx hy p next =
       let null = null_moved z by y is in
@@ -136,7 +136,7 @@ module _ (z : Scene) (laws : SceneLaws z) where
       (λ before. mover_fits minus (number_left before (Frame n at)) n b at apart) (mover_alone minus) (own_frame (core_in z).program n b 2 room) (ap (λ t. is_own (core_in z).program n (Frame n at) (bytes_of t)) (mover_right minus) ∙ own_frame (core_in z).program n at 2 from)
       (value_number z n b (uint 0) m (uint_range 0 (omega arith)) null_there) (ap (λ t. value_in t m (Frame n at)) (mover_right minus) ∙ value_number z n at (uint 0) m (uint_range 0 (omega arith)) zero_there)
       (λ s' e. mover_null minus (extent (core_in z).program n s')) (own_frame (core_in z).program n b 2 room) (mover_cost minus) (mover_least minus) p
-      (λ d pd. next d m' (above_written n b b 2 m (core.byte_of (core.Number (uint 0))) (omega arith))
+      (λ d pd. next d m' (λ t le. bytes_clear m n b 2 (core.byte_of (core.Number (uint 0))) (Frame n t) (inr (inr (omega arith)))) (above_written n b b 2 m (core.byte_of (core.Number (uint 0))) (omega arith))
       (subst (λ t. HasDatum z n b (datum.Pointer t) m') (sym null.0) (λ j few. bytes_there m n b 2 (core.byte_of (core.Number (uint 0))) j few ∙ null_byte j few)) pd)
   pointer_sum_then minus (Into o f) y by num n b at T s w due now r m c q l there is lt same apart room from hx hy p next =
       let mv = λ (s' : List Waiting). moved_so z laws (extent (core_in z).program n s') o f by (signed minus num) same.j same.i y (λ t. refl) there same.same is in
@@ -152,5 +152,5 @@ module _ (z : Scene) (laws : SceneLaws z) where
       (λ before. mover_fits minus (number_left before (Frame n at)) n b at apart) (mover_alone minus) (own_frame (core_in z).program n b 2 room) (ap (λ t. is_own (core_in z).program n (Frame n at) (bytes_of t)) (mover_right minus) ∙ own_frame (core_in z).program n at 2 from)
       (pointer_value z n b o f m hx) (ap (λ t. value_in t m (Frame n at)) (mover_right minus) ∙ value_number z n at (uint num) m (uint_range num lt) hy)
       (λ s' e. gives s') (own_frame (core_in z).program n b 2 room) (mover_cost minus) (mover_least minus) p
-      (λ d pd. next d m' (above_written n b b 2 m (core.byte_of result) (omega arith))
+      (λ d pd. next d m' (λ t le. bytes_clear m n b 2 (core.byte_of result) (Frame n t) (inr (inr (omega arith)))) (above_written n b b 2 m (core.byte_of result) (omega arith))
       (subst (λ t. HasDatum z n b (datum.Pointer t) m') (sym y_is) (λ j few. bytes_there m n b 2 (core.byte_of result) j few)) pd)
