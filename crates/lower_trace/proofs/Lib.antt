@@ -62,3 +62,4 @@ pub mod Scaling
 pub mod PointerSums
 pub mod Offsets
 pub mod PointerSteps
+pub mod PointerUpdates

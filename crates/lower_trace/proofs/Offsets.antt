@@ -18,7 +18,7 @@ use Rattle.lower_expr.specs.Puts.{operator}
 use Rattle.lower_expr.specs.Rows.{offset_row, scaled}
 use Rattle.lower_trace.proofs.Beginnings.{Follow}
 use Rattle.lower_trace.proofs.Changing.{OnlyAbove, above_then, agrees_above, datum_above, holds_above, lower_above}
-use Rattle.lower_trace.proofs.CodeLeft.{Scene, above, base, code_after, core_in, ground_in, held, number, source_in, stack_after, todo, wanted}
+use Rattle.lower_trace.proofs.CodeLeft.{Scene, base, code_after, core_in, ground_in, held, number, source_in, stack_after, todo, wanted}
 use Rattle.lower_trace.proofs.Constants.{again_below, due_below}
 use Rattle.lower_trace.proofs.Flow.{arrive}
 use Rattle.lower_trace.proofs.Giving.{Around, placed_of, value_high}
@@ -46,7 +46,7 @@ use Rattle.std.proofs.Common.{Bool, List, None, Option, Some, [], ap, arith, fal
 use Rattle.std.proofs.Math.Nat.{suc-mul}
 use Rattle.std.proofs.lemmas.Grind.{common_steps}
 use Rattle.std.proofs.lemmas.Int.{ints}
-use Rattle.std.proofs.Common.{neg_ℤ, ◌*ℤ◌, ◌-ℤ◌}
+use Rattle.std.proofs.Common.{neg_ℤ, ◌*ℤ◌}
 use Rattle.std.proofs.Math.IntN.{pos-*ℤ-pos, negsuc-*ℤ-pos}
 
 -- ---- the distance
@@ -136,38 +136,39 @@ bits_there z n at q m e r h i lt = h i (omega arith) ∙ ap (λ t. held z (value
 one_size : (x size : ℕ) → nat_eq size 1 ≡ true → x < 65536 → x ≡ x * size % 65536
 one_size x size e lt = let is : size ≡ 1 = grind (arith, common_steps) in let q : x * size ≡ x * 1 = ap (λ t. x * t) is in let o : x * 1 ≡ x = omega arith in omega arith
 
-misses_high : (n b : ℕ) → misses (Frame n b) 2 (Frame n (b + 4)) 2 ≡ true
-misses_high n b = let e = le_true (b + 2) (b + 4) (omega arith) in or_true (not (nat_eq n n)) _ (rw e refl)
+misses_high : (n b y : ℕ) → b + 2 ≤ y → misses (Frame n b) 2 (Frame n y) 2 ≡ true
+misses_high n b y le = let e = le_true (b + 2) y le in or_true (not (nat_eq n n)) _ (rw e refl)
 
 module _ (z : Scene) (laws : SceneLaws z) where
-  -- the pointer is moved, whether the number is scaled or not
-  move_goes : (one : Bool) (minus : Bool) (size : ℕ) (x y : Pointer) (q : Quantity) (n b : ℕ) (T : Machine → Type 0) (s : List Waiting) (w : World Held) (due : is_due w ≡ false) (now : arrived (core_in z).outside w ≡ w) (r : List Task) (m : Memory) (c : Machine) → nat_eq size 1 ≡ one → bytes_of q.ty ≡ 2 → IsInRange q.ty q.number → 1 ≤ size → size < 65536 → PointsThere z.program x
-      → moved z.program x (moved_by minus size q.number) ≡ Some y → b + (if one then 4 else 6) ≤ (core_in z).program.frame_bytes n → HasDatum z n b (datum.Pointer x) m → HasDatum z n (b + 2) (datum.Number q) m
-      → Placed (core_in z) n None (todo (if one then operator (mover minus) int.UInt (Frame n b) (Frame n (b + 2)) ∷ [] else (scaled (Frame n (b + 4)) (Frame n (b + 2)) size ++ operator (mover minus) int.UInt (Frame n b) (Frame n (b + 4)) ∷ [])) r) s m w c
+  -- the pointer at b is moved by the number at `index`, which is scaled at `scaled_at`, if an element has more than one byte
+  pub elements_then : (one : Bool) (minus : Bool) (size : ℕ) (x y : Pointer) (q : Quantity) (n b index scaled_at : ℕ) (T : Machine → Type 0) (s : List Waiting) (w : World Held) (due : is_due w ≡ false) (now : arrived (core_in z).outside w ≡ w) (r : List Task) (m : Memory) (c : Machine) → nat_eq size 1 ≡ one → bytes_of q.ty ≡ 2 → IsInRange q.ty q.number → 1 ≤ size → size < 65536 → PointsThere z.program x
+      → moved z.program x (moved_by minus size q.number) ≡ Some y → index + 2 ≤ scaled_at → b + 2 ≤ scaled_at → misses (Frame n b) 2 (Frame n index) 2 ≡ true → b + 2 ≤ (core_in z).program.frame_bytes n → index + 2 ≤ (core_in z).program.frame_bytes n → (one ≡ false → scaled_at + 2 ≤ (core_in z).program.frame_bytes n) → HasDatum z n b (datum.Pointer x) m → HasDatum z n index (datum.Number q) m
+      → Placed (core_in z) n None (todo (if one then operator (mover minus) int.UInt (Frame n b) (Frame n index) ∷ [] else (scaled (Frame n scaled_at) (Frame n index) size ++ operator (mover minus) int.UInt (Frame n b) (Frame n scaled_at) ∷ [])) r) s m w c
       → ((d : Machine) (m' : Memory) → OnlyAbove n b m m' → HasDatum z n b (datum.Pointer y) m' → Placed (core_in z) n None r s m' w d → Comes (core_in z) T 0 0 d) → Comes (core_in z) T 1562 0 c
-  move_goes true minus size x y q n b T s w due now r m c one two range some few there is room hx hq p next =
+  elements_then true minus size x y q n b index scaled_at T s w due now r m c one two range some few there is low front_is apart room from far_room hx hq p next =
       let num = pattern q.ty q.number in
       let lt = few_pattern q.ty q.number two range in
-      let hn : HasDatum z n (b + 2) (datum.Number (uint (num * size % 65536))) m = subst (λ t. HasDatum z n (b + 2) (datum.Number (uint t)) m) (one_size num size one lt) (bits_there z n (b + 2) q m two range hq) in
+      let hn : HasDatum z n index (datum.Number (uint (num * size % 65536))) m = subst (λ t. HasDatum z n index (datum.Number (uint t)) m) (one_size num size one lt) (bits_there z n index q m two range hq) in
       comes_within (core_in z) T (50 + 0) (1 + 0) 1562 0 c
-      (pointer_sum_then z laws minus x y (moved_by minus size q.number) (num * size % 65536) n b (b + 2) T s w due now r m c 0 0 there is (omega arith) (same_distance minus q.ty q.number size two range) (apart_operands n b 2) (omega arith) (omega arith) hx hn p
+      (pointer_sum_then z laws minus x y (moved_by minus size q.number) (num * size % 65536) n b index T s w due now r m c 0 0 there is (omega arith) (same_distance minus q.ty q.number size two range) apart room from hx hn p
       (λ d m' far above h pd. next d m' above h pd))
       (omega arith) (omega arith)
-  move_goes false minus size x y q n b T s w due now r m c one two range some few there is room hx hq p next =
+  elements_then false minus size x y q n b index scaled_at T s w due now r m c one two range some few there is low front_is apart room from far_room hx hq p next =
       let num = pattern q.ty q.number in
       let lt = few_pattern q.ty q.number two range in
-      let hn = bits_there z n (b + 2) q m two range hq in
+      let hn = bits_there z n index q m two range hq in
+      let far_in = far_room refl in
       comes_within (core_in z) T (1512 + (50 + 0)) (1 + 0) 1562 0 c
-      (scaled_then z (core_in z) T n s w due now (laws.small n) size num (b + 4) (b + 2) (Todo [] (code.Binary (mover minus) int.UInt (Frame n b) (Frame n b) (Frame n (b + 4))) ∷ r) m c (50 + 0) (1 + 0) some few lt (omega arith) (omega arith) hn
-      (subst (λ t. Placed (core_in z) n None t s m w c) (todo_join (scaled (Frame n (b + 4)) (Frame n (b + 2)) size) (operator (mover minus) int.UInt (Frame n b) (Frame n (b + 4)) ∷ []) r) p)
+      (scaled_then z (core_in z) T n s w due now (laws.small n) size num scaled_at index (Todo [] (code.Binary (mover minus) int.UInt (Frame n b) (Frame n b) (Frame n scaled_at)) ∷ r) m c (50 + 0) (1 + 0) some few lt low far_in hn
+      (subst (λ t. Placed (core_in z) n None t s m w c) (todo_join (scaled (Frame n scaled_at) (Frame n index) size) (operator (mover minus) int.UInt (Frame n b) (Frame n scaled_at) ∷ []) r) p)
       (λ d1 m1 above1 h1 p1.
-      pointer_sum_then z laws minus x y (moved_by minus size q.number) (num * size % 65536) n b (b + 4) T s w due now r m1 d1 0 0 there is (omega arith) (same_distance minus q.ty q.number size two range) (misses_high n b) (omega arith) (omega arith)
-      (datum_above z n b (b + 4) (datum.Pointer x) m m1 (pointer_few x) above1 hx) h1 p1
-      (λ d m' far above h pd. next d m' (above_then n b m m1 m' (lower_above n b (b + 4) m m1 (omega arith) above1) above) h pd)))
+      pointer_sum_then z laws minus x y (moved_by minus size q.number) (num * size % 65536) n b scaled_at T s w due now r m1 d1 0 0 there is (omega arith) (same_distance minus q.ty q.number size two range) (misses_high n b scaled_at front_is) room far_in
+      (datum_above z n b scaled_at (datum.Pointer x) m m1 (pointer_few x) above1 hx) h1 p1
+      (λ d m' far above h pd. next d m' (above_then n b m m1 m' (lower_above n b scaled_at m m1 (omega arith) above1) above) h pd)))
       (omega arith) (omega arith)
     where
-      pointer_few : (x : Pointer) → b + byte_count (datum.Pointer x) ≤ b + 4
-      pointer_few x = omega arith
+      pointer_few : (x : Pointer) → b + byte_count (datum.Pointer x) ≤ scaled_at
+      pointer_few x = front_is
 
   offset_case : (o : Option Pointer) (minus : Bool) (left right : Expression) (size : ℕ) (ty : Ty) (line : ℕ) (x : Pointer) (q : Quantity) (k : List Pending) (cp : CopyOf) (l : source.Memory) (w : World value.Byte) (c : Machine) → moved z.program x (moved_by minus size q.number) ≡ o → Around z cp k → is_pointer (type_of left) ≡ true → bytes_of q.ty ≡ 2 → IsInRange q.ty q.number → 1 ≤ size → size < 65536 → PointsThere z.program x
       → base (ground_in z cp) k + (if nat_eq size 1 then 4 else 6) ≤ (core_in z).program.frame_bytes (number z cp) → is_due (arrived z.outside w) ≡ false
@@ -195,7 +196,8 @@ module _ (z : Scene) (laws : SceneLaws z) where
       ∙ ap (λ t. todo (if one then operator op int.UInt (Frame t b) (Frame t (b + 2)) ∷ [] else (scaled (Frame t (b + 4)) (Frame t (b + 2)) size ++ operator op int.UInt (Frame t b) (Frame t (b + 4)) ∷ [])) (code_after g k)) (own_copy z cp) in
       let hx : HasDatum z n b (datum.Pointer x) c.memory = subst (λ t. HasDatum z t b (datum.Pointer x) c.memory) (own_copy z cp) h.holds.0 in
       let hq : HasDatum z n (b + 2) (datum.Number q) c.memory = subst (λ t. HasDatum z n t (datum.Number q) c.memory) second (subst (λ t. HasDatum z t (beyond b 2) (datum.Number q) c.memory) (own_copy z cp) h.value) in
-      move_goes one minus size x y q n b T (stack_after z g k) W (due_below z (arrived z.outside w) due) (again_below z w) (code_after g k) c.memory c refl two range some few there is room hx hq
+      let in_four = four_in one b ((core_in z).program.frame_bytes n) room in
+      elements_then one minus size x y q n b (b + 2) (b + 4) T (stack_after z g k) W (due_below z (arrived z.outside w) due) (again_below z w) (code_after g k) c.memory c refl two range some few there is (omega arith) (omega arith) (apart_operands n b 2) (omega arith) (omega arith) (six_in one b ((core_in z).program.frame_bytes n) room) hx hq
       (subst (λ t. Placed (core_in z) n None t (stack_after z g k) c.memory W c) now (placed_of z (state cp (Value (datum.Number q)) (In e (One (datum.Pointer x)) ∷ k) l w) c h))
       (λ d m' above hy pd.
       arrive z cp (Value (datum.Pointer y)) k l w m' d pd
@@ -203,6 +205,14 @@ module _ (z : Scene) (laws : SceneLaws z) where
       (holds_above z cp k c.memory m' b around (omega arith) above h.holds.1)
       (if_datum z (wanted k) g.copy b (datum.Pointer y) m' (subst (λ t. HasDatum z t b (datum.Pointer y) m') (sym (own_copy z cp)) hy)))
     where
+      four_in : (one : Bool) (b frame : ℕ) → b + (if one then 4 else 6) ≤ frame → b + 4 ≤ frame
+      four_in true b frame le = omega arith
+      four_in false b frame le = omega arith
+
+      six_in : (one : Bool) (b frame : ℕ) → b + (if one then 4 else 6) ≤ frame → one ≡ false → b + 4 + 2 ≤ frame
+      six_in true b frame le e = absurd (cc)
+      six_in false b frame le e = omega arith
+
       least_room : (one : Bool) (b frame : ℕ) → b + (if one then 4 else 6) ≤ frame → frame ≤ 96 → b + 4 ≤ 96
       least_room true b frame le small = omega arith
       least_room false b frame le small = omega arith

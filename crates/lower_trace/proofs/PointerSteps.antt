@@ -54,7 +54,6 @@ use Rattle.src_values.specs.declared.objects.Pointer.{Pointer}
 use Rattle.src_values.specs.declared.objects.Spot as spot
 use Rattle.std.proofs.Common.{Bool, List, None, Option, Some, [], ap, arith, false, if◌then◌else◌, inr, nat_eq, nat_le, not, pos, refl, subst, sym, true, ℕ, ◌%◌, ◌&&◌, ◌*◌, ◌+◌, ◌<◌, ◌∙◌, ◌∷◌, ◌≡◌, ◌≤◌}
 use Rattle.std.proofs.lemmas.Int.{ints}
-use Rattle.std.proofs.Common.{neg_ℤ, ◌*ℤ◌, ◌-ℤ◌}
 
 pub step_minus : StepOp → Bool
 step_minus shapes.PreIncrement = false
@@ -92,7 +91,7 @@ size_number size lt = ap (λ t. record { ty = int.UInt; number = t }) (cut_size 
 one_int : (cut_to int.Int (pos 1)).number ≡ pos 1
 one_int = omega (arith, ints)
 
-misses_under : (n b y : ℕ) → y + 2 ≤ b → misses (Frame n b) 2 (Frame n y) 2 ≡ true
+pub misses_under : (n b y : ℕ) → y + 2 ≤ b → misses (Frame n b) 2 (Frame n y) 2 ≡ true
 misses_under n b y le = or_true (not (nat_eq n n)) _ (or_true (nat_le (b + 2) y) (nat_le (y + 2) b) (le_true (y + 2) b le))
 
 -- the source's new value

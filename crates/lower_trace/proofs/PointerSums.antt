@@ -7,15 +7,14 @@ use Rattle.c_typed.specs.Trees.{Program}
 use Rattle.core_code.specs.Bytes as core_bytes
 use Rattle.core_code.specs.Bytes.{Held, Memory, misses, same_byte, with_bytes}
 use Rattle.core_code.specs.Cost.{binary_cost, least_binary}
-use Rattle.core_code.specs.Machine.{Machine, Task, Do as Todo, Waiting, object_bytes as core_bytes, extent, is_own}
+use Rattle.core_code.specs.Machine.{Machine, Task, Do as Todo, Waiting, extent, is_own}
 use Rattle.core_code.specs.Operands.{fits_together, is_helped, number_left}
 use Rattle.core_code.specs.Tree as code
 use Rattle.core_code.specs.Values as core
 use Rattle.core_code.specs.Values.{Extent, binary_value, right_type, value_in}
 use Rattle.core_code.specs.declared.code.Byte.TheVariants.{Frame}
 use Rattle.lower_trace.proofs.Changing.{OnlyAbove, above_written}
-use Rattle.lower_trace.proofs.CodeLeft.{Scene, core_in, number}
-use Rattle.lower_trace.proofs.Giving.{gives}
+use Rattle.lower_trace.proofs.CodeLeft.{Scene, core_in}
 use Rattle.lower_trace.proofs.Kept.{SceneLaws}
 use Rattle.lower_trace.proofs.Mirrors.{HasDatum}
 use Rattle.lower_trace.proofs.Moving.{binary_any_then, moved_so, pointer_value}
@@ -36,8 +35,7 @@ use Rattle.std.proofs.lemmas.Grind.{common_steps}
 use Rattle.std.proofs.lemmas.Int.{ints}
 use Rattle.std.specs.Ordering.{int_eq}
 use Rattle.std.specs.Prelude.{unwrap_or}
-use Rattle.std.proofs.Common.{neg_ℤ, ◌*ℤ◌, ◌-ℤ◌}
-use Rattle.std.proofs.Math.IntN.{pos-*ℤ-pos, negsuc-*ℤ-pos}
+use Rattle.std.proofs.Common.{neg_ℤ}
 
 -- whether a pointer is moved back
 abbrev pub mover : Bool → BinOp
