@@ -63,3 +63,4 @@ pub mod PointerSums
 pub mod Offsets
 pub mod PointerSteps
 pub mod PointerUpdates
+pub mod BitReads
