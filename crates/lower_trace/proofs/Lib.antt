@@ -64,3 +64,4 @@ pub mod Offsets
 pub mod PointerSteps
 pub mod PointerUpdates
 pub mod BitReads
+pub mod BitEnds
