@@ -24,13 +24,12 @@ use Rattle.lower_trace.proofs.Jumping.{join_then}
 use Rattle.lower_trace.proofs.Kept.{SceneLaws, own_copy}
 use Rattle.lower_trace.proofs.Mirrors.{HasDatum, Mirrors}
 use Rattle.lower_trace.proofs.Operations.{Comes, comes_within}
-use Rattle.lower_trace.proofs.Placed.{Placed, ends, front}
+use Rattle.lower_trace.proofs.Placed.{Placed}
 use Rattle.lower_trace.proofs.Stored.{front_case, given_is, kept_at, kept_bound, kept_high}
 use Rattle.lower_trace.proofs.Written.{both}
 use Rattle.pic_world.specs.World.{World, arrived, is_due, world_as}
 use Rattle.src_rules.specs.Accesses.{write}
 use Rattle.src_rules.specs.State.{Went, state}
-use Rattle.src_rules.specs.Step.{step}
 use Rattle.src_values.specs.Control.{Got, In, Pending, Stores, Holds as Value, Write, active}
 use Rattle.src_values.specs.Data.{Datum}
 use Rattle.src_values.specs.Memory as source

@@ -26,7 +26,6 @@ use Rattle.lower_trace.proofs.Giving.{Around}
 use Rattle.lower_trace.proofs.Kept.{SceneLaws}
 use Rattle.lower_trace.proofs.Mirrors.{Holds, Mirrors}
 use Rattle.lower_trace.proofs.Operations.{beyond_is, comes_within}
-use Rattle.lower_trace.proofs.Placed.{ends}
 use Rattle.lower_trace.proofs.ReadValues.{value_read_back}
 use Rattle.pic_world.specs.World.{World, arrived, is_due}
 use Rattle.src_rules.specs.Accesses.{fetch, fetch_as, fetched, goes}

@@ -65,3 +65,4 @@ pub mod PointerSteps
 pub mod PointerUpdates
 pub mod BitReads
 pub mod BitEnds
+pub mod HelpedUpdates

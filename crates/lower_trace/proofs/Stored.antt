@@ -32,7 +32,7 @@ use Rattle.pic_world.specs.World.{World, arrived, is_due, left, world_as}
 use Rattle.src_rules.specs.Accesses.{write}
 use Rattle.src_rules.specs.Standing.{stepped}
 use Rattle.src_rules.specs.State.{Went, state}
-use Rattle.src_rules.specs.Step.{start, step}
+use Rattle.src_rules.specs.Step.{start}
 use Rattle.src_values.specs.Control.{Got, In, Pending, Stores, Holds as Value, Write, active}
 use Rattle.src_values.specs.Data.{Datum}
 use Rattle.src_values.specs.Memory as source
