@@ -108,11 +108,11 @@ helped_cost ops.Ne count w few h = absurd h
 abbrev pub spoiled : Bool → Root → Memory → Memory
 spoiled helped root m = if helped then without_results root m else m
 
-spoiled_frame : (helped : Bool) (root : Root) (m : Memory) (i y : ℕ) → spoiled helped root m (Frame i y) ≡ m (Frame i y)
+pub spoiled_frame : (helped : Bool) (root : Root) (m : Memory) (i y : ℕ) → spoiled helped root m (Frame i y) ≡ m (Frame i y)
 spoiled_frame true root m i y = refl
 spoiled_frame false root m i y = refl
 
-spoiled_object : (z : Scene) (helped : Bool) (root : Root) (m : Memory) (o : object.Object) (at : ℕ) → spoiled helped root m (core_byte z o at) ≡ m (core_byte z o at)
+pub spoiled_object : (z : Scene) (helped : Bool) (root : Root) (m : Memory) (o : object.Object) (at : ℕ) → spoiled helped root m (core_byte z o at) ≡ m (core_byte z o at)
 spoiled_object z true root m (objects.Fixed i) at = refl
 spoiled_object z true root m (objects.Variable d i) at = refl
 spoiled_object z false root m o at = refl
@@ -171,7 +171,7 @@ module _ (z : Scene) (g : Setting) (T : Machine → Type 0) (n : ℕ) (s : List 
       helped_case helped op ty b y x u v r m c q l p refl may two few there room from out vx vu outcome_is (next helped)
 
 -- ---- the operator in the source
-helped_unshared : (op : BinOp) (ty : IntTy) → MayHelp op → numbers.type_of op ty ≡ ty
+pub helped_unshared : (op : BinOp) (ty : IntTy) → MayHelp op → numbers.type_of op ty ≡ ty
 helped_unshared ops.Mul ty h = refl
 helped_unshared ops.Div ty h = refl
 helped_unshared ops.Rem ty h = refl
@@ -198,7 +198,7 @@ pub record RightAs (z : Scene) (op : BinOp) (x y : Quantity) (n at : ℕ) (m : M
 some_quantity : (a b : Quantity) → Some a ≡ Some b → a ≡ b
 some_quantity a b e = ap (λ x. unwrap_or x a) e
 
-outcome_type : (none : Bool) (op : BinOp) (x y v : Quantity) → (if none then None else Some (value_of op x y)) ≡ Some v → v.ty ≡ numbers.type_of op x.ty
+pub outcome_type : (none : Bool) (op : BinOp) (x y v : Quantity) → (if none then None else Some (value_of op x y)) ≡ Some v → v.ty ≡ numbers.type_of op x.ty
 outcome_type true op x y v e = absurd (cc)
 outcome_type false op x y v e = ap (λ q. q.ty) (sym (some_quantity (value_of op x y) v e))
 
@@ -243,7 +243,7 @@ IsProduct ops.Div = Unit {0}
 IsProduct ops.Rem = Unit {0}
 IsProduct _ = ⊥
 
-product_helps : (op : BinOp) → IsProduct op → MayHelp op
+pub product_helps : (op : BinOp) → IsProduct op → MayHelp op
 product_helps ops.Mul h = tt
 product_helps ops.Div h = tt
 product_helps ops.Rem h = tt
@@ -261,7 +261,7 @@ product_helps ops.Ge h = absurd h
 product_helps ops.Eq h = absurd h
 product_helps ops.Ne h = absurd h
 
-product_right : (op : BinOp) (ty : IntTy) → IsProduct op → (right_type op ty ≡ ty) × (is_shift op ≡ false)
+pub product_right : (op : BinOp) (ty : IntTy) → IsProduct op → (right_type op ty ≡ ty) × (is_shift op ≡ false)
 product_right ops.Mul ty h = (refl, refl)
 product_right ops.Div ty h = (refl, refl)
 product_right ops.Rem ty h = (refl, refl)
@@ -285,7 +285,7 @@ Shifts ops.Shl = Unit {0}
 Shifts ops.Shr = Unit {0}
 Shifts _ = ⊥
 
-shift_helps : (op : BinOp) → Shifts op → MayHelp op
+pub shift_helps : (op : BinOp) → Shifts op → MayHelp op
 shift_helps ops.Shl h = tt
 shift_helps ops.Shr h = tt
 shift_helps ops.Mul h = absurd h
@@ -303,7 +303,7 @@ shift_helps ops.Ge h = absurd h
 shift_helps ops.Eq h = absurd h
 shift_helps ops.Ne h = absurd h
 
-shift_right : (op : BinOp) (ty : IntTy) → Shifts op → right_type op ty ≡ int.UChar
+pub shift_right : (op : BinOp) (ty : IntTy) → Shifts op → right_type op ty ≡ int.UChar
 shift_right ops.Shl ty h = refl
 shift_right ops.Shr ty h = refl
 shift_right ops.Mul ty h = absurd h
@@ -321,7 +321,7 @@ shift_right ops.Ge ty h = absurd h
 shift_right ops.Eq ty h = absurd h
 shift_right ops.Ne ty h = absurd h
 
-shift_bad : (op : BinOp) (ty : IntTy) (y : Quantity) → Shifts op → bad_right op (types.Int ty) (datum.Number y) ≡ None → shifts_badly ty y.number ≡ false
+pub shift_bad : (op : BinOp) (ty : IntTy) (y : Quantity) → Shifts op → bad_right op (types.Int ty) (datum.Number y) ≡ None → shifts_badly ty y.number ≡ false
 shift_bad ops.Shl ty y h e = bad_none (shifts_badly ty y.number) e
   where
     bad_none : (b : Bool) → (if b then Some Shift else None) ≡ None → b ≡ false
@@ -377,7 +377,7 @@ or_none : (a b : Bool) → (a || b) ≡ false → (a ≡ false) × (b ≡ false)
 or_none true b e = absurd (cc)
 or_none false b e = (refl, e)
 
-count_small : (ty : IntTy) (y : ℤ) → shifts_badly ty y ≡ false → (t : ℕ) × (y ≡ pos t) × (t < 32)
+pub count_small : (ty : IntTy) (y : ℤ) → shifts_badly ty y ≡ false → (t : ℕ) × (y ≡ pos t) × (t < 32)
 count_small ty (pos t) e =
     let h = or_none (int_lt (pos t) (pos 0)) (int_le (pos (width ty)) (pos t)) e in
     let few = bits_few ty in
@@ -388,7 +388,7 @@ count_small ty (pos t) e =
     not_le a b e = grind (ints, arith, common_steps)
 count_small ty (negsuc t) e = absurd (let h = or_none (int_lt (negsuc t) (pos 0)) (int_le (pos (width ty)) (negsuc t)) e in let q = h.0 in cc)
 
-count_there : (z : Scene) (n at t : ℕ) (y : Quantity) (m : Memory) → y.number ≡ pos t → t < 32 → HasDatum z n at (datum.Number y) m → value_in int.UChar m (Frame n at) ≡ Some (core.Number (record { ty = int.UChar; number = pos t }))
+pub count_there : (z : Scene) (n at t : ℕ) (y : Quantity) (m : Memory) → y.number ≡ pos t → t < 32 → HasDatum z n at (datum.Number y) m → value_in int.UChar m (Frame n at) ≡ Some (core.Number (record { ty = int.UChar; number = pos t }))
 unfolding value_in
 count_there z n at t y m e lt h =
     let some = bytes_some y.ty in

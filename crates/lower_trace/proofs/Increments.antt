@@ -61,7 +61,7 @@ step_sum shapes.PreDecrement = tt
 step_sum shapes.PostIncrement = tt
 step_sum shapes.PostDecrement = tt
 
-keeps_is : (op : StepOp) → keeps_old op ≡ is_postfix op
+pub keeps_is : (op : StepOp) → keeps_old op ≡ is_postfix op
 keeps_is shapes.PreIncrement = refl
 keeps_is shapes.PreDecrement = refl
 keeps_is shapes.PostIncrement = refl

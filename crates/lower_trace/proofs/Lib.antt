@@ -58,3 +58,11 @@ pub mod Bits
 pub mod BitWrites
 pub mod Rests
 pub mod MemberPlaces
+pub mod Scaling
+pub mod PointerSums
+pub mod Offsets
+pub mod PointerSteps
+pub mod PointerUpdates
+pub mod BitReads
+pub mod BitEnds
+pub mod HelpedUpdates

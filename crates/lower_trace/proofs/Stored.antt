@@ -58,27 +58,27 @@ plain_spot z (spots.Device a) X done v e = refl
 plain_spot z (spots.Bit register bit) X done v e = absurd (cc)
 
 -- ---- a value that stands behind comes to the front, if it is wanted
-front_case : (z : Scene) (laws : SceneLaws z) (want : Bool) (y bytes : ℕ) (v : Datum) (k : List Pending) (cp : CopyOf) (l : source.Memory) (w : World value.Byte) (c : Machine) → wanted k ≡ want → Around z cp k → base (ground_in z cp) k + bytes ≤ (core_in z).program.frame_bytes (number z cp) → y + bytes ≤ (core_in z).program.frame_bytes (number z cp)
-    → base (ground_in z cp) k ≤ y → byte_count v ≤ bytes → bytes ≤ 4 → is_due (arrived z.outside w) ≡ false → (want ≡ true → HasDatum z (number z cp) y v c.memory) → Agrees z (active cp (Value v) k) l c.memory → Holds z (ground_in z cp) k c.memory
-    → Placed (core_in z) (number z cp) None (todo (copies_if want (Frame (number z cp) (base (ground_in z cp) k)) (Frame (number z cp) y) bytes) (code_after (ground_in z cp) k)) (stack_after z (ground_in z cp) k) c.memory (world_as (held z) (arrived z.outside w)) c
+pub front_case : (z : Scene) (laws : SceneLaws z) (want : Bool) (y bytes : ℕ) (v : Datum) (k : List Pending) (cp : CopyOf) (l : source.Memory) (w : World value.Byte) (m : Memory) (c : Machine) → wanted k ≡ want → Around z cp k → base (ground_in z cp) k + bytes ≤ (core_in z).program.frame_bytes (number z cp) → y + bytes ≤ (core_in z).program.frame_bytes (number z cp)
+    → base (ground_in z cp) k ≤ y → byte_count v ≤ bytes → bytes ≤ 4 → is_due (arrived z.outside w) ≡ false → (want ≡ true → HasDatum z (number z cp) y v m) → Agrees z (active cp (Value v) k) l m → Holds z (ground_in z cp) k m
+    → Placed (core_in z) (number z cp) None (todo (copies_if want (Frame (number z cp) (base (ground_in z cp) k)) (Frame (number z cp) y) bytes) (code_after (ground_in z cp) k)) (stack_after z (ground_in z cp) k) m (world_as (held z) (arrived z.outside w)) c
     → Comes (core_in z) (Mirrors z (state cp (Value v) k l (arrived z.outside w))) 24 0 c
-front_case z laws true y bytes v k cp l w c is around room from high count few due hv agrees holds p =
+front_case z laws true y bytes v k cp l w m c is around room from high count few due hv agrees holds p =
     let n = number z cp in
     let g = ground_in z cp in
     let b = base g k in
     let T = Mirrors z (state cp (Value v) k l (arrived z.outside w)) in
     let W = world_as (held z) (arrived z.outside w) in
     comes_within (core_in z) T (6 * bytes + 0) (bytes + 0) 24 0 c
-    (move_then (core_in z) T n None (stack_after z g k) W (due_below z (arrived z.outside w) due) (again_below z w) (laws.small n) b y bytes (code_after g k) c.memory c 0 0 (inl high) room from p
+    (move_then (core_in z) T n None (stack_after z g k) W (due_below z (arrived z.outside w) due) (again_below z w) (laws.small n) b y bytes (code_after g k) m c 0 0 (inl high) room from p
     (λ d pd. comes_here (core_in z) T d
-    (gives z laws cp k l (arrived z.outside w) c.memory bytes (λ j. c.memory (Frame n (y + j))) v d around count (λ i lt. hv refl i lt)
-    (subst (λ x. Placed (core_in z) n None (code_after g k) (stack_after z g k) (with_bytes c.memory (Frame n b) bytes (λ j. c.memory (Frame n (y + j)))) x d) (same_below z w) pd)
+    (gives z laws cp k l (arrived z.outside w) m bytes (λ j. m (Frame n (y + j))) v d around count (λ i lt. hv refl i lt)
+    (subst (λ x. Placed (core_in z) n None (code_after g k) (stack_after z g k) (with_bytes m (Frame n b) bytes (λ j. m (Frame n (y + j)))) x d) (same_below z w) pd)
     agrees holds)))
     (omega arith) (omega arith)
-front_case z laws false y bytes v k cp l w c is around room from high count few due hv agrees holds p =
+front_case z laws false y bytes v k cp l w m c is around room from high count few due hv agrees holds p =
     let T = Mirrors z (state cp (Value v) k l (arrived z.outside w)) in
     comes_within (core_in z) T 0 0 24 0 c
-    (arrive z cp (Value v) k l w c.memory c p agrees holds (subst (λ b. HasIf b z (ground_in z cp).copy (base (ground_in z cp) k) v c.memory) (sym is) tt))
+    (arrive z cp (Value v) k l w m c p agrees holds (subst (λ b. HasIf b z (ground_in z cp).copy (base (ground_in z cp) k) v m) (sym is) tt))
     (omega arith) (omega arith)
 
 -- all bytes are written, and the value stands at y
@@ -92,7 +92,7 @@ end_moved z laws e got now v u done y bytes k cp l w c around room from high cou
     let g = ground_in z cp in
     let b = base g k in
     let W = world_as (held z) (arrived z.outside w) in
-    front_case z laws (wanted k) y bytes u k cp l w c refl around room from high count few due (λ is. subst (λ i. HasDatum z i y u c.memory) (own_copy z cp) (hu is)) h.agrees h.holds.1
+    front_case z laws (wanted k) y bytes u k cp l w c.memory c refl around room from high count few due (λ is. subst (λ i. HasDatum z i y u c.memory) (own_copy z cp) (hu is)) h.agrees h.holds.1
     (subst (λ i. Placed (core_in z) n None (todo (copies_if (wanted k) (Frame i b) (Frame i y) bytes) (code_after g k)) (stack_after z g k) c.memory W c) (own_copy z cp)
     (subst (λ x. Placed (core_in z) n None x (stack_after z g k) c.memory W c) left (placed_of z (state cp (Write now v done) (In e got ∷ k) l w) c h)))
 
