@@ -8,7 +8,7 @@ from chain import chain, lines_of
 HEADLINE = ['headline/Headline', 'picc_cli/PortProgram', 'hex_image/HexFile', 'hex_image/HexText', 'pic_map/MapFile']
 TOTALS = {
     'In all': HEADLINE,
-    'contract': ['picc_cli/Command', 'picc_cli/CommandView', 'picc_cli/Finished', 'picc_cli/Simulation', 'host_io/Host'],
+    'contract': ['picc_cli/Command', 'picc_cli/CommandView', 'picc_cli/Finished', 'picc_cli/Simulation', 'picc_cli/Traced', 'host_io/Host'],
     'source': ['headline/SourceOf'],
 }
 ROW = re.compile(r'^\| `(\w+/\w+)` \| (\d+) \|', re.MULTILINE)

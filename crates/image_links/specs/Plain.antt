@@ -13,7 +13,7 @@ abbrev pub all_plain : List Sym → Bool
 all_plain [] = true
 all_plain (s ∷ list) = is_plain s && all_plain list
 
--- byte code whose numbers fit into a byte, and so do the addresses of registers
+-- byte code whose numbers fit into a byte, and addresses of registers below 512
 abbrev mutual
   pub is_given : Tree → Bool
   is_given (trees.Set to value) = nat_lt value 256

@@ -25,6 +25,7 @@ use Rattle.src_values.specs.declared.objects.Byte.{Byte}
 use Rattle.src_values.specs.declared.objects.Byte.TheVariants as bytes
 use Rattle.src_values.specs.declared.objects.Object as source
 use Rattle.src_values.specs.declared.objects.Object.TheVariants as objects
+use Rattle.lower_trace.specs.Labels.{ProgramHasLabels}
 use Rattle.src_rules.specs.Numbers.{ProgramHasNumbers}
 use Rattle.src_rules.specs.Runs.{moment, steps_by, fault_of, is_idle}
 use Rattle.src_rules.specs.Step.{step}
@@ -78,13 +79,14 @@ pub record IsSmallCopy (p : Program) (copy : FnCopy) : Type 0 where
   pub frame : frame_bytes p copy.function ≤ 96
   pub block : block_words p copy.function ≤ 2048
 
--- A typed program with its copies, whose constants, first bytes and characters are numbers of their types, whose calls fit the return
--- stack, whose objects and frames fit a region of memory each, and whose blocks fit a page each. Each accepted program is one.
+-- A typed program with its copies, whose constants, labels, first bytes and characters are numbers of their types, whose calls fit the
+-- return stack, whose objects and frames fit a region of memory each, and whose blocks fit a page each. Each accepted program is one.
 pub record IsLowerable (p : Program) (copies : List FnCopy) : Type 0 where
   pub typed : Typed
   pub same : p ≡ program_of typed
   pub sound : is_sound p ≡ true
   pub numbers : ProgramHasNumbers p
+  pub labels : ProgramHasLabels p
   pub roots : broken_root p ≡ None
   pub acyclic : IsAcyclic (graph_of p)
   pub depth : ℕ

@@ -1,6 +1,7 @@
 -- What a trace prints is the run of the definition, step by step.
 use Rattle.std.proofs.Common.{◌≡◌, ℕ, zero, suc, ◌+◌, ◌-◌, ◌<◌, ◌≤◌, ◌⊎◌, inl, inr, Bool, true, false, Option, Some, None, List, [], ◌∷◌, ◌++◌, map, length, refl, sym, ap, ◌∙◌, subst, ⊎_elim, arith, append_assoc, append-nil, option_map}
 use Rattle.std.specs.Prelude.{option_to_list}
+use Rattle.std.proofs.lemmas.Bool.{cases_lt}
 use Rattle.std.proofs.lemmas.List.{map-append}
 use Rattle.host_io.specs.Host.{PrintsPrefix}
 use Rattle.pic_map.specs.EventText.{event_text}
@@ -11,7 +12,8 @@ use Rattle.pic_world.specs.declared.Event.{Event}
 use Rattle.picc_cli.specs.declared.tracing.Ended.{Ended}
 use Rattle.picc_cli.specs.declared.tracing.Ended.TheVariants.{Done, Undefined, Refused, CannotReadText, NoScript, CannotPrint, NoMemory}
 use Rattle.picc_cli.specs.Lines.{event_lines}
-use Rattle.picc_cli.specs.Traced.{events_by, events_at, Prints, Steps, EndsBy, PrintsBy, Ran}
+use Rattle.picc_cli.specs.Traced.{events_by, Prints, EndsBy, PrintsBy, Ran}
+use Rattle.picc_cli.specs.TracedStep.{events_at, Steps}
 use Rattle.picc_cli.proofs.Endings.{whole_line}
 use Rattle.picc_cli.proofs.Files.{later}
 use Rattle.src_machine.specs.Sources.{IsSource, TellsNext, event_in}
@@ -117,17 +119,28 @@ module _ (s : Setting) (content : MapContent) where
 
   -- ---- a run
   -- it stands behind n steps, and has printed their events
+  abbrev pub AreTaken : ℕ → Type 0
+  AreTaken n = (i : ℕ) → i < n → is_taken (take s (after s i)) ≡ true
+
+  none_taken : AreTaken 0
+  none_taken i lt = absurd (omega (arith, lt))
+
+  one_taken : (n : ℕ) → AreTaken n → is_taken (take s (after s n)) ≡ true → AreTaken (n + 1)
+  one_taken n taken last i lt = ⊎_elim (λ h. taken i h) (λ h. let same : n ≡ i = omega (arith, lt, h) in subst (λ k. is_taken (take s (after s k)) ≡ true) same last) (cases_lt i n)
+
   pub record HasRun (n : ℕ) (source : Source) (old new : Option (List ℕ)) : Type 0 where
     pub at : IsSource s content n source
+    pub taken : AreTaken n
     pub printed : Prints s content old new (events_by s content n)
 
   pub run_begins : (source : Source) (p : Option (List ℕ)) → IsSource s content 0 source → HasRun 0 source p p
   unfolding after start
-  run_begins source p is = record { at = is; printed = nothing_more content p }
+  run_begins source p is = record { at = is; taken = none_taken; printed = nothing_more content p }
 
   pub run_on : (n : ℕ) (source next : Source) (p q r : Option (List ℕ)) → HasRun n source p q → Steps s content n next q r None → HasRun (n + 1) next p r
   run_on n source next p q r has steps = record {
     at = steps.1;
+    taken = one_taken n has.taken steps.0;
     printed =
         steps.2 ∙ ap (option_map (λ t. t ++ event_lines content (events_at s content n))) has.printed
         ∙ joined p (event_lines content (events_by s content n)) (event_lines content (events_at s content n))
@@ -141,18 +154,18 @@ module _ (s : Setting) (content : MapContent) where
       (later p q r (event_lines content (events_by s content n)) (event_lines content (events_at s content n)) has.printed broke.1)
 
   pub run_stops : (n most : ℕ) (ended : Ended) (source next : Source) (p q r : Option (List ℕ)) → n < most → HasRun n source p q → Steps s content n next q r (Some ended) → Ran s content most ended p r
-  run_stops n most Done source next p q r lt has stops = record { steps = n; few = omega arith; end = inr stops.0; printed = stops.1 ∙ has.printed }
-  run_stops n most (Undefined kind line) source next p q r lt has stops = record { steps = n; few = omega arith; end = (lt, stops.0); printed = stops.1 ∙ has.printed }
-  run_stops n most CannotPrint source next p q r lt has stops = record { steps = n + 1; few = omega arith; end = tt; printed = cut n most CannotPrint source p q r lt has stops }
-  run_stops n most NoMemory source next p q r lt has stops = record { steps = n + 1; few = omega arith; end = tt; printed = cut n most NoMemory source p q r lt has stops }
+  run_stops n most Done source next p q r lt has stops = record { steps = n; few = omega arith; taken = has.taken; end = inr stops.0; printed = stops.1 ∙ has.printed }
+  run_stops n most (Undefined kind line) source next p q r lt has stops = record { steps = n; few = omega arith; taken = has.taken; end = (lt, stops.0); printed = stops.1 ∙ has.printed }
+  run_stops n most CannotPrint source next p q r lt has stops = record { steps = n + 1; few = omega arith; taken = one_taken n has.taken stops.0; end = tt; printed = cut n most CannotPrint source p q r lt has stops }
+  run_stops n most NoMemory source next p q r lt has stops = record { steps = n + 1; few = omega arith; taken = one_taken n has.taken stops.0; end = tt; printed = cut n most NoMemory source p q r lt has stops }
   run_stops n most (Refused refusal) source next p q r lt has stops = absurd stops
   run_stops n most CannotReadText source next p q r lt has stops = absurd stops
   run_stops n most (NoScript end) source next p q r lt has stops = absurd stops
 
   pub run_ends : (n most : ℕ) (source : Source) (p q : Option (List ℕ)) → n ≤ most → most ≤ n → HasRun n source p q → Ran s content most Done p q
-  run_ends n most source p q few all has = record { steps = n; few = few; end = inl (omega arith); printed = has.printed }
+  run_ends n most source p q few all has = record { steps = n; few = few; taken = has.taken; end = inl (omega arith); printed = has.printed }
 
   -- a run that doesn't begin
   pub run_never : (most : ℕ) (p : Option (List ℕ)) → Ran s content most NoMemory p p
   unfolding after start
-  run_never most p = record { steps = 0; few = omega arith; end = tt; printed = subst (λ o. PrintsPrefix p o []) (sym (nothing_more content p)) (whole_line p []) }
+  run_never most p = record { steps = 0; few = omega arith; taken = none_taken; end = tt; printed = subst (λ o. PrintsPrefix p o []) (sym (nothing_more content p)) (whole_line p []) }

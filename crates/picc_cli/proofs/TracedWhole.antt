@@ -19,6 +19,7 @@ use Rattle.headline.specs.SourceOf.{setting_of}
 use Rattle.host_io.specs.Host.{Kind, Contents, IsRead, PrintsPrefix}
 use Rattle.pic_map.specs.MapContent.{MapContent, ObjectLine, FrameLine}
 use Rattle.pic_world.specs.World.{Outside, outside_of}
+use Rattle.picc_cli.specs.declared.inputs.FileEnd.{FileEnd}
 use Rattle.picc_cli.specs.declared.tracing.Ended.{Ended}
 use Rattle.picc_cli.specs.declared.tracing.Ended.TheVariants.{Done, Undefined, Refused, CannotReadText, NoScript, CannotPrint, NoMemory}
 use Rattle.picc_cli.specs.Command.{Asked, Form, Build, Trace, Simulate, Agree, Generate}
@@ -32,6 +33,7 @@ use Rattle.picc_cli.proofs.NothingDone.{nothing_of}
 use Rattle.picc_cli.proofs.SimulationEnds.{said_last}
 use Rattle.picc_cli.proofs.Whole.{tree_whole}
 use Rattle.picc_core.specs.Texts.{HasTree}
+use Rattle.picc_core.specs.declared.refusal.Refusal.{Refusal}
 use Rattle.ram_place.specs.Placement.{IsPlacing}
 use Rattle.schedule.specs.ScriptFile.{ScriptContent, AreBytes, AreLines, AreScriptLines, Piece, Blank, Input, At, byte_value, inputs_of, paired}
 use Rattle.src_machine.specs.Steps.{IsGiven}
@@ -131,23 +133,40 @@ module _ (asked : Asked) (content : ScriptContent) (bytes text : List ℕ) (prog
       }
 
   runs_at : (o : Contents) (ended : Ended) → IsRead asked.input 262145 bytes o → IsFile o asked.script (IsScriptInput content) → IsFront bytes program copies objects frames
-      → RanFor program (outside_of content.input content.arrivals) (map_of objects frames) asked.steps ended p q → RunsBy asked o ended p q
-  runs_at o Done read file front ran = traces_at o Done read file front ran
-  runs_at o (Undefined kind line) read file front ran = traces_at o (Undefined kind line) read file front ran
-  runs_at o CannotPrint read file front ran = tt
-  runs_at o NoMemory read file front ran = tt
-  runs_at o (Refused refusal) read file front ran = tt
-  runs_at o CannotReadText read file front ran = tt
-  runs_at o (NoScript end) read file front ran = tt
+      → RanFor program (outside_of content.input content.arrivals) (map_of objects frames) asked.steps ended p q → IsRunEnd ended → RunsBy asked o ended p q
+  runs_at o Done read file front ran end = traces_at o Done read file front ran
+  runs_at o (Undefined kind line) read file front ran end = traces_at o (Undefined kind line) read file front ran
+  runs_at o CannotPrint read file front ran end = traces_at o CannotPrint read file front ran
+  runs_at o NoMemory read file front ran end = inr (traces_at o NoMemory read file front ran)
+  runs_at o (Refused refusal) read file front ran end = absurd end
+  runs_at o CannotReadText read file front ran end = absurd end
+  runs_at o (NoScript why) read file front ran end = absurd end
 
   pub traced_runs : (old middle : Option Contents) (first : Option (List ℕ)) (ended : Ended) → first ≡ p → IfSome old (IsRead asked.input 262145 bytes) → middle ≡ old
       → IfSome middle (λ o. IsFile o asked.script (IsScriptInput content)) → text ≡ bytes → IsFront text program copies objects frames
-      → RanFor program (outside_of content.input content.arrivals) (map_of objects frames) asked.steps ended first q → IfSome old (λ o. RunsBy asked o ended p q)
-  traced_runs None middle first ended printed read same file e front ran = tt
-  traced_runs (Some o) middle first ended printed read same file e front ran =
+      → RanFor program (outside_of content.input content.arrivals) (map_of objects frames) asked.steps ended first q → IsRunEnd ended → IfSome old (λ o. RunsBy asked o ended p q)
+  traced_runs None middle first ended printed read same file e front ran end = tt
+  traced_runs (Some o) middle first ended printed read same file e front ran end =
       runs_at o ended read (subst (λ c. IfSome c (λ o. IsFile o asked.script (IsScriptInput content))) same file)
       (subst (λ t. IsFront t program copies objects frames) e front)
-      (λ s of outside given. subst (λ x. Ran s (map_of objects frames) asked.steps ended x q) printed (ran s of outside given))
+      (λ s of outside given. subst (λ x. Ran s (map_of objects frames) asked.steps ended x q) printed (ran s of outside given)) end
+
+-- ---- a trace that didn't begin
+pub quiet_unread : (asked : Asked) (old : Option Contents) (p q : Option (List ℕ)) → q ≡ p → IfSome old (λ o. RunsBy asked o CannotReadText p q)
+quiet_unread asked None p q same = tt
+quiet_unread asked (Some o) p q same = same
+
+pub quiet_script : (asked : Asked) (old : Option Contents) (end : FileEnd) (p q : Option (List ℕ)) → q ≡ p → IfSome old (λ o. RunsBy asked o (NoScript end) p q)
+quiet_script asked None end p q same = tt
+quiet_script asked (Some o) end p q same = same
+
+pub quiet_refused : (asked : Asked) (old : Option Contents) (refusal : Refusal) (p q : Option (List ℕ)) → q ≡ p → IfSome old (λ o. RunsBy asked o (Refused refusal) p q)
+quiet_refused asked None refusal p q same = tt
+quiet_refused asked (Some o) refusal p q same = same
+
+pub quiet_memory : (asked : Asked) (old : Option Contents) (p q : Option (List ℕ)) → q ≡ p → IfSome old (λ o. RunsBy asked o NoMemory p q)
+quiet_memory asked None p q same = tt
+quiet_memory asked (Some o) p q same = inl same
 
 -- ---- the whole
 pub trace_told : (asked : Asked) (ended : Ended) (old : Option Contents) (kind : Kind) (first later : ℕ) (p middle q : Option (List ℕ)) (result : ℕ)
@@ -161,7 +180,7 @@ pub not_traced : (form : Option Form) (old : Option Contents) (p : Option (List 
 not_traced form None p = tt
 not_traced None (Some o) p = tt
 not_traced (Some (Build names)) (Some o) p = tt
-not_traced (Some (Trace asked)) (Some o) p = record { ended = NoMemory; middle = p; runs = tt; last = inr (inr refl, nothing_of p []) }
+not_traced (Some (Trace asked)) (Some o) p = record { ended = NoMemory; middle = p; runs = inl refl; last = inr (inr refl, nothing_of p []) }
 not_traced (Some (Simulate asked)) (Some o) p = tt
 not_traced (Some (Agree asked)) (Some o) p = tt
 not_traced (Some (Generate functions)) (Some o) p = tt

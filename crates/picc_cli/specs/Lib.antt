@@ -19,3 +19,4 @@ pub mod Summary
 pub mod Finished
 pub mod Generated
 pub mod Traced
+pub mod TracedStep

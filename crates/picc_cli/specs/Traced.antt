@@ -1,4 +1,4 @@
--- What a trace prints is the run of its program by the definitions of the source: the lines of the events of so many steps.
+-- What a trace prints is the run of a typed program by the definitions of the source: the lines of the events of so many steps.
 use Rattle.std.specs.Prelude.{ℕ, ◌≡◌, ◌+◌, ◌<◌, ◌≤◌, ◌⊎◌, true, List, ◌++◌, map, Option, Some, None, option_map, option_to_list}
 use Rattle.c_typed.specs.Chains.{graph_of}
 use Rattle.c_typed.specs.Roots.{broken_root}
@@ -23,36 +23,19 @@ use Rattle.picc_cli.specs.Trace.{last_line, status_of}
 use Rattle.picc_core.specs.Texts.{HasTree}
 use Rattle.ram_place.specs.Placement.{IsPlacing}
 use Rattle.schedule.specs.ScriptFile.{ScriptContent}
-use Rattle.src_machine.specs.Sources.{IsSource, event_in}
-use Rattle.src_machine.specs.declared.progress.Source.{Source}
 use Rattle.src_memory.specs.Shown.{address_of, shown}
 use Rattle.src_rules.specs.Numbers.{ProgramHasNumbers}
 use Rattle.src_rules.specs.Runs.{after, fault_after, is_idle_after, is_taken, take}
 use Rattle.src_values.specs.Memory.{Setting}
 
 module _ (s : Setting) (content : MapContent) where
-  -- the events of a run's first n steps, and of the step behind them, as the map shows them
+  -- the events of a run's first n steps, as the map shows them
   abbrev pub events_by : ℕ → List Event
   events_by n = map (shown (address_of s.program content)) (after s n).world.trace
-
-  abbrev pub events_at : ℕ → List Event
-  events_at n = option_to_list (option_map (shown (address_of s.program content)) (event_in (take s (after s n))))
 
   -- what a text that is printed behind another one makes of it
   abbrev pub Prints : Option (List ℕ) → Option (List ℕ) → List Event → Type 0
   Prints old new events = new ≡ option_map (λ t. t ++ event_lines content events) old
-
-  -- ---- one step
-  -- Behind n steps the next one was taken, and the line of its event printed, if it makes one; or why the run doesn't go on.
-  abbrev pub Steps : ℕ → Source → Option (List ℕ) → Option (List ℕ) → Option Ended → Type 0
-  Steps n next old new None = (is_taken (take s (after s n)) ≡ true) × IsSource s content (n + 1) next × Prints old new (events_at n)
-  Steps n next old new (Some Done) = (is_idle_after s n ≡ true) × (new ≡ old)
-  Steps n next old new (Some (Undefined kind line)) = (fault_after s n ≡ Some (record { kind = kind; line = line })) × (new ≡ old)
-  Steps n next old new (Some CannotPrint) = (is_taken (take s (after s n)) ≡ true) × PrintsPrefix old new (event_lines content (events_at n))
-  Steps n next old new (Some NoMemory) = (is_taken (take s (after s n)) ≡ true) × PrintsPrefix old new (event_lines content (events_at n))
-  Steps n next old new (Some (Refused refusal)) = ⊥
-  Steps n next old new (Some CannotReadText) = ⊥
-  Steps n next old new (Some (NoScript end)) = ⊥
 
   -- ---- a run
   -- how a run of `most` steps that ended so had gone on for n steps
@@ -71,6 +54,7 @@ module _ (s : Setting) (content : MapContent) where
   pub record Ran (most : ℕ) (ended : Ended) (old new : Option (List ℕ)) : Type 0 where
     pub steps : ℕ
     pub few : steps ≤ most
+    pub taken : (i : ℕ) → i < steps → is_taken (take s (after s i)) ≡ true
     pub end : EndsBy most steps ended
     pub printed : PrintsBy steps old new ended
 
@@ -99,15 +83,15 @@ pub record Traces (asked : Asked) (old : Contents) (ended : Ended) (p q : Option
   pub numbers : ProgramHasNumbers program
   pub ran : Ran (setting_of program (outside_of script.input script.arrivals)) content asked.steps ended p q
 
--- of a trace whose run began; of the others this says nothing
+-- Of a trace whose run began; where it didn't begin, nothing was printed.
 abbrev pub RunsBy : Asked → Contents → Ended → Option (List ℕ) → Option (List ℕ) → Type 0
 RunsBy asked old Done p q = Traces asked old Done p q
 RunsBy asked old (Undefined kind line) p q = Traces asked old (Undefined kind line) p q
-RunsBy asked old CannotPrint p q = Unit {0}
-RunsBy asked old NoMemory p q = Unit {0}
-RunsBy asked old (Refused refusal) p q = Unit {0}
-RunsBy asked old CannotReadText p q = Unit {0}
-RunsBy asked old (NoScript end) p q = Unit {0}
+RunsBy asked old CannotPrint p q = Traces asked old CannotPrint p q
+RunsBy asked old NoMemory p q = (q ≡ p) ⊎ Traces asked old NoMemory p q
+RunsBy asked old (Refused refusal) p q = q ≡ p
+RunsBy asked old CannotReadText p q = q ≡ p
+RunsBy asked old (NoScript end) p q = q ≡ p
 
 -- With this status, and with these bytes printed, a trace ended so: `middle` is what was printed before its last line.
 pub record TraceRuns (asked : Asked) (old : Contents) (p q : Option (List ℕ)) (result : ℕ) : Type 0 where

@@ -57,7 +57,7 @@ pub fn picc<H: Host>(
     // A simulation runs the chip over the board, on what its three files hold: this is that run, its events, and what the board was
     // asked and told. Where a file isn't such as it is to be, the first such file is told.
     ensures simulated { IfSome (H.contents host.old) (λ old. HasSimulated (form_of (words_of words.now)) old (board_of (lists board.old) (follows board.old)) (board_of (lists board.new) (follows board.new)) (H.printed host.old) (H.printed host.new) result) }
-    // A trace prints the lines of the run of its program, by the definitions of the source.
+    // A trace prints the lines of the run of a typed program, by the definitions of the source.
     ensures traced { IfSome (H.contents host.old) (λ old. HasTraced (form_of (words_of words.now)) old (H.printed host.old) (H.printed host.new) result) }
     ensures complete { IfSome (H.contents host.old) (λ old. IsComplete (H.kind host.old) (H.faults host.old) (H.faults host.new) (form_of (words_of words.now)) old result) }
     // The board is left as it was, but by a simulation whose files are such as they are to be.

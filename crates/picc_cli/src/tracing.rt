@@ -85,7 +85,7 @@ fn report<H: Host>(alloc: Global, host: &mut H, asked: Asked<'_>, ended: Ended) 
 }
 
 /// Reads the text and the script, and runs the text.
-#[tactic(auto, using(crate::proofs::TraceFiles::no_script_known, crate::proofs::Sound::traced_no_script))]
+#[tactic(auto, using(crate::proofs::TraceFiles::no_script_known, crate::proofs::Sound::traced_no_script, crate::proofs::TracedWhole::quiet_unread, crate::proofs::TracedWhole::quiet_script, crate::proofs::TracedWhole::quiet_refused, crate::proofs::TracedWhole::quiet_memory))]
 fn traced<H: Host>(alloc: Global, host: &mut H, asked: Asked<'_>) -> Ended
     requires { H.open_file host.old ≡ Closed }
     ensures closed { H.open_file host.new ≡ Closed }

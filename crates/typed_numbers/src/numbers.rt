@@ -221,7 +221,7 @@ fn see_statics(statics: &[Static])
     }
 }
 
-/// Every number of the program is one of its type.
+/// Each constant of the program is one that its type holds, and first bytes and characters are bytes.
 pub fn see_numbers(program: &Typed)
     ensures { ProgramHasNumbers (program_of program.now) }
 {

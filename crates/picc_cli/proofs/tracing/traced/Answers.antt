@@ -28,4 +28,4 @@ returns-in-Ok-front-clause-runs g c =
       are_copies = c.in-Ok-front.ensures.list;
       placed = c.in-Ok-front.ensures.exact;
     })
-    c.run.ensures.ran
+    c.run.ensures.ran c.run.ensures.end
