@@ -9,4 +9,4 @@ mod Chained
 mod Early
 mod Tracks
 mod Near
-mod Whole
+pub mod Whole

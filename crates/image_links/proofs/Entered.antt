@@ -21,12 +21,12 @@ use Rattle.src_rules.specs.Parts.{IsRunnable}
 use Rattle.src_values.specs.Objects.{main_of}
 use Rattle.image_links.proofs.Statics.{some_is}
 
-at_is : (xs : List FnCopy) (i : ℕ) (x d : FnCopy) → slice_get xs i ≡ Some x → slice_index_or xs i d ≡ x
+pub at_is : (xs : List FnCopy) (i : ℕ) (x d : FnCopy) → slice_get xs i ≡ Some x → slice_index_or xs i d ≡ x
 at_is [] i x d is = absurd (cc)
 at_is (y ∷ xs) zero x d is = some_is y x is
 at_is (y ∷ xs) (suc i) x d is = at_is xs i x d is
 
-is_at : (xs : List FnCopy) (i : ℕ) (d : FnCopy) → i < length xs → slice_get xs i ≡ Some (slice_index_or xs i d)
+pub is_at : (xs : List FnCopy) (i : ℕ) (d : FnCopy) → i < length xs → slice_get xs i ≡ Some (slice_index_or xs i d)
 is_at [] i d lt = absurd (omega arith)
 is_at (y ∷ xs) zero d lt = refl
 is_at (y ∷ xs) (suc i) d lt = is_at xs i d (omega arith)

@@ -49,7 +49,7 @@ index_is f [] n d x is = absurd (cc)
 index_is f (y ∷ xs) zero d x is = ap f (some_is y x is)
 index_is f (y ∷ xs) (suc n) d x is = index_is f xs n d x is
 
-get_map : {A B : Type 0} (f : A → B) (xs : List A) (n : ℕ) (x : A) → slice_get xs n ≡ Some x → slice_get (map f xs) n ≡ Some (f x)
+pub get_map : {A B : Type 0} (f : A → B) (xs : List A) (n : ℕ) (x : A) → slice_get xs n ≡ Some x → slice_get (map f xs) n ≡ Some (f x)
 get_map f [] n x is = absurd (cc)
 get_map f (y ∷ xs) zero x is = ap (λ z. Some (f z)) (some_is y x is)
 get_map f (y ∷ xs) (suc n) x is = get_map f xs n x is

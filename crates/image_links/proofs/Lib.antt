@@ -15,3 +15,7 @@ pub mod Entered
 pub mod Laid
 pub mod Apart
 pub mod Had
+pub mod Priced
+pub mod Chains
+pub mod Depths
+pub mod Selecting

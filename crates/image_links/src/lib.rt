@@ -6,6 +6,7 @@
 #![tactic(auto)]
 
 ghost use Rattle.image_links.specs.Passed.{BodiesAreHad, LayoutIsHad, LayoutServes, SelectsAreHad, StartIsHad};
+ghost use Rattle.image_links.specs.Selection.{DepthIsHad, LevelsAreHad, PricesAreHad, ReachIsHad, RoutinesHavePrices, SelectionIsHad};
 
 /// Of a sound program, byte code of its copies, the blocks that are joined from it and what `selects` answers for them have the selects
 /// that the link between symbolic code without and with selects asks for.
@@ -30,4 +31,25 @@ pub fn start_is_had()
 pub fn layout_is_had()
     ensures layout { LayoutIsHad }
     ensures laid_out { LayoutServes }
+{}
+
+/// Each instruction of a function's copy costs, together with the selects before it, no more than the link of selection allows for it,
+/// and so does each of a helper's routine.
+pub fn prices_are_had()
+    ensures dear { PricesAreHad }
+    ensures priced { RoutinesHavePrices }
+{}
+
+/// Chains of calls between copies, as a search finds them, go on, and each call is one; calls go up by levels, which fit the return
+/// stack, main's, the interrupt's and the handler's together.
+pub fn calls_are_had()
+    ensures reach { ReachIsHad }
+    ensures levels { LevelsAreHad }
+    ensures depth { DepthIsHad }
+{}
+
+/// Of a program whose passes all answered, and whose objects and frames are placed, the link of selection is given all that it asks
+/// for: under the levels of its copies as limits, and with chains of calls telling which frames may be live together.
+pub fn selection_is_had()
+    ensures { SelectionIsHad }
 {}

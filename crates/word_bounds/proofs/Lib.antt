@@ -20,5 +20,7 @@ mod Within
 mod Inside
 mod Bodies
 mod Others
+mod Callees
+mod Copied
 mod Placed
 mod Whole

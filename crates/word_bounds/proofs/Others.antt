@@ -16,21 +16,21 @@ use Rattle.pic_world.specs.declared.Root.TheVariants.{Main, Isr}
 use Rattle.word_bounds.specs.Naming.{CallsOthers, HaveCopies}
 
 -- ---- elements
-abbrev Member : {A : Type 0} → A → List A → Type 0
+abbrev pub Member : {A : Type 0} → A → List A → Type 0
 Member x [] = ⊥
 Member x (y ∷ ys) = (y ≡ x) ⊎ Member x ys
 
-member_contained : {A : Type 0} (x : A) (xs : List A) → Member x xs → Contains xs x
+pub member_contained : {A : Type 0} (x : A) (xs : List A) → Member x xs → Contains xs x
 member_contained x [] m = absurd m
 member_contained x (y ∷ ys) (inl e) = (0, omega arith, e)
 member_contained x (y ∷ ys) (inr m) = let c = member_contained x ys m in let l = c.1 in (suc c.0, omega (arith, l), c.2)
 
-member_there : {A : Type 0} (xs : List A) (k : ℕ) (x : A) → slice_get xs k ≡ Some x → Member x xs
+pub member_there : {A : Type 0} (xs : List A) (k : ℕ) (x : A) → slice_get xs k ≡ Some x → Member x xs
 member_there [] k x e = absurd (none-some x e)
 member_there (y ∷ ys) zero x e = inl (same_Some y x e)
 member_there (y ∷ ys) (suc k) x e = inr (member_there ys k x e)
 
-member_mapped : {A B : Type 0} (g : A → B) (x : A) (xs : List A) → Member x xs → Member (g x) (map g xs)
+pub member_mapped : {A B : Type 0} (g : A → B) (x : A) (xs : List A) → Member x xs → Member (g x) (map g xs)
 member_mapped g x [] m = absurd m
 member_mapped g x (y ∷ ys) (inl e) = inl (ap g e)
 member_mapped g x (y ∷ ys) (inr m) = inr (member_mapped g x ys m)
@@ -83,11 +83,11 @@ under_is Isr Main function g e = absurd (none-some g e)
 under_is Isr Isr function g e = same_Some function g e
 
 -- ---- chains
-chain_more : (graph : List (List ℕ)) (r : ℕ) (hs : List ℕ) (g h : ℕ) → IsChain graph r hs g → Calls graph g h → IsChain graph r (hs ++ h ∷ []) h
+pub chain_more : (graph : List (List ℕ)) (r : ℕ) (hs : List ℕ) (g h : ℕ) → IsChain graph r hs g → Calls graph g h → IsChain graph r (hs ++ h ∷ []) h
 chain_more graph r [] g h e calls = (subst (λ (k : ℕ). Calls graph k h) (sym e) calls, refl)
 chain_more graph r (k ∷ hs) g h e calls = (e.0, chain_more graph k hs g h e.1 calls)
 
-row_there : (n : ℕ) (fs : List FunctionTree) (more : List (List ℕ)) (k : ℕ) (f : FunctionTree) → slice_get fs k ≡ Some f → get_or (map (row_of n) fs ++ more) k [] ≡ row_of n f
+pub row_there : (n : ℕ) (fs : List FunctionTree) (more : List (List ℕ)) (k : ℕ) (f : FunctionTree) → slice_get fs k ≡ Some f → get_or (map (row_of n) fs ++ more) k [] ≡ row_of n f
 row_there n [] more k f e = absurd (none-some f e)
 row_there n (g ∷ fs) more zero f e = ap (row_of n) (same_Some g f e)
 row_there n (g ∷ fs) more (suc k) f e = row_there n fs more k f e

@@ -1,5 +1,6 @@
 -- The block of a function's copy has at most the function's stated words.
 use Rattle.std.proofs.Common.{◌≡◌, ℕ, ◌+◌, ◌/◌, ◌≤◌, Bool, true, false, not, if◌then◌else◌, List, [], ◌∷◌, ◌++◌, map, length, refl, sym, ap, ◌∙◌, subst, arith}
+use Rattle.c_typed.specs.Calls.{statements_calls}
 use Rattle.c_typed.specs.Room.{frame_size}
 use Rattle.sym_code.specs.Layout.{frame}
 use Rattle.code_place.specs.Layouts.{layout_of}
@@ -12,7 +13,7 @@ use Rattle.call_graph.specs.declared.types.FnCopy.{FnCopy}
 use Rattle.core_code.specs.Tree as core
 use Rattle.core_code.specs.Tree.{Tree, trees_of}
 use Rattle.lower_stmt.specs.Bodies.{body_code}
-use Rattle.lower_stmt.specs.Frames.{ground_for}
+use Rattle.lower_stmt.specs.Frames.{ground_for, layout_for}
 use Rattle.lower_stmt.specs.Ground.{Ground}
 use Rattle.lower_stmt.specs.Jumps.{outside}
 use Rattle.lower_stmt.specs.Statements.{stmts_code}
@@ -31,11 +32,13 @@ use Rattle.word_bounds.proofs.Lowered.{some_code, Takes, takes_on, takes_more}
 use Rattle.word_bounds.proofs.Segments.{leave_takes}
 use Rattle.word_bounds.proofs.Selecting.{selects_are_counted}
 use Rattle.word_bounds.proofs.Statements.{statements_take}
+use Rattle.word_bounds.specs.Naming.{HaveCopies}
 use Rattle.word_bounds.proofs.Naming.{AreIn, in_trees}
 use Rattle.word_bounds.proofs.Lying.{AllLie, lie_on, trees_lie}
 use Rattle.word_bounds.proofs.Rooms.{Keeps}
 use Rattle.word_bounds.proofs.Bodies.{statements_lie}
 use Rattle.word_bounds.proofs.Others.{calls_others}
+use Rattle.word_bounds.proofs.Copied.{called_have_copies}
 use Rattle.word_bounds.proofs.Placed.{function_keeps, stands, base_within, helpers_apart, all_banked}
 
 -- a body's code, and its end
@@ -91,11 +94,16 @@ module _ (p : Program) (copies : List FnCopy) (number : ℕ) (f : FunctionTree) 
   pub all_bare : bare given.list.items ≡ given.list.items
   all_bare = ap bare code_is ∙ none_bare code code_pays.1 ∙ sym code_is
 
+  called : HaveCopies (layout_for p copies root f).copies (statements_calls f.body)
+  called =
+      subst (λ (r : Root). HaveCopies (layout_for p copies r f).copies (statements_calls f.body)) (sym block.under)
+      (called_have_copies p copies block.depth number block.function block.copy f is.sound block.known block.deep block.there block.is_function block.found)
+
   all_lie : AllLie number (frame_size p.sizes f) (body_code (ground_for p copies number root f) f)
   all_lie =
       let g = ground_for p copies number root f in
       lie_on number (frame_size p.sizes f) (stmts_code g outside f.body) (core.Leave ∷ [])
-      (statements_lie (frame_size p.sizes f) p f g (stands p copies root f number keeps.0) refl outside true false false f.body keeps.1 (calls_others p copies number block.function block.copy f root block.known block.there block.is_function block.found block.called) (base_within p copies root f)) (tt, tt)
+      (statements_lie (frame_size p.sizes f) p f g (stands p copies root f number keeps.0) refl outside true false false f.body keeps.1 (calls_others p copies number block.function block.copy f root block.known block.there block.is_function block.found called) (base_within p copies root f)) (tt, tt)
 
   are_in : AreIn number (frame_size p.sizes f) code
   are_in =

@@ -7,7 +7,7 @@ use Rattle.c_typed.specs.Views.{program_of}
 use Rattle.c_typed.specs.declared.program.Typed.{Typed}
 use Rattle.c_typed.specs.Trees.{StructureTree, FunctionTree, Program}
 use Rattle.c_typed.specs.declared.calls.FnId.TheVariants as callee
-use Rattle.call_graph.specs.Copies.{AreCopies}
+use Rattle.call_graph.specs.Copies.{AreCopies, HasDepth}
 use Rattle.call_graph.specs.declared.types.FnCopy.{FnCopy}
 use Rattle.ram_place.specs.Sizes.{block_words}
 use Rattle.core_code.specs.View.{trees_in}
@@ -53,8 +53,14 @@ pub record IsProgram (p : Program) : Type 0 where
 abbrev pub ProgramsKeepSizes : Type 0
 ProgramsKeepSizes = (p : Typed) → is_sound (program_of p) ≡ true → IsProgram (program_of p)
 
--- The block that is selected for the body of a function's copy, as it is lowered. The copies are those of the program, and each function
--- that it calls has one under its root.
+-- Each function that a copy's function calls has a copy under the same root, since chains of calls are no longer than the program's depth.
+abbrev pub CalledHaveCopies : Type 0
+CalledHaveCopies =
+    (p : Program) (copies : List FnCopy) (depth number function : ℕ) (copy : FnCopy) (f : FunctionTree) → is_sound p ≡ true → AreCopies p copies → HasDepth p depth → slice_get copies number ≡ Some copy → copy.function ≡ callee.User function → slice_get p.functions function ≡ Some f
+    → HaveCopies (layout_for p copies copy.root f).copies (statements_calls f.body)
+
+-- The block that is selected for the body of a function's copy, as it is lowered under the copy's root. The copies are those of the
+-- program, and its chains of calls have a depth.
 pub record IsBlockOf (p : Program) (copies : List FnCopy) (number : ℕ) (f : FunctionTree) (block : SymBlock) : Type 0 where
   pub copy : FnCopy
   pub there : slice_get copies number ≡ Some copy
@@ -62,10 +68,12 @@ pub record IsBlockOf (p : Program) (copies : List FnCopy) (number : ℕ) (f : Fu
   pub is_function : copy.function ≡ callee.User function
   pub found : slice_get p.functions function ≡ Some f
   pub body : Body
+  pub under : body.root ≡ copy.root
   pub lowered : trees_in body.code.items ≡ body_code (ground_for p copies number body.root f) f
   pub selected : block.list.items ≡ block_code copies number body
   pub known : AreCopies p copies
-  pub called : HaveCopies (layout_for p copies body.root f).copies (statements_calls f.body)
+  pub depth : ℕ
+  pub deep : HasDepth p depth
 
 -- Where frames stand, this one has room for the function's bytes, and stands whole in a bank.
 pub record HasFrame (p : Program) (placed : Placed) (number : ℕ) (f : FunctionTree) : Type 0 where

@@ -1,5 +1,6 @@
 use Rattle.word_bounds.proofs.Selecting.{selects_are_counted}
 use Rattle.word_bounds.proofs.Whole.{blocks_are_bare, blocks_keep_within, words_are_stated}
+use Rattle.word_bounds.proofs.Copied.{called_have_copies}
 use Rattle.word_bounds.proofs.Placed.{programs_keep_sizes}
 use Rattle.word_bounds.proofs.words_are_bounded.Goals as goal
 
@@ -17,3 +18,6 @@ returns-clause-within c = blocks_keep_within
 
 pub returns-clause-stated : goal.returns-clause-stated
 returns-clause-stated c = words_are_stated
+
+pub returns-clause-called : goal.returns-clause-called
+returns-clause-called c = called_have_copies
