@@ -19,3 +19,5 @@ pub mod Priced
 pub mod Chains
 pub mod Depths
 pub mod Selecting
+pub mod Named
+pub mod Ended
