@@ -21,3 +21,5 @@ pub mod Depths
 pub mod Selecting
 pub mod Named
 pub mod Ended
+pub mod Paged
+pub mod Assembling

@@ -25,11 +25,11 @@ use Rattle.image_links.proofs.Blocks.{name_itself}
 use Rattle.image_links.proofs.Statics.{some_is}
 
 -- ---- how often a name stands in a list
-abbrev one_for : Bool → ℕ
+abbrev pub one_for : Bool → ℕ
 one_for true = 1
 one_for false = 0
 
-abbrev tally : BlockName → List BlockName → ℕ
+abbrev pub tally : BlockName → List BlockName → ℕ
 tally name [] = 0
 tally name (x ∷ xs) = one_for (same_name x name) + tally name xs
 
