@@ -1,5 +1,5 @@
 -- All that the chip is given, put together.
-use Rattle.std.proofs.Common.{◌≡◌, ℕ, List, [], ◌∷◌, map, length, refl, sym, ap, ◌∙◌, subst}
+use Rattle.std.proofs.Common.{◌≡◌, List, [], ◌∷◌, map, length, refl, sym, ap, ◌∙◌, subst}
 use Rattle.call_graph.specs.Numbers.{handler_at}
 use Rattle.code_place.specs.Layouts as places
 use Rattle.core_code.specs.declared.code.FirstByte.{FirstByte}
@@ -48,7 +48,7 @@ assembly_had p copies core given made placed at image map_content passed has spr
       halts = start.2;
       ranges = ap (map content.range_of) made_image.objects ∙ ranges_are placed.objects.items;
       small = all_small copies core given passed.joined bodies made same (length p.statics)
-      (subst (λ (l : List (List FirstByte)). AllGood (length p.statics) l) (sym made_image.statics) (statics_good p passed.sound passed.numbers));
+          (subst (λ (l : List (List FirstByte)). AllGood (length p.statics) l) (sym made_image.statics) (statics_good p passed.sound passed.numbers));
       selects = selects_paged p copies core given made placed at passed;
       outside = all_outside copies core given passed.joined bodies made same;
       reaches = reaches_in p copies;

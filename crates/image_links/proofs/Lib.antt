@@ -23,3 +23,4 @@ pub mod Named
 pub mod Ended
 pub mod Paged
 pub mod Assembling
+pub mod Beginning

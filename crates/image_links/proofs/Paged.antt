@@ -1,5 +1,5 @@
 -- A select is for the page of the block in which its target is.
-use Rattle.std.proofs.Common.{◌≡◌, ℕ, zero, suc, ◌+◌, ◌/◌, ◌%◌, ◌<◌, ◌≤◌, inl, inr, Bool, true, false, ◌&&◌, List, [], ◌∷◌, ◌++◌, map, Option, Some, None, is_some, refl, sym, ap, ◌∙◌, subst, arith}
+use Rattle.std.proofs.Common.{◌≡◌, ℕ, zero, suc, ◌+◌, ◌/◌, ◌≤◌, inl, inr, Bool, true, false, ◌&&◌, List, [], ◌∷◌, Option, Some, None, refl, sym, ap, ◌∙◌, subst}
 use Rattle.std.specs.Option.{option_or}
 use Rattle.std.specs.Prelude.{slice_get, IsSome}
 use Rattle.c_typed.specs.Trees.{Program}
@@ -23,7 +23,7 @@ use Rattle.select_wide.specs.Selection.{wide_code}
 use Rattle.src_rules.proofs.Starts.{sound_runs}
 use Rattle.sym_code.specs.Programs.{block_of}
 use Rattle.sym_code.specs.Selects.{bare}
-use Rattle.sym_code.specs.Words.{words_in, words_of_one}
+use Rattle.sym_code.specs.Words.{words_of_one}
 use Rattle.sym_code.specs.declared.code.BlockName.{BlockName}
 use Rattle.sym_code.specs.declared.code.BlockName.TheVariants.{Start}
 use Rattle.sym_code.specs.declared.code.Label.{Label}
