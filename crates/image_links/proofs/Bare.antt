@@ -138,15 +138,16 @@ bare_same (m ∷ made) (g ∷ given) n b name =
 
 module _ (copies : List FnCopy) (core : CoreProgram) (blocks : List SymBlock) (joined : IsJoined core copies blocks)
     (given : (c : ℕ) (body : Body) → body_at core.bodies.items c ≡ Some body → all_given (trees_of (trees_in body.code.items)) ≡ true) where
+  pub block_words : (b : SymBlock) → Has (joined.start ∷ joined.order) b → all_are is_word b.list.items ≡ true
+  block_words b (inl same) =
+      ap (λ (x : SymBlock). all_are is_word x.list.items) (sym same) ∙ ap (all_are is_word) joined.exact ∙ start_words (handler_at copies) core.statics.items
+  block_words b (inr h) =
+      let o = is_of core copies blocks joined b h in
+      ap (λ (v : BlockName × List Sym). all_are is_word v.1) o.is
+      ∙ plain_words (code_of core.bodies.items copies (0 + o.place) o.copy.root o.copy.function) (code_plain copies core.bodies.items given (0 + o.place) o.copy.root o.copy.function)
+
   pub own_words : (name : BlockName) → all_are is_word (block_in blocks name) ≡ true
-  own_words name = in_blocks (λ list. all_are is_word list ≡ true) blocks name refl (λ b h. each b (subst (λ bs. Has bs b) joined.whole h)) where
-    each : (b : SymBlock) → Has (joined.start ∷ joined.order) b → all_are is_word b.list.items ≡ true
-    each b (inl same) =
-        ap (λ (x : SymBlock). all_are is_word x.list.items) (sym same) ∙ ap (all_are is_word) joined.exact ∙ start_words (handler_at copies) core.statics.items
-    each b (inr h) =
-        let o = is_of core copies blocks joined b h in
-        ap (λ (v : BlockName × List Sym). all_are is_word v.1) o.is
-        ∙ plain_words (code_of core.bodies.items copies (0 + o.place) o.copy.root o.copy.function) (code_plain copies core.bodies.items given (0 + o.place) o.copy.root o.copy.function)
+  own_words name = in_blocks (λ list. all_are is_word list ≡ true) blocks name refl (λ b h. block_words b (subst (λ bs. Has bs b) joined.whole h))
 
 -- ---- the record
 pub selects_had : SelectsAreHad

@@ -1,7 +1,6 @@
 -- Chains of calls from copies: what they reach, by how many calls, and that the return stack has room for them.
-use Rattle.std.proofs.Common.{◌≡◌, ℕ, zero, suc, ◌+◌, ◌<◌, ◌≤◌, inl, inr, Bool, true, false, ◌&&◌, nat_lt, List, [], ◌∷◌, ◌++◌, length, Option, Some, None, is_some, refl, sym, ap, ◌∙◌, subst, arith}
+use Rattle.std.proofs.Common.{◌≡◌, ℕ, zero, suc, ◌+◌, ◌<◌, ◌≤◌, Bool, true, false, ◌&&◌, nat_lt, List, [], ◌∷◌, ◌++◌, length, Option, Some, None, is_some, refl, sym, ap, ◌∙◌, subst, arith}
 use Rattle.std.specs.Prelude.{slice_get, if◌then◌else◌}
-use Rattle.std.specs.List.{Contains}
 use Rattle.std.proofs.lemmas.Bool.{and_parts, ltb-true, ltb-false}
 use Rattle.std.proofs.lemmas.List.{length-append}
 use Rattle.std.proofs.lemmas.List.Quantifiers.{position-Some}
@@ -9,7 +8,7 @@ use Rattle.std.proofs.lemmas.Option.{slice_get_within}
 use Rattle.c_ints.specs.declared.operators.BinOp.{BinOp}
 use Rattle.c_ints.specs.declared.types.IntTy.{IntTy}
 use Rattle.c_typed.specs.Calls.{int_helper}
-use Rattle.c_typed.specs.Chains.{graph_of, number_of, helper_number, Calls, IsChain, Reaches}
+use Rattle.c_typed.specs.Chains.{graph_of, number_of, Calls, IsChain, Reaches}
 use Rattle.c_typed.specs.Trees.{Program}
 use Rattle.c_typed.specs.declared.calls.FnId.TheVariants as callees
 use Rattle.c_typed.specs.declared.calls.Helper.{Helper}

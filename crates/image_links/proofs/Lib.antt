@@ -19,3 +19,8 @@ pub mod Priced
 pub mod Chains
 pub mod Depths
 pub mod Selecting
+pub mod Named
+pub mod Ended
+pub mod Paged
+pub mod Assembling
+pub mod Beginning

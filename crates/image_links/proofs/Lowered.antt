@@ -1,5 +1,5 @@
 -- Each copy of a function has its body, by its number.
-use Rattle.std.proofs.Common.{◌≡◌, ℕ, zero, suc, ◌+◌, inl, inr, Bool, true, false, nat_eq, if◌then◌else◌, List, [], ◌∷◌, ◌++◌, map, Option, Some, None, refl, sym, ap, ◌∙◌, subst, ⊎_elim, arith}
+use Rattle.std.proofs.Common.{◌≡◌, ℕ, zero, suc, ◌+◌, ◌⊎◌, inl, inr, Bool, true, false, nat_eq, if◌then◌else◌, List, [], ◌∷◌, ◌++◌, map, Option, Some, None, refl, sym, ap, ◌∙◌, subst, ⊎_elim, arith}
 use Rattle.std.specs.Prelude.{slice_get}
 use Rattle.std.proofs.lemmas.Bool.{eqb-true, eq-eqb}
 use Rattle.c_typed.specs.Trees.{FunctionTree, Program}
@@ -117,6 +117,14 @@ ends_for : (p : Program) (copies : List FnCopy) (c : ℕ) (root : Root) (f : FnI
 ends_for p copies c root (User f) user = ends_code p copies c root (slice_get p.functions f)
 ends_for p copies c root (Helper h) user = absurd (cc)
 
+-- a body ends by leaving, or is a helper's, which has no byte code
+abbrev pub EndsOrNone : List Tree → Type 0
+EndsOrNone list = (list ≡ []) ⊎ ((front : List Tree) × (list ≡ front ++ core.Leave ∷ []))
+
+ends_any : (p : Program) (copies : List FnCopy) (c : ℕ) (root : Root) (f : FnId) → EndsOrNone (body_for p copies c root f)
+ends_any p copies c root (User f) = let e = ends_code p copies c root (slice_get p.functions f) in inr (e.front, e.is)
+ends_any p copies c root (Helper h) = inl refl
+
 module _ (p : Program) (copies : List FnCopy) (runs : IsRunnable p) (bodies : List Body) (lowered : map body_of bodies ≡ bodies_of p copies) where
   of_body : (body : Body) → Has bodies body → IsBodyOf p copies 0 copies (body_of body)
   of_body body has = of_bodies p copies 0 copies (body_of body) (subst (λ bs. Has bs (body_of body)) lowered (map_has body_of bodies body has))
@@ -126,6 +134,12 @@ module _ (p : Program) (copies : List FnCopy) (runs : IsRunnable p) (bodies : Li
   each_given c body is =
       let o = of_body body (at_is bodies c body is) in
       ap (λ (t : BodyTree). all_given (trees_of t.code)) o.is ∙ body_given p copies runs (0 + o.place) (Some o.copy)
+
+  pub each_ends : (c : ℕ) (body : Body) → body_at bodies c ≡ Some body → EndsOrNone (trees_in body.code.items)
+  each_ends c body is =
+      let o = of_body body (at_is bodies c body is) in
+      let code : trees_in body.code.items ≡ body_for p copies (0 + o.place) o.copy.root o.copy.function = ap (λ (t : BodyTree). t.code) o.is in
+      subst (λ (list : List Tree). EndsOrNone list) (sym code) (ends_any p copies (0 + o.place) o.copy.root o.copy.function)
 
   -- .. and the body of a copy is that of its number, and ends by leaving
   pub body_there : (c : ℕ) (copy : FnCopy) → slice_get copies c ≡ Some copy → is_user copy.function ≡ true → IsBody (core_of p copies) bodies c

@@ -29,7 +29,7 @@ use Rattle.sym_code.specs.declared.code.Sym.{Sym}
 use Rattle.sym_code.specs.declared.code.Sym.TheVariants as syms
 use Rattle.sym_code.specs.declared.code.SymBlock.{SymBlock}
 use Rattle.chip_trace.specs.Arriving.{is_small, keeps_out}
-use Rattle.image_links.specs.Plain.{all_plain, all_given}
+use Rattle.image_links.specs.Plain.{all_plain, all_given, is_own}
 use Rattle.image_links.proofs.Bare.{all_are, are_joined, in_blocks, code_plain}
 use Rattle.image_links.proofs.Blocks.{is_of}
 use Rattle.image_links.proofs.Members.{Has}
@@ -92,21 +92,50 @@ outside_select (syms.Goto target) e = absurd (cc)
 -- ---- plain code
 plain_small : (list : List Sym) → all_plain list ≡ true → all_are is_small list ≡ true
 plain_small [] e = refl
-plain_small (s ∷ list) e = by (not (is_select s)) (is_small s) (keeps_out s) (plain_small list) e where
+plain_small (s ∷ list) e = by (not (is_select s)) (is_small s) (keeps_out s && is_own s) (plain_small list) e where
   by : (a b c : Bool) → (all_plain list ≡ true → all_are is_small list ≡ true) → ((a && (b && c)) && all_plain list) ≡ true → (b && all_are is_small list) ≡ true
   by true true true below h = below h
   by true true false below h = absurd (cc)
   by true false c below h = absurd (cc)
   by false b c below h = absurd (cc)
 
-plain_outside : (list : List Sym) → all_plain list ≡ true → all_are keeps_out list ≡ true
+pub plain_outside : (list : List Sym) → all_plain list ≡ true → all_are keeps_out list ≡ true
 plain_outside [] e = refl
-plain_outside (s ∷ list) e = by (not (is_select s)) (is_small s) (keeps_out s) (plain_outside list) e where
-  by : (a b c : Bool) → (all_plain list ≡ true → all_are keeps_out list ≡ true) → ((a && (b && c)) && all_plain list) ≡ true → (c && all_are keeps_out list) ≡ true
-  by true true true below h = below h
-  by true true false below h = absurd (cc)
-  by true false c below h = absurd (cc)
-  by false b c below h = absurd (cc)
+plain_outside (s ∷ list) e = by (not (is_select s)) (is_small s) (keeps_out s) (is_own s) (plain_outside list) e where
+  by : (a b c d : Bool) → (all_plain list ≡ true → all_are keeps_out list ≡ true) → ((a && (b && (c && d))) && all_plain list) ≡ true → (c && all_are keeps_out list) ≡ true
+  by true true true true below h = below h
+  by true true true false below h = absurd (cc)
+  by true true false d below h = absurd (cc)
+  by true false c d below h = absurd (cc)
+  by false b c d below h = absurd (cc)
+
+pub plain_own : (list : List Sym) → all_plain list ≡ true → all_are is_own list ≡ true
+plain_own [] e = refl
+plain_own (s ∷ list) e = by (not (is_select s)) (is_small s) (keeps_out s) (is_own s) (plain_own list) e where
+  by : (a b c d : Bool) → (all_plain list ≡ true → all_are is_own list ≡ true) → ((a && (b && (c && d))) && all_plain list) ≡ true → (d && all_are is_own list) ≡ true
+  by true true true true below h = below h
+  by true true true false below h = absurd (cc)
+  by true true false d below h = absurd (cc)
+  by true false c d below h = absurd (cc)
+  by false b c d below h = absurd (cc)
+
+own_select : (s : Sym) → is_select s ≡ true → is_own s ≡ true
+own_select (syms.SelectBank bit on) e = refl
+own_select (syms.SelectPage bit target) e = refl
+own_select (syms.Label (labels.Inner n)) e = refl
+own_select (syms.Label labels.Halt) e = absurd (cc)
+own_select (syms.Label labels.Restore) e = absurd (cc)
+own_select (syms.File op file into) e = refl
+own_select (syms.Movwf file) e = refl
+own_select (syms.Clrf file) e = refl
+own_select (syms.Bit op file bit) e = refl
+own_select (syms.Literal op value) e = refl
+own_select (syms.Plain op) e = refl
+own_select (syms.Call target) e = refl
+own_select (syms.Goto target) e = refl
+
+pub selected_own : (list : List Sym) → all_are is_own (bare list) ≡ true → all_are is_own list ≡ true
+selected_own list e = with_selects is_own list own_select e
 
 -- ---- the start block
 byte_small : (n : ℕ) (to : Byte) (first : FirstByte) → IsGood n first → all_are is_small (byte_code to first) ≡ true
@@ -143,7 +172,7 @@ start_small n handler statics good =
 module _ (copies : List FnCopy) (core : CoreProgram) (blocks : List SymBlock) (joined : IsJoined core copies blocks)
     (given : (c : ℕ) (body : Body) → body_at core.bodies.items c ≡ Some body → all_given (trees_of (trees_in body.code.items)) ≡ true) where
   -- each block behind the start block is plain
-  behind_plain : (b : SymBlock) → Has joined.order b → Plain b.list.items
+  pub behind_plain : (b : SymBlock) → Has joined.order b → Plain b.list.items
   behind_plain b h =
       let o = is_of core copies blocks joined b h in
       ap (λ (v : BlockName × List Sym). all_plain v.1) o.is ∙ code_plain copies core.bodies.items given (0 + o.place) o.copy.root o.copy.function

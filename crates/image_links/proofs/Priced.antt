@@ -1,8 +1,6 @@
 -- What instructions cost together with the selects before them.
-use Rattle.std.proofs.Common.{◌≡◌, ℕ, List, Some, ◌∙◌, sym, arith}
-use Rattle.std.specs.Prelude.{slice_get, map, length}
+use Rattle.std.proofs.Common.{ℕ, List, arith}
 use Rattle.std.proofs.lemmas.Option.{slice_get_within}
-use Rattle.bank_page.specs.Selected.{IsExact}
 use Rattle.bank_prices.proofs.Whole.{blocks_are_dear, routines_are_priced}
 use Rattle.bank_prices.specs.Prices.{AreSelected}
 use Rattle.c_typed.specs.Trees.{Program}

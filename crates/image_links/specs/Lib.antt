@@ -1,3 +1,4 @@
 pub mod Passed
 pub mod Plain
 pub mod Selection
+pub mod Assembly

@@ -5,6 +5,7 @@
 //! the links between languages are proved.
 #![tactic(auto)]
 
+ghost use Rattle.image_links.specs.Assembly.{AssemblyIsHad, BeginningIsHad};
 ghost use Rattle.image_links.specs.Passed.{BodiesAreHad, LayoutIsHad, LayoutServes, SelectsAreHad, StartIsHad};
 ghost use Rattle.image_links.specs.Selection.{DepthIsHad, LevelsAreHad, PricesAreHad, ReachIsHad, RoutinesHavePrices, SelectionIsHad};
 
@@ -52,4 +53,16 @@ pub fn calls_are_had()
 /// for: under the levels of its copies as limits, and with chains of calls telling which frames may be live together.
 pub fn selection_is_had()
     ensures { SelectionIsHad }
+{}
+
+/// Of such a program the link between symbolic code and the chip is given all that it asks for, where the words of the blocks stand in
+/// the image, and the map has the objects of the placing.
+pub fn assembly_is_had()
+    ensures { AssemblyIsHad }
+{}
+
+/// Without its selects the start block is the code that sets each object to its first bytes; these are those of the program, and have
+/// room where the objects are placed.
+pub fn beginning_is_had()
+    ensures { BeginningIsHad }
 {}

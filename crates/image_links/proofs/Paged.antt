@@ -1,0 +1,226 @@
+-- A select is for the page of the block in which its target is.
+use Rattle.std.proofs.Common.{◌≡◌, ℕ, zero, suc, ◌+◌, ◌/◌, ◌≤◌, inl, inr, Bool, true, false, ◌&&◌, List, [], ◌∷◌, Option, Some, None, refl, sym, ap, ◌∙◌, subst}
+use Rattle.std.specs.Option.{option_or}
+use Rattle.std.specs.Prelude.{slice_get, IsSome}
+use Rattle.c_typed.specs.Trees.{Program}
+use Rattle.c_typed.specs.declared.calls.FnId.{FnId}
+use Rattle.c_typed.specs.declared.calls.FnId.TheVariants as callees
+use Rattle.call_graph.specs.Numbers.{handler_at}
+use Rattle.call_graph.specs.declared.types.FnCopy.{FnCopy}
+use Rattle.core_code.specs.View.{trees_in}
+use Rattle.core_code.specs.declared.code.Body.{Body}
+use Rattle.core_code.specs.declared.code.CoreProgram.{CoreProgram}
+use Rattle.code_place.specs.Instructions.{known}
+use Rattle.code_place.specs.Layouts.{page_of}
+use Rattle.code_place.specs.Pages.{page_words}
+use Rattle.code_place.specs.Places.{block_place, label_place, label_at, label_of, is_label, at_if, first_place, target_for, HasAddress, HaveAddresses}
+use Rattle.code_place.specs.Sizes.{Stands}
+use Rattle.pic_map.specs.declared.Placed.{Placed}
+use Rattle.pic_world.specs.declared.Root.{Root}
+use Rattle.program_code.specs.Joined.{IsJoined}
+use Rattle.select_wide.specs.Blocks.{body_at, code_by, ending_at}
+use Rattle.select_wide.specs.Selection.{wide_code}
+use Rattle.src_rules.proofs.Starts.{sound_runs}
+use Rattle.sym_code.specs.Programs.{block_of}
+use Rattle.sym_code.specs.Selects.{bare}
+use Rattle.sym_code.specs.Words.{words_of_one}
+use Rattle.sym_code.specs.declared.code.BlockName.{BlockName}
+use Rattle.sym_code.specs.declared.code.BlockName.TheVariants.{Start}
+use Rattle.sym_code.specs.declared.code.Label.{Label}
+use Rattle.sym_code.specs.declared.code.Label.TheVariants as labels
+use Rattle.sym_code.specs.declared.code.PageBit.{PageBit}
+use Rattle.sym_code.specs.declared.code.Sym.{Sym}
+use Rattle.sym_code.specs.declared.code.Sym.TheVariants as syms
+use Rattle.sym_code.specs.declared.code.SymBlock.{SymBlock}
+use Rattle.sym_code.specs.declared.code.Target.{Target}
+use Rattle.sym_code.specs.declared.code.Target.TheVariants as targets
+use Rattle.bank_page.specs.Selected.{names_of, bare_lists}
+use Rattle.image_links.specs.Passed.{IsPassed, code_of}
+use Rattle.image_links.specs.Plain.{is_own}
+use Rattle.image_links.proofs.Bare.{all_are, bare_itself, block_words}
+use Rattle.image_links.proofs.Blocks.{is_of}
+use Rattle.image_links.proofs.Ended.{ends_by_word, ends_bare, label_paged, body_ends, empty_ends, helper_ends, start_ends}
+use Rattle.image_links.proofs.Lowered.{EndsOrNone, each_given, each_ends}
+use Rattle.image_links.proofs.Members.{Has, has_map, map_has}
+use Rattle.image_links.proofs.Named.{tally, named_once, own_place}
+use Rattle.image_links.proofs.Outside.{behind_plain, plain_own, selected_own}
+use Rattle.image_links.proofs.Statics.{some_is}
+
+-- ---- lists
+has_at : {A : Type 0} (xs : List A) (k : ℕ) (x : A) → slice_get xs k ≡ Some x → Has xs x
+has_at [] k x is = absurd (cc)
+has_at (y ∷ xs) zero x is = inl (some_is y x is)
+has_at (y ∷ xs) (suc k) x is = inr (has_at xs k x is)
+
+named_at : (placed : Placed) (target : Target → Option ℕ) (list : List Sym) (i : ℕ) (s : Sym) → HaveAddresses placed target list → slice_get list i ≡ Some s → HasAddress placed target s
+named_at placed target [] i s have is = absurd (cc)
+named_at placed target (x ∷ list) zero s have is = subst (λ (y : Sym). HasAddress placed target y) (some_is x s is) have.0
+named_at placed target (x ∷ list) (suc i) s have is = named_at placed target list i s have.1 is
+
+address_in : (o : Option ℕ) → IsSome o → (a : ℕ) × (o ≡ Some a)
+address_in None e = absurd (cc)
+address_in (Some a) e = (a, refl)
+
+-- ---- labels that stand once
+abbrev is_common : Label → Bool
+is_common (labels.Inner n) = false
+is_common labels.Halt = true
+is_common labels.Restore = true
+
+not_own : (label : Label) (s : Sym) → is_common label ≡ true → is_label label (label_of s) ≡ true → is_own s ≡ false
+not_own labels.Halt (syms.Label labels.Halt) c e = refl
+not_own labels.Halt (syms.Label labels.Restore) c e = refl
+not_own labels.Halt (syms.Label (labels.Inner n)) c e = absurd (cc)
+not_own labels.Restore (syms.Label labels.Halt) c e = refl
+not_own labels.Restore (syms.Label labels.Restore) c e = refl
+not_own labels.Restore (syms.Label (labels.Inner n)) c e = absurd (cc)
+not_own (labels.Inner n) s c e = absurd (cc)
+not_own label (syms.SelectBank bit on) c e = absurd (cc)
+not_own label (syms.SelectPage bit target) c e = absurd (cc)
+not_own label (syms.File op file into) c e = absurd (cc)
+not_own label (syms.Movwf file) c e = absurd (cc)
+not_own label (syms.Clrf file) c e = absurd (cc)
+not_own label (syms.Bit op file bit) c e = absurd (cc)
+not_own label (syms.Literal op value) c e = absurd (cc)
+not_own label (syms.Plain op) c e = absurd (cc)
+not_own label (syms.Call target) c e = absurd (cc)
+not_own label (syms.Goto target) c e = absurd (cc)
+
+none_at : (label : Label) (at : ℕ) (list : List Sym) → is_common label ≡ true → all_are is_own list ≡ true → label_at label at list ≡ None
+none_at label at [] c e = refl
+none_at label at (s ∷ list) c e = by (is_own s) (is_label label (label_of s)) refl refl e (none_at label (at + words_of_one s) list c) where
+  by : (o l : Bool) → is_own s ≡ o → is_label label (label_of s) ≡ l → (o && all_are is_own list) ≡ true → (all_are is_own list ≡ true → label_at label (at + words_of_one s) list ≡ None)
+      → option_or (at_if l at) (label_at label (at + words_of_one s) list) ≡ None
+  by true true own here h below = let f = sym own ∙ not_own label s c here in absurd (cc)
+  by true false own here h below = below h
+  by false l own here h below = absurd (cc)
+
+abbrev place_by : Label → SymBlock → ℕ → Option ℕ
+place_by label block start = label_at label start block.list.items
+
+none_in : (label : Label) (blocks : List SymBlock) (at : List ℕ) → is_common label ≡ true → ((b : SymBlock) → Has blocks b → all_are is_own b.list.items ≡ true) → first_place (place_by label) blocks at ≡ None
+none_in label [] at c all = refl
+none_in label (b ∷ blocks) [] c all = refl
+none_in label (b ∷ blocks) (start ∷ at) c all =
+    ap (λ (o : Option ℕ). option_or o (first_place (place_by label) blocks at)) (none_at label start b.list.items c (all b (inl refl))) ∙ none_in label blocks at c (λ x h. all x (inr h))
+
+or_none : (o p : Option ℕ) → p ≡ None → option_or o p ≡ o
+or_none None p e = e
+or_none (Some a) p e = refl
+
+-- ---- blocks with their selects, and those that they were made of
+record IsMadeOf (given : List SymBlock) (block : SymBlock) : Type 0 where
+  from : SymBlock
+  among : Has given from
+  code : bare from.list.items ≡ bare block.list.items
+
+made_of : (given made : List SymBlock) → bare_lists made ≡ bare_lists given → (b : SymBlock) → Has made b → IsMadeOf given b
+made_of given made same b has =
+    let x = has_map (λ (g : SymBlock). bare g.list.items) given (bare b.list.items) (subst (λ (l : List (List Sym)). Has l (bare b.list.items)) same (map_has (λ (g : SymBlock). bare g.list.items) made b has)) in
+    record { from = x.0; among = x.1; code = x.2 }
+
+abbrev rest_of : {A : Type 0} → List A → List A
+rest_of [] = []
+rest_of (x ∷ xs) = xs
+
+abbrev first_or : {A : Type 0} → A → List A → A
+first_or d [] = d
+first_or d (x ∷ xs) = x
+
+module _ (p : Program) (copies : List FnCopy) (core : CoreProgram) (given made : List SymBlock) (placed : Placed) (at : List ℕ) (passed : IsPassed p copies core given made placed at) where
+  abbrev joined : IsJoined core copies given
+  joined = passed.joined
+
+  -- code as it was selected ends by a word
+  by_ends : (c : ℕ) (o : Option Body) → body_at core.bodies.items c ≡ o → ends_by_word true (code_by copies c o) ≡ true
+  by_ends c None is = refl
+  by_ends c (Some body) is = either (each_ends p copies (sound_runs p passed.sound passed.roots passed.numbers) core.bodies.items passed.bodies c body is) where
+    either : EndsOrNone (trees_in body.code.items) → ends_by_word true (code_by copies c (Some body)) ≡ true
+    either (inl e) = empty_ends (λ at before tree. wide_code copies body.root before tree) (ending_at (handler_at copies) c) (trees_in body.code.items) e
+    either (inr (front, e)) = body_ends (λ at before tree. wide_code copies body.root before tree) (ending_at (handler_at copies) c) (trees_in body.code.items) front e
+
+  code_ends : (c : ℕ) (root : Root) (f : FnId) → ends_by_word true (code_of core.bodies.items copies c root f) ≡ true
+  code_ends c root (callees.User f) = by_ends c (body_at core.bodies.items c) refl
+  code_ends c root (callees.Helper h) = helper_ends h root c
+
+  given_ends : (b : SymBlock) → Has (joined.start ∷ joined.order) b → ends_by_word true b.list.items ≡ true
+  given_ends b (inl same) = ap (λ (x : SymBlock). ends_by_word true x.list.items) (sym same) ∙ ap (ends_by_word true) joined.exact ∙ start_ends (handler_at copies) core.statics.items
+  given_ends b (inr h) =
+      let o = is_of core copies given joined b h in
+      ap (λ (v : BlockName × List Sym). ends_by_word true v.1) o.is ∙ code_ends (0 + o.place) o.copy.root o.copy.function
+
+  -- no select stands in a block that is given
+  given_bare : (b : SymBlock) → Has (joined.start ∷ joined.order) b → bare b.list.items ≡ b.list.items
+  given_bare b has = bare_itself b.list.items (block_words copies core given joined (each_given p copies (sound_runs p passed.sound passed.roots passed.numbers) core.bodies.items passed.bodies) b has)
+
+  made_ends : (b : SymBlock) → Has made b → ends_by_word true b.list.items ≡ true
+  made_ends b has =
+      let from = made_of given made passed.bare b has in
+      let among : Has (joined.start ∷ joined.order) from.from = subst (λ (bs : List SymBlock). Has bs from.from) joined.whole from.among in
+      ends_bare true b.list.items (ap (ends_by_word true) (sym from.code ∙ given_bare from.from among) ∙ given_ends from.from among)
+
+  -- the label is in the page of its block
+  paged : (k : ℕ) (block : SymBlock) (start : ℕ) (label : Label) → slice_get made k ≡ Some block → slice_get at k ≡ Some start → IsSome (label_at label start block.list.items)
+      → known (label_at label start block.list.items) / page_words ≡ start / page_words
+  paged k block start label is there some =
+      let a = address_in (label_at label start block.list.items) some in
+      let room : Stands block (Some start) (slice_get at (k + 1)) = subst (λ (o : Option ℕ). Stands block o (slice_get at (k + 1))) there (passed.fit k block is) in
+      ap (λ (o : Option ℕ). known o / page_words) a.1 ∙ label_paged label start block.list.items a.0 (made_ends block (has_at made k block is)) room.1 a.1
+
+  own_at : (k : ℕ) (block : SymBlock) (start : ℕ) → slice_get made k ≡ Some block → slice_get at k ≡ Some start → block_place made at block.name ≡ Some start
+  own_at k block start is there = own_place made at k block start is there (subst (λ (ns : List BlockName). tally block.name ns ≤ 1) (sym passed.names) (named_once core copies given joined block.name))
+
+  own_page : (k : ℕ) (block : SymBlock) (start : ℕ) → slice_get made k ≡ Some block → slice_get at k ≡ Some start → page_of made at block.name ≡ start / page_words
+  own_page k block start is there = ap (λ (o : Option ℕ). known o / page_words) (own_at k block start is there)
+
+  -- ---- labels of the start block
+  behind_own : (rest : List SymBlock) (first : SymBlock) → made ≡ first ∷ rest → (b : SymBlock) → Has rest b → all_are is_own b.list.items ≡ true
+  behind_own rest first whole b has =
+      let lists : bare_lists rest ≡ bare_lists joined.order = ap rest_of (sym (ap bare_lists whole) ∙ passed.bare ∙ ap bare_lists joined.whole) in
+      let from = made_of joined.order rest lists b has in
+      selected_own b.list.items
+      (ap (all_are is_own) (sym from.code ∙ given_bare from.from (inr from.among))
+      ∙ plain_own from.from.list.items (behind_plain copies core given joined (each_given p copies (sound_runs p passed.sound passed.roots passed.numbers) core.bodies.items passed.bodies) from.from from.among))
+
+  record IsFront : Type 0 where
+    first : SymBlock
+    rest : List SymBlock
+    whole : made ≡ first ∷ rest
+    name : first.name ≡ Start
+    start : ℕ
+    addresses : List ℕ
+    places : at ≡ start ∷ addresses
+
+  front_of : (bs : List SymBlock) (addresses : List ℕ) → made ≡ bs → at ≡ addresses → names_of bs ≡ names_of given → IsFront
+  front_of [] addresses whole places names = let e = names ∙ ap names_of joined.whole in absurd (cc)
+  front_of (b ∷ bs) [] whole places names =
+      let here = passed.fit 0 b (ap (λ (l : List SymBlock). slice_get l 0) whole) in
+      absurd (subst (λ (l : List ℕ). Stands b (slice_get l 0) (slice_get l (0 + 1))) places here)
+  front_of (b ∷ bs) (a ∷ addresses) whole places names =
+      record { first = b; rest = bs; whole = whole; name = ap (first_or b.name) (names ∙ ap names_of joined.whole) ∙ joined.name; start = a; addresses = addresses; places = places }
+
+  front : IsFront
+  front = front_of made at refl refl passed.names
+
+  common_paged : (label : Label) → is_common label ≡ true → IsSome (label_place made at label) → known (label_place made at label) / page_words ≡ page_of made at Start
+  common_paged label common some =
+      let f = front in
+      let first : slice_get made 0 ≡ Some f.first = ap (λ (l : List SymBlock). slice_get l 0) f.whole in
+      let there : slice_get at 0 ≡ Some f.start = ap (λ (l : List ℕ). slice_get l 0) f.places in
+      let place : label_place made at label ≡ label_at label f.start f.first.list.items =
+      ap (λ (l : List SymBlock). label_place l at label) f.whole ∙ ap (λ (l : List ℕ). label_place (f.first ∷ f.rest) l label) f.places
+      ∙ or_none (label_at label f.start f.first.list.items) (first_place (place_by label) f.rest f.addresses) (none_in label f.rest f.addresses common (behind_own f.rest f.first f.whole)) in
+      ap (λ (o : Option ℕ). known o / page_words) place
+      ∙ paged 0 f.first f.start label first there (subst (λ (o : Option ℕ). IsSome o) place some)
+      ∙ sym (own_page 0 f.first f.start first there) ∙ ap (page_of made at) f.name
+
+  pub selects_paged : (k : ℕ) (block : SymBlock) (start i : ℕ) (bit : PageBit) (target : Target) → slice_get made k ≡ Some block → slice_get at k ≡ Some start
+      → slice_get block.list.items i ≡ Some (syms.SelectPage bit target) → known (target_for made at block start target) / page_words ≡ page_of made at (block_of block.name target)
+  selects_paged k block start i bit (targets.Block name) is there has = refl
+  selects_paged k block start i bit (targets.Label (labels.Inner n)) is there has =
+      let named = named_at placed (target_for made at block start) block.list.items i (syms.SelectPage bit (targets.Label (labels.Inner n))) (passed.named k block start is there) has in
+      paged k block start (labels.Inner n) is there named ∙ sym (own_page k block start is there)
+  selects_paged k block start i bit (targets.Label labels.Halt) is there has =
+      common_paged labels.Halt refl (named_at placed (target_for made at block start) block.list.items i (syms.SelectPage bit (targets.Label labels.Halt)) (passed.named k block start is there) has)
+  selects_paged k block start i bit (targets.Label labels.Restore) is there has =
+      common_paged labels.Restore refl (named_at placed (target_for made at block start) block.list.items i (syms.SelectPage bit (targets.Label labels.Restore)) (passed.named k block start is there) has)
