@@ -1,0 +1,4 @@
+pub mod Rooms
+pub mod Roomy
+pub mod Shallow
+pub mod Seen
