@@ -1,4 +1,5 @@
 pub mod Rooms
 pub mod Roomy
 pub mod Shallow
+pub mod Ways
 pub mod Seen

@@ -4,7 +4,7 @@ use Rattle.std.proofs.lemmas.List.{length-append}
 use Rattle.std.specs.Prelude.{if◌then◌else◌, pos}
 use Rattle.source_room.specs.Depth.{expression_depth, arguments_depth, place_depth, item_depth, items_depth, statement_depth, body_depth, arm_depth, arms_depth}
 use Rattle.c_typed.specs.Trees as tree
-use Rattle.c_typed.specs.Trees.{Expression, Expressions, Place, Item, Statement, Statements, Arm, Arms, LastArm, Program}
+use Rattle.c_typed.specs.Trees.{Expression, Expressions, Place, Statement, Program}
 use Rattle.c_typed.specs.declared.expression.LogicalOp.{LogicalOp}
 use Rattle.c_typed.specs.declared.types.Ty.{Ty}
 use Rattle.c_typed.specs.declared.types.Ty.TheVariants as types
@@ -15,7 +15,7 @@ use Rattle.src_rules.specs.Giving.{answered, used, branch, logical, truth_given,
 use Rattle.src_rules.specs.Laws.{values_in}
 use Rattle.src_rules.specs.State.{Outcome, Went, Undefined, Idle, Lost}
 use Rattle.src_values.specs.Control as control
-use Rattle.src_values.specs.Control.{Focus, Eval, Find, Holds, Run, Past, Got, Nothing, Chosen, One, At, AtWith, Stores, Copies, Args, Passed, Called, Stage, Tests, Begins, Steps, Turns, Picks, InArm, Chooses, Fills, AtItem, Items, Blanks, Pending, In, To, Doing, Before, Returns, Resumes, read_type}
+use Rattle.src_values.specs.Control.{Focus, Eval, Find, Run, Got, Nothing, Chosen, One, At, AtWith, Args, Passed, Stage, Picks, AtItem, Items, Pending, In, To, Doing, Before, Returns, Resumes}
 use Rattle.src_values.specs.Data.{Datum, Number, Pointer, Missing}
 use Rattle.src_values.specs.Memory.{Setting, Memory}
 use Rattle.src_values.specs.Objects.{function_at, moved}

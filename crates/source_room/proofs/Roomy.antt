@@ -1,9 +1,9 @@
 -- How much waits at a time: statements, accesses and calls.
-use Rattle.std.proofs.Common.{◌≡◌, ℕ, zero, suc, ◌+◌, ◌-◌, ◌≤◌, Bool, true, false, List, [], ◌∷◌, length, Option, Some, None, arith}
+use Rattle.std.proofs.Common.{ℕ, zero, suc, ◌+◌, ◌-◌, ◌≤◌, Bool, true, false, List, [], ◌∷◌, length, Option, Some, None, arith}
 use Rattle.std.specs.Prelude.{if◌then◌else◌, nat_lt}
 use Rattle.source_room.specs.Depth.{items_depth, statement_depth, body_depth, arms_depth}
 use Rattle.c_typed.specs.Trees as tree
-use Rattle.c_typed.specs.Trees.{Expression, Expressions, Place, Item, Statement, Statements, Arm, Arms, LastArm, Program}
+use Rattle.c_typed.specs.Trees.{Expression, Item, Statement, Statements, Arms, LastArm, Program}
 use Rattle.c_typed.specs.Types.{type_bytes}
 use Rattle.c_typed.specs.declared.statement.LoopForm.{LoopForm}
 use Rattle.c_typed.specs.declared.statement.LoopForm.TheVariants.{While, Do, For}
@@ -20,7 +20,7 @@ use Rattle.src_values.specs.Accesses.{Taking, Takes, Breaks, Putting, Puts, Refu
 use Rattle.src_values.specs.Counting.{counted_line}
 use Rattle.src_values.specs.Lists.{covered_from}
 use Rattle.src_values.specs.Control as control
-use Rattle.src_values.specs.Control.{Focus, Eval, Find, Holds, Run, Past, Got, Nothing, Chosen, One, At, AtWith, Stores, Copies, Args, Passed, Called, Stage, Tests, Begins, Steps, Turns, Picks, InArm, Chooses, Fills, AtItem, Items, Blanks, Pending, In, To, Doing, Before, Returns, Resumes, line_at, read_type}
+use Rattle.src_values.specs.Control.{Focus, Eval, Find, Holds, Run, Past, Got, At, Stores, Copies, Passed, Called, Stage, Tests, Begins, Steps, Turns, Picks, InArm, Chooses, Fills, AtItem, Items, Blanks, Pending, In, To, Doing, Before, Returns, Resumes, line_at, read_type}
 use Rattle.src_values.specs.Data.{Datum, Missing}
 use Rattle.src_values.specs.Memory.{Setting, Memory}
 use Rattle.src_values.specs.Objects.{handler_in, local_of}

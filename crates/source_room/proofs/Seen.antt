@@ -1,5 +1,5 @@
 -- The depth of each node of the code from the depths of its parts, and of lists.
-use Rattle.std.proofs.Common.{◌≡◌, ℕ, ◌+◌, ◌*◌, ◌<◌, ◌≤◌, ◌^◌, max, List, [], ◌∷◌, Option, Some, None, map, drop, length, refl, sym, ap, ◌∙◌, arith}
+use Rattle.std.proofs.Common.{◌≡◌, ℕ, ◌+◌, ◌<◌, ◌≤◌, ◌^◌, max, List, [], ◌∷◌, Option, Some, None, map, drop, length, refl, sym, ap, ◌∙◌, arith}
 use Rattle.std.proofs.Math.ListN.{get_or}
 use Rattle.std.proofs.lemmas.List.{drop_more, drop_all}
 use Rattle.std.specs.Global.{Box}
@@ -155,6 +155,16 @@ pub see_arm : (arm : TArm) → arm_depth (arm_of arm) ≡ max (expression_depth 
 unfolding statement_depth
 see_arm arm = ap arm_depth (show_arm arm)
 
+pub see_some_last : (last : Box StmtOf.TStmt) → last_depth (last_arm_of (Some last)) ≡ statement_depth (statement_of last.value)
+unfolding statement_depth
+see_some_last last = refl
+
+pub see_no_last : last_depth (last_arm_of None) ≡ 0
+unfolding statement_depth
+see_no_last = refl
+
+pub ruleset lasts = (see_some_last, see_no_last)
+
 pub ruleset expressions = (see_expression_constant, see_expression_read, see_expression_address, see_expression_convert, see_expression_cast, see_expression_unary, see_expression_binary, see_expression_offset, see_expression_difference, see_expression_logical, see_expression_conditional, see_expression_comma, see_expression_assign, see_expression_struct_assign, see_expression_update, see_expression_step, see_expression_call)
 
 pub ruleset places = (see_place_name, see_place_bit, see_place_member, see_place_deref)
@@ -209,3 +219,44 @@ arguments_ended out count before rest whole none fits fits_too put so_far = omeg
 pub all_arguments : (xs : List TExpr) (i out count before whole : ℕ) → length xs ≤ i → out ≡ max count before → arguments_so_far count before (drop i xs) whole → out ≡ capped whole
 unfolding expression_depth
 all_arguments xs i out count before whole past put so_far = arguments_ended out count before (arguments_depth (arguments_of (map expression_of (drop i xs)))) whole (ap (λ l. arguments_depth (arguments_of (map expression_of l))) (drop_all i xs past)) so_far.0 so_far.1 put so_far.2
+
+-- ---- the lists of a tree
+abbrev pub items_in : List TItem → ℕ
+items_in xs = items_depth (map item_of xs)
+
+abbrev pub item_in : TItem → ℕ
+item_in x = item_depth (item_of x)
+
+abbrev pub statements_in : List StmtOf.TStmt → ℕ
+statements_in xs = body_depth (statements_of (map statement_of xs))
+
+abbrev pub statement_in : StmtOf.TStmt → ℕ
+statement_in x = statement_depth (statement_of x)
+
+abbrev pub arms_in : List TArm → ℕ
+arms_in xs = arms_depth (arms_of (map arm_of xs))
+
+abbrev pub arm_in : TArm → ℕ
+arm_in x = arm_depth (arm_of x)
+
+abbrev pub functions_in : List Function → ℕ
+functions_in xs = functions_depth (map function_of xs)
+
+abbrev pub function_in : Function → ℕ
+function_in x = function_depth (function_of x)
+
+pub more_statements : (x : StmtOf.TStmt) (xs : List StmtOf.TStmt) → statements_in (x ∷ xs) ≡ max (statement_in x) (statements_in xs)
+unfolding statement_depth
+more_statements x xs = refl
+
+pub no_statements : statements_in [] ≡ 0
+unfolding statement_depth
+no_statements = refl
+
+pub more_arms : (x : TArm) (xs : List TArm) → arms_in (x ∷ xs) ≡ max (arm_in x) (arms_in xs)
+unfolding statement_depth
+more_arms x xs = refl
+
+pub no_arms : arms_in [] ≡ 0
+unfolding statement_depth
+no_arms = refl

@@ -1,5 +1,5 @@
 -- The stack is within what the longest ways through the functions' bodies need, once for each root.
-use Rattle.std.proofs.Common.{◌≡◌, ℕ, zero, suc, ◌+◌, ◌*◌, ◌<◌, ◌≤◌, ◌⊎◌, inl, inr, ⊎_elim, Bool, true, false, ◌&&◌, nat_eq, List, [], ◌∷◌, length, refl, sym, ap, ◌∙◌, subst, arith}
+use Rattle.std.proofs.Common.{◌≡◌, ℕ, zero, suc, ◌+◌, ◌<◌, ◌≤◌, ◌⊎◌, inl, inr, ⊎_elim, Bool, true, false, ◌&&◌, nat_eq, List, [], ◌∷◌, length, refl, sym, ap, ◌∙◌, subst, arith}
 use Rattle.std.proofs.lemmas.Bool.{false≢true, cases_eq, cases_lt}
 use Rattle.std.proofs.lemmas.Grind.{common_steps}
 use Rattle.std.specs.Prelude.{if◌then◌else◌, slice_get}
@@ -13,17 +13,17 @@ use Rattle.pic_world.specs.declared.Root.{Root}
 use Rattle.pic_world.specs.declared.Root.TheVariants.{Main, Isr}
 use Rattle.src_rules.proofs.Distinct.{Leads, leads_on, caller_calls, among_cases, main_is_no_handler, isr_no_main, never}
 use Rattle.src_rules.proofs.Moments.{moments}
-use Rattle.source_room.proofs.Rooms.{body_room, cap, GotSized, StageSized, FocusSized, Sized, KeepsSize, some_node}
+use Rattle.source_room.proofs.Rooms.{body_room, cap, GotSized, FocusSized, Sized, KeepsSize, some_node}
 use Rattle.source_room.proofs.Roomy.{step_size}
 use Rattle.src_rules.proofs.Starts.{or_false}
 use Rattle.src_rules.proofs.Values.{same_nat}
-use Rattle.src_rules.specs.Laws.{IsProper, IsOfBytes, AreDistinct, values_in, entries}
+use Rattle.src_rules.specs.Laws.{AreDistinct, values_in, entries}
 use Rattle.source_room.specs.Laws.{StackIsShallow}
 use Rattle.src_rules.specs.Runs.{gone, run, moment}
 use Rattle.src_rules.specs.Standing.{StackStands, Stands}
 use Rattle.src_rules.specs.State.{State, Outcome, Went, Undefined, Idle, Lost}
 use Rattle.src_rules.specs.Step.{start, step}
-use Rattle.src_values.specs.Control.{Got, Args, Passed, Stage, Picks, InArm, Pending, In, To, Doing, Before, Returns, Resumes}
+use Rattle.src_values.specs.Control.{Got, Args, Passed, Pending, In, To, Doing, Before, Returns, Resumes}
 use Rattle.src_values.specs.Memory.{Setting}
 use Rattle.src_values.specs.Objects.{or_no_function, function_at, same_copy, is_among}
 use Rattle.src_values.specs.declared.objects.CopyOf.{CopyOf}
@@ -45,7 +45,7 @@ statement_real (tree.Empty line) = omega arith
 statement_real _ = omega arith
 
 -- the entries that the copies which run and wait may have together
-budget : Program → CopyOf → List Pending → ℕ
+unfoldable pub budget : Program → CopyOf → List Pending → ℕ
 budget p c [] = body_room p c
 budget p c (In e got ∷ k) = budget p c k
 budget p c (To place ∷ k) = budget p c k
@@ -54,7 +54,7 @@ budget p c (Before ss ∷ k) = budget p c k
 budget p c (Returns d ∷ k) = 1 + body_room p c + budget p d k
 budget p c (Resumes d x ∷ k) = 1 + body_room p c + budget p d k
 
-within : (p : Program) (k : List Pending) (c : CopyOf) → Sized p c k → entries k + cap p c k ≤ budget p c k
+pub within : (p : Program) (k : List Pending) (c : CopyOf) → Sized p c k → entries k + cap p c k ≤ budget p c k
 unfolding budget
 within p [] c z = omega arith
 within p (In e got ∷ k) c z = let i = within p k c z.2 in let a = z.0 in let d = got_real e got z.1 in omega arith
@@ -251,7 +251,7 @@ stack_shallow p acyclic t h z =
     omega arith
 
 -- ---- each moment
-IsSized : Program → State → Type 0
+unfoldable pub IsSized : Program → State → Type 0
 IsSized p t = FocusSized p t.copy t.focus t.stack × Sized p t.copy t.stack
 
 gone_sized : (p : Program) (t : State) (out : Outcome) → IsSized p t → KeepsSize p out → IsSized p (gone t out)
@@ -265,7 +265,7 @@ start_sized : (s : Setting) → IsSized s.program (start s)
 unfolding IsSized start
 start_sized s = (tt, (omega arith, tt))
 
-moment_sized : (s : Setting) (n : ℕ) → IsSized s.program (moment s n)
+pub moment_sized : (s : Setting) (n : ℕ) → IsSized s.program (moment s n)
 unfolding run IsSized
 moment_sized s zero = start_sized s
 moment_sized s (suc n) = let i = moment_sized s n in gone_sized s.program (moment s n) (step s (moment s n)) i (step_size s (moment s n) i.0 i.1)

@@ -155,7 +155,11 @@ fn depth_of_statement(statement: &TStmt) -> u64
                 ),
             ),
         ),
-        TStmt::Switch { value, statements, .. } => plus(
+        TStmt::Switch {
+            value,
+            statements,
+            ..
+        } => plus(
             1,
             greatest(
                 depth_of_expression(value),
@@ -167,6 +171,7 @@ fn depth_of_statement(statement: &TStmt) -> u64
 }
 
 #[cycle(statements)]
+#[tactic(auto, using(crate::proofs::Seen::lasts))]
 fn depth_of_last(last: &Option<Box<TStmt>>) -> u64
     ensures { result ≡ capped (depth.last_depth (last_arm_of last.now)) }
 {
@@ -203,7 +208,10 @@ fn depth_of_arms(arms: &[TArm]) -> u64
 fn depth_of_arm(arm: &TArm) -> u64
     ensures { result ≡ capped (depth.arm_depth (arm_of arm.now)) }
 {
-    greatest(depth_of_expression(&arm.condition), depth_of_statement(&arm.then))
+    greatest(
+        depth_of_expression(&arm.condition),
+        depth_of_statement(&arm.then),
+    )
 }
 
 fn depth_of_function(function: &Function) -> u64
