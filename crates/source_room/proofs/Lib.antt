@@ -3,3 +3,5 @@ pub mod Roomy
 pub mod Shallow
 pub mod Ways
 pub mod Seen
+pub mod NodeCounts
+pub mod Few

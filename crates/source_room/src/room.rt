@@ -1,6 +1,6 @@
 //! The entries of the stack that a program's runs need at most, counted on its tree. It takes no memory.
 
-ghost use Rattle.std.specs.Prelude.{◌≡◌, ◌+◌, max, map};
+ghost use Rattle.std.specs.Prelude.{◌≡◌, ◌+◌, ◌≤◌, max, map};
 ghost use Rattle.std.specs.Option.{option_map};
 ghost use Rattle.c_typed.specs.Nodes.{capped};
 ghost use Rattle.c_typed.specs.Views.{expression_of, place_of, arguments_of, item_of, statement_of, statements_of, arm_of, arms_of, last_arm_of, program_of, function_of};
@@ -230,11 +230,12 @@ fn depth_of_functions(functions: &[Function]) -> u64
     count
 }
 
-/// How many entries the stack of a run of the program has at most, where no function reaches itself; or the greatest number there is,
-/// if they are more.
-pub fn most_entries(program: &Typed) -> u64
-    ensures { result ≡ capped (depth.most_entries (program_of program.now)) }
+/// How many entries the stack of a run of the program has at most, where no function reaches itself: at most 6 times 2 to the 28.
+#[tactic(auto, using(crate::proofs::Few::few))]
+pub fn most_entries(program: &Typed) -> usize
+    ensures exact { result ≡ depth.most_entries (program_of program.now) }
+    ensures few { result ≤ 1610612736 }
 {
     let count = depth_of_functions(&program.functions);
-    plus(count, count)
+    plus(count, count) as usize
 }
