@@ -1,0 +1,262 @@
+-- The depth of each node of the code from the depths of its parts, and of lists.
+use Rattle.std.proofs.Common.{◌≡◌, ℕ, ◌+◌, ◌<◌, ◌≤◌, ◌^◌, max, List, [], ◌∷◌, Option, Some, None, map, drop, length, refl, sym, ap, ◌∙◌, arith}
+use Rattle.std.proofs.Math.ListN.{get_or}
+use Rattle.std.proofs.lemmas.List.{drop_more, drop_all}
+use Rattle.std.specs.Global.{Box}
+use Rattle.std.specs.Option.{option_map}
+use Rattle.c_typed.proofs.Shapes.{show_expression_constant, show_expression_read, show_expression_address, show_expression_convert, show_expression_cast, show_expression_unary, show_expression_binary, show_expression_offset, show_expression_difference, show_expression_logical, show_expression_conditional, show_expression_comma, show_expression_assign, show_expression_struct_assign, show_expression_update, show_expression_step, show_expression_call, show_place_name, show_place_bit, show_place_member, show_place_deref, show_statement_block, show_statement_empty, show_statement_expr, show_statement_declare, show_statement_init_scalar, show_statement_init_list, show_statement_loop, show_statement_switch, show_statement_break, show_statement_continue, show_statement_return, show_statement_if_alone, show_statement_if_else, show_arm}
+use Rattle.c_typed.specs.Nodes.{capped}
+use Rattle.c_typed.specs.Views.{expression_of, place_of, arguments_of, item_of, statement_of, statements_of, arm_of, arms_of, last_arm_of, function_of}
+use Rattle.c_typed.specs.declared.expression.TExpr.{TExpr}
+use Rattle.c_typed.specs.declared.expression.TExpr.TheVariants as TExpr
+use Rattle.c_typed.specs.declared.expression.TPlace.TheVariants as TPlace
+use Rattle.c_typed.specs.declared.program.Function.{Function}
+use Rattle.c_typed.specs.declared.statement.TArm.{TArm}
+use Rattle.c_typed.specs.declared.statement.TItem.{TItem}
+use Rattle.c_typed.specs.declared.statement.TStmt as StmtOf
+use Rattle.c_typed.specs.declared.statement.TStmt.TheVariants as TStmt
+use Rattle.c_typed.specs.declared.statement.TStmt.TheViews.{out-TArm}
+use Rattle.source_room.specs.Depth.{expression_depth, arguments_depth, place_depth, any_depth, item_depth, items_depth, statement_depth, body_depth, arm_depth, arms_depth, last_depth, function_depth, functions_depth}
+
+pub see_expression_constant : (value : _) (line : _) → expression_depth (expression_of (TExpr.Constant value line)) ≡ 1
+unfolding expression_depth
+see_expression_constant value line = ap expression_depth (show_expression_constant value line)
+
+pub see_expression_read : (place : _) (ty : _) (line : _) → expression_depth (expression_of (TExpr.Read place ty line)) ≡ 1 + place_depth (place_of place.value)
+unfolding expression_depth
+see_expression_read place ty line = ap expression_depth (show_expression_read place ty line)
+
+pub see_expression_address : (place : _) (ty : _) (line : _) → expression_depth (expression_of (TExpr.Address place ty line)) ≡ 1 + place_depth (place_of place.value)
+unfolding expression_depth
+see_expression_address place ty line = ap expression_depth (show_expression_address place ty line)
+
+pub see_expression_convert : (operand : _) (ty : _) (line : _) → expression_depth (expression_of (TExpr.Convert operand ty line)) ≡ 1 + expression_depth (expression_of operand.value)
+unfolding expression_depth
+see_expression_convert operand ty line = ap expression_depth (show_expression_convert operand ty line)
+
+pub see_expression_cast : (operand : _) (ty : _) (line : _) → expression_depth (expression_of (TExpr.Cast operand ty line)) ≡ 1 + expression_depth (expression_of operand.value)
+unfolding expression_depth
+see_expression_cast operand ty line = ap expression_depth (show_expression_cast operand ty line)
+
+pub see_expression_unary : (op : _) (operand : _) (ty : _) (line : _) → expression_depth (expression_of (TExpr.Unary op operand ty line)) ≡ 1 + expression_depth (expression_of operand.value)
+unfolding expression_depth
+see_expression_unary op operand ty line = ap expression_depth (show_expression_unary op operand ty line)
+
+pub see_expression_binary : (op : _) (left : _) (right : _) (ty : _) (line : _) → expression_depth (expression_of (TExpr.Binary op left right ty line)) ≡ 1 + max (expression_depth (expression_of left.value)) (expression_depth (expression_of right.value))
+unfolding expression_depth
+see_expression_binary op left right ty line = ap expression_depth (show_expression_binary op left right ty line)
+
+pub see_expression_offset : (op : _) (left : _) (right : _) (size : _) (ty : _) (line : _) → expression_depth (expression_of (TExpr.Offset op left right size ty line)) ≡ 1 + max (expression_depth (expression_of left.value)) (expression_depth (expression_of right.value))
+unfolding expression_depth
+see_expression_offset op left right size ty line = ap expression_depth (show_expression_offset op left right size ty line)
+
+pub see_expression_difference : (left : _) (right : _) (size : _) (line : _) → expression_depth (expression_of (TExpr.Difference left right size line)) ≡ 1 + max (expression_depth (expression_of left.value)) (expression_depth (expression_of right.value))
+unfolding expression_depth
+see_expression_difference left right size line = ap expression_depth (show_expression_difference left right size line)
+
+pub see_expression_logical : (op : _) (left : _) (right : _) (line : _) → expression_depth (expression_of (TExpr.Logical op left right line)) ≡ 1 + max (expression_depth (expression_of left.value)) (expression_depth (expression_of right.value))
+unfolding expression_depth
+see_expression_logical op left right line = ap expression_depth (show_expression_logical op left right line)
+
+pub see_expression_conditional : (condition : _) (chosen : _) (otherwise : _) (ty : _) (line : _) → expression_depth (expression_of (TExpr.Conditional condition chosen otherwise ty line)) ≡ 1 + max (expression_depth (expression_of condition.value)) (max (expression_depth (expression_of chosen.value)) (expression_depth (expression_of otherwise.value)))
+unfolding expression_depth
+see_expression_conditional condition chosen otherwise ty line = ap expression_depth (show_expression_conditional condition chosen otherwise ty line)
+
+pub see_expression_comma : (left : _) (right : _) (ty : _) (line : _) → expression_depth (expression_of (TExpr.Comma left right ty line)) ≡ 1 + max (expression_depth (expression_of left.value)) (expression_depth (expression_of right.value))
+unfolding expression_depth
+see_expression_comma left right ty line = ap expression_depth (show_expression_comma left right ty line)
+
+pub see_expression_assign : (place : _) (value : _) (ty : _) (line : _) → expression_depth (expression_of (TExpr.Assign place value ty line)) ≡ 1 + max (place_depth (place_of place.value)) (expression_depth (expression_of value.value))
+unfolding expression_depth
+see_expression_assign place value ty line = ap expression_depth (show_expression_assign place value ty line)
+
+pub see_expression_struct_assign : (place : _) (from : _) (size : _) (line : _) → expression_depth (expression_of (TExpr.StructAssign place from size line)) ≡ 1 + max (place_depth (place_of place.value)) (place_depth (place_of from.value))
+unfolding expression_depth
+see_expression_struct_assign place from size line = ap expression_depth (show_expression_struct_assign place from size line)
+
+pub see_expression_update : (op : _) (place : _) (value : _) (operation : _) (size : _) (ty : _) (line : _) → expression_depth (expression_of (TExpr.Update op place value operation size ty line)) ≡ 1 + max (place_depth (place_of place.value)) (expression_depth (expression_of value.value))
+unfolding expression_depth
+see_expression_update op place value operation size ty line = ap expression_depth (show_expression_update op place value operation size ty line)
+
+pub see_expression_step : (op : _) (place : _) (operation : _) (size : _) (ty : _) (line : _) → expression_depth (expression_of (TExpr.Step op place operation size ty line)) ≡ 1 + place_depth (place_of place.value)
+unfolding expression_depth
+see_expression_step op place operation size ty line = ap expression_depth (show_expression_step op place operation size ty line)
+
+pub see_expression_call : (function : _) (arguments : _) (ty : _) (line : _) → expression_depth (expression_of (TExpr.Call function arguments ty line)) ≡ 1 + arguments_depth (arguments_of (map expression_of arguments.items))
+unfolding expression_depth
+see_expression_call function arguments ty line = ap expression_depth (show_expression_call function arguments ty line)
+
+pub see_place_name : (object : _) (ty : _) (line : _) → place_depth (place_of (TPlace.Name object ty line)) ≡ 1
+unfolding place_depth
+see_place_name object ty line = ap place_depth (show_place_name object ty line)
+
+pub see_place_bit : (register : _) (bit : _) (line : _) → place_depth (place_of (TPlace.Bit register bit line)) ≡ 1
+unfolding place_depth
+see_place_bit register bit line = ap place_depth (show_place_bit register bit line)
+
+pub see_place_member : (whole : _) (member : _) (offset : _) (ty : _) (line : _) → place_depth (place_of (TPlace.Member whole member offset ty line)) ≡ 1 + place_depth (place_of whole.value)
+unfolding place_depth
+see_place_member whole member offset ty line = ap place_depth (show_place_member whole member offset ty line)
+
+pub see_place_deref : (pointer : _) (ty : _) (line : _) → place_depth (place_of (TPlace.Deref pointer ty line)) ≡ 1 + expression_depth (expression_of pointer.value)
+unfolding place_depth
+see_place_deref pointer ty line = ap place_depth (show_place_deref pointer ty line)
+
+pub see_statement_block : (statements : _) (line : _) → statement_depth (statement_of (TStmt.Block statements line)) ≡ 1 + body_depth (statements_of (map statement_of statements.items))
+unfolding statement_depth
+see_statement_block statements line = ap statement_depth (show_statement_block statements line)
+
+pub see_statement_empty : (line : _) → statement_depth (statement_of (TStmt.Empty line)) ≡ 1
+unfolding statement_depth
+see_statement_empty line = ap statement_depth (show_statement_empty line)
+
+pub see_statement_expr : (value : _) (line : _) → statement_depth (statement_of (TStmt.Expr value line)) ≡ 1 + expression_depth (expression_of value)
+unfolding statement_depth
+see_statement_expr value line = ap statement_depth (show_statement_expr value line)
+
+pub see_statement_declare : (local : _) (line : _) → statement_depth (statement_of (TStmt.Declare local line)) ≡ 1
+unfolding statement_depth
+see_statement_declare local line = ap statement_depth (show_statement_declare local line)
+
+pub see_statement_init_scalar : (local : _) (value : _) (line : _) → statement_depth (statement_of (TStmt.InitScalar local value line)) ≡ 1 + expression_depth (expression_of value)
+unfolding statement_depth
+see_statement_init_scalar local value line = ap statement_depth (show_statement_init_scalar local value line)
+
+pub see_statement_init_list : (local : _) (items : _) (line : _) → statement_depth (statement_of (TStmt.InitList local items line)) ≡ 1 + items_depth (map item_of items.items)
+unfolding statement_depth
+see_statement_init_list local items line = ap statement_depth (show_statement_init_list local items line)
+
+pub see_statement_loop : (shape : _) (begin : _) (condition : _) (step : _) (body : _) (line : _) → statement_depth (statement_of (TStmt.Loop shape begin condition step body line)) ≡ 1 + max (any_depth (option_map expression_of begin)) (max (any_depth (option_map expression_of condition)) (max (any_depth (option_map expression_of step)) (statement_depth (statement_of body.value))))
+unfolding statement_depth
+see_statement_loop shape begin condition step body line = ap statement_depth (show_statement_loop shape begin condition step body line)
+
+pub see_statement_switch : (value : _) (cases : _) (default : _) (statements : _) (line : _) → statement_depth (statement_of (TStmt.Switch value cases default statements line)) ≡ 1 + max (expression_depth (expression_of value)) (1 + body_depth (statements_of (map statement_of statements.items)))
+unfolding statement_depth
+see_statement_switch value cases default statements line = ap statement_depth (show_statement_switch value cases default statements line)
+
+pub see_statement_break : (line : _) → statement_depth (statement_of (TStmt.Break line)) ≡ 1
+unfolding statement_depth
+see_statement_break line = ap statement_depth (show_statement_break line)
+
+pub see_statement_continue : (line : _) → statement_depth (statement_of (TStmt.Continue line)) ≡ 1
+unfolding statement_depth
+see_statement_continue line = ap statement_depth (show_statement_continue line)
+
+pub see_statement_return : (value : _) (line : _) → statement_depth (statement_of (TStmt.Return value line)) ≡ 1 + any_depth (option_map expression_of value)
+unfolding statement_depth
+see_statement_return value line = ap statement_depth (show_statement_return value line)
+
+pub see_statement_if : (arms : _) (last : Option (Box StmtOf.TStmt)) (line : _) → statement_depth (statement_of (TStmt.If arms last line)) ≡ 1 + max (arms_depth (arms_of (map arm_of arms.items))) (last_depth (last_arm_of last))
+unfolding statement_depth
+see_statement_if arms None line = ap statement_depth (show_statement_if_alone arms line)
+see_statement_if arms (Some last) line = ap statement_depth (show_statement_if_else arms last line)
+
+pub see_arm : (arm : TArm) → arm_depth (arm_of arm) ≡ max (expression_depth (expression_of (out-TArm arm).condition)) (statement_depth (statement_of (out-TArm arm).then))
+unfolding statement_depth
+see_arm arm = ap arm_depth (show_arm arm)
+
+pub see_some_last : (last : Box StmtOf.TStmt) → last_depth (last_arm_of (Some last)) ≡ statement_depth (statement_of last.value)
+unfolding statement_depth
+see_some_last last = refl
+
+pub see_no_last : last_depth (last_arm_of None) ≡ 0
+unfolding statement_depth
+see_no_last = refl
+
+pub ruleset lasts = (see_some_last, see_no_last)
+
+pub ruleset expressions = (see_expression_constant, see_expression_read, see_expression_address, see_expression_convert, see_expression_cast, see_expression_unary, see_expression_binary, see_expression_offset, see_expression_difference, see_expression_logical, see_expression_conditional, see_expression_comma, see_expression_assign, see_expression_struct_assign, see_expression_update, see_expression_step, see_expression_call)
+
+pub ruleset places = (see_place_name, see_place_bit, see_place_member, see_place_deref)
+
+pub ruleset all_statements = (see_statement_block, see_statement_empty, see_statement_expr, see_statement_declare, see_statement_init_scalar, see_statement_init_list, see_statement_loop, see_statement_switch, see_statement_break, see_statement_continue, see_statement_return, see_statement_if)
+
+-- ---- lists
+one_apart : {A : Type 0} (F : List A → ℕ) (xs : List A) (i : ℕ) (x : A) → i < length xs → x ≡ get_or xs i x → F (drop i xs) ≡ F (x ∷ drop (i + 1) xs)
+one_apart F xs i x lt is = ap F (drop_more xs i x lt) ∙ ap (λ y. F (y ∷ drop (i + 1) xs)) (sym is)
+
+-- what is the greatest of a list's parts
+deeper : (now count n r rest more whole : ℕ) → rest ≡ max n more → r ≡ capped n → now ≡ max count r → capped (max count rest) ≡ capped whole → capped (max now more) ≡ capped whole
+deeper now count n r rest more whole split made put so_far = omega (arith, split, made, put, so_far)
+
+pub one_deeper : {A : Type 0} (f : A → ℕ) (F : List A → ℕ) (xs : List A) (i : ℕ) (x : A) (now count r whole : ℕ) → F (x ∷ drop (i + 1) xs) ≡ max (f x) (F (drop (i + 1) xs)) → i < length xs → x ≡ get_or xs i x → r ≡ capped (f x) → now ≡ max count r → now < 2 ^ 64 → (count < 2 ^ 64) × (capped (max count (F (drop i xs))) ≡ capped whole) → (now < 2 ^ 64) × (capped (max now (F (drop (i + 1) xs))) ≡ capped whole)
+one_deeper f F xs i x now count r whole parts lt is made put fits so_far = (fits, deeper now count (f x) r (F (drop i xs)) (F (drop (i + 1) xs)) whole (one_apart F xs i x lt is ∙ parts) made put so_far.1)
+
+deepest_ended : (count rest whole : ℕ) → rest ≡ 0 → count < 2 ^ 64 → capped (max count rest) ≡ capped whole → count ≡ capped whole
+deepest_ended count rest whole none fits so_far = omega (arith, none, fits, so_far)
+
+pub all_deeper : {A : Type 0} (F : List A → ℕ) (xs : List A) (i : ℕ) (count whole : ℕ) → F [] ≡ 0 → length xs ≤ i → (count < 2 ^ 64) × (capped (max count (F (drop i xs))) ≡ capped whole) → count ≡ capped whole
+all_deeper F xs i count whole none past so_far = deepest_ended count (F (drop i xs)) whole (ap F (drop_all i xs past) ∙ none) so_far.0 so_far.1
+
+-- what adds up over a list
+counted : (now count n r rest more whole : ℕ) → rest ≡ n + more → r ≡ capped n → now ≡ capped (count + r) → capped (count + rest) ≡ capped whole → capped (now + more) ≡ capped whole
+counted now count n r rest more whole split made put so_far = omega (arith, split, made, put, so_far)
+
+pub one_more : {A : Type 0} (f : A → ℕ) (F : List A → ℕ) (xs : List A) (i : ℕ) (x : A) (now count r whole : ℕ) → F (x ∷ drop (i + 1) xs) ≡ f x + F (drop (i + 1) xs) → i < length xs → x ≡ get_or xs i x → r ≡ capped (f x) → now ≡ capped (count + r) → now < 2 ^ 64 → (count < 2 ^ 64) × (capped (count + F (drop i xs)) ≡ capped whole) → (now < 2 ^ 64) × (capped (now + F (drop (i + 1) xs)) ≡ capped whole)
+one_more f F xs i x now count r whole parts lt is made put fits so_far = (fits, counted now count (f x) r (F (drop i xs)) (F (drop (i + 1) xs)) whole (one_apart F xs i x lt is ∙ parts) made put so_far.1)
+
+ended : (count rest whole : ℕ) → rest ≡ 0 → count < 2 ^ 64 → capped (count + rest) ≡ capped whole → count ≡ capped whole
+ended count rest whole none fits so_far = omega (arith, none, fits, so_far)
+
+pub all_counted : {A : Type 0} (F : List A → ℕ) (xs : List A) (i : ℕ) (count whole : ℕ) → F [] ≡ 0 → length xs ≤ i → (count < 2 ^ 64) × (capped (count + F (drop i xs)) ≡ capped whole) → count ≡ capped whole
+all_counted F xs i count whole none past so_far = ended count (F (drop i xs)) whole (ap F (drop_all i xs past) ∙ none) so_far.0 so_far.1
+
+-- ---- arguments, each of which waits above those before it
+argued : (now late count early n r s rest more whole : ℕ) → rest ≡ max n (1 + more) → r ≡ capped n → s ≡ capped (early + r) → now ≡ max count s → late ≡ capped (early + 1) → capped (max count (early + rest)) ≡ capped whole → capped (max now (late + more)) ≡ capped whole
+argued now late count early n r s rest more whole split made sum put next so_far = omega (arith, split, made, sum, put, next, so_far)
+
+abbrev pub arguments_so_far : ℕ → ℕ → List TExpr → ℕ → Type 0
+arguments_so_far count before rest whole = (count < 2 ^ 64) × (before < 2 ^ 64) × (capped (max count (before + arguments_depth (arguments_of (map expression_of rest)))) ≡ capped whole)
+
+pub one_argument : (xs : List TExpr) (i : ℕ) (x : TExpr) (now late count early r s whole : ℕ) → i < length xs → x ≡ get_or xs i x → r ≡ capped (expression_depth (expression_of x)) → s ≡ capped (early + r) → now ≡ max count s → late ≡ capped (early + 1) → now < 2 ^ 64 → late < 2 ^ 64 → arguments_so_far count early (drop i xs) whole → arguments_so_far now late (drop (i + 1) xs) whole
+unfolding expression_depth
+one_argument xs i x now late count early r s whole lt is made sum put next fits fits_too so_far =
+    (fits, fits_too, argued now late count early (expression_depth (expression_of x)) r s (arguments_depth (arguments_of (map expression_of (drop i xs)))) (arguments_depth (arguments_of (map expression_of (drop (i + 1) xs)))) whole (one_apart (λ l. arguments_depth (arguments_of (map expression_of l))) xs i x lt is) made sum put next so_far.2)
+
+arguments_ended : (out count before rest whole : ℕ) → rest ≡ 0 → count < 2 ^ 64 → before < 2 ^ 64 → out ≡ max count before → capped (max count (before + rest)) ≡ capped whole → out ≡ capped whole
+arguments_ended out count before rest whole none fits fits_too put so_far = omega (arith, none, fits, fits_too, put, so_far)
+
+pub all_arguments : (xs : List TExpr) (i out count before whole : ℕ) → length xs ≤ i → out ≡ max count before → arguments_so_far count before (drop i xs) whole → out ≡ capped whole
+unfolding expression_depth
+all_arguments xs i out count before whole past put so_far = arguments_ended out count before (arguments_depth (arguments_of (map expression_of (drop i xs)))) whole (ap (λ l. arguments_depth (arguments_of (map expression_of l))) (drop_all i xs past)) so_far.0 so_far.1 put so_far.2
+
+-- ---- the lists of a tree
+abbrev pub items_in : List TItem → ℕ
+items_in xs = items_depth (map item_of xs)
+
+abbrev pub item_in : TItem → ℕ
+item_in x = item_depth (item_of x)
+
+abbrev pub statements_in : List StmtOf.TStmt → ℕ
+statements_in xs = body_depth (statements_of (map statement_of xs))
+
+abbrev pub statement_in : StmtOf.TStmt → ℕ
+statement_in x = statement_depth (statement_of x)
+
+abbrev pub arms_in : List TArm → ℕ
+arms_in xs = arms_depth (arms_of (map arm_of xs))
+
+abbrev pub arm_in : TArm → ℕ
+arm_in x = arm_depth (arm_of x)
+
+abbrev pub functions_in : List Function → ℕ
+functions_in xs = functions_depth (map function_of xs)
+
+abbrev pub function_in : Function → ℕ
+function_in x = function_depth (function_of x)
+
+pub more_statements : (x : StmtOf.TStmt) (xs : List StmtOf.TStmt) → statements_in (x ∷ xs) ≡ max (statement_in x) (statements_in xs)
+unfolding statement_depth
+more_statements x xs = refl
+
+pub no_statements : statements_in [] ≡ 0
+unfolding statement_depth
+no_statements = refl
+
+pub more_arms : (x : TArm) (xs : List TArm) → arms_in (x ∷ xs) ≡ max (arm_in x) (arms_in xs)
+unfolding statement_depth
+more_arms x xs = refl
+
+pub no_arms : arms_in [] ≡ 0
+unfolding statement_depth
+no_arms = refl

@@ -1,0 +1,19 @@
+//! How much of a stack a run of the source needs.
+//!
+//! In: a typed program. Out: a number of entries.
+//! The promise: at each moment of a run of a proper program in which no function reaches itself the stack has at most so many
+//! entries. A machine of the source reserves so many, and needs no memory for its stack later.
+#![tactic(auto)]
+
+mod room;
+
+ghost use Rattle.source_room.specs.Laws.{StackIsShallow, StackIsWithinWays};
+
+pub use crate::room::most_entries;
+
+/// At each moment of a run the stack is within what the longest ways through the functions' bodies need: for each root all functions
+/// together, or those along the longest way of calls from it.
+pub fn stack_is_shallow()
+    ensures shallow { StackIsShallow }
+    ensures ways { StackIsWithinWays }
+{}
