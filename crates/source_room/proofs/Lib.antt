@@ -2,6 +2,7 @@ pub mod Rooms
 pub mod Roomy
 pub mod Shallow
 pub mod Ways
+pub mod Chains
 pub mod Seen
 pub mod NodeCounts
 pub mod Few

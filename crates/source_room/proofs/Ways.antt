@@ -17,7 +17,7 @@ use Rattle.src_values.specs.Objects.{function_at, handler_in, main_of}
 use Rattle.src_values.specs.declared.objects.CopyOf.{CopyOf}
 
 -- what the copies that wait need
-rest : Program → List Pending → ℕ
+unfoldable pub rest : Program → List Pending → ℕ
 rest p [] = 0
 rest p (In e got ∷ k) = rest p k
 rest p (To place ∷ k) = rest p k
@@ -26,7 +26,7 @@ rest p (Before ss ∷ k) = rest p k
 rest p (Returns d ∷ k) = function_depth (function_at p d.function) + rest p k
 rest p (Resumes d x ∷ k) = function_depth (function_at p d.function) + rest p k
 
-budget_rest : (p : Program) (k : List Pending) (c : CopyOf) → budget p c k ≤ function_depth (function_at p c.function) + rest p k
+pub budget_rest : (p : Program) (k : List Pending) (c : CopyOf) → budget p c k ≤ function_depth (function_at p c.function) + rest p k
 unfolding budget rest
 budget_rest p [] c = omega arith
 budget_rest p (In e got ∷ k) c = budget_rest p k c

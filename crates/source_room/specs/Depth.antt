@@ -95,3 +95,11 @@ functions_depth (f ∷ fs) = function_depth f + functions_depth fs
 -- A function that doesn't reach itself is active at most once for main and once for the handler.
 abbrev pub most_entries : Program → ℕ
 most_entries p = 2 * functions_depth p.functions
+
+abbrev pub deepest_of : List FunctionTree → ℕ
+deepest_of [] = 0
+deepest_of (f ∷ fs) = max (function_depth f) (deepest_of fs)
+
+-- what the function needs that needs most
+abbrev pub deepest_function : Program → ℕ
+deepest_function p = deepest_of p.functions

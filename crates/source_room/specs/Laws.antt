@@ -1,9 +1,10 @@
 -- How much of a stack a run needs.
-use Rattle.std.specs.Prelude.{ℕ, ◌+◌, ◌<◌, ◌≤◌, Option, Some, None, length}
+use Rattle.std.specs.Prelude.{ℕ, ◌+◌, ◌*◌, ◌<◌, ◌≤◌, Option, Some, None, length}
+use Rattle.call_graph.specs.Copies.{HasDepth}
 use Rattle.call_graph.specs.Levels.{IsAcyclic}
 use Rattle.c_typed.specs.Chains.{graph_of, Calls}
 use Rattle.c_typed.specs.Trees.{Program}
-use Rattle.source_room.specs.Depth.{function_depth, most_entries}
+use Rattle.source_room.specs.Depth.{function_depth, deepest_function, most_entries}
 use Rattle.src_rules.specs.Laws.{IsProper, IsOfBytes, entries}
 use Rattle.src_rules.specs.Runs.{moment}
 use Rattle.src_values.specs.Memory.{Setting}
@@ -31,3 +32,11 @@ abbrev pub StackIsWithinWays : Type 0
 StackIsWithinWays =
     (s : Setting) → IsProper s.program → IsOfBytes s.outside → (way : ℕ → ℕ) → AreWays s.program way → (n : ℕ)
     → entries (moment s n).stack ≤ way (main_of s.program) + handlers_way way (handler_in s.program)
+
+-- ---- by the longest chains of calls
+-- No more functions are active at a time than the return stack has addresses, and one more: so at each moment the stack has at most so
+-- many times the entries that the deepest function needs.
+abbrev pub StackIsWithinDepth : Type 0
+StackIsWithinDepth =
+    (s : Setting) → IsProper s.program → IsOfBytes s.outside → (depth : ℕ) → HasDepth s.program depth → (n : ℕ)
+    → entries (moment s n).stack ≤ (depth + 1) * deepest_function s.program

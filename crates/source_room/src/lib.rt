@@ -7,13 +7,14 @@
 
 mod room;
 
-ghost use Rattle.source_room.specs.Laws.{StackIsShallow, StackIsWithinWays};
+ghost use Rattle.source_room.specs.Laws.{StackIsShallow, StackIsWithinWays, StackIsWithinDepth};
 
 pub use crate::room::most_entries;
 
 /// At each moment of a run the stack is within what the longest ways through the functions' bodies need: for each root all functions
-/// together, or those along the longest way of calls from it.
+/// together, or those along the longest way of calls from it; and within what the deepest function needs for each one that is active.
 pub fn stack_is_shallow()
     ensures shallow { StackIsShallow }
     ensures ways { StackIsWithinWays }
+    ensures depth { StackIsWithinDepth }
 {}

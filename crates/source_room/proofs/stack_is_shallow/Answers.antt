@@ -1,3 +1,4 @@
+use Rattle.source_room.proofs.Chains.{within_depth}
 use Rattle.source_room.proofs.Shallow.{shallow}
 use Rattle.source_room.proofs.Ways.{within_ways}
 use Rattle.source_room.proofs.stack_is_shallow.Goals as goal
@@ -7,3 +8,6 @@ returns-clause-shallow c = shallow
 
 pub returns-clause-ways : goal.returns-clause-ways
 returns-clause-ways c = within_ways
+
+pub returns-clause-depth : goal.returns-clause-depth
+returns-clause-depth c = within_depth
