@@ -1,10 +1,11 @@
 #!/bin/sh
-# Texts as deep as the limits allow are answered within a call stack of 8 MiB. What takes more code than there is room for
-# stands in a function that main doesn't call; what takes little stands in main, and is compiled.
+# Texts as deep as the limits allow are answered within a call stack of 8 MiB, and what is accepted is traced within it too. What takes
+# more code than there is room for stands in a function that main doesn't call; what takes little stands in main, and is compiled.
 set -u
 . "$(dirname -- "$0")/lib/common.sh" || exit 1
 enter_folder
 first_build
+: >empty.txt
 
 # what the text is, the wanted status and line, the text
 expect() {
@@ -12,6 +13,8 @@ expect() {
     printed=$(ulimit -s 8192 && "$picc" build a.c a.hex a.map)
     status=$?
     [ "$status $printed" = "$2 $3" ] || wrong "$1: status $status, printed $printed, wanted status $2, $3"
+    [ "$2" -eq 0 ] || return
+    (ulimit -s 8192 && "$picc" trace a.c empty.txt 10) >trace.txt || wrong "$1: traced, status $?"
 }
 
 # what the expression is, the expression over `int x`, the statements round it
