@@ -25,7 +25,6 @@ use Rattle.src_values.specs.declared.objects.Byte.{Byte}
 use Rattle.src_values.specs.declared.objects.Byte.TheVariants as bytes
 use Rattle.src_values.specs.declared.objects.Object as source
 use Rattle.src_values.specs.declared.objects.Object.TheVariants as objects
-use Rattle.lower_trace.specs.Labels.{ProgramHasLabels}
 use Rattle.src_rules.specs.Numbers.{ProgramHasNumbers}
 use Rattle.src_rules.specs.Runs.{moment, steps_by, fault_of, is_idle}
 use Rattle.src_rules.specs.Step.{step}
@@ -86,7 +85,6 @@ pub record IsLowerable (p : Program) (copies : List FnCopy) : Type 0 where
   pub same : p ≡ program_of typed
   pub sound : is_sound p ≡ true
   pub numbers : ProgramHasNumbers p
-  pub labels : ProgramHasLabels p
   pub roots : broken_root p ≡ None
   pub acyclic : IsAcyclic (graph_of p)
   pub depth : ℕ

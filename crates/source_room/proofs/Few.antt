@@ -10,7 +10,7 @@ use Rattle.c_typed.specs.Types.{type_of}
 use Rattle.c_typed.specs.Views.{program_of}
 use Rattle.c_typed.specs.declared.program.Typed.{Typed}
 use Rattle.source_room.proofs.NodeCounts.{program_counts}
-use Rattle.source_room.specs.Depth.{expression_depth, arguments_depth, place_depth, any_depth, item_depth, items_depth, statement_depth, body_depth, arm_depth, arms_depth, last_depth, function_depth, functions_depth, most_entries}
+use Rattle.source_room.specs.Depth.{expression_depth, arguments_depth, place_depth, any_depth, item_depth, items_depth, statement_depth, body_depth, arm_depth, arms_depth, last_depth, function_depth, functions_depth, most_entries, deepest_of, deepest_function}
 
 mutual
   unfolding expression_depth nodes_in
@@ -157,3 +157,10 @@ few_entries p h =
 -- A program of the code has at most 2 to the 28 nodes.
 pub few : (p : Typed) → most_entries (program_of p) ≤ 1610612736
 few p = let c = program_counts p in let s = p.small in let e = few_entries (program_of p) p.sound in omega arith
+
+deepest_within : (fs : List FunctionTree) → deepest_of fs ≤ functions_depth fs
+deepest_within [] = omega arith
+deepest_within (f ∷ fs) = let i = deepest_within fs in omega arith
+
+pub few_deepest : (p : Typed) → deepest_function (program_of p) ≤ 1610612736
+few_deepest p = let a = few p in let b = deepest_within (program_of p).functions in omega arith

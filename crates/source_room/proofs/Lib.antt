@@ -6,3 +6,4 @@ pub mod Chains
 pub mod Seen
 pub mod NodeCounts
 pub mod Few
+pub mod Enough

@@ -1,11 +1,11 @@
 -- The nodes of a tree of the code are those of it as pure data.
-use Rattle.std.proofs.Common.{◌≡◌, ℕ, ◌+◌, List, [], ◌∷◌, Option, Some, None, map, refl, sym, ap, subst, ◌∙◌, arith}
+use Rattle.std.proofs.Common.{◌≡◌, ◌≤◌, ℕ, ◌+◌, length, List, [], ◌∷◌, Option, Some, None, map, refl, sym, ap, subst, ◌∙◌, arith}
 use Rattle.std.specs.Option.{option_map}
 use Rattle.c_typed.specs.Nodes as counted
 use Rattle.c_typed.specs.Nodes.{total, expression_nodes, place_nodes, any_nodes, statement_nodes, arm_nodes, program_nodes}
 use Rattle.c_typed.specs.TreeNodes as pure
 use Rattle.c_typed.specs.TreeNodes.{nodes_in, nodes_of_all, nodes_at, nodes_in_any, items_nodes, nodes_of_body, arms_nodes, functions_nodes, nodes_of}
-use Rattle.c_typed.specs.Trees.{Expression, Place, Statement, Arm}
+use Rattle.c_typed.specs.Trees.{Expression, Place, Statement, Arm, FunctionTree, Program}
 use Rattle.c_typed.specs.Views as views
 use Rattle.c_typed.specs.Views.{expression_of, place_of, arguments_of, item_of, statement_of, arm_of, statements_of, arms_of, function_of, program_of}
 use Rattle.c_typed.specs.declared.expression.TExpr.{TExpr}
@@ -168,3 +168,14 @@ functions_count (f ∷ fs) = let h = body_counts f.body.items in let i = functio
 
 pub program_counts : (p : Typed) → nodes_of (program_of p) ≡ program_nodes p.functions.items
 program_counts p = functions_count p.functions.items
+
+-- each function is a node
+functions_few : (fs : List FunctionTree) → length fs ≤ functions_nodes fs
+functions_few [] = omega arith
+functions_few (f ∷ fs) = let i = functions_few fs in omega arith
+
+pub few_functions : (p : Program) → length p.functions ≤ nodes_of p
+few_functions p = functions_few p.functions
+
+pub few_nodes : (p : Typed) → nodes_of (program_of p) ≤ 268435456
+few_nodes p = let c = program_counts p in let s = p.small in omega arith

@@ -16,7 +16,7 @@ use Rattle.c_typed.specs.declared.statement.TItem.{TItem}
 use Rattle.c_typed.specs.declared.statement.TStmt as StmtOf
 use Rattle.c_typed.specs.declared.statement.TStmt.TheVariants as TStmt
 use Rattle.c_typed.specs.declared.statement.TStmt.TheViews.{out-TArm}
-use Rattle.source_room.specs.Depth.{expression_depth, arguments_depth, place_depth, any_depth, item_depth, items_depth, statement_depth, body_depth, arm_depth, arms_depth, last_depth, function_depth, functions_depth}
+use Rattle.source_room.specs.Depth.{expression_depth, arguments_depth, place_depth, any_depth, item_depth, items_depth, statement_depth, body_depth, arm_depth, arms_depth, last_depth, function_depth, functions_depth, deepest_of}
 
 pub see_expression_constant : (value : _) (line : _) → expression_depth (expression_of (TExpr.Constant value line)) ≡ 1
 unfolding expression_depth
@@ -241,6 +241,9 @@ arm_in x = arm_depth (arm_of x)
 
 abbrev pub functions_in : List Function → ℕ
 functions_in xs = functions_depth (map function_of xs)
+
+abbrev pub deepest_in : List Function → ℕ
+deepest_in xs = deepest_of (map function_of xs)
 
 abbrev pub function_in : Function → ℕ
 function_in x = function_depth (function_of x)

@@ -1,5 +1,5 @@
 -- How much of a stack a run needs.
-use Rattle.std.specs.Prelude.{ℕ, ◌+◌, ◌*◌, ◌<◌, ◌≤◌, Option, Some, None, length}
+use Rattle.std.specs.Prelude.{ℕ, ◌≡◌, ◌+◌, ◌*◌, ◌<◌, ◌≤◌, Option, Some, None, length}
 use Rattle.call_graph.specs.Copies.{HasDepth}
 use Rattle.call_graph.specs.Levels.{IsAcyclic}
 use Rattle.c_typed.specs.Chains.{graph_of, Calls}
@@ -15,6 +15,12 @@ abbrev pub StackIsShallow : Type 0
 StackIsShallow =
     (s : Setting) → IsProper s.program → IsOfBytes s.outside → IsAcyclic (graph_of s.program) → (n : ℕ)
     → entries (moment s n).stack ≤ most_entries s.program
+
+-- So many entries suffice for each run of a program in which no function reaches itself.
+abbrev pub Suffices : Program → ℕ → Type 0
+Suffices p room =
+    (s : Setting) → s.program ≡ p → IsProper s.program → IsOfBytes s.outside → IsAcyclic (graph_of s.program) → (n : ℕ)
+    → entries (moment s n).stack ≤ room
 
 -- ---- by the longest way along calls
 -- Numbers of entries for functions, each at least what the function needs by itself, and with it what any function needs that it calls.

@@ -1,12 +1,16 @@
-//! The entries of the stack that a program's runs need at most, counted on its tree. It takes no memory.
+//! The entries of the stack that a program's runs need at most, counted on its tree and along its calls.
 
-ghost use Rattle.std.specs.Prelude.{◌≡◌, ◌+◌, ◌≤◌, max, map};
+ghost use Rattle.std.specs.Prelude.{◌≡◌, ◌+◌, ◌≤◌, max, map, IfOk};
 ghost use Rattle.std.specs.Option.{option_map};
 ghost use Rattle.c_typed.specs.Nodes.{capped};
 ghost use Rattle.c_typed.specs.Views.{expression_of, place_of, arguments_of, item_of, statement_of, statements_of, arm_of, arms_of, last_arm_of, program_of, function_of};
+ghost use Rattle.call_graph.specs.Copies.{HasDepth};
 ghost use Rattle.source_room.specs.Depth as depth;
+ghost use Rattle.source_room.specs.Laws.{Suffices};
 
 use c_typed::{Function, TArm, TExpr, TItem, TPlace, TStmt, Typed};
+use call_graph::{GraphError, copies};
+use std::alloc::{AllocError, Global};
 
 // Counts add up to the greatest number there is, and no further.
 fn plus(a: u64, b: u64) -> u64
@@ -238,4 +242,50 @@ pub fn most_entries(program: &Typed) -> usize
 {
     let count = depth_of_functions(&program.functions);
     plus(count, count) as usize
+}
+
+fn deepest_of(functions: &[Function]) -> u64
+    ensures { result ≡ capped (depth.deepest_of (map function_of functions.now)) }
+{
+    let mut deepest = 0;
+    for function in functions {
+        deepest = greatest(deepest, depth_of_function(function));
+    }
+    deepest
+}
+
+/// How many entries the function needs that needs most, with its caller: at most 6 times 2 to the 28.
+#[tactic(auto, using(crate::proofs::Few::few_deepest))]
+pub fn deepest_function(program: &Typed) -> usize
+    ensures exact { result ≡ depth.deepest_function (program_of program.now) }
+    ensures few { result ≤ 1610612736 }
+{
+    deepest_of(&program.functions) as usize
+}
+
+// The fewer of all functions' entries together, and of those of the deepest function for each one that is active.
+#[tactic(auto, using(crate::proofs::Enough::all_suffice, crate::proofs::Enough::deepest_suffice))]
+fn room_within(program: &Typed, depth: u32) -> usize
+    requires { HasDepth (program_of program.now) depth }
+    ensures enough { Suffices (program_of program.now) result }
+    ensures few { result ≤ 1610612736 }
+{
+    let all = most_entries(program);
+    let along = (depth as usize + 1) * deepest_function(program);
+    if along < all { along } else { all }
+}
+
+/// So many entries suffice for the stack of each run of a proper program in which no function reaches itself: at most 6 times 2 to
+/// the 28. Memory is wanted only while it counts.
+#[tactic(auto, using(crate::proofs::Enough::all_suffice))]
+pub fn room_for(alloc: Global, program: &Typed) -> Result<usize, AllocError>
+    ensures enough { IfOk result (λ room. Suffices (program_of program.now) room) }
+    ensures few { IfOk result (λ room. room ≤ 1610612736) }
+{
+    match copies(alloc, program) {
+        Ok(found) => Ok(room_within(program, found.depth as u32)),
+        Err(GraphError::Depth { depth }) => Ok(room_within(program, depth)),
+        Err(GraphError::NoMemory) => Err(AllocError),
+        Err(_) => Ok(most_entries(program)),
+    }
 }

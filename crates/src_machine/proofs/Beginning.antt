@@ -5,9 +5,10 @@ use Rattle.c_typed.specs.Views.{program_of}
 use Rattle.pic_map.specs.MapContent.{MapContent}
 use Rattle.pic_world.specs.World.{world_at_start}
 use Rattle.pic_world.specs.declared.Root.TheVariants.{Main}
+use Rattle.src_machine.proofs.Ready.{more_room}
 use Rattle.src_machine.specs.Seen.{HasRoom, memory_of, stack_of, state_in}
 use Rattle.src_machine.specs.Sources.{BeginsAt}
-use Rattle.src_machine.specs.Steps.{IsGiven, most_waiting}
+use Rattle.src_machine.specs.Steps.{IsGiven, IsRoom}
 use Rattle.src_machine.specs.declared.machine.Machine.{Machine}
 use Rattle.src_memory.specs.Seen.{IsWorld}
 use Rattle.src_memory.specs.Shape.{IsShaped}
@@ -30,7 +31,7 @@ module _ (s : Setting) (map : MapContent) (m : Machine) where
       ∙ ap (λ g. state (copy_of Main (main_of s.program)) Past (body_of s.program (main_of s.program) []) g world_at_start) h))
 
   pub begins_at : IsGiven s → s.program ≡ program_of m.program.now → m.copy ≡ copy_of Main (main_of s.program) → focus_in m.focus ≡ Past → stack_of m ≡ body_of s.program (main_of s.program) []
-      → memory_of m ≡ first_memory s.program → IsShaped s.program map m.memory → IsWorld s.outside m.world world_at_start → m.handler ≡ handler_in s.program → most_waiting s.program + 3 ≤ vec_capacity m.stack → BeginsAt s map m
+      → memory_of m ≡ first_memory s.program → IsShaped s.program map m.memory → IsWorld s.outside m.world world_at_start → m.handler ≡ handler_in s.program → IsRoom s (vec_capacity m.stack) → BeginsAt s map m
   unfolding run
   begins_at given p c x k h shaped world handler room =
       let begin = start_is c x k h in
@@ -52,10 +53,10 @@ pub begun : (s : Setting) (map : MapContent) (old new : Machine) → IsGiven s �
     → old.copy ≡ copy_of Main (main_of (program_of old.program.now)) → focus_in old.focus ≡ Past → old.stack.items ≡ []
     → (HasRoom 1 old → stack_of new ≡ body_of (program_of old.program.now) old.copy.function (stack_of old)) → memory_of old ≡ first_memory (program_of old.program.now)
     → (length (program_of old.program.now).statics ≤ 65536 → IsShaped (program_of old.program.now) map old.memory) → IsWorld s.outside old.world world_at_start → old.handler ≡ handler_in (program_of old.program.now)
-    → vec_len old.stack + (most_waiting (program_of old.program.now) + 3) ≤ vec_capacity old.stack → vec_capacity old.stack ≤ vec_capacity new.stack → BeginsAt s map new
-begun s map old new given e few others copy focus none waits memory shaped world handler room grows =
+    → (room : ℕ) → IsRoom s (room + 3) → vec_len old.stack + (room + 3) ≤ vec_capacity old.stack → vec_capacity old.stack ≤ vec_capacity new.stack → BeginsAt s map new
+begun s map old new given e few others copy focus none waits memory shaped world handler room enough holds grows =
     let shape : IsShaped s.program map old.memory = subst (λ p. IsShaped p map old.memory) (sym e) (shaped (subst (λ p. length p.statics ≤ 65536) e few)) in
-    let roomy : most_waiting s.program + 3 ≤ vec_capacity new.stack = subst (λ p. most_waiting p + 3 ≤ vec_capacity new.stack) (sym e) (omega arith) in
+    let roomy : IsRoom s (vec_capacity new.stack) = more_room s (room + 3) (vec_capacity new.stack) enough (omega arith) in
     begins_at s map new given
     (e ∙ ap (λ m. program_of m.program.now) (sym others))
     (ap (λ m. m.copy) others ∙ (copy ∙ ap (λ p. copy_of Main (main_of p)) (sym e)))

@@ -1,6 +1,7 @@
 -- A source of the code behind one step more.
 use Rattle.std.proofs.Common.{◌≡◌, ◌≤◌, ◌<◌, ◌⊎◌, inl, inr, ⊎_elim, ℕ, zero, suc, ◌+◌, Bool, true, false, not, ◌||◌, ◌&&◌, Option, Some, None, option_map, refl, sym, ap, ◌∙◌, subst, arith}
 use Rattle.std.proofs.lemmas.Bool.{false≢true}
+use Rattle.std.specs.Vec.{vec_capacity}
 use Rattle.c_typed.specs.Views.{program_of}
 use Rattle.pic_map.specs.MapContent.{MapContent}
 use Rattle.pic_world.proofs.WorldLaws.{arrived_again}
@@ -8,7 +9,7 @@ use Rattle.pic_world.specs.World.{World, Happening, arrived, world_at_start}
 use Rattle.pic_world.specs.declared.Event.{Event}
 use Rattle.pic_world.specs.declared.Root.{Root}
 use Rattle.pic_world.specs.declared.Root.TheVariants as roots
-use Rattle.src_machine.proofs.Ready.{ready_here}
+use Rattle.src_machine.proofs.Ready.{more_room, ready_here}
 use Rattle.src_machine.specs.Progress.{main_steps_of, runs_of, undefined_in, main_by, run_by, undefined_at, Notes}
 use Rattle.src_machine.specs.Seen.{state_in}
 use Rattle.src_machine.specs.Stepping.{taker_at, taker_of}
@@ -140,14 +141,12 @@ module _ (s : Setting) (map : MapContent) (n : ℕ) (old new : Source) (source :
       → CanGo s map new.machine w
   goes w end tells world on few =
       let can = source.can in
-      let room = can.room in
-      let grows = tells.room in
       record {
         given = can.given;
         at = record { program = can.at.program ∙ ap (λ q. program_of q.now) (sym tells.program); shaped = tells.shaped; world = world; few = few };
         handler = tells.handler ∙ can.handler;
         run = on;
-        room = omega arith;
+        room = more_room s (vec_capacity old.machine.stack) (vec_capacity new.machine.stack) can.room tells.room;
       }
 
   went_by : (event : Option Event) → TellsTake s map now by (ends.Went event) old.machine new.machine → n + 1 < 1152921504606846976 → main_steps_of new ≡ main_steps_of old + main_by by → runs_of new ≡ runs_of old + run_by by → undefined_in new ≡ None

@@ -10,13 +10,12 @@ use Rattle.pic_world.specs.World.{World, Happening, arrived}
 use Rattle.pic_world.specs.declared.Event.{Event}
 use Rattle.pic_world.specs.declared.script.Script.{Script}
 use Rattle.src_machine.proofs.Near.{focus_light, stack_light, weighs}
-use Rattle.src_machine.proofs.NodeCounts.{few_nodes, few_functions}
-use Rattle.src_machine.proofs.Ready.{lighter, ready_here, ready_on, run_goes, run_short, run_sized, run_stands}
+use Rattle.src_machine.proofs.Ready.{lighter, more_room, ready_here, ready_on, run_goes, run_roomy, run_short, run_sized, run_stands}
 use Rattle.src_machine.proofs.Waits.{has_length, has_room}
 use Rattle.src_machine.specs.Progress.{taken_by}
 use Rattle.src_machine.specs.Seen.{interrupted_in, stack_of, state_in, waiting}
 use Rattle.src_machine.specs.Stepping.{CanStep, Rests, TellsStep, is_ending, taker_of}
-use Rattle.src_machine.specs.Steps.{CanGo, IsOnRun, TellsTake, most_waiting, outcome_of, went_if}
+use Rattle.src_machine.specs.Steps.{CanGo, IsOnRun, TellsTake, outcome_of, went_if}
 use Rattle.src_machine.specs.Telling.{Tells}
 use Rattle.src_machine.specs.declared.machine.Machine.{Machine}
 use Rattle.src_machine.specs.declared.machine.Outcome.{Outcome}
@@ -26,6 +25,7 @@ use Rattle.src_machine.specs.declared.machine.SrcEnd.TheVariants as ends
 use Rattle.src_machine.specs.declared.machine.Taker.{Taker}
 use Rattle.src_memory.specs.Seen.{events_of, outside_by}
 use Rattle.src_memory.specs.Shown.{address_of}
+use Rattle.source_room.proofs.NodeCounts.{few_nodes, few_functions}
 use Rattle.src_rules.proofs.Changes.{events_count}
 use Rattle.src_rules.proofs.Moments.{steps}
 use Rattle.src_rules.specs.Runs.{gone, is_ready, is_taken, ready, take}
@@ -63,7 +63,7 @@ can_step s map m w can = record {
   proper = can.given.proper;
   bytes = can.given.bytes;
   stands = run_stands s can.given (state_in m w) can.run;
-  room = has_room m (most_waiting s.program) (run_short s can.given (state_in m w) can.run) can.room;
+  room = has_room m (run_roomy s (vec_capacity m.stack) can.room (state_in m w) can.run);
 }
 
 -- ---- how near the next step is
@@ -121,7 +121,6 @@ module _ (s : Setting) (map : MapContent) (first : Machine) (w0 : World Byte) (m
       let trace : length u.world.trace ≡ length ahead.world.trace = ap (λ v. length v.trace) quiet.1 ∙ ap length (arrived_trace s.outside ahead.world) in
       let events : events_of after.world ≡ events_of m.world = sym told.1.count ∙ (trace ∙ can.at.world.count) in
       let few = can.at.few in
-      let room = can.room in
       let grows = tells.room in
       let grew = ahead.room in
       record {
@@ -131,7 +130,7 @@ module _ (s : Setting) (map : MapContent) (first : Machine) (w0 : World Byte) (m
           at = record { program = can.at.program ∙ ap (λ q. program_of q.now) (sym tells.program); shaped = tells.shaped; world = told.1; few = omega arith };
           handler = tells.handler ∙ can.handler;
           run = subst (IsOnRun s) told.0 (run_goes s t u happening can.run is);
-          room = omega arith;
+          room = more_room s (vec_capacity m.stack) (vec_capacity after.stack) can.room grows;
         };
         same = sym (ready_on s can.given.proper can.given.bytes t stands waits ∙ ap (ready s) gone_is) ∙ ahead.same;
         less = omega arith;

@@ -21,7 +21,6 @@ pub mod Scalars
 pub mod Premises
 pub mod Acting
 pub mod Microsteps
-pub mod NodeCounts
 pub mod Light
 pub mod Shortness
 pub mod Near
@@ -30,3 +29,4 @@ pub mod Waits
 pub mod Going
 pub mod Following
 pub mod Beginning
+pub mod Copying

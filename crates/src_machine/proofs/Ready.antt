@@ -1,9 +1,10 @@
 -- The next step of a state, found one micro-step after another; and the states of a run, up to flags that have arrived.
-use Rattle.std.proofs.Common.{◌≡◌, ◌≤◌, ◌<◌, ◌⊎◌, inl, ⊎_elim, ℕ, zero, suc, Bool, true, false, not, ◌||◌, Option, refl, sym, ap, ◌∙◌, subst, arith}
+use Rattle.std.proofs.Common.{◌≡◌, ◌≤◌, ◌<◌, ◌⊎◌, inl, ⊎_elim, ℕ, zero, suc, ◌+◌, ◌*◌, Bool, true, false, not, ◌||◌, Option, length, refl, sym, ap, ◌∙◌, subst, arith}
 use Rattle.std.proofs.lemmas.Bool.{false≢true}
 use Rattle.std.specs.Prelude.{if◌then◌else◌}
+use Rattle.c_typed.specs.TreeNodes.{nodes_of}
 use Rattle.pic_world.specs.World.{Happening, arrived}
-use Rattle.src_machine.specs.Steps.{IsGiven, IsOnRun, settled, most_waiting}
+use Rattle.src_machine.specs.Steps.{IsGiven, IsOnRun, IsRoom, settled}
 use Rattle.src_rules.proofs.Changes.{arrivals_once}
 use Rattle.src_rules.proofs.Depths.{short}
 use Rattle.src_rules.proofs.Moments.{moments, steps, gone_stands}
@@ -104,10 +105,19 @@ run_goes s t u event on is = record {
 }
 
 -- ---- how much waits at these
-pub run_short : (s : Setting) → IsGiven s → (t : State) → IsOnRun s t → entries t.stack ≤ most_waiting s.program
+pub run_short : (s : Setting) → IsGiven s → (t : State) → IsOnRun s t → entries t.stack ≤ 2 * (nodes_of s.program + length s.program.functions)
 run_short s given t on =
+    let most = 2 * (nodes_of s.program + length s.program.functions) in
     let h = short s given.proper given.bytes given.acyclic on.number in
-    ⊎_elim (λ e. subst (λ x. entries x.stack ≤ most_waiting s.program) (sym e) h) (λ e. subst (λ x. entries x.stack ≤ most_waiting s.program) (sym e) h) on.at
+    ⊎_elim (λ e. subst (λ x. entries x.stack ≤ most) (sym e) h) (λ e. subst (λ x. entries x.stack ≤ most) (sym e) h) on.at
+
+pub run_roomy : (s : Setting) (room : ℕ) → IsRoom s room → (t : State) → IsOnRun s t → entries t.stack + 3 ≤ room
+run_roomy s room enough t on =
+    let h = enough on.number in
+    ⊎_elim (λ e. subst (λ x. entries x.stack + 3 ≤ room) (sym e) h) (λ e. subst (λ x. entries x.stack + 3 ≤ room) (sym e) h) on.at
+
+pub more_room : (s : Setting) (a b : ℕ) → IsRoom s a → a ≤ b → IsRoom s b
+more_room s a b enough more n = let h = enough n in omega arith
 
 abbrev pub IsSized : Setting → State → Type 0
 IsSized s t = FocusSized s.program t.copy t.focus t.stack × Sized s.program t.copy t.stack

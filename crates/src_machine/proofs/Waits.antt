@@ -46,5 +46,5 @@ waits x b (frames.Resumes copy ∷ k) = let i = waits x false k in omega arith
 pub has_length : (m : Machine) → length (reverse m.stack.items) ≤ entries (stack_of m)
 has_length m = let i = waits (interrupted_in m) false (reverse m.stack.items) in omega arith
 
-pub has_room : (m : Machine) (most : ℕ) → entries (stack_of m) ≤ most → most + 3 ≤ vec_capacity m.stack → HasRoom 3 m
-has_room m most h g = let i = has_length m in let d = length-reverse m.stack.items in let o = m.stack.ok in omega arith
+pub has_room : (m : Machine) → entries (stack_of m) + 3 ≤ vec_capacity m.stack → HasRoom 3 m
+has_room m h = let i = has_length m in let d = length-reverse m.stack.items in let o = m.stack.ok in omega arith

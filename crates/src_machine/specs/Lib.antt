@@ -1,4 +1,5 @@
 pub mod Branches
+pub mod Copied
 pub mod Passing
 pub mod Progress
 pub mod Seen

@@ -1,9 +1,7 @@
 -- What a step of the code is given, and what it tells: the next step of the definition, behind the micro-steps that don't count.
-use Rattle.std.specs.Prelude.{ℕ, ◌≡◌, ◌+◌, ◌*◌, ◌≤◌, ◌⊎◌, Bool, true, false, length, Option, Some, None}
+use Rattle.std.specs.Prelude.{ℕ, ◌≡◌, ◌+◌, ◌≤◌, ◌⊎◌, Bool, true, false, Option, Some, None}
 use Rattle.std.specs.Vec.{vec_capacity}
 use Rattle.c_typed.specs.Chains.{graph_of}
-use Rattle.c_typed.specs.TreeNodes.{nodes_of}
-use Rattle.c_typed.specs.Trees.{Program}
 use Rattle.call_graph.specs.Levels.{IsAcyclic}
 use Rattle.pic_map.specs.MapContent.{MapContent}
 use Rattle.pic_world.specs.World.{World, Outside, arrived}
@@ -20,7 +18,7 @@ use Rattle.src_machine.specs.declared.machine.Taker.{Taker}
 use Rattle.src_memory.specs.Seen.{events_of}
 use Rattle.src_memory.specs.Shape.{IsShaped}
 use Rattle.src_memory.specs.Shown.{address_of}
-use Rattle.src_rules.specs.Laws.{IsOfBytes, IsProper}
+use Rattle.src_rules.specs.Laws.{IsOfBytes, IsProper, entries}
 use Rattle.src_rules.specs.Runs.{moment, ready, take}
 use Rattle.src_rules.specs.State.{State, state}
 use Rattle.src_values.specs.Memory.{Setting}
@@ -48,9 +46,9 @@ pub record IsGiven (s : Setting) : Type 0 where
   pub acyclic : IsAcyclic (graph_of s.program)
   pub bytes : IsOfBytes s.outside
 
--- at most so many entries wait at a time
-abbrev pub most_waiting : Program → ℕ
-most_waiting p = 2 * (nodes_of p + length p.functions)
+-- At each moment of the run there is room for what waits, and for three entries more, as a micro-step may want.
+abbrev pub IsRoom : Setting → ℕ → Type 0
+IsRoom s room = (n : ℕ) → entries (moment s n).stack + 3 ≤ room
 
 -- the state when what has arrived has set its flags
 abbrev pub settled : Outside → State → State
@@ -67,7 +65,7 @@ pub record CanGo (s : Setting) (map : MapContent) (m : Machine) (w : World Byte)
   pub at : IsAt s map m w
   pub handler : m.handler ≡ handler_in s.program
   pub run : IsOnRun s (state_in m w)
-  pub room : most_waiting s.program + 3 ≤ vec_capacity m.stack
+  pub room : IsRoom s (vec_capacity m.stack)
 
 -- ---- a step
 -- It is the next one from a state, taken by whoever takes that, and the code goes on from where that leads.

@@ -8,7 +8,8 @@ ghost use Rattle.pic_map.specs.MapContent.{MapContent};
 ghost use Rattle.pic_world.specs.World.{World as Worlds, Outside, left, entered};
 ghost use Rattle.src_machine.specs.Seen.{waiting, interrupted_in, stack_of, above, memory_of, state_in, silent, HasRoom};
 ghost use Rattle.src_machine.specs.Stepping.{CanStep, TellsStep, taker_at};
-ghost use Rattle.src_machine.specs.Steps.{CanGo, IsGiven, TellsTake, most_waiting, went_if};
+ghost use Rattle.src_machine.specs.Steps.{CanGo, IsGiven, TellsTake, went_if};
+ghost use Rattle.src_machine.specs.Copied.{IsCopyOf};
 ghost use Rattle.src_machine.specs.Sources.{BeginsAt};
 ghost use Rattle.pic_map.specs.MapView.{content_of};
 ghost use Rattle.src_values.specs.Objects.{main_of};
@@ -31,6 +32,7 @@ ghost use Rattle.src_values.specs.declared.objects.Object.{Object as AnyObject};
 use c_typed::{TExpr, Typed};
 use pic_map::Map;
 use pic_world::{Event, Root, Script};
+use source_room::room_for;
 use src_memory::{Memory, World};
 use src_values::control::{Focus, Got, Pending};
 use src_values::counting::counted_line;
@@ -81,18 +83,6 @@ pub(crate) struct Machine<'a> {
     handler: Option<usize>,
 }
 
-// So much can wait at a time, and three more in a micro-step. A function is active at most once for each root, where a
-// program has no recursion. In one activation the nodes from its body down to where it stands have one frame each: a list of
-// statements, a statement, an expression, a place, a call that goes on. A switch whose body runs has two, but then its
-// value's nodes have none. The value of an argument that waits for its call has a node of its own. So an activation has at
-// most a frame for each node, and one for its caller or for what the handler interrupted.
-#[tactic(auto, using(crate::proofs::NodeCounts::room_fits, crate::proofs::NodeCounts::room_is))]
-fn room_of(program: &Typed) -> usize
-    ensures { result ≡ most_waiting (program_of program.now) + 3 }
-{
-    2 * (program.nodes() as usize + program.functions.len()) + 3
-}
-
 // The number of main.
 fn main_or_first(program: &Typed) -> usize
     ensures { result ≡ main_of (program_of program.now) }
@@ -110,7 +100,8 @@ impl<'a> Machine<'a> {
     {
         let memory = Memory::new(alloc, program, map)?;
         let mut stack = Vec::new(alloc);
-        stack.try_reserve(room_of(program))?;
+        // a micro-step may want three entries more
+        stack.try_reserve(room_for(alloc, program)? + 3)?;
         let main = main_or_first(program);
         let mut machine = Machine {
             program,
@@ -130,7 +121,9 @@ impl<'a> Machine<'a> {
     }
 
     /// The same program at the same place, with room of its own.
-    pub fn copy(&self) -> Result<Machine<'a>, AllocError> {
+    pub fn copy(&self) -> Result<Machine<'a>, AllocError>
+        ensures copies { IfOk result (λ m. IsCopyOf self.now m) }
+    {
         let mut stack = self.stack.clone()?;
         stack.try_reserve(self.stack.capacity() - self.stack.len())?;
         Ok(Machine {

@@ -58,6 +58,7 @@ impl<'a> Source<'a> {
         ensures main_steps { IfOk result (λ source. main_steps_of source ≡ main_steps_of self.now) }
         ensures runs { IfOk result (λ source. runs_of source ≡ runs_of self.now) }
         ensures defined { IfOk result (λ source. undefined_in source ≡ undefined_in self.now) }
+        ensures copies { IfOk result (λ source. (s : Setting) (map : MapContent) (n : ℕ) → IsSource s map n self.now → IsSource s map n source) }
     {
         Ok(Source {
             machine: self.machine.copy()?,

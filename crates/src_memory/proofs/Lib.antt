@@ -9,3 +9,4 @@ pub mod Small
 pub mod Starts
 pub mod Tests
 pub mod Worlds
+pub mod Clones

@@ -6,7 +6,7 @@ ghost use Rattle.c_typed.specs.Views.{program_of};
 ghost use Rattle.pic_map.specs.MapContent.{MapContent};
 ghost use Rattle.pic_map.specs.MapView.{content_of};
 ghost use Rattle.pic_world.specs.declared.Root.{Root as Roots};
-ghost use Rattle.src_memory.specs.Cells.{Cell, byte_at, cell_at, cell_in, cell_or_none, cleared_cell, frames_in, memory_in, put_cell, put_first, seen_cell, size_of, unset, variable_at, with_value};
+ghost use Rattle.src_memory.specs.Cells.{Cell, byte_at, cell, cell_at, cell_in, cell_or_none, cleared_cell, frames_in, memory_in, put_cell, put_first, seen_cell, size_of, unset, variable_at, with_value};
 ghost use Rattle.src_memory.specs.Shape.{IsShaped};
 ghost use Rattle.src_memory.specs.Shown.{shown_byte};
 ghost use Rattle.src_memory.specs.Start.{all_frames, static_cells, seen_frames};
@@ -33,6 +33,8 @@ pub(crate) struct Cells {
 }
 
 impl Clone for Cells {
+    ghost is_clone = { λ a b. cell b ≡ cell a };
+
     fn clone(&self) -> Result<Cells, AllocError> {
         Ok(Cells {
             bytes: self.bytes.clone()?,
@@ -51,6 +53,8 @@ pub struct Memory {
 }
 
 impl Clone for Memory {
+    ghost is_clone = { λ a b. (o : AnyObject) → cell_in b o ≡ cell_in a o };
+
     fn clone(&self) -> Result<Memory, AllocError> {
         Ok(Memory {
             fixed: self.fixed.clone()?,

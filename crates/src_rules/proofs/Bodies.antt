@@ -110,7 +110,7 @@ module _ (p : Program) (n : ℕ) where
         let g0 = and_parts (is_promoted (type_of e)) (fits p f' Used e) g.0 in
         let g1 = and_parts (cases_fit (type_of e) (count_of ss) cases) (default_fits (count_of ss) default && statements_fit p f' false true r ss) g.1 in
         let g2 = and_parts (default_fits (count_of ss) default) (statements_fit p f' false true r ss) g1.1 in
-        (g0.0, g1.0, g2.0, expression_is p n Used e g0.1 h.0 (left_called p n (calls e) (statements_calls ss) c), statements_are false true r ss g2.1 h.1 (right_called p n (calls e) (statements_calls ss) c))
+        (g0.0, g1.0, g2.0, expression_is p n Used e g0.1 h.0 (left_called p n (calls e) (statements_calls ss) c), statements_are false true r ss g2.1 h.2 (right_called p n (calls e) (statements_calls ss) c))
     statement_is d l r (tree.Break line) f h c = f
     statement_is d l r (tree.Continue line) f h c = f
     statement_is d l r (tree.Return value line) f h c = return_is value f h c

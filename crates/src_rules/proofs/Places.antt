@@ -75,7 +75,7 @@ placed_there p (spots.Memory x) h = pointer_there p x h
 pub next_placed : (p : Program) (spot : Spot) → IsPlaced p spot → IsInside p spot → IsPlaced p (next_byte spot)
 next_placed p (spots.Device address) h i = tt
 next_placed p (spots.Bit register number) h i = tt
-next_placed p (spots.Memory Null) h i = tt
+next_placed p (spots.Memory Null) h i = absurd i
 next_placed p (spots.Memory (Into object offset)) h i = (h.0, omega arith)
 
 static_there : (found : Option StaticTree) (xs : List StaticTree) (n : ℕ) (ty : Qualified) → slice_get xs n ≡ found → is_named false (option_map static_type found) ty ≡ true → n < length xs

@@ -136,17 +136,17 @@ put_case object offset size true rest byte event m w e t = ltb-true offset size 
 put_case object offset size false rest byte event m w e t = absurd (false≢true t)
 
 took_inside : (s : Setting) (live : List CopyOf) (root : Root) (fits : Byte → Bool) (spot : Spot) (m : Memory) (w : World Byte) → is_taken (take_byte s live root fits spot m w) ≡ true → IsInside s.program spot
-unfolding take_byte
+unfolding take_byte is_taken
 took_inside s live root fits (spots.Device address) m w t = tt
 took_inside s live root fits (spots.Bit register number) m w t = tt
-took_inside s live root fits (spots.Memory Null) m w t = tt
+took_inside s live root fits (spots.Memory Null) m w t = absurd (false≢true t)
 took_inside s live root fits (spots.Memory (Into object offset)) m w t = taken_case object offset (object_bytes s.program object) (nat_lt offset (object_bytes s.program object)) _ (m object offset) w _ refl t
 
 stored_inside : (s : Setting) (live : List CopyOf) (root : Root) (spot : Spot) (byte : Byte) (m : Memory) (w : World Byte) → is_put (put_byte s live root spot byte m w) ≡ true → IsInside s.program spot
-unfolding put_byte
+unfolding put_byte is_put
 stored_inside s live root (spots.Device address) byte m w t = tt
 stored_inside s live root (spots.Bit register number) byte m w t = tt
-stored_inside s live root (spots.Memory Null) byte m w t = tt
+stored_inside s live root (spots.Memory Null) byte m w t = absurd (false≢true t)
 stored_inside s live root (spots.Memory (Into object offset)) byte m w t = put_case object offset (object_bytes s.program object) (nat_lt offset (object_bytes s.program object)) _ byte _ m w refl t
 
 pub take_inside : (s : Setting) (live : List CopyOf) (root : Root) (fits : Byte → Bool) (spot : Spot) (m : Memory) (w : World Byte) (byte : Byte) (u : World Byte) (event : Option (Happening Byte)) → take_byte s live root fits spot m w ≡ Takes byte u event → IsInside s.program spot

@@ -1,5 +1,5 @@
--- Programs whose numbers are of their types: each constant is one that its type holds, and the bytes that static objects begin
--- with and the characters of strings are bytes. The tree of a program that was checked has no others; a program as pure data might.
+-- Programs whose numbers are of their types: each constant, and each label of a switch, is one that its type holds, and the bytes that
+-- static objects begin with and the characters of strings are bytes. The tree of a program that was checked has no others; a program as pure data might.
 use Rattle.std.specs.Prelude.{◌≡◌, ℕ, ◌<◌, List, [], ◌∷◌, Option, Some, None, slice_get}
 use Rattle.std.specs.List.{All}
 use Rattle.c_ints.specs.Range.{IsInRange}
@@ -8,6 +8,7 @@ use Rattle.c_typed.specs.Trees.{Expression, Expressions, Place, Item, Statement,
 use Rattle.c_typed.specs.declared.program.Initial.{Initial}
 use Rattle.c_typed.specs.declared.program.InitialByte.{InitialByte}
 use Rattle.c_typed.specs.declared.program.InitialByte.TheVariants as initial
+use Rattle.c_typed.specs.declared.statement.TCase.{TCase}
 
 abbrev mutual
   pub HasNumbers : Expression → Type 0
@@ -49,6 +50,10 @@ ItemsHaveNumbers (tree.Scalar offset e ∷ items) = HasNumbers e × ItemsHaveNum
 ItemsHaveNumbers (tree.Struct offset from size ∷ items) = PlaceHasNumbers from × ItemsHaveNumbers items
 ItemsHaveNumbers (tree.Text offset text size ∷ items) = All (λ n. n < 256) text × ItemsHaveNumbers items
 
+abbrev pub CasesHaveNumbers : List TCase → Type 0
+CasesHaveNumbers [] = Unit {0}
+CasesHaveNumbers (c ∷ cs) = IsInRange c.value.ty c.value.number × CasesHaveNumbers cs
+
 abbrev mutual
   pub StatementHasNumbers : Statement → Type 0
   StatementHasNumbers (tree.Block ss line) = StatementsHaveNumbers ss
@@ -59,7 +64,7 @@ abbrev mutual
   StatementHasNumbers (tree.InitList local items line) = ItemsHaveNumbers items
   StatementHasNumbers (tree.If chain otherwise line) = ArmsHaveNumbers chain × LastHasNumbers otherwise
   StatementHasNumbers (tree.Loop shape begin condition step body line) = AnyHasNumbers begin × AnyHasNumbers condition × AnyHasNumbers step × StatementHasNumbers body
-  StatementHasNumbers (tree.Switch e cases default ss line) = HasNumbers e × StatementsHaveNumbers ss
+  StatementHasNumbers (tree.Switch e cases default ss line) = HasNumbers e × CasesHaveNumbers cases × StatementsHaveNumbers ss
   StatementHasNumbers (tree.Break line) = Unit {0}
   StatementHasNumbers (tree.Continue line) = Unit {0}
   StatementHasNumbers (tree.Return value line) = AnyHasNumbers value

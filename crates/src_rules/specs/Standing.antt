@@ -96,7 +96,7 @@ IsPlaced p (spots.Memory x) = IsPointer p x
 abbrev pub IsInside : Program → Spot → Type 0
 IsInside p (spots.Device address) = Unit {0}
 IsInside p (spots.Bit register number) = Unit {0}
-IsInside p (spots.Memory Null) = Unit {0}
+IsInside p (spots.Memory Null) = ⊥
 IsInside p (spots.Memory (Into object offset)) = offset < object_bytes p object
 
 -- where a place is found in a copy: that of a fixed place is one spot

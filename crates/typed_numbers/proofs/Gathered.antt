@@ -4,6 +4,7 @@ use Rattle.std.specs.Prelude.{slice_get}
 use Rattle.std.specs.List.{All}
 use Rattle.std.proofs.lemmas.List.{at_drop_more, drop_all}
 use Rattle.std.proofs.lemmas.List.Elements.{All-from_get_or}
+use Rattle.c_ints.specs.Range.{IsInRange}
 use Rattle.c_typed.specs.Trees.{FunctionTree, StaticTree, Program, Item}
 use Rattle.c_typed.specs.Trees.{Scalar, Struct, Text}
 use Rattle.c_typed.specs.Views.{expression_of, arguments_of, item_of, statement_of, statements_of, arm_of, arms_of, function_of, static_of}
@@ -12,9 +13,10 @@ use Rattle.c_typed.specs.declared.program.Function.{Function}
 use Rattle.c_typed.specs.declared.program.Initial.{Initial}
 use Rattle.c_typed.specs.declared.program.Static.{Static}
 use Rattle.c_typed.specs.declared.statement.TArm.{TArm}
+use Rattle.c_typed.specs.declared.statement.TCase.{TCase}
 use Rattle.c_typed.specs.declared.statement.TItem.{TItem}
 use Rattle.c_typed.specs.declared.statement.TStmt.{TStmt}
-use Rattle.src_rules.specs.Numbers.{HasNumbers, AllHaveNumbers, ItemsHaveNumbers, StatementHasNumbers, StatementsHaveNumbers, ArmHasNumbers, ArmsHaveNumbers, IsInitialByte, InitialsHaveNumbers, ProgramHasNumbers}
+use Rattle.src_rules.specs.Numbers.{HasNumbers, AllHaveNumbers, ItemsHaveNumbers, CasesHaveNumbers, StatementHasNumbers, StatementsHaveNumbers, ArmHasNumbers, ArmsHaveNumbers, IsInitialByte, InitialsHaveNumbers, ProgramHasNumbers}
 use Rattle.typed_numbers.specs.Lists.{FunctionsHaveNumbers, StaticsHaveNumbers}
 
 module _ {A : Type 0} (P : A → Type 0) (F : List A → Type 0) (more : (x : A) (xs : List A) → P x → F xs → F (x ∷ xs)) where
@@ -52,6 +54,12 @@ item_more (Text offset text size) items one more = (one.0, more)
 
 pub one_item : (x : TItem) (xs : List TItem) → OneItem x → Items xs → Items (x ∷ xs)
 one_item x xs one more = item_more (item_of x) (map item_of xs) one more
+
+abbrev pub OneCase : TCase → Type 0
+OneCase x = IsInRange x.value.ty x.value.number
+
+pub one_case : (x : TCase) (xs : List TCase) → OneCase x → CasesHaveNumbers xs → CasesHaveNumbers (x ∷ xs)
+one_case x xs one more = (one, more)
 
 abbrev pub AllStatements : List TStmt → Type 0
 AllStatements xs = StatementsHaveNumbers (statements_of (map statement_of xs))

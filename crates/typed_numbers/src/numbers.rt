@@ -1,16 +1,18 @@
-//! The numbers of a typed program: its constants, the bytes that static objects begin with, and the characters of strings.
+//! The numbers of a typed program: its constants, the labels of its switches, the bytes that static objects begin with, and the
+//! characters of strings.
 //! Each value of the code is one that its type holds, and a byte is below 256; trees as pure data might hold others. So
 //! nothing is tested and nothing answered here: a walk over all of them ensures it of the tree as pure data.
 
 ghost use Rattle.std.specs.Prelude.{◌<◌, [], ◌∷◌, map};
 ghost use Rattle.std.specs.List.{All};
 ghost use Rattle.std.specs.Option.{option_map};
+ghost use Rattle.c_ints.specs.Range.{IsInRange};
 ghost use Rattle.c_typed.specs.Views.{expression_of, place_of, arguments_of, item_of, statement_of, statements_of, arm_of, arms_of, program_of, function_of, static_of};
 ghost use Rattle.src_rules.specs.Numbers as stated;
 ghost use Rattle.src_rules.specs.Numbers.{ProgramHasNumbers};
 ghost use Rattle.typed_numbers.specs.Lists.{FunctionsHaveNumbers, StaticsHaveNumbers};
 
-use c_typed::{Function, Initial, InitialByte, Static, TArm, TExpr, TItem, TPlace, TStmt, Typed};
+use c_typed::{Function, Initial, InitialByte, Static, TArm, TCase, TExpr, TItem, TPlace, TStmt, Typed};
 
 #[cycle(numbers)]
 #[tactic(auto, using(c_typed::proofs::Shapes::expression_shapes))]
@@ -109,6 +111,18 @@ fn see_items(items: &[TItem])
     }
 }
 
+fn see_case(case: &TCase)
+    ensures { IsInRange case.now.value.ty case.now.value.number }
+{}
+
+fn see_cases(cases: &[TCase])
+    ensures { stated.CasesHaveNumbers cases.now }
+{
+    for case in cases {
+        see_case(case);
+    }
+}
+
 #[cycle(statement_numbers)]
 #[tactic(auto, using(c_typed::proofs::Shapes::statement_shapes))]
 fn see_statement(statement: &TStmt)
@@ -147,10 +161,12 @@ fn see_statement(statement: &TStmt)
         }
         TStmt::Switch {
             value,
+            cases,
             statements,
             ..
         } => {
             see_expression(value);
+            see_cases(cases);
             see_statements(statements)
         }
         TStmt::Return { value, .. } => see_any(value),
@@ -184,14 +200,14 @@ fn see_arm(arm: &TArm)
     see_statement(&arm.then)
 }
 
-fn see_byte(_byte: u8)
-    ensures { _byte < 256 }
+fn see_byte(byte: &u8)
+    ensures { byte.now < 256 }
 {}
 
 fn see_initial(initial: &Initial)
     ensures { stated.IsInitialByte initial.now.byte }
 {
-    match initial.byte {
+    match &initial.byte {
         InitialByte::Number(number) => see_byte(number),
         InitialByte::Address { .. } => {}
     }
@@ -221,7 +237,7 @@ fn see_statics(statics: &[Static])
     }
 }
 
-/// Each constant of the program is one that its type holds, and first bytes and characters are bytes.
+/// Each constant of the program, and each label of a switch, is one that its type holds, and first bytes and characters are bytes.
 pub fn see_numbers(program: &Typed)
     ensures { ProgramHasNumbers (program_of program.now) }
 {
