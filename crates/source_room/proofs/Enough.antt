@@ -12,6 +12,9 @@ use Rattle.src_rules.specs.Runs.{moment}
 pub all_suffice : (p : Program) → Suffices p (most_entries p)
 all_suffice p s e proper bytes acyclic n = subst (λ q. entries (moment s n).stack ≤ most_entries q) e (shallow s proper bytes acyclic n)
 
-pub deepest_suffice : (p : Program) (depth : ℕ) → HasDepth p depth → Suffices p ((depth + 1) * deepest_function p)
+deepest_suffice : (p : Program) (depth : ℕ) → HasDepth p depth → Suffices p ((depth + 1) * deepest_function p)
 deepest_suffice p depth h s e proper bytes acyclic n =
     subst (λ q. entries (moment s n).stack ≤ (depth + 1) * deepest_function q) e (within_depth s proper bytes depth (subst (λ q. HasDepth q depth) (sym e) h) n)
+
+pub so_many_suffice : (p : Program) (depth deepest : ℕ) → HasDepth p depth → deepest ≡ deepest_function p → Suffices p ((depth + 1) * deepest)
+so_many_suffice p depth deepest h e = subst (λ k. Suffices p ((depth + 1) * k)) (sym e) (deepest_suffice p depth h)

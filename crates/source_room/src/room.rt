@@ -264,7 +264,7 @@ pub fn deepest_function(program: &Typed) -> usize
 }
 
 // The fewer of all functions' entries together, and of those of the deepest function for each one that is active.
-#[tactic(auto, using(crate::proofs::Enough::all_suffice, crate::proofs::Enough::deepest_suffice))]
+#[tactic(auto, using(crate::proofs::Enough::all_suffice))]
 fn room_within(program: &Typed, depth: u32) -> usize
     requires { HasDepth (program_of program.now) depth }
     ensures enough { Suffices (program_of program.now) result }

@@ -12,6 +12,7 @@ ghost use Rattle.src_rules.specs.Numbers as stated;
 ghost use Rattle.src_rules.specs.Numbers.{ProgramHasNumbers};
 ghost use Rattle.typed_numbers.specs.Lists.{FunctionsHaveNumbers, StaticsHaveNumbers};
 
+use c_ints::Value;
 use c_typed::{Function, Initial, InitialByte, Static, TArm, TCase, TExpr, TItem, TPlace, TStmt, Typed};
 
 #[cycle(numbers)]
@@ -111,15 +112,15 @@ fn see_items(items: &[TItem])
     }
 }
 
-fn see_case(case: &TCase)
-    ensures { IsInRange case.now.value.ty case.now.value.number }
+fn see_value(value: Value)
+    ensures { IsInRange value.ty value.number }
 {}
 
 fn see_cases(cases: &[TCase])
     ensures { stated.CasesHaveNumbers cases.now }
 {
     for case in cases {
-        see_case(case);
+        see_value(case.value);
     }
 }
 
@@ -200,14 +201,14 @@ fn see_arm(arm: &TArm)
     see_statement(&arm.then)
 }
 
-fn see_byte(byte: &u8)
-    ensures { byte.now < 256 }
+fn see_byte(number: u8)
+    ensures { number < 256 }
 {}
 
 fn see_initial(initial: &Initial)
     ensures { stated.IsInitialByte initial.now.byte }
 {
-    match &initial.byte {
+    match initial.byte {
         InitialByte::Number(number) => see_byte(number),
         InitialByte::Address { .. } => {}
     }
