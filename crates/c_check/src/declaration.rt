@@ -73,9 +73,12 @@ pub(crate) fn declare_function(
     let types = types_of(checker.alloc, params)?;
     let function = match checker.scopes.innermost(name) {
         Some(Binding::Function(function)) => {
+            if bad {
+                // A type that no function has is another one than before.
+                return refused(Kind::Again, line);
+            }
             let functions = &checker.functions;
             functions.refuse_other(function, returns, &types, defines, line)?;
-            refuse_bad(bad, line)?;
             function
         }
         Some(_) => return refused(Kind::Again, line),

@@ -151,11 +151,11 @@ fn local_item(
 
 // Why a string can't initialize a part that is no array of chars.
 fn refused_text(slot: Slot, inside: bool, sink: &Sink, line: u32) -> Result<(), CheckError> {
-    if inside || !slot.ty.ty.is_scalar() {
+    if !slot.ty.ty.is_scalar() {
         return refused(Kind::Initializer, line);
     }
     if !sink.fixed {
-        return refused(Kind::Convert, sink.line);
+        return refused(Kind::Convert, if inside { line } else { sink.line });
     }
     match slot.ty.ty {
         Ty::Int(_) => refused(Kind::Constant, line),
@@ -200,7 +200,7 @@ pub(crate) fn put_value(
     inside: bool,
     sink: &mut Sink,
 ) -> Result<(), CheckError> {
-    let line = if inside { operand.start } else { sink.line };
+    let line = if inside { operand.line } else { sink.line };
     if sink.fixed {
         put_static(&checker.types, slot, &operand, sink, line)
     } else {

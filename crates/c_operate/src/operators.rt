@@ -3,7 +3,7 @@
 use crate::conversion::{converted, is_assignable, is_castable};
 use crate::error::{CheckError, Kind, refused};
 use crate::operation::{Node, binary_operator, operation_of};
-use crate::term::{Operand, Term, value_term};
+use crate::term::{Operand, Reach, Term, first_reach, value_term};
 use crate::types::Types;
 use c_ints::{BinOp, IntTy, UnOp, promote, usual};
 use c_token::Punct;
@@ -21,6 +21,7 @@ fn binary(
     let Some(found) = operation_of(types, op, left.side(), right.side()) else {
         return refused(Kind::Operand, line);
     };
+    let reach = first_reach(left.reach, right.reach);
     let left = Box::new(alloc, converted(alloc, left.value, found.left)?)?;
     let right = Box::new(alloc, converted(alloc, right.value, found.right)?)?;
     let size = found.size;
@@ -48,7 +49,17 @@ fn binary(
             line,
         },
     };
-    Ok(value_term(value, line))
+    let mut term = value_term(value, line);
+    term.reach = reach_behind(found.node, reach);
+    Ok(term)
+}
+
+// A pointer into an array that is moved still points into that array.
+fn reach_behind(node: Node, reach: Option<Reach>) -> Option<Reach> {
+    match node {
+        Node::Offset => reach,
+        _ => None,
+    }
 }
 
 fn logical(

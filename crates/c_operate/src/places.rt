@@ -4,8 +4,8 @@ use crate::conversion::converted;
 use crate::error::{CheckError, Kind, number, refused};
 use crate::operation::operation_of;
 use crate::term::{
-    Form, Lvalue, Operand, Term, array_start, constant, into_lvalue, lvalue_term, refuse_table,
-    used_value, value_term,
+    Form, Lvalue, Operand, Reach, Term, array_start, constant, first_reach, into_lvalue,
+    lvalue_term, reach_of, refuse_table, used_value, value_term,
 };
 use crate::types::Types;
 use c_ints::{BinOp, IntTy};
@@ -26,17 +26,13 @@ pub fn pointed(
     if !types.is_complete(ty.ty) {
         return refused(Kind::Operand, line);
     }
+    let reach = operand.reach;
     let place = TPlace::Deref {
         pointer: Box::new(alloc, operand.value)?,
         ty,
         line,
     };
-    let place = Lvalue {
-        place,
-        through: true,
-        fixed: false,
-    };
-    Ok(lvalue_term(place, line))
+    Ok(lvalue_term(behind_pointer(place, reach), line))
 }
 
 /// `&` of a term.
@@ -104,67 +100,49 @@ pub fn indexable(alloc: Global, types: &mut Types, term: Term) -> Result<Term, C
         null: found.null,
         line: found.line,
         start: found.start,
+        reach: found.reach,
     })
 }
 
-// Where an element of a term lies: whether it is reached through a pointer, and whether its address
-// can't be taken.
-#[derive(Clone, Copy)]
-struct Reach {
-    through: bool,
-    fixed: bool,
-}
-
-// The pointer or integer that a term is in `e[i]`, and how what an array has is reached.
-fn side(
-    alloc: Global,
-    types: &mut Types,
-    term: Term,
-) -> Result<(Operand, Option<Reach>), CheckError> {
+// The pointer or integer that a term is in `e[i]`, where an array may be const.
+fn side(alloc: Global, types: &mut Types, term: Term) -> Result<Operand, CheckError> {
     let Term {
         form,
         null,
         line,
         start,
+        reach,
     } = term;
     let (value, reach) = match form {
-        Form::Value(value) => (value, None),
-        Form::Lvalue(place) => in_array(alloc, types, place)?,
+        Form::Value(value) => (value, reach),
+        Form::Lvalue(place) => {
+            let reach = reach_of(&place);
+            (in_array(alloc, types, place)?, reach)
+        }
         Form::Function { .. } => return refused(Kind::Operand, line),
     };
-    let found = Operand {
+    Ok(Operand {
         value,
         null,
         line,
         start,
-    };
-    Ok((found, reach))
+        reach,
+    })
 }
 
-fn in_array(
-    alloc: Global,
-    types: &mut Types,
-    place: Lvalue,
-) -> Result<(TExpr, Option<Reach>), CheckError> {
+fn in_array(alloc: Global, types: &mut Types, place: Lvalue) -> Result<TExpr, CheckError> {
     let line = place.place.line();
     match place.ty().ty {
-        Ty::Array { element, .. } => {
-            let reach = Reach {
-                through: place.through,
-                fixed: place.fixed,
-            };
-            let value = array_start(alloc, types, place.place, element)?;
-            Ok((value, Some(reach)))
-        }
+        Ty::Array { element, .. } => array_start(alloc, types, place.place, element),
         ty => {
             let place = Box::new(alloc, place.place)?;
-            Ok((TExpr::Read { place, ty, line }, None))
+            Ok(TExpr::Read { place, ty, line })
         }
     }
 }
 
 /// `e[i]`, which is `*(e + i)`. An element of an array that isn't reached through a pointer is a part of
-/// that array.
+/// that array, in either form.
 pub fn element(
     alloc: Global,
     types: &mut Types,
@@ -172,8 +150,9 @@ pub fn element(
     index: Term,
 ) -> Result<Term, CheckError> {
     let line = whole.start;
-    let (left, left_reach) = side(alloc, types, whole)?;
-    let (right, right_reach) = side(alloc, types, index)?;
+    let left = side(alloc, types, whole)?;
+    let right = side(alloc, types, index)?;
+    let reach = first_reach(left.reach, right.reach);
     let Some(found) = operation_of(types, BinOp::Add, left.side(), right.side()) else {
         return refused(Kind::Operand, line);
     };
@@ -195,25 +174,22 @@ pub fn element(
         ty: types.target(row),
         line,
     };
-    let reach = reached(left_reach, right_reach);
-    let place = Lvalue {
+    Ok(lvalue_term(behind_pointer(place, reach), line))
+}
+
+// What a pointer points to: a part of the array that the pointer names, or reached through the pointer.
+fn behind_pointer(place: TPlace, reach: Option<Reach>) -> Lvalue {
+    let reach = match reach {
+        Some(reach) => reach,
+        None => Reach {
+            through: true,
+            fixed: false,
+        },
+    };
+    Lvalue {
         place,
         through: reach.through,
         fixed: reach.fixed,
-    };
-    Ok(lvalue_term(place, line))
-}
-
-fn reached(left: Option<Reach>, right: Option<Reach>) -> Reach {
-    match left {
-        Some(reach) => reach,
-        None => match right {
-            Some(reach) => reach,
-            None => Reach {
-                through: true,
-                fixed: false,
-            },
-        },
     }
 }
 

@@ -39,6 +39,7 @@ pub fn named(scopes: &Scopes, name: &Name) -> Result<Term, CheckError> {
             null: false,
             line,
             start: line,
+            reach: None,
         },
     };
     Ok(term)
@@ -73,6 +74,7 @@ pub fn grouped(term: Term, opening: u32) -> Term {
         form,
         null,
         line,
+        reach,
         ..
     } = term;
     let form = match form {
@@ -87,5 +89,6 @@ pub fn grouped(term: Term, opening: u32) -> Term {
         null,
         line,
         start: opening,
+        reach,
     }
 }

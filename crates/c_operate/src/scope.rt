@@ -26,11 +26,13 @@ pub enum Binding {
 }
 
 /// The names of the scopes that are open, the innermost last. The first is that of the file. The
-/// names of the device's registers and bits stand in a scope round it.
+/// names of the device's registers and bits stand in a scope round it. `lists` counts the open scopes that
+/// are those of parameters.
 #[derive(Drop)]
 pub struct Scopes {
     alloc: Global,
     open: Vec<IndexMap<Vec<u8>, Binding>>,
+    lists: usize,
 }
 
 fn builtin(name: &[u8]) -> Option<Binding> {
@@ -56,6 +58,7 @@ impl Scopes {
         Scopes {
             alloc,
             open: Vec::new(alloc),
+            lists: 0,
         }
     }
 
@@ -70,9 +73,21 @@ impl Scopes {
         let _scope = self.open.pop();
     }
 
+    /// Opens the scope of a list of parameters.
+    pub fn enter_list(&mut self) -> Result<(), CheckError> {
+        self.lists = self.lists.saturating_add(1);
+        self.enter()
+    }
+
+    /// Closes the scope of a list of parameters.
+    pub fn leave_list(&mut self) {
+        self.lists = self.lists.saturating_sub(1);
+        self.leave();
+    }
+
     /// Whether no block is open.
     pub fn is_file(&self) -> bool {
-        self.open.len() <= 1
+        self.open.len() <= self.lists.saturating_add(1)
     }
 
     /// What a name stands for.

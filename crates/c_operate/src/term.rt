@@ -46,14 +46,23 @@ pub(crate) enum Form {
     Function { number: u32, bare: bool },
 }
 
+/// How the elements of an array are reached: through a pointer, or as parts of what no address can be taken of.
+#[derive(Clone, Copy)]
+pub(crate) struct Reach {
+    pub through: bool,
+    pub fixed: bool,
+}
+
 /// An expression that is checked: what it is, whether it is a null constant, the line of its first
-/// token, and that of its first token with the brackets round it.
+/// token, and that of its first token with the brackets round it. `reach` is there where it points into
+/// an array that it names.
 #[derive(Drop)]
 pub struct Term {
     pub(crate) form: Form,
     pub(crate) null: bool,
     pub(crate) line: u32,
     pub start: u32,
+    pub(crate) reach: Option<Reach>,
 }
 
 /// An expression whose value is used.
@@ -63,6 +72,7 @@ pub struct Operand {
     pub null: bool,
     pub line: u32,
     pub start: u32,
+    pub(crate) reach: Option<Reach>,
 }
 
 impl Operand {
@@ -89,6 +99,7 @@ pub(crate) fn value_term(value: TExpr, line: u32) -> Term {
         null: false,
         line,
         start: line,
+        reach: None,
     }
 }
 
@@ -99,6 +110,7 @@ pub(crate) fn lvalue_term(place: Lvalue, line: u32) -> Term {
         null: false,
         line,
         start: line,
+        reach: None,
     }
 }
 
@@ -143,6 +155,26 @@ fn lvalue_value(alloc: Global, types: &mut Types, place: Lvalue) -> Result<TExpr
     }
 }
 
+/// How the elements of an lvalue are reached, if it is an array.
+pub(crate) fn reach_of(place: &Lvalue) -> Option<Reach> {
+    if place.ty().ty.is_array() {
+        Some(Reach {
+            through: place.through,
+            fixed: place.fixed,
+        })
+    } else {
+        None
+    }
+}
+
+/// The array that a sum of a pointer and an integer points into, if one of them names it.
+pub(crate) fn first_reach(left: Option<Reach>, right: Option<Reach>) -> Option<Reach> {
+    match left {
+        Some(reach) => Some(reach),
+        None => right,
+    }
+}
+
 // The value of an expression. A function has none.
 pub(crate) fn used_value(
     alloc: Global,
@@ -154,10 +186,14 @@ pub(crate) fn used_value(
         null,
         line,
         start,
+        reach,
     } = term;
-    let value = match form {
-        Form::Value(value) => value,
-        Form::Lvalue(place) => lvalue_value(alloc, types, place)?,
+    let (value, reach) = match form {
+        Form::Value(value) => (value, reach),
+        Form::Lvalue(place) => {
+            let reach = reach_of(&place);
+            (lvalue_value(alloc, types, place)?, reach)
+        }
         Form::Function { .. } => return refused(Kind::Operand, line),
     };
     Ok(Operand {
@@ -165,6 +201,7 @@ pub(crate) fn used_value(
         null,
         line,
         start,
+        reach,
     })
 }
 

@@ -1,7 +1,9 @@
 //! Specifiers, structures, declarators and parameters, from the tree's root down (ISO/IEC 9899:1990, 6.5).
 
 use crate::constants::array_length;
-use crate::outline::{Made, Outline, ParamList, add_field, add_param, line_of, outlined};
+use crate::outline::{
+    Made, Outline, ParamList, add_field, add_param, line_of, outlined, param_outlined,
+};
 use crate::specifiers::{self, Site, Specified, Words};
 use crate::type_name;
 use c_operate::checker::Checker;
@@ -174,8 +176,10 @@ fn suffix(suffix: &Suffix, checker: &mut Checker, bodies: bool) -> Result<Made, 
         }
         Suffix::Params { first, others, .. } => {
             let mut list = ParamList::new(checker.alloc);
+            checker.scopes.enter_list()?;
             param(first, checker, bodies, &mut list)?;
             params(others, checker, bodies, &mut list)?;
+            checker.scopes.leave_list();
             Ok(Made::Function(list))
         }
     }
@@ -204,7 +208,9 @@ fn param(
     match param {
         Param::Named { specs, declarator } => {
             let specified = specified(specs, checker, param_context(bodies))?;
-            let outline = outline(declarator, checker, specified, bodies)?;
+            let base = type_name::pointers(&declarator.pointers, checker, specified.ty)?;
+            let made = self::suffixes(&declarator.suffixes, checker, bodies)?;
+            let outline = param_outlined(&mut checker.types, base, made)?;
             let line = line_of(declarator);
             add_param(
                 checker,
@@ -223,7 +229,7 @@ fn param(
             let specified = specified(specs, checker, param_context(bodies))?;
             let base = type_name::pointers(pointers, checker, specified.ty)?;
             let made = self::suffixes(suffixes, checker, bodies)?;
-            let outline = outlined(&mut checker.types, base, made)?;
+            let outline = param_outlined(&mut checker.types, base, made)?;
             add_param(checker, list, specified, outline, None, specified.line)
         }
     }

@@ -2,12 +2,12 @@
 
 use crate::specifiers::{Specified, Storage};
 use c_operate::checker::Checker;
-use c_operate::error::{CheckError, Kind, refused};
+use c_operate::error::{CheckError, Kind, number, refused};
+use c_operate::scope::Binding;
 use c_operate::types::Types;
 use c_tree::expression::Declarator;
 use c_tree::word::Name;
-use c_typed::{Qualified, Ty};
-use indexmap::IndexSet;
+use c_typed::{Object, Qualified, Ty};
 use std::alloc::Global;
 
 /// A parameter: its name, if it has one, its type, and whether it is declared `register`.
@@ -19,12 +19,10 @@ pub struct ParamShape {
     pub line: u32,
 }
 
-/// The parameters of a function. `refused` says that one is a structure or a function.
+/// The parameters of a function.
 #[derive(Drop)]
 pub(crate) struct ParamList {
     pub params: Vec<ParamShape>,
-    names: IndexSet<Vec<u8>>,
-    refused: bool,
 }
 
 /// What a suffix makes: an array of a length, 0 where it isn't known, or a function.
@@ -58,8 +56,6 @@ impl ParamList {
     pub fn new(alloc: Global) -> ParamList {
         ParamList {
             params: Vec::new(alloc),
-            names: IndexSet::new(alloc),
-            refused: false,
         }
     }
 }
@@ -97,19 +93,31 @@ fn function_outline(list: ParamList, outline: Outline) -> Outline {
         bad,
         incomplete,
     } = outline;
-    let ParamList {
-        params,
-        refused,
-        ..
-    } = list;
+    let ParamList { params } = list;
     let (result, nested) = match declared {
         Declared::Object(result) => (result, has_no_result(result.ty)),
         Declared::Function { result, .. } => (result, true),
     };
     Outline {
         declared: Declared::Function { result, params },
-        bad: bad || refused || nested,
+        bad: bad || nested,
         incomplete,
+    }
+}
+
+// What is declared with a suffix behind it.
+fn behind(types: &mut Types, suffix: Made, outline: Outline) -> Result<Outline, CheckError> {
+    match suffix {
+        Made::Array(length) => array_outline(types, length, outline),
+        Made::Function(list) => Ok(function_outline(list, outline)),
+    }
+}
+
+fn object(ty: Qualified) -> Outline {
+    Outline {
+        declared: Declared::Object(ty),
+        bad: false,
+        incomplete: false,
     }
 }
 
@@ -119,31 +127,51 @@ pub(crate) fn outlined(
     base: Qualified,
     made: Vec<Made>,
 ) -> Result<Outline, CheckError> {
-    let mut outline = Outline {
-        declared: Declared::Object(base),
-        bad: false,
-        incomplete: false,
-    };
+    let mut outline = object(base);
     for suffix in made.into_iter().rev() {
-        outline = match suffix {
-            Made::Array(length) => array_outline(types, length, outline)?,
-            Made::Function(list) => function_outline(list, outline),
-        };
+        outline = behind(types, suffix, outline)?;
     }
     Ok(outline)
 }
 
-// The type of a parameter: an array is a pointer to its element. `None` for what no parameter is.
-fn param_type(types: &mut Types, declared: Declared) -> Result<Option<Qualified>, CheckError> {
+// A parameter that is written as an array of this.
+fn pointer_outline(types: &mut Types, element: Outline) -> Result<Outline, CheckError> {
+    let Outline {
+        declared,
+        bad,
+        incomplete,
+    } = element;
     match declared {
-        Declared::Object(ty) => match ty.ty {
-            Ty::Array { element, .. } => {
-                let target = ty.of(types.target(element).ty);
-                Ok(Some(Qualified::plain(types.pointer_to(target)?)))
-            }
-            _ => Ok(Some(ty)),
-        },
-        Declared::Function { .. } => Ok(None),
+        Declared::Object(ty) => Ok(Outline {
+            declared: Declared::Object(Qualified::plain(types.pointer_to(ty)?)),
+            bad,
+            incomplete,
+        }),
+        Declared::Function { result, .. } => Ok(Outline {
+            declared: Declared::Object(result),
+            bad: true,
+            incomplete,
+        }),
+    }
+}
+
+/// What suffixes make of the type of a parameter, where an array is a pointer to its element.
+pub(crate) fn param_outlined(
+    types: &mut Types,
+    base: Qualified,
+    made: Vec<Made>,
+) -> Result<Outline, CheckError> {
+    let mut suffixes = made.into_iter();
+    let Some(outermost) = suffixes.next() else {
+        return Ok(object(base));
+    };
+    let mut outline = object(base);
+    for suffix in suffixes.rev() {
+        outline = behind(types, suffix, outline)?;
+    }
+    match outermost {
+        Made::Array(_) => pointer_outline(types, outline),
+        Made::Function(list) => Ok(function_outline(list, outline)),
     }
 }
 
@@ -154,22 +182,18 @@ fn is_structure(ty: Ty) -> bool {
     }
 }
 
-// Notes a parameter's name, which no other parameter of the list may have.
-fn note_param(
-    alloc: Global,
-    list: &mut ParamList,
-    name: &[u8],
-    line: u32,
-) -> Result<(), CheckError> {
-    let (_, is_new) = list.names.insert_full(name.to_vec(alloc)?)?;
-    if is_new {
-        Ok(())
-    } else {
-        refused(Kind::Again, line)
+// The name of a parameter, which no other parameter of the list may have.
+fn param_name(checker: &Checker, name: Option<&Name>, line: u32) -> Result<Vec<u8>, CheckError> {
+    match name {
+        Some(name) => {
+            checker.scopes.refuse_again(&name.bytes, line)?;
+            Ok(name.bytes.as_slice().to_vec(checker.alloc)?)
+        }
+        None => Ok(Vec::new(checker.alloc)),
     }
 }
 
-/// Puts a parameter after a list.
+/// Puts a parameter after a list, whose scope is open: it is declared in what follows it.
 pub(crate) fn add_param(
     checker: &mut Checker,
     list: &mut ParamList,
@@ -178,29 +202,28 @@ pub(crate) fn add_param(
     name: Option<&Name>,
     line: u32,
 ) -> Result<(), CheckError> {
-    let mut bytes = Vec::new(checker.alloc);
-    if let Some(name) = name {
-        note_param(checker.alloc, list, &name.bytes, line)?;
-        bytes.extend_from_slice(&name.bytes)?;
-    }
-    if outline.bad {
+    let bytes = param_name(checker, name, line)?;
+    let bad = outline.bad;
+    let incomplete = outline.incomplete;
+    let Declared::Object(ty) = outline.declared else {
+        return refused(Kind::Declare, line);
+    };
+    if bad || is_structure(ty.ty) {
         return refused(Kind::Declare, line);
     }
-    let incomplete = outline.incomplete;
-    let Some(ty) = param_type(&mut checker.types, outline.declared)? else {
-        list.refused = true;
-        return Ok(());
-    };
     if incomplete || !checker.types.is_complete(ty.ty) {
         return refused(Kind::Incomplete, line);
     }
-    if is_structure(ty.ty) {
-        list.refused = true;
+    let fixed = specified.storage == Storage::Register;
+    if !bytes.is_empty() {
+        let object = Object::Param(number(list.params.len())?);
+        let binding = Binding::Object { object, ty, fixed };
+        checker.scopes.bind(&bytes, binding)?;
     }
     list.params.push(ParamShape {
         name: bytes,
         ty,
-        fixed: specified.storage == Storage::Register,
+        fixed,
         line,
     })?;
     Ok(())

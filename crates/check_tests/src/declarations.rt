@@ -14,8 +14,15 @@ const NAME: Rule = Rule {
         b"void main(void){(struct t)1;}",
         b"void main(void){RE3=1;}",
         b"void main(void){{int x;}x=1;}",
+        b"void f(char a[sizeof n],int n);",
+        b"void f(int n[sizeof n]);",
+        b"void f(int n);char a[sizeof n];",
+        b"void main(void){struct t{int a;}x;}",
     ],
-    taken: &[b"struct t*f(void);struct s{struct u*p;struct s*q;};struct u{int a;};"],
+    taken: &[
+        b"struct t*f(void);struct s{struct u*p;struct s*q;};struct u{int a;};",
+        b"void f(int n,char a[sizeof n]);void g(int n,char a[sizeof n]){}",
+    ],
 };
 
 const AGAIN: Rule = Rule {
@@ -31,6 +38,12 @@ const AGAIN: Rule = Rule {
         b"int f(int a);int f(char a);",
         b"int f(int a);char f(int a);",
         b"void f(void){}void f(void){}",
+        b"int f(void);struct s f(void);",
+        b"int f(void);int f(void)(void);",
+        b"int x;void x[3];",
+        b"int x;void x;",
+        b"struct s{int a;};struct s{const int b;};",
+        b"struct s{int a;};void main(void){struct s{int b;}x;}",
     ],
     taken: &[
         b"void f(int a){{int a;}}",
@@ -70,6 +83,11 @@ const DECLARE: Rule = Rule {
         b"struct s{int a;};void f(struct s a);",
         b"int f(void)[2];",
         b"void f(int g(void));",
+        b"void f(void);void f(int g(void));",
+        b"struct s{int a;};void f(void);void f(struct s a);",
+        b"struct s*p;void f(struct s a);",
+        b"void f(void a[][2]);",
+        b"void f(int a[2](void));",
         b"int f(void)(void){}",
         b"int a[2](void);",
         b"void a[2];",
@@ -114,12 +132,16 @@ const INCOMPLETE: Rule = Rule {
         b"struct s{void a;};",
         b"struct s{int a[];};",
         b"void f(void a);",
-        b"void f(int a[][]);",
+        b"struct s*p;void f(struct s a[][2]);",
+        b"void f(int a[][2][]);",
         b"void f(void){}void main(void){sizeof f();}",
         b"void main(void){sizeof(void);}",
         b"int a[]={sizeof a};",
     ],
-    taken: &[b"void f(int a[],int b[][3]);"],
+    taken: &[
+        b"void f(int a[],int b[][3]);",
+        b"void f(int a[][]);struct s*p;void g(struct s a[]);",
+    ],
 };
 
 // Texts that are refused on a later line, or for another rule.
@@ -130,6 +152,8 @@ const OTHERS: &[Case] = &[
         2,
     ),
     (b"int f(int a);void main(void){\nf(z);}", Kind::Name, 2),
+    (b"int f(void);void f(\nint g(void));", Kind::Declare, 2),
+    (b"int f(void);void\nf(int\na,int\na);", Kind::Again, 4),
 ];
 
 #[test]

@@ -14,6 +14,8 @@ const CONSTANT: Rule = Rule {
         b"int x=1<<16;",
         b"int x;int y=x;",
         b"char c=\"a\";",
+        b"char a[3]={\"ab\"};",
+        b"char c={\"a\"};",
         b"void main(void){int x;switch(x){case x:;}}",
     ],
     taken: &[b"int x=1||1/0,y=0?1%0:2;", b"int x;int y=(int)sizeof x;"],
@@ -32,7 +34,8 @@ const INITIALIZER: Rule = Rule {
         b"struct s{int a;};void main(void){struct s y=1;}",
         b"struct s{int a;}x;struct t{int a;}y;void main(void){struct s z[1]={y};}",
         b"char a[2]=\"abc\";",
-        b"char a[3]={\"ab\"};",
+        b"char*p[1]={\"ab\"};",
+        b"struct s{int a;}x;void main(void){struct s y=(1,x);}",
         b"int a[3]=\"ab\";",
         b"char*p=\"ab\";",
         b"int a[2];int*p=a+1;",
@@ -53,6 +56,10 @@ const INITIALIZER: Rule = Rule {
 const OTHERS: &[Case] = &[
     (b"int a[2]={1,2,z};", Kind::Name, 1),
     (b"int x;char*p=&x;", Kind::Convert, 1),
+    (b"int x;int y\n=\n(\nx);", Kind::Constant, 4),
+    (b"int x;char\n*p\n=\n&x;", Kind::Convert, 2),
+    (b"int x;char*p[1]={\n(\n&x)};", Kind::Convert, 3),
+    (b"int a[(\n0)];", Kind::Size, 2),
 ];
 
 #[test]

@@ -1,12 +1,12 @@
 //! Symbolic code: a line for each instruction.
 
-use crate::listing::Listing;
 use crate::operations::put_byte;
 use std::alloc::AllocError;
 use sym_code::{
     BankBit, BitOperation, BlockName, FileOperation, Into, Label, Literal, LiteralOperation,
     Operand, PageBit, PlainOperation, Register, Saved, Sym, SymBlock, SymProgram, Target,
 };
+use typed_text::listing::Listing;
 
 fn of_file(op: FileOperation) -> &'static str {
     match op {

@@ -8,15 +8,9 @@
 //!     part    = number | name | head "(" part { ", " part } ")"
 //!
 //! A head is the name of a variant of the types in c_typed, core_code and sym_code, or of a table. What belongs to a line
-//! stands below it, two blanks further to the right, in the order of the type's fields. A name of the program may be empty.
+//! stands below it, two blanks further to the right, in the order of the type's fields.
 //!
-//!     Program   Target [const] [volatile] type               a row of the types that are pointed to
-//!               Structure size; its Member name, offset, [const] [volatile] type
-//!               Static name, [const] [volatile] type, line; its Initial offset, Number(n) | Address(object, byte)
-//!               Function name, [interrupt] type, line; its Param and Local name, [const] [volatile] type, line; its Body
-//!     type      Void | an integer type | Pointer(target) | Array(element, length, size) | Struct(number)
-//!     a node    fields, type, line of its first token; a statement has no type, and a missing expression is None
-//!     Switch    its value, its Case value, type, target, line and Default target, and its statements
+//!     Program   as the crate typed_text prints a typed tree
 //!     Objects   Object name, at(address), bytes(size) [, const]
 //!     Copies    Copy root, User(function) | Helper(name), name, at(address), bytes(size), parameters(bytes), by number
 //!     Core      First byte ..., a line for each static object: a number, Low(object) or High(object)
@@ -29,26 +23,21 @@
 //! No clause says what the text is; nothing stands on it but checks and readers.
 #![tactic(auto)]
 
-mod expressions;
 mod instructions;
-mod listing;
-mod names;
 mod operations;
 mod passes;
 mod placing;
-mod statements;
-mod types;
 mod words;
 
 use crate::instructions::put_symbolic;
-use crate::listing::Listing;
 use crate::operations::put_core;
 use crate::passes::compiled;
 use crate::placing::put_placing;
-use crate::types::put_program;
 use crate::words::put_image;
 use picc_core::{Built, Front};
 use std::alloc::{AllocError, Global};
+use typed_text::listing::Listing;
+use typed_text::types::put_program;
 
 /// The text of all languages of a program.
 pub fn code_text(alloc: Global, front: &Front, built: &Built) -> Result<Vec<u8>, AllocError> {

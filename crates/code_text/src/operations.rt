@@ -1,9 +1,9 @@
 //! Byte code: a line for each operation, and its parts further to the right.
 
-use crate::listing::{Listing, inside};
-use crate::names::{of_binary, of_int, of_root, of_unary};
 use core_code::{Body, Byte, Core, CoreProgram, FirstByte};
 use std::alloc::AllocError;
+use typed_text::listing::{Listing, inside};
+use typed_text::names::{of_binary, of_int, of_root, of_unary};
 
 /// A byte. One of the copy's own frame is told by its offset alone.
 pub fn put_byte(out: &mut Listing, byte: Byte) -> Result<(), AllocError> {

@@ -1,12 +1,12 @@
 //! Where objects and frames stand.
 
-use crate::listing::Listing;
-use crate::names::{of_helper, of_root};
 use c_typed::{FnId, Typed};
 use call_graph::FnCopy;
 use pic_map::{FrameLine, ObjLine};
 use picc_core::Front;
 use std::alloc::AllocError;
+use typed_text::listing::Listing;
+use typed_text::names::{of_helper, of_root};
 
 fn put_place(out: &mut Listing, name: &[u8], address: u16, size: u16) -> Result<(), AllocError> {
     out.name(name)?;

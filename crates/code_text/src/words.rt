@@ -2,10 +2,10 @@
 
 ghost use Rattle.std.specs.Prelude.{◌<◌};
 
-use crate::listing::Listing;
 use pic_chip::Image;
 use picc_core::Built;
 use std::alloc::AllocError;
+use typed_text::listing::Listing;
 
 /// What stands in a word that no instruction was put into.
 const ERASED: u16 = 0x3fff;

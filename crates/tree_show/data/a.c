@@ -1,0 +1,2 @@
+unsigned char ticks;
+void main(void){ticks++;}
