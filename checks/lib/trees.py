@@ -100,7 +100,7 @@ def directive(line, text, macros):
     if len(line) == 1:
         return
     if words[1] == 'include':
-        if ''.join(words[2:]) not in ('<htc.h>', '<pic.h>', '<xc.h>'):
+        if ''.join(words[2:]) not in ('<htc.h>', '<pic.h>', '<xc.h>') or ''.join(words[2:]) not in text.split('\n')[line[0].line - 1]:
             raise NoTree('include')
     elif words[1] == 'define' and len(line) > 2 and line[2].form == 'name' and words[2] not in KEYWORDS + EXCLUDED:
         source = text.split('\n')[line[0].line - 1]
