@@ -5,7 +5,7 @@ Python when they are first asked for, with all that they use.
     outcome = step(setting, state)
 
 A number is an int, Bool is bool, a list or a pair is a tuple, a constructor is a tuple with its name first, as ('Some', 3) or ('None',), a
-record is a Record, a function a Function. Names of the standard library stand in STANDARD. How many fields the constructors of the
+record is a Record, a function a Function. `do` takes the `>>=` of its file. Names of the standard library stand in STANDARD. How many fields the constructors of the
 code's own types have, the sources in src/ say. Clauses are tried in order. Types and declarations of records are skipped; so
 are proofs, which no definition calls. REACHED tells how often each clause was taken: what was never reached was never tried.
 
@@ -131,6 +131,10 @@ STANDARD = {
     'slice_index_or': (3, lambda xs, i, other: xs[i] if i < len(xs) else other),
     'slice_set': (3, replaced), 'bytes_eq': (2, lambda xs, ys: xs == ys), 'codes': (1, lambda text: text),
     'map': (2, lambda f, xs: tuple(applied(f, x) for x in xs)),
+    'Ok': (1, lambda value: ('Ok', value)), 'Err': (1, lambda error: ('Err', error)),
+    'fold': (3, lambda f, start, xs: functools.reduce(lambda made, x: applied(f, made, x), xs, start)),
+    'prefix_len': (2, lambda f, xs: next((i for i, x in enumerate(xs) if not applied(f, x)), len(xs))),
+    'decimal': (1, lambda n: tuple(str(n).encode())),
     'Some': (1, some), 'is_some': (1, lambda option: option[0] == 'Some'),
     'option_to_list': (1, lambda option: option[1:]), 'flat_map': (2, lambda f, xs: sum((applied(f, x) for x in xs), ())),
     'position': (2, lambda f, xs: next((some(i) for i, x in enumerate(xs) if applied(f, x)), NONE)),
@@ -144,17 +148,23 @@ TOKEN = re.compile(r"""\s*(?:
     (?P<comment>--.*)
   | (?P<number>0x[0-9a-fA-F_]+|\d[\d_]*)
   | (?P<empty>\[\])
-  | (?P<sign>↦|\+ℤ|-ℤ|\*ℤ|\+\+|&&|\|\||∷|→|≤ℤ|[+\-*/%^=λ{}();,:\[\]|])
+  | (?P<sign>↦|←|\+ℤ|-ℤ|\*ℤ|\+\+|&&|\|\||==|∷|→|≤ℤ|[+\-*/%^=λ{}();,:\[\]|])
   | (?P<field>\.(?=[A-Za-z_0-9]))
   | (?P<dot>\.)
-  | (?P<name>[A-Za-z_ℕℤ«][\w'ℕℤ»-]*)
+  | (?P<name>◌>>=◌|[A-Za-z_ℕℤ«][\w'ℕℤ»-]*)
   | "(?P<text>[^"]*)"
 )""", re.X)
 
 
+def column_of(text, at):
+    """How many characters stand before a token that is the first on its line; None for another one."""
+    begin = text.rfind('\n', 0, at) + 1
+    return None if text[begin:at].strip() else at - begin
+
+
 def tokens_of(text):
-    """Pairs of a kind and a value. A field is a dot with no blank before it."""
-    made, at = [], 0
+    """Pairs of a kind and a value, and the column of each. A field is a dot with no blank before it."""
+    made, columns, at = [], [], 0
     while text[at:].strip():
         found = TOKEN.match(text, at)
         if found is None:
@@ -169,18 +179,20 @@ def tokens_of(text):
             kind = 'sign'
         if kind != 'comment':
             made.append((kind, value))
+            columns.append(column_of(text, found.start(found.lastgroup)))
         at = found.end()
-    return made + [('end', None)]
+    return made + [('end', None)], columns + [0]
 
 
 # ---- expressions and patterns, as tuples with their form first
 class Reader:
     """Reads tokens from the left to the right."""
-    LEVELS = (('||',), ('&&',), ('∷', '++'), ('+', '-', '+ℤ', '-ℤ'), ('*', '/', '%', '*ℤ'), ('^',))
-    GROUP_LEFT = (3, 4)
+    LEVELS = (('||',), ('&&',), ('==',), ('∷', '++'), ('+', '-', '+ℤ', '-ℤ'), ('*', '/', '%', '*ℤ'), ('^',))
+    GROUP_LEFT = (4, 5)
 
-    def __init__(self, tokens):
-        self.tokens, self.at = tokens, 0
+    def __init__(self, tokens_and_columns):
+        self.tokens, self.columns = tokens_and_columns
+        self.at, self.block = 0, -1     # block: the column of the steps of the innermost `do`
 
     def stands(self, value, kind='sign'):
         return self.tokens[self.at] == (kind, value)
@@ -200,7 +212,7 @@ class Reader:
         return found
 
     def is_opened(self):
-        return self.stands('λ') or any(self.stands(word, 'name') for word in ('if', 'let', 'elim'))
+        return self.stands('λ') or any(self.stands(word, 'name') for word in ('if', 'let', 'elim', 'do'))
 
     def expression(self):
         if self.stands('if', 'name'):
@@ -209,6 +221,8 @@ class Reader:
             return self.let()
         if self.stands('elim', 'name'):
             return self.cases()
+        if self.stands('do', 'name'):
+            return self.steps()
         if self.stands('λ'):
             return self.function()
         return self.operation(0)
@@ -242,6 +256,26 @@ class Reader:
         self.want(']')
         return 'cases', of, arms
 
+    def steps(self):
+        """`do` with its steps, one a line: each but the last gives a name to what it gives."""
+        self.next()
+        around, self.block = self.block, self.columns[self.at]
+        made = self.step()
+        self.block = around
+        return made
+
+    def step(self):
+        if self.tokens[self.at + 1] != ('sign', '←'):
+            return self.expression()
+        name = self.next()[1]
+        self.want('←')
+        first = self.expression()
+        return 'application', ('name', '◌>>=◌'), [first, ('function', [name], self.step())]
+
+    def begins_step(self):
+        column = self.columns[self.at]
+        return column is not None and column <= self.block
+
     def function(self):
         self.next()
         names = []
@@ -274,6 +308,8 @@ class Reader:
 
     def is_argument(self):
         kind, value = self.tokens[self.at]
+        if self.begins_step():
+            return False
         if kind == 'name':
             return value not in ('then', 'else', 'in')
         return kind in ('number', 'empty', 'text') or (kind == 'sign' and value in ('(', 'λ'))
@@ -380,8 +416,9 @@ class Module:
                 names, _, kind = line.partition(' : ')
                 for name in names.split(','):
                     self.constructors[name.strip()] = arrows_in(kind)
-        elif not words.startswith(('record ', 'module ')):
-            name = re.match(r"[\w']+", words)
+        elif not words.startswith(('record ', 'module ', 'infixl ')):
+            words = re.sub(r'^(\(.*?\)|\w+) >>= (\w+) =', r'◌>>=◌ \1 \2 =', words)
+            name = re.match(r"◌>>=◌(?! :)|[\w']+", words)
             if name and not re.match(r"[\w']+ :", words):
                 self.clauses.setdefault(name.group(), []).append(words)
 
@@ -480,7 +517,7 @@ def no_clause(name):
 
 
 SCOPE['no_clause'] = no_clause
-SIGNS = {'+': '+', '*': '*', '/': '//', '%': '%', '^': '**', '&&': 'and', '||': 'or', '+ℤ': '+', '-ℤ': '-', '*ℤ': '*', '++': '+'}
+SIGNS = {'==': '==', '+': '+', '*': '*', '/': '//', '%': '%', '^': '**', '&&': 'and', '||': 'or', '+ℤ': '+', '-ℤ': '-', '*ℤ': '*', '++': '+'}
 
 
 def defined(path, name):
@@ -518,7 +555,7 @@ def constructed(name, count):
 
 
 def translated(there, name):
-    key = 'the_%s_%s' % (there.path.replace('.', '_'), name.replace("'", '_q'))
+    key = 'the_%s_%s' % (there.path.replace('.', '_'), name.replace("'", '_q').replace('◌>>=◌', 'bind'))
     if key not in COUNTS:
         clauses = [Reader(tokens_of(clause)).clause() for clause in there.clauses[name]]
         COUNTS[key] = len(clauses[0][0])

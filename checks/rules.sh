@@ -1,0 +1,29 @@
+#!/bin/sh
+# The rules on names and types, run as definitions (type_rules) on texts, and compared with what the checker says of the same texts: the typed
+# tree node by node, or the kind and the line of the first broken rule. checks/lib/trees.py reads the texts, checks/lib/interpreter.py runs
+# the definitions, and tree_show prints what the checker says. The texts: those of check_tests, of examples/ and of checks/cases/, and 200
+# changed ones from seed 1. `rules.sh COUNT [SEED]` runs so many changed ones, of the texts of all crates of examples.
+# TREE_SHOW names another program than that which stands beside its sources; PROCESSES says how many processes work at the same time.
+set -u
+. "$(dirname -- "$0")/lib/common.sh" || exit 1
+if ! command -v python3 >/dev/null; then
+    printf '%s: skipped, since python3 is not installed\n' "$script"
+    exit 0
+fi
+show=${TREE_SHOW:-$top/crates/tree_show/out/tree_show}
+if [ -z "${TREE_SHOW:-}" ]; then
+    rm -f "$show"
+    (cd -- "$top/crates/tree_show" && rt run </dev/null >/dev/null 2>&1)
+fi
+[ -x "$show" ] || {
+    wrong 'tree_show was not built'
+    exit 1
+}
+count=${1:-200}
+seed=${2:-1}
+if [ $# -eq 0 ]; then
+    set -- "$top"/crates/check_tests/src/*.rt
+else
+    set -- "$top"/crates/*_tests/src/*.rt
+fi
+PYTHONDONTWRITEBYTECODE=1 python3 "$top/checks/lib/rules.py" "$show" "$count" "$seed" "${PROCESSES:-2}" "$@" "$top"/examples/*.c "$top"/checks/cases/*.jsonl

@@ -1,0 +1,7 @@
+//! The rules on names and types, as definitions.
+//!
+//! In: nothing; the crate has definitions alone. Out: nothing.
+//! The definitions say, for each tree of a text, its typed tree, or the first rule that it breaks: one definition for each kind
+//! of node, over what is known where the node stands. The promise: none by itself. The checker (c_operate, check_expr, c_check) is written after
+//! these definitions, and a check runs both on the same texts; that they agree on every text isn't proved yet.
+#![tactic(auto)]
