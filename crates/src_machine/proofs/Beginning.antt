@@ -1,5 +1,5 @@
 -- A machine of the code at the start of a program's run.
-use Rattle.std.proofs.Common.{◌≡◌, ◌≤◌, inl, ◌+◌, length, [], reverse, sym, ap, ◌∙◌, subst, arith}
+use Rattle.std.proofs.Common.{◌≡◌, ◌≤◌, ℕ, inl, ◌+◌, length, [], reverse, sym, ap, ◌∙◌, subst, arith}
 use Rattle.std.specs.Vec.{vec_len, vec_capacity}
 use Rattle.c_typed.specs.Views.{program_of}
 use Rattle.pic_map.specs.MapContent.{MapContent}

@@ -13,7 +13,9 @@ ghost use Rattle.src_rules.specs.Numbers.{ProgramHasNumbers};
 ghost use Rattle.typed_numbers.specs.Lists.{FunctionsHaveNumbers, StaticsHaveNumbers};
 
 use c_ints::Value;
-use c_typed::{Function, Initial, InitialByte, Static, TArm, TCase, TExpr, TItem, TPlace, TStmt, Typed};
+use c_typed::{
+    Function, Initial, InitialByte, Static, TArm, TCase, TExpr, TItem, TPlace, TStmt, Typed,
+};
 
 #[cycle(numbers)]
 #[tactic(auto, using(c_typed::proofs::Shapes::expression_shapes))]
