@@ -23,5 +23,5 @@ returns c = record {
       begun s (content_of c.args.map.now) old c.begin_body.new.self given e few c.begin_body.ensures.others
       (ap (copy_of Main) c.main_or_first-main.ensures) refl (c.try_reserve.ensures.items ∙ c.new-stack.ensures.items) c.begin_body.ensures.waits c.in_ok-memory.ensures.memory c.in_ok-memory.ensures.shape
       (c.new-2.ensures s.outside) c.handler_in.ensures
-      c.in_ok-room_for.room (λ n. let h = c.in_ok-room_for.ensures.enough s e given.proper given.bytes given.acyclic n in omega arith) c.in_ok-try_reserve.ensures.ok c.begin_body.ensures.room;
+      c.in_ok-room_for.field-0 (λ n. let h = c.in_ok-room_for.ensures.enough s e given.proper given.bytes given.acyclic n in omega arith) c.in_ok-try_reserve.ensures.ok c.begin_body.ensures.room;
 }
