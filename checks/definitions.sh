@@ -7,7 +7,7 @@
 # ends at the undefined step that the definitions meet. The programs: three small ones of examples/, and eight random ones from seed
 # 1. `definitions.sh COUNT [SEED]` runs so many random ones, and the texts of examples/, of all crates of examples and of
 # checks/cases/ too.
-# PICC names a program in place of the launcher, `-` for none; PROCESSES says how many processes work at the same time.
+# PICC names a program in place of the launcher, `-` for none; PICC_SHOW one in place of picc_show; PROCESSES says how many processes work at the same time.
 set -u
 . "$(dirname -- "$0")/lib/common.sh" || exit 1
 if ! command -v python3 >/dev/null; then
@@ -15,6 +15,7 @@ if ! command -v python3 >/dev/null; then
     exit 0
 fi
 . "$top/checks/lib/show.sh" || exit 1
+show=${PICC_SHOW:-$(program_of picc_show)}
 [ -x "$show" ] || {
     wrong 'picc_show was not built'
     exit 1

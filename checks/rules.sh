@@ -3,18 +3,15 @@
 # tree node by node, or the kind and the line of the first broken rule. checks/lib/trees.py reads the texts, checks/lib/interpreter.py runs
 # the definitions, and tree_show prints what the checker says. The texts: those of check_tests, of examples/ and of checks/cases/, and 200
 # changed ones from seed 1. `rules.sh COUNT [SEED]` runs so many changed ones, of the texts of all crates of examples.
-# TREE_SHOW names another program than that which stands beside its sources; PROCESSES says how many processes work at the same time.
+# TREE_SHOW names a program in place of tree_show; PROCESSES says how many processes work at the same time.
 set -u
 . "$(dirname -- "$0")/lib/common.sh" || exit 1
 if ! command -v python3 >/dev/null; then
     printf '%s: skipped, since python3 is not installed\n' "$script"
     exit 0
 fi
-show=${TREE_SHOW:-$top/crates/tree_show/out/tree_show}
-if [ -z "${TREE_SHOW:-}" ]; then
-    rm -f "$show"
-    (cd -- "$top/crates/tree_show" && rt run </dev/null >/dev/null 2>&1)
-fi
+. "$top/checks/lib/show.sh" || exit 1
+show=${TREE_SHOW:-$(program_of tree_show)}
 [ -x "$show" ] || {
     wrong 'tree_show was not built'
     exit 1
