@@ -42,6 +42,7 @@ const AGAIN: Rule = Rule {
         b"int f(void);int f(void)(void);",
         b"int x;void x[3];",
         b"int x;void x;",
+        b"int a;int a[2](void){}",
         b"struct s{int a;};struct s{const int b;};",
         b"struct s{int a;};void main(void){struct s{int b;}x;}",
     ],
@@ -101,6 +102,8 @@ const DECLARE: Rule = Rule {
         b"int*const const volatile p;",
         b"int unsigned long const static volatile x;",
         b"void interrupt interrupt f(void){}",
+        b"void interrupt f(void);void f(void){}",
+        b"void f(int,char*){}",
         b"void f(register int a);",
         b"void main(void){auto int x;register int y;}",
         b"struct s{const char*p;};",
@@ -153,6 +156,7 @@ const OTHERS: &[Case] = &[
     ),
     (b"int f(int a);void main(void){\nf(z);}", Kind::Name, 2),
     (b"int f(void);void f(\nint g(void));", Kind::Declare, 2),
+    (b"void main(void){sizeof(int\nstruct s);}", Kind::Name, 2),
     (b"int f(void);void\nf(int\na,int\na);", Kind::Again, 4),
 ];
 

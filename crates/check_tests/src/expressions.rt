@@ -123,6 +123,7 @@ const OPERAND: Rule = Rule {
         b"int*p;void*v;void main(void){p==v;v!=p;p==0;'\\0'!=p;p==(char*)0;}",
         b"void f(void){}void main(void){1?f():f();}",
         b"int*p;void main(void){1?p:0;1?(char*)0:p;}",
+        b"int*p;void main(void){p=1?(int*)0:(char*)0;}",
     ],
 };
 
@@ -145,6 +146,7 @@ const CONVERT: Rule = Rule {
         b"int*p,*q;void main(void){p-=q;}",
         b"void main(void){char a[3]={\"ab\"};}",
         b"void main(void){char*p[1]={\"ab\"};}",
+        b"char*p;void main(void){p=1?(int*)0:(char*)0;}",
     ],
     taken: &[
         b"char*p;void*q;void main(void){q=p;p=q;p=0;p=(int*)0;}",
