@@ -40,6 +40,7 @@ const ADDRESS: Rule = Rule {
         b"void main(void){register int a[2];int*p=a;&*(a+1);}",
         b"void main(void){register int a[2];&*(1+a);}",
         b"void main(void){register int a[2];&*a;}",
+        b"void main(void){register int a[2];&(a+1)[0];}",
         b"void main(void){register int a[2][2];&a[1][1];}",
         b"void f(register int a[2]){register int b[2];&*(b+1);}",
         b"const struct s{int a;}x;void main(void){&x.a;}",
@@ -164,6 +165,16 @@ const OTHERS: &[Case] = &[
         4,
     ),
     (b"int*p;void main(void){\n(\np)*2;}", Kind::Operand, 2),
+    (
+        b"void f(void){}void main(void){sizeof\nf;}",
+        Kind::Operand,
+        1,
+    ),
+    (
+        b"void f(void){}void main(void){(void)\nf;}",
+        Kind::Operand,
+        2,
+    ),
     (b"int*p;void main(void){\n(\np*2);}", Kind::Operand, 3),
     (
         b"struct s{int a;}x;void main(void){while(\n(\nx));}",
