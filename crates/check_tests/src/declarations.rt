@@ -42,6 +42,8 @@ const AGAIN: Rule = Rule {
         b"int f(void);int f(void)(void);",
         b"int x;void x[3];",
         b"int x;void x;",
+        b"int a;int a[2](void){}",
+        b"const int f(void);int f(void);",
         b"struct s{int a;};struct s{const int b;};",
         b"struct s{int a;};void main(void){struct s{int b;}x;}",
     ],
@@ -96,15 +98,19 @@ const DECLARE: Rule = Rule {
         b"struct s{int a;}x;void main(void){(struct s)x;}",
         b"void main(void){(static int)1;}",
         b"int a[(register int)1];",
+        b"void f(int a[(register int)1]);",
     ],
     taken: &[
         b"int*const const volatile p;",
         b"int unsigned long const static volatile x;",
         b"void interrupt interrupt f(void){}",
+        b"void interrupt f(void);void f(void){}",
+        b"void f(int,char*){}",
         b"void f(register int a);",
         b"void main(void){auto int x;register int y;}",
         b"struct s{const char*p;};",
         b"void main(void){(register int)1;}",
+        b"void f(void*a,void b[]);",
     ],
 };
 
@@ -153,6 +159,11 @@ const OTHERS: &[Case] = &[
     ),
     (b"int f(int a);void main(void){\nf(z);}", Kind::Name, 2),
     (b"int f(void);void f(\nint g(void));", Kind::Declare, 2),
+    (b"void main(void){sizeof(int\nstruct s);}", Kind::Name, 2),
+    (b"void f(int\ninterrupt\nx);", Kind::Declare, 1),
+    (b"int interrupt\nx;", Kind::Declare, 2),
+    (b"void f(void\nx);", Kind::Incomplete, 2),
+    (b"void f(const\nvoid);", Kind::Incomplete, 1),
     (b"int f(void);void\nf(int\na,int\na);", Kind::Again, 4),
 ];
 

@@ -40,6 +40,7 @@ const ADDRESS: Rule = Rule {
         b"void main(void){register int a[2];int*p=a;&*(a+1);}",
         b"void main(void){register int a[2];&*(1+a);}",
         b"void main(void){register int a[2];&*a;}",
+        b"void main(void){register int a[2];&(a+1)[0];}",
         b"void main(void){register int a[2][2];&a[1][1];}",
         b"void f(register int a[2]){register int b[2];&*(b+1);}",
         b"const struct s{int a;}x;void main(void){&x.a;}",
@@ -123,6 +124,7 @@ const OPERAND: Rule = Rule {
         b"int*p;void*v;void main(void){p==v;v!=p;p==0;'\\0'!=p;p==(char*)0;}",
         b"void f(void){}void main(void){1?f():f();}",
         b"int*p;void main(void){1?p:0;1?(char*)0:p;}",
+        b"int*p;void main(void){p=1?(int*)0:(char*)0;}",
     ],
 };
 
@@ -145,6 +147,7 @@ const CONVERT: Rule = Rule {
         b"int*p,*q;void main(void){p-=q;}",
         b"void main(void){char a[3]={\"ab\"};}",
         b"void main(void){char*p[1]={\"ab\"};}",
+        b"char*p;void main(void){p=1?(int*)0:(char*)0;}",
     ],
     taken: &[
         b"char*p;void*q;void main(void){q=p;p=q;p=0;p=(int*)0;}",
@@ -162,6 +165,16 @@ const OTHERS: &[Case] = &[
         4,
     ),
     (b"int*p;void main(void){\n(\np)*2;}", Kind::Operand, 2),
+    (
+        b"void f(void){}void main(void){sizeof\nf;}",
+        Kind::Operand,
+        1,
+    ),
+    (
+        b"void f(void){}void main(void){(void)\nf;}",
+        Kind::Operand,
+        2,
+    ),
     (b"int*p;void main(void){\n(\np*2);}", Kind::Operand, 3),
     (
         b"struct s{int a;}x;void main(void){while(\n(\nx));}",

@@ -44,6 +44,7 @@ const INITIALIZER: Rule = Rule {
     ],
     taken: &[
         b"int x={1};",
+        b"int x={{1}};",
         b"int a[2][2]={{1},{2,3},};",
         b"struct s{int a;}x;void main(void){struct s y=x;}",
         b"struct s{int a;}x;struct t{struct s a;int b;};void main(void){struct t y={x,1},z={{1},1};}",
