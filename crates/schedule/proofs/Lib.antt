@@ -4,3 +4,9 @@ pub mod Fields
 pub mod FileLaws
 pub mod Given
 pub mod BadLine
+pub mod Boundaries
+pub mod Counting
+pub mod FreeMoments
+pub mod LowestNames
+pub mod Moments
+pub mod Putting

@@ -1,5 +1,6 @@
 pub mod Answers
 pub mod Off
+pub mod Putting
 pub mod Reading
 pub mod ScriptExample
 pub mod ScriptFile

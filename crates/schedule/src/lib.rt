@@ -3,7 +3,7 @@
 //! In: the text of a script file; an image, a map and a script. Out: the script's input bytes and its arrivals, or the first
 //! line that no script has; what a run of the chip tells of its arrivals and of the runs of its handler.
 //! The promise: a text is read exactly where it is a script file, and what is read is its content. What is read off a run is
-//! tested; that it is what the definition of runs says is not proved.
+//! what the definition of the chip's run says.
 #![tactic(auto)]
 
 ghost use Rattle.std.specs.Prelude.{◌≡◌, ℕ, List};
