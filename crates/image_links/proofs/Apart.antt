@@ -17,7 +17,8 @@ use Rattle.ram_place.specs.Placement.{IsPlacing, IsTaken, IsTakenFor, MayBeLive,
 use Rattle.sym_code.specs.Layout.{FrameRange, IsLaidOut, no_range, no_frame, object, frame, are_apart, may_meet}
 use Rattle.code_place.specs.Layouts as places
 use Rattle.code_place.specs.Layouts.{layout_of}
-use Rattle.image_links.proofs.Laid.{is_there, mapped_at, frame_range, objects_long, frames_long, objects_whole, frames_whole}
+use Rattle.headline_trace.specs.Carried.{frame_of as range_of_frame}
+use Rattle.image_links.proofs.Laid.{is_there, mapped_at, objects_long, frames_long, objects_whole, frames_whole}
 use Rattle.image_links.proofs.Numbers.{and_true}
 
 -- ---- runs of bytes
@@ -82,7 +83,7 @@ module _ (p : Program) (copies : List FnCopy) (placed : Placed) (placing : IsPla
     copied : slice_get copies c ≡ Some copy
     line : content.FrameLine
     there : slice_get (map frame_of placed.frames.items) c ≡ Some line
-    is : frame (layout_of placed) c ≡ frame_range line
+    is : frame (layout_of placed) c ≡ range_of_frame line
     seat : IsSeated line.address line.size
     root : (frame (layout_of placed) c).root ≡ copy.root
 
@@ -94,7 +95,7 @@ module _ (p : Program) (copies : List FnCopy) (placed : Placed) (placing : IsPla
       let line = is_there (map frame_of placed.frames.items) c (omega arith) in
       let here = placing.frames_stand c copy.0 line.0 copy.1 line.1 in
       let at = mapped_at frame_of places.frame_of placed.frames.items c no_frame line.0 line.1 in
-      let is = at.2 ∙ ap frame_range at.1 in
+      let is = at.2 ∙ ap range_of_frame at.1 in
       record {
         copy = copy.0;
         copied = copy.1;

@@ -27,9 +27,9 @@ ranges_are [] = refl
 ranges_are (line ∷ lines) = ap (λ (l : List Range). places.range_of line ∷ l) (ranges_are lines)
 
 pub assembly_had : AssemblyIsHad
-assembly_had p copies core given made placed at image map_content passed has spread made_image =
-    let runs = sound_runs p passed.sound passed.roots passed.numbers in
-    let bodies = each_given p copies runs core.bodies.items passed.bodies in
+assembly_had p copies core given made placed at image map_content passed has spread made_image first =
+    let runs = sound_runs p passed.blocks.sound passed.blocks.roots passed.blocks.numbers in
+    let bodies = each_given p copies runs core.bodies.items passed.blocks.bodies in
     let same = (selects_had p copies core given made placed at (limit_of copies) passed).same in
     let start = start_had p copies core given made placed at passed in
     record {
@@ -43,14 +43,14 @@ assembly_had p copies core given made placed at image map_content passed has spr
       main = made_image.main;
       halt = made_image.halt;
       start = start.0;
-      starts = start_place placed (start_code (handler_at copies) core.statics.items) made (start_made placed core copies given made passed.joined passed.exact) at made_image.first;
+      starts = start_place placed (start_code (handler_at copies) core.statics.items) made (start_made placed core copies given made passed.blocks.joined passed.blocks.exact) at first;
       vector = start.1;
       halts = start.2;
       ranges = ap (map content.range_of) made_image.objects ∙ ranges_are placed.objects.items;
-      small = all_small copies core given passed.joined bodies made same (length p.statics)
-          (subst (λ (l : List (List FirstByte)). AllGood (length p.statics) l) (sym made_image.statics) (statics_good p passed.sound passed.numbers));
+      small = all_small copies core given passed.blocks.joined bodies made same (length p.statics)
+          (subst (λ (l : List (List FirstByte)). AllGood (length p.statics) l) (sym made_image.statics) (statics_good p passed.blocks.sound passed.blocks.numbers));
       selects = selects_paged p copies core given made placed at passed;
-      outside = all_outside copies core given passed.joined bodies made same;
+      outside = all_outside copies core given passed.blocks.joined bodies made same;
       reaches = reaches_in p copies;
       laid_out = laid_out p copies placed spread.placing (reaches_in p copies) (reach_sound p copies has) spread.objects spread.clear spread.frames;
       depth = depth_had p copies has;

@@ -60,7 +60,7 @@ bare_itself (s ∷ list) e = by (is_word s) (bare_itself list) e where
   by true below h = ap (λ l. s ∷ l) (below h)
   by false below h = absurd (cc)
 
-plain_words : (list : List Sym) → all_plain list ≡ true → all_are is_word list ≡ true
+pub plain_words : (list : List Sym) → all_plain list ≡ true → all_are is_word list ≡ true
 plain_words [] e = refl
 plain_words (s ∷ list) e = by (is_word s) _ (plain_words list) e where
   by : (a b : Bool) → (all_plain list ≡ true → all_are is_word list ≡ true) → ((a && b) && all_plain list) ≡ true → (a && all_are is_word list) ≡ true
@@ -152,8 +152,8 @@ module _ (copies : List FnCopy) (core : CoreProgram) (blocks : List SymBlock) (j
 -- ---- the record
 pub selects_had : SelectsAreHad
 selects_had p copies core given made placed at limit passed =
-    let runs = sound_runs p passed.sound passed.roots passed.numbers in
-    let words = own_words copies core given passed.joined (each_given p copies runs core.bodies.items passed.bodies) in
+    let runs = sound_runs p passed.blocks.sound passed.blocks.roots passed.blocks.numbers in
+    let words = own_words copies core given passed.blocks.joined (each_given p copies runs core.bodies.items passed.blocks.bodies) in
     record {
       given_code = refl;
       made_code = refl;
@@ -163,7 +163,7 @@ selects_had p copies core given made placed at limit passed =
       fit = passed.fit;
       named = passed.named;
       limits = refl;
-      same = λ name. bare_same made given passed.names passed.bare name ∙ bare_itself (block_in given name) (words name);
-      apart = passed.apart;
-      reaches = passed.reaches;
+      same = λ name. bare_same made given passed.blocks.names passed.blocks.bare name ∙ bare_itself (block_in given name) (words name);
+      apart = passed.blocks.apart;
+      reaches = passed.blocks.reaches;
     }

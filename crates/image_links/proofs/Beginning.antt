@@ -11,7 +11,8 @@ use Rattle.core_code.specs.declared.code.FirstByte.{FirstByte}
 use Rattle.lower_stmt.specs.Programs.{core_of}
 use Rattle.select_wide.specs.Links.{IsFirst}
 use Rattle.sym_code.specs.declared.code.BlockName.TheVariants.{Start}
-use Rattle.image_links.specs.Assembly.{BeginningIsHad, held_of}
+use Rattle.start_trace.specs.Starting.{held_in}
+use Rattle.image_links.specs.Assembly.{BeginningIsHad}
 use Rattle.image_links.proofs.Bare.{selects_had}
 use Rattle.image_links.proofs.Blocks.{start_is}
 use Rattle.image_links.proofs.Laid.{layout_is}
@@ -19,16 +20,16 @@ use Rattle.image_links.proofs.Statics.{first_there, held_are}
 
 pub beginning_had : BeginningIsHad
 beginning_had p copies core given made placed at passed placing statics =
-    let held : held_of core.statics.items ≡ (core_of p copies).first = held_are p copies core.statics.items statics in
+    let held : held_in core.statics.items ≡ (core_of p copies).first = held_are p copies core.statics.items statics in
     let layout = layout_is p copies placed placing in
-    let long : length (held_of core.statics.items) ≡ length core.statics.items = length-map core.statics.items (λ (object : Vec FirstByte Global). map first_held object.items) in
+    let long : length (held_in core.statics.items) ≡ length core.statics.items = length-map core.statics.items (λ (object : Vec FirstByte Global). map first_held object.items) in
     let whole = ap length held in
     record {
-      code = (selects_had p copies core given made placed at (λ inside. 0) passed).same Start ∙ start_is core copies given passed.joined;
+      code = (selects_had p copies core given made placed at (λ inside. 0) passed).same Start ∙ start_is core copies given passed.blocks.joined;
       sizes = λ n lt.
           let size = layout.sizes n (omega arith) in
           let bytes = ap (λ (l : List (List Held)). length (slice_index_or l n [])) held in
           omega arith;
-      first = subst (λ (l : List (List Held)). All (All (IsFirst l)) l) (sym held) (first_there p copies passed.sound passed.numbers);
+      first = subst (λ (l : List (List Held)). All (All (IsFirst l)) l) (sym held) (first_there p copies passed.blocks.sound passed.blocks.numbers);
       statics_are = held;
     }

@@ -28,7 +28,7 @@ any_in {A} test (x ∷ xs) e = by (test x) refl e (any_in test xs) where
   by true is h below = (x, inl refl, is)
   by false is h below = let r = below h in (r.0, inr r.1, r.2)
 
-in_any : {A : Type 0} (test : A → Bool) (xs : List A) (x : A) → Has xs x → test x ≡ true → list_any test xs ≡ true
+pub in_any : {A : Type 0} (test : A → Bool) (xs : List A) (x : A) → Has xs x → test x ≡ true → list_any test xs ≡ true
 in_any test [] x h e = absurd h
 in_any test (y ∷ ys) x (inl same) e = ap (λ (t : Bool). t || list_any test ys) (ap test same ∙ e)
 in_any test (y ∷ ys) x (inr h) e = or_right (test y) (list_any test ys) (in_any test ys x h e)

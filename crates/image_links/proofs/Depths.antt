@@ -24,13 +24,14 @@ use Rattle.pic_world.specs.declared.Root.{Root}
 use Rattle.pic_world.specs.declared.Root.TheVariants.{Main, Isr}
 use Rattle.select_wide.specs.Links.{HasLevels, is_inside}
 use Rattle.chip_trace.specs.Arriving.{depth_for}
-use Rattle.image_links.specs.Selection.{HasCalls, IsReaching, reach_of, reaches_in, level_of, level_in, is_under, highest, limit_of, ReachIsHad, LevelsAreHad, DepthIsHad}
+use Rattle.program_code.specs.Translated.{HasCalls}
+use Rattle.image_links.specs.Selection.{IsReaching, reach_of, reaches_in, level_of, level_in, is_under, highest, limit_of, ReachIsHad, LevelsAreHad, DepthIsHad}
 use Rattle.image_links.proofs.Chains.{leads_sound, leads_complete, called_at, helped_at, same_helper}
 use Rattle.image_links.proofs.Entered.{at_is}
 use Rattle.image_links.proofs.Laid.{is_there}
 use Rattle.image_links.proofs.Statics.{some_is}
 
-roots_same : (a b : Root) → same_root a b ≡ true → a ≡ b
+pub roots_same : (a b : Root) → same_root a b ≡ true → a ≡ b
 roots_same Main Main e = refl
 roots_same Isr Isr e = refl
 roots_same Main Isr e = absurd (cc)
@@ -77,10 +78,10 @@ highest_within inside most (x ∷ list) all =
       by false l e below = below
 
 -- ---- longest chains
-record IsBounded (graph : List (List ℕ)) (n depth : ℕ) : Type 0 where
-  most : ℕ
-  longest : IsLongest graph n most
-  within : most ≤ depth
+pub record IsBounded (graph : List (List ℕ)) (n depth : ℕ) : Type 0 where
+  pub most : ℕ
+  pub longest : IsLongest graph n most
+  pub within : most ≤ depth
 
 main_bounded : (graph : List (List ℕ)) (depth : ℕ) (a b : Option ℕ) → IsDepth graph a b depth → (n : ℕ) → a ≡ Some n → IsBounded graph n depth
 main_bounded graph depth None b d n e = absurd d
@@ -120,7 +121,7 @@ module _ (p : Program) (copies : List FnCopy) (has : HasCalls p copies) where
   in_graph : (copy : FnCopy) → IsCopy p copy → number copy < length graph
   in_graph copy is = let size = graph_size p in let below = one_below (length p.functions) copy.function is.one in omega arith
 
-  bounded : (r : Root) (n : ℕ) → root_of p r ≡ Some n → IsBounded graph n has.depth
+  pub bounded : (r : Root) (n : ℕ) → root_of p r ≡ Some n → IsBounded graph n has.depth
   bounded Main n e = main_bounded graph has.depth (root_of p Main) (root_of p Isr) has.exact n e
   bounded Isr n e = isr_bounded graph has.depth (root_of p Main) (root_of p Isr) has.exact n e
 

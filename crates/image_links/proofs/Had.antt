@@ -14,11 +14,11 @@ use Rattle.image_links.proofs.Lowered.{body_there}
 
 pub bodies_had : BodiesAreHad
 bodies_had p copies core given made placed at passed c copy is user =
-    body_there p copies (sound_runs p passed.sound passed.roots passed.numbers) core.bodies.items passed.bodies c copy is user
+    body_there p copies (sound_runs p passed.blocks.sound passed.blocks.roots passed.blocks.numbers) core.bodies.items passed.blocks.bodies c copy is user
 
 pub start_had : StartIsHad
 start_had p copies core given made placed at passed =
-    let start = start_made placed core copies given made passed.joined passed.exact in
+    let start = start_made placed core copies given made passed.blocks.joined passed.blocks.exact in
     let code = start_code (handler_at copies) core.statics.items in
     let is = sym (start_code_is placed code made start) in (
       start_first placed code made start,

@@ -29,6 +29,7 @@ use Rattle.ram_place.specs.Sizes as sizes
 use Rattle.sym_code.specs.Layout.{FrameRange, IsOf, no_range, no_frame, object, frame, lies_in, is_whole}
 use Rattle.code_place.specs.Layouts as places
 use Rattle.code_place.specs.Layouts.{layout_of}
+use Rattle.headline_trace.specs.Carried.{frame_of as range_of_frame}
 use Rattle.image_links.proofs.Numbers.{and_true}
 use Rattle.image_links.proofs.Statics.{some_is}
 
@@ -88,10 +89,19 @@ whole : (taken : ℕ → Type 0) (size address : ℕ) → Stands taken size addr
 whole taken zero address stands = ap (λ a. is_whole a 0) (stands.0 refl)
 whole taken (suc size) address stands = lowest_whole taken (suc size) address (stands.1 (omega arith))
 
-abbrev pub frame_range : content.FrameLine → FrameRange
-frame_range line = record { root = line.root; address = line.address; size = line.size }
+-- no region has more than 96 bytes
+lowest_small : (taken : ℕ → Type 0) (size address : ℕ) → IsLowest taken regions size address → size ≤ 96
+lowest_small taken size address (inl h) = let i = h.0 in let j = i.0 in let low = j.0 in let high = j.1 in omega arith
+lowest_small taken size address (inr (full, inl h)) = let i = h.0 in let j = i.0 in let low = j.0 in let high = j.1 in omega arith
+lowest_small taken size address (inr (full, inr (more, inl h))) = let i = h.0 in let j = i.0 in let low = j.0 in let high = j.1 in omega arith
+lowest_small taken size address (inr (full, inr (more, inr (rest, inl h)))) = let i = h.0 in let j = i.0 in let low = j.0 in let high = j.1 in omega arith
+lowest_small taken size address (inr (full, inr (more, inr (rest, inr h)))) = absurd (h.1)
 
-bytes_long : (is : List Initial) (n : ℕ) → length (bytes_in is n) ≡ n
+small : (taken : ℕ → Type 0) (size address : ℕ) → Stands taken size address → size ≤ 96
+small taken zero address stands = omega arith
+small taken (suc size) address stands = lowest_small taken (suc size) address (stands.1 (omega arith))
+
+pub bytes_long : (is : List Initial) (n : ℕ) → length (bytes_in is n) ≡ n
 unfolding bytes_in
 bytes_long is zero = refl
 bytes_long is (suc n) = length-append (bytes_in is n) (byte_at is n ∷ []) ∙ ap (λ m. m + 1) (bytes_long is n) ∙ omega arith
@@ -130,6 +140,7 @@ module _ (p : Program) (copies : List FnCopy) (placed : Placed) (placing : IsPla
     address : ℕ
     is : object (layout_of placed) n ≡ record { constant = s.ty.constant; address = address; size = type_bytes p.sizes s.ty.ty }
     in_bank : is_whole address (type_bytes p.sizes s.ty.ty) ≡ true
+    few : type_bytes p.sizes s.ty.ty ≤ 96
 
   object_at : (n : ℕ) (s : StaticTree) → slice_get p.statics n ≡ Some s → ObjectStands n s
   object_at n s is =
@@ -143,12 +154,14 @@ module _ (p : Program) (copies : List FnCopy) (placed : Placed) (placing : IsPla
         address = line.0.address;
         is = at.2 ∙ ap content.range_of at.1 ∙ ap content.range_of here.0;
         in_bank = whole taken (type_bytes p.sizes s.ty.ty) line.0.address (subst (λ size. Stands taken size line.0.address) (ap (λ (x : content.ObjectLine). x.size) here.0) here.1);
+        few = small taken (type_bytes p.sizes s.ty.ty) line.0.address (subst (λ size. Stands taken size line.0.address) (ap (λ (x : content.ObjectLine). x.size) here.0) here.1);
       }
 
   record FrameStands (c : ℕ) (copy : FnCopy) : Type 0 where
     address : ℕ
     is : frame (layout_of placed) c ≡ record { root = copy.root; address = address; size = sizes.frame_bytes p copy.function }
     in_bank : is_whole address (sizes.frame_bytes p copy.function) ≡ true
+    few : sizes.frame_bytes p copy.function ≤ 96
 
   frame_at : (c : ℕ) (copy : FnCopy) → slice_get copies c ≡ Some copy → FrameStands c copy
   frame_at c copy is =
@@ -160,8 +173,9 @@ module _ (p : Program) (copies : List FnCopy) (placed : Placed) (placing : IsPla
       let taken = IsTakenFor p (map object_of placed.objects.items) copies (take c (map frame_of placed.frames.items)) copy in
       record {
         address = line.0.address;
-        is = at.2 ∙ ap frame_range at.1 ∙ ap frame_range here.0;
+        is = at.2 ∙ ap range_of_frame at.1 ∙ ap range_of_frame here.0;
         in_bank = whole taken (sizes.frame_bytes p copy.function) line.0.address (subst (λ size. Stands taken size line.0.address) (ap (λ (x : content.FrameLine). x.size) here.0) here.1);
+        few = small taken (sizes.frame_bytes p copy.function) line.0.address (subst (λ size. Stands taken size line.0.address) (ap (λ (x : content.FrameLine). x.size) here.0) here.1);
       }
 
   pub objects_long : length (layout_of placed).objects ≡ length p.statics
@@ -184,6 +198,17 @@ module _ (p : Program) (copies : List FnCopy) (placed : Placed) (placing : IsPla
       let copy = is_there copies c (omega arith) in
       let f = frame_at c copy.0 copy.1 in
       ap (λ (r : FrameRange). is_whole r.address r.size) f.is ∙ f.in_bank
+
+  -- each of them has at most 96 bytes
+  pub object_few : (n : ℕ) (s : StaticTree) → slice_get p.statics n ≡ Some s → type_bytes p.sizes s.ty.ty ≤ 96
+  object_few n s is = (object_at n s is).few
+
+  pub frame_few : (c : ℕ) (copy : FnCopy) → slice_get copies c ≡ Some copy → sizes.frame_bytes p copy.function ≤ 96
+  frame_few c copy is = (frame_at c copy is).few
+
+  -- a frame of the layout has the bytes of its copy's
+  pub frame_bytes_are : (c : ℕ) (copy : FnCopy) → slice_get copies c ≡ Some copy → (frame (layout_of placed) c).size ≡ sizes.frame_bytes p copy.function
+  frame_bytes_are c copy is = let f = frame_at c copy is in ap (λ (r : FrameRange). r.size) f.is
 
   firsts_long : length (statics_held p) ≡ length p.statics
   firsts_long = length-map (first_bytes p) (map first_held) ∙ length-map p.statics (static_bytes p.sizes)

@@ -24,3 +24,11 @@ pub mod Ended
 pub mod Paged
 pub mod Assembling
 pub mod Beginning
+pub mod Longest
+pub mod Framed
+pub mod Lowerable
+pub mod Linking
+pub mod Counted
+pub mod Routines
+pub mod Bounded
+pub mod Fitting

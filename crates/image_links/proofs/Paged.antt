@@ -35,7 +35,8 @@ use Rattle.sym_code.specs.declared.code.SymBlock.{SymBlock}
 use Rattle.sym_code.specs.declared.code.Target.{Target}
 use Rattle.sym_code.specs.declared.code.Target.TheVariants as targets
 use Rattle.bank_page.specs.Selected.{names_of, bare_lists}
-use Rattle.image_links.specs.Passed.{IsPassed, code_of}
+use Rattle.program_code.specs.Passed.{IsPassed}
+use Rattle.image_links.specs.Passed.{code_of}
 use Rattle.image_links.specs.Plain.{is_own}
 use Rattle.image_links.proofs.Bare.{all_are, bare_itself, block_words}
 use Rattle.image_links.proofs.Blocks.{is_of}
@@ -129,12 +130,12 @@ first_or d (x ∷ xs) = x
 
 module _ (p : Program) (copies : List FnCopy) (core : CoreProgram) (given made : List SymBlock) (placed : Placed) (at : List ℕ) (passed : IsPassed p copies core given made placed at) where
   abbrev joined : IsJoined core copies given
-  joined = passed.joined
+  joined = passed.blocks.joined
 
   -- code as it was selected ends by a word
   by_ends : (c : ℕ) (o : Option Body) → body_at core.bodies.items c ≡ o → ends_by_word true (code_by copies c o) ≡ true
   by_ends c None is = refl
-  by_ends c (Some body) is = either (each_ends p copies (sound_runs p passed.sound passed.roots passed.numbers) core.bodies.items passed.bodies c body is) where
+  by_ends c (Some body) is = either (each_ends p copies (sound_runs p passed.blocks.sound passed.blocks.roots passed.blocks.numbers) core.bodies.items passed.blocks.bodies c body is) where
     either : EndsOrNone (trees_in body.code.items) → ends_by_word true (code_by copies c (Some body)) ≡ true
     either (inl e) = empty_ends (λ at before tree. wide_code copies body.root before tree) (ending_at (handler_at copies) c) (trees_in body.code.items) e
     either (inr (front, e)) = body_ends (λ at before tree. wide_code copies body.root before tree) (ending_at (handler_at copies) c) (trees_in body.code.items) front e
@@ -151,11 +152,11 @@ module _ (p : Program) (copies : List FnCopy) (core : CoreProgram) (given made :
 
   -- no select stands in a block that is given
   given_bare : (b : SymBlock) → Has (joined.start ∷ joined.order) b → bare b.list.items ≡ b.list.items
-  given_bare b has = bare_itself b.list.items (block_words copies core given joined (each_given p copies (sound_runs p passed.sound passed.roots passed.numbers) core.bodies.items passed.bodies) b has)
+  given_bare b has = bare_itself b.list.items (block_words copies core given joined (each_given p copies (sound_runs p passed.blocks.sound passed.blocks.roots passed.blocks.numbers) core.bodies.items passed.blocks.bodies) b has)
 
   made_ends : (b : SymBlock) → Has made b → ends_by_word true b.list.items ≡ true
   made_ends b has =
-      let from = made_of given made passed.bare b has in
+      let from = made_of given made passed.blocks.bare b has in
       let among : Has (joined.start ∷ joined.order) from.from = subst (λ (bs : List SymBlock). Has bs from.from) joined.whole from.among in
       ends_bare true b.list.items (ap (ends_by_word true) (sym from.code ∙ given_bare from.from among) ∙ given_ends from.from among)
 
@@ -168,7 +169,7 @@ module _ (p : Program) (copies : List FnCopy) (core : CoreProgram) (given made :
       ap (λ (o : Option ℕ). known o / page_words) a.1 ∙ label_paged label start block.list.items a.0 (made_ends block (has_at made k block is)) room.1 a.1
 
   own_at : (k : ℕ) (block : SymBlock) (start : ℕ) → slice_get made k ≡ Some block → slice_get at k ≡ Some start → block_place made at block.name ≡ Some start
-  own_at k block start is there = own_place made at k block start is there (subst (λ (ns : List BlockName). tally block.name ns ≤ 1) (sym passed.names) (named_once core copies given joined block.name))
+  own_at k block start is there = own_place made at k block start is there (subst (λ (ns : List BlockName). tally block.name ns ≤ 1) (sym passed.blocks.names) (named_once core copies given joined block.name))
 
   own_page : (k : ℕ) (block : SymBlock) (start : ℕ) → slice_get made k ≡ Some block → slice_get at k ≡ Some start → page_of made at block.name ≡ start / page_words
   own_page k block start is there = ap (λ (o : Option ℕ). known o / page_words) (own_at k block start is there)
@@ -176,11 +177,11 @@ module _ (p : Program) (copies : List FnCopy) (core : CoreProgram) (given made :
   -- ---- labels of the start block
   behind_own : (rest : List SymBlock) (first : SymBlock) → made ≡ first ∷ rest → (b : SymBlock) → Has rest b → all_are is_own b.list.items ≡ true
   behind_own rest first whole b has =
-      let lists : bare_lists rest ≡ bare_lists joined.order = ap rest_of (sym (ap bare_lists whole) ∙ passed.bare ∙ ap bare_lists joined.whole) in
+      let lists : bare_lists rest ≡ bare_lists joined.order = ap rest_of (sym (ap bare_lists whole) ∙ passed.blocks.bare ∙ ap bare_lists joined.whole) in
       let from = made_of joined.order rest lists b has in
       selected_own b.list.items
       (ap (all_are is_own) (sym from.code ∙ given_bare from.from (inr from.among))
-      ∙ plain_own from.from.list.items (behind_plain copies core given joined (each_given p copies (sound_runs p passed.sound passed.roots passed.numbers) core.bodies.items passed.bodies) from.from from.among))
+      ∙ plain_own from.from.list.items (behind_plain copies core given joined (each_given p copies (sound_runs p passed.blocks.sound passed.blocks.roots passed.blocks.numbers) core.bodies.items passed.blocks.bodies) from.from from.among))
 
   record IsFront : Type 0 where
     first : SymBlock
@@ -200,7 +201,7 @@ module _ (p : Program) (copies : List FnCopy) (core : CoreProgram) (given made :
       record { first = b; rest = bs; whole = whole; name = ap (first_or b.name) (names ∙ ap names_of joined.whole) ∙ joined.name; start = a; addresses = addresses; places = places }
 
   front : IsFront
-  front = front_of made at refl refl passed.names
+  front = front_of made at refl refl passed.blocks.names
 
   common_paged : (label : Label) → is_common label ≡ true → IsSome (label_place made at label) → known (label_place made at label) / page_words ≡ page_of made at Start
   common_paged label common some =

@@ -9,14 +9,14 @@ use Rattle.core_code.specs.declared.code.CoreProgram.{CoreProgram}
 use Rattle.pic_map.specs.declared.Placed.{Placed}
 use Rattle.sym_code.specs.declared.code.BlockName.TheVariants.{Copy}
 use Rattle.sym_code.specs.declared.code.SymBlock.{SymBlock}
-use Rattle.image_links.specs.Passed.{IsPassed}
+use Rattle.program_code.specs.Passed.{IsPassed}
 use Rattle.image_links.specs.Selection.{PricesAreHad, RoutinesHavePrices}
 use Rattle.image_links.proofs.Bare.{selects_had}
 use Rattle.image_links.proofs.Chosen.{routine_block}
 use Rattle.image_links.proofs.Laid.{frames_long, frames_whole, routine_room}
 
 are_selected : (p : Program) (copies : List FnCopy) (core : CoreProgram) (given made : List SymBlock) (placed : Placed) (at : List ℕ) → IsPassed p copies core given made placed at → AreSelected placed given made
-are_selected p copies core given made placed at passed = record { each = passed.exact; same = (selects_had p copies core given made placed at (λ inside. 0) passed).same }
+are_selected p copies core given made placed at passed = record { each = passed.blocks.exact; same = (selects_had p copies core given made placed at (λ inside. 0) passed).same }
 
 pub prices_had : PricesAreHad
 prices_had p copies core given made placed at passed placing c copy is user =
@@ -27,6 +27,6 @@ routine_prices_had p copies core given made placed at passed placing c copy h is
     let lt = slice_get_within copies c copy is in
     let long = frames_long p copies placed placing in
     routines_are_priced placed given made (are_selected p copies core given made placed at passed) h copy.root c
-    (routine_block core copies given passed.joined c copy h is routine)
+    (routine_block core copies given passed.blocks.joined c copy h is routine)
     (frames_whole p copies placed placing c (omega arith))
     (routine_room p copies placed placing c copy h is routine)

@@ -13,12 +13,12 @@ use Rattle.image_links.proofs.Statics.{first_there}
 
 pub selection_had : SelectionIsHad
 selection_had p copies core given made placed at passed has spread =
-    let runs = sound_runs p passed.sound passed.roots passed.numbers in
+    let runs = sound_runs p passed.blocks.sound passed.blocks.roots passed.blocks.numbers in
     let reach = reach_had p copies has in
     record {
       bodies_there = bodies_had p copies core given made placed at passed;
-      blocks = block_there core copies given passed.joined;
-      routines = routine_block core copies given passed.joined;
+      blocks = block_there core copies given passed.blocks.joined;
+      routines = routine_block core copies given passed.blocks.joined;
       roots = root_is p copies;
       main_there = main_first p copies has.known has.acyclic runs;
       called_there = called_is p copies;
@@ -27,7 +27,7 @@ selection_had p copies core given made placed at passed has spread =
       handler = handler_is p copies;
       same_handler = sym (handler_is p copies);
       no_selects = refl;
-      first = first_there p copies passed.sound passed.numbers;
+      first = first_there p copies passed.blocks.sound passed.blocks.numbers;
       layout = layout_is p copies placed spread.placing;
       routine_frames = routine_room p copies placed spread.placing;
       laid_out = laid_out p copies placed spread.placing (reaches_in p copies) (reach_sound p copies has) spread.objects spread.clear spread.frames;

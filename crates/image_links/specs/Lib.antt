@@ -2,3 +2,5 @@ pub mod Passed
 pub mod Plain
 pub mod Selection
 pub mod Assembly
+pub mod Translations
+pub mod Bounded

@@ -9,8 +9,6 @@ use Rattle.c_typed.specs.Chains.{graph_of, number_of}
 use Rattle.c_typed.specs.Trees.{Program}
 use Rattle.c_typed.specs.declared.calls.FnId.TheVariants as callees
 use Rattle.c_typed.specs.declared.calls.Helper.{Helper}
-use Rattle.call_graph.specs.Copies.{AreCopies, HasDepth}
-use Rattle.call_graph.specs.Levels.{IsAcyclic}
 use Rattle.call_graph.specs.Numbers.{handler_at, copy_of}
 use Rattle.call_graph.specs.declared.types.FnCopy.{FnCopy}
 use Rattle.core_code.specs.declared.code.CoreProgram.{CoreProgram}
@@ -20,7 +18,7 @@ use Rattle.math_helpers.specs.Shape.{ArePriced}
 use Rattle.pic_map.specs.MapView.{object_of, frame_of}
 use Rattle.pic_map.specs.declared.Placed.{Placed}
 use Rattle.pic_world.specs.declared.Root.{Root}
-use Rattle.ram_place.specs.Placement.{IsPlacing, LiveFramesAreDisjoint, FramesAreClear, ObjectsAreDisjoint}
+use Rattle.ram_place.specs.Placement.{IsPlacing}
 use Rattle.select_wide.specs.Blocks.{is_user}
 use Rattle.select_wide.specs.Links.{AreDear, HasLevels, IsSelected, is_inside}
 use Rattle.sym_code.specs.Programs.{block_in}
@@ -29,7 +27,9 @@ use Rattle.sym_code.specs.declared.code.SymBlock.{SymBlock}
 use Rattle.bank_page.specs.Links.{price_in}
 use Rattle.chip_trace.specs.Arriving.{depth_for}
 use Rattle.code_place.specs.Layouts.{layout_of}
-use Rattle.image_links.specs.Passed.{IsPassed, bare_setting}
+use Rattle.program_code.specs.Passed.{IsPassed}
+use Rattle.program_code.specs.Translated.{HasCalls, IsSpread}
+use Rattle.headline_trace.specs.Linked.{bare_setting}
 
 -- ---- chains of calls
 -- a chain of at most so many calls leads from one number of a graph to another
@@ -67,22 +67,6 @@ highest inside (copy ∷ list) = if is_under inside copy.root && nat_lt (highest
 
 abbrev pub limit_of : List FnCopy → Bool → ℕ
 limit_of copies inside = highest inside copies
-
--- ---- what is given
--- The copies are those of a program that doesn't call itself, and its calls and the interrupt fit the return stack.
-pub record HasCalls (p : Program) (copies : List FnCopy) : Type 0 where
-  pub known : AreCopies p copies
-  pub acyclic : IsAcyclic (graph_of p)
-  pub depth : ℕ
-  pub exact : HasDepth p depth
-  pub shallow : depth ≤ 8
-
--- Objects and frames have their places, and those that may be live together are apart.
-pub record IsSpread (p : Program) (copies : List FnCopy) (placed : Placed) : Type 0 where
-  pub placing : IsPlacing p copies (map object_of placed.objects.items) (map frame_of placed.frames.items)
-  pub objects : ObjectsAreDisjoint (map object_of placed.objects.items)
-  pub clear : FramesAreClear (map object_of placed.objects.items) (map frame_of placed.frames.items)
-  pub frames : LiveFramesAreDisjoint p copies (map frame_of placed.frames.items)
 
 -- ---- what follows
 -- Instructions of functions cost what the link of selection allows for them,

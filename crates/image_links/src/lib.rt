@@ -6,7 +6,9 @@
 #![tactic(auto)]
 
 ghost use Rattle.image_links.specs.Assembly.{AssemblyIsHad, BeginningIsHad};
+ghost use Rattle.image_links.specs.Bounded.{BlocksAreStated, BlocksFit};
 ghost use Rattle.image_links.specs.Passed.{BodiesAreHad, LayoutIsHad, LayoutServes, SelectsAreHad, StartIsHad};
+ghost use Rattle.image_links.specs.Translations.{TranslationsAreLinked, TranslationsAreLowerable, TranslationsFollow};
 ghost use Rattle.image_links.specs.Selection.{DepthIsHad, LevelsAreHad, PricesAreHad, ReachIsHad, RoutinesHavePrices, SelectionIsHad};
 
 /// Of a sound program, byte code of its copies, the blocks that are joined from it and what `selects` answers for them have the selects
@@ -65,4 +67,21 @@ pub fn assembly_is_had()
 /// room where the objects are placed.
 pub fn beginning_is_had()
     ensures { BeginningIsHad }
+{}
+
+/// What all passes make of a typed program is what the links ask for: the program is one that lowering keeps, since its objects and frames
+/// fit a region of memory and its blocks a page; and with its code in every language, its image and its map it is linked. By the root and
+/// the name of a function's copy the map tells its frame. So the image does on the chip what the program says, if lowering keeps what
+/// the source does.
+pub fn translations_are_linked()
+    ensures lowerable { TranslationsAreLowerable }
+    ensures linked { TranslationsAreLinked }
+    ensures follow { TranslationsFollow }
+{}
+
+/// Each block with its selects has at most the words that are stated of it: the start block, the block of a function's copy, and that of
+/// a helper's. So each has room where blocks of the stated words are placed, if they stand in the same order.
+pub fn blocks_have_room()
+    ensures stated { BlocksAreStated }
+    ensures fit { BlocksFit }
 {}

@@ -1,1 +1,4 @@
 pub mod Joined
+pub mod Passed
+pub mod Stated
+pub mod Translated

@@ -22,5 +22,5 @@ mod Bodies
 mod Others
 mod Callees
 mod Copied
-mod Placed
-mod Whole
+pub mod Placed
+pub mod Whole

@@ -1,0 +1,48 @@
+-- What all passes make is linked.
+use Rattle.std.proofs.Common.{◌≡◌, List, [], ◌∷◌, map, refl, ap, ◌∙◌}
+use Rattle.call_graph.specs.Numbers.{handler_at}
+use Rattle.code_place.specs.Layouts as places
+use Rattle.pic_map.specs.MapContent as content
+use Rattle.pic_map.specs.MapView.{frame_of}
+use Rattle.pic_map.specs.declared.FrameLine.{FrameLine}
+use Rattle.sym_code.specs.Layout.{FrameRange}
+use Rattle.headline_trace.specs.Carried as carried
+use Rattle.headline_trace.proofs.Whole.{makes_headline}
+use Rattle.image_links.specs.Selection.{reaches_in, limit_of}
+use Rattle.image_links.specs.Translations.{TranslationsAreLowerable, TranslationsAreLinked, TranslationsFollow}
+use Rattle.image_links.proofs.Assembling.{assembly_had, ranges_are}
+use Rattle.image_links.proofs.Bare.{selects_had}
+use Rattle.image_links.proofs.Beginning.{beginning_had}
+use Rattle.image_links.proofs.Framed.{frames_named}
+use Rattle.image_links.proofs.Lowerable.{first_at, lowerable}
+use Rattle.image_links.proofs.Selecting.{selection_had}
+
+-- the map's lines of frames show those of the layout
+frames_are : (lines : List FrameLine) → map carried.frame_of (map frame_of lines) ≡ map places.frame_of lines
+frames_are [] = refl
+frames_are (line ∷ lines) = ap (λ (l : List FrameRange). places.frame_of line ∷ l) (frames_are lines)
+
+pub translations_lowerable : TranslationsAreLowerable
+translations_lowerable = lowerable
+
+pub translations_linked : TranslationsAreLinked
+translations_linked p copies core given made placed at image map_content t =
+    let begins = beginning_had p copies core given made placed at t.passed t.spread.placing t.written.statics in
+    record {
+      lowerable = lowerable p copies core given made placed at image map_content t;
+      selected = selection_had p copies core given made placed at t.passed t.calls t.spread;
+      selects = selects_had p copies core given made placed at (limit_of copies) t.passed;
+      assembled = assembly_had p copies core given made placed at image map_content t.passed t.calls t.spread t.written (first_at p copies at t.paged);
+      beginning = record { code = begins.code; selected = t.passed.blocks.reaches; sizes = begins.sizes; first = begins.first };
+      statics_are = begins.statics_are;
+      objects = ap (map content.range_of) t.written.objects ∙ ranges_are placed.objects.items;
+      frames = ap (map carried.frame_of) t.written.frames ∙ frames_are placed.frames.items;
+      named = frames_named p copies placed map_content t.calls t.spread.placing t.written.frames t.written.apart;
+    }
+
+pub translations_follow : TranslationsFollow
+translations_follow lowers p image map_content made start inputs arrivals is_start bytes =
+    let copies = made.copies in
+    let core = made.core in
+    makes_headline lowers p copies core.bodies.items core.statics.items (reaches_in p copies) made.given made.made (handler_at copies) made.placed made.at (limit_of copies) image map_content
+    (translations_linked p copies core made.given made.made made.placed made.at image map_content made.is) start inputs arrivals is_start bytes

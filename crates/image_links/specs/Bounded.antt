@@ -1,0 +1,63 @@
+-- No block with its selects has more words than are stated of it, so each has room where blocks of the stated words are placed.
+use Rattle.std.specs.Prelude.{ℕ, suc, ◌≡◌, ◌≤◌, List, map, Option, Some, None, slice_get}
+use Rattle.c_typed.specs.Trees.{Program}
+use Rattle.c_typed.specs.Views.{program_of}
+use Rattle.c_typed.specs.Words.{start_size}
+use Rattle.c_typed.specs.declared.program.Typed.{Typed}
+use Rattle.call_graph.specs.declared.types.FnCopy.{FnCopy}
+use Rattle.core_code.specs.declared.code.CoreProgram.{CoreProgram}
+use Rattle.lower_stmt.specs.Bodies.{first_bytes}
+use Rattle.lower_stmt.specs.FirstBytes.{items_of}
+use Rattle.pic_map.specs.MapView.{object_of, frame_of}
+use Rattle.pic_map.specs.declared.Placed.{Placed}
+use Rattle.program_code.specs.Passed.{AreBlocks}
+use Rattle.program_code.specs.Stated.{IsPaged}
+use Rattle.program_code.specs.Translated.{HasCalls}
+use Rattle.ram_place.specs.Placement.{IsPlacing}
+use Rattle.ram_place.specs.Sizes.{block_words}
+use Rattle.sym_code.specs.Words.{words_in}
+use Rattle.sym_code.specs.declared.code.BlockName.{BlockName}
+use Rattle.sym_code.specs.declared.code.BlockName.TheVariants.{Start, Copy}
+use Rattle.sym_code.specs.declared.code.SymBlock.{SymBlock}
+use Rattle.code_place.specs.Sizes.{Fit}
+
+-- ---- stated words
+-- those of the block of a name
+abbrev pub words_of_copy : Program → Option FnCopy → ℕ
+words_of_copy p None = 0
+words_of_copy p (Some copy) = block_words p copy.function
+
+abbrev pub words_for : Program → List FnCopy → BlockName → ℕ
+words_for p copies Start = start_size p
+words_for p copies (Copy c) = words_of_copy p (slice_get copies c)
+
+abbrev pub IsStated : Program → List FnCopy → SymBlock → Type 0
+IsStated p copies block = words_in block.list.items ≤ words_for p copies block.name
+
+-- Each block of a typed program with its selects has at most its stated words.
+abbrev pub BlocksAreStated : Type 0
+BlocksAreStated =
+    (typed : Typed) (copies : List FnCopy) (core : CoreProgram) (given made : List SymBlock) (placed : Placed)
+    → AreBlocks (program_of typed) copies core given made placed → HasCalls (program_of typed) copies
+    → IsPlacing (program_of typed) copies (map object_of placed.objects.items) (map frame_of placed.frames.items)
+    → map items_of core.statics.items ≡ first_bytes (program_of typed) → (k : ℕ) (block : SymBlock) → slice_get made k ≡ Some block → IsStated (program_of typed) copies block
+
+-- ---- room
+-- the block is that of this copy
+pub record IsBlockFor (copies order : List FnCopy) (k : ℕ) (block : SymBlock) : Type 0 where
+  pub number : ℕ
+  pub copy : FnCopy
+  pub named : block.name ≡ Copy number
+  pub there : slice_get copies number ≡ Some copy
+  pub in_order : slice_get order k ≡ Some copy
+
+-- Behind the start block the blocks stand in the order of these copies.
+pub record AreInOrder (copies order : List FnCopy) (made : List SymBlock) : Type 0 where
+  pub first : (block : SymBlock) → slice_get made 0 ≡ Some block → block.name ≡ Start
+  pub behind : (k : ℕ) (block : SymBlock) → slice_get made (suc k) ≡ Some block → IsBlockFor copies order k block
+
+-- Where the addresses are those of the stated words in this order, each block has room.
+abbrev pub BlocksFit : Type 0
+BlocksFit =
+    (p : Program) (copies : List FnCopy) (made : List SymBlock) (at : List ℕ) → (paged : IsPaged p copies at) → AreInOrder copies paged.order made
+    → ((k : ℕ) (block : SymBlock) → slice_get made k ≡ Some block → IsStated p copies block) → Fit made at

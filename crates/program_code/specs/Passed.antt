@@ -1,0 +1,40 @@
+-- What the passes answer for one program, one behind the other, from its typed tree on to the blocks and their addresses.
+use Rattle.std.specs.Prelude.{ℕ, ◌≡◌, true, List, map, None}
+use Rattle.std.specs.List.{All, AllZip}
+use Rattle.c_typed.specs.Roots.{broken_root}
+use Rattle.c_typed.specs.Sound.{is_sound}
+use Rattle.c_typed.specs.Trees.{Program}
+use Rattle.call_graph.specs.declared.types.FnCopy.{FnCopy}
+use Rattle.core_code.specs.declared.code.CoreProgram.{CoreProgram}
+use Rattle.lower_stmt.specs.Bodies.{body_of, bodies_of}
+use Rattle.pic_map.specs.declared.Placed.{Placed}
+use Rattle.src_rules.specs.Numbers.{ProgramHasNumbers}
+use Rattle.sym_code.specs.declared.code.SymBlock.{SymBlock}
+use Rattle.bank_page.specs.Selected as selected
+use Rattle.bank_page.specs.Selected.{names_of, bare_lists, IsApart, IsWithin, IsExact}
+use Rattle.code_place.specs.Places.{BlocksHaveAddresses}
+use Rattle.code_place.specs.Sizes.{Fit}
+use Rattle.program_code.specs.Joined.{IsJoined}
+
+-- The blocks of a program with their selects: what each pass promises, from a typed program on.
+pub record AreBlocks (p : Program) (copies : List FnCopy) (core : CoreProgram) (given made : List SymBlock) (placed : Placed) : Type 0 where
+  -- the program is sound
+  pub sound : is_sound p ≡ true
+  pub roots : broken_root p ≡ None
+  pub numbers : ProgramHasNumbers p
+  -- byte code, and the blocks of it
+  pub bodies : map body_of core.bodies.items ≡ bodies_of p copies
+  pub joined : IsJoined core copies given
+  -- the blocks with selects
+  pub names : names_of made ≡ names_of given
+  pub bare : bare_lists made ≡ bare_lists given
+  pub apart : All IsApart made
+  pub reaches : All (selected.Reaches placed) made
+  pub few : AllZip IsWithin given made
+  pub exact : AllZip (IsExact placed) given made
+
+-- .. and their addresses
+pub record IsPassed (p : Program) (copies : List FnCopy) (core : CoreProgram) (given made : List SymBlock) (placed : Placed) (at : List ℕ) : Type 0 where
+  pub blocks : AreBlocks p copies core given made placed
+  pub fit : Fit made at
+  pub named : BlocksHaveAddresses placed made at
