@@ -274,7 +274,7 @@ value_far z g (Spell at text left) k m m' s r h = tt
 value_far z g (Blank at left) k m m' s r h = tt
 value_far z g Calls k m m' s r h = tt
 value_far z g (Leaves v) k m m' s r h = λ i lt. r i ∙ h i lt
-value_far z g (Compares v labels) k m m' s r h = tt
+value_far z g (Compares v labels) k m m' s r h = (h.0, datum_same z g.copy g.base v m m' (λ y le lt. s y) h.1)
 value_far z g Over k m m' s r h = tt
 
 -- Below a copy that is called or entered only frames of other copies wait, and results of main's root where the handler runs.

@@ -25,7 +25,7 @@ use Rattle.src_values.specs.declared.objects.CopyOf.{CopyOf}
 use Rattle.src_values.specs.declared.objects.Object as object
 use Rattle.src_values.specs.declared.objects.Object.TheVariants as objects
 use Rattle.lower_trace.proofs.Beginnings.{Follow}
-use Rattle.lower_trace.proofs.CodeLeft.{Scene, held, number, ground_in, core_in, plain_behind, stack_doing, code_after, code_at, stack_after, stack_at, copy_at}
+use Rattle.lower_trace.proofs.CodeLeft.{Scene, held, number, ground_in, core_in, plain_behind, Jumps, Looped, stacked, switch_on, inner_loops, stack_doing, jumps, code_after, code_at, stack_after, stack_at, copy_at}
 use Rattle.lower_trace.proofs.Constants.{due_below}
 use Rattle.lower_trace.proofs.Giving.{mirrors}
 use Rattle.lower_trace.proofs.Jumping.{call_on, handler_on, none_on, loop_on}
@@ -98,23 +98,29 @@ through_loop n s body r k b e next =
       least = ap least_leave o.is ∙ t.least;
     }
 
-arm_stack : (g : Ground) (t : Statement) (more : tree.Arms) (c : List Task) (s : List Waiting) → stack_doing g t (InArm more) c s ≡ s
-arm_stack g (tree.Loop shape begin condition step body line) more c s = refl
-arm_stack g _ more c s = refl
+arm_stack : (g : Ground) (j : Jumps) (t : Statement) (more : tree.Arms) (c : List Task) (s : List Waiting) → stack_doing g j t (InArm more) c s ≡ s
+arm_stack g j (tree.Loop shape begin condition step body line) more c s = refl
+arm_stack g j (tree.Switch value cases default ss line) more c s = refl
+arm_stack g j _ more c s = refl
 
-turns_through : (g : Ground) (n : ℕ) (t : Statement) (c : List Task) (k b s : List Waiting) → plain_behind s ≡ stack_doing g t Turns c k → ((s' : List Waiting) → plain_behind s' ≡ k → Through n s' b) → Through n s b
-turns_through g n (tree.Loop While begin condition step body line) c k b s e next = through_loop n s _ c k b e next
-turns_through g n (tree.Loop Do begin condition step body line) c k b s e next = through_loop n s _ _ _ b e (λ s' e'. through_loop n s' _ c k b e' next)
-turns_through g n (tree.Loop For begin condition step body line) c k b s e next = through_loop n s _ _ _ b e (λ s' e'. through_loop n s' _ c k b e' next)
-turns_through g n _ c k b s e next = next s e
+turns_through : (g : Ground) (j : Jumps) (n : ℕ) (t : Statement) (c : List Task) (k b s : List Waiting) → plain_behind s ≡ stack_doing g j t Turns c k → ((s' : List Waiting) → plain_behind s' ≡ k → Through n s' b) → Through n s b
+turns_through g j n (tree.Loop While begin condition step body line) c k b s e next = through_loop n s _ c k b e next
+turns_through g j n (tree.Loop Do begin condition step body line) c k b s e next = through_loop n s _ _ _ b e (λ s' e'. through_loop n s' _ c k b e' next)
+turns_through g j n (tree.Loop For begin condition step body line) c k b s e next = through_loop n s _ _ _ b e (λ s' e'. through_loop n s' _ c k b e' next)
+turns_through g j n (tree.Switch value cases default ss line) c k b s e next = through_loop n s _ c k b e next
+turns_through g j n _ c k b s e next = next s e
+
+loops_through : (n : ℕ) (xs : List Looped) (k b s : List Waiting) → plain_behind s ≡ stacked xs k → ((s' : List Waiting) → plain_behind s' ≡ k → Through n s' b) → Through n s b
+loops_through n [] k b s e next = next s e
+loops_through n (x ∷ xs) k b s e next = through_loop n s x.body x.code (stacked xs k) b e (λ s' e'. loops_through n xs k b s' e' next)
 
 pub through : (z : Scene) (g : Ground) (n : ℕ) (k : List Pending) (s : List Waiting) → plain_behind s ≡ stack_after z g k → Through n s (stack_after z g (unwound k))
 through z g n [] s e = through_none n s [] e
 through z g n (In x got ∷ k) s e = through_none n s (stack_after z g k) e
 through z g n (To place ∷ k) s e = through_none n s (stack_after z g k) e
-through z g n (Before ss ∷ k) s e = through z g n k s e
-through z g n (Doing t Turns ∷ k) s e = turns_through g n t (code_after g k) (stack_after z g k) (stack_after z g (unwound k)) s e (λ s' e'. through z g n k s' e')
-through z g n (Doing t (InArm more) ∷ k) s e = through z g n k s (e ∙ arm_stack g t more (code_after g k) (stack_after z g k))
+through z g n (Before ss ∷ k) s e = loops_through n (inner_loops g (jumps k) (switch_on k) ss) (stack_after z g k) (stack_after z g (unwound k)) s e (λ s' e'. through z g n k s' e')
+through z g n (Doing t Turns ∷ k) s e = turns_through g (jumps k) n t (code_after g k) (stack_after z g k) (stack_after z g (unwound k)) s e (λ s' e'. through z g n k s' e')
+through z g n (Doing t (InArm more) ∷ k) s e = through z g n k s (e ∙ arm_stack g (jumps k) t more (code_after g k) (stack_after z g k))
 through z g n (Doing t Tests ∷ k) s e = through_none n s (stack_after z g (Doing t Tests ∷ k)) e
 through z g n (Doing t Begins ∷ k) s e = through_none n s (stack_after z g (Doing t Begins ∷ k)) e
 through z g n (Doing t Steps ∷ k) s e = through_none n s (stack_after z g (Doing t Steps ∷ k)) e

@@ -16,7 +16,13 @@ pub mod Flow
 pub mod Looping
 pub mod Rounds
 pub mod Leaving
+pub mod Segments
+pub mod Exits
+pub mod Falling
 pub mod Ends
+pub mod CaseLabels
+pub mod Equality
+pub mod Comparing
 pub mod Entering
 pub mod Takes
 pub mod Fetching

@@ -20,7 +20,7 @@ use Rattle.lower_stmt.specs.Ground.{Ground}
 use Rattle.pic_world.specs.World.{arrived, world_as}
 use Rattle.src_rules.specs.Standing.{IsThere, WaitsForPlace}
 use Rattle.src_rules.specs.State.{State}
-use Rattle.src_values.specs.Control.{Focus, Holds as Value, Found, Fetch, Write, PutBit, Leaves, Got, One, At, AtWith, Stores, Args, Passed, Pending, In, To, Doing, Before, Returns, Resumes, active}
+use Rattle.src_values.specs.Control.{Focus, Holds as Value, Found, Fetch, Write, PutBit, Leaves, Compares, Got, One, At, AtWith, Stores, Args, Passed, Pending, In, To, Doing, Before, Returns, Resumes, active}
 use Rattle.src_values.specs.Data as datum
 use Rattle.src_values.specs.Data.{Datum}
 use Rattle.src_values.specs.Memory as source
@@ -134,6 +134,7 @@ HasValue z g (Fetch at read) k m = HasReadAt z g k at read m
 HasValue z g (Write at v done) k m = HasDatum z g.copy (stored_at g k) (standing at done v) m
 HasValue z g (PutBit register bit v old) k m = HasDatum z g.copy (stored_at g k) (number_of IntTy.UChar (lowest_bit v)) m
 HasValue z g (Leaves v) k m = (i : ℕ) → i < byte_count v → m (Result g.layout.root i) ≡ held z (byte_of v i)
+HasValue z g (Compares v labels) k m = (0 < byte_count v) × HasDatum z g.copy g.base v m
 HasValue z g _ k m = Unit {0}
 
 -- ---- all that waits

@@ -53,7 +53,7 @@ value_frames z g (Spell at text left) k m m' x s h = tt
 value_frames z g (Blank at left) k m m' x s h = tt
 value_frames z g Calls k m m' x s h = tt
 value_frames z g (Leaves v) k m m' x s h = absurd x
-value_frames z g (Compares v labels) k m m' x s h = tt
+value_frames z g (Compares v labels) k m m' x s h = (h.0, datum_same z g.copy g.base v m m' (λ y le lt. s y) h.1)
 value_frames z g Over k m m' x s h = tt
 
 -- what the handler interrupted isn't the end of a function

@@ -180,7 +180,7 @@ value_temps z g (Spell at text left) k m m' p small s r h = tt
 value_temps z g (Blank at left) k m m' p small s r h = tt
 value_temps z g Calls k m m' p small s r h = tt
 value_temps z g (Leaves v) k m m' p small s r h = λ i lt. r i ∙ h i lt
-value_temps z g (Compares v labels) k m m' p small s r h = tt
+value_temps z g (Compares v labels) k m m' p small s r h = (h.0, datum_same z g.copy g.base v m m' (λ y le lt. s y le) h.1)
 value_temps z g Over k m m' p small s r h = tt
 
 pub own_temps : (z : Scene) (c : CopyOf) (m m' : Memory) → SameTemps z c m m' → (y : ℕ) → (ground_in z c).base ≤ y → m' (Frame (ground_in z c).copy y) ≡ m (Frame (ground_in z c).copy y)
