@@ -23,6 +23,8 @@ pub mod Ends
 pub mod CaseLabels
 pub mod Equality
 pub mod Comparing
+pub mod Listing
+pub mod ListBytes
 pub mod Entering
 pub mod Takes
 pub mod Fetching
