@@ -66,3 +66,8 @@ pub mod PointerUpdates
 pub mod BitReads
 pub mod BitEnds
 pub mod HelpedUpdates
+pub mod Positions
+pub mod Reaches
+pub mod Numbering
+pub mod Variables
+pub mod Scenes
