@@ -71,3 +71,4 @@ pub mod Reaches
 pub mod Numbering
 pub mod Variables
 pub mod Scenes
+pub mod Surroundings
