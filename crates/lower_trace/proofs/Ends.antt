@@ -31,7 +31,7 @@ use Rattle.lower_trace.proofs.Looping.{test_after, for_again}
 use Rattle.lower_trace.proofs.Mirrors.{Mirrors, Agrees, Holds}
 use Rattle.lower_trace.proofs.Operations.{Comes, comes_here, comes_first, comes_within}
 use Rattle.lower_trace.proofs.Placed.{Placed, front, operates, most_operates, least_operates, todo_join}
-use Rattle.lower_trace.proofs.Rounds.{IsLoop}
+use Rattle.lower_trace.proofs.Rounds.{IsLoop, turn_least}
 
 -- ---- two loops are left at once, and a loop is begun again
 module _ (g : Setting) (T : Machine → Type 0) (n : ℕ) (a : Option ℕ) (w : World Held) (due : is_due w ≡ false) (now : arrived g.outside w ≡ w) where
@@ -210,15 +210,15 @@ module _ (z : Scene) where
 
   -- a turn ends by the jump
   pub turn_repeats : (shape : LoopForm) (begins condition step : Option Expression) (body : Statement) (line : ℕ) (k : List Pending) (cp : CopyOf) (l : source.Memory) (w : World value.Byte) (c : Machine) → IsLoop shape begins step → is_due (arrived z.outside w) ≡ false
-      → Repeats z shape begins condition step body line k cp l w c → Follow z 12 0 c (turned (tree.Loop shape begins condition step body line) Turns k cp l (arrived z.outside w))
+      → Repeats z shape begins condition step body line k cp l w c → Follow z 12 (turn_least shape step) c (turned (tree.Loop shape begins condition step body line) Turns k cp l (arrived z.outside w))
   unfolding active
   turn_repeats While begins condition None body line k cp l w c fits due h =
       let t = tree.Loop While begins condition None body line in
       let g = ground_in z cp in
       let W = world_as (held z) (arrived z.outside w) in
       let ts = condition_code g condition ++ stmt_code g (jumps_in While) body in
-      test_after z begins condition None body line k cp l w c.memory due h.agrees h.holds While condition c 12 0 refl
-      (λ T next. comes_within (core_in z) T (4 + 4) (1 + 0) 12 0 c
+      test_after z begins condition None body line k cp l w c.memory due h.agrees h.holds While condition c 12 1 refl
+      (λ T next. comes_within (core_in z) T (4 + 4) (1 + 0) 12 1 c
       (again_then (core_in z) T (number z cp) None W (due_below z (arrived z.outside w) due) (again_below z w) (many ts) h.rest (code_after g k) (stack_after z g k) c.memory c 4 0 (record { copy = h.copy; passing = h.passing; code = h.code; stack = h.stack; memory = refl; world = h.world })
       (λ d pd. many_then (core_in z) T (number z cp) None W (due_below z (arrived z.outside w) due) (again_below z w) ts [] (stack_after z g (Doing t Tests ∷ k)) c.memory d 4 0 pd next))
       (omega arith) (omega arith))
@@ -237,8 +237,8 @@ module _ (z : Scene) where
       let t = tree.Loop For begins condition None body line in
       let g = ground_in z cp in
       let W = world_as (held z) (arrived z.outside w) in
-      test_after z begins condition None body line k cp l w c.memory due h.agrees h.holds For condition c 12 0 refl
-      (λ T next. comes_within (core_in z) T (4 + 8) 1 12 0 c
+      test_after z begins condition None body line k cp l w c.memory due h.agrees h.holds For condition c 12 1 refl
+      (λ T next. comes_within (core_in z) T (4 + 8) 1 12 1 c
       (exit_then (core_in z) T (number z cp) None W (due_below z (arrived z.outside w) due) (again_below z w) (once_body (stmt_code g (jumps_in For) body)) h.rest [] (stack_after z g (Doing t Tests ∷ k)) c.memory c 8 1 (record { copy = h.copy; passing = h.passing; code = h.code; stack = h.stack; memory = refl; world = h.world })
       (λ d pd. for_again z begins condition None body line k cp l w c.memory due h.agrees h.holds T d pd next))
       (omega arith) (omega arith))

@@ -66,6 +66,7 @@ pub mod PointerUpdates
 pub mod BitReads
 pub mod BitEnds
 pub mod HelpedUpdates
+pub mod Costs
 pub mod Positions
 pub mod Reaches
 pub mod Numbering
