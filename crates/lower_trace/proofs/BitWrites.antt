@@ -104,7 +104,7 @@ module _ (z : Scene) (laws : SceneLaws z) (cp : CopyOf) (k : List Pending) (l : 
   -- the register is read
   pub write_bit : (q : ℤ) (line : ℕ) (w : World value.Byte) (c : Machine) → IsInRange int.UChar q → is_due (arrived z.outside w) ≡ false
       → Mirrors z (state cp (Write (spots.Bit register bit_is) (datum.Number (record { ty = int.UChar; number = q })) 0) k l w) c
-      → Follow z 57 0 c (read_bit (source_in z) register bit_is (datum.Number (record { ty = int.UChar; number = q })) k cp l (arrived z.outside w))
+      → Follow z 57 1 c (read_bit (source_in z) register bit_is (datum.Number (record { ty = int.UChar; number = q })) k cp l (arrived z.outside w))
   unfolding active fits_together binary_value
   write_bit q line w c qr due h =
       let x : Quantity = record { ty = int.UChar; number = q } in
@@ -135,7 +135,7 @@ module _ (z : Scene) (laws : SceneLaws z) (cp : CopyOf) (k : List Pending) (l : 
       code_is (spots.Bit register bit_is) 0 ∙ ap (λ i. todo (bit_row cp.root register bit_is (Frame i from)) R) (own_copy z cp) in
       let later : PutBack register (core_machine.with_bit bit_is (low % 2) (device_value z.outside register W)) ≡ PutBack register (core_machine.with_bit bit_is low old) =
       ap (λ y. PutBack register (core_machine.with_bit bit_is y (device_value z.outside register W))) (bit_again (pattern int.UChar q)) ∙ ap (λ y. PutBack register (core_machine.with_bit bit_is low y)) (value_as (held z) z.outside register V) in
-      comes_within (core_in z) T (4 + (40 + 13)) (1 + (1 + 1)) 57 0 c
+      comes_within (core_in z) T (4 + (40 + 13)) (1 + (1 + 1)) 57 1 c
       (set_result_then (core_in z) T n None (stack_after z g k) W no ag cp.root 0 1 (Todo [] (code.Binary ops.And int.UChar (Frame n from) (Frame n from) (Result cp.root 0)) ∷ Todo [] (code.BitWrite register bit_is (Frame n from)) ∷ R) c.memory c (40 + 13) (1 + 1) own
       (subst (λ y. Placed (core_in z) n None y (stack_after z g k) c.memory W c) now (placed_of z (state cp (Write (spots.Bit register bit_is) v 0) k l w) c h))
       (λ d pd. binary_any_then (core_in z) T n (stack_after z g k) W no ag ops.And int.UChar (Frame n from) (Frame n from) (Result cp.root 0) (core.Number x) (core.Number one) (core.Number o) (Todo [] (code.BitWrite register bit_is (Frame n from)) ∷ R) m1 d 13 1 40

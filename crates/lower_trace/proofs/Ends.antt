@@ -33,7 +33,7 @@ use Rattle.lower_trace.proofs.Looping.{test_after, for_again}
 use Rattle.lower_trace.proofs.Mirrors.{Mirrors, Agrees, Holds}
 use Rattle.lower_trace.proofs.Operations.{Comes, comes_here, comes_within}
 use Rattle.lower_trace.proofs.Placed.{Placed}
-use Rattle.lower_trace.proofs.Rounds.{IsLoop}
+use Rattle.lower_trace.proofs.Rounds.{IsLoop, turn_least}
 use Rattle.lower_trace.proofs.Segments.{loops_length}
 
 -- ---- where `continue` leads to
@@ -321,15 +321,15 @@ module _ (z : Scene) where
 
   -- a turn ends by the jump
   pub turn_repeats : (shape : LoopForm) (begins condition step : Option Expression) (body : Statement) (line : ℕ) (k : List Pending) (cp : CopyOf) (l : source.Memory) (w : World value.Byte) (c : Machine) → IsLoop shape begins step → is_due (arrived z.outside w) ≡ false
-      → Repeats z shape begins condition step body line k cp l w c → Follow z 12 0 c (turned (tree.Loop shape begins condition step body line) Turns k cp l (arrived z.outside w))
+      → Repeats z shape begins condition step body line k cp l w c → Follow z 12 (turn_least shape step) c (turned (tree.Loop shape begins condition step body line) Turns k cp l (arrived z.outside w))
   unfolding active
   turn_repeats While begins condition None body line k cp l w c fits due h =
       let t = tree.Loop While begins condition None body line in
       let g = ground_in z cp in
       let W = world_as (held z) (arrived z.outside w) in
       let ts = condition_code g condition ++ stmt_code g (jumps_in While) body in
-      test_after z begins condition None body line k cp l w c.memory due h.agrees h.holds While condition c 12 0 refl
-      (λ T next. comes_within (core_in z) T (4 + 4) (1 + 0) 12 0 c
+      test_after z begins condition None body line k cp l w c.memory due h.agrees h.holds While condition c 12 1 refl
+      (λ T next. comes_within (core_in z) T (4 + 4) (1 + 0) 12 1 c
       (repeats_then (core_in z) T (number z cp) None W (due_below z (arrived z.outside w) due) (again_below z w) (length h.inside) (many ts) h.rest (code_after g k) (stacked h.inside (stack_after z g (Doing t Turns ∷ k))) (stack_after z g k) c.memory c 4 0 (record { copy = h.copy; passing = h.passing; code = h.code; stack = h.stack; memory = refl; world = h.world })
       (again_past h.inside (many ts) (code_after g k) (stack_after z g k) c.stack h.stack)
       (λ d pd. many_then (core_in z) T (number z cp) None W (due_below z (arrived z.outside w) due) (again_below z w) ts [] (stack_after z g (Doing t Tests ∷ k)) c.memory d 4 0 pd next))
@@ -350,8 +350,8 @@ module _ (z : Scene) where
       let t = tree.Loop For begins condition None body line in
       let g = ground_in z cp in
       let W = world_as (held z) (arrived z.outside w) in
-      test_after z begins condition None body line k cp l w c.memory due h.agrees h.holds For condition c 12 0 refl
-      (λ T next. comes_within (core_in z) T (4 + 8) 1 12 0 c
+      test_after z begins condition None body line k cp l w c.memory due h.agrees h.holds For condition c 12 1 refl
+      (λ T next. comes_within (core_in z) T (4 + 8) 1 12 1 c
       (exits_then (core_in z) T (number z cp) None W (due_below z (arrived z.outside w) due) (again_below z w) (length h.inside) h.rest [] (stacked h.inside (stack_after z g (Doing t Turns ∷ k))) (stack_after z g (Doing t Tests ∷ k)) c.memory c 8 1 (record { copy = h.copy; passing = h.passing; code = h.code; stack = h.stack; memory = refl; world = h.world })
       (exit_past h.inside (once_body (stmt_code g (jumps_in For) body)) [] (stack_after z g (Doing t Tests ∷ k)) c.stack h.stack)
       (λ d pd. for_again z begins condition None body line k cp l w c.memory due h.agrees h.holds T d pd next))

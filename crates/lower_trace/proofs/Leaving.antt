@@ -180,16 +180,16 @@ module _ (z : Scene) (cp : CopyOf) (l : source.Memory) (w : World value.Byte) (d
   W = world_as (held z) (arrived z.outside w)
 
   -- the step by which byte code leaves, where it comes so
-  left_by : (T : Machine → Type 0) (k : List Waiting) (t : Through (number z cp) c.stack k) (y : ℕ) (d : Machine) → leave (number z cp) t.below m W ≡ Goes d → y ≤ least_leave t.below → T d → Comes (core_in z) T 104 y c
+  left_by : (T : Machine → Type 0) (k : List Waiting) (t : Through (number z cp) c.stack k) (most y : ℕ) (d : Machine) → 4 + restoring t.below ≤ most → leave (number z cp) t.below m W ≡ Goes d → y ≤ least_leave t.below → T d → Comes (core_in z) T most y c
   unfolding operate cost_of
-  left_by T k t y d e least is =
+  left_by T k t most y d few e least is =
       let f = front c.code code.Leave r p.code in
       let em = most_operates (core_in z) (number z cp) None (Todo [] code.Leave ∷ r) s m W c p code.Leave r f (due_below z (arrived z.outside w) due) in
       let el = least_operates (core_in z) (number z cp) None (Todo [] code.Leave ∷ r) s m W c p code.Leave r f (due_below z (arrived z.outside w) due) in
-      let few = restoring_few c.stack in
+      let tc = t.cost in
       let tl = t.least in
-      comes_within (core_in z) T (104 + 0) (y + 0) 104 y c
-      (comes_first (core_in z) T 0 0 104 y c d
+      comes_within (core_in z) T (most + 0) (y + 0) most y c
+      (comes_first (core_in z) T 0 0 most y c d
       (operates (core_in z) (number z cp) None (Todo [] code.Leave ∷ r) s m W c p code.Leave r f (due_below z (arrived z.outside w) due) ∙ t.same m W ∙ e)
       (omega arith) (omega arith)
       (comes_here (core_in z) T d is))
@@ -203,13 +203,13 @@ module _ (z : Scene) (cp : CopyOf) (l : source.Memory) (w : World value.Byte) (d
 
   -- a function is left with a value, whose bytes are the results of its root
   pub function_left : (v : Datum) (d : CopyOf) (k : List Pending) (t : Through (number z cp) c.stack (stack_after z (ground_in z cp) (Returns d ∷ k))) → Agrees z (active cp Past (Returns d ∷ k)) l m → Holds z (ground_in z d) k m → HasValue z (ground_in z cp) (Leaves v) (Returns d ∷ k) m
-      → Comes (core_in z) (Mirrors z (state cp (Leaves v) (Returns d ∷ k) l (arrived z.outside w))) 104 1 c
+      → Comes (core_in z) (Mirrors z (state cp (Leaves v) (Returns d ∷ k) l (arrived z.outside w))) 4 1 c
   unfolding active
   function_left v d k t agrees holds value =
       let o = call_on t.below (number z d) (code_after (ground_in z d) k) (stack_after z (ground_in z d) k) t.is in
       let e : Machine = record { copy = number z d; passing = None; code = o.code; stack = o.rest; memory = m; world = W } in
       let least : 1 ≤ least_leave t.below = let q = ap least_leave o.is in omega arith in
-      left_by (Mirrors z (state cp (Leaves v) (Returns d ∷ k) l (arrived z.outside w))) (stack_after z (ground_in z cp) (Returns d ∷ k)) t 1 e
+      left_by (Mirrors z (state cp (Leaves v) (Returns d ∷ k) l (arrived z.outside w))) (stack_after z (ground_in z cp) (Returns d ∷ k)) t 4 1 e (let q = ap restoring o.is in omega arith)
       (ap (λ x. leave (number z cp) x m W) o.is)
       least
       (mirrors z cp (Leaves v) (Returns d ∷ k) l (arrived z.outside w) m e (record { copy = refl; passing = refl; code = o.behind; stack = o.below; memory = refl; world = arrived_as (held z) z.outside (arrived z.outside w) }) agrees holds value)
@@ -219,7 +219,7 @@ module _ (z : Scene) (cp : CopyOf) (l : source.Memory) (w : World value.Byte) (d
   main_ends t agrees =
       let none = none_on t.below t.is in
       let e : Machine = record { copy = number z cp; passing = None; code = core.Over ∷ []; stack = []; memory = m; world = noted Ended W } in
-      left_by (Mirrors z (state cp Over [] l (noted Ended (arrived z.outside w)))) [] t 0 e
+      left_by (Mirrors z (state cp Over [] l (noted Ended (arrived z.outside w)))) [] t 104 0 e (let q = restoring_few t.below in omega arith)
       (ap (λ x. leave (number z cp) x m W) none)
       (omega arith)
       (mirrors z cp Over [] l (noted Ended (arrived z.outside w)) m e (record { copy = refl; passing = refl; code = refl; stack = refl; memory = refl; world = ended_world }) (agrees_fewer z cp [] l m agrees) tt tt)
@@ -231,7 +231,7 @@ module _ (z : Scene) (cp : CopyOf) (l : source.Memory) (w : World value.Byte) (d
       let o = handler_on t.below (number z d) None (code_at z (ground_in z d) x k) (stack_after z (ground_in z d) k) t.is in
       let e : Machine = record { copy = number z d; passing = None; code = o.code; stack = o.rest; memory = m; world = left W } in
       let least : 1 ≤ least_leave t.below = let q = ap least_leave o.is in omega arith in
-      left_by (Mirrors z (state d x k l (left (arrived z.outside w)))) (stack_after z (ground_in z cp) (Resumes d x ∷ k)) t 1 e
+      left_by (Mirrors z (state d x k l (left (arrived z.outside w)))) (stack_after z (ground_in z cp) (Resumes d x ∷ k)) t 104 1 e (let q = restoring_few t.below in omega arith)
       (ap (λ y. leave (number z cp) y m W) o.is)
       least
       (mirrors z d x k l (left (arrived z.outside w)) m e
@@ -245,5 +245,6 @@ module _ (z : Scene) (cp : CopyOf) (l : source.Memory) (w : World value.Byte) (d
   body_ends (To place ∷ k) b last t a h = absurd b
   body_ends (Doing x stage ∷ k) b last t a h = absurd b
   body_ends (Before ss ∷ k) b last t a h = absurd b
-  body_ends (Returns d ∷ k) b last t a h = function_left datum.Missing d k t a h (λ i lt. absurd (omega arith))
+  body_ends (Returns d ∷ k) b last t a h =
+      comes_within (core_in z) (Mirrors z (state cp (Leaves datum.Missing) (Returns d ∷ k) l (arrived z.outside w))) 4 1 104 1 c (function_left datum.Missing d k t a h (λ i lt. absurd (omega arith))) (omega arith) (omega arith)
   body_ends (Resumes d x ∷ k) b last t a h = handler_ends d x k t last a h.0 h.1

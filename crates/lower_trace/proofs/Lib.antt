@@ -74,3 +74,10 @@ pub mod PointerUpdates
 pub mod BitReads
 pub mod BitEnds
 pub mod HelpedUpdates
+pub mod Costs
+pub mod Positions
+pub mod Reaches
+pub mod Numbering
+pub mod Variables
+pub mod Scenes
+pub mod Surroundings

@@ -77,7 +77,7 @@ holds_frames z c (Resumes d x ∷ k) m m' r s h = (value_frames z (ground_in z d
 
 -- ---- the value goes to the results, and the function is left
 return_case : (z : Scene) (laws : SceneLaws z) (e : Expression) (line : ℕ) (v : Datum) (d : CopyOf) (k k' : List Pending) (cp : CopyOf) (l : source.Memory) (w : World value.Byte) (c : Machine) → unwound k ≡ Returns d ∷ k' → Resumables k' → IsReached z.program cp → ground.width (ground_in z cp) e ≤ 4 → byte_count v ≤ ground.width (ground_in z cp) e → (ground_in z cp).base + ground.width (ground_in z cp) e ≤ (core_in z).program.frame_bytes (number z cp) → is_due (arrived z.outside w) ≡ false
-    → Mirrors z (state cp (Value v) (Doing (tree.Return (Some e) line) Tests ∷ k) l w) c → Comes (core_in z) (Mirrors z (state cp (Leaves v) (unwound k) l (arrived z.outside w))) 128 1 c
+    → Mirrors z (state cp (Value v) (Doing (tree.Return (Some e) line) Tests ∷ k) l w) c → Comes (core_in z) (Mirrors z (state cp (Leaves v) (unwound k) l (arrived z.outside w))) (6 * ground.width (ground_in z cp) e + 4) 1 c
 unfolding active
 return_case z laws e line v d k k' cp l w c is resumables reached few count room due h =
     let n = number z cp in
@@ -101,14 +101,14 @@ return_case z laws e line v d k k' cp l w c is resumables reached few count room
     holds_frames z d k' m m' resumables (λ i y. frame_there m cp.root x (λ j. m (Frame n (b + j))) i y) (subst (λ y. Holds z g y m) is (holds_unwound z g k m h.holds)) in
     let values : (i : ℕ) → i < byte_count v → m' (Result g.layout.root i) ≡ held z (byte_of v i) =
     λ i lt. ap (λ q. m' (Result q i)) (own_root z cp) ∙ result_there m cp.root x (λ j. m (Frame n (b + j))) i (omega arith) ∙ ap (λ j. m (Frame j (b + i))) (sym (own_copy z cp)) ∙ h.value i lt in
-    subst (λ y. Comes (core_in z) (Mirrors z (state cp (Leaves v) y l (arrived z.outside w))) 128 1 c) (sym is)
-    (comes_within (core_in z) T (6 * x + 104) (x + 1) 128 1 c
-    (results_then (core_in z) T n None s W (due_below z (arrived z.outside w) due) (again_below z w) cp.root (laws.roots cp reached) (laws.small n) x b r m c 104 1 few room (subst (λ y. Placed (core_in z) n None y s m W c) split start)
+    subst (λ y. Comes (core_in z) (Mirrors z (state cp (Leaves v) y l (arrived z.outside w))) (6 * x + 4) 1 c) (sym is)
+    (comes_within (core_in z) T (6 * x + 4) (x + 1) (6 * x + 4) 1 c
+    (results_then (core_in z) T n None s W (due_below z (arrived z.outside w) due) (again_below z w) cp.root (laws.roots cp reached) (laws.small n) x b r m c 4 1 few room (subst (λ y. Placed (core_in z) n None y s m W c) split start)
     (λ e' pe. function_left z cp l w due (code_after g k) s m' e' pe v d k' (subst (λ y. Through n e'.stack (stack_after z g y)) is (through z g n k e'.stack pe.stack)) agrees holds values))
     (omega arith) (omega arith))
 
 pub return_given : (z : Scene) (laws : SceneLaws z) (e : Expression) (line : ℕ) (v : Datum) (d : CopyOf) (k k' : List Pending) (cp : CopyOf) (l : source.Memory) (w : World value.Byte) (c : Machine) → unwound k ≡ Returns d ∷ k' → Resumables k' → IsReached z.program cp → ground.width (ground_in z cp) e ≤ 4 → byte_count v ≤ ground.width (ground_in z cp) e → (ground_in z cp).base + ground.width (ground_in z cp) e ≤ (core_in z).program.frame_bytes (number z cp) → is_due (arrived z.outside w) ≡ false
-    → Mirrors z (state cp (Value v) (Doing (tree.Return (Some e) line) Tests ∷ k) l w) c → Follow z 128 1 c (take_for (source_in z) (tree.Return (Some e) line) Tests v k cp l (arrived z.outside w))
+    → Mirrors z (state cp (Value v) (Doing (tree.Return (Some e) line) Tests ∷ k) l w) c → Follow z (6 * ground.width (ground_in z cp) e + 4) 1 c (take_for (source_in z) (tree.Return (Some e) line) Tests v k cp l (arrived z.outside w))
 return_given z laws e line datum.Missing d k k' cp l w c is resumables reached few count room due h = tt
 return_given z laws e line (datum.Number q) d k k' cp l w c is resumables reached few count room due h = return_case z laws e line (datum.Number q) d k k' cp l w c is resumables reached few count room due h
 return_given z laws e line (datum.Pointer x) d k k' cp l w c is resumables reached few count room due h = return_case z laws e line (datum.Pointer x) d k k' cp l w c is resumables reached few count room due h
