@@ -66,3 +66,7 @@ pub mod PointerUpdates
 pub mod BitReads
 pub mod BitEnds
 pub mod HelpedUpdates
+pub mod CopyNodes
+pub mod CopyWrites
+pub mod Pausing
+pub mod FixedCopies
