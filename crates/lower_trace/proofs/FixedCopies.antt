@@ -125,7 +125,7 @@ module _ (z : Scene) (laws : SceneLaws z) (cp : CopyOf) (k : List Pending) (l : 
       (subst (λ y. Placed (core_in z) n None y (stack_after z g k) c.memory (world_as (held z) (arrived z.outside w')) d) later
       (subst (λ y. Placed (core_in z) n None (Put (behind X done) (c.memory (Static i (0 + f))) ∷ rest done) (stack_after z g k) c.memory y d) world pd))
       h.agrees h.holds
-      (node.carried to from byte left c.memory (has, tt, ok.set)))))
+      (node.carried to from byte left c.memory (has, tt, ok.set, tt)))))
       (omega arith) (omega arith)
 
   -- ---- a byte of a variable is read: byte code waits

@@ -306,6 +306,7 @@ carried_in z g (tree.StructAssign place other size line) got k to from byte left
   trail_same z g.layout.root g.copy (base g k) low m m' s.front s.second s.third s.frame (spot_of g.layout g.copy place) (spot_of g.layout g.copy other) to from (size - suc left) 0 true r h.0,
   carries_same z g.layout.root g.copy (base g k) low m m' s.front s.second s.third s.frame (spot_of g.layout g.copy place) (spot_of g.layout g.copy other) from byte h.1,
   h.2,
+  h.3,
 )
 carried_in z g _ got k to from byte left low m m' s r h = tt
 
@@ -314,6 +315,7 @@ carried_for z g (tree.InitList local all line) (Items (tree.Struct offset other 
   trail_same z g.layout.root g.copy g.base low m m' s.front s.second s.third s.frame (Fixed (behind (local_byte g local) offset)) (spot_of g.layout g.copy other) to from (size - suc left) 0 true r h.0,
   carries_same z g.layout.root g.copy g.base low m m' s.front s.second s.third s.frame (Fixed (behind (local_byte g local) offset)) (spot_of g.layout g.copy other) from byte h.1,
   h.2,
+  h.3,
 )
 carried_for z g _ _ k to from byte left low m m' s r h = tt
 

@@ -70,3 +70,4 @@ pub mod CopyNodes
 pub mod CopyWrites
 pub mod Pausing
 pub mod FixedCopies
+pub mod Advancing

@@ -156,6 +156,11 @@ abbrev pub Carries : Scene → ℕ → ℕ → place.Spot → place.Spot → spo
 Carries z n b (Fixed byte) (Fixed from_byte) from read m = Unit {0}
 Carries z n b p q from read m = is_seen q from ≡ false → m (Frame n (beyond (beyond b (pointer_bytes p)) (pointer_bytes q))) ≡ held z read
 
+-- something was read there
+abbrev pub LeadsTo : spot.Spot → Type 0
+LeadsTo (spots.Memory Null) = ⊥
+LeadsTo _ = Unit {0}
+
 abbrev pub lag_of : ℕ → ℕ
 lag_of zero = 0
 lag_of (suc done) = 1
@@ -168,7 +173,7 @@ abbrev pub HasCopied : Scene → Root → ℕ → ℕ → place.Spot → place.S
 HasCopied z root n b p q to from done m = Trail z root n b p q to from done (lag_of done) (is_begun done) m
 
 abbrev pub HasCarried : Scene → Root → ℕ → ℕ → place.Spot → place.Spot → spot.Spot → spot.Spot → value.Byte → ℕ → Memory → Type 0
-HasCarried z root n b p q to from byte done m = Trail z root n b p q to from done 0 true m × Carries z n b p q from byte m × (is_unset byte ≡ false)
+HasCarried z root n b p q to from byte done m = Trail z root n b p q to from done 0 true m × Carries z n b p q from byte m × (is_unset byte ≡ false) × LeadsTo from
 
 abbrev pub HasCopiedAt : Scene → Ground → List Pending → spot.Spot → spot.Spot → ℕ → Memory → Type 0
 HasCopiedAt z g (In (tree.StructAssign place other size line) got ∷ k) to from left m = HasCopied z g.layout.root g.copy (base g k) (spot_of g.layout g.copy place) (spot_of g.layout g.copy other) to from (size - left) m
