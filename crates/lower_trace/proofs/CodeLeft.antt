@@ -26,7 +26,7 @@ use Rattle.lower_expr.specs.Bytes.{behind, beyond, operation_type}
 use Rattle.lower_expr.specs.Layout.{Layout, width, value_width, place_width, copy_of}
 use Rattle.lower_expr.specs.Lowering.{expr_code, address_code, arguments_code, pointer_code, behind_pointer, shifts_by_constant, change_code, is_pointer, arguments_width, update_of, step_of}
 use Rattle.lower_expr.specs.Puts.{copies, copies_if, operator, choice, test_size}
-use Rattle.lower_expr.specs.Rows.{widened, tested, unary_row, logical_row, binary_row, offset_row, difference_row, member_row, address_row, value_row, assigned_row, kept_row, written_row, bit_row, change_of, change_row, given_byte, update_row, keeps_old, step_number, step_row, called_row, struct_row}
+use Rattle.lower_expr.specs.Rows.{widened, tested, unary_row, logical_row, binary_row, offset_row, difference_row, member_row, address_row, value_row, assigned_row, kept_row, written_row, bit_row, change_of, change_row, given_byte, update_row, keeps_old, step_number, step_row, called_row, struct_row, side_of, taken, given, advances, structure_row}
 use Rattle.lower_expr.specs.Spots.{spot_of, pointer_bytes}
 use Rattle.lower_expr.specs.declared.places.Spot as place
 use Rattle.lower_expr.specs.declared.places.Spot.TheVariants.{Fixed, Bit, Computed}
@@ -41,7 +41,7 @@ use Rattle.lower_stmt.specs.Statements.{stmt_code, stmts_code, arms_code, last_c
 use Rattle.lower_stmt.specs.Switches.{comparisons, cases_code, otherwise_segment, around, for_labels}
 use Rattle.lower_trace.specs.Lowering.{copy_number, object_as, offset_as, held_as}
 use Rattle.src_values.specs.Memory as source
-use Rattle.src_values.specs.Control.{Focus, Eval, Find, Holds, Found, Run, Past, Fetch, Write, PutBit as BitPut, Spell, Blank, Calls, Leaves, Compares, Over as Done, Got, Nothing, Chosen, One, At, AtWith, Stores, Args, Passed, Called, Stage, Tests, Begins, Steps, Turns, Picks, InArm, Chooses, AtItem, Items, Blanks, Pending, In, To, Doing, Before, Returns, Resumes}
+use Rattle.src_values.specs.Control.{Focus, Eval, Find, Holds, Found, Run, Past, Fetch, Write, PutBit as BitPut, CopyRead, CopyWrite, Spell, Blank, Calls, Leaves, Compares, Over as Done, Got, Nothing, Chosen, One, At, AtWith, Stores, Args, Passed, Called, Stage, Tests, Begins, Steps, Turns, Picks, InArm, Chooses, AtItem, Items, Blanks, Pending, In, To, Doing, Before, Returns, Resumes}
 use Rattle.src_values.specs.Objects.{function_at}
 use Rattle.src_values.specs.Values.{number_in, lowest_bit}
 use Rattle.src_values.specs.declared.objects.Byte as value
@@ -536,6 +536,56 @@ abbrev pub comparing_at : Ground → List Pending → List TCase → List Task �
 comparing_at g (Doing (tree.Switch value cases default ss line) Chooses ∷ k) labels c = if_labelled (labels_of cases default) (todo (comparing g (record { value = value; cases = cases; default = default; body = ss }) labels) []) c
 comparing_at g _ labels c = c
 
+-- ---- structures that are copied
+-- where a byte stands on its way
+abbrev pub between : place.Spot → place.Spot → Byte → Byte
+between p q at = behind (behind at (pointer_bytes p)) (pointer_bytes q)
+
+-- the code of so many bytes, from this one on
+abbrev pub bytes_from : Byte → place.Spot → place.Spot → Byte → ℕ → ℕ → List Tree
+bytes_from one p q at i zero = []
+bytes_from one p q at i (suc left) =
+    advances (side_of p at) (side_of q (behind at (pointer_bytes p))) one i
+    ++ taken (between p q at) (side_of q (behind at (pointer_bytes p))) i ∷ [] ++ given (side_of p at) (between p q at) i ∷ [] ++ bytes_from one p q at (i + 1) left
+
+-- behind the first byte the number 1 is there by which pointers go on
+abbrev pub through_left : Root → place.Spot → place.Spot → Byte → ℕ → ℕ → List Tree
+through_left root p q at size zero = structure_row root (side_of p at) (side_of q (behind at (pointer_bytes p))) (between p q at) size
+through_left root p q at size (suc done) = bytes_from (Result root 0) p q at (suc done) (size - suc done)
+
+-- a structure of which so many bytes are copied
+abbrev pub copying : Root → place.Spot → place.Spot → Byte → ℕ → ℕ → List Tree
+copying root (Fixed to) (Fixed from) at size done = copies_from to from done (beyond 0 size - done)
+copying root p q at size done = through_left root p q at size done
+
+-- The read of a byte may be an event: then the byte is written to its way by the next step.
+abbrev pub is_seen : place.Spot → spot.Spot → Bool
+is_seen (Fixed from) at = if is_private from then false else true
+is_seen (Bit register bit) at = false
+is_seen Computed (spots.Memory (Into object offset)) = is_fixed object
+is_seen Computed at = false
+
+-- the byte of this number was read
+abbrev pub carrying : Scene → Root → place.Spot → place.Spot → Byte → ℕ → spot.Spot → value.Byte → ℕ → List Task → List Task
+carrying z root (Fixed to) (Fixed from) at size where_is byte i c = Put (behind to i) (held z byte) ∷ todo (copies_from to from (i + 1) (beyond 0 size - (i + 1))) c
+carrying z root p q at size where_is byte i c =
+    putting_if (is_seen q where_is) z (between p q at) (byte ∷ []) (todo (given (side_of p at) (between p q at) i ∷ bytes_from (Result root 0) p q at (i + 1) (size - (i + 1))) c)
+
+-- so many bytes are left; and one that was read, and so many behind it
+abbrev pub copying_at : Ground → List Pending → ℕ → List Task
+copying_at g (In (tree.StructAssign place other size line) got ∷ k) left =
+    todo (copying g.layout.root (spot_of g.layout g.copy place) (spot_of g.layout g.copy other) (Frame g.copy (base g k)) size (size - left)) (code_after g (In (tree.StructAssign place other size line) got ∷ k))
+copying_at g (Doing (tree.InitList local all line) (Items (tree.Struct offset other size) rest) ∷ k) left =
+    todo (copying g.layout.root (Fixed (behind (local_byte g local) offset)) (spot_of g.layout g.copy other) (first g) size (size - left)) (code_after g (Doing (tree.InitList local all line) (Items (tree.Struct offset other size) rest) ∷ k))
+copying_at g k left = code_after g k
+
+abbrev pub carrying_at : Scene → Ground → List Pending → spot.Spot → value.Byte → ℕ → List Task
+carrying_at z g (In (tree.StructAssign place other size line) got ∷ k) from byte left =
+    carrying z g.layout.root (spot_of g.layout g.copy place) (spot_of g.layout g.copy other) (Frame g.copy (base g k)) size from byte (size - suc left) (code_after g (In (tree.StructAssign place other size line) got ∷ k))
+carrying_at z g (Doing (tree.InitList local all line) (Items (tree.Struct offset other size) rest) ∷ k) from byte left =
+    carrying z g.layout.root (Fixed (behind (local_byte g local) offset)) (spot_of g.layout g.copy other) (first g) size from byte (size - suc left) (code_after g (Doing (tree.InitList local all line) (Items (tree.Struct offset other size) rest) ∷ k))
+carrying_at z g k from byte left = code_after g k
+
 -- ---- where byte code stands
 -- A function that is left is left in byte code too.
 abbrev pub code_left : Scene → List Pending → List Task
@@ -554,6 +604,8 @@ code_at z g (Write spot v done) k = writing_at z g k spot done
 code_at z g (BitPut register number v old) k = PutBack register (with_bit number (lowest_bit v) old) ∷ Join ∷ code_after g k
 code_at z g (Spell spot text left) k = spelling_at g k left (code_after g k)
 code_at z g (Blank at left) k = blanking_at g k at left (code_after g k)
+code_at z g (CopyRead to from left) k = copying_at g k left
+code_at z g (CopyWrite to from byte left) k = carrying_at z g k from byte left
 code_at z g Calls k = code_after g k
 code_at z g (Leaves v) k = code_left z k
 code_at z g (Compares v labels) k = comparing_at g k labels (code_after g k)

@@ -81,3 +81,8 @@ pub mod Numbering
 pub mod Variables
 pub mod Scenes
 pub mod Surroundings
+pub mod CopyNodes
+pub mod CopyWrites
+pub mod Pausing
+pub mod FixedCopies
+pub mod Advancing

@@ -54,12 +54,12 @@ use Rattle.src_values.specs.declared.objects.Undef.{Undef}
 use Rattle.std.proofs.Common.{Bool, List, None, Option, Some, [], ap, arith, false, if◌then◌else◌, nat_lt, not, refl, subst, suc, sym, true, zero, ℕ, ◌+◌, ◌-◌, ◌<◌, ◌∙◌, ◌∷◌, ◌≡◌, ◌≤◌}
 
 -- a write that is defined
-record Writable (z : Scene) (live : List CopyOf) (root : Root) (o : object.Object) (f : ℕ) : Type 0 where
-  inside : f < object_bytes z.program o
-  alive : is_alive live o ≡ true
-  free : breaks_isolation root o ≡ false
+pub record Writable (z : Scene) (live : List CopyOf) (root : Root) (o : object.Object) (f : ℕ) : Type 0 where
+  pub inside : f < object_bytes z.program o
+  pub alive : is_alive live o ≡ true
+  pub free : breaks_isolation root o ≡ false
 
-writable_so : (z : Scene) (live : List CopyOf) (root : Root) (o : object.Object) (f : ℕ) → write_fault z.program live root o f ≡ None → Writable z live root o f
+pub writable_so : (z : Scene) (live : List CopyOf) (root : Root) (o : object.Object) (f : ℕ) → write_fault z.program live root o f ≡ None → Writable z live root o f
 writable_so z live root o f e =
     let a = if_none (not (nat_lt f (object_bytes z.program o))) _ _ e in
     let b = if_none (not (is_alive live o)) _ _ a.1 in

@@ -8,7 +8,9 @@ use Rattle.call_graph.specs.Levels.{IsAcyclic}
 use Rattle.core_code.specs.Machine as core
 use Rattle.core_code.specs.Machine.{Task, Waiting, InLoop, InCall, InHandler, is_reached}
 use Rattle.core_code.specs.Bytes as core_bytes
+use Rattle.core_code.specs.Tree.{Tree}
 use Rattle.lower_stmt.specs.Ground.{Ground}
+use Rattle.lower_stmt.specs.Labels.{labels_of}
 use Rattle.c_typed.specs.declared.statement.LoopForm.{LoopForm}
 use Rattle.c_typed.specs.declared.statement.LoopForm.TheVariants.{While, Do, For}
 use Rattle.pic_world.specs.Roots.{same_root}
@@ -16,13 +18,13 @@ use Rattle.pic_world.specs.declared.Root.{Root}
 use Rattle.pic_world.specs.declared.Root.TheVariants.{Main, Isr}
 use Rattle.src_rules.specs.Standing.{IsReached, IsThere, StackStands}
 use Rattle.src_rules.specs.Step.{copy_of}
-use Rattle.src_values.specs.Control.{Focus, Over, Stage, Tests, Begins, Steps, Turns, Pending, In, To, Doing, Before, Returns, Resumes, callers, running}
+use Rattle.src_values.specs.Control.{Focus, Over, Stage, Tests, Begins, Steps, Turns, Chooses, Pending, In, To, Doing, Before, Returns, Resumes, callers, running}
 use Rattle.src_values.specs.Objects.{is_alive, is_among, same_copy, breaks_isolation, object_bytes}
 use Rattle.src_values.specs.declared.objects.CopyOf.{CopyOf}
 use Rattle.src_values.specs.declared.objects.Object as object
 use Rattle.src_values.specs.declared.objects.Object.TheVariants as objects
 use Rattle.lower_trace.specs.Lowering.{object_as, offset_as}
-use Rattle.lower_trace.proofs.CodeLeft.{Scene, number, ground_in, core_in, plain_behind, code_after, stack_after, stack_doing, turn_behind}
+use Rattle.lower_trace.proofs.CodeLeft.{Scene, number, ground_in, core_in, plain_behind, Jumps, Looped, Switched, stacked, loops_in, whole_loop, if_labelled, switch_on, inner_loops, jumps, code_after, stack_after, stack_doing, turn_behind}
 use Rattle.lower_trace.proofs.Entering.{copy_is, copy_self, bool_cases}
 use Rattle.lower_trace.proofs.Kept.{SceneLaws, Apart, MainsWait}
 use Rattle.lower_trace.proofs.Loading.{ReachesAll}
@@ -107,18 +109,30 @@ callers_turn g While condition step body s = refl
 callers_turn g Do condition step body s = refl
 callers_turn g For condition step body s = refl
 
-callers_doing : (g : Ground) (t : Statement) (stage : Stage) (c : List Task) (s : List Waiting) → core.callers (stack_doing g t stage c s) ≡ core.callers s
-callers_doing g (tree.Loop shape begin condition step body line) Tests c s = refl
-callers_doing g (tree.Loop shape begin condition step body line) Steps c s = refl
-callers_doing g (tree.Loop shape begin condition step body line) Turns c s = callers_turn g shape condition step _ (InLoop _ c ∷ s)
-callers_doing g _ _ c s = refl
+callers_stacked : (xs : List Looped) (s : List Waiting) → core.callers (stacked xs s) ≡ core.callers s
+callers_stacked [] s = refl
+callers_stacked (x ∷ xs) s = callers_stacked xs s
+
+callers_labelled : (labels : List ℕ) (xs : List Looped) (body : Tree) (c : List Task) (s : List Waiting) → core.callers (if_labelled labels (stacked xs (InLoop body c ∷ s)) s) ≡ core.callers s
+callers_labelled [] xs body c s = refl
+callers_labelled (label ∷ labels) xs body c s = callers_stacked xs (InLoop body c ∷ s)
+
+callers_doing : (g : Ground) (j : Jumps) (t : Statement) (stage : Stage) (c : List Task) (s : List Waiting) → core.callers (stack_doing g j t stage c s) ≡ core.callers s
+callers_doing g j (tree.Loop shape begin condition step body line) Tests c s = refl
+callers_doing g j (tree.Loop shape begin condition step body line) Steps c s = refl
+callers_doing g j (tree.Loop shape begin condition step body line) Turns c s = callers_turn g shape condition step _ (InLoop _ c ∷ s)
+callers_doing g j (tree.Switch value cases default ss line) Chooses c s =
+    let x : Switched = record { value = value; cases = cases; default = default; body = ss } in
+    callers_labelled (labels_of cases default) (loops_in g j x) (whole_loop g j x) c s
+callers_doing g j (tree.Switch value cases default ss line) Turns c s = refl
+callers_doing g j _ _ c s = refl
 
 callers_after : (z : Scene) (g : Ground) (k : List Pending) → core.callers (stack_after z g k) ≡ own_callers z k
 callers_after z g [] = refl
 callers_after z g (In e got ∷ k) = callers_after z g k
 callers_after z g (To place ∷ k) = callers_after z g k
-callers_after z g (Doing t stage ∷ k) = callers_doing g t stage (code_after g k) (stack_after z g k) ∙ callers_after z g k
-callers_after z g (Before ss ∷ k) = callers_after z g k
+callers_after z g (Doing t stage ∷ k) = callers_doing g (jumps k) t stage (code_after g k) (stack_after z g k) ∙ callers_after z g k
+callers_after z g (Before ss ∷ k) = callers_stacked (inner_loops g (jumps k) (switch_on k) ss) (stack_after z g k) ∙ callers_after z g k
 callers_after z g (Returns d ∷ k) = ap (λ x. number z d ∷ x) (callers_after z (ground_in z d) k)
 callers_after z g (Resumes d x ∷ k) = refl
 
