@@ -25,6 +25,7 @@ pub mod Equality
 pub mod Comparing
 pub mod Listing
 pub mod ListBytes
+pub mod ListStructs
 pub mod Entering
 pub mod Takes
 pub mod Fetching

@@ -125,7 +125,7 @@ module _ (z : Scene) (laws : SceneLaws z) (local : ℕ) (all : List Item) (line 
   o = local_of z.program cp local
 
   -- where the bytes of the local are
-  byte_there : (at : ℕ) → Around z cp (Doing t Blanks ∷ k) → at ≤ object_bytes z.program o → behind to at ≡ core_byte z o at
+  pub byte_there : (at : ℕ) → Around z cp (Doing t Blanks ∷ k) → at ≤ object_bytes z.program o → behind to at ≡ core_byte z o at
   byte_there at around le =
       let i = length (function_at z.program cp.function).params + local in
       let fit = laws.fits o (around.reached, listed.there) in
