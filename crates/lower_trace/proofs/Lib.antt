@@ -73,3 +73,5 @@ pub mod Numbering
 pub mod Variables
 pub mod Scenes
 pub mod Surroundings
+pub mod Rooms
+pub mod Fitting
