@@ -132,7 +132,8 @@ above g b (tree.Update op place value operation size ty line) (AtWith spot u) = 
 above g b (tree.Step op place operation size ty line) (At spot) = beyond (behind_pointer g.layout g.copy b place) (width g.layout operation)
 above g b (tree.Call function arguments ty line) (Args before more) = beyond b (before_argument g.layout (length before) 0 arguments)
 above g b (tree.Call function arguments ty line) (Passed values) = beyond b (arguments_width g.layout 0 arguments)
-above g b e (Stores spot v) = beyond (beyond (stored g b e) (width g.layout (type_of e))) 4
+above g b (tree.Step op place operation size ty line) (Stores spot v) = beyond (beyond (stored g b (tree.Step op place operation size ty line)) (width g.layout ty)) 4
+above g b e (Stores spot v) = beyond (stored g b e) (width g.layout (type_of e))
 above g b _ _ = b
 
 abbrev pub base : Ground → List Pending → ℕ

@@ -109,7 +109,7 @@ Below g b (tree.Update op place value operation size ty line) (AtWith at u) =
 Below g b (tree.Update op place value operation size ty line) (Stores at v) = b + pointer_bytes (spot_of g.layout g.copy place) ≤ above g b (tree.Update op place value operation size ty line) (Stores at v)
 Below g b (tree.Step op place operation size ty line) (At at) =
     (b + pointer_bytes (spot_of g.layout g.copy place) ≤ above g b (tree.Step op place operation size ty line) (At at))
-    × (behind_pointer g.layout g.copy b place + 4 ≤ above g b (tree.Step op place operation size ty line) (At at))
+    × (behind_pointer g.layout g.copy b place + bytes_of (operation_type operation) ≤ above g b (tree.Step op place operation size ty line) (At at))
 Below g b (tree.Step op place operation size ty line) (Stores at v) =
     (b + pointer_bytes (spot_of g.layout g.copy place) ≤ above g b (tree.Step op place operation size ty line) (Stores at v))
     × (beyond (stored g b (tree.Step op place operation size ty line)) (width g.layout operation) + byte_count v ≤ above g b (tree.Step op place operation size ty line) (Stores at v))
@@ -207,8 +207,7 @@ waits_same z g b w (tree.Call function arguments ty line) (Args before more) m m
 waits_same z g b w (tree.Call function arguments ty line) (Passed values) m m' s k h = arguments_same z g b 0 arguments values (above g b (tree.Call function arguments ty line) (Passed values)) m m' s k h
 waits_same z g b w (tree.Step op place operation size ty line) (At at) m m' s k h =
     let k0 = k.0 in
-    let k1 = k.1 in
-    let few = bytes_small (operation_type operation) in (
+    let k1 = k.1 in (
       at_same z g.copy b (spot_of g.layout g.copy place) at m m' (λ y le lt. s y (omega arith)) h.0,
       datum_same z g.copy (behind_pointer g.layout g.copy b place) (datum.Number (cut_to (operation_type operation) (pos (step_number operation size)))) m m' (λ y le lt. s y (omega arith)) h.1,
     )

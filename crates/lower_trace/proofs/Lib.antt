@@ -88,3 +88,5 @@ pub mod CopyWrites
 pub mod Pausing
 pub mod FixedCopies
 pub mod Advancing
+pub mod Rooms
+pub mod Fitting

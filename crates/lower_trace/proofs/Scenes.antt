@@ -137,7 +137,7 @@ module _ (z : Scene) (given : IsLowerable z.program z.copies) where
     by (Some copy) e = of_function copy copy.function refl e
 
   -- ---- variables
-  base_at : (c : CopyOf) → IsReached p c → (ground_in z c).base ≡ variables_bytes p.sizes (variables_of (function_at p c.function))
+  pub base_at : (c : CopyOf) → IsReached p c → (ground_in z c).base ≡ variables_bytes p.sizes (variables_of (function_at p c.function))
   unfolding ground_in
   base_at c r =
       let f = function_at p c.function in
