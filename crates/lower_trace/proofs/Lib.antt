@@ -71,3 +71,5 @@ pub mod CopyWrites
 pub mod Pausing
 pub mod FixedCopies
 pub mod Advancing
+pub mod CopyTakes
+pub mod CopyGives
