@@ -86,6 +86,17 @@ offset_of : ℕ → Pointer → ℕ
 offset_of d Null = d
 offset_of d (Into o f) = f
 
+-- a side is the same, if its pointer is
+pub trails_above : (z : Scene) (n : ℕ) (p : place.Spot) (b done lag low : ℕ) (at : spot.Spot) (m m' : Memory) → b + pointer_bytes p ≤ low → OnlyAbove n low m m' → Trails z n b p at done lag m → Trails z n b p at done lag m'
+trails_above z n (Fixed x) b done lag low at m m' le s h = h
+trails_above z n (Bit register bit) b done lag low at m m' le s h = h
+trails_above z n Computed b done lag low at m m' le s h = (h.0, h.1, datum_above z n b low (datum.Pointer h.0) m m' le s h.2, h.3)
+
+pub trails_far : (z : Scene) (n : ℕ) (p : place.Spot) (b done lag : ℕ) (at : spot.Spot) (m m' : Memory) → ((t : ℕ) → b ≤ t → m' (Frame n t) ≡ m (Frame n t)) → Trails z n b p at done lag m → Trails z n b p at done lag m'
+trails_far z n (Fixed x) b done lag at m m' s h = h
+trails_far z n (Bit register bit) b done lag at m m' s h = h
+trails_far z n Computed b done lag at m m' s h = (h.0, h.1, λ i lt. s (b + i) (omega arith) ∙ h.2 i lt, h.3)
+
 module _ (z : Scene) (laws : SceneLaws z) (n : ℕ) (root : Root) (root_is : (core_in z).program.root n ≡ root) (T : Machine → Type 0) (s : List Waiting) (w : World bytes.Held) (due : is_due w ≡ false) (now : arrived (core_in z).outside w ≡ w) where
   advance_then : (o : object.Object) (f b : ℕ) (r : List Task) (m : Memory) (c : Machine) (q l : ℕ) → IsThere z.program o → f + 1 ≤ object_bytes z.program o → b + 2 ≤ (core_in z).program.frame_bytes n → HasDatum z n b (datum.Pointer (Into o f)) m → HasOne true root m
       → Placed (core_in z) n None (Todo [] (code.Binary ops.Add int.UInt (Frame n b) (Frame n b) (Result root 0)) ∷ r) s m w c
@@ -120,16 +131,6 @@ module _ (z : Scene) (laws : SceneLaws z) (n : ℕ) (root : Root) (root_is : (co
       (λ d m' above far hy pd. next d m' above far (Into o (f + 1), e ∙ ap (λ i. spots.Memory (Into o i)) stays, hy, tt) pd))
       (omega arith) (omega arith)
 
-  trails_above : (p : place.Spot) (b done lag low : ℕ) (at : spot.Spot) (m m' : Memory) → b + pointer_bytes p ≤ low → OnlyAbove n low m m' → Trails z n b p at done lag m → Trails z n b p at done lag m'
-  trails_above (Fixed x) b done lag low at m m' le s h = h
-  trails_above (Bit register bit) b done lag low at m m' le s h = h
-  trails_above Computed b done lag low at m m' le s h = (h.0, h.1, datum_above z n b low (datum.Pointer h.0) m m' le s h.2, h.3)
-
-  trails_far : (p : place.Spot) (b done lag : ℕ) (at : spot.Spot) (m m' : Memory) → ((t : ℕ) → b ≤ t → m' (Frame n t) ≡ m (Frame n t)) → Trails z n b p at done lag m → Trails z n b p at done lag m'
-  trails_far (Fixed x) b done lag at m m' s h = h
-  trails_far (Bit register bit) b done lag at m m' s h = h
-  trails_far Computed b done lag at m m' s h = (h.0, h.1, λ i lt. s (b + i) (omega arith) ∙ h.2 i lt, h.3)
-
   -- both sides
   pub sides_then : (p q : place.Spot) (b done : ℕ) (to from : spot.Spot) (r : List Task) (m : Memory) (c : Machine) (x l : ℕ) → IsPlaced z.program to → IsPlaced z.program from → b + pointer_bytes p + pointer_bytes q ≤ (core_in z).program.frame_bytes n → Trails z n b p to done 1 m → Trails z n (b + pointer_bytes p) q from done 1 m → HasOne true root m
       → Placed (core_in z) n None (todo (advance (side_of p (Frame n b)) (Result root 0) ++ advance (side_of q (Frame n (b + pointer_bytes p))) (Result root 0)) r) s m w c
@@ -142,9 +143,9 @@ module _ (z : Scene) (laws : SceneLaws z) (n : ℕ) (root : Root) (root_is : (co
       (subst (λ y. Placed (core_in z) n None y s m w c) (todo_join (advance (side_of p (Frame n b)) (Result root 0)) (advance (side_of q (Frame n b2)) (Result root 0)) r) pl)
       (λ d1 m1 above1 far1 hp1 p1.
       let one1 : HasOne true root m1 = (above1 (Result root 0) tt ∙ one.0, above1 (Result root 1) tt ∙ one.1) in
-      side_then q b2 done from r m1 d1 x l source room (trails_far q b2 done 1 from m m1 far1 hq) one1 p1
+      side_then q b2 done from r m1 d1 x l source room (trails_far z n q b2 done 1 from m m1 far1 hq) one1 p1
       (λ d2 m2 above2 far2 hq2 p2. next d2 m2 (above_then n b m m1 m2 above1 (lower_above n b b2 m1 m2 (omega arith) above2))
-      (trails_above p b done 0 b2 to m1 m2 (omega arith) above2 hp1) hq2 (above2 (Result root 0) tt ∙ one1.0, above2 (Result root 1) tt ∙ one1.1) p2)))
+      (trails_above z n p b done 0 b2 to m1 m2 (omega arith) above2 hp1) hq2 (above2 (Result root 0) tt ∙ one1.0, above2 (Result root 1) tt ∙ one1.1) p2)))
       (omega arith) (omega arith)
 
 -- ---- a byte that comes next
@@ -246,7 +247,7 @@ module _ (z : Scene) (laws : SceneLaws z) (cp : CopyOf) (k : List Pending) (l : 
       comes_within (core_in z) T (4 + (4 + x)) (1 + (1 + e)) (40 + x) e c
       (set_result_then (core_in z) T n None s w due now root 0 1 (Todo [] (code.Set (Result root 1) 0) ∷ B) m c (4 + x) (1 + e) (own_result (core_in z) n 0 root root_is (omega arith)) (subst (λ y. Placed (core_in z) n None y s m w c) split pl)
       (λ d1 p1. set_result_then (core_in z) T n None s w due now root 1 0 B m1 d1 x e (own_result (core_in z) n 1 root root_is (omega arith)) p1
-      (λ d2 p2. next d2 m2 (frames_kept p b 0 to m m2 same_frames parts.0) (subst (λ y. Trails z n y q from 0 0 m2) second_is (frames_kept q (beyond b (pointer_bytes p)) 0 from m m2 same_frames parts.1)) one
+      (λ d2 p2. next d2 m2 (trails_far z n p b 0 0 to m m2 (λ t ge. refl) parts.0) (subst (λ y. Trails z n y q from 0 0 m2) second_is (trails_far z n q (beyond b (pointer_bytes p)) 0 0 from m m2 (λ t ge. refl) parts.1)) one
       (agrees_same z (cp ∷ callers k) l m m2 (λ ob at th lt. untouched root m ob at) agrees)
       (holds_frames z root cp k m m2 resumables same_frames (others_then root m m1 m2 (set_others root 0 (bytes.Number 1) m) (set_others root 1 (bytes.Number 0) m1)) holds)
       p2)))
@@ -256,10 +257,6 @@ module _ (z : Scene) (laws : SceneLaws z) (cp : CopyOf) (k : List Pending) (l : 
       untouched root m (objects.Fixed i) at = refl
       untouched root m (objects.Variable d i) at = refl
 
-      frames_kept : (u : place.Spot) (y done : ℕ) (at : spot.Spot) (m m' : Memory) → ((i : ℕ) → SameFrame i m m') → Trails z (number z cp) y u at done 0 m → Trails z (number z cp) y u at done 0 m'
-      frames_kept (Fixed v) y done at m m' s h = h
-      frames_kept (Bit register bit) y done at m m' s h = h
-      frames_kept Computed y done at m m' s h = (h.0, h.1, λ i lt. s (number z cp) (y + i) ∙ h.2 i lt, h.3)
   ready_then (suc i) left to from r T w m c x e all due now target source has agrees holds pl next =
       let n = number z cp in
       let s = stack_after z (ground_in z cp) k in

@@ -90,3 +90,5 @@ pub mod FixedCopies
 pub mod Advancing
 pub mod Rooms
 pub mod Fitting
+pub mod CopyTakes
+pub mod CopyGives
