@@ -1,5 +1,5 @@
 -- What is known of each label of a switch: it leads into the body, and it is a number of the switch's type.
-use Rattle.std.proofs.Common.{◌≡◌, ℕ, ◌≤◌, Bool, true, false, ◌||◌, nat_eq, nat_le, not, ◌&&◌, List, [], ◌∷◌, ◌++◌, map, Option, Some, None, refl, sym, ap, ◌∙◌, subst}
+use Rattle.std.proofs.Common.{◌≡◌, ℕ, ◌≤◌, Bool, true, false, ◌||◌, nat_eq, nat_le, not, List, [], ◌∷◌, ◌++◌, map, Option, Some, None, refl, sym, ap, ◌∙◌, subst}
 use Rattle.std.specs.Prelude.{option_to_list}
 use Rattle.c_ints.specs.Range.{IsInRange}
 use Rattle.c_ints.specs.declared.types.IntTy.{IntTy}
@@ -7,11 +7,9 @@ use Rattle.c_typed.specs.Sameness.{same_type}
 use Rattle.c_typed.specs.Sound.{cases_fit, default_fits, is_label, count_of}
 use Rattle.c_typed.specs.Trees.{Expression, Statements}
 use Rattle.c_typed.specs.declared.statement.TCase.{TCase}
-use Rattle.c_typed.specs.declared.types.Ty.{Ty}
 use Rattle.c_typed.specs.declared.types.Ty.TheVariants as types
-use Rattle.lower_stmt.specs.Labels.{has, labels_of, target_of}
+use Rattle.lower_stmt.specs.Labels.{has, target_of}
 use Rattle.src_rules.proofs.Values.{same_int_is}
-use Rattle.lower_trace.specs.Labels.{AreNumbers}
 use Rattle.lower_trace.proofs.CodeLeft.{Switched, labels_in}
 use Rattle.lower_trace.proofs.Operations.{true_le}
 use Rattle.lower_trace.proofs.Written.{and_left, and_right, nat_same}
@@ -21,6 +19,16 @@ pub record IsLabel (ty : IntTy) (x : Switched) (label : TCase) : Type 0 where
   pub same : label.value.ty ≡ ty
   pub range : IsInRange label.value.ty label.value.number
   pub there : has (labels_in x) label.target ≡ true
+
+-- The labels are numbers of their types.
+abbrev pub AreInRange : List TCase → Type 0
+AreInRange [] = Unit {0}
+AreInRange (label ∷ labels) = IsInRange label.value.ty label.value.number × AreInRange labels
+
+-- Any recursion over the labels that says so serves.
+pub ranges_of : (P : List TCase → Type 0) (labels : List TCase) → ((c : TCase) (cs : List TCase) → P (c ∷ cs) → IsInRange c.value.ty c.value.number × P cs) → P labels → AreInRange labels
+ranges_of P [] f h = tt
+ranges_of P (c ∷ cs) f h = let r = f c cs h in (r.0, ranges_of P cs f r.1)
 
 abbrev pub AreLabels : IntTy → Switched → List TCase → Type 0
 AreLabels ty x [] = Unit {0}
@@ -61,11 +69,11 @@ fits_case ty count (c ∷ before) rest label e =
     let s = and_right (nat_le c.target count) _ r in
     fits_case ty count before rest label (and_right (not (is_label c.value.number (before ++ label ∷ rest))) _ s)
 
-range_case : (before rest : List TCase) (label : TCase) → AreNumbers (before ++ label ∷ rest) → IsInRange label.value.ty label.value.number
+range_case : (before rest : List TCase) (label : TCase) → AreInRange (before ++ label ∷ rest) → IsInRange label.value.ty label.value.number
 range_case [] rest label h = h.0
 range_case (c ∷ before) rest label h = range_case before rest label h.1
 
-label_is : (ty : IntTy) (e : Expression) (default : Option ℕ) (ss : Statements) (before rest : List TCase) (label : TCase) → cases_fit (types.Int ty) (count_of ss) (before ++ label ∷ rest) ≡ true → AreNumbers (before ++ label ∷ rest)
+label_is : (ty : IntTy) (e : Expression) (default : Option ℕ) (ss : Statements) (before rest : List TCase) (label : TCase) → cases_fit (types.Int ty) (count_of ss) (before ++ label ∷ rest) ≡ true → AreInRange (before ++ label ∷ rest)
     → IsLabel ty (record { value = e; cases = before ++ label ∷ rest; default = default; body = ss }) label
 label_is ty e default ss before rest label fit numbers =
     let f = fits_case ty (count_of ss) before rest label fit in
@@ -76,12 +84,12 @@ behind_one [] rest label = refl
 behind_one (c ∷ before) rest label = ap (λ y. c ∷ y) (behind_one before rest label)
 
 -- The labels that are left of a switch are labels of it.
-pub labels_are : (ty : IntTy) (e : Expression) (cases : List TCase) (default : Option ℕ) (ss : Statements) (before labels : List TCase) → before ++ labels ≡ cases → cases_fit (types.Int ty) (count_of ss) cases ≡ true → AreNumbers cases
+pub labels_are : (ty : IntTy) (e : Expression) (cases : List TCase) (default : Option ℕ) (ss : Statements) (before labels : List TCase) → before ++ labels ≡ cases → cases_fit (types.Int ty) (count_of ss) cases ≡ true → AreInRange cases
     → AreLabels ty (record { value = e; cases = cases; default = default; body = ss }) labels
 labels_are ty e cases default ss before [] is fit numbers = tt
 labels_are ty e cases default ss before (label ∷ labels) is fit numbers = (
   subst (λ y. IsLabel ty (record { value = e; cases = y; default = default; body = ss }) label) is
-      (label_is ty e default ss before labels label (subst (λ y. cases_fit (types.Int ty) (count_of ss) y ≡ true) (sym is) fit) (subst AreNumbers (sym is) numbers)),
+      (label_is ty e default ss before labels label (subst (λ y. cases_fit (types.Int ty) (count_of ss) y ≡ true) (sym is) fit) (subst AreInRange (sym is) numbers)),
   labels_are ty e cases default ss (before ++ label ∷ []) labels (behind_one before labels label ∙ is) fit numbers,
 )
 

@@ -1,7 +1,6 @@
 -- A switch begins, its value is compared with its labels, and it leads to a segment or behind all of them.
-use Rattle.std.proofs.Common.{◌≡◌, ℕ, zero, suc, ◌+◌, ◌*◌, ◌<◌, ◌≤◌, ◌⊎◌, inl, inr, Bool, true, false, if◌then◌else◌, List, [], ◌∷◌, ◌++◌, length, drop, map, Option, Some, None, refl, sym, ap, ◌∙◌, subst, arith}
+use Rattle.std.proofs.Common.{◌≡◌, ℕ, suc, ◌+◌, ◌*◌, ◌<◌, ◌≤◌, ◌⊎◌, inl, inr, Bool, true, false, if◌then◌else◌, List, [], ◌∷◌, ◌++◌, drop, Option, Some, None, refl, sym, ap, ◌∙◌, subst, arith}
 use Rattle.std.specs.Ordering.{int_eq}
-use Rattle.std.specs.Prelude.{slice_get}
 use Rattle.pic_world.specs.World.{World, arrived, is_due, world_as}
 use Rattle.c_ints.specs.Operators.{value_of}
 use Rattle.c_ints.specs.Quantity.{Quantity}
@@ -17,7 +16,7 @@ use Rattle.c_typed.specs.declared.statement.TCase.{TCase}
 use Rattle.c_typed.specs.declared.types.Ty.TheVariants as types
 use Rattle.core_code.specs.Bytes as bytes
 use Rattle.core_code.specs.Bytes.{Held, Memory, with_bytes}
-use Rattle.core_code.specs.Machine.{Setting, Machine, Task, Waiting, Do as Todo, Join, InLoop, is_own}
+use Rattle.core_code.specs.Machine.{Setting, Machine, Task, Waiting, Do as Todo, Join, InLoop}
 use Rattle.core_code.specs.Tree as code
 use Rattle.core_code.specs.Tree.{Tree, many}
 use Rattle.core_code.specs.Values as core
@@ -29,10 +28,10 @@ use Rattle.lower_stmt.specs.Ground.{Ground, first, temporary, value_code}
 use Rattle.lower_stmt.specs.Ground as ground
 use Rattle.lower_stmt.specs.Labels.{has, labels_of, segments_before}
 use Rattle.lower_stmt.specs.Statements.{stmt_code, segments_code, segments_in}
-use Rattle.lower_stmt.specs.Switches.{comparison, leading, case_code, cases_code, comparisons, otherwise_segment, nest, around, for_labels}
-use Rattle.src_rules.specs.Giving.{take_for, used, compares, compares_in, jump, jump_if_any, statements_behind}
+use Rattle.lower_stmt.specs.Switches.{comparison, leading, case_code, cases_code, otherwise_segment, nest, around, for_labels}
+use Rattle.src_rules.specs.Giving.{take_for, compares, jump, jump_if_any, statements_behind}
 use Rattle.src_rules.specs.Standing.{HasType}
-use Rattle.src_rules.specs.State.{state, Outcome, Went, Undefined, Idle, Lost}
+use Rattle.src_rules.specs.State.{state, Went}
 use Rattle.src_rules.specs.Statements.{begin}
 use Rattle.src_values.specs.Control.{Eval, Holds as Value, Run, Past, Compares, Tests, Turns, Chooses, Pending, Doing, Before, active}
 use Rattle.src_values.specs.Data as datum
@@ -42,8 +41,8 @@ use Rattle.src_values.specs.Values.{byte_count}
 use Rattle.src_values.specs.declared.objects.Byte as value
 use Rattle.src_values.specs.declared.objects.CopyOf.{CopyOf}
 use Rattle.lower_trace.proofs.Beginnings.{Follow, rests, todo_three}
-use Rattle.lower_trace.proofs.CaseLabels.{IsLabel, AreLabels, HasDefault}
-use Rattle.lower_trace.proofs.CodeLeft.{Scene, held, number, ground_in, core_in, source_in, Jumps, Looped, Switched, todo, stacked, segment_body, nested, outermost, labels_in, segment_count, segments, compared, loops_in, whole_loop, index_in, comparing, if_labelled, jumps, code_after, stack_after}
+use Rattle.lower_trace.proofs.CaseLabels.{IsLabel, HasDefault}
+use Rattle.lower_trace.proofs.CodeLeft.{Scene, held, number, ground_in, core_in, source_in, Looped, Switched, todo, stacked, segment_body, nested, outermost, labels_in, segment_count, segments, compared, loops_in, whole_loop, index_in, comparing, if_labelled, jumps, code_after, stack_after}
 use Rattle.lower_trace.proofs.Constants.{due_below, again_below, same_below, byte_is}
 use Rattle.lower_trace.proofs.Ends.{Again, FollowOn}
 use Rattle.lower_trace.proofs.Equality.{some_bytes, equal_then, equal_truth}

@@ -5,12 +5,12 @@ use Rattle.c_typed.specs.Trees.{Expression, Statement, Statements, Arms, LastArm
 use Rattle.c_typed.specs.declared.statement.LoopForm.{LoopForm}
 use Rattle.c_typed.specs.declared.statement.TCase.{TCase}
 use Rattle.c_typed.specs.declared.statement.LoopForm.TheVariants.{While, Do, For}
-use Rattle.core_code.specs.Bytes.{Held, Memory}
+use Rattle.core_code.specs.Bytes.{Memory}
 use Rattle.core_code.specs.Machine.{Machine, Task, Waiting, Do as Todo, InLoop}
 use Rattle.core_code.specs.Tree as code
 use Rattle.core_code.specs.Tree.{Tree, many}
 use Rattle.lower_stmt.specs.Ground.{Ground}
-use Rattle.lower_stmt.specs.Statements.{stmt_code, stmts_code, jumps_in, condition_code, any_code}
+use Rattle.lower_stmt.specs.Statements.{stmt_code, jumps_in, condition_code, any_code}
 use Rattle.pic_world.specs.World.{World, arrived, is_due, world_as}
 use Rattle.src_rules.specs.State.{state, Outcome, Went}
 use Rattle.src_rules.specs.Standing.{WaitsForEnd}
@@ -19,7 +19,7 @@ use Rattle.src_values.specs.Control.{Focus, Eval, Run, Past, Tests, Steps, Turns
 use Rattle.src_values.specs.Memory as source
 use Rattle.src_values.specs.declared.objects.Byte as value
 use Rattle.src_values.specs.declared.objects.CopyOf.{CopyOf}
-use Rattle.lower_trace.proofs.Beginnings.{Follow, rests}
+use Rattle.lower_trace.proofs.Beginnings.{Follow}
 use Rattle.lower_trace.proofs.CodeLeft.{Scene, held, number, ground_in, core_in, source_in, todo, plain, plain_behind, arm_count, loop_body, once_body, behind_turn, Jumps, Looped, Switched, stacked, segment_count, loops_in, whole_loop, begun_at, switch_on, inner_loops, code_after, stack_after, jumps, jumps_before}
 use Rattle.lower_trace.proofs.Constants.{due_below, again_below, same_below}
 use Rattle.lower_trace.proofs.Exits.{Exits, exit_past, again_past, exits_then, repeats_then}

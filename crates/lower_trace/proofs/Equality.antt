@@ -1,5 +1,5 @@
 -- Two numbers are compared for equality, and the answer goes to a place of its own.
-use Rattle.std.proofs.Common.{◌≡◌, ℕ, ◌+◌, ◌-◌, ◌*◌, ◌<◌, ◌≤◌, Bool, true, false, not, ◌&&◌, nat_eq, nat_le, pos, List, ◌∷◌, [], Option, Some, None, refl, sym, ap, ◌∙◌, arith}
+use Rattle.std.proofs.Common.{◌≡◌, ℕ, ◌+◌, ◌-◌, ◌*◌, ◌<◌, ◌≤◌, Bool, true, false, not, nat_eq, nat_le, List, ◌∷◌, [], Some, None, refl, sym, ap, ◌∙◌, arith}
 use Rattle.std.specs.Ordering.{int_eq}
 use Rattle.c_ints.specs.Operators.{truth, value_of}
 use Rattle.c_ints.specs.Quantity.{Quantity}
@@ -12,7 +12,7 @@ use Rattle.core_code.specs.Bytes.{Held, Memory, with_bytes, misses}
 use Rattle.core_code.specs.Bytes as bytes
 use Rattle.core_code.specs.Cost.{cost_of}
 use Rattle.core_code.specs.Machine.{Setting, Machine, Task, Waiting, Do as Todo, operate}
-use Rattle.core_code.specs.Operands.{number_left, fits_equality, fits_together}
+use Rattle.core_code.specs.Operands.{fits_equality, fits_together}
 use Rattle.core_code.specs.Tree as code
 use Rattle.core_code.specs.Values as core
 use Rattle.core_code.specs.Values.{value_in, binary_value, truth_in}

@@ -1,12 +1,12 @@
 -- What follows a statement of a block, and of the body of a switch: there a segment may end, and the next one begins.
-use Rattle.std.proofs.Common.{◌≡◌, ℕ, zero, suc, ◌+◌, ◌-◌, ◌≤◌, Bool, true, false, if◌then◌else◌, List, [], ◌∷◌, ◌++◌, length, drop, Option, Some, None, refl, sym, ap, ◌∙◌, subst, arith}
+use Rattle.std.proofs.Common.{◌≡◌, ℕ, zero, suc, ◌+◌, ◌-◌, ◌≤◌, Bool, true, false, if◌then◌else◌, List, [], ◌∷◌, drop, Option, Some, None, refl, sym, ap, ◌∙◌, subst, arith}
 use Rattle.std.proofs.lemmas.List.{drop_all}
-use Rattle.std.specs.Prelude.{slice_get, unwrap_or}
+use Rattle.std.specs.Prelude.{slice_get}
 use Rattle.c_typed.specs.Sound.{count_of}
 use Rattle.c_typed.specs.Trees as tree
 use Rattle.c_typed.specs.Trees.{Statement, Statements}
 use Rattle.core_code.specs.Bytes.{Memory}
-use Rattle.core_code.specs.Machine.{Machine, Task, Waiting, Do as Todo}
+use Rattle.core_code.specs.Machine.{Machine, Task, Do as Todo}
 use Rattle.core_code.specs.Tree as code
 use Rattle.core_code.specs.Tree.{many}
 use Rattle.lower_stmt.specs.Ground.{Ground}
@@ -23,7 +23,7 @@ use Rattle.src_values.specs.Memory as source
 use Rattle.src_values.specs.declared.objects.Byte as value
 use Rattle.src_values.specs.declared.objects.CopyOf.{CopyOf}
 use Rattle.lower_trace.proofs.Beginnings.{Follow}
-use Rattle.lower_trace.proofs.CodeLeft.{Scene, held, number, ground_in, core_in, Jumps, Looped, Switched, todo, stacked, labels_in, segment_count, segments, compared, loops_in, index_in, begun_at, switch_on, jumps, jumps_before, code_before, inner_loops, code_after, stack_after}
+use Rattle.lower_trace.proofs.CodeLeft.{Scene, held, number, ground_in, core_in, Jumps, Looped, Switched, todo, stacked, labels_in, segment_count, segments, compared, loops_in, index_in, switch_on, jumps, jumps_before, code_before, inner_loops, code_after, stack_after}
 use Rattle.lower_trace.proofs.Constants.{due_below, again_below}
 use Rattle.lower_trace.proofs.Exits.{Exits, exit_at, exits_then}
 use Rattle.lower_trace.proofs.Flow.{arrive}

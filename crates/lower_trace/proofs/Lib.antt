@@ -26,6 +26,7 @@ pub mod Comparing
 pub mod Listing
 pub mod ListBytes
 pub mod ListStructs
+pub mod LocalPlaces
 pub mod SegmentFrames
 pub mod Entering
 pub mod Takes

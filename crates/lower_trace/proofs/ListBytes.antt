@@ -1,5 +1,5 @@
 -- The bytes of a list of first values are written: those of numbers and pointers, of strings, and those that no item has.
-use Rattle.std.proofs.Common.{◌≡◌, ℕ, zero, suc, ◌+◌, ◌-◌, ◌*◌, ◌<◌, ◌≤◌, Bool, true, false, nat_lt, if◌then◌else◌, List, [], ◌∷◌, ◌++◌, length, drop, Option, Some, None, refl, sym, ap, ◌∙◌, subst, arith}
+use Rattle.std.proofs.Common.{◌≡◌, ℕ, zero, suc, ◌+◌, ◌-◌, ◌*◌, ◌<◌, ◌≤◌, Bool, true, false, nat_lt, if◌then◌else◌, List, [], ◌∷◌, length, drop, Option, Some, None, refl, sym, ap, ◌∙◌, subst, arith}
 use Rattle.std.proofs.lemmas.Grind.{common_steps}
 use Rattle.std.specs.Prelude.{slice_index}
 use Rattle.c_typed.specs.Trees as tree
@@ -10,15 +10,15 @@ use Rattle.core_code.specs.Machine.{Machine, Task, Do as Todo}
 use Rattle.core_code.specs.Tree as code
 use Rattle.core_code.specs.declared.code.Byte.{Byte}
 use Rattle.core_code.specs.declared.code.Byte.TheVariants.{Frame}
-use Rattle.lower_expr.specs.Bytes.{beyond, behind}
+use Rattle.lower_expr.specs.Bytes.{behind}
 use Rattle.lower_stmt.specs.Ground.{Ground, first, local_byte, local_bytes}
 use Rattle.lower_stmt.specs.Ground as ground
 use Rattle.pic_world.specs.World.{World, arrived, is_due, world_as}
-use Rattle.src_rules.specs.Accesses.{after_putting, stored_for, write, write_at, spell, blank, blank_at, first_or_zero, behind_first}
+use Rattle.src_rules.specs.Accesses.{after_putting, write, spell, blank, blank_at, first_or_zero, behind_first}
 use Rattle.src_rules.specs.Standing.{stepped}
 use Rattle.src_rules.specs.State.{state}
 use Rattle.src_values.specs.Accesses.{put_byte, put_unless, write_fault}
-use Rattle.src_values.specs.Control.{Focus, Past, Write, Spell, Blank, Items, Blanks, Pending, Doing, line_at, active}
+use Rattle.src_values.specs.Control.{Focus, Past, Write, Spell, Blank, Items, Blanks, Pending, Doing, active}
 use Rattle.src_values.specs.Data.{Datum}
 use Rattle.src_values.specs.Lists.{covered_from, is_covered}
 use Rattle.src_values.specs.Memory as source
@@ -32,7 +32,6 @@ use Rattle.src_values.specs.declared.objects.CopyOf.{CopyOf}
 use Rattle.src_values.specs.declared.objects.Object as object
 use Rattle.src_values.specs.declared.objects.Object.TheVariants as objects
 use Rattle.src_values.specs.declared.objects.Pointer.TheVariants.{Into}
-use Rattle.src_values.specs.declared.objects.Spot as spot
 use Rattle.src_values.specs.declared.objects.Spot.TheVariants as spots
 use Rattle.src_values.specs.declared.objects.Undef.{Undef}
 use Rattle.lower_trace.proofs.Assigning.{writable}
@@ -46,7 +45,7 @@ use Rattle.lower_trace.proofs.Kept.{SceneLaws, Reached}
 use Rattle.lower_trace.proofs.Listing.{item_written, first_left, next_blank, blanks_next}
 use Rattle.lower_trace.proofs.Members.{byte_is_so}
 use Rattle.lower_trace.proofs.Mirrors.{Mirrors, Agrees, Holds, HasValue, core_byte, at_byte}
-use Rattle.lower_trace.proofs.Operations.{Comes, comes_within, beyond_is, set_then}
+use Rattle.lower_trace.proofs.Operations.{comes_within, beyond_is, set_then}
 use Rattle.lower_trace.proofs.Placed.{Placed}
 use Rattle.lower_trace.proofs.Reading.{lt_true}
 use Rattle.lower_trace.proofs.Storing.{store_agrees, temps_kept, holds_temps, results_kept}

@@ -1,5 +1,5 @@
 -- An item of a list of first values that is a structure: its place is found, its bytes are copied, and the next item follows.
-use Rattle.std.proofs.Common.{◌≡◌, ℕ, ◌+◌, ◌-◌, ◌<◌, ◌≤◌, List, [], ◌∷◌, ◌++◌, Some, None, refl, sym, ap, ◌∙◌, subst, arith}
+use Rattle.std.proofs.Common.{◌≡◌, ℕ, ◌-◌, ◌<◌, ◌≤◌, List, ◌∷◌, Some, None, refl, sym, ap, ◌∙◌, subst, arith}
 use Rattle.c_typed.specs.Trees as tree
 use Rattle.c_typed.specs.Trees.{Item, Place, Statement}
 use Rattle.core_code.specs.Machine.{Machine}
@@ -13,7 +13,7 @@ use Rattle.src_rules.specs.Accesses.{copy_read}
 use Rattle.src_rules.specs.Expressions.{found_for}
 use Rattle.src_rules.specs.Standing.{IsPlaced}
 use Rattle.src_rules.specs.State.{state}
-use Rattle.src_values.specs.Control.{Found, CopyRead, AtItem, Items, Blanks, Pending, Doing, active}
+use Rattle.src_values.specs.Control.{Found, CopyRead, AtItem, Items, Pending, Doing, active}
 use Rattle.src_values.specs.Memory as source
 use Rattle.src_values.specs.Objects as objects_of
 use Rattle.src_values.specs.Objects.{object_bytes, local_of}
@@ -27,7 +27,7 @@ use Rattle.lower_trace.proofs.Giving.{Around, placed_of}
 use Rattle.lower_trace.proofs.Kept.{SceneLaws}
 use Rattle.lower_trace.proofs.ListBytes.{Listed, byte_there}
 use Rattle.lower_trace.proofs.Listing.{items_follow}
-use Rattle.lower_trace.proofs.Mirrors.{Mirrors, IsAt, at_byte}
+use Rattle.lower_trace.proofs.Mirrors.{Mirrors, IsAt}
 use Rattle.lower_trace.proofs.Operations.{beyond_is}
 use Rattle.lower_trace.proofs.Placed.{Placed, todo_join}
 

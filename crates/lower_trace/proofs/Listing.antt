@@ -1,35 +1,30 @@
 -- A local begins with a list: its items one after the other, and then the bytes that no item has.
-use Rattle.std.proofs.Common.{◌≡◌, ℕ, zero, suc, ◌+◌, ◌-◌, ◌*◌, ◌<◌, ◌≤◌, inl, inr, ⊎_elim, Bool, true, false, not, ◌&&◌, ◌||◌, nat_le, nat_lt, if◌then◌else◌, List, [], ◌∷◌, ◌++◌, length, drop, append_assoc, append-nil, Option, Some, None, refl, sym, ap, ◌∙◌, subst, arith}
+use Rattle.std.proofs.Common.{◌≡◌, ℕ, zero, suc, ◌+◌, ◌-◌, ◌≤◌, ⊎_elim, Bool, true, false, not, ◌&&◌, ◌||◌, nat_le, nat_lt, if◌then◌else◌, List, [], ◌∷◌, ◌++◌, drop, append_assoc, append-nil, None, refl, sym, ap, ◌∙◌, subst, arith}
 use Rattle.std.proofs.lemmas.Bool.{cases_lt}
 use Rattle.std.proofs.lemmas.Grind.{common_steps}
-use Rattle.std.specs.List.{list_any}
 use Rattle.std.specs.Prelude.{slice_index}
 use Rattle.c_typed.specs.Sound.{item_start}
 use Rattle.c_typed.specs.Trees as tree
 use Rattle.c_typed.specs.Trees.{Expression, Item, Place, Statement}
 use Rattle.c_typed.specs.Words.{item_bytes}
-use Rattle.core_code.specs.Bytes as bytes
-use Rattle.core_code.specs.Bytes.{Held, Memory, with_byte}
-use Rattle.core_code.specs.Machine.{Machine, Task, Waiting, Do as Todo}
+use Rattle.core_code.specs.Bytes.{Memory}
+use Rattle.core_code.specs.Machine.{Machine}
 use Rattle.core_code.specs.Tree as code
 use Rattle.core_code.specs.Tree.{Tree}
 use Rattle.core_code.specs.declared.code.Byte.{Byte}
-use Rattle.core_code.specs.declared.code.Byte.TheVariants.{Frame}
-use Rattle.lower_expr.specs.Bytes.{beyond, behind}
+use Rattle.lower_expr.specs.Bytes.{behind}
 use Rattle.lower_expr.specs.Puts.{copies}
 use Rattle.lower_stmt.specs.Declarators as lower
 use Rattle.lower_stmt.specs.Declarators.{text_code, items_code, rest_code, is_within, offset_of}
 use Rattle.lower_stmt.specs.Ground.{Ground, first, local_byte, local_bytes}
 use Rattle.lower_stmt.specs.Ground as ground
 use Rattle.lower_stmt.specs.Statements.{stmt_code}
-use Rattle.pic_world.specs.World.{World, arrived, is_due, world_as}
-use Rattle.src_rules.specs.Accesses.{items, goes, after_putting, stored_for, write, spell, blank, blank_at, first_or_zero}
+use Rattle.pic_world.specs.World.{World, arrived, world_as}
+use Rattle.src_rules.specs.Accesses.{items, stored_for, spell, first_or_zero}
 use Rattle.src_rules.specs.Giving.{take_for}
-use Rattle.src_rules.specs.Standing.{IsReached, stepped}
 use Rattle.src_rules.specs.State.{state}
 use Rattle.src_rules.specs.Statements.{begin}
-use Rattle.src_values.specs.Accesses.{put_byte, put_unless, write_fault}
-use Rattle.src_values.specs.Control.{Focus, Eval, Find, Holds as Value, Run, Past, Write, Spell, Blank, AtItem, Items, Blanks, Pending, Doing, line_at, active}
+use Rattle.src_values.specs.Control.{Eval, Find, Holds as Value, Run, Past, Write, Spell, Blank, AtItem, Items, Blanks, Pending, Doing, active}
 use Rattle.src_values.specs.Data as datum
 use Rattle.src_values.specs.Data.{Datum}
 use Rattle.src_values.specs.Lists as lists
@@ -38,29 +33,17 @@ use Rattle.src_values.specs.Memory as source
 use Rattle.src_values.specs.Memory.{cleared, with_byte as with_source}
 use Rattle.src_values.specs.Objects as objects_of
 use Rattle.src_values.specs.Objects.{object_bytes, variables_of, function_at, local_of, variable_offset}
-use Rattle.src_values.specs.Values.{byte_count, byte_of}
 use Rattle.src_values.specs.declared.objects.Byte as value
-use Rattle.src_values.specs.declared.objects.Byte.TheVariants as values
 use Rattle.src_values.specs.declared.objects.CopyOf.{CopyOf}
-use Rattle.src_values.specs.declared.objects.Object as object
-use Rattle.src_values.specs.declared.objects.Object.TheVariants as objects
-use Rattle.src_values.specs.declared.objects.Pointer.TheVariants.{Into}
 use Rattle.src_values.specs.declared.objects.Spot as spot
-use Rattle.src_values.specs.declared.objects.Spot.TheVariants as spots
-use Rattle.src_values.specs.declared.objects.Undef.{Undef}
-use Rattle.lower_trace.proofs.Assigning.{writable, none_left}
+use Rattle.lower_trace.proofs.Assigning.{none_left}
 use Rattle.lower_trace.proofs.Beginnings.{Follow, rests}
-use Rattle.lower_trace.proofs.CodeLeft.{Scene, held, number, ground_in, core_in, source_in, todo, items_left, item_left, text_from, blank_byte, blanks_from, copies_from, code_after, code_at, stack_after}
-use Rattle.lower_trace.proofs.Constants.{due_below, again_below}
+use Rattle.lower_trace.proofs.CodeLeft.{Scene, held, number, ground_in, core_in, source_in, todo, items_left, item_left, text_from, blank_byte, blanks_from, copies_from, code_after, stack_after}
 use Rattle.lower_trace.proofs.Flow.{arrive, cleared_agrees}
-use Rattle.lower_trace.proofs.FixedWrites.{store_fixed}
-use Rattle.lower_trace.proofs.Giving.{Around, placed_of}
-use Rattle.lower_trace.proofs.Kept.{SceneLaws, Reached, own_copy}
-use Rattle.lower_trace.proofs.Mirrors.{Mirrors, Agrees, Holds, HasValue, HasDatum, core_byte, at_byte}
-use Rattle.lower_trace.proofs.Operations.{Comes, comes_within, beyond_is, set_then}
+use Rattle.lower_trace.proofs.Giving.{placed_of}
+use Rattle.lower_trace.proofs.Mirrors.{Mirrors, Agrees, Holds}
 use Rattle.lower_trace.proofs.Placed.{Placed, todo_join}
 use Rattle.lower_trace.proofs.Places.{copies_are}
-use Rattle.lower_trace.proofs.Storing.{store_agrees, temps_kept, holds_temps, results_kept}
 
 -- ---- code that is left, as a list of bytes
 texts_between : (to : Byte) (chars : List ℕ) (at left : ℕ) → text_code to chars at ++ text_from to chars at left ≡ text_code to chars (at + left)

@@ -1,5 +1,5 @@
 -- The frames of a switch's body: directly above it only statements wait that are the last ones of the body. Each micro-step keeps it.
-use Rattle.std.proofs.Common.{◌≡◌, ℕ, zero, suc, ◌+◌, ◌≤◌, ◌<◌, inl, inr, ⊎_elim, Bool, true, false, if◌then◌else◌, nat_lt, List, [], ◌∷◌, ◌++◌, length, Option, Some, None, refl, sym, ap, ◌∙◌, subst, arith}
+use Rattle.std.proofs.Common.{◌≡◌, ℕ, zero, suc, ◌≤◌, ◌<◌, ⊎_elim, Bool, true, false, if◌then◌else◌, nat_lt, List, [], ◌∷◌, ◌++◌, length, Option, Some, None, refl, sym, ap, subst, arith}
 use Rattle.std.proofs.lemmas.Bool.{cases_lt}
 use Rattle.c_typed.specs.Sound.{count_of}
 use Rattle.c_typed.specs.Trees as tree
@@ -12,11 +12,11 @@ use Rattle.c_typed.specs.declared.types.Ty.{Ty}
 use Rattle.c_typed.specs.declared.types.Ty.TheVariants as types
 use Rattle.c_typed.specs.Types.{type_bytes}
 use Rattle.pic_world.specs.World.{World, arrived, is_due, device_value}
-use Rattle.src_rules.specs.Accesses.{goes, fetching, after_taking, after_putting, fetched, fetch_as, fetch, skim, items, stored_in, stored_for, stored, read_bit, put_bit, write_at, write, copy_read, copy_write, spell, blank_at, blank_for, blank}
+use Rattle.src_rules.specs.Accesses.{goes, fetching, after_taking, after_putting, fetched, fetch, skim, items, stored_in, stored_for, stored, write_at, write, copy_read, spell, blank_at, blank_for, blank}
 use Rattle.src_rules.specs.Expressions.{arguments, eval, find, takes, found_in, at_member, member_of, found_to, found_for, found}
 use Rattle.src_rules.specs.Giving.{answered, used, branch, logical, truth_given, changes, take_in, deref, take_to, statements_behind, jump, jump_if_any, compares_in, compares_for, compares, take_for, give}
-use Rattle.src_rules.specs.Standing.{IsBody, WaitsForEnd, StackStands, leaves, repeats}
-use Rattle.src_rules.specs.State.{State, Outcome, Went, Undefined, Idle, Lost, state}
+use Rattle.src_rules.specs.Standing.{WaitsForEnd, StackStands, leaves, repeats}
+use Rattle.src_rules.specs.State.{State, Outcome, Went, Undefined, Idle, Lost}
 use Rattle.src_rules.specs.Statements.{turn, test, first_of, next_of, loops, last, arms, break_at, continue_at, unwound, turned, proceed, handed, leave, begin}
 use Rattle.src_rules.specs.Step.{copy_of, has_missing, with_values, body_of, call_in, call, act, refused_at, refused, interrupted, step, start}
 use Rattle.src_values.specs.Accesses.{Taking, Takes, Breaks, Putting, Puts, Refuses, take_byte, device_taken}
