@@ -28,6 +28,7 @@ pub mod ListBytes
 pub mod ListStructs
 pub mod LocalPlaces
 pub mod SegmentFrames
+pub mod SwitchCases
 pub mod Entering
 pub mod Takes
 pub mod Fetching
