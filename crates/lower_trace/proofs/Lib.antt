@@ -73,3 +73,4 @@ pub mod FixedCopies
 pub mod Advancing
 pub mod CopyTakes
 pub mod CopyGives
+pub mod Skims
