@@ -74,3 +74,5 @@ pub mod Advancing
 pub mod CopyTakes
 pub mod CopyGives
 pub mod Skims
+pub mod TurnedOffsets
+pub mod PointerTests
