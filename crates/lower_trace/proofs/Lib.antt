@@ -76,3 +76,4 @@ pub mod CopyGives
 pub mod Skims
 pub mod TurnedOffsets
 pub mod PointerTests
+pub mod PointerDistances
