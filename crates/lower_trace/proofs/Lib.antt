@@ -77,3 +77,5 @@ pub mod Skims
 pub mod TurnedOffsets
 pub mod PointerTests
 pub mod PointerDistances
+pub mod ConstantShifts
+pub mod Folding
