@@ -41,10 +41,11 @@ use Rattle.lower_stmt.specs.Statements.{stmt_code, stmts_code, arms_code, last_c
 use Rattle.lower_stmt.specs.Switches.{comparisons, cases_code, otherwise_segment, around, for_labels}
 use Rattle.lower_trace.specs.Lowering.{copy_number, object_as, offset_as, held_as}
 use Rattle.src_values.specs.Memory as source
-use Rattle.src_values.specs.Control.{Focus, Eval, Find, Holds, Found, Run, Past, Fetch, Write, PutBit as BitPut, CopyRead, CopyWrite, Spell, Blank, Calls, Leaves, Compares, Over as Done, Got, Nothing, Chosen, One, At, AtWith, Stores, Args, Passed, Called, Stage, Tests, Begins, Steps, Turns, Picks, InArm, Chooses, AtItem, Items, Blanks, Pending, In, To, Doing, Before, Returns, Resumes}
+use Rattle.src_values.specs.Control.{Focus, Eval, Find, Holds, Found, Run, Past, Fetch, Skim, Write, PutBit as BitPut, CopyRead, CopyWrite, Spell, Blank, Calls, Leaves, Compares, Over as Done, Got, Nothing, Chosen, One, At, AtWith, Stores, Args, Passed, Called, Stage, Tests, Begins, Steps, Turns, Picks, InArm, Chooses, AtItem, Items, Blanks, Pending, In, To, Doing, Before, Returns, Resumes}
 use Rattle.src_values.specs.Objects.{function_at}
 use Rattle.src_values.specs.Values.{number_in, lowest_bit}
 use Rattle.src_values.specs.declared.objects.Byte as value
+use Rattle.src_values.specs.declared.objects.Byte.TheVariants as values
 use Rattle.src_values.specs.declared.objects.CopyOf.{CopyOf}
 use Rattle.src_values.specs.declared.objects.Object as object
 use Rattle.src_values.specs.declared.objects.Object.TheVariants as objects
@@ -492,6 +493,19 @@ abbrev pub reading_at : Scene → Ground → List Pending → spot.Spot → List
 reading_at z g (In e got ∷ k) at read = reading_in z g (base g k) e got at read (code_after g (In e got ∷ k))
 reading_at z g k at read = code_after g k
 
+-- A structure that is read for nothing is read as if its bytes were wanted; of those that were read only the last one counts.
+abbrev pub unset_bytes : ℕ → List value.Byte
+unset_bytes zero = []
+unset_bytes (suc n) = values.Unset ∷ unset_bytes n
+
+abbrev pub skimmed : ℕ → Option value.Byte → List value.Byte
+skimmed done None = []
+skimmed done (Some byte) = unset_bytes (done - 1) ++ byte ∷ []
+
+abbrev pub skim_count : Ground → List Pending → ℕ
+skim_count g (In (tree.Read place ty line) got ∷ k) = width g.layout ty
+skim_count g k = 0
+
 abbrev pub stored_at : Ground → List Pending → ℕ
 stored_at g (In e got ∷ k) = stored g (base g k) e
 stored_at g k = g.base
@@ -601,6 +615,7 @@ code_at z g (Found spot) k = code_after g k
 code_at z g (Run t) k = todo (stmt_code g (jumps k) t) (code_after g k)
 code_at z g Past k = code_after g k
 code_at z g (Fetch spot read) k = reading_at z g k spot read
+code_at z g (Skim spot left byte) k = reading_at z g k spot (skimmed (skim_count g k - left) byte)
 code_at z g (Write spot v done) k = writing_at z g k spot done
 code_at z g (BitPut register number v old) k = PutBack register (with_bit number (lowest_bit v) old) ∷ Join ∷ code_after g k
 code_at z g (Spell spot text left) k = spelling_at g k left (code_after g k)

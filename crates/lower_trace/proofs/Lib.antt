@@ -94,3 +94,9 @@ pub mod Rooms
 pub mod Fitting
 pub mod CopyTakes
 pub mod CopyGives
+pub mod Skims
+pub mod TurnedOffsets
+pub mod PointerTests
+pub mod PointerDistances
+pub mod ConstantShifts
+pub mod Folding

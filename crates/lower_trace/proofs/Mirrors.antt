@@ -22,7 +22,7 @@ use Rattle.pic_world.specs.declared.Root.{Root}
 use Rattle.src_rules.specs.Standing.{IsThere, WaitsForPlace, stepped}
 use Rattle.src_rules.specs.State.{State}
 use Rattle.src_values.specs.Accesses.{is_unset}
-use Rattle.src_values.specs.Control.{Focus, Holds as Value, Found, Fetch, Write, PutBit, CopyRead, CopyWrite, Leaves, Compares, Items, Got, One, At, AtWith, Stores, Args, Passed, Pending, In, To, Doing, Before, Returns, Resumes, active}
+use Rattle.src_values.specs.Control.{Focus, Holds as Value, Found, Fetch, Skim, Write, PutBit, CopyRead, CopyWrite, Leaves, Compares, Items, Got, One, At, AtWith, Stores, Args, Passed, Pending, In, To, Doing, Before, Returns, Resumes, active}
 use Rattle.src_values.specs.Data as datum
 use Rattle.src_values.specs.Data.{Datum}
 use Rattle.src_values.specs.Memory as source
@@ -38,7 +38,7 @@ use Rattle.src_values.specs.declared.objects.Pointer.TheVariants.{Null, Into}
 use Rattle.src_values.specs.declared.objects.Spot as spot
 use Rattle.src_values.specs.declared.objects.Spot.TheVariants as spots
 use Rattle.lower_trace.specs.Lowering.{object_as, offset_as}
-use Rattle.lower_trace.proofs.CodeLeft.{Scene, held, number, ground_in, plain, plain_behind, wanted, base, above, stored, stored_at, is_seen, code_at, stack_at, copy_at}
+use Rattle.lower_trace.proofs.CodeLeft.{Scene, held, number, ground_in, plain, plain_behind, wanted, base, above, stored, stored_at, is_seen, skim_count, code_at, stack_at, copy_at}
 
 -- ---- objects
 abbrev pub core_byte : Scene → object.Object → ℕ → Byte
@@ -118,6 +118,15 @@ abbrev pub HasReadAt : Scene → Ground → List Pending → spot.Spot → List 
 HasReadAt z g (In e got ∷ k) at read m = HasReadIn z g (base g k) e got at read m
 HasReadAt z g k at read m = Unit {0}
 
+abbrev pub last_of : List value.Byte → Option value.Byte
+last_of [] = None
+last_of (byte ∷ []) = Some byte
+last_of (byte ∷ next ∷ more) = last_of (next ∷ more)
+
+-- bytes were read to be dropped, this one last, and so many are left
+abbrev pub HasSkimmed : Scene → Ground → List Pending → spot.Spot → ℕ → Option value.Byte → Memory → Type 0
+HasSkimmed z g k at left byte m = (read : List value.Byte) × (length read + left ≡ skim_count g k) × (last_of read ≡ byte) × HasReadAt z g k at read m
+
 -- the value that the focus speaks of
 abbrev pub HasIf : Bool → Scene → ℕ → ℕ → Datum → Memory → Type 0
 HasIf true z n b v m = HasDatum z n b v m
@@ -192,6 +201,7 @@ abbrev pub HasValue : Scene → Ground → Focus → List Pending → Memory →
 HasValue z g (Value v) k m = HasIf (wanted k) z g.copy (base g k) v m
 HasValue z g (Found at) k m = (place : Place) → WaitsForPlace k place → IsAt z g.copy (base g k) (spot_of g.layout g.copy place) at m
 HasValue z g (Fetch at read) k m = HasReadAt z g k at read m
+HasValue z g (Skim at left byte) k m = HasSkimmed z g k at left byte m
 HasValue z g (Write at v done) k m = HasDatum z g.copy (stored_at g k) (standing at done v) m
 HasValue z g (PutBit register bit v old) k m = HasDatum z g.copy (stored_at g k) (number_of IntTy.UChar (lowest_bit v)) m
 HasValue z g (CopyRead to from left) k m = HasCopiedAt z g k to from left m

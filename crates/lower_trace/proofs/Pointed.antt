@@ -63,7 +63,7 @@ no_bytes to x offset j count r le = let e : count - j ≡ 0 = omega arith in ap 
 
 -- ---- all bytes were read
 module _ (z : Scene) (laws : SceneLaws z) (cp : CopyOf) (k : List Pending) (l : source.Memory) (to count at_pointer : ℕ) (r : List Task) (reads : Reads z (ground_in z cp) k Computed to count (Frame (ground_in z cp).copy at_pointer) r) (around : Around z cp k) (room : to + count ≤ (core_in z).program.frame_bytes (number z cp)) (apart : at_pointer + 2 ≤ to) (reach : ReachesAll z cp k) where
-  pointed_all : (T : Machine → Type 0) (y : Pointer) (j : ℕ) (read : List value.Byte) (v : Datum) (w : World value.Byte) (c : Machine) (q e : ℕ) → length read ≡ suc j → count ≡ suc j → byte_count v ≤ count → ((i : ℕ) → i < byte_count v → held z (slice_index_or read i values.Unset) ≡ held z (byte_of v i)) → is_due (arrived z.outside w) ≡ false
+  pub pointed_all : (T : Machine → Type 0) (y : Pointer) (j : ℕ) (read : List value.Byte) (v : Datum) (w : World value.Byte) (c : Machine) (q e : ℕ) → length read ≡ suc j → count ≡ suc j → byte_count v ≤ count → ((i : ℕ) → i < byte_count v → held z (slice_index_or read i values.Unset) ≡ held z (byte_of v i)) → is_due (arrived z.outside w) ≡ false
       → ((d : Machine) (m' : Memory) → OnlyAbove (number z cp) to c.memory m' → HasDatum z (number z cp) to v m' → Placed (core_in z) (number z cp) None r (stack_after z (ground_in z cp) k) m' (world_as (held z) (arrived z.outside w)) d → Comes (core_in z) T q e d)
       → Mirrors z (state cp (Fetch (spots.Memory y) read) k l w) c → Comes (core_in z) T (3 + q) e c
   pointed_all T Null j [] v w c q e all whole few same_bytes due next h = absurd (omega arith)

@@ -194,7 +194,7 @@ value_temps z g (Found at) k m m' p small s r h = let a = base_above g k p in λ
 value_temps z g (Run t) k m m' p small s r h = tt
 value_temps z g Past k m m' p small s r h = tt
 value_temps z g (Fetch at read) k m m' p small s r h = let a = base_above g k p in read_high z g k at read m m' (λ y le. s y (omega arith)) h
-value_temps z g (Skim at left byte) k m m' p small s r h = tt
+value_temps z g (Skim at left byte) k m m' p small s r h = let a = base_above g k p in (h.0, h.1, h.2, read_high z g k at h.0 m m' (λ y le. s y (omega arith)) h.3)
 value_temps z g (Write at v done) k m m' p small s r h = let a = stored_at_high g k p small in datum_same z g.copy (stored_at g k) (standing at done v) m m' (λ y le lt. s y (omega arith)) h
 value_temps z g (PutBit register bit v old) k m m' p small s r h = let a = stored_at_high g k p small in datum_same z g.copy (stored_at g k) (number_of int.UChar (lowest_bit v)) m m' (λ y le lt. s y (omega arith)) h
 value_temps z g (CopyRead to from left) k m m' p small s r h = copied_same z g k to from left g.base m m' (copies_temps g k m m' p small s) r h
