@@ -66,7 +66,8 @@ segment_left g j x ss = opened_code g j (labels_in x) (segment_count x) (index_i
 abbrev pub loops_left : Ground → Jumps → Switched → Statements → List Looped
 loops_left g j x ss = drop (segments_before (index_in x ss + 1) (labels_in x)) (loops_in g j x)
 
--- Byte code stands behind the label that a switch led to, where it would stand before it had the segment before it been gone through.
+-- Byte code stands behind the label that a switch led to. Where the segment before the label ends instead, it stands before the jump
+-- that leaves that segment.
 pub record Led (z : Scene) (cp : CopyOf) (ss : Statements) (k : List Pending) (l : source.Memory) (w : World value.Byte) (c : Machine) : Type 0 where
   pub switch : Switched
   pub on : switch_on k ≡ Some switch
