@@ -626,7 +626,6 @@ code_at z g Calls k = code_after g k
 code_at z g (Leaves v) k = code_left z k
 code_at z g (Compares v labels) k = comparing_at g k labels (code_after g k)
 code_at z g Done k = Over ∷ []
-code_at z g _ k = code_after g k
 
 abbrev pub stack_after : Scene → Ground → List Pending → List Waiting
 stack_after z g [] = []
