@@ -16,6 +16,7 @@ use Rattle.lower_expr.specs.Bytes.{beyond}
 use Rattle.lower_expr.specs.Layout.{place_width, width}
 use Rattle.lower_expr.specs.Spots.{pointer_bytes, spot_of}
 use Rattle.lower_expr.specs.declared.places.Spot.TheVariants.{Bit}
+use Rattle.src_rules.specs.Runs.{one_if}
 use Rattle.lower_trace.proofs.Beginnings.{Follow}
 use Rattle.lower_trace.proofs.Bits.{bit_done, fetch_bit}
 use Rattle.lower_trace.proofs.CodeLeft.{Scene, above, base, code_after, core_in, ground_in, held, kept_value, number, source_in, stack_after, todo}
@@ -40,7 +41,7 @@ use Rattle.src_values.specs.declared.objects.Byte.TheVariants as values
 use Rattle.src_values.specs.declared.objects.CopyOf.{CopyOf}
 use Rattle.src_values.specs.declared.objects.Spot as spot
 use Rattle.src_values.specs.declared.objects.Spot.TheVariants as spots
-use Rattle.std.proofs.Common.{List, [], ap, arith, false, length, refl, subst, sym, true, ℕ, ◌+◌, ◌<◌, ◌∙◌, ◌∷◌, ◌≡◌, ◌≤◌}
+use Rattle.std.proofs.Common.{List, [], ap, arith, false, length, nat_lt, refl, subst, sym, true, ℕ, ◌+◌, ◌<◌, ◌∙◌, ◌∷◌, ◌≡◌, ◌≤◌}
 
 number_byte : (z : Scene) (byte : value.Byte) → fits_behind (types.Int int.UChar) [] byte ≡ true → bytes.Number (number_in byte) ≡ held z byte
 unfolding fits_behind
@@ -57,9 +58,9 @@ module _ (z : Scene) (laws : SceneLaws z) (cp : CopyOf) (k : List Pending) (l : 
     (rest : r ≡ code_after (ground_in z cp) k') (stack : stack_after z (ground_in z cp) k ≡ stack_after z (ground_in z cp) k') (based : base (ground_in z cp) k' ≡ to) (holds : (m : Memory) → Holds z (ground_in z cp) k m → Holds z (ground_in z cp) k' m)
     (live : (at : spot.Spot) (read : List value.Byte) (v : Datum) → active cp (Fetch at read) k ≡ active cp (Value v) k') (ends : (v : Datum) (w : World value.Byte) → fetched v k cp l w ≡ goes cp (Value v) k' l w) where
   bit_as : (read : List value.Byte) (w : World value.Byte) (c : Machine) → length read ≤ 1 → AreRead z.program (types.Int int.UChar) [] read → is_due (arrived z.outside w) ≡ false
-      → Mirrors z (state cp (Fetch (spots.Bit register bit) read) k l w) c → Follow z 6 0 c (fetch_as (types.Int int.UChar) (source_in z) (spots.Bit register bit) read k cp l (arrived z.outside w))
+      → Mirrors z (state cp (Fetch (spots.Bit register bit) read) k l w) c → Follow z 6 (one_if (nat_lt (length read) 1)) c (fetch_as (types.Int int.UChar) (source_in z) (spots.Bit register bit) read k cp l (arrived z.outside w))
   bit_as [] w c le are due h =
-      follow_within z 6 1 6 0 c _ (fetch_bit z laws cp k l register bit to count pointer r reads around room known small_bit (spots.Bit register bit) (fits_behind (types.Int int.UChar) []) (line_at k) w c refl due h) (omega arith) (omega arith)
+      fetch_bit z laws cp k l register bit to count pointer r reads around room known small_bit (spots.Bit register bit) (fits_behind (types.Int int.UChar) []) (line_at k) w c refl due h
   bit_as (byte ∷ []) w c le are due h =
       let v = value_from (types.Int int.UChar) (byte ∷ []) in
       subst (λ o. Follow z 6 0 c o) (sym (ends v (arrived z.outside w)))
@@ -69,9 +70,9 @@ module _ (z : Scene) (laws : SceneLaws z) (cp : CopyOf) (k : List Pending) (l : 
   bit_as (x ∷ y ∷ more) w c le are due h = absurd (omega arith)
 
   pub bit_fetch : (read : List value.Byte) (w : World value.Byte) (c : Machine) → length read ≤ 1 → AreRead z.program (types.Int int.UChar) [] read → is_due (arrived z.outside w) ≡ false
-      → Mirrors z (state cp (Fetch (spots.Bit register bit) read) k l w) c → Follow z 6 0 c (fetch (source_in z) (spots.Bit register bit) read k cp l (arrived z.outside w))
+      → Mirrors z (state cp (Fetch (spots.Bit register bit) read) k l w) c → Follow z 6 (one_if (nat_lt (length read) 1)) c (fetch (source_in z) (spots.Bit register bit) read k cp l (arrived z.outside w))
   bit_fetch read w c le are due h =
-      subst (λ t. Follow z 6 0 c (fetch_as t (source_in z) (spots.Bit register bit) read k cp l (arrived z.outside w))) (sym type_is) (bit_as read w c le are due h)
+      subst (λ t. Follow z 6 (one_if (nat_lt (length read) 1)) c (fetch_as t (source_in z) (spots.Bit register bit) read k cp l (arrived z.outside w))) (sym type_is) (bit_as read w c le are due h)
 
 -- What a node needs that reads a bit.
 pub record BitPlace (z : Scene) (cp : CopyOf) (sought : Place) (register bit : ℕ) : Type 0 where
@@ -84,7 +85,7 @@ module _ (z : Scene) (laws : SceneLaws z) (cp : CopyOf) (l : source.Memory) wher
   pub bit_read : (sought : Place) (line register bit : ℕ) (k : List Pending) (read : List value.Byte) (w : World value.Byte) (c : Machine) → BitPlace z cp sought register bit → Around z cp (In (tree.Read sought (types.Int int.UChar) line) (At (spots.Bit register bit)) ∷ k)
       → base (ground_in z cp) k ≤ 96 → base (ground_in z cp) k + 1 ≤ (core_in z).program.frame_bytes (number z cp) → length read ≤ 1 → AreRead z.program (types.Int int.UChar) [] read → is_due (arrived z.outside w) ≡ false
       → Mirrors z (state cp (Fetch (spots.Bit register bit) read) (In (tree.Read sought (types.Int int.UChar) line) (At (spots.Bit register bit)) ∷ k) l w) c
-      → Follow z 6 0 c (fetch (source_in z) (spots.Bit register bit) read (In (tree.Read sought (types.Int int.UChar) line) (At (spots.Bit register bit)) ∷ k) cp l (arrived z.outside w))
+      → Follow z 6 (one_if (nat_lt (length read) 1)) c (fetch (source_in z) (spots.Bit register bit) read (In (tree.Read sought (types.Int int.UChar) line) (At (spots.Bit register bit)) ∷ k) cp l (arrived z.outside w))
   unfolding active
   bit_read sought line register bit k read w c p around low room le are due h =
       let g = ground_in z cp in
@@ -102,7 +103,7 @@ module _ (z : Scene) (laws : SceneLaws z) (cp : CopyOf) (l : source.Memory) wher
   pub bit_update : (op : BinOp) (sought : Place) (right : Expression) (operation : Ty) (size : ℕ) (line register bit : ℕ) (u : Datum) (k : List Pending) (read : List value.Byte) (w : World value.Byte) (c : Machine) → BitPlace z cp sought register bit → Around z cp (In (tree.Update op sought right operation size (types.Int int.UChar) line) (AtWith (spots.Bit register bit) u) ∷ k)
       → above (ground_in z cp) (base (ground_in z cp) k) (tree.Update op sought right operation size (types.Int int.UChar) line) (AtWith (spots.Bit register bit) u) + 1 ≤ (core_in z).program.frame_bytes (number z cp) → length read ≤ 1 → AreRead z.program (types.Int int.UChar) [] read → is_due (arrived z.outside w) ≡ false
       → Mirrors z (state cp (Fetch (spots.Bit register bit) read) (In (tree.Update op sought right operation size (types.Int int.UChar) line) (AtWith (spots.Bit register bit) u) ∷ k) l w) c
-      → Follow z 6 0 c (fetch (source_in z) (spots.Bit register bit) read (In (tree.Update op sought right operation size (types.Int int.UChar) line) (AtWith (spots.Bit register bit) u) ∷ k) cp l (arrived z.outside w))
+      → Follow z 6 (one_if (nat_lt (length read) 1)) c (fetch (source_in z) (spots.Bit register bit) read (In (tree.Update op sought right operation size (types.Int int.UChar) line) (AtWith (spots.Bit register bit) u) ∷ k) cp l (arrived z.outside w))
   unfolding active
   bit_update op sought right operation size line register bit u k read w c p around room le are due h =
       let g = ground_in z cp in
@@ -117,7 +118,7 @@ module _ (z : Scene) (laws : SceneLaws z) (cp : CopyOf) (l : source.Memory) wher
   pub bit_step : (op : StepOp) (sought : Place) (operation : Ty) (size : ℕ) (line register bit : ℕ) (k : List Pending) (read : List value.Byte) (w : World value.Byte) (c : Machine) → BitPlace z cp sought register bit → Around z cp (In (tree.Step op sought operation size (types.Int int.UChar) line) (At (spots.Bit register bit)) ∷ k)
       → above (ground_in z cp) (base (ground_in z cp) k) (tree.Step op sought operation size (types.Int int.UChar) line) (At (spots.Bit register bit)) + 1 ≤ (core_in z).program.frame_bytes (number z cp) → length read ≤ 1 → AreRead z.program (types.Int int.UChar) [] read → is_due (arrived z.outside w) ≡ false
       → Mirrors z (state cp (Fetch (spots.Bit register bit) read) (In (tree.Step op sought operation size (types.Int int.UChar) line) (At (spots.Bit register bit)) ∷ k) l w) c
-      → Follow z 6 0 c (fetch (source_in z) (spots.Bit register bit) read (In (tree.Step op sought operation size (types.Int int.UChar) line) (At (spots.Bit register bit)) ∷ k) cp l (arrived z.outside w))
+      → Follow z 6 (one_if (nat_lt (length read) 1)) c (fetch (source_in z) (spots.Bit register bit) read (In (tree.Step op sought operation size (types.Int int.UChar) line) (At (spots.Bit register bit)) ∷ k) cp l (arrived z.outside w))
   unfolding active
   bit_step op sought operation size line register bit k read w c p around room le are due h =
       let g = ground_in z cp in

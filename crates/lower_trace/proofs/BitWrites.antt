@@ -41,7 +41,7 @@ use Rattle.lower_trace.proofs.Moving.{binary_any_then, set_result_then}
 use Rattle.lower_trace.proofs.Operating.{itself, value_number}
 use Rattle.lower_trace.proofs.Operations.{Comes, beyond_is, comes_first, comes_here, comes_within, own_frame}
 use Rattle.lower_trace.proofs.Placed.{Placed, front, least_operates, most_operates, operates}
-use Rattle.lower_trace.proofs.Returning.{Resumables, holds_frames}
+use Rattle.lower_trace.proofs.Returning.{Resumables, holds_frames, set_others}
 use Rattle.lower_trace.proofs.Written.{both, byte_same, bytes_there, on}
 use Rattle.pic_world.proofs.WorldLaws.{arrived_as, gie_as, read_as, value_as, write_as}
 use Rattle.pic_world.specs.World.{Happening, World, WriteOf, after_device_read, after_device_write, arrived, device_value, is_due, sets_gie, world_as}
@@ -100,11 +100,11 @@ one_there : (m : Memory) (root : Root) → value_in int.UChar (with_byte m (Resu
 unfolding value_in
 one_there m root = ap (λ x. core.or_number None (option_map (λ i. core.Number (cut_to int.UChar (pos i))) (core.with_low x (Some 0)))) (on (bytes.same_byte (Result root 0) (Result root 0)) (bytes.Number 1) (m (Result root 0)) (byte_same (Result root 0)))
 
-module _ (z : Scene) (laws : SceneLaws z) (cp : CopyOf) (k : List Pending) (l : source.Memory) (around : Around z cp k) (resumables : Resumables k) (register bit_is count from : ℕ) (pointer : Byte) (code_is : (a : spot.Spot) (i : ℕ) → writing_at z (ground_in z cp) k a i ≡ writing z cp.root (Bit register bit_is) a pointer (Frame (ground_in z cp).copy from) count i (code_after (ground_in z cp) k)) (from_is : stored_at (ground_in z cp) k ≡ from) (room : from + 1 ≤ (core_in z).program.frame_bytes (number z cp)) (high : base (ground_in z cp) k ≤ from) (known : is_device register ≡ true) (small_bit : bit_is < 8) where
+module _ (z : Scene) (laws : SceneLaws z) (cp : CopyOf) (k : List Pending) (l : source.Memory) (around : Around z cp k) (resumables : Resumables cp.root k) (register bit_is count from : ℕ) (pointer : Byte) (code_is : (a : spot.Spot) (i : ℕ) → writing_at z (ground_in z cp) k a i ≡ writing z cp.root (Bit register bit_is) a pointer (Frame (ground_in z cp).copy from) count i (code_after (ground_in z cp) k)) (from_is : stored_at (ground_in z cp) k ≡ from) (room : from + 1 ≤ (core_in z).program.frame_bytes (number z cp)) (high : base (ground_in z cp) k ≤ from) (known : is_device register ≡ true) (small_bit : bit_is < 8) where
   -- the register is read
   pub write_bit : (q : ℤ) (line : ℕ) (w : World value.Byte) (c : Machine) → IsInRange int.UChar q → is_due (arrived z.outside w) ≡ false
       → Mirrors z (state cp (Write (spots.Bit register bit_is) (datum.Number (record { ty = int.UChar; number = q })) 0) k l w) c
-      → Follow z 57 0 c (read_bit (source_in z) register bit_is (datum.Number (record { ty = int.UChar; number = q })) k cp l (arrived z.outside w))
+      → Follow z 57 1 c (read_bit (source_in z) register bit_is (datum.Number (record { ty = int.UChar; number = q })) k cp l (arrived z.outside w))
   unfolding active fits_together binary_value
   write_bit q line w c qr due h =
       let x : Quantity = record { ty = int.UChar; number = q } in
@@ -135,7 +135,7 @@ module _ (z : Scene) (laws : SceneLaws z) (cp : CopyOf) (k : List Pending) (l : 
       code_is (spots.Bit register bit_is) 0 ∙ ap (λ i. todo (bit_row cp.root register bit_is (Frame i from)) R) (own_copy z cp) in
       let later : PutBack register (core_machine.with_bit bit_is (low % 2) (device_value z.outside register W)) ≡ PutBack register (core_machine.with_bit bit_is low old) =
       ap (λ y. PutBack register (core_machine.with_bit bit_is y (device_value z.outside register W))) (bit_again (pattern int.UChar q)) ∙ ap (λ y. PutBack register (core_machine.with_bit bit_is low y)) (value_as (held z) z.outside register V) in
-      comes_within (core_in z) T (4 + (40 + 13)) (1 + (1 + 1)) 57 0 c
+      comes_within (core_in z) T (4 + (40 + 13)) (1 + (1 + 1)) 57 1 c
       (set_result_then (core_in z) T n None (stack_after z g k) W no ag cp.root 0 1 (Todo [] (code.Binary ops.And int.UChar (Frame n from) (Frame n from) (Result cp.root 0)) ∷ Todo [] (code.BitWrite register bit_is (Frame n from)) ∷ R) c.memory c (40 + 13) (1 + 1) own
       (subst (λ y. Placed (core_in z) n None y (stack_after z g k) c.memory W c) now (placed_of z (state cp (Write (spots.Bit register bit_is) v 0) k l w) c h))
       (λ d pd. binary_any_then (core_in z) T n (stack_after z g k) W no ag ops.And int.UChar (Frame n from) (Frame n from) (Result cp.root 0) (core.Number x) (core.Number one) (core.Number o) (Todo [] (code.BitWrite register bit_is (Frame n from)) ∷ R) m1 d 13 1 40
@@ -146,7 +146,7 @@ module _ (z : Scene) (laws : SceneLaws z) (cp : CopyOf) (k : List Pending) (l : 
       (subst (λ y. Placed (core_in z) n None (y ∷ Join ∷ R) (stack_after z g k) m2 (world_as (held z) (arrived z.outside w')) f) later
       (subst (λ y. Placed (core_in z) n None (PutBack register (core_machine.with_bit bit_is (low % 2) (device_value z.outside register W)) ∷ Join ∷ R) (stack_after z g k) m2 y f) (ap (arrived z.outside) (read_as (held z) values.Number z.outside register V) ∙ arrived_as (held z) z.outside w') pf))
       (agrees_above z laws cp (active cp (PutBit register bit_is v old) k) l m1 m2 from around.reached (let y = value_high z cp k around in omega arith) (above_written n from from 1 m1 (core.byte_of (core.Number o)) (omega arith)) (agrees_same z (active cp (PutBit register bit_is v old) k) l c.memory m1 (λ ob at there lt. untouched z cp.root c.memory ob at) h.agrees))
-      (holds_above z cp k m1 m2 from around high (above_written n from from 1 m1 (core.byte_of (core.Number o)) (omega arith)) (holds_frames z cp k c.memory m1 resumables frames h.holds))
+      (holds_above z cp k m1 m2 from around high (above_written n from from 1 m1 (core.byte_of (core.Number o)) (omega arith)) (holds_frames z cp.root cp k c.memory m1 resumables frames (set_others cp.root 0 (bytes.Number 1) c.memory) h.holds))
       (λ i lt.
       let none : i ≡ 0 = omega arith in
       ap (λ y. m2 (Frame y (stored_at g k + i))) (own_copy z cp) ∙ ap (λ y. m2 (Frame n (y + i))) from_is ∙ ap (λ y. m2 (Frame n (from + y))) none ∙ ap (λ y. m2 (Frame n y)) (sym zero_is) ∙ bit_is_there

@@ -68,6 +68,12 @@ module _ (g : Setting) (T : Machine → Type 0) (n : ℕ) (a : Option ℕ) (w : 
       if_then g T n a w due again test size held (many first) (many second) r s m c q l own truth p
       (λ d pd. many_then g T n a w due again (chosen_code held first second) (Join ∷ r) s m d q l (subst (λ x. Placed g n a (Todo [] x ∷ Join ∷ r) s m w d) (picked_many held first second) pd) next)
 
+-- The ends of choices that a chain comes to where no condition held and no `else` is there: one for each arm.
+abbrev pub end_joins : Arms → Arms → LastArm → ℕ
+end_joins chain tree.NoArm tree.NoLast = 4 * arm_count chain
+end_joins chain tree.NoArm (tree.Last t) = 0
+end_joins chain (tree.AndArm arm more) otherwise = 0
+
 module _ (z : Scene) (laws : SceneLaws z) where
   -- the value that stands at the place of the focus, as a condition
   truth_there : (ty : Ty) (v : Datum) (held : Bool) (b size : ℕ) (cp : CopyOf) (m : Memory) → HasType z.program ty v → 0 < byte_count v → size ≡ byte_count v → HasDatum z (ground_in z cp).copy b v m → truth_of v ≡ Some held → truth_in m (Frame (ground_in z cp).copy b) size ≡ Some held
@@ -121,7 +127,7 @@ module _ (z : Scene) (laws : SceneLaws z) where
   -- no condition of the chain held so far: what the next arm or the last `else` begins with
   arms_follow : (chain : Arms) (otherwise : LastArm) (line : ℕ) (more : Arms) (k : List Pending) (cp : CopyOf) (l : source.Memory) (w : World value.Byte) (m : Memory) (c : Machine) → arm_count more < arm_count chain → is_due (arrived z.outside w) ≡ false → Agrees z (active cp Past k) l m → Holds z (ground_in z cp) k m
       → Placed (core_in z) (number z cp) None (todo (arms_code (ground_in z cp) (jumps k) (last_code (ground_in z cp) (jumps k) otherwise) more) (Join ∷ joins (arm_count chain - suc (arm_count more)) (code_after (ground_in z cp) k))) (stack_after z (ground_in z cp) k) m (world_as (held z) (arrived z.outside w)) c
-      → Follow z (4 * arm_count chain) 0 c (arms (tree.If chain otherwise line) more otherwise k cp l (arrived z.outside w))
+      → Follow z (end_joins chain more otherwise) 0 c (arms (tree.If chain otherwise line) more otherwise k cp l (arrived z.outside w))
   unfolding active stmt_code
   arms_follow chain tree.NoLast line tree.NoArm k cp l w m c few due a h p =
       let T = Mirrors z (state cp Past k l (arrived z.outside w)) in
@@ -135,7 +141,7 @@ module _ (z : Scene) (laws : SceneLaws z) where
       let x = tree.If chain (tree.Last t) line in
       let T = Mirrors z (state cp (Run t) (Doing x (InArm tree.NoArm) ∷ k) l (arrived z.outside w)) in
       let i = arm_count chain in
-      comes_within (core_in z) T 0 0 (4 * i) 0 c
+      comes_within (core_in z) T 0 0 0 0 c
       (arrive z cp (Run t) (Doing x (InArm tree.NoArm) ∷ k) l w m c
       (subst (λ y. Placed (core_in z) (number z cp) None (todo (stmt_code (ground_in z cp) (jumps k) t) y) (stack_after z (ground_in z cp) k) m (world_as (held z) (arrived z.outside w)) c) (joins_more (i - 1) (i - 0) (code_after (ground_in z cp) k) (omega arith)) p)
       a h tt)
@@ -146,7 +152,7 @@ module _ (z : Scene) (laws : SceneLaws z) where
       let T = Mirrors z (state cp (Eval condition) (Doing x (Picks (tree.OneArm condition chosen at) more) ∷ k) l (arrived z.outside w)) in
       let i = arm_count chain in
       let j = arm_count more in
-      comes_within (core_in z) T 0 0 (4 * i) 0 c
+      comes_within (core_in z) T 0 0 0 0 c
       (arrive z cp (Eval condition) (Doing x (Picks (tree.OneArm condition chosen at) more) ∷ k) l w m c
       (subst (λ y. Placed (core_in z) (number z cp) None y (stack_after z g k) m (world_as (held z) (arrived z.outside w)) c)
       (ap (todo (arms_code g (jumps k) (last_code g (jumps k) otherwise) (tree.AndArm (tree.OneArm condition chosen at) more))) (joins_more (i - suc (suc j)) (i - suc j) (code_after g k) (omega arith)) ∙ simp todo_join) p)
@@ -156,8 +162,8 @@ module _ (z : Scene) (laws : SceneLaws z) where
   if_case : (chain : Arms) (otherwise : LastArm) (line : ℕ) (condition : Expression) (chosen : Statement) (at : ℕ) (more : Arms) (v : Datum) (vt : Ty) (holds : Option Bool) (k : List Pending) (cp : CopyOf) (l : source.Memory) (w : World value.Byte) (c : Machine) → truth_of v ≡ holds → arm_count more < arm_count chain
       → HasType z.program vt v → 0 < byte_count v → test_size (ground.width (ground_in z cp) condition) ≡ byte_count v → (ground_in z cp).base + byte_count v ≤ (core_in z).program.frame_bytes (number z cp) → is_due (arrived z.outside w) ≡ false
       → Mirrors z (state cp (Value v) (Doing (tree.If chain otherwise line) (Picks (tree.OneArm condition chosen at) more) ∷ k) l w) c
-      → (o : Outcome) → ((d : Machine) → Placed (core_in z) (number z cp) None (todo (arms_code (ground_in z cp) (jumps k) (last_code (ground_in z cp) (jumps k) otherwise) more) (Join ∷ joins (arm_count chain - suc (arm_count more)) (code_after (ground_in z cp) k))) (stack_after z (ground_in z cp) k) c.memory (world_as (held z) (arrived z.outside w)) d → Follow z (4 * arm_count chain) 0 d o)
-      → Follow z (4 * byte_count v + 16 + 4 * arm_count chain) 1 c (branch holds at (Went (state cp (Run chosen) (Doing (tree.If chain otherwise line) (InArm more) ∷ k) l (arrived z.outside w)) None) o)
+      → (o : Outcome) → ((d : Machine) → Placed (core_in z) (number z cp) None (todo (arms_code (ground_in z cp) (jumps k) (last_code (ground_in z cp) (jumps k) otherwise) more) (Join ∷ joins (arm_count chain - suc (arm_count more)) (code_after (ground_in z cp) k))) (stack_after z (ground_in z cp) k) c.memory (world_as (held z) (arrived z.outside w)) d → Follow z (end_joins chain more otherwise) 0 d o)
+      → Follow z (4 * byte_count v + 16 + end_joins chain more otherwise) 1 c (branch holds at (Went (state cp (Run chosen) (Doing (tree.If chain otherwise line) (InArm more) ∷ k) l (arrived z.outside w)) None) o)
   unfolding active
   if_case chain otherwise line condition chosen at more v vt None k cp l w c is few t lt size room due h o next = tt
   if_case chain otherwise line condition chosen at more v vt (Some true) k cp l w c is few t lt size room due h o next =
@@ -168,7 +174,8 @@ module _ (z : Scene) (laws : SceneLaws z) where
       let y = test_size (ground.width g condition) in
       let i = arm_count chain in
       let j = arm_count more in
-      comes_within (core_in z) T (4 * y + 16 + 0) (1 + 0) (4 * byte_count v + 16 + 4 * i) 1 c
+      let e = end_joins chain more otherwise in
+      comes_within (core_in z) T (4 * y + 16 + 0) (1 + 0) (4 * byte_count v + 16 + e) 1 c
       (choice_then (core_in z) T n None (world_as (held z) (arrived z.outside w)) (due_below z (arrived z.outside w) due) (again_below z w) (first g) y true (stmt_code g (jumps k) chosen) (arms_code g (jumps k) (last_code g (jumps k) otherwise) more) (joins (i - suc j) (code_after g k)) (stack_after z g k) c.memory c 0 0
       (own_test g.base y cp (omega arith)) (truth_there vt v true g.base y cp c.memory t lt size h.value is) (placed_of z (state cp (Value v) (Doing x (Picks (tree.OneArm condition chosen at) more) ∷ k) l w) c h)
       (λ d pd. arrive z cp (Run chosen) (Doing x (InArm more) ∷ k) l w c.memory d
@@ -186,8 +193,9 @@ module _ (z : Scene) (laws : SceneLaws z) where
       let y = test_size (ground.width g condition) in
       let i = arm_count chain in
       let j = arm_count more in
-      comes_within (core_in z) T (4 * y + 16 + 4 * i) (1 + 0) (4 * byte_count v + 16 + 4 * i) 1 c
-      (choice_then (core_in z) T n None (world_as (held z) (arrived z.outside w)) (due_below z (arrived z.outside w) due) (again_below z w) (first g) y false (stmt_code g (jumps k) chosen) (arms_code g (jumps k) (last_code g (jumps k) otherwise) more) (joins (i - suc j) (code_after g k)) (stack_after z g k) c.memory c (4 * i) 0
+      let e = end_joins chain more otherwise in
+      comes_within (core_in z) T (4 * y + 16 + e) (1 + 0) (4 * byte_count v + 16 + e) 1 c
+      (choice_then (core_in z) T n None (world_as (held z) (arrived z.outside w)) (due_below z (arrived z.outside w) due) (again_below z w) (first g) y false (stmt_code g (jumps k) chosen) (arms_code g (jumps k) (last_code g (jumps k) otherwise) more) (joins (i - suc j) (code_after g k)) (stack_after z g k) c.memory c e 0
       (own_test g.base y cp (omega arith)) (truth_there vt v false g.base y cp c.memory t lt size h.value is) (placed_of z (state cp (Value v) (Doing x (Picks (tree.OneArm condition chosen at) more) ∷ k) l w) c h)
       next)
       (omega arith) (omega arith)
@@ -195,7 +203,7 @@ module _ (z : Scene) (laws : SceneLaws z) where
   pub if_given : (chain : Arms) (otherwise : LastArm) (line : ℕ) (condition : Expression) (chosen : Statement) (at : ℕ) (more : Arms) (v : Datum) (vt : Ty) (k : List Pending) (cp : CopyOf) (l : source.Memory) (w : World value.Byte) (c : Machine) → arm_count more < arm_count chain
       → HasType z.program vt v → 0 < byte_count v → test_size (ground.width (ground_in z cp) condition) ≡ byte_count v → (ground_in z cp).base + byte_count v ≤ (core_in z).program.frame_bytes (number z cp) → is_due (arrived z.outside w) ≡ false
       → Mirrors z (state cp (Value v) (Doing (tree.If chain otherwise line) (Picks (tree.OneArm condition chosen at) more) ∷ k) l w) c
-      → Follow z (4 * byte_count v + 16 + 4 * arm_count chain) 1 c (take_for (source_in z) (tree.If chain otherwise line) (Picks (tree.OneArm condition chosen at) more) v k cp l (arrived z.outside w))
+      → Follow z (4 * byte_count v + 16 + end_joins chain more otherwise) 1 c (take_for (source_in z) (tree.If chain otherwise line) (Picks (tree.OneArm condition chosen at) more) v k cp l (arrived z.outside w))
   unfolding active
   if_given chain otherwise line condition chosen at more v vt k cp l w c few t lt size room due h =
       if_case chain otherwise line condition chosen at more v vt (truth_of v) k cp l w c refl few t lt size room due h (arms (tree.If chain otherwise line) more otherwise k cp l (arrived z.outside w))

@@ -1,15 +1,17 @@
 -- Which code is left for byte code, and what waits behind it, where the source stands: functions of the focus and of what
 -- waits. An operation is taken here without what stands before it in its `Many`.
-use Rattle.std.specs.Prelude.{ℕ, zero, suc, ◌+◌, ◌-◌, Bool, true, false, ◌&&◌, if◌then◌else◌, List, [], ◌∷◌, ◌++◌, length, Option, Some, None}
+use Rattle.std.specs.Prelude.{ℕ, zero, suc, ◌+◌, ◌-◌, ◌*◌, Bool, true, false, ◌&&◌, if◌then◌else◌, List, [], ◌∷◌, ◌++◌, length, drop, Option, Some, None, slice_index}
 use Rattle.pic_world.specs.World.{Outside}
 use Rattle.pic_world.specs.declared.Root.{Root}
 use Rattle.c_typed.specs.Trees as tree
-use Rattle.c_typed.specs.Trees.{Expression, Expressions, Place, Statement, Statements, Arm, Arms, LastArm, FunctionTree, Program}
+use Rattle.c_typed.specs.Sound.{count_of}
+use Rattle.c_typed.specs.Trees.{Expression, Expressions, Place, Item, Statement, Statements, Arm, Arms, LastArm, FunctionTree, Program}
 use Rattle.c_typed.specs.Types.{type_of, place_type}
 use Rattle.c_typed.specs.Folding.{constant_bits}
 use Rattle.c_typed.specs.Words.{step_operator}
 use Rattle.c_typed.specs.declared.statement.LoopForm.{LoopForm}
 use Rattle.c_typed.specs.declared.statement.LoopForm.TheVariants.{While, Do, For}
+use Rattle.c_typed.specs.declared.statement.TCase.{TCase}
 use Rattle.c_typed.specs.declared.types.Ty.{Ty}
 use Rattle.call_graph.specs.declared.types.FnCopy.{FnCopy}
 use Rattle.core_code.specs.Bytes.{Held, is_private}
@@ -24,22 +26,26 @@ use Rattle.lower_expr.specs.Bytes.{behind, beyond, operation_type}
 use Rattle.lower_expr.specs.Layout.{Layout, width, value_width, place_width, copy_of}
 use Rattle.lower_expr.specs.Lowering.{expr_code, address_code, arguments_code, pointer_code, behind_pointer, shifts_by_constant, change_code, is_pointer, arguments_width, update_of, step_of}
 use Rattle.lower_expr.specs.Puts.{copies, copies_if, operator, choice, test_size}
-use Rattle.lower_expr.specs.Rows.{widened, tested, unary_row, logical_row, binary_row, offset_row, difference_row, member_row, address_row, value_row, assigned_row, kept_row, written_row, bit_row, change_of, change_row, given_byte, update_row, keeps_old, step_number, step_row, called_row, struct_row}
+use Rattle.lower_expr.specs.Rows.{widened, tested, unary_row, logical_row, binary_row, offset_row, difference_row, member_row, address_row, value_row, assigned_row, kept_row, written_row, bit_row, change_of, change_row, given_byte, update_row, keeps_old, step_number, step_row, called_row, struct_row, side_of, taken, given, advances, structure_row}
 use Rattle.lower_expr.specs.Spots.{spot_of, pointer_bytes}
 use Rattle.lower_expr.specs.declared.places.Spot as place
 use Rattle.lower_expr.specs.declared.places.Spot.TheVariants.{Fixed, Bit, Computed}
+use Rattle.lower_stmt.specs.Declarators.{items_code, rest_code, is_covered}
 use Rattle.lower_stmt.specs.Frames.{ground_for}
-use Rattle.lower_stmt.specs.Ground.{Ground, first, result_byte, local_byte, value_code, effect_code}
+use Rattle.lower_stmt.specs.Ground.{Ground, first, result_byte, local_byte, local_bytes, value_code, effect_code}
 use Rattle.lower_stmt.specs.Ground as ground
-use Rattle.lower_stmt.specs.Jumps.{outside}
+use Rattle.lower_stmt.specs.Jumps.{outside, in_segment}
+use Rattle.lower_stmt.specs.Labels.{labels_of, segments_before}
 use Rattle.lower_stmt.specs.Programs.{core_of}
-use Rattle.lower_stmt.specs.Statements.{stmt_code, stmts_code, arms_code, last_code, condition_code, any_code, once, jumps_in}
+use Rattle.lower_stmt.specs.Statements.{stmt_code, stmts_code, arms_code, last_code, segments_code, segments_in, condition_code, any_code, once, jumps_in}
+use Rattle.lower_stmt.specs.Switches.{comparisons, cases_code, otherwise_segment, around, for_labels}
 use Rattle.lower_trace.specs.Lowering.{copy_number, object_as, offset_as, held_as}
 use Rattle.src_values.specs.Memory as source
-use Rattle.src_values.specs.Control.{Focus, Eval, Find, Holds, Found, Run, Past, Fetch, Write, PutBit as BitPut, Calls, Leaves, Over as Done, Got, Nothing, Chosen, One, At, AtWith, Stores, Args, Passed, Called, Stage, Tests, Begins, Steps, Turns, Picks, InArm, Pending, In, To, Doing, Before, Returns, Resumes}
+use Rattle.src_values.specs.Control.{Focus, Eval, Find, Holds, Found, Run, Past, Fetch, Skim, Write, PutBit as BitPut, CopyRead, CopyWrite, Spell, Blank, Calls, Leaves, Compares, Over as Done, Got, Nothing, Chosen, One, At, AtWith, Stores, Args, Passed, Called, Stage, Tests, Begins, Steps, Turns, Picks, InArm, Chooses, AtItem, Items, Blanks, Pending, In, To, Doing, Before, Returns, Resumes}
 use Rattle.src_values.specs.Objects.{function_at}
 use Rattle.src_values.specs.Values.{number_in, lowest_bit}
 use Rattle.src_values.specs.declared.objects.Byte as value
+use Rattle.src_values.specs.declared.objects.Byte.TheVariants as values
 use Rattle.src_values.specs.declared.objects.CopyOf.{CopyOf}
 use Rattle.src_values.specs.declared.objects.Object as object
 use Rattle.src_values.specs.declared.objects.Object.TheVariants as objects
@@ -127,7 +133,8 @@ above g b (tree.Update op place value operation size ty line) (AtWith spot u) = 
 above g b (tree.Step op place operation size ty line) (At spot) = beyond (behind_pointer g.layout g.copy b place) (width g.layout operation)
 above g b (tree.Call function arguments ty line) (Args before more) = beyond b (before_argument g.layout (length before) 0 arguments)
 above g b (tree.Call function arguments ty line) (Passed values) = beyond b (arguments_width g.layout 0 arguments)
-above g b e (Stores spot v) = beyond (beyond (stored g b e) (width g.layout (type_of e))) 4
+above g b (tree.Step op place operation size ty line) (Stores spot v) = beyond (beyond (stored g b (tree.Step op place operation size ty line)) (width g.layout ty)) 4
+above g b e (Stores spot v) = beyond (stored g b e) (width g.layout (type_of e))
 above g b _ _ = b
 
 abbrev pub base : Ground → List Pending → ℕ
@@ -252,12 +259,120 @@ TypeOf {A = A} x = A
 abbrev pub Jumps : Type 0
 Jumps = TypeOf outside
 
+-- ---- the body of a switch
+-- a loop that is under way, with what follows it
+pub record Looped : Type 0 where
+  pub body : Tree
+  pub code : List Task
+
+abbrev pub stacked : List Looped → List Waiting → List Waiting
+stacked [] s = s
+stacked (x ∷ xs) s = InLoop x.body x.code ∷ stacked xs s
+
+-- the body of the loop of a segment, which stands behind the loop that leads to it
+abbrev pub segment_body : Tree → List Tree → Tree
+segment_body body segment = many ((code.Loop body ∷ []) ++ segment ++ code.Exit 0 ∷ [])
+
+-- The loops of segments round this body, from there out, but for the last one; and the body of the last one.
+abbrev pub nested : Tree → List (List Tree) → List Looped
+nested body [] = []
+nested body (segment ∷ segments) = record { body = body; code = todo (segment ++ code.Exit 0 ∷ []) [] } ∷ nested (segment_body body segment) segments
+
+abbrev pub outermost : Tree → List (List Tree) → Tree
+outermost body [] = body
+outermost body (segment ∷ segments) = outermost (segment_body body segment) segments
+
+-- a switch by its parts
+pub record Switched : Type 0 where
+  pub value : Expression
+  pub cases : List TCase
+  pub default : Option ℕ
+  pub body : Statements
+
+abbrev pub labels_in : Switched → List ℕ
+labels_in x = labels_of x.cases x.default
+
+abbrev pub segment_count : Switched → ℕ
+segment_count x = segments_in x.body (labels_in x)
+
+-- what stands in its innermost loop, and its segments
+abbrev pub compared : Ground → Switched → List Tree
+compared g x = comparisons g x.value x.cases x.default (labels_in x) (segment_count x)
+
+abbrev pub segments : Ground → Jumps → Switched → List (List Tree)
+segments g j x = (segments_code g j (labels_in x) (segment_count x) 0 0 x.body).later
+
+abbrev pub loops_in : Ground → Jumps → Switched → List Looped
+loops_in g j x = nested (many (compared g x)) (segments g j x)
+
+abbrev pub whole_loop : Ground → Jumps → Switched → Tree
+whole_loop g j x = outermost (many (compared g x)) (segments g j x)
+
+-- How many statements of its body stand before these last ones, and how many segments have begun there.
+abbrev pub index_in : Switched → Statements → ℕ
+index_in x ss = count_of x.body - count_of ss
+
+abbrev pub begun_at : Switched → Statements → ℕ
+begun_at x ss = segments_before (index_in x ss) (labels_in x)
+
+-- the switch whose body waits on top
+abbrev pub switch_on : List Pending → Option Switched
+switch_on (Doing (tree.Switch value cases default ss line) Turns ∷ k) = Some (record { value = value; cases = cases; default = default; body = ss })
+switch_on _ = None
+
+abbrev pub jumps_before : Option Switched → Statements → Jumps → Jumps
+jumps_before None ss j = j
+jumps_before (Some x) ss j = in_segment j (segment_count x - begun_at x ss)
+
 -- where `break` and `continue` lead to
 abbrev pub jumps : List Pending → Jumps
 jumps (Doing (tree.Loop shape begin condition step body line) Turns ∷ k) = jumps_in shape
+jumps (Doing (tree.Switch value cases default ss line) Turns ∷ k) = jumps k
 jumps (Doing (tree.If chain otherwise line) (InArm more) ∷ k) = jumps k
-jumps (Before ss ∷ k) = jumps k
+jumps (Before ss ∷ k) = jumps_before (switch_on k) ss (jumps k)
 jumps _ = outside
+
+-- The statements that are left of a block, or of the body of a switch: there the code of their segment. Segments behind it
+-- wait in loops.
+abbrev pub code_before : Ground → Option Switched → Statements → Jumps → List Task → List Task
+code_before g None ss j c = todo (stmts_code g j ss) c
+code_before g (Some x) ss j c = todo (segments_code g j (labels_in x) (segment_count x) (index_in x ss) (begun_at x ss) ss).running c
+
+abbrev pub inner_loops : Ground → Jumps → Option Switched → Statements → List Looped
+inner_loops g j None ss = []
+inner_loops g j (Some x) ss = drop (begun_at x ss) (loops_in g j x)
+
+-- a switch without labels has no loops
+abbrev pub if_labelled : {A : Type 0} → List ℕ → A → A → A
+if_labelled [] a b = b
+if_labelled (label ∷ labels) a b = a
+
+-- what is left in the innermost loop once these labels are to be compared
+abbrev pub comparing : Ground → Switched → List TCase → List Tree
+comparing g x labels = cases_code g (operation_type (type_of x.value)) (ground.width g x.value) (labels_in x) labels ++ code.Exit (otherwise_segment (labels_in x) (segment_count x) x.default) ∷ []
+
+-- ---- first values of a local
+-- the items that are left, and the bytes that no item has
+abbrev pub items_left : Ground → ℕ → List Item → List Item → List Tree
+items_left g local all rest = items_code g (local_byte g local) rest ++ rest_code g (local_byte g local) all (local_bytes g local)
+
+-- an item whose value stands there, or whose place was found
+abbrev pub item_left : Ground → Byte → Item → List Tree
+item_left g to (tree.Scalar offset e) = copies (behind to offset) (first g) (ground.width g e)
+item_left g to (tree.Struct offset from size) = struct_row g.layout.root (Fixed (behind to offset)) (spot_of g.layout g.copy from) (first g) size
+item_left g to (tree.Text offset bytes size) = []
+
+-- so many characters of a string, from this one on, and so many bytes without an item
+abbrev pub text_from : Byte → List ℕ → ℕ → ℕ → List Tree
+text_from to bytes at zero = []
+text_from to bytes at (suc left) = code.Set (behind to at) (slice_index bytes at) ∷ text_from to bytes (at + 1) left
+
+abbrev pub blank_byte : Ground → Byte → List Item → ℕ → List Tree
+blank_byte g to all at = if is_covered g all at then [] else code.Set (behind to at) 0 ∷ []
+
+abbrev pub blanks_from : Ground → Byte → List Item → ℕ → ℕ → List Tree
+blanks_from g to all at zero = []
+blanks_from g to all at (suc left) = blank_byte g to all at ++ blanks_from g to all (at + 1) left
 
 -- the body of a loop, and of the loop that runs once in it
 abbrev pub loop_body : Ground → LoopForm → Option Expression → Option Expression → List Tree → Tree
@@ -294,8 +409,7 @@ turn_behind g While condition step body s = s
 turn_behind g Do condition step body s = InLoop (once_body body) (todo (behind_turn g Do condition step) []) ∷ s
 turn_behind g For condition step body s = InLoop (once_body body) (todo (behind_turn g For condition step) []) ∷ s
 
--- The code of a statement behind the part that is under way, c being what follows it. The frames of switches and of lists of
--- locals aren't described yet.
+-- The code of a statement behind the part that is under way, c being what follows it.
 abbrev pub code_doing : Ground → Jumps → Statement → Stage → List Task → List Task
 code_doing g j (tree.InitScalar local e line) Tests c = todo (copies (local_byte g local) (first g) (ground.width g e)) c
 code_doing g j (tree.If chain otherwise line) (Picks (tree.OneArm condition chosen at) more) c =
@@ -305,15 +419,23 @@ code_doing g j (tree.Loop shape begin condition step body line) Begins c = todo 
 code_doing g j (tree.Loop shape begin condition step body line) Tests c = todo (tested_condition g condition ++ behind_test g shape step (stmt_code g (jumps_in shape) body)) []
 code_doing g j (tree.Loop shape begin condition step body line) Turns c = turn_rest shape
 code_doing g j (tree.Loop shape begin condition step body line) Steps c = []
+code_doing g j (tree.Switch value cases default ss line) Tests c =
+    todo (for_labels (labels_of cases default) (around (comparisons g value cases default (labels_of cases default) (segments_in ss (labels_of cases default))) (segments_code g j (labels_of cases default) (segments_in ss (labels_of cases default)) 0 0 ss))) c
+code_doing g j (tree.Switch value cases default ss line) Turns c = Todo [] (code.Exit 0) ∷ []
+code_doing g j (tree.InitList local all line) (AtItem item rest) c = todo (item_left g (local_byte g local) item ++ items_left g local all rest) c
+code_doing g j (tree.InitList local all line) (Items item rest) c = todo (items_left g local all rest) c
 code_doing g j (tree.Return (Some e) line) Tests c = todo (copies (result_byte g) (first g) (ground.width g e) ++ code.Leave ∷ []) c
 code_doing g j _ _ c = c
 
-abbrev pub stack_doing : Ground → Statement → Stage → List Task → List Waiting → List Waiting
-stack_doing g (tree.Loop shape begin condition step body line) Tests c s = InLoop (loop_body g shape condition step (stmt_code g (jumps_in shape) body)) c ∷ s
-stack_doing g (tree.Loop shape begin condition step body line) Steps c s = InLoop (loop_body g shape condition step (stmt_code g (jumps_in shape) body)) c ∷ s
-stack_doing g (tree.Loop shape begin condition step body line) Turns c s =
+abbrev pub stack_doing : Ground → Jumps → Statement → Stage → List Task → List Waiting → List Waiting
+stack_doing g j (tree.Loop shape begin condition step body line) Tests c s = InLoop (loop_body g shape condition step (stmt_code g (jumps_in shape) body)) c ∷ s
+stack_doing g j (tree.Loop shape begin condition step body line) Steps c s = InLoop (loop_body g shape condition step (stmt_code g (jumps_in shape) body)) c ∷ s
+stack_doing g j (tree.Loop shape begin condition step body line) Turns c s =
     turn_behind g shape condition step (stmt_code g (jumps_in shape) body) (InLoop (loop_body g shape condition step (stmt_code g (jumps_in shape) body)) c ∷ s)
-stack_doing g _ _ c s = s
+stack_doing g j (tree.Switch value cases default ss line) Chooses c s =
+    if_labelled (labels_of cases default) (stacked (loops_in g j (record { value = value; cases = cases; default = default; body = ss })) (InLoop (whole_loop g j (record { value = value; cases = cases; default = default; body = ss })) c ∷ s)) s
+stack_doing g j (tree.Switch value cases default ss line) Turns c s = InLoop (whole_loop g j (record { value = value; cases = cases; default = default; body = ss })) c ∷ s
+stack_doing g j _ _ c s = s
 
 -- ---- all that waits
 -- the code that is left once the focus is done
@@ -322,7 +444,7 @@ code_after g [] = Todo [] code.Leave ∷ []
 code_after g (In e got ∷ k) = todo (rest_of g (base g k) (wanted k) e got) (joining e got (code_after g k))
 code_after g (To place ∷ k) = todo (rest_to g (base g k) place) (code_after g k)
 code_after g (Doing t stage ∷ k) = code_doing g (jumps k) t stage (code_after g k)
-code_after g (Before ss ∷ k) = todo (stmts_code g (jumps k) ss) (code_after g k)
+code_after g (Before ss ∷ k) = code_before g (switch_on k) ss (jumps k) (code_after g k)
 code_after g (Returns d ∷ k) = Todo [] code.Leave ∷ []
 code_after g (Resumes d x ∷ k) = Todo [] code.Leave ∷ []
 
@@ -371,6 +493,19 @@ abbrev pub reading_at : Scene → Ground → List Pending → spot.Spot → List
 reading_at z g (In e got ∷ k) at read = reading_in z g (base g k) e got at read (code_after g (In e got ∷ k))
 reading_at z g k at read = code_after g k
 
+-- A structure that is read for nothing is read as if its bytes were wanted; of those that were read only the last one counts.
+abbrev pub unset_bytes : ℕ → List value.Byte
+unset_bytes zero = []
+unset_bytes (suc n) = values.Unset ∷ unset_bytes n
+
+abbrev pub skimmed : ℕ → Option value.Byte → List value.Byte
+skimmed done None = []
+skimmed done (Some byte) = unset_bytes (done - 1) ++ byte ∷ []
+
+abbrev pub skim_count : Ground → List Pending → ℕ
+skim_count g (In (tree.Read place ty line) got ∷ k) = width g.layout ty
+skim_count g k = 0
+
 abbrev pub stored_at : Ground → List Pending → ℕ
 stored_at g (In e got ∷ k) = stored g (base g k) e
 stored_at g k = g.base
@@ -399,7 +534,72 @@ writing_in z g b _ got at done c = c
 abbrev pub writing_at : Scene → Ground → List Pending → spot.Spot → ℕ → List Task
 writing_at z g (In e got ∷ k) at done = writing_in z g (base g k) e got at done (code_after g (In e got ∷ k))
 writing_at z g (Doing (tree.InitScalar local e line) stage ∷ k) at done = writing z g.layout.root (Fixed (local_byte g local)) at (first g) (first g) (ground.width g e) done (code_after g k)
+writing_at z g (Doing (tree.InitList local all line) (Items (tree.Scalar offset e) rest) ∷ k) at done =
+    writing z g.layout.root (Fixed (behind (local_byte g local) offset)) at (first g) (first g) (ground.width g e) done (code_after g (Doing (tree.InitList local all line) (Items (tree.Scalar offset e) rest) ∷ k))
 writing_at z g k at done = code_after g k
+
+-- ---- first values, and labels
+abbrev pub spelling_at : Ground → List Pending → ℕ → List Task → List Task
+spelling_at g (Doing (tree.InitList local all line) (Items (tree.Text offset bytes size) rest) ∷ k) left c = todo (text_from (behind (local_byte g local) offset) bytes (size - left) left) c
+spelling_at g _ left c = c
+
+abbrev pub blanking_at : Ground → List Pending → ℕ → ℕ → List Task → List Task
+blanking_at g (Doing (tree.InitList local all line) Blanks ∷ k) at left c = todo (blanks_from g (local_byte g local) all at left) c
+blanking_at g _ at left c = c
+
+abbrev pub comparing_at : Ground → List Pending → List TCase → List Task → List Task
+comparing_at g (Doing (tree.Switch value cases default ss line) Chooses ∷ k) labels c = if_labelled (labels_of cases default) (todo (comparing g (record { value = value; cases = cases; default = default; body = ss }) labels) []) c
+comparing_at g _ labels c = c
+
+-- ---- structures that are copied
+-- where a byte stands on its way
+abbrev pub between : place.Spot → place.Spot → Byte → Byte
+between p q at = behind (behind at (pointer_bytes p)) (pointer_bytes q)
+
+-- the code of so many bytes, from this one on
+abbrev pub bytes_from : Byte → place.Spot → place.Spot → Byte → ℕ → ℕ → List Tree
+bytes_from one p q at i zero = []
+bytes_from one p q at i (suc left) =
+    advances (side_of p at) (side_of q (behind at (pointer_bytes p))) one i
+    ++ taken (between p q at) (side_of q (behind at (pointer_bytes p))) i ∷ [] ++ given (side_of p at) (between p q at) i ∷ [] ++ bytes_from one p q at (i + 1) left
+
+-- behind the first byte the number 1 is there by which pointers go on
+abbrev pub through_left : Root → place.Spot → place.Spot → Byte → ℕ → ℕ → List Tree
+through_left root p q at size zero = structure_row root (side_of p at) (side_of q (behind at (pointer_bytes p))) (between p q at) size
+through_left root p q at size (suc done) = bytes_from (Result root 0) p q at (suc done) (size - suc done)
+
+-- a structure of which so many bytes are copied
+abbrev pub copying : Root → place.Spot → place.Spot → Byte → ℕ → ℕ → List Tree
+copying root (Fixed to) (Fixed from) at size done = copies_from to from done (beyond 0 size - done)
+copying root p q at size done = through_left root p q at size done
+
+-- The read of a byte may be an event: then the byte is written to its way by the next step.
+abbrev pub is_seen : place.Spot → spot.Spot → Bool
+is_seen (Fixed from) at = if is_private from then false else true
+is_seen (Bit register bit) at = false
+is_seen Computed (spots.Memory (Into object offset)) = is_fixed object
+is_seen Computed at = false
+
+-- the byte of this number was read
+abbrev pub carrying : Scene → Root → place.Spot → place.Spot → Byte → ℕ → spot.Spot → value.Byte → ℕ → List Task → List Task
+carrying z root (Fixed to) (Fixed from) at size where_is byte i c = Put (behind to i) (held z byte) ∷ todo (copies_from to from (i + 1) (beyond 0 size - (i + 1))) c
+carrying z root p q at size where_is byte i c =
+    putting_if (is_seen q where_is) z (between p q at) (byte ∷ []) (todo (given (side_of p at) (between p q at) i ∷ bytes_from (Result root 0) p q at (i + 1) (size - (i + 1))) c)
+
+-- so many bytes are left; and one that was read, and so many behind it
+abbrev pub copying_at : Ground → List Pending → ℕ → List Task
+copying_at g (In (tree.StructAssign place other size line) got ∷ k) left =
+    todo (copying g.layout.root (spot_of g.layout g.copy place) (spot_of g.layout g.copy other) (Frame g.copy (base g k)) size (size - left)) (code_after g (In (tree.StructAssign place other size line) got ∷ k))
+copying_at g (Doing (tree.InitList local all line) (Items (tree.Struct offset other size) rest) ∷ k) left =
+    todo (copying g.layout.root (Fixed (behind (local_byte g local) offset)) (spot_of g.layout g.copy other) (first g) size (size - left)) (code_after g (Doing (tree.InitList local all line) (Items (tree.Struct offset other size) rest) ∷ k))
+copying_at g k left = code_after g k
+
+abbrev pub carrying_at : Scene → Ground → List Pending → spot.Spot → value.Byte → ℕ → List Task
+carrying_at z g (In (tree.StructAssign place other size line) got ∷ k) from byte left =
+    carrying z g.layout.root (spot_of g.layout g.copy place) (spot_of g.layout g.copy other) (Frame g.copy (base g k)) size from byte (size - suc left) (code_after g (In (tree.StructAssign place other size line) got ∷ k))
+carrying_at z g (Doing (tree.InitList local all line) (Items (tree.Struct offset other size) rest) ∷ k) from byte left =
+    carrying z g.layout.root (Fixed (behind (local_byte g local) offset)) (spot_of g.layout g.copy other) (first g) size from byte (size - suc left) (code_after g (Doing (tree.InitList local all line) (Items (tree.Struct offset other size) rest) ∷ k))
+carrying_at z g k from byte left = code_after g k
 
 -- ---- where byte code stands
 -- A function that is left is left in byte code too.
@@ -415,19 +615,24 @@ code_at z g (Found spot) k = code_after g k
 code_at z g (Run t) k = todo (stmt_code g (jumps k) t) (code_after g k)
 code_at z g Past k = code_after g k
 code_at z g (Fetch spot read) k = reading_at z g k spot read
+code_at z g (Skim spot left byte) k = reading_at z g k spot (skimmed (skim_count g k - left) byte)
 code_at z g (Write spot v done) k = writing_at z g k spot done
 code_at z g (BitPut register number v old) k = PutBack register (with_bit number (lowest_bit v) old) ∷ Join ∷ code_after g k
+code_at z g (Spell spot text left) k = spelling_at g k left (code_after g k)
+code_at z g (Blank at left) k = blanking_at g k at left (code_after g k)
+code_at z g (CopyRead to from left) k = copying_at g k left
+code_at z g (CopyWrite to from byte left) k = carrying_at z g k from byte left
 code_at z g Calls k = code_after g k
 code_at z g (Leaves v) k = code_left z k
+code_at z g (Compares v labels) k = comparing_at g k labels (code_after g k)
 code_at z g Done k = Over ∷ []
-code_at z g _ k = code_after g k
 
 abbrev pub stack_after : Scene → Ground → List Pending → List Waiting
 stack_after z g [] = []
 stack_after z g (In e got ∷ k) = stack_after z g k
 stack_after z g (To place ∷ k) = stack_after z g k
-stack_after z g (Doing t stage ∷ k) = stack_doing g t stage (code_after g k) (stack_after z g k)
-stack_after z g (Before ss ∷ k) = stack_after z g k
+stack_after z g (Doing t stage ∷ k) = stack_doing g (jumps k) t stage (code_after g k) (stack_after z g k)
+stack_after z g (Before ss ∷ k) = stacked (inner_loops g (jumps k) (switch_on k) ss) (stack_after z g k)
 stack_after z g (Returns d ∷ k) = InCall (number z d) (code_after (ground_in z d) k) ∷ stack_after z (ground_in z d) k
 stack_after z g (Resumes d x ∷ k) = InHandler (number z d) None (code_at z (ground_in z d) x k) ∷ stack_after z (ground_in z d) k
 

@@ -18,6 +18,7 @@ use Rattle.core_code.specs.declared.code.Byte.TheVariants.{Frame}
 use Rattle.core_code.specs.declared.code.Byte.{Byte}
 use Rattle.lower_expr.specs.Bytes.{number_type}
 use Rattle.lower_expr.specs.Rows.{widened, widened_number, wider}
+use Rattle.lower_trace.proofs.Costs.{either}
 use Rattle.lower_trace.proofs.Beginnings.{Follow, rests}
 use Rattle.lower_trace.proofs.CodeLeft.{Scene, base, code_after, core_in, ground_in, held, number, source_in, stack_after, todo, wanted}
 use Rattle.lower_trace.proofs.Computing.{widened_given}
@@ -116,7 +117,7 @@ pub record Converted (z : Scene) (cp : CopyOf) (k : List Pending) (from to : ℕ
 
 -- a number becomes one of another type
 number_case : (z : Scene) (laws : SceneLaws z) (operand : Expression) (to : IntTy) (line : ℕ) (x : Quantity) (more : Bool) (k : List Pending) (cp : CopyOf) (l : source.Memory) (w : World value.Byte) (c : Machine) → nat_lt (bytes_of x.ty) (bytes_of to) ≡ more → Converted z cp k (bytes_of x.ty) (bytes_of to) → type_of operand ≡ types.Int x.ty → IsInRange x.ty x.number → is_due (arrived z.outside w) ≡ false
-    → Mirrors z (state cp (Value (datum.Number x)) (In (tree.Convert operand (types.Int to) line) Nothing ∷ k) l w) c → Comes (core_in z) (Mirrors z (state cp (Value (datum.Number (cut_to to x.number))) k l (arrived z.outside w))) 24 0 c
+    → Mirrors z (state cp (Value (datum.Number x)) (In (tree.Convert operand (types.Int to) line) Nothing ∷ k) l w) c → Comes (core_in z) (Mirrors z (state cp (Value (datum.Number (cut_to to x.number))) k l (arrived z.outside w))) (either more 24 0) 0 c
 unfolding converted
 number_case z laws operand to line x true k cp l w c e room type xr due h =
     comes_within (core_in z) (Mirrors z (state cp (Value (datum.Number (cut_to to x.number))) k l (arrived z.outside w))) 24 1 24 0 c
@@ -126,7 +127,7 @@ number_case z laws operand to line x false k cp l w c e room type xr due h =
     let g = ground_in z cp in
     let at = Frame g.copy (base g k) in
     let le = not_less (bytes_of x.ty) (bytes_of to) e in
-    comes_within (core_in z) (Mirrors z (state cp (Value (datum.Number (cut_to to x.number))) k l (arrived z.outside w))) 0 0 24 0 c
+    comes_within (core_in z) (Mirrors z (state cp (Value (datum.Number (cut_to to x.number))) k l (arrived z.outside w))) 0 0 0 0 c
     (convert_kept z operand (types.Int to) line (datum.Number x) (datum.Number (cut_to to x.number)) k cp l w c
     (ap (λ t. todo (widened t (types.Int to) at) (code_after g k)) type ∙ ap (λ ts. todo ts (code_after g k)) (not_wider x.ty to at e))
     le
@@ -165,7 +166,7 @@ null_byte : (z : Scene) (ty : IntTy) (x i : ℕ) → x ≡ 0 → held z (values.
 null_byte z ty x i e = ap (λ y. held z (values.Number y)) e
 
 null_case : (z : Scene) (laws : SceneLaws z) (operand : Expression) (row line : ℕ) (x : Quantity) (more : Bool) (k : List Pending) (cp : CopyOf) (l : source.Memory) (w : World value.Byte) (c : Machine) → nat_lt (bytes_of x.ty) 2 ≡ more → x.number ≡ pos 0 → Converted z cp k (bytes_of x.ty) 2 → type_of operand ≡ types.Int x.ty → IsInRange x.ty x.number → is_due (arrived z.outside w) ≡ false
-    → Mirrors z (state cp (Value (datum.Number x)) (In (tree.Convert operand (types.Pointer row) line) Nothing ∷ k) l w) c → Comes (core_in z) (Mirrors z (state cp (Value (datum.Pointer Null)) k l (arrived z.outside w))) 24 0 c
+    → Mirrors z (state cp (Value (datum.Number x)) (In (tree.Convert operand (types.Pointer row) line) Nothing ∷ k) l w) c → Comes (core_in z) (Mirrors z (state cp (Value (datum.Pointer Null)) k l (arrived z.outside w))) (either more 24 0) 0 c
 unfolding active
 null_case z laws operand row line x true k cp l w c e zero room type xr due h =
     let g = ground_in z cp in
@@ -184,7 +185,7 @@ null_case z laws operand row line x false k cp l w c e zero room type xr due h =
     let g = ground_in z cp in
     let at = Frame g.copy (base g k) in
     let le = not_less (bytes_of x.ty) 2 e in
-    comes_within (core_in z) (Mirrors z (state cp (Value (datum.Pointer Null)) k l (arrived z.outside w))) 0 0 24 0 c
+    comes_within (core_in z) (Mirrors z (state cp (Value (datum.Pointer Null)) k l (arrived z.outside w))) 0 0 0 0 c
     (convert_kept z operand (types.Pointer row) line (datum.Number x) (datum.Pointer Null) k cp l w c
     (ap (λ t. todo (widened t (types.Pointer row) at) (code_after g k)) type ∙ ap (λ ts. todo ts (code_after g k)) (not_wider x.ty int.UInt at e))
     le
@@ -241,10 +242,10 @@ to_bytes (types.Pointer row) = 2
 to_bytes _ = 0
 
 pub convert_given : (z : Scene) (laws : SceneLaws z) (operand : Expression) (ty : Ty) (line : ℕ) (v : Datum) (k : List Pending) (cp : CopyOf) (l : source.Memory) (w : World value.Byte) (c : Machine) → Converted z cp k (byte_count v) (to_bytes ty) → HasType z.program (type_of operand) v → IsNullFor ty v → is_due (arrived z.outside w) ≡ false
-    → Mirrors z (state cp (Value v) (In (tree.Convert operand ty line) Nothing ∷ k) l w) c → Follow z 24 0 c (take_in (source_in z) (tree.Convert operand ty line) Nothing v k cp l (arrived z.outside w))
+    → Mirrors z (state cp (Value v) (In (tree.Convert operand ty line) Nothing ∷ k) l w) c → Follow z (either (nat_lt (byte_count v) (to_bytes ty)) 24 0) 0 c (take_in (source_in z) (tree.Convert operand ty line) Nothing v k cp l (arrived z.outside w))
 unfolding converted
 convert_given z laws operand types.Void line v k cp l w c room t null due h =
-    comes_within (core_in z) (Mirrors z (state cp (Value datum.Missing) k l (arrived z.outside w))) 0 0 24 0 c
+    comes_within (core_in z) (Mirrors z (state cp (Value datum.Missing) k l (arrived z.outside w))) 0 0 (either (nat_lt (byte_count v) 0) 24 0) 0 c
     (convert_kept z operand types.Void line v datum.Missing k cp l w c (ap (λ ts. todo ts (code_after (ground_in z cp) k)) (none_wider (number_type (type_of operand)) (Frame (ground_in z cp).copy (base (ground_in z cp) k)))) (omega arith) (λ i lt. absurd (omega arith)) h)
     (omega arith) (omega arith)
 convert_given z laws operand (types.Int to) line (datum.Number x) k cp l w c room t null due h = number_case z laws operand to line x (nat_lt (bytes_of x.ty) (bytes_of to)) k cp l w c refl room t.0 t.1 due h
@@ -252,7 +253,7 @@ convert_given z laws operand (types.Int to) line (datum.Pointer x) k cp l w c ro
 convert_given z laws operand (types.Int to) line datum.Missing k cp l w c room t null due h = tt
 convert_given z laws operand (types.Pointer row) line (datum.Number x) k cp l w c room t null due h = null_case z laws operand row line x (nat_lt (bytes_of x.ty) 2) k cp l w c refl null room t.0 t.1 due h
 convert_given z laws operand (types.Pointer row) line (datum.Pointer x) k cp l w c room t null due h =
-    comes_within (core_in z) (Mirrors z (state cp (Value (datum.Pointer x)) k l (arrived z.outside w))) 0 0 24 0 c
+    comes_within (core_in z) (Mirrors z (state cp (Value (datum.Pointer x)) k l (arrived z.outside w))) 0 0 (either (nat_lt 2 2) 24 0) 0 c
     (convert_kept z operand (types.Pointer row) line (datum.Pointer x) (datum.Pointer x) k cp l w c (ap (λ o. todo (widened_number o (Some int.UInt) (Frame (ground_in z cp).copy (base (ground_in z cp) k))) (code_after (ground_in z cp) k)) (pointer_is (type_of operand) t.0)) (omega arith) (λ i lt. refl) h)
     (omega arith) (omega arith)
 convert_given z laws operand (types.Pointer row) line datum.Missing k cp l w c room t null due h = tt

@@ -14,6 +14,8 @@ use Rattle.lower_expr.specs.Bytes.{beyond}
 use Rattle.lower_expr.specs.Layout.{place_width, width}
 use Rattle.lower_expr.specs.Spots.{pointer_bytes, spot_of}
 use Rattle.lower_expr.specs.declared.places.Spot.TheVariants.{Fixed}
+use Rattle.src_rules.specs.Runs.{one_if}
+use Rattle.lower_trace.proofs.Costs.{either, either_within}
 use Rattle.lower_trace.proofs.Beginnings.{Follow}
 use Rattle.lower_trace.proofs.CodeLeft.{Scene, above, base, code_after, core_in, ground_in, kept_value, number, source_in, stack_after, todo}
 use Rattle.lower_trace.proofs.Converting.{not_less}
@@ -74,29 +76,32 @@ module _ (z : Scene) (laws : SceneLaws z) (cp : CopyOf) (k : List Pending) (l : 
     (rest : r ≡ code_after (ground_in z cp) k') (stack : stack_after z (ground_in z cp) k ≡ stack_after z (ground_in z cp) k') (based : base (ground_in z cp) k' ≡ to) (holds : (m : Memory) → Holds z (ground_in z cp) k m → Holds z (ground_in z cp) k' m)
     (live : (at : spot.Spot) (read : List value.Byte) (v : Datum) → active cp (Fetch at read) k ≡ active cp (Value v) k') (ends : (v : Datum) (w : World value.Byte) → fetched v k cp l w ≡ goes cp (Value v) k' l w) where
   fetch_case : (more : Bool) (read : List value.Byte) (w : World value.Byte) (c : Machine) → nat_lt (length read) (type_bytes z.program.sizes ty) ≡ more → length read ≤ count → AreRead z.program ty [] read → is_due (arrived z.outside w) ≡ false
-      → Mirrors z (state cp (Fetch (stepped (length read) start) read) k l w) c → Follow z 6 0 c (fetch_as ty (source_in z) (stepped (length read) start) read k cp l (arrived z.outside w))
+      → Mirrors z (state cp (Fetch (stepped (length read) start) read) k l w) c → Follow z (either more 6 3) (one_if more) c (fetch_as ty (source_in z) (stepped (length read) start) read k cp l (arrived z.outside w))
   fetch_case true read w c lt le are due h =
       let at = stepped (length read) start in
       let less : length read < count = let q = lt_of (length read) (type_bytes z.program.sizes ty) lt in omega arith in
       rw lt
-      (follow_within z 6 1 6 0 c _ (fetch_fixed z laws cp k l from to count pointer r reads around room start (fits_behind ty read) read (line_at k) w c is own one less due h) (omega arith) (omega arith))
+      (fetch_fixed z laws cp k l from to count pointer r reads around room start (fits_behind ty read) read (line_at k) w c is own one less due h)
   fetch_case false read w c lt le are due h =
       let at = stepped (length read) start in
       let all : length read ≡ type_bytes z.program.sizes ty = let q = not_less (length read) (type_bytes z.program.sizes ty) lt in omega arith in
       let v = value_from ty read in
       let few = value_size z.program.sizes ty read in
       rw (lt, ends v (arrived z.outside w))
-      (comes_within (core_in z) (Mirrors z (state cp (Value v) k' l (arrived z.outside w))) 3 0 6 0 c
       (fixed_done z laws cp k l from to count pointer r reads around at read v k' w c (omega arith) room (omega arith)
       (λ i lt2. value_read_back z ty read are all i lt2)
       rest stack based holds (live at read v) due (is_private from) refl h)
-      (omega arith) (omega arith))
 
+  pub fixed_fetched : (read : List value.Byte) (w : World value.Byte) (c : Machine) → length read ≤ count → AreRead z.program ty [] read → is_due (arrived z.outside w) ≡ false
+      → Mirrors z (state cp (Fetch (stepped (length read) start) read) k l w) c → Follow z (either (nat_lt (length read) (type_bytes z.program.sizes ty)) 6 3) (one_if (nat_lt (length read) (type_bytes z.program.sizes ty))) c (fetch (source_in z) (stepped (length read) start) read k cp l (arrived z.outside w))
+  fixed_fetched read w c le are due h =
+      subst (λ t. Follow z (either (nat_lt (length read) (type_bytes z.program.sizes ty)) 6 3) (one_if (nat_lt (length read) (type_bytes z.program.sizes ty))) c (fetch_as t (source_in z) (stepped (length read) start) read k cp l (arrived z.outside w))) (sym type_is)
+      (fetch_case (nat_lt (length read) (type_bytes z.program.sizes ty)) read w c refl le are due h)
+
+  -- the same within one bound
   pub fixed_fetch : (read : List value.Byte) (w : World value.Byte) (c : Machine) → length read ≤ count → AreRead z.program ty [] read → is_due (arrived z.outside w) ≡ false
       → Mirrors z (state cp (Fetch (stepped (length read) start) read) k l w) c → Follow z 6 0 c (fetch (source_in z) (stepped (length read) start) read k cp l (arrived z.outside w))
-  fixed_fetch read w c le are due h =
-      subst (λ t. Follow z 6 0 c (fetch_as t (source_in z) (stepped (length read) start) read k cp l (arrived z.outside w))) (sym type_is)
-      (fetch_case (nat_lt (length read) (type_bytes z.program.sizes ty)) read w c refl le are due h)
+  fixed_fetch read w c le are due h = follow_within z (either (nat_lt (length read) (type_bytes z.program.sizes ty)) 6 3) (one_if (nat_lt (length read) (type_bytes z.program.sizes ty))) 6 0 c _ (fixed_fetched read w c le are due h) (either_within (nat_lt (length read) (type_bytes z.program.sizes ty)) 6 3 6 (omega arith) (omega arith)) (omega arith)
 
 -- What a node needs that reads or writes a fixed place of so many bytes.
 pub record FixedPlace (z : Scene) (cp : CopyOf) (sought : Place) (start : spot.Spot) (from : Byte) (count : ℕ) : Type 0 where
@@ -110,7 +115,7 @@ module _ (z : Scene) (laws : SceneLaws z) (cp : CopyOf) (l : source.Memory) wher
   pub read_fetch : (sought : Place) (ty : Ty) (line : ℕ) (start : spot.Spot) (from : Byte) (k : List Pending) (read : List value.Byte) (w : World value.Byte) (c : Machine) → FixedPlace z cp sought start from (type_bytes z.program.sizes ty) → Around z cp (In (tree.Read sought ty line) (At start) ∷ k)
       → width (ground_in z cp).layout ty ≡ type_bytes z.program.sizes ty → base (ground_in z cp) k ≤ 96 → base (ground_in z cp) k + type_bytes z.program.sizes ty ≤ (core_in z).program.frame_bytes (number z cp) → length read ≤ type_bytes z.program.sizes ty → AreRead z.program ty [] read → is_due (arrived z.outside w) ≡ false
       → Mirrors z (state cp (Fetch (stepped (length read) start) read) (In (tree.Read sought ty line) (At start) ∷ k) l w) c
-      → Follow z 6 0 c (fetch (source_in z) (stepped (length read) start) read (In (tree.Read sought ty line) (At start) ∷ k) cp l (arrived z.outside w))
+      → Follow z (either (nat_lt (length read) (type_bytes z.program.sizes ty)) 6 3) (one_if (nat_lt (length read) (type_bytes z.program.sizes ty))) c (fetch (source_in z) (stepped (length read) start) read (In (tree.Read sought ty line) (At start) ∷ k) cp l (arrived z.outside w))
   unfolding active
   read_fetch sought ty line start from k read w c p around wide low room le are due h =
       let g = ground_in z cp in
@@ -119,7 +124,7 @@ module _ (z : Scene) (laws : SceneLaws z) (cp : CopyOf) (l : source.Memory) wher
       let e = tree.Read sought ty line in
       let at_b : above g b e (At start) ≡ b = ap (λ y. beyond b (pointer_bytes y)) p.spot ∙ beyond_is b 0 (omega arith) ∙ (omega arith) in
       let is : at_byte z start ≡ Some from = subst (λ y. IsAt z g.copy b y start c.memory) p.spot h.holds.0 in
-      fixed_fetch z laws cp (In e (At start) ∷ k) l from (above g b e (At start)) (width g.layout ty) (Frame g.copy b) (code_after g (In e (At start) ∷ k)) (reads_read z g sought ty line start k (Fixed from) p.spot) around (omega arith)
+      fixed_fetched z laws cp (In e (At start) ∷ k) l from (above g b e (At start)) (width g.layout ty) (Frame g.copy b) (code_after g (In e (At start) ∷ k)) (reads_read z g sought ty line start k (Fixed from) p.spot) around (omega arith)
       k ty start is (own_spot z cp g.layout g.copy sought from start p.spot around.reached p.there p.found) (λ a q. wide ∙ p.one a q) wide refl
       (ap (λ y. todo (kept_value y (Frame g.copy b) (width g.layout ty)) (code_after g k)) p.spot)
       refl (sym at_b) (λ m d. d.1) (λ at r v. refl) (λ v w2. refl) read w c (omega arith) are due h
@@ -128,7 +133,7 @@ module _ (z : Scene) (laws : SceneLaws z) (cp : CopyOf) (l : source.Memory) wher
   pub update_fetch : (op : BinOp) (sought : Place) (right : Expression) (operation : Ty) (size : ℕ) (ty : Ty) (line : ℕ) (start : spot.Spot) (u : Datum) (from : Byte) (k : List Pending) (read : List value.Byte) (w : World value.Byte) (c : Machine) → FixedPlace z cp sought start from (type_bytes z.program.sizes ty) → Around z cp (In (tree.Update op sought right operation size ty line) (AtWith start u) ∷ k)
       → place_width (ground_in z cp).layout sought ≡ type_bytes z.program.sizes ty → above (ground_in z cp) (base (ground_in z cp) k) (tree.Update op sought right operation size ty line) (AtWith start u) + type_bytes z.program.sizes ty ≤ (core_in z).program.frame_bytes (number z cp) → length read ≤ type_bytes z.program.sizes ty → AreRead z.program ty [] read → is_due (arrived z.outside w) ≡ false
       → Mirrors z (state cp (Fetch (stepped (length read) start) read) (In (tree.Update op sought right operation size ty line) (AtWith start u) ∷ k) l w) c
-      → Follow z 6 0 c (fetch (source_in z) (stepped (length read) start) read (In (tree.Update op sought right operation size ty line) (AtWith start u) ∷ k) cp l (arrived z.outside w))
+      → Follow z (either (nat_lt (length read) (type_bytes z.program.sizes ty)) 6 3) (one_if (nat_lt (length read) (type_bytes z.program.sizes ty))) c (fetch (source_in z) (stepped (length read) start) read (In (tree.Update op sought right operation size ty line) (AtWith start u) ∷ k) cp l (arrived z.outside w))
   unfolding active
   update_fetch op sought right operation size ty line start u from k read w c p around wide room le are due h =
       let g = ground_in z cp in
@@ -136,14 +141,14 @@ module _ (z : Scene) (laws : SceneLaws z) (cp : CopyOf) (l : source.Memory) wher
       let e = tree.Update op sought right operation size ty line in
       let f = In e (AtWith start u) ∷ k in
       let is : at_byte z start ≡ Some from = subst (λ y. IsAt z g.copy b y start c.memory) p.spot h.holds.0.0 in
-      fixed_fetch z laws cp f l from (above g b e (AtWith start u)) (place_width g.layout sought) (Frame g.copy b) (code_after g f) (reads_update z g op sought right operation size ty line start u k (Fixed from) p.spot) around (omega arith)
+      fixed_fetched z laws cp f l from (above g b e (AtWith start u)) (place_width g.layout sought) (Frame g.copy b) (code_after g f) (reads_update z g op sought right operation size ty line start u k (Fixed from) p.spot) around (omega arith)
       f ty start is (own_spot z cp g.layout g.copy sought from start p.spot around.reached p.there p.found) (λ a q. wide ∙ p.one a q) wide refl
       refl refl refl (λ m d. d) (λ at r v. refl) (λ v w2. refl) read w c (omega arith) are due h
 
   pub step_fetch : (op : StepOp) (sought : Place) (operation : Ty) (size : ℕ) (ty : Ty) (line : ℕ) (start : spot.Spot) (from : Byte) (k : List Pending) (read : List value.Byte) (w : World value.Byte) (c : Machine) → FixedPlace z cp sought start from (type_bytes z.program.sizes ty) → Around z cp (In (tree.Step op sought operation size ty line) (At start) ∷ k)
       → place_width (ground_in z cp).layout sought ≡ type_bytes z.program.sizes ty → above (ground_in z cp) (base (ground_in z cp) k) (tree.Step op sought operation size ty line) (At start) + type_bytes z.program.sizes ty ≤ (core_in z).program.frame_bytes (number z cp) → length read ≤ type_bytes z.program.sizes ty → AreRead z.program ty [] read → is_due (arrived z.outside w) ≡ false
       → Mirrors z (state cp (Fetch (stepped (length read) start) read) (In (tree.Step op sought operation size ty line) (At start) ∷ k) l w) c
-      → Follow z 6 0 c (fetch (source_in z) (stepped (length read) start) read (In (tree.Step op sought operation size ty line) (At start) ∷ k) cp l (arrived z.outside w))
+      → Follow z (either (nat_lt (length read) (type_bytes z.program.sizes ty)) 6 3) (one_if (nat_lt (length read) (type_bytes z.program.sizes ty))) c (fetch (source_in z) (stepped (length read) start) read (In (tree.Step op sought operation size ty line) (At start) ∷ k) cp l (arrived z.outside w))
   unfolding active
   step_fetch op sought operation size ty line start from k read w c p around wide room le are due h =
       let g = ground_in z cp in
@@ -151,6 +156,6 @@ module _ (z : Scene) (laws : SceneLaws z) (cp : CopyOf) (l : source.Memory) wher
       let e = tree.Step op sought operation size ty line in
       let f = In e (At start) ∷ k in
       let is : at_byte z start ≡ Some from = subst (λ y. IsAt z g.copy b y start c.memory) p.spot h.holds.0.0 in
-      fixed_fetch z laws cp f l from (above g b e (At start)) (place_width g.layout sought) (Frame g.copy b) (code_after g f) (reads_step z g op sought operation size ty line start k (Fixed from) p.spot) around (omega arith)
+      fixed_fetched z laws cp f l from (above g b e (At start)) (place_width g.layout sought) (Frame g.copy b) (code_after g f) (reads_step z g op sought operation size ty line start k (Fixed from) p.spot) around (omega arith)
       f ty start is (own_spot z cp g.layout g.copy sought from start p.spot around.reached p.there p.found) (λ a q. wide ∙ p.one a q) wide refl
       refl refl refl (λ m d. d) (λ at r v. refl) (λ v w2. refl) read w c (omega arith) are due h

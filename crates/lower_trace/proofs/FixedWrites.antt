@@ -7,6 +7,8 @@ use Rattle.core_code.specs.declared.code.Byte.TheVariants.{Device, Frame, Static
 use Rattle.core_code.specs.declared.code.Byte.{Byte}
 use Rattle.lower_expr.specs.Bytes as lower
 use Rattle.lower_expr.specs.Puts.{copies}
+use Rattle.src_rules.specs.Runs.{one_if}
+use Rattle.lower_trace.proofs.Costs.{either, either_within}
 use Rattle.lower_trace.proofs.Assigning.{store_static, store_variable}
 use Rattle.lower_trace.proofs.Beginnings.{Follow}
 use Rattle.lower_trace.proofs.CodeLeft.{Scene, base, copies_from, core_in, ground_in, number, source_in, stored_at, todo, writing_at}
@@ -109,23 +111,30 @@ module _ (z : Scene) (laws : SceneLaws z) (cp : CopyOf) (k : List Pending) (l : 
   bytes_written (spots.Device a) v done is = refl
   bytes_written (spots.Bit register bit) v done is = absurd (cc)
 
-  write_case : (more : Bool) (start : spot.Spot) (v : Datum) (done x : ℕ) (w : World value.Byte) (c : Machine) → nat_lt done (byte_count v) ≡ more → at_byte z start ≡ Some X → IsOwnSpot z cp start → IsOpen z start → IsFor start v → ((a : ℕ) → start ≡ spots.Device a → count ≡ 1) → byte_count v ≡ count → 6 ≤ x → is_due (arrived z.outside w) ≡ false
+  write_case : (more : Bool) (start : spot.Spot) (v : Datum) (done x : ℕ) (w : World value.Byte) (c : Machine) → nat_lt done (byte_count v) ≡ more → at_byte z start ≡ Some X → IsOwnSpot z cp start → IsOpen z start → IsFor start v → ((a : ℕ) → start ≡ spots.Device a → count ≡ 1) → byte_count v ≡ count → is_due (arrived z.outside w) ≡ false
       → (count ≤ done → Follow z x 0 c (stored (source_in z) k cp l (arrived z.outside w)))
-      → Mirrors z (state cp (Write (stepped done start) v done) k l w) c → Follow z x 0 c (if nat_lt done (byte_count v) then write_at (source_in z) (stepped done start) v done k cp l (arrived z.outside w) else stored (source_in z) k cp l (arrived z.outside w))
-  write_case true start v done x w c lt is own open_is for one all few due ends h =
+      → Mirrors z (state cp (Write (stepped done start) v done) k l w) c → Follow z (either more 6 x) (one_if more) c (if nat_lt done (byte_count v) then write_at (source_in z) (stepped done start) v done k cp l (arrived z.outside w) else stored (source_in z) k cp l (arrived z.outside w))
+  write_case true start v done x w c lt is own open_is for one all due ends h =
       let less = lt_of done (byte_count v) lt in
-      rw lt (follow_within z 6 1 x 0 c _ (store_fixed start v done 0 w c is own open_is for one (omega arith) less due h) few (omega arith))
-  write_case false start v done x w c lt is own open_is for one all few due ends h =
+      rw lt (store_fixed start v done 0 w c is own open_is for one (omega arith) less due h)
+  write_case false start v done x w c lt is own open_is for one all due ends h =
       let le = not_less done (byte_count v) lt in
       rw lt (ends (omega arith))
 
   -- the next byte, or what follows
+  pub fixed_written : (start : spot.Spot) (v : Datum) (done x : ℕ) (w : World value.Byte) (c : Machine) → at_byte z start ≡ Some X → IsOwnSpot z cp start → IsOpen z start → IsFor start v → ((a : ℕ) → start ≡ spots.Device a → count ≡ 1) → byte_count v ≡ count → is_due (arrived z.outside w) ≡ false
+      → (count ≤ done → Follow z x 0 c (stored (source_in z) k cp l (arrived z.outside w)))
+      → Mirrors z (state cp (Write (stepped done start) v done) k l w) c → Follow z (either (nat_lt done (byte_count v)) 6 x) (one_if (nat_lt done (byte_count v))) c (write (source_in z) (stepped done start) v done k cp l (arrived z.outside w))
+  fixed_written start v done x w c is own open_is for one all due ends h =
+      subst (λ n. Follow z (either (nat_lt done (byte_count v)) 6 x) (one_if (nat_lt done (byte_count v))) c (if nat_lt done n then write_at (source_in z) (stepped done start) v done k cp l (arrived z.outside w) else stored (source_in z) k cp l (arrived z.outside w))) (sym (bytes_written start v done is))
+      (write_case (nat_lt done (byte_count v)) start v done x w c refl is own open_is for one all due ends h)
+
+  -- the same within one bound
   pub fixed_write : (start : spot.Spot) (v : Datum) (done x : ℕ) (w : World value.Byte) (c : Machine) → at_byte z start ≡ Some X → IsOwnSpot z cp start → IsOpen z start → IsFor start v → ((a : ℕ) → start ≡ spots.Device a → count ≡ 1) → byte_count v ≡ count → 6 ≤ x → is_due (arrived z.outside w) ≡ false
       → (count ≤ done → Follow z x 0 c (stored (source_in z) k cp l (arrived z.outside w)))
       → Mirrors z (state cp (Write (stepped done start) v done) k l w) c → Follow z x 0 c (write (source_in z) (stepped done start) v done k cp l (arrived z.outside w))
   fixed_write start v done x w c is own open_is for one all few due ends h =
-      subst (λ n. Follow z x 0 c (if nat_lt done n then write_at (source_in z) (stepped done start) v done k cp l (arrived z.outside w) else stored (source_in z) k cp l (arrived z.outside w))) (sym (bytes_written start v done is))
-      (write_case (nat_lt done (byte_count v)) start v done x w c refl is own open_is for one all few due ends h)
+      follow_within z (either (nat_lt done (byte_count v)) 6 x) (one_if (nat_lt done (byte_count v))) x 0 c _ (fixed_written start v done x w c is own open_is for one all due ends h) (either_within (nat_lt done (byte_count v)) 6 x x few (omega arith)) (omega arith)
 
 -- ---- bytes that are moved within the frame
 module _ (g : Setting) (T : Machine → Type 0) (n : ℕ) (a : Option ℕ) (s : List Waiting) (w : World Held) (due : is_due w ≡ false) (now : arrived g.outside w ≡ w) (small : g.program.frame_bytes n ≤ 96) where

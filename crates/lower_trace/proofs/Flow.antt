@@ -20,7 +20,7 @@ use Rattle.src_values.specs.declared.objects.Byte.TheVariants as values
 use Rattle.src_values.specs.declared.objects.CopyOf.{CopyOf}
 use Rattle.src_values.specs.declared.objects.Object as object
 use Rattle.lower_trace.proofs.Beginnings.{Follow, rests}
-use Rattle.lower_trace.proofs.CodeLeft.{Scene, held, number, ground_in, core_in, source_in, todo, arm_count, joins, code_after, code_at, stack_after, stack_at, copy_at, jumps}
+use Rattle.lower_trace.proofs.CodeLeft.{Scene, held, number, ground_in, core_in, source_in, todo, arm_count, joins, stacked, switch_on, code_before, inner_loops, code_after, code_at, stack_after, stack_at, copy_at, jumps}
 use Rattle.lower_trace.proofs.Constants.{due_below, again_below, same_below}
 use Rattle.lower_trace.proofs.Giving.{mirrors}
 use Rattle.lower_trace.proofs.Jumping.{many_then, loop_then}
@@ -77,9 +77,13 @@ module _ (z : Scene) where
       (λ d pd. many_then (core_in z) T (number z cp) None W no ag r [] (InLoop (many r) (code_after (ground_in z cp) k) ∷ stack_after z (ground_in z cp) k) m d 0 0 pd next)
 
   -- ---- statements
-  pub begin_block : (ss : Statements) (line : ℕ) (k : List Pending) (cp : CopyOf) (l : source.Memory) (w : World value.Byte) (c : Machine) → Mirrors z (state cp (Run (tree.Block ss line)) k l w) c → Follow z 0 0 c (begin (source_in z) (tree.Block ss line) k cp l (arrived z.outside w))
+  pub begin_block : (ss : Statements) (line : ℕ) (k : List Pending) (cp : CopyOf) (l : source.Memory) (w : World value.Byte) (c : Machine) → switch_on k ≡ None
+      → Mirrors z (state cp (Run (tree.Block ss line)) k l w) c → Follow z 0 0 c (begin (source_in z) (tree.Block ss line) k cp l (arrived z.outside w))
   unfolding active stmt_code
-  begin_block ss line k cp l w c h = rests z cp (Run (tree.Block ss line)) Past k (Before ss ∷ k) l l w c h refl refl refl h.agrees h.holds tt
+  begin_block ss line k cp l w c none h =
+      let g = ground_in z cp in
+      rests z cp (Run (tree.Block ss line)) Past k (Before ss ∷ k) l l w c h refl
+      (sym (ap (λ o. code_before g o ss (jumps k) (code_after g k)) none)) (sym (ap (λ o. stacked (inner_loops g (jumps k) o ss) (stack_after z g k)) none)) h.agrees h.holds tt
 
   pub begin_empty : (line : ℕ) (k : List Pending) (cp : CopyOf) (l : source.Memory) (w : World value.Byte) (c : Machine) → Mirrors z (state cp (Run (tree.Empty line)) k l w) c → Follow z 0 0 c (begin (source_in z) (tree.Empty line) k cp l (arrived z.outside w))
   unfolding active stmt_code

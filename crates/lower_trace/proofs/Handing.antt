@@ -124,7 +124,7 @@ handed_case : (z : Scene) (laws : SceneLaws z) (want : Bool) (ty : Ty) (v : Datu
     → width (ground_in z d).layout ty ≤ 4 → byte_count v ≤ width (ground_in z d).layout ty → is_due (arrived z.outside w) ≡ false
     → Agrees z (active d (Value v) k) l c.memory → Holds z (ground_in z d) k c.memory → ((i : ℕ) → i < byte_count v → c.memory (Result d.root i) ≡ held z (byte_of v i))
     → Placed (core_in z) (number z d) None (todo (copies_if want (Frame (number z d) (base (ground_in z d) k)) (Result d.root 0) (width (ground_in z d).layout ty)) (code_after (ground_in z d) k)) (stack_after z (ground_in z d) k) c.memory (world_as (held z) (arrived z.outside w)) c
-    → Comes (core_in z) (Mirrors z (state d (Value v) k l (arrived z.outside w))) 24 0 c
+    → Comes (core_in z) (Mirrors z (state d (Value v) k l (arrived z.outside w))) (6 * width (ground_in z d).layout ty) 0 c
 handed_case z laws true ty v d k l w c is around reached room few count due agrees holds there p =
     let n = number z d in
     let g = ground_in z d in
@@ -132,7 +132,7 @@ handed_case z laws true ty v d k l w c is around reached room few count due agre
     let x = width g.layout ty in
     let T = Mirrors z (state d (Value v) k l (arrived z.outside w)) in
     let W = world_as (held z) (arrived z.outside w) in
-    comes_within (core_in z) T (6 * x + 0) (x + 0) 24 0 c
+    comes_within (core_in z) T (6 * x + 0) (x + 0) (6 * x) 0 c
     (taken_then (core_in z) T n None (stack_after z g k) W (due_below z (arrived z.outside w) due) (again_below z w) d.root (laws.roots d reached) (laws.small n) x b (code_after g k) c.memory c 0 0 few room p
     (λ e pe. comes_here (core_in z) T e
     (gives z laws d k l (arrived z.outside w) c.memory x (λ i. c.memory (Result d.root i)) v e around count there
@@ -141,14 +141,14 @@ handed_case z laws true ty v d k l w c is around reached room few count due agre
     (omega arith) (omega arith)
 handed_case z laws false ty v d k l w c is around reached room few count due agrees holds there p =
     let T = Mirrors z (state d (Value v) k l (arrived z.outside w)) in
-    comes_within (core_in z) T 0 0 24 0 c
+    comes_within (core_in z) T 0 0 (6 * width (ground_in z d).layout ty) 0 c
     (arrive z d (Value v) k l w c.memory c p agrees holds (subst (λ b. HasIf b z (ground_in z d).copy (base (ground_in z d) k) v c.memory) (sym is) tt))
     (omega arith) (omega arith)
 
 pub call_handed : (z : Scene) (laws : SceneLaws z) (function : ℕ) (arguments : Expressions) (ty : Ty) (line : ℕ) (v : Datum) (d cp : CopyOf) (k : List Pending) (l : source.Memory) (w : World value.Byte) (c : Machine) → Around z d k → IsReached z.program d → base (ground_in z d) k + width (ground_in z d).layout ty ≤ (core_in z).program.frame_bytes (number z d)
     → width (ground_in z d).layout ty ≤ 4 → byte_count v ≤ width (ground_in z d).layout ty → cp.root ≡ d.root → is_due (arrived z.outside w) ≡ false
     → Mirrors z (state cp (Leaves v) (Returns d ∷ In (tree.Call function arguments ty line) Called ∷ k) l w) c
-    → Follow z 24 0 c (leave v (Returns d ∷ In (tree.Call function arguments ty line) Called ∷ k) l (arrived z.outside w))
+    → Follow z (6 * width (ground_in z d).layout ty) 0 c (leave v (Returns d ∷ In (tree.Call function arguments ty line) Called ∷ k) l (arrived z.outside w))
 unfolding active
 call_handed z laws function arguments ty line v d cp k l w c around reached room few count roots due h =
     let n = number z d in

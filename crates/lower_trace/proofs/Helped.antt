@@ -13,6 +13,7 @@ use Rattle.c_typed.specs.Trees.{Expression}
 use Rattle.c_typed.specs.Types.{is_constant, type_of}
 use Rattle.c_typed.specs.declared.types.Ty.TheVariants as types
 use Rattle.c_typed.specs.declared.types.Ty.{Ty}
+use Rattle.core_code.specs.Bytes as bytes
 use Rattle.core_code.specs.Bytes.{Held, Memory, with_bytes, without_results}
 use Rattle.core_code.specs.Cost.{binary_cost, cost_of}
 use Rattle.core_code.specs.Machine.{Machine, Setting, Task, Do as Todo, Waiting, operate}
@@ -20,7 +21,7 @@ use Rattle.core_code.specs.Operands.{fits_bytes, fits_together, is_helped, numbe
 use Rattle.core_code.specs.Tree as code
 use Rattle.core_code.specs.Values as core
 use Rattle.core_code.specs.Values.{binary_value, number_in, right_type, value_in}
-use Rattle.core_code.specs.declared.code.Byte.TheVariants.{Frame}
+use Rattle.core_code.specs.declared.code.Byte.TheVariants.{Frame, Result}
 use Rattle.lower_expr.specs.Bytes.{beyond, operation_type}
 use Rattle.lower_expr.specs.Layout.{value_width}
 use Rattle.lower_expr.specs.Lowering.{shifts_by_constant}
@@ -35,9 +36,10 @@ use Rattle.lower_trace.proofs.NumberBytes.{digits_sum, number_there, one_digit}
 use Rattle.lower_trace.proofs.Operating.{itself, value_number}
 use Rattle.lower_trace.proofs.Operations.{Comes, comes_first, comes_here, comes_within, own_frame}
 use Rattle.lower_trace.proofs.Placed.{Placed, front, least_operates, most_operates, operates}
-use Rattle.lower_trace.proofs.Returning.{Resumables, holds_frames}
-use Rattle.lower_trace.proofs.Written.{both}
+use Rattle.lower_trace.proofs.Returning.{Resumables, SameOthers, holds_frames}
+use Rattle.lower_trace.proofs.Written.{both, off}
 use Rattle.pic_world.specs.World.{World, arrived, is_due, left, world_as}
+use Rattle.pic_world.specs.Roots.{same_root}
 use Rattle.pic_world.specs.declared.Root.{Root}
 use Rattle.src_rules.specs.Giving.{answered, take_in}
 use Rattle.src_rules.specs.State.{state}
@@ -111,6 +113,10 @@ spoiled helped root m = if helped then without_results root m else m
 pub spoiled_frame : (helped : Bool) (root : Root) (m : Memory) (i y : ℕ) → spoiled helped root m (Frame i y) ≡ m (Frame i y)
 spoiled_frame true root m i y = refl
 spoiled_frame false root m i y = refl
+
+pub spoiled_others : (helped : Bool) (root q : Root) (m : Memory) → root ≡ q → SameOthers q m (spoiled helped root m)
+spoiled_others true root q m e r i f = off (same_root r root) bytes.Unset (m (Result r i)) (ap (same_root r) e ∙ f)
+spoiled_others false root q m e r i f = refl
 
 pub spoiled_object : (z : Scene) (helped : Bool) (root : Root) (m : Memory) (o : object.Object) (at : ℕ) → spoiled helped root m (core_byte z o at) ≡ m (core_byte z o at)
 spoiled_object z true root m (objects.Fixed i) at = refl
@@ -204,7 +210,7 @@ outcome_type false op x y v e = ap (λ q. q.ty) (sym (some_quantity (value_of op
 
 module _ (z : Scene) (laws : SceneLaws z) where
   -- two numbers, of which the right one stands at `at`
-  answer_case : (bad : Option Undef) (o : Option Quantity) (op : BinOp) (left right : Expression) (ty : Ty) (line : ℕ) (x y : Quantity) (at : ℕ) (k : List Pending) (cp : CopyOf) (l : source.Memory) (w : World value.Byte) (c : Machine) → outcome op x y ≡ o → (bad ≡ None → RightAs z op x y (number z cp) at c.memory) → Around z cp k → Resumables k → MayHelp op → nat_lt 1 (bytes_of x.ty) ≡ true → IsInRange x.ty x.number → (core_in z).program.helped (number z cp) op x.ty ≡ true
+  answer_case : (bad : Option Undef) (o : Option Quantity) (op : BinOp) (left right : Expression) (ty : Ty) (line : ℕ) (x y : Quantity) (at : ℕ) (k : List Pending) (cp : CopyOf) (l : source.Memory) (w : World value.Byte) (c : Machine) → outcome op x y ≡ o → (bad ≡ None → RightAs z op x y (number z cp) at c.memory) → Around z cp k → Resumables cp.root k → MayHelp op → nat_lt 1 (bytes_of x.ty) ≡ true → IsInRange x.ty x.number → (core_in z).program.helped (number z cp) op x.ty ≡ true
       → base (ground_in z cp) k + bytes_of x.ty ≤ (core_in z).program.frame_bytes (number z cp) → at + bytes_of (right_type op x.ty) ≤ (core_in z).program.frame_bytes (number z cp) → is_due (arrived z.outside w) ≡ false
       → todo (binary_row (shifts_by_constant op right) op (operation_type (type_of left)) (Frame (ground_in z cp).copy (base (ground_in z cp) k)) (Frame (ground_in z cp).copy (beyond (base (ground_in z cp) k) (value_width (ground_in z cp).layout left))) (constant_bits right) (value_width (ground_in z cp).layout right)) (code_after (ground_in z cp) k)
       ≡ Todo [] (code.Binary op x.ty (Frame (number z cp) (base (ground_in z cp) k)) (Frame (number z cp) (base (ground_in z cp) k)) (Frame (number z cp) at)) ∷ code_after (ground_in z cp) k
@@ -230,7 +236,7 @@ module _ (z : Scene) (laws : SceneLaws z) where
       (gives z laws cp k l (arrived z.outside w) (spoiled helped ((core_in z).program.root n) c.memory) (bytes_of v.ty) (core.byte_of (core.Number v)) (datum.Number v) d around (omega arith) (λ j lt. refl)
       (subst (λ f. Placed (core_in z) n None (code_after g k) (stack_after z g k) (with_bytes (spoiled helped ((core_in z).program.root n) c.memory) (Frame n b) (bytes_of v.ty) (core.byte_of (core.Number v))) f d) (same_below z w) pd)
       (agrees_same z (active cp (Value (datum.Number v)) k) l c.memory (spoiled helped ((core_in z).program.root n) c.memory) (λ o t th lt. spoiled_object z helped ((core_in z).program.root n) c.memory o t) h.agrees)
-      (holds_frames z cp k c.memory (spoiled helped ((core_in z).program.root n) c.memory) resumables (λ i t. spoiled_frame helped ((core_in z).program.root n) c.memory i t) h.holds.1))))
+      (holds_frames z cp.root cp k c.memory (spoiled helped ((core_in z).program.root n) c.memory) resumables (λ i t. spoiled_frame helped ((core_in z).program.root n) c.memory i t) (spoiled_others helped ((core_in z).program.root n) cp.root c.memory (laws.roots cp around.reached)) h.holds.1))))
       (omega arith) (omega arith)
     where
       value_type : (v : Quantity) → outcome op x y ≡ Some v → v.ty ≡ numbers.type_of op x.ty
@@ -420,7 +426,7 @@ module _ (z : Scene) (laws : SceneLaws z) where
       ∙ ap (λ f. Todo [] (code.Binary op x.ty (Frame g.copy b) (Frame g.copy b) (Frame g.copy f)) ∷ code_after g k) second
       ∙ ap (λ f. Todo [] (code.Binary op x.ty (Frame f b) (Frame f b) (Frame f at)) ∷ code_after g k) (own_copy z cp)
 
-  pub product_given : (op : BinOp) (left right : Expression) (ty : Ty) (line : ℕ) (x y : Quantity) (at : ℕ) (k : List Pending) (cp : CopyOf) (l : source.Memory) (w : World value.Byte) (c : Machine) → IsProduct op → Around z cp k → Resumables k → nat_lt 1 (bytes_of x.ty) ≡ true → type_of left ≡ types.Int x.ty → y.ty ≡ x.ty → IsInRange x.ty x.number → IsInRange y.ty y.number → (core_in z).program.helped (number z cp) op x.ty ≡ true
+  pub product_given : (op : BinOp) (left right : Expression) (ty : Ty) (line : ℕ) (x y : Quantity) (at : ℕ) (k : List Pending) (cp : CopyOf) (l : source.Memory) (w : World value.Byte) (c : Machine) → IsProduct op → Around z cp k → Resumables cp.root k → nat_lt 1 (bytes_of x.ty) ≡ true → type_of left ≡ types.Int x.ty → y.ty ≡ x.ty → IsInRange x.ty x.number → IsInRange y.ty y.number → (core_in z).program.helped (number z cp) op x.ty ≡ true
       → beyond (base (ground_in z cp) k) (value_width (ground_in z cp).layout left) ≡ at → base (ground_in z cp) k + bytes_of x.ty ≤ (core_in z).program.frame_bytes (number z cp) → at + bytes_of x.ty ≤ (core_in z).program.frame_bytes (number z cp) → is_due (arrived z.outside w) ≡ false
       → Mirrors z (state cp (Value (datum.Number y)) (In (tree.Binary op left right ty line) (One (datum.Number x)) ∷ k) l w) c
       → Follow z 2138 0 c (take_in (source_in z) (tree.Binary op left right ty line) (One (datum.Number x)) (datum.Number y) k cp l (arrived z.outside w))
@@ -435,7 +441,7 @@ module _ (z : Scene) (laws : SceneLaws z) where
       (λ none. record { u = y; there = ap (λ t. value_in t c.memory (Frame n at)) (pr.0 ∙ sym yt) ∙ value_number z n at y c.memory yr at_is; alike = refl })
       around resumables (product_helps op product) two xr there room (let q = ap bytes_of pr.0 in omega arith) due (row_is op left right x at k cp plain type second) h
 
-  pub shift_given : (op : BinOp) (left right : Expression) (line : ℕ) (x y : Quantity) (at : ℕ) (k : List Pending) (cp : CopyOf) (l : source.Memory) (w : World value.Byte) (c : Machine) → Shifts op → shifts_by_constant op right ≡ false → Around z cp k → Resumables k → nat_lt 1 (bytes_of x.ty) ≡ true → type_of left ≡ types.Int x.ty → IsInRange x.ty x.number → (core_in z).program.helped (number z cp) op x.ty ≡ true
+  pub shift_given : (op : BinOp) (left right : Expression) (line : ℕ) (x y : Quantity) (at : ℕ) (k : List Pending) (cp : CopyOf) (l : source.Memory) (w : World value.Byte) (c : Machine) → Shifts op → shifts_by_constant op right ≡ false → Around z cp k → Resumables cp.root k → nat_lt 1 (bytes_of x.ty) ≡ true → type_of left ≡ types.Int x.ty → IsInRange x.ty x.number → (core_in z).program.helped (number z cp) op x.ty ≡ true
       → beyond (base (ground_in z cp) k) (value_width (ground_in z cp).layout left) ≡ at → base (ground_in z cp) k + bytes_of x.ty ≤ (core_in z).program.frame_bytes (number z cp) → at + 1 ≤ (core_in z).program.frame_bytes (number z cp) → is_due (arrived z.outside w) ≡ false
       → Mirrors z (state cp (Value (datum.Number y)) (In (tree.Binary op left right (types.Int x.ty) line) (One (datum.Number x)) ∷ k) l w) c
       → Follow z 2138 0 c (take_in (source_in z) (tree.Binary op left right (types.Int x.ty) line) (One (datum.Number x)) (datum.Number y) k cp l (arrived z.outside w))

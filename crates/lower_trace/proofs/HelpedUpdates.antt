@@ -31,7 +31,7 @@ use Rattle.lower_trace.proofs.CodeLeft.{Scene, base, code_after, core_in, ground
 use Rattle.lower_trace.proofs.Constants.{again_below, due_below}
 use Rattle.lower_trace.proofs.Flow.{arrive}
 use Rattle.lower_trace.proofs.Giving.{Around, agrees_same, placed_of, value_high}
-use Rattle.lower_trace.proofs.Helped.{IsProduct, MayHelp, RightAs, Shifts, count_small, count_there, helped_then, helped_unshared, outcome_type, product_helps, product_right, shift_bad, shift_helps, shift_right, spoiled, spoiled_frame, spoiled_object}
+use Rattle.lower_trace.proofs.Helped.{IsProduct, MayHelp, RightAs, Shifts, count_small, count_there, helped_then, helped_unshared, outcome_type, product_helps, product_right, shift_bad, shift_helps, shift_right, spoiled, spoiled_frame, spoiled_object, spoiled_others}
 use Rattle.lower_trace.proofs.Kept.{SceneLaws, at_same, bytes_small, own_copy}
 use Rattle.lower_trace.proofs.Mirrors.{HasDatum, Mirrors}
 use Rattle.lower_trace.proofs.Narrowing.{narrow_bytes}
@@ -60,7 +60,7 @@ use Rattle.std.proofs.Common.{Bool, List, None, Option, Some, [], ap, arith, fal
 -- What an update by an operator needs that a helper may compute.
 pub record Helps (z : Scene) (cp : CopyOf) (k : List Pending) (sought : Place) (left_at right_at count : ℕ) (op : BinOp) (to : IntTy) (x y : Quantity) : Type 0 where
   pub around : Around z cp k
-  pub resumable : Resumables k
+  pub resumable : Resumables cp.root k
   pub place : (place_type sought).ty ≡ types.Int x.ty
   pub wide : place_width (ground_in z cp).layout sought ≡ bytes_of x.ty
   pub range : IsInRange x.ty x.number
@@ -137,7 +137,7 @@ module _ (z : Scene) (laws : SceneLaws z) where
       (agrees_same z (active cp (Write at v 0) (In e (Stores at v) ∷ k)) l m1 m2 (λ o a th lt. spoiled_object z helped ((core_in z).program.root n) m1 o a)
       (agrees_above z laws cp (active cp (Write at v 0) (In e (Stores at v) ∷ k)) l c.memory m1 left_at p.around.reached (let q = value_high z cp k p.around in omega arith) above1 h.agrees))) (
         at_same z g.copy b s at c.memory m' (λ f ge lt. subst (λ j. m' (Frame j f) ≡ c.memory (Frame j f)) (sym (own_copy z cp)) (above2 (Frame n f) (inr (omega arith)) ∙ spoiled_frame helped ((core_in z).program.root n) m1 n f ∙ above1 (Frame n f) (inr (omega arith)))) h.holds.0.0,
-        holds_above z cp k m2 m' left_at p.around (omega arith) above2 (holds_frames z cp k m1 m2 p.resumable (λ j f. spoiled_frame helped ((core_in z).program.root n) m1 j f) (holds_above z cp k c.memory m1 left_at p.around (omega arith) above1 h.holds.1)),
+        holds_above z cp k m2 m' left_at p.around (omega arith) above2 (holds_frames z cp.root cp k m1 m2 p.resumable (λ j f. spoiled_frame helped ((core_in z).program.root n) m1 j f) (spoiled_others helped ((core_in z).program.root n) cp.root m1 (laws.roots cp p.around.reached)) (holds_above z cp k c.memory m1 left_at p.around (omega arith) above1 h.holds.1)),
       )
       (subst (λ q. HasDatum z g.copy (stored g b e) q m') (sym (first_standing at v))
       (λ j lt. ap (λ f. m' (Frame f (stored g b e + j))) (own_copy z cp) ∙ ap (λ f. m' (Frame n (f + j))) left_is ∙ bytes_there m2 n left_at (bytes_of r.ty) (core.byte_of (core.Number r)) j (omega arith) ∙ ap (λ f. held z (values.Number f)) (sym (narrow_bytes r.ty x.ty r.number j (omega arith) lt)))))))

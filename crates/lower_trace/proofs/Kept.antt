@@ -1,23 +1,23 @@
 -- What writes to temporary bytes keep.
-use Rattle.std.proofs.Common.{◌≡◌, ℕ, ◌+◌, ◌<◌, ◌≤◌, Bool, true, false, ◌&&◌, nat_eq, List, [], ◌∷◌, ◌++◌, length, Some, pos, refl, sym, ◌∙◌, subst, arith}
+use Rattle.std.proofs.Common.{◌≡◌, ℕ, suc, ◌+◌, ◌-◌, ◌<◌, ◌≤◌, Bool, true, false, ◌&&◌, nat_eq, List, [], ◌∷◌, ◌++◌, length, Some, pos, refl, sym, ◌∙◌, subst, arith}
 use Rattle.std.proofs.lemmas.Grind.{common_steps}
 use Rattle.c_ints.specs.Operators.{cut_to}
 use Rattle.c_ints.specs.Range.{bytes_of}
 use Rattle.c_ints.specs.declared.types.IntTy.{IntTy}
 use Rattle.c_ints.specs.declared.types.IntTy.TheVariants as int
 use Rattle.c_typed.specs.Trees as tree
-use Rattle.c_typed.specs.Trees.{Expression, Expressions, Place, Statement}
+use Rattle.c_typed.specs.Trees.{Expression, Expressions, Place, Item, Statement}
 use Rattle.core_code.specs.Bytes.{Memory, same_byte}
 use Rattle.core_code.specs.Machine.{static_bytes, object_bytes as core_bytes}
 use Rattle.core_code.specs.declared.code.Byte.TheVariants.{Frame, Result}
-use Rattle.lower_expr.specs.Bytes.{beyond, operation_type}
+use Rattle.lower_expr.specs.Bytes.{behind, beyond, operation_type}
 use Rattle.lower_expr.specs.Rows.{step_number}
 use Rattle.lower_expr.specs.Layout.{object_byte, width, value_width}
 use Rattle.lower_expr.specs.Lowering.{behind_pointer}
 use Rattle.lower_expr.specs.Spots.{spot_of, pointer_bytes}
 use Rattle.lower_expr.specs.declared.places.Spot as place
 use Rattle.lower_expr.specs.declared.places.Spot.TheVariants.{Fixed, Bit, Computed}
-use Rattle.lower_stmt.specs.Ground.{Ground}
+use Rattle.lower_stmt.specs.Ground.{Ground, local_byte}
 use Rattle.c_typed.specs.declared.expression.Object.{Object as Name}
 use Rattle.c_typed.specs.declared.types.Qualified.{Qualified}
 use Rattle.src_rules.specs.Parts.{IsPlaceOf}
@@ -26,7 +26,7 @@ use Rattle.src_rules.specs.Step.{copy_of}
 use Rattle.core_code.specs.Tree as code
 use Rattle.lower_stmt.specs.Jumps.{outside}
 use Rattle.lower_stmt.specs.Statements.{stmts_code}
-use Rattle.src_values.specs.Control.{Focus, Eval, Find, Holds as Value, Found, Run, Past, Fetch, Skim, Write, PutBit, CopyRead, CopyWrite, Spell, Blank, Calls, Leaves, Compares, Over, Got, One, At, AtWith, Stores, Args, Passed, Pending, In, To, Doing, Before, Returns, Resumes}
+use Rattle.src_values.specs.Control.{Focus, Eval, Find, Holds as Value, Found, Run, Past, Fetch, Skim, Write, PutBit, CopyRead, CopyWrite, Spell, Blank, Calls, Leaves, Compares, Over, Got, One, At, AtWith, Stores, Args, Passed, Stage, Items, Pending, In, To, Doing, Before, Returns, Resumes}
 use Rattle.src_values.specs.Data as datum
 use Rattle.src_values.specs.Data.{Datum}
 use Rattle.src_values.specs.Objects as objects_of
@@ -37,10 +37,11 @@ use Rattle.src_values.specs.declared.objects.CopyOf.{CopyOf}
 use Rattle.src_values.specs.declared.objects.Object as object
 use Rattle.src_values.specs.declared.objects.Object.TheVariants as objects
 use Rattle.src_values.specs.declared.objects.Spot as spot
+use Rattle.pic_world.specs.declared.Root.{Root}
 use Rattle.pic_world.specs.declared.Root.TheVariants.{Main, Isr}
 use Rattle.lower_trace.specs.Lowering.{object_as, offset_as}
 use Rattle.lower_trace.proofs.CodeLeft.{Scene, number, ground_in, core_in, wanted, base, above, stored, stored_at}
-use Rattle.lower_trace.proofs.Mirrors.{standing, core_byte, HasDatum, at_byte, IsAt, HasArguments, Waits, HasReadIn, HasReadAt, HasIf, HasValue, Holds}
+use Rattle.lower_trace.proofs.Mirrors.{standing, core_byte, HasDatum, at_byte, IsAt, HasArguments, Waits, HasReadIn, HasReadAt, HasIf, Trails, HasOne, Trail, Carries, HasCopied, HasCarried, HasCopiedAt, HasCarriedAt, lag_of, is_begun, HasValue, Holds}
 
 -- ---- what is known of a program and its copies
 pub record SceneLaws (z : Scene) : Type 0 where
@@ -108,7 +109,7 @@ Below g b (tree.Update op place value operation size ty line) (AtWith at u) =
 Below g b (tree.Update op place value operation size ty line) (Stores at v) = b + pointer_bytes (spot_of g.layout g.copy place) ≤ above g b (tree.Update op place value operation size ty line) (Stores at v)
 Below g b (tree.Step op place operation size ty line) (At at) =
     (b + pointer_bytes (spot_of g.layout g.copy place) ≤ above g b (tree.Step op place operation size ty line) (At at))
-    × (behind_pointer g.layout g.copy b place + 4 ≤ above g b (tree.Step op place operation size ty line) (At at))
+    × (behind_pointer g.layout g.copy b place + bytes_of (operation_type operation) ≤ above g b (tree.Step op place operation size ty line) (At at))
 Below g b (tree.Step op place operation size ty line) (Stores at v) =
     (b + pointer_bytes (spot_of g.layout g.copy place) ≤ above g b (tree.Step op place operation size ty line) (Stores at v))
     × (beyond (stored g b (tree.Step op place operation size ty line)) (width g.layout operation) + byte_count v ≤ above g b (tree.Step op place operation size ty line) (Stores at v))
@@ -206,8 +207,7 @@ waits_same z g b w (tree.Call function arguments ty line) (Args before more) m m
 waits_same z g b w (tree.Call function arguments ty line) (Passed values) m m' s k h = arguments_same z g b 0 arguments values (above g b (tree.Call function arguments ty line) (Passed values)) m m' s k h
 waits_same z g b w (tree.Step op place operation size ty line) (At at) m m' s k h =
     let k0 = k.0 in
-    let k1 = k.1 in
-    let few = bytes_small (operation_type operation) in (
+    let k1 = k.1 in (
       at_same z g.copy b (spot_of g.layout g.copy place) at m m' (λ y le lt. s y (omega arith)) h.0,
       datum_same z g.copy (behind_pointer g.layout g.copy b place) (datum.Number (cut_to (operation_type operation) (pos (step_number operation size)))) m m' (λ y le lt. s y (omega arith)) h.1,
     )
@@ -257,6 +257,94 @@ waits_far z g b w (tree.Call function arguments ty line) (Args before more) m m'
 waits_far z g b w (tree.Call function arguments ty line) (Passed values) m m' s h = arguments_far z g b 0 arguments values m m' s h
 waits_far z g b w _ _ m m' s h = tt
 
+-- ---- structures that are copied
+-- What a copy has is the same, if the bytes from `low` on are and the results of its root.
+trails_same : (z : Scene) (n b low : ℕ) (p : place.Spot) (at : spot.Spot) (done lag : ℕ) (m m' : Memory) → low ≤ b → ((y : ℕ) → low ≤ y → m' (Frame n y) ≡ m (Frame n y)) → Trails z n b p at done lag m → Trails z n b p at done lag m'
+trails_same z n b low (Fixed byte) at done lag m m' le s h = h
+trails_same z n b low (Bit register bit) at done lag m m' le s h = h
+trails_same z n b low Computed at done lag m m' le s h = (h.0, h.1, datum_same z n b (datum.Pointer h.0) m m' (λ y ge lt. s y (omega arith)) h.2, h.3)
+
+one_same : (one : Bool) (root : Root) (m m' : Memory) → ((i : ℕ) → m' (Result root i) ≡ m (Result root i)) → HasOne one root m → HasOne one root m'
+one_same true root m m' r h = (r 0 ∙ h.0, r 1 ∙ h.1)
+one_same false root m m' r h = tt
+
+module _ (z : Scene) (root : Root) (n b low : ℕ) (m m' : Memory) (front : low ≤ b) (second : (i : ℕ) → low ≤ beyond b i) (third : (i j : ℕ) → low ≤ beyond (beyond b i) j) (s : (y : ℕ) → low ≤ y → m' (Frame n y) ≡ m (Frame n y)) where
+  trail_same : (p q : place.Spot) (to from : spot.Spot) (done lag : ℕ) (one : Bool) → ((i : ℕ) → m' (Result root i) ≡ m (Result root i)) → Trail z root n b p q to from done lag one m → Trail z root n b p q to from done lag one m'
+  trail_same (Fixed byte) (Fixed other) to from done lag one r h = h
+  trail_same (Fixed byte) (Bit register bit) to from done lag one r h = absurd h.1
+  trail_same (Fixed byte) Computed to from done lag one r h = (h.0, trails_same z n (beyond b 0) low Computed from done lag m m' (second 0) s h.1, one_same one root m m' r h.2)
+  trail_same (Bit register bit) q to from done lag one r h = absurd h.0
+  trail_same Computed q to from done lag one r h = (trails_same z n b low Computed to done lag m m' front s h.0, trails_same z n (beyond b 2) low q from done lag m m' (second 2) s h.1, one_same one root m m' r h.2)
+
+  carries_same : (p q : place.Spot) (from : spot.Spot) (byte : value.Byte) → Carries z n b p q from byte m → Carries z n b p q from byte m'
+  carries_same (Fixed x) (Fixed other) from byte h = h
+  carries_same (Fixed x) (Bit register bit) from byte h = λ e. s (beyond (beyond b 0) 0) (third 0 0) ∙ h e
+  carries_same (Fixed x) Computed from byte h = λ e. s (beyond (beyond b 0) 2) (third 0 2) ∙ h e
+  carries_same (Bit register bit) q from byte h = λ e. s (beyond (beyond b 0) (pointer_bytes q)) (third 0 (pointer_bytes q)) ∙ h e
+  carries_same Computed q from byte h = λ e. s (beyond (beyond b 2) (pointer_bytes q)) (third 2 (pointer_bytes q)) ∙ h e
+
+-- so do nodes that copy
+pub record SameCopies (g : Ground) (b low : ℕ) (m m' : Memory) : Type 0 where
+  pub front : low ≤ b
+  pub second : (i : ℕ) → low ≤ beyond b i
+  pub third : (i j : ℕ) → low ≤ beyond (beyond b i) j
+  pub frame : (y : ℕ) → low ≤ y → m' (Frame g.copy y) ≡ m (Frame g.copy y)
+
+copied_in : (z : Scene) (g : Ground) (e : Expression) (got : Got) (k : List Pending) (to from : spot.Spot) (left low : ℕ) (m m' : Memory) → SameCopies g (base g k) low m m' → ((i : ℕ) → m' (Result g.layout.root i) ≡ m (Result g.layout.root i)) → HasCopiedAt z g (In e got ∷ k) to from left m → HasCopiedAt z g (In e got ∷ k) to from left m'
+copied_in z g (tree.StructAssign place other size line) got k to from left low m m' s r h =
+    trail_same z g.layout.root g.copy (base g k) low m m' s.front s.second s.third s.frame (spot_of g.layout g.copy place) (spot_of g.layout g.copy other) to from (size - left) (lag_of (size - left)) (is_begun (size - left)) r h
+copied_in z g _ got k to from left low m m' s r h = tt
+
+copied_for : (z : Scene) (g : Ground) (t : Statement) (stage : Stage) (k : List Pending) (to from : spot.Spot) (left low : ℕ) (m m' : Memory) → SameCopies g g.base low m m' → ((i : ℕ) → m' (Result g.layout.root i) ≡ m (Result g.layout.root i)) → HasCopiedAt z g (Doing t stage ∷ k) to from left m → HasCopiedAt z g (Doing t stage ∷ k) to from left m'
+copied_for z g (tree.InitList local all line) (Items (tree.Struct offset other size) rest) k to from left low m m' s r h =
+    trail_same z g.layout.root g.copy g.base low m m' s.front s.second s.third s.frame (Fixed (behind (local_byte g local) offset)) (spot_of g.layout g.copy other) to from (size - left) (lag_of (size - left)) (is_begun (size - left)) r h
+copied_for z g _ _ k to from left low m m' s r h = tt
+
+carried_in : (z : Scene) (g : Ground) (e : Expression) (got : Got) (k : List Pending) (to from : spot.Spot) (byte : value.Byte) (left low : ℕ) (m m' : Memory) → SameCopies g (base g k) low m m' → ((i : ℕ) → m' (Result g.layout.root i) ≡ m (Result g.layout.root i)) → HasCarriedAt z g (In e got ∷ k) to from byte left m → HasCarriedAt z g (In e got ∷ k) to from byte left m'
+carried_in z g (tree.StructAssign place other size line) got k to from byte left low m m' s r h = (
+  trail_same z g.layout.root g.copy (base g k) low m m' s.front s.second s.third s.frame (spot_of g.layout g.copy place) (spot_of g.layout g.copy other) to from (size - suc left) 0 true r h.0,
+  carries_same z g.layout.root g.copy (base g k) low m m' s.front s.second s.third s.frame (spot_of g.layout g.copy place) (spot_of g.layout g.copy other) from byte h.1,
+  h.2,
+  h.3,
+)
+carried_in z g _ got k to from byte left low m m' s r h = tt
+
+carried_for : (z : Scene) (g : Ground) (t : Statement) (stage : Stage) (k : List Pending) (to from : spot.Spot) (byte : value.Byte) (left low : ℕ) (m m' : Memory) → SameCopies g g.base low m m' → ((i : ℕ) → m' (Result g.layout.root i) ≡ m (Result g.layout.root i)) → HasCarriedAt z g (Doing t stage ∷ k) to from byte left m → HasCarriedAt z g (Doing t stage ∷ k) to from byte left m'
+carried_for z g (tree.InitList local all line) (Items (tree.Struct offset other size) rest) k to from byte left low m m' s r h = (
+  trail_same z g.layout.root g.copy g.base low m m' s.front s.second s.third s.frame (Fixed (behind (local_byte g local) offset)) (spot_of g.layout g.copy other) to from (size - suc left) 0 true r h.0,
+  carries_same z g.layout.root g.copy g.base low m m' s.front s.second s.third s.frame (Fixed (behind (local_byte g local) offset)) (spot_of g.layout g.copy other) from byte h.1,
+  h.2,
+  h.3,
+)
+carried_for z g _ _ k to from byte left low m m' s r h = tt
+
+-- where the first byte of a copying node's pointers stands
+abbrev pub copied_base : Ground → List Pending → ℕ
+copied_base g (In e got ∷ k) = base g k
+copied_base g k = g.base
+
+pub copied_same : (z : Scene) (g : Ground) (k : List Pending) (to from : spot.Spot) (left low : ℕ) (m m' : Memory) → SameCopies g (copied_base g k) low m m' → ((i : ℕ) → m' (Result g.layout.root i) ≡ m (Result g.layout.root i)) → HasCopiedAt z g k to from left m → HasCopiedAt z g k to from left m'
+copied_same z g [] to from left low m m' s r h = tt
+copied_same z g (In e got ∷ k) to from left low m m' s r h = copied_in z g e got k to from left low m m' s r h
+copied_same z g (To place ∷ k) to from left low m m' s r h = tt
+copied_same z g (Doing t stage ∷ k) to from left low m m' s r h = copied_for z g t stage k to from left low m m' s r h
+copied_same z g (Before ss ∷ k) to from left low m m' s r h = tt
+copied_same z g (Returns d ∷ k) to from left low m m' s r h = tt
+copied_same z g (Resumes d x ∷ k) to from left low m m' s r h = tt
+
+pub carried_same : (z : Scene) (g : Ground) (k : List Pending) (to from : spot.Spot) (byte : value.Byte) (left low : ℕ) (m m' : Memory) → SameCopies g (copied_base g k) low m m' → ((i : ℕ) → m' (Result g.layout.root i) ≡ m (Result g.layout.root i)) → HasCarriedAt z g k to from byte left m → HasCarriedAt z g k to from byte left m'
+carried_same z g [] to from byte left low m m' s r h = tt
+carried_same z g (In e got ∷ k) to from byte left low m m' s r h = carried_in z g e got k to from byte left low m m' s r h
+carried_same z g (To place ∷ k) to from byte left low m m' s r h = tt
+carried_same z g (Doing t stage ∷ k) to from byte left low m m' s r h = carried_for z g t stage k to from byte left low m m' s r h
+carried_same z g (Before ss ∷ k) to from byte left low m m' s r h = tt
+carried_same z g (Returns d ∷ k) to from byte left low m m' s r h = tt
+carried_same z g (Resumes d x ∷ k) to from byte left low m m' s r h = tt
+
+-- all bytes of the frame are the same
+pub copies_far : (g : Ground) (b : ℕ) (m m' : Memory) → SameFrame g.copy m m' → SameCopies g b 0 m m'
+copies_far g b m m' s = record { front = omega arith; second = λ i. omega arith; third = λ i j. omega arith; frame = λ y le. s y }
+
 pub value_far : (z : Scene) (g : Ground) (x : Focus) (k : List Pending) (m m' : Memory) → SameFrame g.copy m m' → ((i : ℕ) → m' (Result g.layout.root i) ≡ m (Result g.layout.root i)) → HasValue z g x k m → HasValue z g x k m'
 value_far z g (Eval e) k m m' s r h = tt
 value_far z g (Find place) k m m' s r h = tt
@@ -265,16 +353,16 @@ value_far z g (Found at) k m m' s r h = λ place is. at_same z g.copy (base g k)
 value_far z g (Run t) k m m' s r h = tt
 value_far z g Past k m m' s r h = tt
 value_far z g (Fetch at read) k m m' s r h = read_far z g k at read m m' s h
-value_far z g (Skim at left byte) k m m' s r h = tt
+value_far z g (Skim at left byte) k m m' s r h = (h.0, h.1, h.2, read_far z g k at h.0 m m' s h.3)
 value_far z g (Write at v done) k m m' s r h = datum_same z g.copy (stored_at g k) (standing at done v) m m' (λ y le lt. s y) h
 value_far z g (PutBit register bit v old) k m m' s r h = datum_same z g.copy (stored_at g k) (number_of int.UChar (lowest_bit v)) m m' (λ y le lt. s y) h
-value_far z g (CopyRead to from left) k m m' s r h = tt
-value_far z g (CopyWrite to from byte left) k m m' s r h = tt
+value_far z g (CopyRead to from left) k m m' s r h = copied_same z g k to from left 0 m m' (copies_far g (copied_base g k) m m' s) r h
+value_far z g (CopyWrite to from byte left) k m m' s r h = carried_same z g k to from byte left 0 m m' (copies_far g (copied_base g k) m m' s) r h
 value_far z g (Spell at text left) k m m' s r h = tt
 value_far z g (Blank at left) k m m' s r h = tt
 value_far z g Calls k m m' s r h = tt
 value_far z g (Leaves v) k m m' s r h = λ i lt. r i ∙ h i lt
-value_far z g (Compares v labels) k m m' s r h = tt
+value_far z g (Compares v labels) k m m' s r h = (h.0, datum_same z g.copy g.base v m m' (λ y le lt. s y) h.1)
 value_far z g Over k m m' s r h = tt
 
 -- Below a copy that is called or entered only frames of other copies wait, and results of main's root where the handler runs.

@@ -25,7 +25,7 @@ use Rattle.src_values.specs.declared.objects.CopyOf.{CopyOf}
 use Rattle.src_values.specs.declared.objects.Object as object
 use Rattle.src_values.specs.declared.objects.Object.TheVariants as objects
 use Rattle.lower_trace.proofs.Beginnings.{Follow}
-use Rattle.lower_trace.proofs.CodeLeft.{Scene, held, number, ground_in, core_in, plain_behind, stack_doing, code_after, code_at, stack_after, stack_at, copy_at}
+use Rattle.lower_trace.proofs.CodeLeft.{Scene, held, number, ground_in, core_in, plain_behind, Jumps, Looped, stacked, switch_on, inner_loops, stack_doing, jumps, code_after, code_at, stack_after, stack_at, copy_at}
 use Rattle.lower_trace.proofs.Constants.{due_below}
 use Rattle.lower_trace.proofs.Giving.{mirrors}
 use Rattle.lower_trace.proofs.Jumping.{call_on, handler_on, none_on, loop_on}
@@ -98,23 +98,29 @@ through_loop n s body r k b e next =
       least = ap least_leave o.is ∙ t.least;
     }
 
-arm_stack : (g : Ground) (t : Statement) (more : tree.Arms) (c : List Task) (s : List Waiting) → stack_doing g t (InArm more) c s ≡ s
-arm_stack g (tree.Loop shape begin condition step body line) more c s = refl
-arm_stack g _ more c s = refl
+arm_stack : (g : Ground) (j : Jumps) (t : Statement) (more : tree.Arms) (c : List Task) (s : List Waiting) → stack_doing g j t (InArm more) c s ≡ s
+arm_stack g j (tree.Loop shape begin condition step body line) more c s = refl
+arm_stack g j (tree.Switch value cases default ss line) more c s = refl
+arm_stack g j _ more c s = refl
 
-turns_through : (g : Ground) (n : ℕ) (t : Statement) (c : List Task) (k b s : List Waiting) → plain_behind s ≡ stack_doing g t Turns c k → ((s' : List Waiting) → plain_behind s' ≡ k → Through n s' b) → Through n s b
-turns_through g n (tree.Loop While begin condition step body line) c k b s e next = through_loop n s _ c k b e next
-turns_through g n (tree.Loop Do begin condition step body line) c k b s e next = through_loop n s _ _ _ b e (λ s' e'. through_loop n s' _ c k b e' next)
-turns_through g n (tree.Loop For begin condition step body line) c k b s e next = through_loop n s _ _ _ b e (λ s' e'. through_loop n s' _ c k b e' next)
-turns_through g n _ c k b s e next = next s e
+turns_through : (g : Ground) (j : Jumps) (n : ℕ) (t : Statement) (c : List Task) (k b s : List Waiting) → plain_behind s ≡ stack_doing g j t Turns c k → ((s' : List Waiting) → plain_behind s' ≡ k → Through n s' b) → Through n s b
+turns_through g j n (tree.Loop While begin condition step body line) c k b s e next = through_loop n s _ c k b e next
+turns_through g j n (tree.Loop Do begin condition step body line) c k b s e next = through_loop n s _ _ _ b e (λ s' e'. through_loop n s' _ c k b e' next)
+turns_through g j n (tree.Loop For begin condition step body line) c k b s e next = through_loop n s _ _ _ b e (λ s' e'. through_loop n s' _ c k b e' next)
+turns_through g j n (tree.Switch value cases default ss line) c k b s e next = through_loop n s _ c k b e next
+turns_through g j n _ c k b s e next = next s e
+
+loops_through : (n : ℕ) (xs : List Looped) (k b s : List Waiting) → plain_behind s ≡ stacked xs k → ((s' : List Waiting) → plain_behind s' ≡ k → Through n s' b) → Through n s b
+loops_through n [] k b s e next = next s e
+loops_through n (x ∷ xs) k b s e next = through_loop n s x.body x.code (stacked xs k) b e (λ s' e'. loops_through n xs k b s' e' next)
 
 pub through : (z : Scene) (g : Ground) (n : ℕ) (k : List Pending) (s : List Waiting) → plain_behind s ≡ stack_after z g k → Through n s (stack_after z g (unwound k))
 through z g n [] s e = through_none n s [] e
 through z g n (In x got ∷ k) s e = through_none n s (stack_after z g k) e
 through z g n (To place ∷ k) s e = through_none n s (stack_after z g k) e
-through z g n (Before ss ∷ k) s e = through z g n k s e
-through z g n (Doing t Turns ∷ k) s e = turns_through g n t (code_after g k) (stack_after z g k) (stack_after z g (unwound k)) s e (λ s' e'. through z g n k s' e')
-through z g n (Doing t (InArm more) ∷ k) s e = through z g n k s (e ∙ arm_stack g t more (code_after g k) (stack_after z g k))
+through z g n (Before ss ∷ k) s e = loops_through n (inner_loops g (jumps k) (switch_on k) ss) (stack_after z g k) (stack_after z g (unwound k)) s e (λ s' e'. through z g n k s' e')
+through z g n (Doing t Turns ∷ k) s e = turns_through g (jumps k) n t (code_after g k) (stack_after z g k) (stack_after z g (unwound k)) s e (λ s' e'. through z g n k s' e')
+through z g n (Doing t (InArm more) ∷ k) s e = through z g n k s (e ∙ arm_stack g (jumps k) t more (code_after g k) (stack_after z g k))
 through z g n (Doing t Tests ∷ k) s e = through_none n s (stack_after z g (Doing t Tests ∷ k)) e
 through z g n (Doing t Begins ∷ k) s e = through_none n s (stack_after z g (Doing t Begins ∷ k)) e
 through z g n (Doing t Steps ∷ k) s e = through_none n s (stack_after z g (Doing t Steps ∷ k)) e
@@ -174,16 +180,16 @@ module _ (z : Scene) (cp : CopyOf) (l : source.Memory) (w : World value.Byte) (d
   W = world_as (held z) (arrived z.outside w)
 
   -- the step by which byte code leaves, where it comes so
-  left_by : (T : Machine → Type 0) (k : List Waiting) (t : Through (number z cp) c.stack k) (y : ℕ) (d : Machine) → leave (number z cp) t.below m W ≡ Goes d → y ≤ least_leave t.below → T d → Comes (core_in z) T 104 y c
+  left_by : (T : Machine → Type 0) (k : List Waiting) (t : Through (number z cp) c.stack k) (most y : ℕ) (d : Machine) → 4 + restoring t.below ≤ most → leave (number z cp) t.below m W ≡ Goes d → y ≤ least_leave t.below → T d → Comes (core_in z) T most y c
   unfolding operate cost_of
-  left_by T k t y d e least is =
+  left_by T k t most y d few e least is =
       let f = front c.code code.Leave r p.code in
       let em = most_operates (core_in z) (number z cp) None (Todo [] code.Leave ∷ r) s m W c p code.Leave r f (due_below z (arrived z.outside w) due) in
       let el = least_operates (core_in z) (number z cp) None (Todo [] code.Leave ∷ r) s m W c p code.Leave r f (due_below z (arrived z.outside w) due) in
-      let few = restoring_few c.stack in
+      let tc = t.cost in
       let tl = t.least in
-      comes_within (core_in z) T (104 + 0) (y + 0) 104 y c
-      (comes_first (core_in z) T 0 0 104 y c d
+      comes_within (core_in z) T (most + 0) (y + 0) most y c
+      (comes_first (core_in z) T 0 0 most y c d
       (operates (core_in z) (number z cp) None (Todo [] code.Leave ∷ r) s m W c p code.Leave r f (due_below z (arrived z.outside w) due) ∙ t.same m W ∙ e)
       (omega arith) (omega arith)
       (comes_here (core_in z) T d is))
@@ -197,13 +203,13 @@ module _ (z : Scene) (cp : CopyOf) (l : source.Memory) (w : World value.Byte) (d
 
   -- a function is left with a value, whose bytes are the results of its root
   pub function_left : (v : Datum) (d : CopyOf) (k : List Pending) (t : Through (number z cp) c.stack (stack_after z (ground_in z cp) (Returns d ∷ k))) → Agrees z (active cp Past (Returns d ∷ k)) l m → Holds z (ground_in z d) k m → HasValue z (ground_in z cp) (Leaves v) (Returns d ∷ k) m
-      → Comes (core_in z) (Mirrors z (state cp (Leaves v) (Returns d ∷ k) l (arrived z.outside w))) 104 1 c
+      → Comes (core_in z) (Mirrors z (state cp (Leaves v) (Returns d ∷ k) l (arrived z.outside w))) 4 1 c
   unfolding active
   function_left v d k t agrees holds value =
       let o = call_on t.below (number z d) (code_after (ground_in z d) k) (stack_after z (ground_in z d) k) t.is in
       let e : Machine = record { copy = number z d; passing = None; code = o.code; stack = o.rest; memory = m; world = W } in
       let least : 1 ≤ least_leave t.below = let q = ap least_leave o.is in omega arith in
-      left_by (Mirrors z (state cp (Leaves v) (Returns d ∷ k) l (arrived z.outside w))) (stack_after z (ground_in z cp) (Returns d ∷ k)) t 1 e
+      left_by (Mirrors z (state cp (Leaves v) (Returns d ∷ k) l (arrived z.outside w))) (stack_after z (ground_in z cp) (Returns d ∷ k)) t 4 1 e (let q = ap restoring o.is in omega arith)
       (ap (λ x. leave (number z cp) x m W) o.is)
       least
       (mirrors z cp (Leaves v) (Returns d ∷ k) l (arrived z.outside w) m e (record { copy = refl; passing = refl; code = o.behind; stack = o.below; memory = refl; world = arrived_as (held z) z.outside (arrived z.outside w) }) agrees holds value)
@@ -213,7 +219,7 @@ module _ (z : Scene) (cp : CopyOf) (l : source.Memory) (w : World value.Byte) (d
   main_ends t agrees =
       let none = none_on t.below t.is in
       let e : Machine = record { copy = number z cp; passing = None; code = core.Over ∷ []; stack = []; memory = m; world = noted Ended W } in
-      left_by (Mirrors z (state cp Over [] l (noted Ended (arrived z.outside w)))) [] t 0 e
+      left_by (Mirrors z (state cp Over [] l (noted Ended (arrived z.outside w)))) [] t 104 0 e (let q = restoring_few t.below in omega arith)
       (ap (λ x. leave (number z cp) x m W) none)
       (omega arith)
       (mirrors z cp Over [] l (noted Ended (arrived z.outside w)) m e (record { copy = refl; passing = refl; code = refl; stack = refl; memory = refl; world = ended_world }) (agrees_fewer z cp [] l m agrees) tt tt)
@@ -225,7 +231,7 @@ module _ (z : Scene) (cp : CopyOf) (l : source.Memory) (w : World value.Byte) (d
       let o = handler_on t.below (number z d) None (code_at z (ground_in z d) x k) (stack_after z (ground_in z d) k) t.is in
       let e : Machine = record { copy = number z d; passing = None; code = o.code; stack = o.rest; memory = m; world = left W } in
       let least : 1 ≤ least_leave t.below = let q = ap least_leave o.is in omega arith in
-      left_by (Mirrors z (state d x k l (left (arrived z.outside w)))) (stack_after z (ground_in z cp) (Resumes d x ∷ k)) t 1 e
+      left_by (Mirrors z (state d x k l (left (arrived z.outside w)))) (stack_after z (ground_in z cp) (Resumes d x ∷ k)) t 104 1 e (let q = restoring_few t.below in omega arith)
       (ap (λ y. leave (number z cp) y m W) o.is)
       least
       (mirrors z d x k l (left (arrived z.outside w)) m e
@@ -239,5 +245,6 @@ module _ (z : Scene) (cp : CopyOf) (l : source.Memory) (w : World value.Byte) (d
   body_ends (To place ∷ k) b last t a h = absurd b
   body_ends (Doing x stage ∷ k) b last t a h = absurd b
   body_ends (Before ss ∷ k) b last t a h = absurd b
-  body_ends (Returns d ∷ k) b last t a h = function_left datum.Missing d k t a h (λ i lt. absurd (omega arith))
+  body_ends (Returns d ∷ k) b last t a h =
+      comes_within (core_in z) (Mirrors z (state cp (Leaves datum.Missing) (Returns d ∷ k) l (arrived z.outside w))) 4 1 104 1 c (function_left datum.Missing d k t a h (λ i lt. absurd (omega arith))) (omega arith) (omega arith)
   body_ends (Resumes d x ∷ k) b last t a h = handler_ends d x k t last a h.0 h.1

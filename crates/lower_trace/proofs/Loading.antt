@@ -49,7 +49,7 @@ ReachesAll z cp k =
     (o : object.Object) (f : ℕ) (s : List Waiting) → is_alive (cp ∷ callers k) o ≡ true → breaks_isolation cp.root o ≡ false → IsThere z.program o → f < object_bytes z.program o → plain_behind s ≡ stack_after z (ground_in z cp) k
     → is_reached (core_in z).program (number z cp) s (object_as z.copies o) (offset_as z.program o + f) ≡ true
 
-isolated : (z : Scene) (live : List CopyOf) (root : _) (fits : value.Byte → Bool) (o : object.Object) (offset : ℕ) (byte : value.Byte) → read_fault z.program live root fits o offset byte ≡ None → breaks_isolation root o ≡ false
+pub isolated : (z : Scene) (live : List CopyOf) (root : _) (fits : value.Byte → Bool) (o : object.Object) (offset : ℕ) (byte : value.Byte) → read_fault z.program live root fits o offset byte ≡ None → breaks_isolation root o ≡ false
 isolated z live root fits o offset byte e =
     let a = if_none (not (nat_lt offset (object_bytes z.program o))) _ _ e in
     let b = if_none (is_unset byte) _ _ a.1 in

@@ -37,7 +37,7 @@ use Rattle.lower_trace.proofs.Operating.{itself}
 use Rattle.lower_trace.proofs.Operations.{Comes, beyond_is, comes_within, own_frame}
 use Rattle.lower_trace.proofs.Placed.{Placed, todo_join}
 use Rattle.lower_trace.proofs.Places.{waits_one}
-use Rattle.lower_trace.proofs.Returning.{Resumables, holds_frames}
+use Rattle.lower_trace.proofs.Returning.{Resumables, holds_frames, others_then, set_others}
 use Rattle.lower_trace.proofs.Written.{and_false, both, byte_same, bytes_there, off, on, root_same, same_nat}
 use Rattle.lower_trace.specs.Lowering.{object_as, offset_as}
 use Rattle.pic_world.specs.Roots.{same_root}
@@ -136,7 +136,7 @@ module _ (z : Scene) (laws : SceneLaws z) where
   at_place k cp sought at m waits is = λ other o. subst (λ y. IsAt z (ground_in z cp).copy (base (ground_in z cp) k) (spot_of (ground_in z cp).layout (ground_in z cp).copy y) at m) (waits_one k sought other waits o) is
 
   -- behind a fixed place
-  fixed_bytes : (o : object.Object) (f n : ℕ) → IsThere z.program o → f + n ≤ object_bytes z.program o → lower.behind (core_byte z o f) n ≡ core_byte z o (f + n)
+  pub fixed_bytes : (o : object.Object) (f n : ℕ) → IsThere z.program o → f + n ≤ object_bytes z.program o → lower.behind (core_byte z o f) n ≡ core_byte z o (f + n)
   fixed_bytes (objects.Fixed i) f n there le =
       let a = laws.fits (objects.Fixed i) there in
       let b = laws.reach (objects.Fixed i) there in
@@ -147,7 +147,7 @@ module _ (z : Scene) (laws : SceneLaws z) where
       ap (Frame (number z d)) (beyond_is (variable_offset z.program d.function i + f) n (omega arith) ∙ (omega arith))
 
   -- behind a pointer that stands in the frame: the offset is added to it
-  sum_goes : (o : object.Object) (f offset : ℕ) (y : Pointer) (k : List Pending) (cp : CopyOf) (l : source.Memory) (w : World value.Byte) (c : Machine) (T : Machine → Type 0) → Around z cp k → Resumables k → IsThere z.program o → moved z.program (Into o f) (pos offset) ≡ Some y → base (ground_in z cp) k + 2 ≤ (core_in z).program.frame_bytes (number z cp) → is_due (arrived z.outside w) ≡ false
+  sum_goes : (o : object.Object) (f offset : ℕ) (y : Pointer) (k : List Pending) (cp : CopyOf) (l : source.Memory) (w : World value.Byte) (c : Machine) (T : Machine → Type 0) → Around z cp k → Resumables cp.root k → IsThere z.program o → moved z.program (Into o f) (pos offset) ≡ Some y → base (ground_in z cp) k + 2 ≤ (core_in z).program.frame_bytes (number z cp) → is_due (arrived z.outside w) ≡ false
       → Agrees z (cp ∷ callers k) l c.memory → Holds z (ground_in z cp) k c.memory → HasDatum z (number z cp) (base (ground_in z cp) k) (datum.Pointer (Into o f)) c.memory
       → Placed (core_in z) (number z cp) None (todo (sets (Result cp.root 0) offset 2) (Todo [] (code.Binary ops.Add int.UInt (Frame (number z cp) (base (ground_in z cp) k)) (Frame (number z cp) (base (ground_in z cp) k)) (Result cp.root 0)) ∷ code_after (ground_in z cp) k)) (stack_after z (ground_in z cp) k) c.memory (world_as (held z) (arrived z.outside w)) c
       → ((d : Machine) (m' : Memory) → Agrees z (cp ∷ callers k) l m' → Holds z (ground_in z cp) k m' → HasDatum z (number z cp) (base (ground_in z cp) k) (datum.Pointer y) m' → Placed (core_in z) (number z cp) None (code_after (ground_in z cp) k) (stack_after z (ground_in z cp) k) m' (world_as (held z) (arrived z.outside w)) d → Comes (core_in z) T 0 0 d)
@@ -189,7 +189,7 @@ module _ (z : Scene) (laws : SceneLaws z) where
       (pointer_value z n b o f m2 hx) number_is (λ s e. gives s) (own_frame (core_in z).program n b 2 room) (λ i. omega arith) (omega arith) p2
       (λ d3 p3. next d3 m3
       (agrees_above z laws cp (cp ∷ callers k) l m2 m3 b around.reached (value_high z cp k around) (above_written n b b 2 m2 (core.byte_of result) (omega arith)) (agrees_same z (cp ∷ callers k) l c.memory m2 (λ ob at th lt. untouched root c.memory lo hi ob at) agrees))
-      (holds_above z cp k m2 m3 b around (omega arith) (above_written n b b 2 m2 (core.byte_of result) (omega arith)) (holds_frames z cp k c.memory m2 resumables same_frames holds))
+      (holds_above z cp k m2 m3 b around (omega arith) (above_written n b b 2 m2 (core.byte_of result) (omega arith)) (holds_frames z cp.root cp k c.memory m2 resumables same_frames (others_then root c.memory m1 m2 (set_others root 0 (bytes.Number lo) c.memory) (set_others root 1 (bytes.Number hi) m1)) holds))
       (subst (λ t. HasDatum z n b (datum.Pointer t) m3) (sym forward.0) (λ i lt. bytes_there m2 n b 2 (core.byte_of result) i lt))
       p3))))
       (omega arith) (omega arith)
@@ -202,7 +202,7 @@ module _ (z : Scene) (laws : SceneLaws z) where
       untouched root m lo hi (objects.Variable d i) at = refl
 
   -- so many bytes behind the pointer, if there are any
-  behind_case : (none : Bool) (whole : Place) (member offset : ℕ) (ty : Qualified) (line : ℕ) (x y : Pointer) (k : List Pending) (cp : CopyOf) (l : source.Memory) (w : World value.Byte) (c : Machine) → nat_eq offset 0 ≡ none → spot_of (ground_in z cp).layout (ground_in z cp).copy whole ≡ Computed → Around z cp k → Resumables k → WaitsForPlace k (tree.Member whole member offset ty line) → SpotIsThere z.program (spots.Memory x) → moved z.program x (pos offset) ≡ Some y → base (ground_in z cp) k + 2 ≤ (core_in z).program.frame_bytes (number z cp) → is_due (arrived z.outside w) ≡ false
+  behind_case : (none : Bool) (whole : Place) (member offset : ℕ) (ty : Qualified) (line : ℕ) (x y : Pointer) (k : List Pending) (cp : CopyOf) (l : source.Memory) (w : World value.Byte) (c : Machine) → nat_eq offset 0 ≡ none → spot_of (ground_in z cp).layout (ground_in z cp).copy whole ≡ Computed → Around z cp k → Resumables cp.root k → WaitsForPlace k (tree.Member whole member offset ty line) → SpotIsThere z.program (spots.Memory x) → moved z.program x (pos offset) ≡ Some y → base (ground_in z cp) k + 2 ≤ (core_in z).program.frame_bytes (number z cp) → is_due (arrived z.outside w) ≡ false
       → HasDatum z (ground_in z cp).copy (base (ground_in z cp) k) (datum.Pointer x) c.memory
       → Mirrors z (state cp (Found (spots.Memory x)) (To (tree.Member whole member offset ty line) ∷ k) l w) c → Comes (core_in z) (Mirrors z (state cp (Found (spots.Memory y)) k l (arrived z.outside w))) 28 0 c
   unfolding active spot_of
@@ -242,7 +242,7 @@ module _ (z : Scene) (laws : SceneLaws z) where
       (at_place k cp place (spots.Memory y) m' waits (subst (λ t. IsAt z g.copy b (member_spot t offset) (spots.Memory y) m') (sym sp) (y, refl, subst (λ t. HasDatum z t b (datum.Pointer y) m') (sym (own_copy z cp)) hy))))
 
   -- by where the whole place is
-  member_case : (s : place.Spot) (whole : Place) (member offset : ℕ) (ty : Qualified) (line : ℕ) (x y : Pointer) (k : List Pending) (cp : CopyOf) (l : source.Memory) (w : World value.Byte) (c : Machine) → spot_of (ground_in z cp).layout (ground_in z cp).copy whole ≡ s → Around z cp k → Resumables k → WaitsForPlace k (tree.Member whole member offset ty line) → SpotIsThere z.program (spots.Memory x) → moved z.program x (pos offset) ≡ Some y → base (ground_in z cp) k + 2 ≤ (core_in z).program.frame_bytes (number z cp) → is_due (arrived z.outside w) ≡ false
+  member_case : (s : place.Spot) (whole : Place) (member offset : ℕ) (ty : Qualified) (line : ℕ) (x y : Pointer) (k : List Pending) (cp : CopyOf) (l : source.Memory) (w : World value.Byte) (c : Machine) → spot_of (ground_in z cp).layout (ground_in z cp).copy whole ≡ s → Around z cp k → Resumables cp.root k → WaitsForPlace k (tree.Member whole member offset ty line) → SpotIsThere z.program (spots.Memory x) → moved z.program x (pos offset) ≡ Some y → base (ground_in z cp) k + 2 ≤ (core_in z).program.frame_bytes (number z cp) → is_due (arrived z.outside w) ≡ false
       → IsAt z (ground_in z cp).copy (base (ground_in z cp) k) s (spots.Memory x) c.memory
       → Mirrors z (state cp (Found (spots.Memory x)) (To (tree.Member whole member offset ty line) ∷ k) l w) c → Comes (core_in z) (Mirrors z (state cp (Found (spots.Memory y)) k l (arrived z.outside w))) 28 0 c
   unfolding active spot_of
@@ -265,12 +265,12 @@ module _ (z : Scene) (laws : SceneLaws z) where
       behind_case (nat_eq offset 0) whole member offset ty line x y k cp l w c refl sp around resumables waits there is room due
       (subst (λ t. HasDatum z (ground_in z cp).copy (base (ground_in z cp) k) (datum.Pointer t) c.memory) (sym (spot_is x at.0 at.1)) at.2) h
 
-  found_or_none : (o : Option Pointer) (whole : Place) (member offset : ℕ) (ty : Qualified) (line : ℕ) (x : Pointer) (k : List Pending) (cp : CopyOf) (l : source.Memory) (w : World value.Byte) (c : Machine) → moved z.program x (pos offset) ≡ o → Around z cp k → Resumables k → WaitsForPlace k (tree.Member whole member offset ty line) → SpotIsThere z.program (spots.Memory x) → base (ground_in z cp) k + 2 ≤ (core_in z).program.frame_bytes (number z cp) → is_due (arrived z.outside w) ≡ false
+  found_or_none : (o : Option Pointer) (whole : Place) (member offset : ℕ) (ty : Qualified) (line : ℕ) (x : Pointer) (k : List Pending) (cp : CopyOf) (l : source.Memory) (w : World value.Byte) (c : Machine) → moved z.program x (pos offset) ≡ o → Around z cp k → Resumables cp.root k → WaitsForPlace k (tree.Member whole member offset ty line) → SpotIsThere z.program (spots.Memory x) → base (ground_in z cp) k + 2 ≤ (core_in z).program.frame_bytes (number z cp) → is_due (arrived z.outside w) ≡ false
       → Mirrors z (state cp (Found (spots.Memory x)) (To (tree.Member whole member offset ty line) ∷ k) l w) c → Follow z 28 0 c (at_member o line k cp l (arrived z.outside w))
   found_or_none None whole member offset ty line x k cp l w c is around resumables waits there room due h = tt
   found_or_none (Some y) whole member offset ty line x k cp l w c is around resumables waits there room due h =
       member_case (spot_of (ground_in z cp).layout (ground_in z cp).copy whole) whole member offset ty line x y k cp l w c refl around resumables waits there is room due (h.value whole refl) h
 
-  pub found_member : (whole : Place) (member offset : ℕ) (ty : Qualified) (line : ℕ) (x : Pointer) (k : List Pending) (cp : CopyOf) (l : source.Memory) (w : World value.Byte) (c : Machine) → Around z cp k → Resumables k → WaitsForPlace k (tree.Member whole member offset ty line) → SpotIsThere z.program (spots.Memory x) → base (ground_in z cp) k + 2 ≤ (core_in z).program.frame_bytes (number z cp) → is_due (arrived z.outside w) ≡ false
+  pub found_member : (whole : Place) (member offset : ℕ) (ty : Qualified) (line : ℕ) (x : Pointer) (k : List Pending) (cp : CopyOf) (l : source.Memory) (w : World value.Byte) (c : Machine) → Around z cp k → Resumables cp.root k → WaitsForPlace k (tree.Member whole member offset ty line) → SpotIsThere z.program (spots.Memory x) → base (ground_in z cp) k + 2 ≤ (core_in z).program.frame_bytes (number z cp) → is_due (arrived z.outside w) ≡ false
       → Mirrors z (state cp (Found (spots.Memory x)) (To (tree.Member whole member offset ty line) ∷ k) l w) c → Follow z 28 0 c (found_to (source_in z) (tree.Member whole member offset ty line) (spots.Memory x) k cp l (arrived z.outside w))
   found_member whole member offset ty line x k cp l w c around resumables waits there room due h = found_or_none (moved z.program x (pos offset)) whole member offset ty line x k cp l w c refl around resumables waits there room due h

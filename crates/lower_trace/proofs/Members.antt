@@ -86,12 +86,18 @@ if_datum z false n b v m h = tt
 pointer_held : (z : Scene) (o : object.Object) (f i : ℕ) → i < 2 → core.byte_of (core.Pointer (record { object = object_as z.copies o; offset = offset_as z.program o + f })) i ≡ held z (byte_of (datum.Pointer (Into o f)) i)
 pointer_held z o f i lt = refl
 
+-- the address of a fixed place is set, and that of a computed one stands there
+abbrev pub address_most : place.Spot → ℕ
+address_most (Fixed byte) = 8
+address_most (Bit register bit) = 8
+address_most Computed = 0
+
 module _ (z : Scene) (laws : SceneLaws z) where
   -- ---- `&`
   address_case : (s : place.Spot) (sought : Place) (ty : Ty) (line : ℕ) (x : Pointer) (k : List Pending) (cp : CopyOf) (l : source.Memory) (w : World value.Byte) (c : Machine) → spot_of (ground_in z cp).layout (ground_in z cp).copy sought ≡ s → Around z cp k
       → ((byte : Byte) → s ≡ Fixed byte → is_valid (core_in z).program (number z cp) byte ≡ true) → base (ground_in z cp) k + 2 ≤ (core_in z).program.frame_bytes (number z cp) → is_due (arrived z.outside w) ≡ false
       → IsAt z (ground_in z cp).copy (base (ground_in z cp) k) s (spots.Memory x) c.memory
-      → Mirrors z (state cp (Found (spots.Memory x)) (In (tree.Address sought ty line) Nothing ∷ k) l w) c → Comes (core_in z) (Mirrors z (state cp (Value (datum.Pointer x)) k l (arrived z.outside w))) 8 0 c
+      → Mirrors z (state cp (Found (spots.Memory x)) (In (tree.Address sought ty line) Nothing ∷ k) l w) c → Comes (core_in z) (Mirrors z (state cp (Value (datum.Pointer x)) k l (arrived z.outside w))) (address_most s) 0 c
   unfolding active
   address_case (Fixed byte) sought ty line Null k cp l w c e around valid room due is h = absurd (cc)
   address_case (Fixed byte) sought ty line (Into o f) k cp l w c e around valid room due is h =
@@ -119,7 +125,7 @@ module _ (z : Scene) (laws : SceneLaws z) where
       let g = ground_in z cp in
       let b = base g k in
       let q = spot_is x is.0 is.1 in
-      comes_within (core_in z) (Mirrors z (state cp (Value (datum.Pointer x)) k l (arrived z.outside w))) 0 0 8 0 c
+      comes_within (core_in z) (Mirrors z (state cp (Value (datum.Pointer x)) k l (arrived z.outside w))) 0 0 0 0 c
       (rests z cp (Found (spots.Memory x)) (Value (datum.Pointer x)) (In (tree.Address sought ty line) Nothing ∷ k) k l l w c h refl
       (ap (λ y. todo (address_row y (Frame g.copy b)) (code_after g k)) e) refl h.agrees h.holds.1
       (if_datum z (wanted k) g.copy b (datum.Pointer x) c.memory (subst (λ y. HasDatum z g.copy b (datum.Pointer y) c.memory) (sym q) is.2)))
@@ -127,7 +133,7 @@ module _ (z : Scene) (laws : SceneLaws z) where
 
   pub found_address : (sought : Place) (ty : Ty) (line : ℕ) (at : spot.Spot) (k : List Pending) (cp : CopyOf) (l : source.Memory) (w : World value.Byte) (c : Machine) → Around z cp k
       → ((byte : Byte) → spot_of (ground_in z cp).layout (ground_in z cp).copy sought ≡ Fixed byte → is_valid (core_in z).program (number z cp) byte ≡ true) → base (ground_in z cp) k + 2 ≤ (core_in z).program.frame_bytes (number z cp) → is_due (arrived z.outside w) ≡ false
-      → Mirrors z (state cp (Found at) (In (tree.Address sought ty line) Nothing ∷ k) l w) c → Follow z 8 0 c (found_in (source_in z) (tree.Address sought ty line) Nothing at k cp l (arrived z.outside w))
+      → Mirrors z (state cp (Found at) (In (tree.Address sought ty line) Nothing ∷ k) l w) c → Follow z (address_most (spot_of (ground_in z cp).layout (ground_in z cp).copy sought)) 0 c (found_in (source_in z) (tree.Address sought ty line) Nothing at k cp l (arrived z.outside w))
   found_address sought ty line (spots.Memory x) k cp l w c around valid room due h = address_case (spot_of (ground_in z cp).layout (ground_in z cp).copy sought) sought ty line x k cp l w c refl around valid room due (h.value sought refl) h
   found_address sought ty line (spots.Device address) k cp l w c around valid room due h = tt
   found_address sought ty line (spots.Bit register bit) k cp l w c around valid room due h = tt

@@ -5,22 +5,24 @@ use Rattle.c_ints.specs.Operators.{cut_to}
 use Rattle.c_ints.specs.declared.types.IntTy.TheVariants as IntTy
 use Rattle.c_typed.specs.Trees as tree
 use Rattle.c_typed.specs.Trees.{Expression, Expressions, Place, Statement}
-use Rattle.core_code.specs.Bytes.{Held, Memory, byte_in, is_private}
+use Rattle.core_code.specs.Bytes.{Held, Number, Memory, byte_in, is_private}
 use Rattle.core_code.specs.Machine.{Machine}
 use Rattle.core_code.specs.declared.code.Byte.{Byte}
 use Rattle.core_code.specs.declared.code.Byte.TheVariants.{Frame, Result, Device}
-use Rattle.lower_expr.specs.Bytes.{beyond, operation_type}
+use Rattle.lower_expr.specs.Bytes.{behind, beyond, operation_type}
 use Rattle.lower_expr.specs.Layout.{Layout, width, value_width}
 use Rattle.lower_expr.specs.Lowering.{behind_pointer}
 use Rattle.lower_expr.specs.Rows.{step_number, keeps_old}
-use Rattle.lower_expr.specs.Spots.{spot_of}
+use Rattle.lower_expr.specs.Spots.{spot_of, pointer_bytes}
 use Rattle.lower_expr.specs.declared.places.Spot as place
 use Rattle.lower_expr.specs.declared.places.Spot.TheVariants.{Fixed, Bit, Computed}
-use Rattle.lower_stmt.specs.Ground.{Ground}
+use Rattle.lower_stmt.specs.Ground.{Ground, local_byte}
 use Rattle.pic_world.specs.World.{arrived, world_as}
-use Rattle.src_rules.specs.Standing.{IsThere, WaitsForPlace}
+use Rattle.pic_world.specs.declared.Root.{Root}
+use Rattle.src_rules.specs.Standing.{IsThere, WaitsForPlace, stepped}
 use Rattle.src_rules.specs.State.{State}
-use Rattle.src_values.specs.Control.{Focus, Holds as Value, Found, Fetch, Write, PutBit, Leaves, Got, One, At, AtWith, Stores, Args, Passed, Pending, In, To, Doing, Before, Returns, Resumes, active}
+use Rattle.src_values.specs.Accesses.{is_unset}
+use Rattle.src_values.specs.Control.{Focus, Holds as Value, Found, Fetch, Skim, Write, PutBit, CopyRead, CopyWrite, Leaves, Compares, Items, Got, One, At, AtWith, Stores, Args, Passed, Pending, In, To, Doing, Before, Returns, Resumes, active}
 use Rattle.src_values.specs.Data as datum
 use Rattle.src_values.specs.Data.{Datum}
 use Rattle.src_values.specs.Memory as source
@@ -36,7 +38,7 @@ use Rattle.src_values.specs.declared.objects.Pointer.TheVariants.{Null, Into}
 use Rattle.src_values.specs.declared.objects.Spot as spot
 use Rattle.src_values.specs.declared.objects.Spot.TheVariants as spots
 use Rattle.lower_trace.specs.Lowering.{object_as, offset_as}
-use Rattle.lower_trace.proofs.CodeLeft.{Scene, held, number, ground_in, plain, plain_behind, wanted, base, above, stored, stored_at, code_at, stack_at, copy_at}
+use Rattle.lower_trace.proofs.CodeLeft.{Scene, held, number, ground_in, plain, plain_behind, wanted, base, above, stored, stored_at, is_seen, skim_count, code_at, stack_at, copy_at}
 
 -- ---- objects
 abbrev pub core_byte : Scene → object.Object → ℕ → Byte
@@ -116,6 +118,15 @@ abbrev pub HasReadAt : Scene → Ground → List Pending → spot.Spot → List 
 HasReadAt z g (In e got ∷ k) at read m = HasReadIn z g (base g k) e got at read m
 HasReadAt z g k at read m = Unit {0}
 
+abbrev pub last_of : List value.Byte → Option value.Byte
+last_of [] = None
+last_of (byte ∷ []) = Some byte
+last_of (byte ∷ next ∷ more) = last_of (next ∷ more)
+
+-- bytes were read to be dropped, this one last, and so many are left
+abbrev pub HasSkimmed : Scene → Ground → List Pending → spot.Spot → ℕ → Option value.Byte → Memory → Type 0
+HasSkimmed z g k at left byte m = (read : List value.Byte) × (length read + left ≡ skim_count g k) × (last_of read ≡ byte) × HasReadAt z g k at read m
+
 -- the value that the focus speaks of
 abbrev pub HasIf : Bool → Scene → ℕ → ℕ → Datum → Memory → Type 0
 HasIf true z n b v m = HasDatum z n b v m
@@ -127,13 +138,76 @@ standing (spots.Bit register bit) zero v = v
 standing (spots.Bit register bit) (suc done) v = number_of IntTy.UChar (lowest_bit v)
 standing _ done v = v
 
+-- a pointer that goes on leads somewhere
+abbrev pub MayGo : ℕ → Pointer → Type 0
+MayGo zero x = Unit {0}
+MayGo (suc lag) Null = ⊥
+MayGo (suc lag) (Into object offset) = Unit {0}
+
+-- A side of a structure that is copied, of which so many bytes are done. A pointer goes on only with the next byte, so it may lag.
+abbrev pub Trails : Scene → ℕ → ℕ → place.Spot → spot.Spot → ℕ → ℕ → Memory → Type 0
+Trails z n b (Fixed byte) at done lag m = at_byte z at ≡ Some (behind byte done)
+Trails z n b (Bit register bit) at done lag m = ⊥
+Trails z n b Computed at done lag m = (x : Pointer) × (at ≡ stepped lag (spots.Memory x)) × HasDatum z n b (datum.Pointer x) m × MayGo lag x
+
+-- the number 1 stands in the results, by which pointers go on
+abbrev pub HasOne : Bool → Root → Memory → Type 0
+HasOne true root m = (m (Result root 0) ≡ Number 1) × (m (Result root 1) ≡ Number 0)
+HasOne false root m = Unit {0}
+
+-- both sides, the pointers to them standing from b on
+abbrev pub Trail : Scene → Root → ℕ → ℕ → place.Spot → place.Spot → spot.Spot → spot.Spot → ℕ → ℕ → Bool → Memory → Type 0
+Trail z root n b (Fixed byte) (Fixed from_byte) to from done lag one m = (at_byte z to ≡ Some (behind byte done)) × (at_byte z from ≡ Some (behind from_byte done))
+Trail z root n b p q to from done lag one m = Trails z n b p to done lag m × Trails z n (beyond b (pointer_bytes p)) q from done lag m × HasOne one root m
+
+-- the byte that was read stands on its way
+abbrev pub Carries : Scene → ℕ → ℕ → place.Spot → place.Spot → spot.Spot → value.Byte → Memory → Type 0
+Carries z n b (Fixed byte) (Fixed from_byte) from read m = Unit {0}
+Carries z n b p q from read m = is_seen q from ≡ false → m (Frame n (beyond (beyond b (pointer_bytes p)) (pointer_bytes q))) ≡ held z read
+
+-- something was read there
+abbrev pub LeadsTo : spot.Spot → Type 0
+LeadsTo (spots.Memory Null) = ⊥
+LeadsTo _ = Unit {0}
+
+abbrev pub lag_of : ℕ → ℕ
+lag_of zero = 0
+lag_of (suc done) = 1
+
+abbrev pub is_begun : ℕ → Bool
+is_begun zero = false
+is_begun (suc done) = true
+
+abbrev pub HasCopied : Scene → Root → ℕ → ℕ → place.Spot → place.Spot → spot.Spot → spot.Spot → ℕ → Memory → Type 0
+HasCopied z root n b p q to from done m = Trail z root n b p q to from done (lag_of done) (is_begun done) m
+
+abbrev pub HasCarried : Scene → Root → ℕ → ℕ → place.Spot → place.Spot → spot.Spot → spot.Spot → value.Byte → ℕ → Memory → Type 0
+HasCarried z root n b p q to from byte done m = Trail z root n b p q to from done 0 true m × Carries z n b p q from byte m × (is_unset byte ≡ false) × LeadsTo from
+
+abbrev pub HasCopiedAt : Scene → Ground → List Pending → spot.Spot → spot.Spot → ℕ → Memory → Type 0
+HasCopiedAt z g (In (tree.StructAssign place other size line) got ∷ k) to from left m = HasCopied z g.layout.root g.copy (base g k) (spot_of g.layout g.copy place) (spot_of g.layout g.copy other) to from (size - left) m
+HasCopiedAt z g (Doing (tree.InitList local all line) (Items (tree.Struct offset other size) rest) ∷ k) to from left m =
+    HasCopied z g.layout.root g.copy g.base (Fixed (behind (local_byte g local) offset)) (spot_of g.layout g.copy other) to from (size - left) m
+HasCopiedAt z g k to from left m = Unit {0}
+
+abbrev pub HasCarriedAt : Scene → Ground → List Pending → spot.Spot → spot.Spot → value.Byte → ℕ → Memory → Type 0
+HasCarriedAt z g (In (tree.StructAssign place other size line) got ∷ k) to from byte left m =
+    HasCarried z g.layout.root g.copy (base g k) (spot_of g.layout g.copy place) (spot_of g.layout g.copy other) to from byte (size - suc left) m
+HasCarriedAt z g (Doing (tree.InitList local all line) (Items (tree.Struct offset other size) rest) ∷ k) to from byte left m =
+    HasCarried z g.layout.root g.copy g.base (Fixed (behind (local_byte g local) offset)) (spot_of g.layout g.copy other) to from byte (size - suc left) m
+HasCarriedAt z g k to from byte left m = Unit {0}
+
 abbrev pub HasValue : Scene → Ground → Focus → List Pending → Memory → Type 0
 HasValue z g (Value v) k m = HasIf (wanted k) z g.copy (base g k) v m
 HasValue z g (Found at) k m = (place : Place) → WaitsForPlace k place → IsAt z g.copy (base g k) (spot_of g.layout g.copy place) at m
 HasValue z g (Fetch at read) k m = HasReadAt z g k at read m
+HasValue z g (Skim at left byte) k m = HasSkimmed z g k at left byte m
 HasValue z g (Write at v done) k m = HasDatum z g.copy (stored_at g k) (standing at done v) m
 HasValue z g (PutBit register bit v old) k m = HasDatum z g.copy (stored_at g k) (number_of IntTy.UChar (lowest_bit v)) m
+HasValue z g (CopyRead to from left) k m = HasCopiedAt z g k to from left m
+HasValue z g (CopyWrite to from byte left) k m = HasCarriedAt z g k to from byte left m
 HasValue z g (Leaves v) k m = (i : ℕ) → i < byte_count v → m (Result g.layout.root i) ≡ held z (byte_of v i)
+HasValue z g (Compares v labels) k m = (0 < byte_count v) × HasDatum z g.copy g.base v m
 HasValue z g _ k m = Unit {0}
 
 -- ---- all that waits

@@ -129,7 +129,7 @@ zero_pattern ty (pos (suc a)) r = nat_apart (pattern ty (pos (suc a))) 0 (inr (p
 zero_pattern ty (negsuc a) r = nat_apart (pattern ty (negsuc a)) 0 (inr (negative_pattern ty a r.0 r.1))
 
 -- ---- pointers
-core_object_same : (o : bytes.Object) → bytes.same_object o o ≡ true
+pub core_object_same : (o : bytes.Object) → bytes.same_object o o ≡ true
 core_object_same (bytes.Fixed n) = nat_same n
 core_object_same (bytes.FrameOf c) = nat_same c
 

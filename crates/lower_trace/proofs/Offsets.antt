@@ -133,7 +133,7 @@ uint_pattern n lt = omega (arith, ints)
 pub bits_there : (z : Scene) (n at : ℕ) (q : Quantity) (m : Memory) → bytes_of q.ty ≡ 2 → IsInRange q.ty q.number → HasDatum z n at (datum.Number q) m → HasDatum z n at (datum.Number (uint (pattern q.ty q.number))) m
 bits_there z n at q m e r h i lt = h i (omega arith) ∙ ap (λ t. held z (values.Number (t / 256 ^ i % 256))) (sym (uint_pattern (pattern q.ty q.number) (few_pattern q.ty q.number e r)))
 
-one_size : (x size : ℕ) → nat_eq size 1 ≡ true → x < 65536 → x ≡ x * size % 65536
+pub one_size : (x size : ℕ) → nat_eq size 1 ≡ true → x < 65536 → x ≡ x * size % 65536
 one_size x size e lt = let is : size ≡ 1 = grind (arith, common_steps) in let q : x * size ≡ x * 1 = ap (λ t. x * t) is in let o : x * 1 ≡ x = omega arith in omega arith
 
 misses_high : (n b y : ℕ) → b + 2 ≤ y → misses (Frame n b) 2 (Frame n y) 2 ≡ true

@@ -72,7 +72,7 @@ high_apart n b w = or_true (not (nat_eq n n)) _ (let e : nat_le (b + 1) (b + w +
 sum_fits : (n b w : ℕ) → (is_same_or_misses w (Frame n b) (Frame n b) && is_same_or_misses w (Frame n b) (Frame n (b + w))) ≡ true
 sum_fits n b w = both _ _ (itself n b w) (or_true (same_byte (Frame n b) (Frame n (b + w))) _ (apart_operands n b w))
 
-plain_fits : (op : BinOp) (w : ℕ) (count : Option ℕ) (n b : ℕ) → IsPlain op → fits_bytes op w count (Frame n b) (Frame n b) (Frame n (b + w)) ≡ true
+pub plain_fits : (op : BinOp) (w : ℕ) (count : Option ℕ) (n b : ℕ) → IsPlain op → fits_bytes op w count (Frame n b) (Frame n b) (Frame n (b + w)) ≡ true
 plain_fits ops.Add w count n b p = sum_fits n b w
 plain_fits ops.And w count n b p = sum_fits n b w
 plain_fits ops.Or w count n b p = sum_fits n b w

@@ -138,7 +138,7 @@ module _ (z : Scene) (laws : SceneLaws z) where
       rests z cp (Find (tree.Deref pointer ty line)) (Eval pointer) k (To (tree.Deref pointer ty line) ∷ k) l l w c h refl refl refl h.agrees h.holds tt
 
   -- ---- a place was found: it is read, or the value for it comes next
-  read_found : (place : Place) (ty : Ty) (line : ℕ) (at : spot.Spot) (k : List Pending) (cp : CopyOf) (l : source.Memory) (w : World value.Byte) (c : Machine) → base (ground_in z cp) k ≤ 65535
+  pub read_found : (place : Place) (ty : Ty) (line : ℕ) (at : spot.Spot) (k : List Pending) (cp : CopyOf) (l : source.Memory) (w : World value.Byte) (c : Machine) → base (ground_in z cp) k ≤ 65535
       → Mirrors z (state cp (Found at) (In (tree.Read place ty line) Nothing ∷ k) l w) c → Comes (core_in z) (Mirrors z (state cp (Fetch at []) (In (tree.Read place ty line) (At at) ∷ k) l (arrived z.outside w))) 0 0 c
   unfolding active
   read_found place ty line at k cp l w c small h =

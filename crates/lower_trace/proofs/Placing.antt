@@ -7,6 +7,8 @@ use Rattle.core_code.specs.Values.{pointer_in}
 use Rattle.core_code.specs.declared.code.Byte.TheVariants.{Frame}
 use Rattle.core_code.specs.declared.code.Byte.{Byte}
 use Rattle.lower_expr.specs.declared.places.Spot.TheVariants.{Computed}
+use Rattle.src_rules.specs.Runs.{one_if}
+use Rattle.lower_trace.proofs.Costs.{either, either_within}
 use Rattle.lower_trace.proofs.Assigning.{static_holds}
 use Rattle.lower_trace.proofs.Beginnings.{Follow}
 use Rattle.lower_trace.proofs.CodeLeft.{Scene, base, core_in, ground_in, held, number, source_in, stack_after, stored_at, writing, writing_at}
@@ -52,12 +54,12 @@ use Rattle.src_values.specs.declared.objects.Undef.{Undef}
 use Rattle.std.proofs.Common.{Bool, List, None, Option, Some, [], ap, arith, false, if◌then◌else◌, nat_lt, not, refl, subst, suc, sym, true, zero, ℕ, ◌+◌, ◌-◌, ◌<◌, ◌∙◌, ◌∷◌, ◌≡◌, ◌≤◌}
 
 -- a write that is defined
-record Writable (z : Scene) (live : List CopyOf) (root : Root) (o : object.Object) (f : ℕ) : Type 0 where
-  inside : f < object_bytes z.program o
-  alive : is_alive live o ≡ true
-  free : breaks_isolation root o ≡ false
+pub record Writable (z : Scene) (live : List CopyOf) (root : Root) (o : object.Object) (f : ℕ) : Type 0 where
+  pub inside : f < object_bytes z.program o
+  pub alive : is_alive live o ≡ true
+  pub free : breaks_isolation root o ≡ false
 
-writable_so : (z : Scene) (live : List CopyOf) (root : Root) (o : object.Object) (f : ℕ) → write_fault z.program live root o f ≡ None → Writable z live root o f
+pub writable_so : (z : Scene) (live : List CopyOf) (root : Root) (o : object.Object) (f : ℕ) → write_fault z.program live root o f ≡ None → Writable z live root o f
 writable_so z live root o f e =
     let a = if_none (not (nat_lt f (object_bytes z.program o))) _ _ e in
     let b = if_none (not (is_alive live o)) _ _ a.1 in
@@ -195,20 +197,27 @@ module _ (z : Scene) (laws : SceneLaws z) (cp : CopyOf) (k : List Pending) (l : 
   bytes_of_memory Null v done = refl
   bytes_of_memory (Into o f) v done = refl
 
-  write_case : (more : Bool) (x : Pointer) (v : Datum) (done y : ℕ) (w : World value.Byte) (c : Machine) → nat_lt done (byte_count v) ≡ more → SpotIsThere z.program (spots.Memory x) → IsOpen z (spots.Memory x) → byte_count v ≡ count → HasDatum z (ground_in z cp).copy at_pointer (datum.Pointer x) c.memory → 20 ≤ y → is_due (arrived z.outside w) ≡ false
+  write_case : (more : Bool) (x : Pointer) (v : Datum) (done y : ℕ) (w : World value.Byte) (c : Machine) → nat_lt done (byte_count v) ≡ more → SpotIsThere z.program (spots.Memory x) → IsOpen z (spots.Memory x) → byte_count v ≡ count → HasDatum z (ground_in z cp).copy at_pointer (datum.Pointer x) c.memory → is_due (arrived z.outside w) ≡ false
       → (count ≤ done → Follow z y 0 c (stored (source_in z) k cp l (arrived z.outside w)))
-      → Mirrors z (state cp (Write (stepped done (spots.Memory x)) v done) k l w) c → Follow z y 0 c (if nat_lt done (byte_count v) then write_at (source_in z) (stepped done (spots.Memory x)) v done k cp l (arrived z.outside w) else stored (source_in z) k cp l (arrived z.outside w))
-  write_case true x v done y w c lt there open_is all has few due ends h =
+      → Mirrors z (state cp (Write (stepped done (spots.Memory x)) v done) k l w) c → Follow z (either more 20 y) (one_if more) c (if nat_lt done (byte_count v) then write_at (source_in z) (stepped done (spots.Memory x)) v done k cp l (arrived z.outside w) else stored (source_in z) k cp l (arrived z.outside w))
+  write_case true x v done y w c lt there open_is all has due ends h =
       let less = lt_of done (byte_count v) lt in
-      rw lt (follow_within z 20 1 y 0 c _ (memory_write x x v done w c refl there open_is (omega arith) less has due h) few (omega arith))
-  write_case false x v done y w c lt there open_is all has few due ends h =
+      rw lt (memory_write x x v done w c refl there open_is (omega arith) less has due h)
+  write_case false x v done y w c lt there open_is all has due ends h =
       let le = not_less done (byte_count v) lt in
       rw lt (ends (omega arith))
 
   -- the next byte, or what follows
+  pub pointed_written : (x : Pointer) (v : Datum) (done y : ℕ) (w : World value.Byte) (c : Machine) → SpotIsThere z.program (spots.Memory x) → IsOpen z (spots.Memory x) → byte_count v ≡ count → HasDatum z (ground_in z cp).copy at_pointer (datum.Pointer x) c.memory → is_due (arrived z.outside w) ≡ false
+      → (count ≤ done → Follow z y 0 c (stored (source_in z) k cp l (arrived z.outside w)))
+      → Mirrors z (state cp (Write (stepped done (spots.Memory x)) v done) k l w) c → Follow z (either (nat_lt done (byte_count v)) 20 y) (one_if (nat_lt done (byte_count v))) c (write (source_in z) (stepped done (spots.Memory x)) v done k cp l (arrived z.outside w))
+  pointed_written x v done y w c there open_is all has due ends h =
+      subst (λ n. Follow z (either (nat_lt done (byte_count v)) 20 y) (one_if (nat_lt done (byte_count v))) c (if nat_lt done n then write_at (source_in z) (stepped done (spots.Memory x)) v done k cp l (arrived z.outside w) else stored (source_in z) k cp l (arrived z.outside w))) (sym (bytes_of_memory x v done))
+      (write_case (nat_lt done (byte_count v)) x v done y w c refl there open_is all has due ends h)
+
+  -- the same within one bound
   pub pointed_write : (x : Pointer) (v : Datum) (done y : ℕ) (w : World value.Byte) (c : Machine) → SpotIsThere z.program (spots.Memory x) → IsOpen z (spots.Memory x) → byte_count v ≡ count → HasDatum z (ground_in z cp).copy at_pointer (datum.Pointer x) c.memory → 20 ≤ y → is_due (arrived z.outside w) ≡ false
       → (count ≤ done → Follow z y 0 c (stored (source_in z) k cp l (arrived z.outside w)))
       → Mirrors z (state cp (Write (stepped done (spots.Memory x)) v done) k l w) c → Follow z y 0 c (write (source_in z) (stepped done (spots.Memory x)) v done k cp l (arrived z.outside w))
   pointed_write x v done y w c there open_is all has few due ends h =
-      subst (λ n. Follow z y 0 c (if nat_lt done n then write_at (source_in z) (stepped done (spots.Memory x)) v done k cp l (arrived z.outside w) else stored (source_in z) k cp l (arrived z.outside w))) (sym (bytes_of_memory x v done))
-      (write_case (nat_lt done (byte_count v)) x v done y w c refl there open_is all has few due ends h)
+      follow_within z (either (nat_lt done (byte_count v)) 20 y) (one_if (nat_lt done (byte_count v))) y 0 c _ (pointed_written x v done y w c there open_is all has due ends h) (either_within (nat_lt done (byte_count v)) 20 y y few (omega arith)) (omega arith)

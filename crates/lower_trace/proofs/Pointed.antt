@@ -15,6 +15,8 @@ use Rattle.lower_expr.specs.Layout.{place_width, width}
 use Rattle.lower_expr.specs.Puts.{copies}
 use Rattle.lower_expr.specs.Spots.{pointer_bytes, spot_of}
 use Rattle.lower_expr.specs.declared.places.Spot.TheVariants.{Computed}
+use Rattle.src_rules.specs.Runs.{one_if}
+use Rattle.lower_trace.proofs.Costs.{either, either_within}
 use Rattle.lower_trace.proofs.Beginnings.{Follow}
 use Rattle.lower_trace.proofs.Changing.{OnlyAbove, above_same, above_written, agrees_above, holds_above}
 use Rattle.lower_trace.proofs.CodeLeft.{Scene, above, base, code_after, core_in, ground_in, held, kept_value, number, source_in, stack_after, todo}
@@ -61,7 +63,7 @@ no_bytes to x offset j count r le = let e : count - j ≡ 0 = omega arith in ap 
 
 -- ---- all bytes were read
 module _ (z : Scene) (laws : SceneLaws z) (cp : CopyOf) (k : List Pending) (l : source.Memory) (to count at_pointer : ℕ) (r : List Task) (reads : Reads z (ground_in z cp) k Computed to count (Frame (ground_in z cp).copy at_pointer) r) (around : Around z cp k) (room : to + count ≤ (core_in z).program.frame_bytes (number z cp)) (apart : at_pointer + 2 ≤ to) (reach : ReachesAll z cp k) where
-  pointed_all : (T : Machine → Type 0) (y : Pointer) (j : ℕ) (read : List value.Byte) (v : Datum) (w : World value.Byte) (c : Machine) (q e : ℕ) → length read ≡ suc j → count ≡ suc j → byte_count v ≤ count → ((i : ℕ) → i < byte_count v → held z (slice_index_or read i values.Unset) ≡ held z (byte_of v i)) → is_due (arrived z.outside w) ≡ false
+  pub pointed_all : (T : Machine → Type 0) (y : Pointer) (j : ℕ) (read : List value.Byte) (v : Datum) (w : World value.Byte) (c : Machine) (q e : ℕ) → length read ≡ suc j → count ≡ suc j → byte_count v ≤ count → ((i : ℕ) → i < byte_count v → held z (slice_index_or read i values.Unset) ≡ held z (byte_of v i)) → is_due (arrived z.outside w) ≡ false
       → ((d : Machine) (m' : Memory) → OnlyAbove (number z cp) to c.memory m' → HasDatum z (number z cp) to v m' → Placed (core_in z) (number z cp) None r (stack_after z (ground_in z cp) k) m' (world_as (held z) (arrived z.outside w)) d → Comes (core_in z) T q e d)
       → Mirrors z (state cp (Fetch (spots.Memory y) read) k l w) c → Comes (core_in z) T (3 + q) e c
   pointed_all T Null j [] v w c q e all whole few same_bytes due next h = absurd (omega arith)
@@ -123,11 +125,11 @@ module _ (z : Scene) (laws : SceneLaws z) (cp : CopyOf) (k : List Pending) (l : 
     memory_spot i (Into o f) = (Into o (f + i), refl)
 
     fetch_case : (more : Bool) (read : List value.Byte) (w : World value.Byte) (c : Machine) → nat_lt (length read) (type_bytes z.program.sizes ty) ≡ more → length read ≤ count → AreRead z.program ty [] read → is_due (arrived z.outside w) ≡ false
-        → Mirrors z (state cp (Fetch (stepped (length read) (spots.Memory x)) read) k l w) c → Follow z 27 0 c (fetch_as ty (source_in z) (stepped (length read) (spots.Memory x)) read k cp l (arrived z.outside w))
+        → Mirrors z (state cp (Fetch (stepped (length read) (spots.Memory x)) read) k l w) c → Follow z (either more 20 27) (one_if more) c (fetch_as ty (source_in z) (stepped (length read) (spots.Memory x)) read k cp l (arrived z.outside w))
     unfolding active
     fetch_case true read w c lt le are due h =
         let less : length read < count = let q = lt_of (length read) (type_bytes z.program.sizes ty) lt in omega arith in
-        rw lt (follow_within z 20 1 27 0 c _ (byte_next x read w c refl less due h) (omega arith) (omega arith))
+        rw lt (byte_next x read w c refl less due h)
     fetch_case false read w c lt le are due h =
         let all : length read ≡ type_bytes z.program.sizes ty = let q = not_less (length read) (type_bytes z.program.sizes ty) lt in omega arith in
         let v = value_from ty read in
@@ -141,11 +143,16 @@ module _ (z : Scene) (laws : SceneLaws z) (cp : CopyOf) (k : List Pending) (l : 
         (subst (λ t. Mirrors z (state cp (Fetch t read) k l w) c) p.1 h))
         (omega arith) (omega arith))
 
+    pub pointed_fetched : (read : List value.Byte) (w : World value.Byte) (c : Machine) → length read ≤ count → AreRead z.program ty [] read → is_due (arrived z.outside w) ≡ false
+        → Mirrors z (state cp (Fetch (stepped (length read) (spots.Memory x)) read) k l w) c → Follow z (either (nat_lt (length read) (type_bytes z.program.sizes ty)) 20 27) (one_if (nat_lt (length read) (type_bytes z.program.sizes ty))) c (fetch (source_in z) (stepped (length read) (spots.Memory x)) read k cp l (arrived z.outside w))
+    pointed_fetched read w c le are due h =
+        subst (λ t. Follow z (either (nat_lt (length read) (type_bytes z.program.sizes ty)) 20 27) (one_if (nat_lt (length read) (type_bytes z.program.sizes ty))) c (fetch_as t (source_in z) (stepped (length read) (spots.Memory x)) read k cp l (arrived z.outside w))) (sym type_is)
+        (fetch_case (nat_lt (length read) (type_bytes z.program.sizes ty)) read w c refl le are due h)
+
+    -- the same within one bound
     pub pointed_fetch : (read : List value.Byte) (w : World value.Byte) (c : Machine) → length read ≤ count → AreRead z.program ty [] read → is_due (arrived z.outside w) ≡ false
         → Mirrors z (state cp (Fetch (stepped (length read) (spots.Memory x)) read) k l w) c → Follow z 27 0 c (fetch (source_in z) (stepped (length read) (spots.Memory x)) read k cp l (arrived z.outside w))
-    pointed_fetch read w c le are due h =
-        subst (λ t. Follow z 27 0 c (fetch_as t (source_in z) (stepped (length read) (spots.Memory x)) read k cp l (arrived z.outside w))) (sym type_is)
-        (fetch_case (nat_lt (length read) (type_bytes z.program.sizes ty)) read w c refl le are due h)
+    pointed_fetch read w c le are due h = follow_within z (either (nat_lt (length read) (type_bytes z.program.sizes ty)) 20 27) (one_if (nat_lt (length read) (type_bytes z.program.sizes ty))) 27 0 c _ (pointed_fetched read w c le are due h) (either_within (nat_lt (length read) (type_bytes z.program.sizes ty)) 20 27 27 (omega arith) (omega arith)) (omega arith)
 
 -- What a node needs that reads or writes a computed place of so many bytes.
 pub record PointedPlace (z : Scene) (cp : CopyOf) (sought : Place) (x : Pointer) (count : ℕ) : Type 0 where
@@ -162,7 +169,7 @@ module _ (z : Scene) (laws : SceneLaws z) (cp : CopyOf) (l : source.Memory) wher
   pub pointed_read : (sought : Place) (ty : Ty) (line : ℕ) (x : Pointer) (k : List Pending) (read : List value.Byte) (w : World value.Byte) (c : Machine) → PointedPlace z cp sought x (type_bytes z.program.sizes ty) → Around z cp (In (tree.Read sought ty line) (At (spots.Memory x)) ∷ k) → Around z cp k → ReachesAll z cp (In (tree.Read sought ty line) (At (spots.Memory x)) ∷ k)
       → width (ground_in z cp).layout ty ≡ type_bytes z.program.sizes ty → base (ground_in z cp) k + 2 + type_bytes z.program.sizes ty ≤ (core_in z).program.frame_bytes (number z cp) → length read ≤ type_bytes z.program.sizes ty → AreRead z.program ty [] read → is_due (arrived z.outside w) ≡ false
       → Mirrors z (state cp (Fetch (stepped (length read) (spots.Memory x)) read) (In (tree.Read sought ty line) (At (spots.Memory x)) ∷ k) l w) c
-      → Follow z 27 0 c (fetch (source_in z) (stepped (length read) (spots.Memory x)) read (In (tree.Read sought ty line) (At (spots.Memory x)) ∷ k) cp l (arrived z.outside w))
+      → Follow z (either (nat_lt (length read) (type_bytes z.program.sizes ty)) 20 27) (one_if (nat_lt (length read) (type_bytes z.program.sizes ty))) c (fetch (source_in z) (stepped (length read) (spots.Memory x)) read (In (tree.Read sought ty line) (At (spots.Memory x)) ∷ k) cp l (arrived z.outside w))
   unfolding active
   pointed_read sought ty line x k read w c p around below reach wide room le are due h =
       let g = ground_in z cp in
@@ -181,7 +188,7 @@ module _ (z : Scene) (laws : SceneLaws z) (cp : CopyOf) (l : source.Memory) wher
       ap (λ y. todo (kept_value y (Frame g.copy b) count) (code_after g k)) p.spot
       ∙ ap (λ y. todo (copies (Frame g.copy b) (Frame g.copy y) count) (code_after g k)) (sym (ap (λ y. beyond b (pointer_bytes y)) p.spot))
       ∙ ap (λ y. todo (copies (Frame y b) (Frame y to) count) (code_after g k)) (own_copy z cp) in
-      pointed_fetch z laws cp f l to count b (code_after g f) (reads_read z g sought ty line start k Computed p.spot) around (omega arith) (omega arith) reach
+      pointed_fetched z laws cp f l to count b (code_after g f) (reads_read z g sought ty line start k Computed p.spot) around (omega arith) (omega arith) reach
       k ty x p.there wide (let q = p.some in omega arith) refl
       (λ m d. pointer_at z g.copy b x m (subst (λ y. IsAt z g.copy b y start m) p.spot d.0))
       (λ v w2. refl)
@@ -204,7 +211,7 @@ module _ (z : Scene) (laws : SceneLaws z) (cp : CopyOf) (l : source.Memory) wher
       → place_width (ground_in z cp).layout sought ≡ type_bytes z.program.sizes ty → base (ground_in z cp) k + 2 ≤ above (ground_in z cp) (base (ground_in z cp) k) (tree.Update op sought right operation size ty line) (AtWith (spots.Memory x) u)
       → above (ground_in z cp) (base (ground_in z cp) k) (tree.Update op sought right operation size ty line) (AtWith (spots.Memory x) u) + type_bytes z.program.sizes ty ≤ (core_in z).program.frame_bytes (number z cp) → length read ≤ type_bytes z.program.sizes ty → AreRead z.program ty [] read → is_due (arrived z.outside w) ≡ false
       → Mirrors z (state cp (Fetch (stepped (length read) (spots.Memory x)) read) (In (tree.Update op sought right operation size ty line) (AtWith (spots.Memory x) u) ∷ k) l w) c
-      → Follow z 27 0 c (fetch (source_in z) (stepped (length read) (spots.Memory x)) read (In (tree.Update op sought right operation size ty line) (AtWith (spots.Memory x) u) ∷ k) cp l (arrived z.outside w))
+      → Follow z (either (nat_lt (length read) (type_bytes z.program.sizes ty)) 20 27) (one_if (nat_lt (length read) (type_bytes z.program.sizes ty))) c (fetch (source_in z) (stepped (length read) (spots.Memory x)) read (In (tree.Update op sought right operation size ty line) (AtWith (spots.Memory x) u) ∷ k) cp l (arrived z.outside w))
   unfolding active
   pointed_update op sought right operation size ty line x u k read w c p around reach wide high room le are due h =
       let g = ground_in z cp in
@@ -214,7 +221,7 @@ module _ (z : Scene) (laws : SceneLaws z) (cp : CopyOf) (l : source.Memory) wher
       let start = spots.Memory x in
       let f = In e (AtWith start u) ∷ k in
       let to = above g b e (AtWith start u) in
-      pointed_fetch z laws cp f l to (place_width g.layout sought) b (code_after g f) (reads_update z g op sought right operation size ty line start u k Computed p.spot) around (omega arith) high reach
+      pointed_fetched z laws cp f l to (place_width g.layout sought) b (code_after g f) (reads_update z g op sought right operation size ty line start u k Computed p.spot) around (omega arith) high reach
       f ty x p.there wide (let q = p.some in omega arith) refl
       (λ m d. pointer_at z g.copy b x m (subst (λ y. IsAt z g.copy b y start m) p.spot d.0.0))
       (λ v w2. refl)
@@ -231,7 +238,7 @@ module _ (z : Scene) (laws : SceneLaws z) (cp : CopyOf) (l : source.Memory) wher
       → place_width (ground_in z cp).layout sought ≡ type_bytes z.program.sizes ty → base (ground_in z cp) k + 2 ≤ above (ground_in z cp) (base (ground_in z cp) k) (tree.Step op sought operation size ty line) (At (spots.Memory x))
       → above (ground_in z cp) (base (ground_in z cp) k) (tree.Step op sought operation size ty line) (At (spots.Memory x)) + type_bytes z.program.sizes ty ≤ (core_in z).program.frame_bytes (number z cp) → length read ≤ type_bytes z.program.sizes ty → AreRead z.program ty [] read → is_due (arrived z.outside w) ≡ false
       → Mirrors z (state cp (Fetch (stepped (length read) (spots.Memory x)) read) (In (tree.Step op sought operation size ty line) (At (spots.Memory x)) ∷ k) l w) c
-      → Follow z 27 0 c (fetch (source_in z) (stepped (length read) (spots.Memory x)) read (In (tree.Step op sought operation size ty line) (At (spots.Memory x)) ∷ k) cp l (arrived z.outside w))
+      → Follow z (either (nat_lt (length read) (type_bytes z.program.sizes ty)) 20 27) (one_if (nat_lt (length read) (type_bytes z.program.sizes ty))) c (fetch (source_in z) (stepped (length read) (spots.Memory x)) read (In (tree.Step op sought operation size ty line) (At (spots.Memory x)) ∷ k) cp l (arrived z.outside w))
   unfolding active
   pointed_step op sought operation size ty line x k read w c p around reach wide high room le are due h =
       let g = ground_in z cp in
@@ -240,7 +247,7 @@ module _ (z : Scene) (laws : SceneLaws z) (cp : CopyOf) (l : source.Memory) wher
       let start = spots.Memory x in
       let f = In e (At start) ∷ k in
       let to = above g b e (At start) in
-      pointed_fetch z laws cp f l to (place_width g.layout sought) b (code_after g f) (reads_step z g op sought operation size ty line start k Computed p.spot) around (omega arith) high reach
+      pointed_fetched z laws cp f l to (place_width g.layout sought) b (code_after g f) (reads_step z g op sought operation size ty line start k Computed p.spot) around (omega arith) high reach
       f ty x p.there wide (let q = p.some in omega arith) refl
       (λ m d. pointer_at z g.copy b x m (subst (λ y. IsAt z g.copy b y start m) p.spot d.0.0))
       (λ v w2. refl)

@@ -91,7 +91,7 @@ pub record SameMove (minus : Bool) (num : ℕ) (by : ℤ) : Type 0 where
   pub i : ℕ
   pub same : signed minus num +ℤ pos (j * 65536) ≡ by +ℤ pos (i * 65536)
 
-null_moved : (z : Scene) (by : ℤ) (y : Pointer) → moved z.program Null by ≡ Some y → (y ≡ Null) × (by ≡ pos 0)
+pub null_moved : (z : Scene) (by : ℤ) (y : Pointer) → moved z.program Null by ≡ Some y → (y ≡ Null) × (by ≡ pos 0)
 unfolding moved
 null_moved z by y e = null_case (int_eq by (pos 0)) refl e
   where
@@ -102,7 +102,7 @@ null_moved z by y e = null_case (int_eq by (pos 0)) refl e
     null_case true is e = (ap (λ x. unwrap_or x Null) (sym e), zero_is by is)
     null_case false is e = absurd (cc)
 
-no_move : (minus : Bool) (num : ℕ) (by : ℤ) → num < 65536 → SameMove minus num by → by ≡ pos 0 → num ≡ 0
+pub no_move : (minus : Bool) (num : ℕ) (by : ℤ) → num < 65536 → SameMove minus num by → by ≡ pos 0 → num ≡ 0
 no_move true num by lt s e = alike num s.j s.i (s.same ∙ ap (λ x. x +ℤ pos (s.i * 65536)) e) lt
   where
     alike : (num j i : ℕ) → neg_ℤ (pos num) +ℤ pos (j * 65536) ≡ pos 0 +ℤ pos (i * 65536) → num < 65536 → num ≡ 0
@@ -112,7 +112,7 @@ no_move false num by lt s e = alike num s.j s.i (s.same ∙ ap (λ x. x +ℤ pos
     alike : (num j i : ℕ) → pos num +ℤ pos (j * 65536) ≡ pos 0 +ℤ pos (i * 65536) → num < 65536 → num ≡ 0
     alike num j i e lt = omega (arith, ints)
 
-null_byte : (j : ℕ) → j < 2 → core.byte_of (core.Number (uint 0)) j ≡ core_bytes.Number 0
+pub null_byte : (j : ℕ) → j < 2 → core.byte_of (core.Number (uint 0)) j ≡ core_bytes.Number 0
 null_byte zero lt = refl
 null_byte (suc zero) lt = refl
 null_byte (suc (suc j)) lt = absurd (omega arith)

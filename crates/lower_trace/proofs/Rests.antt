@@ -11,13 +11,15 @@ use Rattle.core_code.specs.Machine as core_machine
 use Rattle.core_code.specs.Machine.{Machine, act, core_step, is_still}
 use Rattle.lower_stmt.specs.Ground as ground
 use Rattle.lower_stmt.specs.Ground.{local_byte}
+use Rattle.src_rules.specs.Runs.{one_if}
+use Rattle.lower_trace.proofs.Costs.{either}
 use Rattle.lower_trace.proofs.Assigning.{scalar_stored}
 use Rattle.lower_trace.proofs.Beginnings.{Follow, rests}
 use Rattle.lower_trace.proofs.CodeLeft.{Scene, base, code_after, core_in, ground_in, held, number, source_in, stack_after, wanted}
 use Rattle.lower_trace.proofs.Constants.{due_below}
 use Rattle.lower_trace.proofs.Cuts.{same as unchanged}
 use Rattle.lower_trace.proofs.FixedFetches.{follow_within}
-use Rattle.lower_trace.proofs.FixedWrites.{fixed_write}
+use Rattle.lower_trace.proofs.FixedWrites.{fixed_written}
 use Rattle.lower_trace.proofs.Giving.{Around, placed_of}
 use Rattle.lower_trace.proofs.Kept.{Reached, SceneLaws}
 use Rattle.lower_trace.proofs.Members.{if_datum}
@@ -38,7 +40,7 @@ use Rattle.src_values.specs.Objects.{behind, function_at, local_of, variables_of
 use Rattle.src_values.specs.Values.{byte_count, unary_answer}
 use Rattle.src_values.specs.declared.objects.Byte as value
 use Rattle.src_values.specs.declared.objects.CopyOf.{CopyOf}
-use Rattle.std.proofs.Common.{List, None, Some, [], ap, arith, false, length, refl, subst, sym, true, ℕ, ◌+◌, ◌<◌, ◌∙◌, ◌∷◌, ◌≡◌, ◌≤◌}
+use Rattle.std.proofs.Common.{List, None, Some, [], ap, arith, false, length, nat_lt, refl, subst, sym, true, ℕ, ◌+◌, ◌<◌, ◌∙◌, ◌∷◌, ◌≡◌, ◌≤◌}
 
 -- main has ended, and no handler is due: byte code rests too
 pub over_rests : (z : Scene) (k : List Pending) (cp : CopyOf) (l : source.Memory) (w : World value.Byte) (c : Machine) → is_due (arrived z.outside w) ≡ false → Mirrors z (state cp control.Over k l w) c → is_still (core_step (core_in z) c) ≡ true
@@ -74,11 +76,11 @@ pub scalar_write : (z : Scene) (laws : SceneLaws z) (cp : CopyOf) (l : source.Me
     → at_byte z (behind (local_of z.program cp local) 0) ≡ Some (local_byte (ground_in z cp) local) → length (function_at z.program cp.function).params + local < length (variables_of (function_at z.program cp.function))
     → byte_count v ≡ ground.width (ground_in z cp) e → (ground_in z cp).base + ground.width (ground_in z cp) e ≤ (core_in z).program.frame_bytes (number z cp) → (ground_in z cp).base ≤ (core_in z).program.frame_bytes (number z cp) → is_due (arrived z.outside w) ≡ false
     → Mirrors z (state cp (Write (stepped done (behind (local_of z.program cp local) 0)) v done) (Doing (tree.InitScalar local e line) Fills ∷ k) l w) c
-    → Follow z 6 0 c (write (source_in z) (stepped done (behind (local_of z.program cp local) 0)) v done (Doing (tree.InitScalar local e line) Fills ∷ k) cp l (arrived z.outside w))
+    → Follow z (either (nat_lt done (byte_count v)) 6 0) (one_if (nat_lt done (byte_count v))) c (write (source_in z) (stepped done (behind (local_of z.program cp local) 0)) v done (Doing (tree.InitScalar local e line) Fills ∷ k) cp l (arrived z.outside w))
 scalar_write z laws cp l local e line v done k w c around reach low is there all room own_room due h =
     let g = ground_in z cp in
     let f = Doing (tree.InitScalar local e line) Fills ∷ k in
     let start = behind (local_of z.program cp local) 0 in
-    fixed_write z laws cp f l around reach low (local_byte g local) (ground.width g e) g.base (code_after g k) (λ a i. refl) refl room own_room start v done 6 w c is (refl, there) tt tt (λ a q. absurd (cc)) all (omega arith) due
-    (λ le. follow_within z 0 0 6 0 c (stored_for (source_in z) (tree.InitScalar local e line) Fills k cp l (arrived z.outside w)) (scalar_stored z local e line v done (stepped done start) k cp l w c le h) (omega arith) (omega arith))
+    fixed_written z laws cp f l around reach low (local_byte g local) (ground.width g e) g.base (code_after g k) (λ a i. refl) refl room own_room start v done 0 w c is (refl, there) tt tt (λ a q. absurd (cc)) all due
+    (λ le. scalar_stored z local e line v done (stepped done start) k cp l w c le h)
     h

@@ -33,6 +33,13 @@ IsLoop While begins step = (begins ≡ None) × (step ≡ None)
 IsLoop Do begins step = (begins ≡ None) × (step ≡ None)
 IsLoop For begins step = Unit {0}
 
+-- A turn ends with a jump, but for a `do`, whose condition comes next, and for a `for` with a step, which has the jump behind it.
+abbrev pub turn_least : LoopForm → Option Expression → ℕ
+turn_least While step = 1
+turn_least Do step = 0
+turn_least For None = 1
+turn_least For (Some e) = 0
+
 module _ (z : Scene) where
   -- ---- a loop begins
   for_first : (begins condition step : Option Expression) (body : Statement) (line : ℕ) (k : List Pending) (cp : CopyOf) (l : source.Memory) (w : World value.Byte) (m : Memory) (c : Machine) (due : is_due (arrived z.outside w) ≡ false) → Agrees z (active cp Past k) l m → Holds z (ground_in z cp) k m
@@ -66,12 +73,12 @@ module _ (z : Scene) where
 
   -- ---- a turn ends
   pub turn_ends : (shape : LoopForm) (begins condition step : Option Expression) (body : Statement) (line : ℕ) (k : List Pending) (cp : CopyOf) (l : source.Memory) (w : World value.Byte) (c : Machine) → IsLoop shape begins step → is_due (arrived z.outside w) ≡ false
-      → Mirrors z (state cp Past (Doing (tree.Loop shape begins condition step body line) Turns ∷ k) l w) c → Follow z 12 0 c (turned (tree.Loop shape begins condition step body line) Turns k cp l (arrived z.outside w))
+      → Mirrors z (state cp Past (Doing (tree.Loop shape begins condition step body line) Turns ∷ k) l w) c → Follow z 12 (turn_least shape step) c (turned (tree.Loop shape begins condition step body line) Turns k cp l (arrived z.outside w))
   unfolding active
   turn_ends While begins condition None body line k cp l w c fits due h =
       let t = tree.Loop While begins condition None body line in
-      test_after z begins condition None body line k cp l w c.memory due h.agrees h.holds While condition c 12 0 refl
-      (λ T next. comes_within (core_in z) T 8 1 12 0 c
+      test_after z begins condition None body line k cp l w c.memory due h.agrees h.holds While condition c 12 1 refl
+      (λ T next. comes_within (core_in z) T 8 1 12 1 c
       (while_again z begins condition None body line k cp l w c.memory due h.agrees h.holds T c (placed_of z (state cp Past (Doing t Turns ∷ k) l w) c h) next)
       (omega arith) (omega arith))
   turn_ends While begins condition (Some e) body line k cp l w c fits due h = let q = fits.1 in absurd (cc)
@@ -87,8 +94,8 @@ module _ (z : Scene) where
   turn_ends For begins condition None body line k cp l w c fits due h =
       let t = tree.Loop For begins condition None body line in
       let g = ground_in z cp in
-      test_after z begins condition None body line k cp l w c.memory due h.agrees h.holds For condition c 12 0 refl
-      (λ T next. comes_within (core_in z) T (4 + 8) 1 12 0 c
+      test_after z begins condition None body line k cp l w c.memory due h.agrees h.holds For condition c 12 1 refl
+      (λ T next. comes_within (core_in z) T (4 + 8) 1 12 1 c
       (once_ends z begins condition None body line k cp l w c.memory due h.agrees h.holds For T 8 1 c [] (stack_after z g (Doing t Tests ∷ k)) (placed_of z (state cp Past (Doing t Turns ∷ k) l w) c h)
       (λ d pd. for_again z begins condition None body line k cp l w c.memory due h.agrees h.holds T d pd next))
       (omega arith) (omega arith))

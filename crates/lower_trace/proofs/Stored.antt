@@ -14,13 +14,15 @@ use Rattle.lower_expr.specs.Bytes.{beyond}
 use Rattle.lower_expr.specs.Layout.{place_width, width}
 use Rattle.lower_expr.specs.Puts.{copies_if}
 use Rattle.lower_expr.specs.Rows.{given_byte, keeps_old}
+use Rattle.src_rules.specs.Runs.{one_if}
+use Rattle.lower_trace.proofs.Costs.{either}
 use Rattle.lower_trace.proofs.Assigning.{assigned, none_left}
 use Rattle.lower_trace.proofs.Beginnings.{Follow}
 use Rattle.lower_trace.proofs.CodeLeft.{Scene, base, code_after, code_at, core_in, ground_in, held, number, source_in, stack_after, stored, todo, wanted, writing}
 use Rattle.lower_trace.proofs.Constants.{again_below, due_below, same_below}
 use Rattle.lower_trace.proofs.FixedFetches.{FixedPlace}
 use Rattle.lower_trace.proofs.FixedPlaces.{own_spot}
-use Rattle.lower_trace.proofs.FixedWrites.{IsFor, IsOpen, fixed_write, move_then}
+use Rattle.lower_trace.proofs.FixedWrites.{IsFor, IsOpen, fixed_written, move_then}
 use Rattle.lower_trace.proofs.Flow.{arrive}
 use Rattle.lower_trace.proofs.Giving.{Around, gives, placed_of}
 use Rattle.lower_trace.proofs.Kept.{Reached, SceneLaws, own_copy}
@@ -42,7 +44,7 @@ use Rattle.src_values.specs.declared.objects.CopyOf.{CopyOf}
 use Rattle.src_values.specs.declared.objects.Pointer.TheVariants.{Into, Null}
 use Rattle.src_values.specs.declared.objects.Spot as spot
 use Rattle.src_values.specs.declared.objects.Spot.TheVariants as spots
-use Rattle.std.proofs.Common.{Bool, List, None, Some, ap, arith, false, if◌then◌else◌, inl, refl, subst, sym, true, ℕ, ◌*◌, ◌+◌, ◌∙◌, ◌∷◌, ◌≡◌, ◌≤◌}
+use Rattle.std.proofs.Common.{Bool, List, None, Some, ap, arith, false, if◌then◌else◌, inl, nat_lt, refl, subst, sym, true, ℕ, ◌*◌, ◌+◌, ◌∙◌, ◌∷◌, ◌≡◌, ◌≤◌}
 
 kept_same : (z : Scene) (start : spot.Spot) (X : Byte) (v : Datum) → at_byte z start ≡ Some X → kept_in start v ≡ v
 unfolding kept_in
@@ -114,7 +116,7 @@ pub record Writing (z : Scene) (cp : CopyOf) (e : Expression) (got : Got) (k : L
 module _ (z : Scene) (laws : SceneLaws z) (cp : CopyOf) (l : source.Memory) where
   pub assign_write : (sought : Place) (right : Expression) (ty : Ty) (line : ℕ) (start : spot.Spot) (X : Byte) (v : Datum) (done : ℕ) (k : List Pending) (w : World value.Byte) (c : Machine) → Writing z cp (tree.Assign sought right ty line) (Stores start v) k sought start X (type_bytes z.program.sizes ty) v → width (ground_in z cp).layout ty ≡ type_bytes z.program.sizes ty → is_due (arrived z.outside w) ≡ false
       → Mirrors z (state cp (Write (stepped done start) v done) (In (tree.Assign sought right ty line) (Stores start v) ∷ k) l w) c
-      → Follow z 24 0 c (write (source_in z) (stepped done start) v done (In (tree.Assign sought right ty line) (Stores start v) ∷ k) cp l (arrived z.outside w))
+      → Follow z (either (nat_lt done (byte_count v)) 6 0) (one_if (nat_lt done (byte_count v))) c (write (source_in z) (stepped done start) v done (In (tree.Assign sought right ty line) (Stores start v) ∷ k) cp l (arrived z.outside w))
   assign_write sought right ty line start X v done k w c p wide due h =
       let g = ground_in z cp in
       let b = base g k in
@@ -124,20 +126,18 @@ module _ (z : Scene) (laws : SceneLaws z) (cp : CopyOf) (l : source.Memory) wher
       let few = p.front in
       let room = p.room in
       let is : at_byte z start ≡ Some X = subst (λ y. IsAt z g.copy b y start c.memory) q.spot h.holds.0 in
-      fixed_write z laws cp f l p.around p.reach p.low X (width g.layout ty) (stored g b e) (code_after g f)
+      fixed_written z laws cp f l p.around p.reach p.low X (width g.layout ty) (stored g b e) (code_after g f)
       (λ a i. ap (λ y. writing z g.layout.root y a (Frame g.copy b) (Frame g.copy (stored g b e)) (width g.layout ty) i (code_after g f)) q.spot)
-      refl (omega arith) p.own_room start v done 24 w c is (own_spot z cp g.layout g.copy sought X start q.spot p.around.reached q.there q.found) p.open_is p.fit (λ a d. wide ∙ q.one a d) (p.all ∙ sym wide) (omega arith) due
+      refl (omega arith) p.own_room start v done 0 w c is (own_spot z cp g.layout g.copy sought X start q.spot p.around.reached q.there q.found) p.open_is p.fit (λ a d. wide ∙ q.one a d) (p.all ∙ sym wide) due
       (λ le.
-      subst (λ y. Follow z 24 0 c (Went (state cp (Value y) k l (arrived z.outside w)) None)) (sym (kept_same z start X v is))
-      (comes_within (core_in z) (Mirrors z (state cp (Value v) k l (arrived z.outside w))) 0 0 24 0 c
-      (assigned z sought right ty line start v done X (stepped done start) k cp l w c (plain_spot z start X done v is) q.spot (omega arith) le h)
-      (omega arith) (omega arith)))
+      subst (λ y. Follow z 0 0 c (Went (state cp (Value y) k l (arrived z.outside w)) None)) (sym (kept_same z start X v is))
+      (assigned z sought right ty line start v done X (stepped done start) k cp l w c (plain_spot z start X done v is) q.spot (omega arith) le h))
       h
 
   pub update_write : (op : BinOp) (sought : Place) (right : Expression) (operation : Ty) (size : ℕ) (ty : Ty) (line : ℕ) (start : spot.Spot) (X : Byte) (v : Datum) (done : ℕ) (k : List Pending) (w : World value.Byte) (c : Machine) → Writing z cp (tree.Update op sought right operation size ty line) (Stores start v) k sought start X (type_bytes z.program.sizes ty) v → place_width (ground_in z cp).layout sought ≡ type_bytes z.program.sizes ty
       → base (ground_in z cp) k + type_bytes z.program.sizes ty ≤ (core_in z).program.frame_bytes (number z cp) → base (ground_in z cp) k ≤ stored (ground_in z cp) (base (ground_in z cp) k) (tree.Update op sought right operation size ty line) → is_due (arrived z.outside w) ≡ false
       → Mirrors z (state cp (Write (stepped done start) v done) (In (tree.Update op sought right operation size ty line) (Stores start v) ∷ k) l w) c
-      → Follow z 24 0 c (write (source_in z) (stepped done start) v done (In (tree.Update op sought right operation size ty line) (Stores start v) ∷ k) cp l (arrived z.outside w))
+      → Follow z (either (nat_lt done (byte_count v)) 6 24) (one_if (nat_lt done (byte_count v))) c (write (source_in z) (stepped done start) v done (In (tree.Update op sought right operation size ty line) (Stores start v) ∷ k) cp l (arrived z.outside w))
   update_write op sought right operation size ty line start X v done k w c p wide ahead high due h =
       let g = ground_in z cp in
       let b = base g k in
@@ -150,9 +150,9 @@ module _ (z : Scene) (laws : SceneLaws z) (cp : CopyOf) (l : source.Memory) wher
       let r = code_after g f in
       let count = place_width g.layout sought in
       let is : at_byte z start ≡ Some X = subst (λ y. IsAt z g.copy b y start c.memory) q.spot h.holds.0 in
-      fixed_write z laws cp f l p.around p.reach p.low X count (stored g b e) r
+      fixed_written z laws cp f l p.around p.reach p.low X count (stored g b e) r
       (λ a i. ap (λ y. writing z g.layout.root y a (Frame g.copy b) (Frame g.copy (stored g b e)) count i r) q.spot)
-      refl (omega arith) p.own_room start v done 24 w c is (own_spot z cp g.layout g.copy sought X start q.spot p.around.reached q.there q.found) p.open_is p.fit (λ a d. wide ∙ q.one a d) (p.all ∙ sym wide) (omega arith) due
+      refl (omega arith) p.own_room start v done 24 w c is (own_spot z cp g.layout g.copy sought X start q.spot p.around.reached q.there q.found) p.open_is p.fit (λ a d. wide ∙ q.one a d) (p.all ∙ sym wide) due
       (λ le.
       subst (λ y. Follow z 24 0 c (Went (state cp (Value y) k l (arrived z.outside w)) None)) (sym (kept_same z start X v is))
       (end_moved z laws e (Stores start v) (stepped done start) v v done (stored g b e) count k cp l w c p.below (omega arith) (omega arith) high (omega arith) (omega arith) due (λ want. subst (λ y. HasDatum z g.copy (stored g b e) y c.memory) (plain_spot z start X done v is) h.value)
@@ -193,7 +193,7 @@ module _ (z : Scene) (laws : SceneLaws z) (cp : CopyOf) (l : source.Memory) wher
       → beyond (stored (ground_in z cp) (base (ground_in z cp) k) (tree.Step op sought operation size ty line)) (width (ground_in z cp).layout operation) + type_bytes z.program.sizes ty ≤ (core_in z).program.frame_bytes (number z cp)
       → byte_count u ≤ type_bytes z.program.sizes ty → (keeps_old op ≡ false → u ≡ v) → is_due (arrived z.outside w) ≡ false
       → Mirrors z (state cp (Write (stepped done start) v done) (In (tree.Step op sought operation size ty line) (Stores start u) ∷ k) l w) c
-      → Follow z 24 0 c (write (source_in z) (stepped done start) v done (In (tree.Step op sought operation size ty line) (Stores start u) ∷ k) cp l (arrived z.outside w))
+      → Follow z (either (nat_lt done (byte_count v)) 6 24) (one_if (nat_lt done (byte_count v))) c (write (source_in z) (stepped done start) v done (In (tree.Step op sought operation size ty line) (Stores start u) ∷ k) cp l (arrived z.outside w))
   step_write op sought operation size ty line start X v u done k w c p wide ahead high higher behind_room shorter same_value_is due h =
       let g = ground_in z cp in
       let b = base g k in
@@ -209,9 +209,9 @@ module _ (z : Scene) (laws : SceneLaws z) (cp : CopyOf) (l : source.Memory) wher
       let keeps = keeps_old op in
       let count = place_width g.layout sought in
       let is : at_byte z start ≡ Some X = subst (λ y. IsAt z g.copy b y start c.memory) q.spot h.holds.0.0 in
-      fixed_write z laws cp f l p.around p.reach p.low X count new r
+      fixed_written z laws cp f l p.around p.reach p.low X count new r
       (λ a i. ap (λ y. writing z g.layout.root y a (Frame g.copy b) (Frame g.copy new) count i r) q.spot)
-      refl (omega arith) p.own_room start v done 24 w c is (own_spot z cp g.layout g.copy sought X start q.spot p.around.reached q.there q.found) p.open_is p.fit (λ a d. wide ∙ q.one a d) (p.all ∙ sym wide) (omega arith) due
+      refl (omega arith) p.own_room start v done 24 w c is (own_spot z cp g.layout g.copy sought X start q.spot p.around.reached q.there q.found) p.open_is p.fit (λ a d. wide ∙ q.one a d) (p.all ∙ sym wide) due
       (λ le.
       subst (λ y. Follow z 24 0 c (Went (state cp (Value y) k l (arrived z.outside w)) None)) (sym (step_end op start X u v sought operation size ty line is))
       (end_moved z laws e (Stores start u) (stepped done start) v u done (kept_at keeps old new) count k cp l w c p.below (omega arith) (kept_bound keeps old new count ((core_in z).program.frame_bytes (number z cp)) (omega arith) (omega arith)) (kept_high keeps old new b (omega arith) high) (omega arith) (omega arith) due

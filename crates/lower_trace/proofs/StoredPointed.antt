@@ -15,6 +15,8 @@ use Rattle.lower_expr.specs.Puts.{copies_if}
 use Rattle.lower_expr.specs.Rows.{keeps_old, kept_row}
 use Rattle.lower_expr.specs.Spots.{pointer_bytes}
 use Rattle.lower_expr.specs.declared.places.Spot.TheVariants.{Computed}
+use Rattle.src_rules.specs.Runs.{one_if}
+use Rattle.lower_trace.proofs.Costs.{either}
 use Rattle.lower_trace.proofs.Beginnings.{Follow}
 use Rattle.lower_trace.proofs.CodeLeft.{Scene, base, code_after, core_in, ground_in, number, source_in, stored, todo, wanted, writing}
 use Rattle.lower_trace.proofs.FixedWrites.{IsOpen}
@@ -22,7 +24,7 @@ use Rattle.lower_trace.proofs.Giving.{Around}
 use Rattle.lower_trace.proofs.Kept.{Reached, SceneLaws}
 use Rattle.lower_trace.proofs.Loading.{ReachesAll}
 use Rattle.lower_trace.proofs.Mirrors.{HasDatum, IsAt, Mirrors, standing}
-use Rattle.lower_trace.proofs.Placing.{none_stored, pointed_write}
+use Rattle.lower_trace.proofs.Placing.{none_stored, pointed_written}
 use Rattle.lower_trace.proofs.Pointed.{PointedPlace, pointer_at}
 use Rattle.lower_trace.proofs.Stored.{end_moved, given_is, kept_at, kept_bound, kept_has, kept_high}
 use Rattle.lower_trace.proofs.Written.{both}
@@ -41,7 +43,7 @@ use Rattle.src_values.specs.declared.objects.CopyOf.{CopyOf}
 use Rattle.src_values.specs.declared.objects.Pointer.TheVariants.{Into, Null}
 use Rattle.src_values.specs.declared.objects.Pointer.{Pointer}
 use Rattle.src_values.specs.declared.objects.Spot.TheVariants as spots
-use Rattle.std.proofs.Common.{List, None, ap, arith, false, refl, subst, suc, sym, zero, ℕ, ◌+◌, ◌<◌, ◌∙◌, ◌∷◌, ◌≡◌, ◌≤◌}
+use Rattle.std.proofs.Common.{List, None, ap, arith, false, nat_lt, refl, subst, suc, sym, zero, ℕ, ◌+◌, ◌<◌, ◌∙◌, ◌∷◌, ◌≡◌, ◌≤◌}
 
 pub memory_spot : (i : ℕ) (y : Pointer) → (p : Pointer) × (stepped i (spots.Memory y) ≡ spots.Memory p)
 memory_spot i Null = (Null, refl)
@@ -78,7 +80,7 @@ pub record PointedWriting (z : Scene) (cp : CopyOf) (e : Expression) (got : Got)
 module _ (z : Scene) (laws : SceneLaws z) (cp : CopyOf) (l : source.Memory) where
   pub pointed_assign : (sought : Place) (right : Expression) (ty : Ty) (line : ℕ) (x : Pointer) (v : Datum) (done : ℕ) (k : List Pending) (w : World value.Byte) (c : Machine) → PointedWriting z cp (tree.Assign sought right ty line) (Stores (spots.Memory x) v) k sought x (type_bytes z.program.sizes ty) v → width (ground_in z cp).layout ty ≡ type_bytes z.program.sizes ty → is_due (arrived z.outside w) ≡ false
       → Mirrors z (state cp (Write (stepped done (spots.Memory x)) v done) (In (tree.Assign sought right ty line) (Stores (spots.Memory x) v) ∷ k) l w) c
-      → Follow z 24 0 c (write (source_in z) (stepped done (spots.Memory x)) v done (In (tree.Assign sought right ty line) (Stores (spots.Memory x) v) ∷ k) cp l (arrived z.outside w))
+      → Follow z (either (nat_lt done (byte_count v)) 20 24) (one_if (nat_lt done (byte_count v))) c (write (source_in z) (stepped done (spots.Memory x)) v done (In (tree.Assign sought right ty line) (Stores (spots.Memory x) v) ∷ k) cp l (arrived z.outside w))
   pointed_assign sought right ty line x v done k w c p wide due h =
       let g = ground_in z cp in
       let b = base g k in
@@ -98,10 +100,10 @@ module _ (z : Scene) (laws : SceneLaws z) (cp : CopyOf) (l : source.Memory) wher
       let r_is : r ≡ todo (copies_if (wanted k) (Frame g.copy b) (Frame g.copy (stored g b e)) count) (code_after g k) =
       ap (λ y. todo (kept_row (wanted k) y (Frame g.copy b) (lower.behind (Frame g.copy b) (pointer_bytes y)) count) (code_after g k)) q.spot
       ∙ ap (λ y. todo (copies_if (wanted k) (Frame g.copy b) (Frame g.copy y) count) (code_after g k)) (sym (ap (λ y. beyond b (pointer_bytes y)) q.spot)) in
-      pointed_write z laws cp f l p.around p.reached p.low g.layout.root count (stored g b e) b r
+      pointed_written z laws cp f l p.around p.reached p.low g.layout.root count (stored g b e) b r
       (λ a i. ap (λ y. writing z g.layout.root y a (Frame g.copy b) (Frame g.copy (stored g b e)) count i r) q.spot)
       refl (omega arith) far p.reach x v done 24 w c q.there p.open_is (all ∙ sym wide)
-      (pointer_at z g.copy b x c.memory (subst (λ y. IsAt z g.copy b y start c.memory) q.spot h.holds.0)) (omega arith) due
+      (pointer_at z g.copy b x c.memory (subst (λ y. IsAt z g.copy b y start c.memory) q.spot h.holds.0)) due
       (λ le.
       subst (λ y. Follow z 24 0 c (Went (state cp (Value y) k l (arrived z.outside w)) None)) (sym (kept_memory x v))
       (end_moved z laws e (Stores start v) (stepped done start) v v done (stored g b e) count k cp l w c p.below (omega arith) (omega arith) (omega arith) (omega arith) (omega arith) due (λ want. subst (λ y. HasDatum z g.copy (stored g b e) y c.memory) (plain_memory x done v) h.value)
@@ -113,7 +115,7 @@ module _ (z : Scene) (laws : SceneLaws z) (cp : CopyOf) (l : source.Memory) wher
 
   pub pointed_update_write : (op : BinOp) (sought : Place) (right : Expression) (operation : Ty) (size : ℕ) (ty : Ty) (line : ℕ) (x : Pointer) (v : Datum) (done : ℕ) (k : List Pending) (w : World value.Byte) (c : Machine) → PointedWriting z cp (tree.Update op sought right operation size ty line) (Stores (spots.Memory x) v) k sought x (type_bytes z.program.sizes ty) v → place_width (ground_in z cp).layout sought ≡ type_bytes z.program.sizes ty → is_due (arrived z.outside w) ≡ false
       → Mirrors z (state cp (Write (stepped done (spots.Memory x)) v done) (In (tree.Update op sought right operation size ty line) (Stores (spots.Memory x) v) ∷ k) l w) c
-      → Follow z 24 0 c (write (source_in z) (stepped done (spots.Memory x)) v done (In (tree.Update op sought right operation size ty line) (Stores (spots.Memory x) v) ∷ k) cp l (arrived z.outside w))
+      → Follow z (either (nat_lt done (byte_count v)) 20 24) (one_if (nat_lt done (byte_count v))) c (write (source_in z) (stepped done (spots.Memory x)) v done (In (tree.Update op sought right operation size ty line) (Stores (spots.Memory x) v) ∷ k) cp l (arrived z.outside w))
   pointed_update_write op sought right operation size ty line x v done k w c p wide due h =
       let g = ground_in z cp in
       let b = base g k in
@@ -130,10 +132,10 @@ module _ (z : Scene) (laws : SceneLaws z) (cp : CopyOf) (l : source.Memory) wher
       let r = code_after g f in
       let count = place_width g.layout sought in
       let to = memory_spot done x in
-      pointed_write z laws cp f l p.around p.reached p.low g.layout.root count (stored g b e) b r
+      pointed_written z laws cp f l p.around p.reached p.low g.layout.root count (stored g b e) b r
       (λ a i. ap (λ y. writing z g.layout.root y a (Frame g.copy b) (Frame g.copy (stored g b e)) count i r) q.spot)
       refl (omega arith) far p.reach x v done 24 w c q.there p.open_is (all ∙ sym wide)
-      (pointer_at z g.copy b x c.memory (subst (λ y. IsAt z g.copy b y start c.memory) q.spot h.holds.0)) (omega arith) due
+      (pointer_at z g.copy b x c.memory (subst (λ y. IsAt z g.copy b y start c.memory) q.spot h.holds.0)) due
       (λ le.
       subst (λ y. Follow z 24 0 c (Went (state cp (Value y) k l (arrived z.outside w)) None)) (sym (kept_memory x v))
       (end_moved z laws e (Stores start v) (stepped done start) v v done (stored g b e) count k cp l w c p.below (omega arith) (omega arith) (omega arith) (omega arith) (omega arith) due (λ want. subst (λ y. HasDatum z g.copy (stored g b e) y c.memory) (plain_memory x done v) h.value)
@@ -154,7 +156,7 @@ module _ (z : Scene) (laws : SceneLaws z) (cp : CopyOf) (l : source.Memory) wher
       → beyond (stored (ground_in z cp) (base (ground_in z cp) k) (tree.Step op sought operation size ty line)) (width (ground_in z cp).layout operation) + type_bytes z.program.sizes ty ≤ (core_in z).program.frame_bytes (number z cp)
       → byte_count u ≤ type_bytes z.program.sizes ty → (keeps_old op ≡ false → u ≡ v) → is_due (arrived z.outside w) ≡ false
       → Mirrors z (state cp (Write (stepped done (spots.Memory x)) v done) (In (tree.Step op sought operation size ty line) (Stores (spots.Memory x) u) ∷ k) l w) c
-      → Follow z 24 0 c (write (source_in z) (stepped done (spots.Memory x)) v done (In (tree.Step op sought operation size ty line) (Stores (spots.Memory x) u) ∷ k) cp l (arrived z.outside w))
+      → Follow z (either (nat_lt done (byte_count v)) 20 24) (one_if (nat_lt done (byte_count v))) c (write (source_in z) (stepped done (spots.Memory x)) v done (In (tree.Step op sought operation size ty line) (Stores (spots.Memory x) u) ∷ k) cp l (arrived z.outside w))
   pointed_step_write op sought operation size ty line x v u done k w c p wide higher behind_room shorter same_value_is due h =
       let g = ground_in z cp in
       let b = base g k in
@@ -175,10 +177,10 @@ module _ (z : Scene) (laws : SceneLaws z) (cp : CopyOf) (l : source.Memory) wher
       let count = place_width g.layout sought in
       let to = memory_spot done x in
       let most = (core_in z).program.frame_bytes (number z cp) in
-      pointed_write z laws cp f l p.around p.reached p.low g.layout.root count new b r
+      pointed_written z laws cp f l p.around p.reached p.low g.layout.root count new b r
       (λ a i. ap (λ y. writing z g.layout.root y a (Frame g.copy b) (Frame g.copy new) count i r) q.spot)
       refl (omega arith) far p.reach x v done 24 w c q.there p.open_is (all ∙ sym wide)
-      (pointer_at z g.copy b x c.memory (subst (λ y. IsAt z g.copy b y start c.memory) q.spot h.holds.0.0)) (omega arith) due
+      (pointer_at z g.copy b x c.memory (subst (λ y. IsAt z g.copy b y start c.memory) q.spot h.holds.0.0)) due
       (λ le.
       subst (λ y. Follow z 24 0 c (Went (state cp (Value y) k l (arrived z.outside w)) None)) (sym (step_answer op x u sought operation size ty line))
       (end_moved z laws e (Stores start u) (stepped done start) v u done (kept_at z laws cp l keeps old new) count k cp l w c p.below (omega arith)

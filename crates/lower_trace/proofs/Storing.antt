@@ -39,7 +39,7 @@ use Rattle.lower_trace.proofs.CodeLeft.{Scene, held, number, ground_in, core_in,
 use Rattle.lower_trace.proofs.Constants.{due_below, again_below}
 use Rattle.lower_trace.proofs.Fetching.{copies_step}
 use Rattle.lower_trace.proofs.Giving.{Around, placed_of, mirrors}
-use Rattle.lower_trace.proofs.Kept.{SceneLaws, SameTemps, Reached, Piled, own_copy, base_above, beyond_high, datum_same, at_same}
+use Rattle.lower_trace.proofs.Kept.{SceneLaws, SameTemps, Reached, Piled, SameCopies, own_copy, base_above, beyond_high, copied_base, copied_same, carried_same, datum_same, at_same}
 use Rattle.lower_trace.proofs.Mirrors.{HasDatum, standing, Mirrors, Agree, Agrees, Holds, HasValue, HasIf, HasReadIn, HasReadAt, HasArguments, Waits, core_byte}
 use Rattle.lower_trace.proofs.Operations.{Comes, beyond_is, own_frame, write_then}
 use Rattle.lower_trace.proofs.Placed.{Placed}
@@ -163,6 +163,29 @@ stored_at_high g (Before ss ∷ k) p small = omega arith
 stored_at_high g (Returns d ∷ k) p small = omega arith
 stored_at_high g (Resumes d x ∷ k) p small = omega arith
 
+-- the temporary bytes alone are the same
+copied_high : (g : Ground) (k : List Pending) → Piled g k → base g k ≤ 96 → (g.base ≤ copied_base g k) × (copied_base g k ≤ 96)
+copied_high g [] p small = (omega arith, small)
+copied_high g (In e got ∷ k) p small = let a = base_above g k p.2 in let b = p.1 in (a, omega arith)
+copied_high g (To place ∷ k) p small = let a = base_above g k p in (omega arith, omega arith)
+copied_high g (Doing t stage ∷ k) p small = (omega arith, small)
+copied_high g (Before ss ∷ k) p small = (omega arith, small)
+copied_high g (Returns d ∷ k) p small = (omega arith, small)
+copied_high g (Resumes d x ∷ k) p small = (omega arith, small)
+
+copies_temps : (g : Ground) (k : List Pending) (m m' : Memory) → Piled g k → base g k ≤ 96 → ((y : ℕ) → g.base ≤ y → m' (Frame g.copy y) ≡ m (Frame g.copy y)) → SameCopies g (copied_base g k) g.base m m'
+copies_temps g k m m' p small s =
+    let b = copied_base g k in
+    let h = copied_high g k p small in
+    let high = h.0 in
+    let few = h.1 in
+    record {
+      front = high;
+      second = λ i. let q = beyond_high b i (omega arith) in omega arith;
+      third = λ i j. let q = beyond_two b i j b (omega arith) (omega arith) in omega arith;
+      frame = s;
+    }
+
 pub value_temps : (z : Scene) (g : Ground) (x : Focus) (k : List Pending) (m m' : Memory) → Piled g k → base g k ≤ 96 → ((y : ℕ) → g.base ≤ y → m' (Frame g.copy y) ≡ m (Frame g.copy y)) → ((i : ℕ) → m' (Result g.layout.root i) ≡ m (Result g.layout.root i)) → HasValue z g x k m → HasValue z g x k m'
 value_temps z g (Eval e) k m m' p small s r h = tt
 value_temps z g (Find place) k m m' p small s r h = tt
@@ -171,16 +194,16 @@ value_temps z g (Found at) k m m' p small s r h = let a = base_above g k p in λ
 value_temps z g (Run t) k m m' p small s r h = tt
 value_temps z g Past k m m' p small s r h = tt
 value_temps z g (Fetch at read) k m m' p small s r h = let a = base_above g k p in read_high z g k at read m m' (λ y le. s y (omega arith)) h
-value_temps z g (Skim at left byte) k m m' p small s r h = tt
+value_temps z g (Skim at left byte) k m m' p small s r h = let a = base_above g k p in (h.0, h.1, h.2, read_high z g k at h.0 m m' (λ y le. s y (omega arith)) h.3)
 value_temps z g (Write at v done) k m m' p small s r h = let a = stored_at_high g k p small in datum_same z g.copy (stored_at g k) (standing at done v) m m' (λ y le lt. s y (omega arith)) h
 value_temps z g (PutBit register bit v old) k m m' p small s r h = let a = stored_at_high g k p small in datum_same z g.copy (stored_at g k) (number_of int.UChar (lowest_bit v)) m m' (λ y le lt. s y (omega arith)) h
-value_temps z g (CopyRead to from left) k m m' p small s r h = tt
-value_temps z g (CopyWrite to from byte left) k m m' p small s r h = tt
+value_temps z g (CopyRead to from left) k m m' p small s r h = copied_same z g k to from left g.base m m' (copies_temps g k m m' p small s) r h
+value_temps z g (CopyWrite to from byte left) k m m' p small s r h = carried_same z g k to from byte left g.base m m' (copies_temps g k m m' p small s) r h
 value_temps z g (Spell at text left) k m m' p small s r h = tt
 value_temps z g (Blank at left) k m m' p small s r h = tt
 value_temps z g Calls k m m' p small s r h = tt
 value_temps z g (Leaves v) k m m' p small s r h = λ i lt. r i ∙ h i lt
-value_temps z g (Compares v labels) k m m' p small s r h = tt
+value_temps z g (Compares v labels) k m m' p small s r h = (h.0, datum_same z g.copy g.base v m m' (λ y le lt. s y le) h.1)
 value_temps z g Over k m m' p small s r h = tt
 
 pub own_temps : (z : Scene) (c : CopyOf) (m m' : Memory) → SameTemps z c m m' → (y : ℕ) → (ground_in z c).base ≤ y → m' (Frame (ground_in z c).copy y) ≡ m (Frame (ground_in z c).copy y)
