@@ -79,3 +79,4 @@ pub mod PointerTests
 pub mod PointerDistances
 pub mod ConstantShifts
 pub mod Folding
+pub mod ConstantUpdates
