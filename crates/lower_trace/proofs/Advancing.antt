@@ -168,7 +168,7 @@ trail_of z root n b (Fixed x) Computed to from done lag one m through h i j = (h
 trail_of z root n b (Bit register bit) q to from done lag one m through h i j = (h, i, j)
 trail_of z root n b Computed q to from done lag one m through h i j = (h, i, j)
 
-copying_begins : (root : Root) (p q : place.Spot) (at : Byte) (size : ℕ) (r : List Task) → IsThrough p q
+pub copying_begins : (root : Root) (p q : place.Spot) (at : Byte) (size : ℕ) (r : List Task) → IsThrough p q
     → todo (copying root p q at size 0) r ≡ Todo [] (code.Set (Result root 0) 1) ∷ Todo [] (code.Set (Result root 1) 0) ∷ todo (bytes_from (Result root 0) p q at 0 size) r
 copying_begins root (Fixed x) (Fixed y) at size r through = absurd through
 copying_begins root (Fixed x) (Bit register bit) at size r through = ap (λ y. Todo [] (code.Set (Result root 0) 1) ∷ Todo [] (code.Set (Result root 1) 0) ∷ y) (structure_is (Result root 0) (Fixed x) (Bit register bit) at size r)

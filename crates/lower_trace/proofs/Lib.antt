@@ -80,3 +80,4 @@ pub mod PointerDistances
 pub mod ConstantShifts
 pub mod Folding
 pub mod ConstantUpdates
+pub mod CopyEnds
