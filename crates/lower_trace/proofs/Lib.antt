@@ -81,3 +81,4 @@ pub mod ConstantShifts
 pub mod Folding
 pub mod ConstantUpdates
 pub mod CopyEnds
+pub mod FoldedOperands
