@@ -13,8 +13,8 @@ use Rattle.c_typed.specs.Trees.{Expression}
 use Rattle.c_typed.specs.Types.{type_of}
 use Rattle.c_typed.specs.declared.types.Ty.TheVariants as types
 use Rattle.core_code.specs.Bytes.{Held, Memory, Number, same_byte, with_byte, with_bytes}
-use Rattle.core_code.specs.Cost.{binary_cost, cost_of, least_binary, least_of, leaving}
-use Rattle.core_code.specs.Machine.{Machine, Setting, Task, Do as Todo, Waiting, goes, operate, tasks}
+use Rattle.core_code.specs.Cost.{binary_cost, cost_of}
+use Rattle.core_code.specs.Machine.{Machine, Setting, Task, Do as Todo, Waiting, operate, tasks}
 use Rattle.core_code.specs.Operands.{fits_together, is_helped, number_behind, number_from, number_left}
 use Rattle.core_code.specs.Tree as code
 use Rattle.core_code.specs.Tree.{Tree, many, trees_of, list_of}
@@ -26,7 +26,7 @@ use Rattle.lower_expr.specs.Bytes as lower
 use Rattle.lower_expr.specs.Bytes.{beyond, byte_at, operation_type}
 use Rattle.lower_expr.specs.Layout.{value_width}
 use Rattle.lower_expr.specs.Lowering.{change_code, expr_code, shifts_by_constant}
-use Rattle.lower_expr.specs.Puts.{operator, sets}
+use Rattle.lower_expr.specs.Puts.{sets}
 use Rattle.lower_expr.specs.Rows.{binary_row, shift_row}
 use Rattle.lower_trace.proofs.Beginnings.{Follow}
 use Rattle.lower_trace.proofs.Changing.{OnlyAbove, above_then, above_written, agrees_above, datum_above, holds_above}
@@ -40,8 +40,8 @@ use Rattle.lower_trace.proofs.Members.{if_datum}
 use Rattle.lower_trace.proofs.Mirrors.{HasDatum, Mirrors}
 use Rattle.lower_trace.proofs.Operating.{itself, value_number}
 use Rattle.lower_trace.proofs.Operations.{Comes, beyond_is, comes_first, comes_within, own_frame, own_put}
-use Rattle.lower_trace.proofs.Placed.{Front, Placed, front, least_operates, list_again, most_operates, operates, plain_tasks, todo_join}
-use Rattle.lower_trace.proofs.Written.{and_false, both, bytes_there, byte_same, nat_apart, nat_same, off, on}
+use Rattle.lower_trace.proofs.Placed.{Front, Placed, front, least_operates, list_again, most_operates, operates, plain_tasks}
+use Rattle.lower_trace.proofs.Written.{and_false, both, bytes_there, byte_same, nat_apart}
 use Rattle.pic_world.specs.World.{World, arrived, is_due, world_as}
 use Rattle.src_rules.specs.Giving.{answered, take_in}
 use Rattle.src_rules.specs.State.{state}
@@ -53,8 +53,7 @@ use Rattle.src_values.specs.declared.objects.Byte as value
 use Rattle.src_values.specs.declared.objects.Byte.TheVariants as values
 use Rattle.src_values.specs.declared.objects.CopyOf.{CopyOf}
 use Rattle.src_values.specs.declared.objects.Undef.{Undef}
-use Rattle.std.proofs.Common.{Bool, List, None, Option, Some, [], ap, arith, false, if◌then◌else◌, inl, inr, nat_eq, nat_lt, not, pos, refl, subst, suc, sym, true, zero, ℕ, ◌%◌, ◌&&◌, ◌*◌, ◌++◌, ◌+◌, ◌/◌, ◌<◌, ◌^◌, ◌∙◌, ◌∷◌, ◌≡◌, ◌≤◌, ◌||◌}
-use Rattle.std.proofs.lemmas.Grind.{common_steps}
+use Rattle.std.proofs.Common.{Bool, List, None, Option, Some, [], ap, arith, false, if◌then◌else◌, inr, nat_eq, nat_lt, pos, refl, subst, suc, sym, true, zero, ℕ, ◌%◌, ◌*◌, ◌++◌, ◌+◌, ◌/◌, ◌<◌, ◌^◌, ◌∙◌, ◌∷◌, ◌≡◌, ◌≤◌}
 use Rattle.std.proofs.lemmas.List.{append-nil, append_assoc}
 use Rattle.std.specs.Prelude.{unwrap_or}
 

@@ -61,7 +61,7 @@ use Rattle.src_values.specs.declared.objects.Byte.TheVariants as values
 use Rattle.src_values.specs.declared.objects.CopyOf.{CopyOf}
 use Rattle.src_values.specs.declared.objects.Spot as spot
 use Rattle.src_values.specs.declared.objects.Undef.{Undef}
-use Rattle.std.proofs.Common.{Bool, List, None, Option, Some, [], ap, arith, false, if◌then◌else◌, inr, nat_lt, pos, refl, subst, suc, sym, true, ℕ, ◌%◌, ◌&&◌, ◌*◌, ◌++◌, ◌+◌, ◌/◌, ◌^◌, ◌∙◌, ◌∷◌, ◌≡◌, ◌≤◌}
+use Rattle.std.proofs.Common.{Bool, List, None, Option, Some, [], ap, arith, false, if◌then◌else◌, inr, nat_lt, pos, refl, subst, suc, sym, true, ℕ, ◌%◌, ◌*◌, ◌++◌, ◌+◌, ◌/◌, ◌^◌, ◌∙◌, ◌∷◌, ◌≡◌, ◌≤◌}
 
 -- What an update by a shift needs whose count is a constant of so many bytes, one more than `less`.
 pub record ShiftsPlace (z : Scene) (cp : CopyOf) (k : List Pending) (sought : Place) (right : Expression) (left_at right_at less : ℕ) (to : IntTy) (x y : Quantity) : Type 0 where

@@ -1,6 +1,6 @@
 -- Structures of no bytes, whose copy ends where it begins; and that the places of structures are objects.
 use Rattle.c_ints.specs.declared.types.IntTy.TheVariants as int
-use Rattle.c_typed.specs.Fits.{declared_type, is_device, is_named, place_rule_holds, register_type}
+use Rattle.c_typed.specs.Fits.{is_device, is_named, place_rule_holds, register_type}
 use Rattle.c_typed.specs.Sameness.{is_struct, same_flag, same_type}
 use Rattle.c_typed.specs.Trees as tree
 use Rattle.c_typed.specs.Trees.{Place}
@@ -11,7 +11,7 @@ use Rattle.c_typed.specs.declared.types.Ty.TheVariants as types
 use Rattle.c_typed.specs.declared.types.Ty.{Ty}
 use Rattle.core_code.specs.Bytes as bytes
 use Rattle.core_code.specs.Bytes.{Memory, with_byte}
-use Rattle.core_code.specs.Machine.{Machine, Task, Do as Todo}
+use Rattle.core_code.specs.Machine.{Machine, Do as Todo}
 use Rattle.core_code.specs.Tree as code
 use Rattle.core_code.specs.declared.code.Byte.TheVariants.{Frame, Result}
 use Rattle.lower_expr.specs.Bytes.{beyond}
@@ -22,7 +22,7 @@ use Rattle.lower_trace.proofs.Advancing.{IsThrough, copying_begins}
 use Rattle.lower_trace.proofs.Beginnings.{Follow, rests}
 use Rattle.lower_trace.proofs.CodeLeft.{Scene, base, code_after, copies_from, copying, core_in, ground_in, held, number, source_in, stack_after, todo, wanted}
 use Rattle.lower_trace.proofs.Constants.{again_below, due_below}
-use Rattle.lower_trace.proofs.CopyNodes.{CopyNode, IsObject, assign_copied, assign_node}
+use Rattle.lower_trace.proofs.CopyNodes.{IsObject, assign_copied, assign_node}
 use Rattle.lower_trace.proofs.Flow.{arrive}
 use Rattle.lower_trace.proofs.Giving.{Around, agrees_same, placed_of}
 use Rattle.lower_trace.proofs.Handing.{own_result}
@@ -41,13 +41,12 @@ use Rattle.src_rules.specs.State.{state}
 use Rattle.src_values.specs.Control.{Copies, CopyRead, In, Pending, Holds as Value, active}
 use Rattle.src_values.specs.Data as datum
 use Rattle.src_values.specs.Memory as source
-use Rattle.src_values.specs.Objects.{function_at}
 use Rattle.src_values.specs.declared.objects.Byte as value
 use Rattle.src_values.specs.declared.objects.CopyOf.{CopyOf}
 use Rattle.src_values.specs.declared.objects.Object as object
 use Rattle.src_values.specs.declared.objects.Object.TheVariants as objects
 use Rattle.src_values.specs.declared.objects.Spot as spot
-use Rattle.std.proofs.Common.{Bool, List, None, Option, Some, [], ap, arith, false, if◌then◌else◌, refl, subst, suc, sym, true, zero, ℕ, ◌&&◌, ◌+◌, ◌-◌, ◌∙◌, ◌∷◌, ◌≡◌, ◌||◌}
+use Rattle.std.proofs.Common.{Bool, List, None, Some, [], ap, arith, false, if◌then◌else◌, refl, subst, suc, sym, true, zero, ℕ, ◌&&◌, ◌+◌, ◌-◌, ◌∙◌, ◌∷◌, ◌≡◌, ◌||◌}
 
 -- ---- places of structures
 no_register : (t : Ty) → is_struct t ≡ true → same_type (types.Int int.UChar) t ≡ true → ⊥

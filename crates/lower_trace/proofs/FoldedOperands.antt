@@ -13,7 +13,7 @@ use Rattle.c_typed.specs.declared.types.Ty.{Ty}
 use Rattle.lower_trace.proofs.Cuts.{same as unchanged}
 use Rattle.lower_trace.proofs.Written.{and_left, and_right}
 use Rattle.src_rules.proofs.Values.{same_int_is}
-use Rattle.std.proofs.Common.{Bool, ap, false, if◌then◌else◌, refl, subst, sym, true, ◌&&◌, ◌∙◌, ◌≡◌}
+use Rattle.std.proofs.Common.{Bool, ap, false, if◌then◌else◌, refl, true, ◌&&◌, ◌∙◌, ◌≡◌}
 
 cut_same : (u : Quantity) (t : IntTy) → t ≡ u.ty → IsInRange u.ty u.number → cut_to t u.number ≡ u
 cut_same u t e r = ap (λ x. cut_to x u.number) e ∙ ap (λ i. record { ty = u.ty; number = i }) (unchanged u.ty u.number r)

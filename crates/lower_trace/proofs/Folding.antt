@@ -16,20 +16,19 @@ use Rattle.c_typed.specs.declared.types.Ty.{Ty}
 use Rattle.core_code.specs.Machine.{Machine}
 use Rattle.lower_expr.specs.Lowering.{shifts_by_constant}
 use Rattle.lower_expr.specs.Rows.{is_shift}
-use Rattle.lower_trace.proofs.CodeLeft.{Scene, core_in, source_in}
+use Rattle.lower_trace.proofs.CodeLeft.{Scene, source_in}
 use Rattle.lower_trace.proofs.Constants.{same_below}
 use Rattle.lower_trace.proofs.Giving.{mirrors}
 use Rattle.lower_trace.proofs.Mirrors.{Mirrors}
 use Rattle.lower_trace.proofs.NumberBytes.{zero_pattern}
-use Rattle.lower_trace.proofs.Operations.{Comes, comes_here}
 use Rattle.lower_trace.proofs.Written.{and_left, and_right}
 use Rattle.pic_world.proofs.WorldLaws.{arrived_again}
 use Rattle.pic_world.specs.World.{World, arrived, is_due}
 use Rattle.src_rules.specs.Expressions.{eval, found_in}
-use Rattle.src_rules.specs.Giving.{answered, branch, give, logical, take_in, truth_given}
+use Rattle.src_rules.specs.Giving.{answered, branch, logical, take_in}
 use Rattle.src_rules.specs.Accesses.{goes}
 use Rattle.src_rules.specs.State.{Idle, Lost, Outcome, State, Undefined, Went, state}
-use Rattle.src_values.specs.Control.{At, Chosen, Eval, Focus, Found, Got, In, Nothing, One, Pending, Holds as Value, active}
+use Rattle.src_values.specs.Control.{At, Chosen, Eval, Focus, Found, Got, In, Nothing, One, Pending, Holds as Value}
 use Rattle.src_values.specs.Data as datum
 use Rattle.src_values.specs.Data.{Datum}
 use Rattle.src_values.specs.Memory as source
@@ -39,7 +38,7 @@ use Rattle.src_values.specs.declared.objects.Byte as value
 use Rattle.src_values.specs.declared.objects.CopyOf.{CopyOf}
 use Rattle.src_values.specs.declared.objects.Spot as spot
 use Rattle.src_values.specs.declared.objects.Undef.{Undef}
-use Rattle.std.proofs.Common.{Bool, List, None, Option, Some, [], ap, false, if◌then◌else◌, nat_eq, not, pos, refl, subst, sym, true, ℕ, ◌&&◌, ◌++◌, ◌∙◌, ◌∷◌, ◌≡◌}
+use Rattle.std.proofs.Common.{Bool, List, None, Option, Some, [], ap, false, if◌then◌else◌, not, pos, refl, sym, true, ℕ, ◌&&◌, ◌++◌, ◌∙◌, ◌∷◌, ◌≡◌}
 use Rattle.std.specs.Ordering.{int_eq}
 
 -- ---- what is left of a constant

@@ -41,7 +41,7 @@ use Rattle.pic_world.specs.declared.Root.{Root}
 use Rattle.pic_world.specs.declared.Root.TheVariants.{Main, Isr}
 use Rattle.lower_trace.specs.Lowering.{object_as, offset_as}
 use Rattle.lower_trace.proofs.CodeLeft.{Scene, number, ground_in, core_in, wanted, base, above, stored, stored_at}
-use Rattle.lower_trace.proofs.Mirrors.{standing, core_byte, HasDatum, at_byte, IsAt, HasArguments, Waits, HasReadIn, HasReadAt, HasIf, Trails, HasOne, Trail, Carries, HasCopied, HasCarried, HasCopiedAt, HasCarriedAt, lag_of, is_begun, HasValue, Holds}
+use Rattle.lower_trace.proofs.Mirrors.{standing, core_byte, HasDatum, at_byte, IsAt, HasArguments, Waits, HasReadIn, HasReadAt, HasIf, Trails, HasOne, Trail, Carries, HasCopiedAt, HasCarriedAt, lag_of, is_begun, HasValue, Holds}
 
 -- ---- what is known of a program and its copies
 pub record SceneLaws (z : Scene) : Type 0 where
