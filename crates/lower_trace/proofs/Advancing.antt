@@ -13,18 +13,18 @@ use Rattle.core_code.specs.Values as core
 use Rattle.core_code.specs.Values.{binary_value, value_in}
 use Rattle.core_code.specs.declared.code.Byte.TheVariants.{Frame, Result}
 use Rattle.core_code.specs.declared.code.Byte.{Byte}
-use Rattle.lower_expr.specs.Bytes.{behind, beyond}
-use Rattle.lower_expr.specs.Rows.{advance, advances, given, side_of, structure_bytes, taken}
+use Rattle.lower_expr.specs.Bytes.{beyond}
+use Rattle.lower_expr.specs.Rows.{advance, advances, given, side_of, taken}
 use Rattle.lower_expr.specs.Spots.{pointer_bytes}
 use Rattle.lower_expr.specs.declared.places.Spot as place
 use Rattle.lower_expr.specs.declared.places.Spot.TheVariants.{Bit, Computed, Fixed}
 use Rattle.lower_trace.proofs.Changing.{OnlyAbove, above_same, above_written, agrees_above, datum_above, holds_above, lower_above, above_then}
-use Rattle.lower_trace.proofs.CodeLeft.{Scene, base, between, bytes_from, copying, core_in, ground_in, held, number, stack_after, todo}
+use Rattle.lower_trace.proofs.CodeLeft.{Scene, base, between, bytes_from, copying, core_in, ground_in, number, stack_after, todo}
 use Rattle.lower_trace.proofs.CopyNodes.{byte_code, structure_is}
 use Rattle.lower_trace.proofs.Giving.{Around, agrees_same, value_high}
 use Rattle.lower_trace.proofs.Handing.{own_result}
 use Rattle.lower_trace.proofs.Kept.{SameFrame, SceneLaws}
-use Rattle.lower_trace.proofs.Mirrors.{Agrees, HasCopied, HasDatum, HasOne, Holds, Trail, Trails, core_byte, is_begun, lag_of}
+use Rattle.lower_trace.proofs.Mirrors.{Agrees, HasCopied, HasDatum, HasOne, Holds, Trail, Trails, core_byte}
 use Rattle.lower_trace.proofs.Moving.{binary_any_then, moved_so, pointer_value, set_result_then}
 use Rattle.lower_trace.proofs.Operating.{itself}
 use Rattle.lower_trace.proofs.Operations.{Comes, beyond_is, comes_within, own_frame}
@@ -36,7 +36,7 @@ use Rattle.lower_trace.specs.Lowering.{object_as, offset_as}
 use Rattle.pic_world.specs.Roots.{same_root}
 use Rattle.pic_world.specs.World.{World, arrived, is_due}
 use Rattle.pic_world.specs.declared.Root.{Root}
-use Rattle.src_rules.specs.Standing.{IsPlaced, IsThere, stepped}
+use Rattle.src_rules.specs.Standing.{IsPlaced, IsThere}
 use Rattle.src_values.specs.Control.{Pending, callers}
 use Rattle.src_values.specs.Data as datum
 use Rattle.src_values.specs.Memory as source
@@ -48,7 +48,7 @@ use Rattle.src_values.specs.declared.objects.Pointer.TheVariants.{Into, Null}
 use Rattle.src_values.specs.declared.objects.Pointer.{Pointer}
 use Rattle.src_values.specs.declared.objects.Spot as spot
 use Rattle.src_values.specs.declared.objects.Spot.TheVariants as spots
-use Rattle.std.proofs.Common.{Bool, List, None, Option, Some, [], ap, arith, false, if◌then◌else◌, inr, nat_eq, nat_le, option_map, pos, refl, subst, suc, sym, true, unsigned_abs, zero, ℕ, ℤ, ◌*◌, ◌++◌, ◌+ℤ◌, ◌+◌, ◌-◌, ◌||◌, ◌∙◌, ◌∷◌, ◌≡◌, ◌≤◌}
+use Rattle.std.proofs.Common.{Bool, List, None, Some, [], ap, arith, false, inr, nat_eq, nat_le, option_map, pos, refl, subst, suc, sym, true, zero, ℕ, ◌++◌, ◌+ℤ◌, ◌+◌, ◌-◌, ◌∙◌, ◌∷◌, ◌≡◌, ◌≤◌}
 use Rattle.std.proofs.lemmas.Grind.{common_steps}
 use Rattle.std.proofs.lemmas.Int.{ints}
 use Rattle.std.specs.Prelude.{int_lt}
@@ -168,7 +168,7 @@ trail_of z root n b (Fixed x) Computed to from done lag one m through h i j = (h
 trail_of z root n b (Bit register bit) q to from done lag one m through h i j = (h, i, j)
 trail_of z root n b Computed q to from done lag one m through h i j = (h, i, j)
 
-copying_begins : (root : Root) (p q : place.Spot) (at : Byte) (size : ℕ) (r : List Task) → IsThrough p q
+pub copying_begins : (root : Root) (p q : place.Spot) (at : Byte) (size : ℕ) (r : List Task) → IsThrough p q
     → todo (copying root p q at size 0) r ≡ Todo [] (code.Set (Result root 0) 1) ∷ Todo [] (code.Set (Result root 1) 0) ∷ todo (bytes_from (Result root 0) p q at 0 size) r
 copying_begins root (Fixed x) (Fixed y) at size r through = absurd through
 copying_begins root (Fixed x) (Bit register bit) at size r through = ap (λ y. Todo [] (code.Set (Result root 0) 1) ∷ Todo [] (code.Set (Result root 1) 0) ∷ y) (structure_is (Result root 0) (Fixed x) (Bit register bit) at size r)

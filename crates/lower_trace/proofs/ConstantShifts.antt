@@ -13,8 +13,8 @@ use Rattle.c_typed.specs.Trees.{Expression}
 use Rattle.c_typed.specs.Types.{type_of}
 use Rattle.c_typed.specs.declared.types.Ty.TheVariants as types
 use Rattle.core_code.specs.Bytes.{Held, Memory, Number, same_byte, with_byte, with_bytes}
-use Rattle.core_code.specs.Cost.{binary_cost, cost_of, least_binary, least_of, leaving}
-use Rattle.core_code.specs.Machine.{Machine, Setting, Task, Do as Todo, Waiting, goes, operate, tasks}
+use Rattle.core_code.specs.Cost.{binary_cost, cost_of}
+use Rattle.core_code.specs.Machine.{Machine, Setting, Task, Do as Todo, Waiting, operate, tasks}
 use Rattle.core_code.specs.Operands.{fits_together, is_helped, number_behind, number_from, number_left}
 use Rattle.core_code.specs.Tree as code
 use Rattle.core_code.specs.Tree.{Tree, many, trees_of, list_of}
@@ -26,7 +26,7 @@ use Rattle.lower_expr.specs.Bytes as lower
 use Rattle.lower_expr.specs.Bytes.{beyond, byte_at, operation_type}
 use Rattle.lower_expr.specs.Layout.{value_width}
 use Rattle.lower_expr.specs.Lowering.{change_code, expr_code, shifts_by_constant}
-use Rattle.lower_expr.specs.Puts.{operator, sets}
+use Rattle.lower_expr.specs.Puts.{sets}
 use Rattle.lower_expr.specs.Rows.{binary_row, shift_row}
 use Rattle.lower_trace.proofs.Beginnings.{Follow}
 use Rattle.lower_trace.proofs.Changing.{OnlyAbove, above_then, above_written, agrees_above, datum_above, holds_above}
@@ -40,8 +40,8 @@ use Rattle.lower_trace.proofs.Members.{if_datum}
 use Rattle.lower_trace.proofs.Mirrors.{HasDatum, Mirrors}
 use Rattle.lower_trace.proofs.Operating.{itself, value_number}
 use Rattle.lower_trace.proofs.Operations.{Comes, beyond_is, comes_first, comes_within, own_frame, own_put}
-use Rattle.lower_trace.proofs.Placed.{Front, Placed, front, least_operates, list_again, most_operates, operates, plain_tasks, todo_join}
-use Rattle.lower_trace.proofs.Written.{and_false, both, bytes_there, byte_same, nat_apart, nat_same, off, on}
+use Rattle.lower_trace.proofs.Placed.{Front, Placed, front, least_operates, list_again, most_operates, operates, plain_tasks}
+use Rattle.lower_trace.proofs.Written.{and_false, both, bytes_there, byte_same, nat_apart}
 use Rattle.pic_world.specs.World.{World, arrived, is_due, world_as}
 use Rattle.src_rules.specs.Giving.{answered, take_in}
 use Rattle.src_rules.specs.State.{state}
@@ -53,8 +53,7 @@ use Rattle.src_values.specs.declared.objects.Byte as value
 use Rattle.src_values.specs.declared.objects.Byte.TheVariants as values
 use Rattle.src_values.specs.declared.objects.CopyOf.{CopyOf}
 use Rattle.src_values.specs.declared.objects.Undef.{Undef}
-use Rattle.std.proofs.Common.{Bool, List, None, Option, Some, [], ap, arith, false, if◌then◌else◌, inl, inr, nat_eq, nat_lt, not, pos, refl, subst, suc, sym, true, zero, ℕ, ◌%◌, ◌&&◌, ◌*◌, ◌++◌, ◌+◌, ◌/◌, ◌<◌, ◌^◌, ◌∙◌, ◌∷◌, ◌≡◌, ◌≤◌, ◌||◌}
-use Rattle.std.proofs.lemmas.Grind.{common_steps}
+use Rattle.std.proofs.Common.{Bool, List, None, Option, Some, [], ap, arith, false, if◌then◌else◌, inr, nat_eq, nat_lt, pos, refl, subst, suc, sym, true, zero, ℕ, ◌%◌, ◌*◌, ◌++◌, ◌+◌, ◌/◌, ◌<◌, ◌^◌, ◌∙◌, ◌∷◌, ◌≡◌, ◌≤◌}
 use Rattle.std.proofs.lemmas.List.{append-nil, append_assoc}
 use Rattle.std.specs.Prelude.{unwrap_or}
 
@@ -64,7 +63,7 @@ known_more y left [] t = refl
 known_more y left (x ∷ ts) t = known_more y (number_behind y left x) ts t
 
 -- the sets of a number tell its lowest byte
-known_sets : (n y v k : ℕ) → y + suc k ≤ 65535 → number_left (sets (Frame n y) v (suc k)) (Frame n y) ≡ Some (byte_at v 0)
+pub known_sets : (n y v k : ℕ) → y + suc k ≤ 65535 → number_left (sets (Frame n y) v (suc k)) (Frame n y) ≡ Some (byte_at v 0)
 unfolding sets
 known_sets n y v zero le =
     let here : lower.behind (Frame n y) 0 ≡ Frame n y = ap (Frame n) (beyond_is y 0 (omega arith) ∙ (omega arith)) in
@@ -91,7 +90,7 @@ module _ (g : Setting) (T : Machine → Type 0) (n : ℕ) (a : Option ℕ) (s : 
   placed_exact : (before ts : List Tree) (rest r : List Task) (m : Memory) (c : Machine) → Exact g n a before ts rest r s m w c → Placed g n a (todo ts r) s m w c
   placed_exact before ts rest r m c x = record { copy = x.copy; passing = x.passing; code = ap plain x.code ∙ plain_tasks before ts rest ∙ ap (todo ts) x.left; stack = x.stack; memory = x.memory; world = x.world }
 
-  exact_many_then : (ts : List Tree) (r : List Task) (m : Memory) (c : Machine) (q l : ℕ) → Placed g n a (Todo [] (many ts) ∷ r) s m w c → ((rest : List Task) (d : Machine) → Exact g n a [] ts rest r s m w d → Comes g T q l d) → Comes g T q l c
+  pub exact_many_then : (ts : List Tree) (r : List Task) (m : Memory) (c : Machine) (q l : ℕ) → Placed g n a (Todo [] (many ts) ∷ r) s m w c → ((rest : List Task) (d : Machine) → Exact g n a [] ts rest r s m w d → Comes g T q l d) → Comes g T q l c
   unfolding operate cost_of
   exact_many_then ts r m c q l p next =
       let f = front c.code (many ts) r p.code in
@@ -122,7 +121,7 @@ module _ (g : Setting) (T : Machine → Type 0) (n : ℕ) (a : Option ℕ) (s : 
       (omega arith) (omega arith)
       (next d (record { copy = refl; passing = refl; code = refl; left = x.left; stack = x.stack; memory = refl; world = again }))
 
-  exact_sets_then : (k : ℕ) (before us : List Tree) (b v : ℕ) (rest r : List Task) (m : Memory) (c : Machine) (q l : ℕ) → b + k ≤ g.program.frame_bytes n → g.program.frame_bytes n ≤ 65535 → Exact g n a before (sets (Frame n b) v k ++ us) rest r s m w c
+  pub exact_sets_then : (k : ℕ) (before us : List Tree) (b v : ℕ) (rest r : List Task) (m : Memory) (c : Machine) (q l : ℕ) → b + k ≤ g.program.frame_bytes n → g.program.frame_bytes n ≤ 65535 → Exact g n a before (sets (Frame n b) v k ++ us) rest r s m w c
       → ((d : Machine) → Exact g n a (before ++ sets (Frame n b) v k) us rest r s (with_bytes m (Frame n b) k (λ i. Number (byte_at v i))) w d → Comes g T q l d) → Comes g T (4 * k + q) (k + l) c
   unfolding sets
   exact_sets_then zero before us b v rest r m c q l le small x next =
@@ -199,7 +198,7 @@ shift_cheap ops.Ne t w s few = absurd s
 
 module _ (z : Scene) (laws : SceneLaws z) (T : Machine → Type 0) (n : ℕ) (s : List Waiting) (w : World Held) (due : is_due w ≡ false) (again : arrived (core_in z).outside w ≡ w) where
   -- a shift by a count that was set before it
-  exact_shift_then : (op : BinOp) (ty : IntTy) (before : List Tree) (b y t : ℕ) (x u o : Quantity) (rest r : List Task) (m : Memory) (c : Machine) (q l : ℕ) → Shifts op → nat_lt 1 (bytes_of ty) ≡ true → number_left before (Frame n y) ≡ Some t → b + bytes_of ty ≤ (core_in z).program.frame_bytes n → y + bytes_of (right_type op ty) ≤ (core_in z).program.frame_bytes n → b + bytes_of o.ty ≤ (core_in z).program.frame_bytes n
+  pub exact_shift_then : (op : BinOp) (ty : IntTy) (before : List Tree) (b y t : ℕ) (x u o : Quantity) (rest r : List Task) (m : Memory) (c : Machine) (q l : ℕ) → Shifts op → nat_lt 1 (bytes_of ty) ≡ true → number_left before (Frame n y) ≡ Some t → b + bytes_of ty ≤ (core_in z).program.frame_bytes n → y + bytes_of (right_type op ty) ≤ (core_in z).program.frame_bytes n → b + bytes_of o.ty ≤ (core_in z).program.frame_bytes n
       → value_in ty m (Frame n b) ≡ Some (core.Number x) → value_in (right_type op ty) m (Frame n y) ≡ Some (core.Number u) → outcome op x u ≡ Some o
       → Exact (core_in z) n None before (code.Binary op ty (Frame n b) (Frame n b) (Frame n y) ∷ []) rest r s m w c
       → ((d : Machine) → Placed (core_in z) n None r s (with_bytes m (Frame n b) (bytes_of o.ty) (core.byte_of (core.Number o))) w d → Comes (core_in z) T q l d) → Comes (core_in z) T (52 + q) l c
@@ -226,6 +225,15 @@ module _ (z : Scene) (laws : SceneLaws z) (T : Machine → Type 0) (n : ℕ) (s 
       (omega arith) (omega arith)
       (next d (record { copy = refl; passing = refl; code = e.left; stack = e.stack; memory = refl; world = again })))
       (omega arith) (omega arith)
+
+some_type : (bad : Bool) (r v : Quantity) → (if bad then None else Some r) ≡ Some v → v.ty ≡ r.ty
+some_type true r v e = absurd (cc)
+some_type false r v e = ap (λ o. (unwrap_or o v).ty) (sym e)
+
+pub shift_typed : (op : BinOp) (x y v : Quantity) → Shifts op → outcome op x y ≡ Some v → bytes_of v.ty ≡ bytes_of x.ty
+shift_typed ops.Shl x y v s e = ap bytes_of (some_type (shifts_badly x.ty y.number) (numbers.value_of ops.Shl x y) v e)
+shift_typed ops.Shr x y v s e = ap bytes_of (some_type (shifts_badly x.ty y.number) (numbers.value_of ops.Shr x y) v e)
+shift_typed _ x y v s e = absurd s
 
 module _ (z : Scene) (laws : SceneLaws z) where
   shift_case : (bad : Option Undef) (o : Option Quantity) (op : BinOp) (left right : Expression) (line : ℕ) (x y : Quantity) (at size : ℕ) (k : List Pending) (cp : CopyOf) (l : source.Memory) (w : World value.Byte) (c : Machine) → bad_right op (types.Int x.ty) (datum.Number y) ≡ bad → outcome op x y ≡ o → Shifts op → shifts_by_constant op right ≡ true → Around z cp k → nat_lt 1 (bytes_of x.ty) ≡ true → type_of left ≡ types.Int x.ty → IsInRange x.ty x.number → pattern y.ty y.number ≡ constant_bits right → value_width (ground_in z cp).layout right ≡ bytes_of y.ty → bytes_of y.ty ≡ suc size
@@ -266,7 +274,7 @@ module _ (z : Scene) (laws : SceneLaws z) where
       let t = count_small x.ty y.number (shift_bad op x.ty y shift bad_is) in
       let u : Quantity = record { ty = int.UChar; number = pos t.0 } in
       let alike : outcome op x u ≡ outcome op x y = ap (λ i. if has_no_value op x.ty x.number i then None else Some (cut_to (numbers.type_of op x.ty) (numbers.exact op x.ty x.number i))) (sym t.1) in
-      let typed : bytes_of v.ty ≡ bytes_of x.ty = shift_type op x y v shift is in
+      let typed : bytes_of v.ty ≡ bytes_of x.ty = shift_typed op x y v shift is in
       comes_within (core_in z) T (4 * suc size + (52 + 0)) (suc size + 0) 70 0 c
       (exact_many_then (core_in z) T n None s W (due_below z (arrived z.outside w) due) (again_below z w) (sets Y number_is (suc size) ++ shifted ∷ []) r c.memory c (4 * suc size + (52 + 0)) (suc size + 0)
       (subst (λ f. Placed (core_in z) n None f s c.memory W c) now (placed_of z (state cp (Value (datum.Number x)) (In e Nothing ∷ k) l w) c h))
@@ -281,15 +289,6 @@ module _ (z : Scene) (laws : SceneLaws z) where
       (holds_above z cp k c.memory m2 b around (omega arith) only h.holds.1)
       (if_datum z (wanted k) g.copy b (datum.Number v) m2 (subst (λ f. HasDatum z f b (datum.Number v) m2) (sym (own_copy z cp)) (λ i lt. bytes_there m1 n b (bytes_of v.ty) (core.byte_of (core.Number v)) i lt)))))))
       (omega arith) (omega arith)
-    where
-      some_type : (bad : Bool) (r v : Quantity) → (if bad then None else Some r) ≡ Some v → v.ty ≡ r.ty
-      some_type true r v e = absurd (cc)
-      some_type false r v e = ap (λ o. (unwrap_or o v).ty) (sym e)
-
-      shift_type : (op : BinOp) (x y v : Quantity) → Shifts op → outcome op x y ≡ Some v → bytes_of v.ty ≡ bytes_of x.ty
-      shift_type ops.Shl x y v s e = ap bytes_of (some_type (shifts_badly x.ty y.number) _ v e)
-      shift_type ops.Shr x y v s e = ap bytes_of (some_type (shifts_badly x.ty y.number) _ v e)
-      shift_type _ x y v s e = absurd s
 
   -- a shift by a constant, where byte code stands at the left operand's value
   pub constant_shift : (op : BinOp) (left right : Expression) (line : ℕ) (x y : Quantity) (at size : ℕ) (k : List Pending) (cp : CopyOf) (l : source.Memory) (w : World value.Byte) (c : Machine) → Shifts op → shifts_by_constant op right ≡ true → Around z cp k → nat_lt 1 (bytes_of x.ty) ≡ true → type_of left ≡ types.Int x.ty → IsInRange x.ty x.number → pattern y.ty y.number ≡ constant_bits right → value_width (ground_in z cp).layout right ≡ bytes_of y.ty → bytes_of y.ty ≡ suc size

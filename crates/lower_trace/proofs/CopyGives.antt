@@ -1,11 +1,9 @@
 -- A byte of a structure that is copied through pointers goes from its way to its place.
-use Rattle.core_code.specs.Bytes as bytes
 use Rattle.core_code.specs.Bytes.{Held, Memory, same_byte, with_byte}
-use Rattle.core_code.specs.Machine.{Machine, Put, Task, Do as Todo, Waiting, after_write, may_hold, memory_with, storing}
+use Rattle.core_code.specs.Machine.{Machine, Task, Do as Todo, after_write, may_hold, memory_with}
 use Rattle.core_code.specs.Tree as code
 use Rattle.core_code.specs.declared.code.Byte.TheVariants.{Frame, Result}
-use Rattle.core_code.specs.declared.code.Byte.{Byte}
-use Rattle.lower_expr.specs.Bytes.{behind, beyond}
+use Rattle.lower_expr.specs.Bytes.{behind}
 use Rattle.lower_expr.specs.Rows.{given, side_of}
 use Rattle.lower_expr.specs.Spots.{pointer_bytes}
 use Rattle.lower_expr.specs.declared.places.Spot as place
@@ -13,7 +11,7 @@ use Rattle.lower_expr.specs.declared.places.Spot.TheVariants.{Bit, Computed, Fix
 use Rattle.lower_trace.proofs.Advancing.{IsThrough, copying_goes, second_is, third_is, trail_of, trail_parts, trails_above}
 use Rattle.lower_trace.proofs.Beginnings.{Follow}
 use Rattle.lower_trace.proofs.Changing.{agrees_above, holds_above}
-use Rattle.lower_trace.proofs.CodeLeft.{Scene, base, bytes_from, carrying_at, code_after, copying, core_in, ground_in, held, is_seen, number, putting_if, source_in, stack_after, todo}
+use Rattle.lower_trace.proofs.CodeLeft.{Scene, bytes_from, code_after, copying, core_in, ground_in, held, is_seen, number, putting_if, source_in, stack_after, todo}
 use Rattle.lower_trace.proofs.Constants.{again_below, due_below}
 use Rattle.lower_trace.proofs.CopyNodes.{CopyNode}
 use Rattle.lower_trace.proofs.CopyTakes.{OwnIf, byte_above, carries_there, carry_code, trails_pointer}
@@ -26,25 +24,24 @@ use Rattle.lower_trace.proofs.Kept.{Reached, SameTemps, SceneLaws}
 use Rattle.lower_trace.proofs.Loading.{ReachesAll}
 use Rattle.lower_trace.proofs.MemberPlaces.{fixed_bytes}
 use Rattle.lower_trace.proofs.Members.{byte_is_so}
-use Rattle.lower_trace.proofs.Mirrors.{Agrees, HasCopied, HasDatum, HasOne, Holds, Mirrors, Trails, core_byte}
+use Rattle.lower_trace.proofs.Mirrors.{Agrees, HasCopied, HasOne, Holds, Mirrors, Trails, core_byte}
 use Rattle.lower_trace.proofs.NumberBytes.{pointer_back}
 use Rattle.lower_trace.proofs.Operations.{Comes, comes_within, own_frame, put_then, write_then}
 use Rattle.lower_trace.proofs.Placed.{Placed}
 use Rattle.lower_trace.proofs.Placing.{Writable, writable_so}
 use Rattle.lower_trace.proofs.Pointing.{store_byte_then, store_then}
 use Rattle.lower_trace.proofs.Returning.{Resumables}
-use Rattle.lower_trace.proofs.Storing.{memory_object, results_kept, temps_kept}
+use Rattle.lower_trace.proofs.Storing.{results_kept, temps_kept}
 use Rattle.lower_trace.proofs.Written.{byte_same, on}
 use Rattle.lower_trace.specs.Lowering.{object_as, offset_as}
 use Rattle.pic_world.specs.World.{World, WriteOf, arrived, is_due, world_as}
 use Rattle.src_rules.specs.Accesses.{after_putting, copy_write}
-use Rattle.src_rules.specs.Standing.{IsPlaced, IsThere, stepped}
+use Rattle.src_rules.specs.Standing.{IsPlaced, IsThere}
 use Rattle.src_rules.specs.State.{state}
 use Rattle.src_values.specs.Accesses.{event_at, is_unset, noting, put_byte, put_unless, write_fault}
 use Rattle.src_values.specs.Control.{CopyRead, CopyWrite, Pending, active, callers, line_at}
-use Rattle.src_values.specs.Data as datum
 use Rattle.src_values.specs.Memory as source
-use Rattle.src_values.specs.Objects.{next_byte, object_bytes}
+use Rattle.src_values.specs.Objects.{object_bytes}
 use Rattle.src_values.specs.declared.objects.Byte as value
 use Rattle.src_values.specs.declared.objects.CopyOf.{CopyOf}
 use Rattle.src_values.specs.declared.objects.Object as object
@@ -53,7 +50,7 @@ use Rattle.src_values.specs.declared.objects.Pointer.{Pointer}
 use Rattle.src_values.specs.declared.objects.Spot as spot
 use Rattle.src_values.specs.declared.objects.Spot.TheVariants as spots
 use Rattle.src_values.specs.declared.objects.Undef.{Undef}
-use Rattle.std.proofs.Common.{Bool, List, None, Option, Some, [], ap, arith, false, refl, subst, suc, sym, true, zero, ℕ, ◌+◌, ◌-◌, ◌<◌, ◌∙◌, ◌∷◌, ◌≡◌, ◌≤◌}
+use Rattle.std.proofs.Common.{Bool, List, None, Option, Some, [], ap, arith, false, refl, subst, suc, sym, true, ℕ, ◌+◌, ◌-◌, ◌<◌, ◌∙◌, ◌∷◌, ◌≡◌, ◌≤◌}
 
 module _ (z : Scene) (laws : SceneLaws z) (cp : CopyOf) (k : List Pending) (l : source.Memory) (around : Around z cp k) (resumables : Resumables cp.root k) (p q : place.Spot) (b size : ℕ) (through : IsThrough p q) (node : CopyNode z cp k p q b size) (room : b + pointer_bytes p + pointer_bytes q + 1 ≤ (core_in z).program.frame_bytes (number z cp)) (reach : ReachesAll z cp k) (own_room : (ground_in z cp).base ≤ (core_in z).program.frame_bytes (number z cp)) where
   abbrev on_way : ℕ

@@ -3,7 +3,6 @@ use Rattle.c_typed.specs.Trees as tree
 use Rattle.c_typed.specs.Trees.{Item, Place}
 use Rattle.core_code.specs.Bytes.{Memory}
 use Rattle.core_code.specs.Machine.{Machine, Task, Do as Todo}
-use Rattle.core_code.specs.Tree as code
 use Rattle.core_code.specs.declared.code.Byte.TheVariants.{Frame, Result}
 use Rattle.core_code.specs.declared.code.Byte.{Byte}
 use Rattle.lower_expr.specs.Bytes.{behind, beyond}
@@ -13,7 +12,7 @@ use Rattle.lower_expr.specs.declared.places.Spot as place
 use Rattle.lower_expr.specs.declared.places.Spot.TheVariants.{Bit, Computed, Fixed}
 use Rattle.lower_stmt.specs.Ground.{local_byte}
 use Rattle.lower_trace.proofs.Beginnings.{Follow, rests}
-use Rattle.lower_trace.proofs.CodeLeft.{Scene, base, between, bytes_from, carrying, carrying_at, code_after, copies_from, copying, copying_at, core_in, ground_in, number, source_in, todo, wanted}
+use Rattle.lower_trace.proofs.CodeLeft.{Scene, base, between, bytes_from, carrying, carrying_at, code_after, copies_from, copying, copying_at, ground_in, number, source_in, todo, wanted}
 use Rattle.lower_trace.proofs.Kept.{SceneLaws}
 use Rattle.lower_trace.proofs.MemberPlaces.{fixed_bytes}
 use Rattle.lower_trace.proofs.Members.{byte_is_so}
@@ -35,7 +34,7 @@ use Rattle.src_values.specs.declared.objects.Pointer.TheVariants.{Into, Null}
 use Rattle.src_values.specs.declared.objects.Pointer.{Pointer}
 use Rattle.src_values.specs.declared.objects.Spot as spot
 use Rattle.src_values.specs.declared.objects.Spot.TheVariants as spots
-use Rattle.std.proofs.Common.{Bool, List, None, Option, Some, [], ap, arith, false, refl, subst, suc, sym, true, zero, ℕ, ◌++◌, ◌+◌, ◌-◌, ◌<◌, ◌∙◌, ◌∷◌, ◌≡◌, ◌≤◌}
+use Rattle.std.proofs.Common.{Bool, List, Some, [], ap, arith, false, refl, subst, suc, sym, true, zero, ℕ, ◌++◌, ◌+◌, ◌-◌, ◌<◌, ◌∙◌, ◌∷◌, ◌≡◌, ◌≤◌}
 use Rattle.std.proofs.lemmas.Grind.{common_steps}
 
 -- ---- code

@@ -1,9 +1,8 @@
 -- A byte of a structure that is copied through pointers is read on its way.
 use Rattle.core_code.specs.Bytes as bytes
 use Rattle.core_code.specs.Bytes.{Memory, is_private, same_byte, with_byte}
-use Rattle.core_code.specs.Machine.{LoadFrom, Machine, Put, Task, Do as Todo, Waiting, after_read, held_at, is_valid, loading, noting_if, static_bytes}
+use Rattle.core_code.specs.Machine.{Machine, Put, Task, Do as Todo, after_read, held_at, is_valid, noting_if, static_bytes}
 use Rattle.core_code.specs.Tree as code
-use Rattle.core_code.specs.Values.{pointer_in}
 use Rattle.core_code.specs.declared.code.Byte.TheVariants.{Device, Frame, Result, Static}
 use Rattle.core_code.specs.declared.code.Byte.{Byte}
 use Rattle.lower_expr.specs.Bytes.{behind, beyond}
@@ -13,7 +12,7 @@ use Rattle.lower_expr.specs.declared.places.Spot as place
 use Rattle.lower_expr.specs.declared.places.Spot.TheVariants.{Bit, Computed, Fixed}
 use Rattle.lower_trace.proofs.Advancing.{IsThrough, between_is, ready_then, second_is, third_is, trail_of, trails_above}
 use Rattle.lower_trace.proofs.Changing.{OnlyAbove, above_written, agrees_above, holds_above}
-use Rattle.lower_trace.proofs.CodeLeft.{Scene, base, between, bytes_from, carrying, carrying_at, code_after, copying, core_in, ground_in, held, is_seen, number, plain_behind, putting_if, source_in, stack_after, todo}
+use Rattle.lower_trace.proofs.CodeLeft.{Scene, between, bytes_from, carrying, carrying_at, code_after, core_in, ground_in, held, is_seen, number, putting_if, source_in, stack_after, todo}
 use Rattle.lower_trace.proofs.Constants.{again_below, due_below, same_below}
 use Rattle.lower_trace.proofs.CopyNodes.{CopyNode}
 use Rattle.lower_trace.proofs.Fetching.{one_written}
@@ -23,7 +22,7 @@ use Rattle.lower_trace.proofs.Giving.{Around, mirrors, placed_of, value_high}
 use Rattle.lower_trace.proofs.Kept.{SceneLaws}
 use Rattle.lower_trace.proofs.Loading.{ReachesAll, isolated}
 use Rattle.lower_trace.proofs.Members.{byte_is_so}
-use Rattle.lower_trace.proofs.Mirrors.{Agrees, Carries, HasDatum, HasOne, Holds, Mirrors, Trails, core_byte}
+use Rattle.lower_trace.proofs.Mirrors.{Carries, HasDatum, Mirrors, Trails, core_byte}
 use Rattle.lower_trace.proofs.NumberBytes.{pointer_back}
 use Rattle.lower_trace.proofs.Operations.{Comes, comes_here, comes_within, copy_then, own_frame, read_then}
 use Rattle.lower_trace.proofs.Placed.{Placed}
@@ -32,28 +31,26 @@ use Rattle.lower_trace.proofs.Reading.{lt_true, noted_if, readable, set_agrees}
 use Rattle.lower_trace.proofs.Returning.{Resumables}
 use Rattle.lower_trace.proofs.Written.{byte_same, on}
 use Rattle.lower_trace.proofs.Beginnings.{Follow}
-use Rattle.lower_trace.specs.Lowering.{object_as, offset_as}
 use Rattle.pic_world.specs.World.{ReadOf, World, arrived, is_due, world_as}
 use Rattle.pic_world.specs.declared.Cell.TheVariants as cells
 use Rattle.pic_world.specs.declared.Root.{Root}
 use Rattle.src_rules.specs.Accesses.{after_taking, copy_read, is_any}
 use Rattle.src_rules.specs.Standing.{IsPlaced, IsThere, stepped}
 use Rattle.src_rules.specs.State.{state}
-use Rattle.src_values.specs.Accesses.{event_at, is_unset, noting, read_fault, take_byte, taken_unless}
+use Rattle.src_values.specs.Accesses.{event_at, noting, read_fault, take_byte, taken_unless}
 use Rattle.src_values.specs.Control.{CopyRead, CopyWrite, Pending, active, callers, line_at}
 use Rattle.src_values.specs.Data as datum
 use Rattle.src_values.specs.Memory as source
 use Rattle.src_values.specs.Objects.{breaks_isolation, is_alive, is_watched, object_bytes, variable_offset}
 use Rattle.src_values.specs.declared.objects.Byte as value
 use Rattle.src_values.specs.declared.objects.CopyOf.{CopyOf}
-use Rattle.src_values.specs.declared.objects.Object as object
 use Rattle.src_values.specs.declared.objects.Object.TheVariants as objects
 use Rattle.src_values.specs.declared.objects.Pointer.TheVariants.{Into, Null}
 use Rattle.src_values.specs.declared.objects.Pointer.{Pointer}
 use Rattle.src_values.specs.declared.objects.Spot as spot
 use Rattle.src_values.specs.declared.objects.Spot.TheVariants as spots
 use Rattle.src_values.specs.declared.objects.Undef.{Undef}
-use Rattle.std.proofs.Common.{Bool, List, None, Option, Some, [], ap, arith, false, if◌then◌else◌, refl, subst, suc, sym, true, zero, ℕ, ◌+◌, ◌-◌, ◌<◌, ◌∙◌, ◌∷◌, ◌≡◌, ◌≤◌}
+use Rattle.std.proofs.Common.{List, None, Option, Some, [], ap, arith, false, if◌then◌else◌, refl, subst, suc, sym, true, ℕ, ◌+◌, ◌-◌, ◌<◌, ◌∙◌, ◌∷◌, ◌≡◌, ◌≤◌}
 
 -- a fixed place is one of the copy's own
 abbrev pub OwnIf : Scene → CopyOf → place.Spot → spot.Spot → Type 0

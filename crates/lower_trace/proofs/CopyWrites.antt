@@ -1,52 +1,38 @@
 -- A byte of a structure that is copied goes to its place, and the pointers to both places go on with the next one.
-use Rattle.core_code.specs.Bytes as bytes
 use Rattle.core_code.specs.Bytes.{Held, Memory, with_byte}
-use Rattle.core_code.specs.Machine.{Machine, Put, Setting, Task, Do as Todo, Waiting, act, after_write, is_others, is_valid, may_hold, memory_with, put, storing, written}
-use Rattle.core_code.specs.Tree as code
+use Rattle.core_code.specs.Machine.{Machine, Put, Setting, Task, Waiting, act, after_write, is_others, is_valid, may_hold, memory_with, put}
 use Rattle.core_code.specs.declared.code.Byte.TheVariants.{Device, Frame, Result, Static}
 use Rattle.core_code.specs.declared.code.Byte.{Byte}
 use Rattle.lower_expr.specs.Bytes.{behind, beyond, little_beyond}
-use Rattle.lower_expr.specs.Spots.{pointer_bytes}
 use Rattle.lower_expr.specs.declared.places.Spot as place
-use Rattle.lower_expr.specs.declared.places.Spot.TheVariants.{Bit, Computed, Fixed}
-use Rattle.lower_trace.proofs.Assigning.{static_holds}
-use Rattle.lower_trace.proofs.Beginnings.{Follow}
-use Rattle.lower_trace.proofs.CodeLeft.{Scene, base, code_after, copies_from, copying, copying_at, core_in, ground_in, held, number, source_in, stack_after, todo}
-use Rattle.lower_trace.proofs.Constants.{again_below, due_below}
+use Rattle.lower_trace.proofs.CodeLeft.{Scene, code_after, copying, core_in, ground_in, held, number, stack_after, todo}
 use Rattle.lower_trace.proofs.CopyNodes.{CopyNode}
-use Rattle.lower_trace.proofs.FixedPlaces.{IsOwnSpot}
 use Rattle.lower_trace.proofs.FixedWrites.{IsOpen}
-use Rattle.lower_trace.proofs.Giving.{Around, mirrors, placed_of}
-use Rattle.lower_trace.proofs.Kept.{Reached, SameTemps, SceneLaws, own_copy, own_root}
-use Rattle.lower_trace.proofs.MemberPlaces.{fixed_bytes}
-use Rattle.lower_trace.proofs.Members.{byte_is_so}
-use Rattle.lower_trace.proofs.Mirrors.{Agrees, HasCopied, Holds, Mirrors, Trail, core_byte}
+use Rattle.lower_trace.proofs.Giving.{Around, mirrors}
+use Rattle.lower_trace.proofs.Kept.{Reached, SameTemps, SceneLaws}
+use Rattle.lower_trace.proofs.Mirrors.{Agrees, HasCopied, Holds, Mirrors, core_byte}
 use Rattle.lower_trace.proofs.Operations.{Comes, comes_first, comes_here, comes_within}
 use Rattle.lower_trace.proofs.Placed.{Placed, does, least_does, most_does, other}
-use Rattle.lower_trace.proofs.Placing.{Writable, writable_so}
 use Rattle.lower_trace.proofs.Reading.{noted_if}
 use Rattle.lower_trace.proofs.Storing.{holds_temps, memory_object, results_kept, store_agrees, temps_kept}
 use Rattle.pic_world.proofs.WorldLaws.{arrived_as}
 use Rattle.pic_world.specs.World.{World, WriteOf, arrived, is_due, noted, world_as}
 use Rattle.pic_world.specs.declared.Cell.TheVariants as cells
-use Rattle.pic_world.specs.declared.Root.{Root}
-use Rattle.src_rules.specs.Accesses.{after_putting}
 use Rattle.src_rules.specs.Standing.{IsReached, IsThere}
 use Rattle.src_rules.specs.State.{state}
-use Rattle.src_values.specs.Accesses.{event_at, is_unset, noting, put_byte, put_unless, write_fault}
-use Rattle.src_values.specs.Control.{CopyRead, CopyWrite, Pending, active, callers}
+use Rattle.src_values.specs.Accesses.{event_at, is_unset, noting}
+use Rattle.src_values.specs.Control.{CopyRead, Pending, active, callers}
 use Rattle.src_values.specs.Memory as source
-use Rattle.src_values.specs.Objects.{is_watched, next_byte, object_bytes}
+use Rattle.src_values.specs.Objects.{object_bytes}
 use Rattle.src_values.specs.declared.objects.Byte as value
 use Rattle.src_values.specs.declared.objects.Byte.TheVariants as values
 use Rattle.src_values.specs.declared.objects.CopyOf.{CopyOf}
 use Rattle.src_values.specs.declared.objects.Object as object
 use Rattle.src_values.specs.declared.objects.Object.TheVariants as objects
-use Rattle.src_values.specs.declared.objects.Pointer.TheVariants.{Into, Null}
+use Rattle.src_values.specs.declared.objects.Pointer.TheVariants.{Into}
 use Rattle.src_values.specs.declared.objects.Spot as spot
 use Rattle.src_values.specs.declared.objects.Spot.TheVariants as spots
-use Rattle.src_values.specs.declared.objects.Undef.{Undef}
-use Rattle.std.proofs.Common.{Bool, List, None, Option, Some, [], ap, arith, false, if◌then◌else◌, refl, subst, suc, sym, true, ℕ, ◌+◌, ◌-◌, ◌<◌, ◌∙◌, ◌∷◌, ◌≡◌, ◌≤◌}
+use Rattle.std.proofs.Common.{List, None, Option, Some, ap, arith, false, if◌then◌else◌, refl, subst, sym, true, ℕ, ◌+◌, ◌-◌, ◌<◌, ◌∙◌, ◌∷◌, ◌≡◌}
 use Rattle.std.proofs.lemmas.Grind.{common_steps}
 
 -- ---- a byte that was read goes to any byte that may be accessed by its name, which may be an event

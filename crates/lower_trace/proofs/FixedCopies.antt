@@ -1,13 +1,12 @@
 -- Structures that are copied between fixed places. A byte of a variable is read and written by one operation; a byte of a static object is
 -- read, which may be an event, and written by the next one.
-use Rattle.core_code.specs.Bytes.{Memory, is_private}
-use Rattle.core_code.specs.Machine.{Machine, Put, Task, Do as Todo, Waiting, after_read, after_write, held_at, is_others, is_valid, may_hold, memory_with, noting_if, static_bytes}
+use Rattle.core_code.specs.Machine.{Machine, Put, Task, Do as Todo, after_read, after_write, held_at, is_others, is_valid, may_hold, memory_with, noting_if, static_bytes}
 use Rattle.core_code.specs.Tree as code
 use Rattle.core_code.specs.declared.code.Byte.TheVariants.{Frame, Static}
 use Rattle.core_code.specs.declared.code.Byte.{Byte}
 use Rattle.lower_expr.specs.Bytes.{behind, beyond}
 use Rattle.lower_expr.specs.declared.places.Spot.TheVariants.{Fixed}
-use Rattle.lower_trace.proofs.CodeLeft.{Scene, carrying, carrying_at, code_after, copies_from, copying, copying_at, core_in, ground_in, held, number, source_in, stack_after, todo}
+use Rattle.lower_trace.proofs.CodeLeft.{Scene, carrying_at, code_after, copies_from, copying, copying_at, core_in, ground_in, held, number, source_in, stack_after, todo}
 use Rattle.lower_trace.proofs.Constants.{again_below, due_below, same_below}
 use Rattle.lower_trace.proofs.CopyNodes.{CopyNode}
 use Rattle.lower_trace.proofs.CopyWrites.{behind_next, byte_holds, byte_world, copied_arrives, put_any_then}
@@ -18,11 +17,11 @@ use Rattle.lower_trace.proofs.Giving.{Around, mirrors, placed_of}
 use Rattle.lower_trace.proofs.Kept.{Reached, SceneLaws}
 use Rattle.lower_trace.proofs.MemberPlaces.{fixed_bytes}
 use Rattle.lower_trace.proofs.Members.{byte_is_so}
-use Rattle.lower_trace.proofs.Mirrors.{HasCopied, Mirrors, core_byte}
-use Rattle.lower_trace.proofs.Operations.{Comes, beyond_is, comes_here, comes_within, own_frame, read_then, write_then}
+use Rattle.lower_trace.proofs.Mirrors.{Mirrors, core_byte}
+use Rattle.lower_trace.proofs.Operations.{beyond_is, comes_here, comes_within, own_frame, read_then, write_then}
 use Rattle.lower_trace.proofs.Pausing.{CopyPauses, Leads, Stands}
 use Rattle.lower_trace.proofs.Placed.{Placed}
-use Rattle.lower_trace.proofs.Placing.{Writable, writable_so}
+use Rattle.lower_trace.proofs.Placing.{writable_so}
 use Rattle.lower_trace.proofs.Reading.{lt_true, noted_if, readable, set_agrees}
 use Rattle.lower_trace.proofs.Written.{nat_same}
 use Rattle.lower_trace.proofs.Beginnings.{Follow}
@@ -35,16 +34,16 @@ use Rattle.src_rules.specs.State.{state}
 use Rattle.src_values.specs.Accesses.{event_at, is_unset, noting, put_byte, put_unless, read_fault, take_byte, taken_unless, write_fault}
 use Rattle.src_values.specs.Control.{CopyRead, CopyWrite, Pending, active, callers, line_at}
 use Rattle.src_values.specs.Memory as source
-use Rattle.src_values.specs.Objects.{function_at, is_watched, next_byte, object_bytes, variable_offset, variables_of}
+use Rattle.src_values.specs.Objects.{is_watched, object_bytes, variable_offset}
 use Rattle.src_values.specs.declared.objects.Byte as value
 use Rattle.src_values.specs.declared.objects.CopyOf.{CopyOf}
 use Rattle.src_values.specs.declared.objects.Object as object
 use Rattle.src_values.specs.declared.objects.Object.TheVariants as objects
-use Rattle.src_values.specs.declared.objects.Pointer.TheVariants.{Into, Null}
+use Rattle.src_values.specs.declared.objects.Pointer.TheVariants.{Into}
 use Rattle.src_values.specs.declared.objects.Spot as spot
 use Rattle.src_values.specs.declared.objects.Spot.TheVariants as spots
 use Rattle.src_values.specs.declared.objects.Undef.{Undef}
-use Rattle.std.proofs.Common.{Bool, List, None, Option, Some, [], ap, arith, false, inl, inr, length, nat_eq, not, refl, subst, suc, sym, true, ℕ, ◌+◌, ◌-◌, ◌<◌, ◌∙◌, ◌∷◌, ◌≡◌, ◌≤◌}
+use Rattle.std.proofs.Common.{List, None, Option, Some, [], ap, arith, false, inl, inr, length, nat_eq, not, refl, subst, suc, sym, true, ℕ, ◌+◌, ◌-◌, ◌<◌, ◌∙◌, ◌∷◌, ◌≡◌, ◌≤◌}
 
 -- ---- objects that a body names
 pub own_there : (z : Scene) (cp : CopyOf) (k : List Pending) (o : object.Object) (f : ℕ) → Around z cp k → IsOwnSpot z cp (spots.Memory (Into o f)) → IsThere z.program o

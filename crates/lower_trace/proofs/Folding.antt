@@ -7,7 +7,7 @@ use Rattle.c_ints.specs.declared.operators.BinOp.{BinOp}
 use Rattle.c_typed.specs.Folding as folding
 use Rattle.c_typed.specs.Folding.{applied, bits, chosen, combined, connected, constant_bits, constant_value, negated, truth_of}
 use Rattle.c_typed.specs.Trees as tree
-use Rattle.c_typed.specs.Trees.{Expression}
+use Rattle.c_typed.specs.Trees.{Expression, Place}
 use Rattle.c_typed.specs.Types.{is_constant, is_integer}
 use Rattle.c_typed.specs.declared.expression.LogicalOp.TheVariants.{And, Or}
 use Rattle.c_typed.specs.declared.expression.LogicalOp.{LogicalOp}
@@ -16,28 +16,29 @@ use Rattle.c_typed.specs.declared.types.Ty.{Ty}
 use Rattle.core_code.specs.Machine.{Machine}
 use Rattle.lower_expr.specs.Lowering.{shifts_by_constant}
 use Rattle.lower_expr.specs.Rows.{is_shift}
-use Rattle.lower_trace.proofs.CodeLeft.{Scene, core_in, source_in}
+use Rattle.lower_trace.proofs.CodeLeft.{Scene, source_in}
 use Rattle.lower_trace.proofs.Constants.{same_below}
 use Rattle.lower_trace.proofs.Giving.{mirrors}
 use Rattle.lower_trace.proofs.Mirrors.{Mirrors}
 use Rattle.lower_trace.proofs.NumberBytes.{zero_pattern}
-use Rattle.lower_trace.proofs.Operations.{Comes, comes_here}
 use Rattle.lower_trace.proofs.Written.{and_left, and_right}
 use Rattle.pic_world.proofs.WorldLaws.{arrived_again}
 use Rattle.pic_world.specs.World.{World, arrived, is_due}
-use Rattle.src_rules.specs.Expressions.{eval}
-use Rattle.src_rules.specs.Giving.{answered, branch, give, logical, take_in, truth_given}
+use Rattle.src_rules.specs.Expressions.{eval, found_in}
+use Rattle.src_rules.specs.Giving.{answered, branch, logical, take_in}
 use Rattle.src_rules.specs.Accesses.{goes}
 use Rattle.src_rules.specs.State.{Idle, Lost, Outcome, State, Undefined, Went, state}
-use Rattle.src_values.specs.Control.{Chosen, Eval, Focus, Got, In, Nothing, One, Pending, Holds as Value, active}
+use Rattle.src_values.specs.Control.{At, Chosen, Eval, Focus, Found, Got, In, Nothing, One, Pending, Holds as Value}
 use Rattle.src_values.specs.Data as datum
+use Rattle.src_values.specs.Data.{Datum}
 use Rattle.src_values.specs.Memory as source
 use Rattle.src_values.specs.Values as answers
 use Rattle.src_values.specs.Values.{bad_right, binary_answer, converted, decides, number_or_overflow, truth_value, unary_answer, unless_bad}
 use Rattle.src_values.specs.declared.objects.Byte as value
 use Rattle.src_values.specs.declared.objects.CopyOf.{CopyOf}
+use Rattle.src_values.specs.declared.objects.Spot as spot
 use Rattle.src_values.specs.declared.objects.Undef.{Undef}
-use Rattle.std.proofs.Common.{Bool, List, None, Option, Some, [], ap, false, if◌then◌else◌, nat_eq, not, pos, refl, subst, sym, true, ℕ, ◌&&◌, ◌++◌, ◌∙◌, ◌∷◌, ◌≡◌}
+use Rattle.std.proofs.Common.{Bool, List, None, Option, Some, [], ap, false, if◌then◌else◌, not, pos, refl, sym, true, ℕ, ◌&&◌, ◌++◌, ◌∙◌, ◌∷◌, ◌≡◌}
 use Rattle.std.specs.Ordering.{int_eq}
 
 -- ---- what is left of a constant
@@ -74,28 +75,29 @@ FoldsTo (Eval e) above v = (is_constant e ≡ true) × (folds above (constant_va
 FoldsTo (Value (datum.Number q)) above v = folds above (Some q) ≡ v
 FoldsTo _ above v = ⊥
 
--- the frame of the shift
-abbrev pub shift_frame : BinOp → Expression → Expression → Ty → ℕ → Quantity → Pending
-shift_frame op left right ty line u = In (tree.Binary op left right ty line) (One (datum.Number u))
+-- The frame that waits for the count, the one that byte code still has in its place, and the focus there.
+abbrev pub FoldWaits : Pending → Pending → Focus → Expression → Type 0
+FoldWaits (In (tree.Binary op left right ty line) (One v)) before x count = (shifts_by_constant op right ≡ true) × (before ≡ In (tree.Binary op left right ty line) Nothing) × (x ≡ Value v) × (count ≡ right)
+FoldWaits (In (tree.Update op place right operation size ty line) (At spot)) before x count =
+    (shifts_by_constant op right ≡ true) × (before ≡ In (tree.Update op place right operation size ty line) Nothing) × (x ≡ Found spot) × (count ≡ right)
+FoldWaits _ before x count = ⊥
 
-pub record FoldState (z : Scene) (op : BinOp) (left right : Expression) (ty : Ty) (line : ℕ) (u : Quantity) (k above : List Pending) (x : Focus) (cp : CopyOf) (l : source.Memory) (w : World value.Byte) (c : Machine) : Type 0 where
-  pub constant : shifts_by_constant op right ≡ true
-  pub stands : Mirrors z (state cp (Value (datum.Number u)) (In (tree.Binary op left right ty line) Nothing ∷ k) l w) c
+pub record FoldState (z : Scene) (frame before : Pending) (was : Focus) (count : Expression) (k above : List Pending) (x : Focus) (cp : CopyOf) (l : source.Memory) (w : World value.Byte) (c : Machine) : Type 0 where
+  pub waits : FoldWaits frame before was count
+  pub stands : Mirrors z (state cp was (before ∷ k) l w) c
   pub quiet : is_due (arrived z.outside w) ≡ false
   pub folded : AreFolded above
-  pub value : FoldsTo x above (constant_value right)
+  pub value : FoldsTo x above (constant_value count)
 
 pub record FoldPauses (z : Scene) (t : State) (c : Machine) : Type 0 where
-  pub op : BinOp
-  pub left : Expression
-  pub right : Expression
-  pub ty : Ty
-  pub line : ℕ
-  pub u : Quantity
+  pub frame : Pending
+  pub before : Pending
+  pub was : Focus
+  pub count : Expression
   pub below : List Pending
   pub above : List Pending
-  pub stack : t.stack ≡ above ++ shift_frame op left right ty line u ∷ below
-  pub state_is : FoldState z op left right ty line u below above t.focus t.copy t.memory t.world c
+  pub stack : t.stack ≡ above ++ frame ∷ below
+  pub state_is : FoldState z frame before was count below above t.focus t.copy t.memory t.world c
 
 -- what byte code does where the source ends a micro-step within a constant: nothing
 abbrev pub Folds : Scene → Machine → Outcome → Type 0
@@ -109,29 +111,24 @@ abbrev pub PlainOn : Pending → Quantity → Type 0
 PlainOn (In (tree.Binary op left right ty line) (One (datum.Number u))) q = applied op u q ≡ outcome op u q
 PlainOn _ q = Unit {0}
 
-module _ (z : Scene) (op : BinOp) (left right : Expression) (ty : Ty) (line : ℕ) (u : Quantity) (k : List Pending) (cp : CopyOf) (l : source.Memory) (w : World value.Byte) (c : Machine) where
-  abbrev F : Pending
-  F = shift_frame op left right ty line u
+module _ (z : Scene) (F before : Pending) (was : Focus) (count : Expression) (k : List Pending) (cp : CopyOf) (l : source.Memory) (w : World value.Byte) (c : Machine) where
+  abbrev Within : List Pending → Focus → Type 0
+  Within above x = FoldState z F before was count k above x cp l w c
 
-  abbrev At : List Pending → Focus → Type 0
-  At above x = FoldState z op left right ty line u k above x cp l w c
-
-  keeps : (above above' : List Pending) (x x' : Focus) → At above x → AreFolded above' → FoldsTo x' above' (constant_value right) → FoldPauses z (state cp x' (above' ++ F ∷ k) l (arrived z.outside w)) c
+  keeps : (above above' : List Pending) (x x' : Focus) → Within above x → AreFolded above' → FoldsTo x' above' (constant_value count) → FoldPauses z (state cp x' (above' ++ F ∷ k) l (arrived z.outside w)) c
   keeps above above' x x' h f v =
       let m = h.stands in
       record {
-        op = op;
-        left = left;
-        right = right;
-        ty = ty;
-        line = line;
-        u = u;
+        frame = F;
+        before = before;
+        was = was;
+        count = count;
         below = k;
         above = above';
         stack = refl;
         state_is = record {
-          constant = h.constant;
-          stands = mirrors z cp (Value (datum.Number u)) (In (tree.Binary op left right ty line) Nothing ∷ k) l (arrived z.outside w) c.memory c (record { copy = m.copy; passing = m.passing; code = m.code; stack = m.stack; memory = refl; world = m.world ∙ same_below z w }) m.agrees m.holds m.value;
+          waits = h.waits;
+          stands = mirrors z cp was (before ∷ k) l (arrived z.outside w) c.memory c (record { copy = m.copy; passing = m.passing; code = m.code; stack = m.stack; memory = refl; world = m.world ∙ same_below z w }) m.agrees m.holds m.value;
           quiet = ap is_due (arrived_again z.outside w) ∙ h.quiet;
           folded = f;
           value = v;
@@ -139,7 +136,7 @@ module _ (z : Scene) (op : BinOp) (left right : Expression) (ty : Ty) (line : �
       }
 
   -- ---- an expression begins
-  pub fold_eval : (e : Expression) (above : List Pending) → At above (Eval e) → Folds z c (eval e (above ++ F ∷ k) cp l (arrived z.outside w))
+  pub fold_eval : (e : Expression) (above : List Pending) → Within above (Eval e) → Folds z c (eval e (above ++ F ∷ k) cp l (arrived z.outside w))
   unfolding is_constant constant_value
   fold_eval (tree.Constant q at) above h = keeps above above (Eval (tree.Constant q at)) (Value (datum.Number q)) h h.folded h.value.1
   fold_eval (tree.Convert operand t at) above h =
@@ -177,7 +174,7 @@ module _ (z : Scene) (op : BinOp) (left right : Expression) (ty : Ty) (line : �
   unfolding bits
   holds_is q r = ap not (zero_pattern q.ty q.number r)
 
-  convert_case : (t : Ty) (at : ℕ) (q : Quantity) (above : List Pending) (x : Focus) (frame : Pending) → At (frame ∷ above) x → is_integer t ≡ true → AreFolded above → folds above (folding.converted t (Some q)) ≡ constant_value right → Folds z c (answered (converted t (datum.Number q)) at (above ++ F ∷ k) cp l (arrived z.outside w))
+  convert_case : (t : Ty) (at : ℕ) (q : Quantity) (above : List Pending) (x : Focus) (frame : Pending) → Within (frame ∷ above) x → is_integer t ≡ true → AreFolded above → folds above (folding.converted t (Some q)) ≡ constant_value count → Folds z c (answered (converted t (datum.Number q)) at (above ++ F ∷ k) cp l (arrived z.outside w))
   unfolding converted
   convert_case (types.Int t) at q above x frame h i f v = keeps (frame ∷ above) above x (Value (datum.Number (cut_to t q.number))) h f v
   convert_case types.Void at q above x frame h i f v = absurd (cc)
@@ -185,25 +182,25 @@ module _ (z : Scene) (op : BinOp) (left right : Expression) (ty : Ty) (line : �
   convert_case (types.Array element count size) at q above x frame h i f v = absurd (cc)
   convert_case (types.Struct number) at q above x frame h i f v = absurd (cc)
 
-  apply_case : (bad : Option Undef) (o : Option Quantity) (at : ℕ) (above : List Pending) (x : Focus) (frame : Pending) → At (frame ∷ above) x → AreFolded above → folds above o ≡ constant_value right → Folds z c (answered (unless_bad bad (number_or_overflow o)) at (above ++ F ∷ k) cp l (arrived z.outside w))
+  apply_case : (bad : Option Undef) (o : Option Quantity) (at : ℕ) (above : List Pending) (x : Focus) (frame : Pending) → Within (frame ∷ above) x → AreFolded above → folds above o ≡ constant_value count → Folds z c (answered (unless_bad bad (number_or_overflow o)) at (above ++ F ∷ k) cp l (arrived z.outside w))
   apply_case (Some kind) o at above x frame h f v = tt
   apply_case None None at above x frame h f v = tt
   apply_case None (Some q) at above x frame h f v = keeps (frame ∷ above) above x (Value (datum.Number q)) h f v
 
-  logical_case : (is : Bool) (o : LogicalOp) (first second : Expression) (at : ℕ) (q : Quantity) (above : List Pending) → folding.holds q ≡ is → At (In (tree.Logical o first second at) Nothing ∷ above) (Value (datum.Number q)) → Folds z c (logical (tree.Logical o first second at) o (datum.Number q) (Some is) second at (above ++ F ∷ k) cp l (arrived z.outside w))
+  logical_case : (is : Bool) (o : LogicalOp) (first second : Expression) (at : ℕ) (q : Quantity) (above : List Pending) → folding.holds q ≡ is → Within (In (tree.Logical o first second at) Nothing ∷ above) (Value (datum.Number q)) → Folds z c (logical (tree.Logical o first second at) o (datum.Number q) (Some is) second at (above ++ F ∷ k) cp l (arrived z.outside w))
   logical_case true And first second at q above e h = keeps (In (tree.Logical And first second at) Nothing ∷ above) (In (tree.Logical And first second at) (One (datum.Number q)) ∷ above) (Value (datum.Number q)) (Eval second) h h.folded.1 (h.folded.0, ap (λ b. folds above (folding.decided And b (constant_value second))) (sym e) ∙ h.value)
   logical_case false And first second at q above e h = keeps (In (tree.Logical And first second at) Nothing ∷ above) above (Value (datum.Number q)) (Value (truth_value false)) h h.folded.1 (ap (λ b. folds above (folding.decided And b (constant_value second))) (sym e) ∙ h.value)
   logical_case true Or first second at q above e h = keeps (In (tree.Logical Or first second at) Nothing ∷ above) above (Value (datum.Number q)) (Value (truth_value true)) h h.folded.1 (ap (λ b. folds above (folding.decided Or b (constant_value second))) (sym e) ∙ h.value)
   logical_case false Or first second at q above e h = keeps (In (tree.Logical Or first second at) Nothing ∷ above) (In (tree.Logical Or first second at) (One (datum.Number q)) ∷ above) (Value (datum.Number q)) (Eval second) h h.folded.1 (h.folded.0, ap (λ b. folds above (folding.decided Or b (constant_value second))) (sym e) ∙ h.value)
 
-  branch_case : (is : Bool) (condition held failed : Expression) (t : Ty) (at : ℕ) (q : Quantity) (above : List Pending) → folding.holds q ≡ is → At (In (tree.Conditional condition held failed t at) Nothing ∷ above) (Value (datum.Number q))
+  branch_case : (is : Bool) (condition held failed : Expression) (t : Ty) (at : ℕ) (q : Quantity) (above : List Pending) → folding.holds q ≡ is → Within (In (tree.Conditional condition held failed t at) Nothing ∷ above) (Value (datum.Number q))
       → Folds z c (branch (Some is) at (goes cp (Eval held) (In (tree.Conditional condition held failed t at) Chosen ∷ (above ++ F ∷ k)) l (arrived z.outside w)) (goes cp (Eval failed) (In (tree.Conditional condition held failed t at) Chosen ∷ (above ++ F ∷ k)) l (arrived z.outside w)))
   branch_case true condition held failed t at q above e h =
       keeps (In (tree.Conditional condition held failed t at) Nothing ∷ above) (In (tree.Conditional condition held failed t at) Chosen ∷ above) (Value (datum.Number q)) (Eval held) h h.folded.2 (h.folded.0, ap (λ b. folds above (if b then constant_value held else constant_value failed)) (sym e) ∙ h.value)
   branch_case false condition held failed t at q above e h =
       keeps (In (tree.Conditional condition held failed t at) Nothing ∷ above) (In (tree.Conditional condition held failed t at) Chosen ∷ above) (Value (datum.Number q)) (Eval failed) h h.folded.2 (h.folded.1, ap (λ b. folds above (if b then constant_value held else constant_value failed)) (sym e) ∙ h.value)
 
-  pub fold_take : (e : Expression) (got : Got) (q : Quantity) (above : List Pending) → IsInRange q.ty q.number → PlainOn (In e got) q → At (In e got ∷ above) (Value (datum.Number q)) → Folds z c (take_in (source_in z) e got (datum.Number q) (above ++ F ∷ k) cp l (arrived z.outside w))
+  pub fold_take : (e : Expression) (got : Got) (q : Quantity) (above : List Pending) → IsInRange q.ty q.number → PlainOn (In e got) q → Within (In e got ∷ above) (Value (datum.Number q)) → Folds z c (take_in (source_in z) e got (datum.Number q) (above ++ F ∷ k) cp l (arrived z.outside w))
   unfolding unary_answer binary_answer answers.truth_of
   fold_take (tree.Convert operand t at) Nothing q above r plain h = convert_case t at q above (Value (datum.Number q)) (In (tree.Convert operand t at) Nothing) h h.folded.0 h.folded.1 h.value
   fold_take (tree.Cast operand t at) Nothing q above r plain h = convert_case t at q above (Value (datum.Number q)) (In (tree.Cast operand t at) Nothing) h h.folded.0 h.folded.1 h.value
@@ -219,11 +216,25 @@ module _ (z : Scene) (op : BinOp) (left right : Expression) (ty : Ty) (line : �
   fold_take _ _ q above r plain h = absurd h.folded
 
   -- ---- the constant begins, and ends
-  pub fold_begins : shifts_by_constant op right ≡ true → is_due (arrived z.outside w) ≡ false → Mirrors z (state cp (Value (datum.Number u)) (In (tree.Binary op left right ty line) Nothing ∷ k) l w) c → Folds z c (take_in (source_in z) (tree.Binary op left right ty line) Nothing (datum.Number u) k cp l (arrived z.outside w))
-  fold_begins constant due h =
-      let begun : At [] (Eval right) = record { constant = constant; stands = h; quiet = due; folded = tt; value = (and_right (is_shift op) (is_constant right) constant, refl) } in
-      keeps [] [] (Eval right) (Eval right) begun tt begun.value
-
-  pub fold_bits : (q : Quantity) → At [] (Value (datum.Number q)) → pattern q.ty q.number ≡ constant_bits right
+  pub fold_bits : (q : Quantity) → Within [] (Value (datum.Number q)) → pattern q.ty q.number ≡ constant_bits count
   unfolding bits
   fold_bits q h = ap (λ v. folding.bits_of v) h.value
+
+module _ (z : Scene) (k : List Pending) (cp : CopyOf) (l : source.Memory) (w : World value.Byte) (c : Machine) where
+  -- the left operand of a shift has its value
+  pub shift_begins : (op : BinOp) (left right : Expression) (ty : Ty) (line : ℕ) (v : Datum) → shifts_by_constant op right ≡ true → is_due (arrived z.outside w) ≡ false → Mirrors z (state cp (Value v) (In (tree.Binary op left right ty line) Nothing ∷ k) l w) c
+      → Folds z c (take_in (source_in z) (tree.Binary op left right ty line) Nothing v k cp l (arrived z.outside w))
+  shift_begins op left right ty line v constant due h =
+      let F = In (tree.Binary op left right ty line) (One v) in
+      let before = In (tree.Binary op left right ty line) Nothing in
+      let begun : FoldState z F before (Value v) right k [] (Eval right) cp l w c = record { waits = (constant, refl, refl, refl); stands = h; quiet = due; folded = tt; value = (and_right (is_shift op) (is_constant right) constant, refl) } in
+      keeps z F before (Value v) right k cp l w c [] [] (Eval right) (Eval right) begun tt begun.value
+
+  -- the place of an update by a shift was found
+  pub update_begins : (op : BinOp) (place : Place) (right : Expression) (operation : Ty) (size : ℕ) (ty : Ty) (line : ℕ) (where_is : spot.Spot) → shifts_by_constant op right ≡ true → is_due (arrived z.outside w) ≡ false → Mirrors z (state cp (Found where_is) (In (tree.Update op place right operation size ty line) Nothing ∷ k) l w) c
+      → Folds z c (found_in (source_in z) (tree.Update op place right operation size ty line) Nothing where_is k cp l (arrived z.outside w))
+  update_begins op place right operation size ty line where_is constant due h =
+      let F = In (tree.Update op place right operation size ty line) (At where_is) in
+      let before = In (tree.Update op place right operation size ty line) Nothing in
+      let begun : FoldState z F before (Found where_is) right k [] (Eval right) cp l w c = record { waits = (constant, refl, refl, refl); stands = h; quiet = due; folded = tt; value = (and_right (is_shift op) (is_constant right) constant, refl) } in
+      keeps z F before (Found where_is) right k cp l w c [] [] (Eval right) (Eval right) begun tt begun.value

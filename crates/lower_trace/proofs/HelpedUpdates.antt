@@ -119,7 +119,7 @@ module _ (z : Scene) (laws : SceneLaws z) where
       ∙ ap (λ f. todo (wider x.ty t L) (Todo [] (code.Binary op t L L (Frame g.copy f)) ∷ R)) right_is
       ∙ ap (λ f. todo (wider x.ty t (Frame f left_at)) (Todo [] (code.Binary op t (Frame f left_at) (Frame f left_at) (Frame f right_at)) ∷ R)) (own_copy z cp) in
       let hx : HasDatum z n left_at (datum.Number x) c.memory = subst (λ f. HasDatum z f left_at (datum.Number x) c.memory) (own_copy z cp) (subst (λ f. HasDatum z g.copy f (datum.Number x) c.memory) left_is h.value) in
-      let hy : HasDatum z n right_at (datum.Number y) c.memory = subst (λ f. HasDatum z f right_at (datum.Number y) c.memory) (own_copy z cp) (subst (λ f. HasDatum z g.copy f (datum.Number y) c.memory) right_is h.holds.0.1) in
+      let hy : HasDatum z n right_at (datum.Number y) c.memory = subst (λ f. HasDatum z f right_at (datum.Number y) c.memory) (own_copy z cp) (subst (λ f. HasDatum z g.copy f (datum.Number y) c.memory) right_is (h.holds.0.1 plain)) in
       let later : R ≡ writing z g.layout.root s at A (Frame g.copy (stored g b e)) i 0 rest =
       row_writes z g.layout.root s at A L i rest ∙ ap (λ f. writing z g.layout.root s at A (Frame g.copy f) i 0 rest) (sym left_is) in
       comes_within (core_in z) T (24 + (2138 + 0)) 0 2162 0 c

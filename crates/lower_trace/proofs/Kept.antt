@@ -41,7 +41,7 @@ use Rattle.pic_world.specs.declared.Root.{Root}
 use Rattle.pic_world.specs.declared.Root.TheVariants.{Main, Isr}
 use Rattle.lower_trace.specs.Lowering.{object_as, offset_as}
 use Rattle.lower_trace.proofs.CodeLeft.{Scene, number, ground_in, core_in, wanted, base, above, stored, stored_at}
-use Rattle.lower_trace.proofs.Mirrors.{standing, core_byte, HasDatum, at_byte, IsAt, HasArguments, Waits, HasReadIn, HasReadAt, HasIf, Trails, HasOne, Trail, Carries, HasCopied, HasCarried, HasCopiedAt, HasCarriedAt, lag_of, is_begun, HasValue, Holds}
+use Rattle.lower_trace.proofs.Mirrors.{standing, core_byte, HasDatum, at_byte, IsAt, HasArguments, Waits, HasReadIn, HasReadAt, HasIf, Trails, HasOne, Trail, Carries, HasCopiedAt, HasCarriedAt, lag_of, is_begun, HasValue, Holds}
 
 -- ---- what is known of a program and its copies
 pub record SceneLaws (z : Scene) : Type 0 where
@@ -201,7 +201,7 @@ waits_same z g b w (tree.Update op place value operation size ty line) (At at) m
 waits_same z g b w (tree.Update op place value operation size ty line) (AtWith at u) m m' s k h =
     let k0 = k.0 in
     let k1 = k.1 in
-    (at_same z g.copy b (spot_of g.layout g.copy place) at m m' (λ y le lt. s y (omega arith)) h.0, datum_same z g.copy (behind_pointer g.layout g.copy b place) u m m' (λ y le lt. s y (omega arith)) h.1)
+    (at_same z g.copy b (spot_of g.layout g.copy place) at m m' (λ y le lt. s y (omega arith)) h.0, λ e. datum_same z g.copy (behind_pointer g.layout g.copy b place) u m m' (λ y le lt. s y (omega arith)) (h.1 e))
 waits_same z g b w (tree.Update op place value operation size ty line) (Stores at v) m m' s k h = at_same z g.copy b (spot_of g.layout g.copy place) at m m' (λ y le lt. s y (omega arith)) h
 waits_same z g b w (tree.Call function arguments ty line) (Args before more) m m' s k h = arguments_same z g b 0 arguments before (above g b (tree.Call function arguments ty line) (Args before more)) m m' s k h
 waits_same z g b w (tree.Call function arguments ty line) (Passed values) m m' s k h = arguments_same z g b 0 arguments values (above g b (tree.Call function arguments ty line) (Passed values)) m m' s k h
@@ -243,7 +243,7 @@ waits_far z g b w (tree.Assign place value ty line) (Stores at v) m m' s h = at_
 waits_far z g b w (tree.StructAssign place from size line) (At at) m m' s h = at_same z g.copy b (spot_of g.layout g.copy place) at m m' (λ y le lt. s y) h
 waits_far z g b w (tree.Update op place value operation size ty line) (At at) m m' s h = at_same z g.copy b (spot_of g.layout g.copy place) at m m' (λ y le lt. s y) h
 waits_far z g b w (tree.Update op place value operation size ty line) (AtWith at u) m m' s h =
-    (at_same z g.copy b (spot_of g.layout g.copy place) at m m' (λ y le lt. s y) h.0, datum_same z g.copy (behind_pointer g.layout g.copy b place) u m m' (λ y le lt. s y) h.1)
+    (at_same z g.copy b (spot_of g.layout g.copy place) at m m' (λ y le lt. s y) h.0, λ e. datum_same z g.copy (behind_pointer g.layout g.copy b place) u m m' (λ y le lt. s y) (h.1 e))
 waits_far z g b w (tree.Update op place value operation size ty line) (Stores at v) m m' s h = at_same z g.copy b (spot_of g.layout g.copy place) at m m' (λ y le lt. s y) h
 waits_far z g b w (tree.Step op place operation size ty line) (At at) m m' s h = (
   at_same z g.copy b (spot_of g.layout g.copy place) at m m' (λ y le lt. s y) h.0,

@@ -100,3 +100,7 @@ pub mod PointerTests
 pub mod PointerDistances
 pub mod ConstantShifts
 pub mod Folding
+pub mod ConstantUpdates
+pub mod CopyEnds
+pub mod FoldedOperands
+pub mod Living

@@ -11,7 +11,7 @@ use Rattle.core_code.specs.declared.code.Byte.{Byte}
 use Rattle.core_code.specs.declared.code.Byte.TheVariants.{Frame, Result, Device}
 use Rattle.lower_expr.specs.Bytes.{behind, beyond, operation_type}
 use Rattle.lower_expr.specs.Layout.{Layout, width, value_width}
-use Rattle.lower_expr.specs.Lowering.{behind_pointer}
+use Rattle.lower_expr.specs.Lowering.{behind_pointer, shifts_by_constant}
 use Rattle.lower_expr.specs.Rows.{step_number, keeps_old}
 use Rattle.lower_expr.specs.Spots.{spot_of, pointer_bytes}
 use Rattle.lower_expr.specs.declared.places.Spot as place
@@ -84,7 +84,8 @@ Waits z g b w (tree.Assign place value ty line) (At at) m = IsAt z g.copy b (spo
 Waits z g b w (tree.Assign place value ty line) (Stores at v) m = IsAt z g.copy b (spot_of g.layout g.copy place) at m
 Waits z g b w (tree.StructAssign place from size line) (At at) m = IsAt z g.copy b (spot_of g.layout g.copy place) at m
 Waits z g b w (tree.Update op place value operation size ty line) (At at) m = IsAt z g.copy b (spot_of g.layout g.copy place) at m
-Waits z g b w (tree.Update op place value operation size ty line) (AtWith at u) m = IsAt z g.copy b (spot_of g.layout g.copy place) at m × HasDatum z g.copy (behind_pointer g.layout g.copy b place) u m
+Waits z g b w (tree.Update op place value operation size ty line) (AtWith at u) m =
+    IsAt z g.copy b (spot_of g.layout g.copy place) at m × (shifts_by_constant op value ≡ false → HasDatum z g.copy (behind_pointer g.layout g.copy b place) u m)
 Waits z g b w (tree.Update op place value operation size ty line) (Stores at v) m = IsAt z g.copy b (spot_of g.layout g.copy place) at m
 Waits z g b w (tree.Step op place operation size ty line) (At at) m =
     IsAt z g.copy b (spot_of g.layout g.copy place) at m

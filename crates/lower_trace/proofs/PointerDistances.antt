@@ -1,14 +1,13 @@
 -- Differences of pointers: the distance in bytes, divided by the bytes of an element.
 use Rattle.c_ints.specs.Operators.{cut_to, divides_badly, outcome}
 use Rattle.c_ints.specs.Quantity.{Quantity}
-use Rattle.c_ints.specs.Range.{IsInRange, bytes_of, cut, pattern}
+use Rattle.c_ints.specs.Range.{IsInRange, pattern}
 use Rattle.c_ints.specs.declared.operators.BinOp.TheVariants as ops
 use Rattle.c_ints.specs.declared.types.IntTy.TheVariants as int
 use Rattle.c_typed.specs.Trees as tree
 use Rattle.c_typed.specs.Trees.{Expression}
 use Rattle.core_code.specs.Bytes as bytes
 use Rattle.core_code.specs.Bytes.{Held, Memory, Place as core_bytes_place, with_bytes}
-use Rattle.core_code.specs.Machine as core_machine
 use Rattle.core_code.specs.Machine.{Machine, Task, Do as Todo, Waiting, extent}
 use Rattle.core_code.specs.Operands.{fits_together, number_left}
 use Rattle.core_code.specs.Tree as code
@@ -20,13 +19,13 @@ use Rattle.lower_expr.specs.Bytes.{beyond, byte_at}
 use Rattle.lower_expr.specs.Puts.{operator, sets}
 use Rattle.lower_expr.specs.Rows.{difference_row, quotient_row}
 use Rattle.lower_trace.proofs.Beginnings.{Follow}
-use Rattle.lower_trace.proofs.Changing.{OnlyAbove, above_then, above_written, agrees_above, holds_above, lower_above}
+use Rattle.lower_trace.proofs.Changing.{OnlyAbove, above_then, above_written, agrees_above, holds_above}
 use Rattle.lower_trace.proofs.CodeLeft.{Scene, base, code_after, core_in, ground_in, held, number, source_in, stack_after, todo, wanted}
-use Rattle.lower_trace.proofs.Constants.{again_below, byte_is, due_below, same_below}
+use Rattle.lower_trace.proofs.Constants.{again_below, byte_is, due_below}
 use Rattle.lower_trace.proofs.Converting.{not_less}
 use Rattle.lower_trace.proofs.Cuts.{same as unchanged}
 use Rattle.lower_trace.proofs.Flow.{arrive}
-use Rattle.lower_trace.proofs.Giving.{Around, agrees_same, gives, placed_of, value_high}
+use Rattle.lower_trace.proofs.Giving.{Around, agrees_same, placed_of, value_high}
 use Rattle.lower_trace.proofs.Helped.{helped_then, spoiled, spoiled_frame, spoiled_object, spoiled_others}
 use Rattle.lower_trace.proofs.Kept.{SceneLaws, own_copy}
 use Rattle.lower_trace.proofs.Members.{if_datum}
@@ -35,7 +34,7 @@ use Rattle.lower_trace.proofs.Moving.{binary_any_then, pointer_value}
 use Rattle.lower_trace.proofs.Narrowing.{pattern_cut}
 use Rattle.lower_trace.proofs.NumberBytes.{core_object_same}
 use Rattle.lower_trace.proofs.Operating.{plain_fits, value_number}
-use Rattle.lower_trace.proofs.Operations.{Comes, beyond_is, comes_here, comes_within, own_frame, sets_then}
+use Rattle.lower_trace.proofs.Operations.{Comes, beyond_is, comes_within, own_frame, sets_then}
 use Rattle.lower_trace.proofs.Placed.{Placed, todo_join}
 use Rattle.lower_trace.proofs.PointerTests.{object_is}
 use Rattle.lower_trace.proofs.Reading.{lt_of}
@@ -59,7 +58,7 @@ use Rattle.src_values.specs.declared.objects.Object as object
 use Rattle.src_values.specs.declared.objects.Pointer.TheVariants.{Into, Null}
 use Rattle.src_values.specs.declared.objects.Pointer.{Pointer}
 use Rattle.src_values.specs.declared.objects.Undef.TheVariants.{Order}
-use Rattle.std.proofs.Common.{Bool, List, None, Option, Some, [], ap, arith, false, if◌then◌else◌, inl, inr, nat_eq, nat_lt, neg_ℤ, negsuc, pos, refl, subst, suc, sym, true, zero, ℕ, ℤ, ◌%◌, ◌&&◌, ◌*◌, ◌++◌, ◌+◌, ◌/◌, ◌<◌, ◌^◌, ◌∙◌, ◌∷◌, ◌≡◌, ◌≤◌, ◌||◌}
+use Rattle.std.proofs.Common.{Bool, List, None, Some, [], ap, arith, false, if◌then◌else◌, inl, inr, nat_eq, nat_lt, neg_ℤ, negsuc, pos, refl, subst, suc, sym, true, ℕ, ℤ, ◌%◌, ◌*◌, ◌++◌, ◌+◌, ◌/◌, ◌<◌, ◌^◌, ◌∙◌, ◌∷◌, ◌≡◌, ◌≤◌}
 use Rattle.std.proofs.Math.Nat.{div-eq_of_lt}
 use Rattle.std.proofs.lemmas.Grind.{common_steps}
 use Rattle.std.proofs.lemmas.Int.{ints}

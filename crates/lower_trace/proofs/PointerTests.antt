@@ -1,7 +1,6 @@
 -- Pointers are compared: in one object by their places there, and with null. Pointers into two objects are never equal where the source
 -- has an answer: neither is just past its object while the other one leads to a byte.
-use Rattle.c_ints.specs.Operators.{comparison, cut_to, outcome, truth}
-use Rattle.c_ints.specs.Quantity.{Quantity}
+use Rattle.c_ints.specs.Operators.{comparison, cut_to, truth}
 use Rattle.c_ints.specs.Range.{bytes_of}
 use Rattle.c_ints.specs.declared.operators.BinOp.TheVariants as ops
 use Rattle.c_ints.specs.declared.operators.BinOp.{BinOp}
@@ -14,10 +13,9 @@ use Rattle.c_typed.specs.declared.types.Ty.TheVariants as types
 use Rattle.c_typed.specs.declared.types.Ty.{Ty}
 use Rattle.core_code.specs.Bytes as bytes
 use Rattle.core_code.specs.Bytes.{Memory, byte_in, same_byte, with_bytes}
-use Rattle.core_code.specs.Cost.{binary_cost, least_binary}
 use Rattle.core_code.specs.Machine as core_machine
 use Rattle.core_code.specs.Machine.{Machine, Task, Do as Todo, Waiting, extent, lives_in, waiting}
-use Rattle.core_code.specs.Operands.{fits_together, is_helped, number_left}
+use Rattle.core_code.specs.Operands.{fits_together, number_left}
 use Rattle.core_code.specs.Tree as code
 use Rattle.core_code.specs.Values as core
 use Rattle.core_code.specs.Values.{Extent, Value, binary_value, may_touch, right_type, value_in}
@@ -36,9 +34,9 @@ use Rattle.lower_trace.proofs.Mirrors.{HasDatum, Mirrors, core_byte}
 use Rattle.lower_trace.proofs.Moving.{binary_any_then, pointer_value}
 use Rattle.lower_trace.proofs.NumberBytes.{core_object_same}
 use Rattle.lower_trace.proofs.Operating.{IsPlain, plain_alone, plain_cost, plain_fits, plain_least, plain_right, value_number}
-use Rattle.lower_trace.proofs.Operations.{Comes, beyond_is, comes_here, comes_within, own_frame}
+use Rattle.lower_trace.proofs.Operations.{beyond_is, comes_here, comes_within, own_frame}
 use Rattle.lower_trace.proofs.Placed.{Placed}
-use Rattle.lower_trace.proofs.PointerSums.{PointsThere, null_byte}
+use Rattle.lower_trace.proofs.PointerSums.{null_byte}
 use Rattle.lower_trace.proofs.Scaling.{uint, uint_range}
 use Rattle.lower_trace.proofs.Written.{and_left, and_right, both, nat_same, same_nat}
 use Rattle.lower_trace.specs.Lowering.{object_as, offset_as}
@@ -60,7 +58,7 @@ use Rattle.src_values.specs.declared.objects.Pointer.TheVariants.{Into, Null}
 use Rattle.src_values.specs.declared.objects.Pointer.{Pointer}
 use Rattle.src_values.specs.declared.objects.Undef.TheVariants.{Inactive, Order, Past}
 use Rattle.src_values.specs.declared.objects.Undef.{Undef}
-use Rattle.std.proofs.Common.{Bool, List, None, Option, Some, [], ap, arith, false, if◌then◌else◌, inl, inr, nat_eq, nat_lt, not, option_map, pos, refl, subst, suc, sym, true, zero, ℕ, ℤ, ⊎_elim, ◌&&◌, ◌*◌, ◌+◌, ◌-◌, ◌<◌, ◌∙◌, ◌∷◌, ◌≡◌, ◌≤◌, ◌||◌, ◌⊎◌}
+use Rattle.std.proofs.Common.{Bool, List, None, Option, Some, [], ap, arith, false, if◌then◌else◌, inl, inr, nat_eq, nat_lt, not, option_map, pos, refl, subst, sym, true, ℕ, ⊎_elim, ◌&&◌, ◌+◌, ◌-◌, ◌<◌, ◌∙◌, ◌∷◌, ◌≡◌, ◌≤◌, ◌||◌, ◌⊎◌}
 use Rattle.std.proofs.lemmas.Grind.{common_steps}
 use Rattle.std.proofs.lemmas.Int.{ints}
 

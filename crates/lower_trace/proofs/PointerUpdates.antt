@@ -95,7 +95,7 @@ module _ (z : Scene) (laws : SceneLaws z) where
       ∙ ap (λ t. todo (rows.moved op L (Frame g.copy t) (Frame g.copy (left_at + 2)) size) R) right_is
       ∙ ap (λ t. todo (rows.moved op (Frame t left_at) (Frame t right_at) (Frame t (left_at + 2)) size) R) (own_copy z cp) in
       let hx : HasDatum z n left_at (datum.Pointer x) c.memory = subst (λ t. HasDatum z t left_at (datum.Pointer x) c.memory) (own_copy z cp) (subst (λ t. HasDatum z g.copy t (datum.Pointer x) c.memory) left_is h.value) in
-      let hy : HasDatum z n right_at (datum.Number q) c.memory = subst (λ t. HasDatum z t right_at (datum.Number q) c.memory) (own_copy z cp) (subst (λ t. HasDatum z g.copy t (datum.Number q) c.memory) right_is h.holds.0.1) in
+      let hy : HasDatum z n right_at (datum.Number q) c.memory = subst (λ t. HasDatum z t right_at (datum.Number q) c.memory) (own_copy z cp) (subst (λ t. HasDatum z g.copy t (datum.Number q) c.memory) right_is (h.holds.0.1 (mover_plain minus right))) in
       let later : R ≡ writing z g.layout.root s at A (Frame g.copy (stored g b e)) i 0 rest =
       row_writes z g.layout.root s at A L i rest ∙ ap (λ t. writing z g.layout.root s at A (Frame g.copy t) i 0 rest) (sym left_is) in
       elements_then z laws one minus size x y q n left_at right_at (left_at + 2) T (stack_after z g k) W (due_below z (arrived z.outside w) due) (again_below z w) R c.memory c refl two range some few there is (omega arith) (omega arith) (misses_under n left_at right_at (omega arith)) (omega arith) (omega arith) (λ no. omega arith) hx hy

@@ -10,34 +10,31 @@ use Rattle.core_code.specs.declared.code.Byte.TheVariants.{Frame}
 use Rattle.core_code.specs.declared.code.Byte.{Byte}
 use Rattle.lower_expr.specs.Bytes.{beyond}
 use Rattle.lower_expr.specs.Layout.{width}
-use Rattle.lower_expr.specs.Lowering.{behind_pointer}
 use Rattle.lower_expr.specs.Puts.{copies}
 use Rattle.lower_expr.specs.Spots.{pointer_bytes, spot_of}
 use Rattle.lower_expr.specs.declared.places.Spot as place
 use Rattle.lower_expr.specs.declared.places.Spot.TheVariants.{Bit, Computed, Fixed}
 use Rattle.lower_trace.proofs.Beginnings.{Follow}
 use Rattle.lower_trace.proofs.Changing.{agrees_above, holds_above}
-use Rattle.lower_trace.proofs.CodeLeft.{Scene, above, base, code_after, copies_from, core_in, ground_in, held, is_fixed, kept_value, number, putting, putting_if, reading, reading_at, skimmed, source_in, stack_after, todo, unset_bytes, wanted}
+use Rattle.lower_trace.proofs.CodeLeft.{Scene, above, base, code_after, copies_from, core_in, ground_in, held, is_fixed, kept_value, number, putting, putting_if, reading, reading_at, skimmed, source_in, stack_after, todo, unset_bytes}
 use Rattle.lower_trace.proofs.Constants.{again_below, due_below, same_below}
-use Rattle.lower_trace.proofs.Fetching.{fixed_done, more_before, more_length, more_there, putting_last}
+use Rattle.lower_trace.proofs.Fetching.{fixed_done, more_length, more_there, putting_last}
 use Rattle.lower_trace.proofs.FixedFetches.{FixedPlace, follow_within}
-use Rattle.lower_trace.proofs.FixedPlaces.{IsOwnSpot, own_spot}
+use Rattle.lower_trace.proofs.FixedPlaces.{own_spot}
 use Rattle.lower_trace.proofs.FixedReads.{fetch_fixed, reads_read}
 use Rattle.lower_trace.proofs.FixedWrites.{move_then}
-use Rattle.lower_trace.proofs.Flow.{arrive}
 use Rattle.lower_trace.proofs.Giving.{Around, gives, value_high}
 use Rattle.lower_trace.proofs.Kept.{SceneLaws, own_copy}
 use Rattle.lower_trace.proofs.Loading.{ReachesAll, fetch_pointed}
-use Rattle.lower_trace.proofs.Mirrors.{HasDatum, HasIf, IsAt, Mirrors, at_byte, last_of}
+use Rattle.lower_trace.proofs.Mirrors.{HasDatum, IsAt, Mirrors, at_byte, last_of}
 use Rattle.lower_trace.proofs.Operations.{Comes, beyond_is, comes_here, comes_within}
 use Rattle.lower_trace.proofs.Placed.{Placed}
 use Rattle.lower_trace.proofs.Places.{read_found}
-use Rattle.lower_trace.proofs.Pointed.{PointedPlace, pointed_all, pointer_at}
+use Rattle.lower_trace.proofs.Pointed.{pointed_all, pointer_at}
 use Rattle.lower_trace.specs.Lowering.{object_as, offset_as}
 use Rattle.pic_world.specs.World.{World, arrived, is_due, world_as}
 use Rattle.src_rules.proofs.Places.{SpotIsThere}
 use Rattle.src_rules.specs.Accesses.{after_taking, is_any, skim}
-use Rattle.src_rules.specs.Expressions.{found_in}
 use Rattle.src_rules.specs.Standing.{stepped}
 use Rattle.src_rules.specs.State.{state}
 use Rattle.src_values.specs.Accesses.{Breaks, Takes, Taking, take_byte}

@@ -68,7 +68,7 @@ waits_high z g b w (tree.StructAssign place from size line) (At at) m m' small s
 waits_high z g b w (tree.Update op place value operation size ty line) (At at) m m' small s h = at_same z g.copy b (spot_of g.layout g.copy place) at m m' (λ y le lt. s y le) h
 waits_high z g b w (tree.Update op place value operation size ty line) (AtWith at u) m m' small s h =
     let q = beyond_high b (pointer_bytes (spot_of g.layout g.copy place)) small in
-    (at_same z g.copy b (spot_of g.layout g.copy place) at m m' (λ y le lt. s y le) h.0, datum_same z g.copy (behind_pointer g.layout g.copy b place) u m m' (λ y le lt. s y (omega arith)) h.1)
+    (at_same z g.copy b (spot_of g.layout g.copy place) at m m' (λ y le lt. s y le) h.0, λ e. datum_same z g.copy (behind_pointer g.layout g.copy b place) u m m' (λ y le lt. s y (omega arith)) (h.1 e))
 waits_high z g b w (tree.Update op place value operation size ty line) (Stores at v) m m' small s h = at_same z g.copy b (spot_of g.layout g.copy place) at m m' (λ y le lt. s y le) h
 waits_high z g b w (tree.Step op place operation size ty line) (At at) m m' small s h =
     let q = beyond_high b (pointer_bytes (spot_of g.layout g.copy place)) small in (

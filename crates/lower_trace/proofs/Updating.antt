@@ -75,7 +75,7 @@ row_writes z root (Bit register bit) at pointer from count r = refl
 row_writes z root Computed at pointer from count r = refl
 
 -- an update's code from the read of its place on
-update_row_is : (z : Scene) (w : Bool) (l : Layout) (op : BinOp) (to : Place) (right : Expression) (operation : Ty) (size : ℕ) (s : place.Spot) (where_is : spot.Spot) (root : Root) (at : Byte) (bytes : ℕ) (from : Ty) (r : List Task)
+pub update_row_is : (z : Scene) (w : Bool) (l : Layout) (op : BinOp) (to : Place) (right : Expression) (operation : Ty) (size : ℕ) (s : place.Spot) (where_is : spot.Spot) (root : Root) (at : Byte) (bytes : ℕ) (from : Ty) (r : List Task)
     → todo (update_row (update_of w l op to right operation size) s root at bytes from) r
     ≡ reading z s where_is at (left_of s at (value_width l right)) bytes [] (todo (changed_rest from operation w false (value_width l right) (change_row (change_of (shifts_by_constant op right) operation size (constant_bits right)) op (operation_type operation) (left_of s at (value_width l right)) (right_of s at) (value_width l right)) s root at bytes) r)
 update_row_is z w l op to right operation size s where_is root at bytes from r =
@@ -111,7 +111,7 @@ module _ (z : Scene) where
       let b = base g k in
       rests z cp (Value v) (Fetch at []) (In e (At at) ∷ k) (In e (AtWith at v) ∷ k) l l w c h refl
       (update_row_is z (wanted k) g.layout op to right operation size (spot_of g.layout g.copy to) at g.layout.root (Frame g.copy b) (place_width g.layout to) (place_type to).ty (code_after g k))
-      refl h.agrees ((h.holds.0, h.value), h.holds.1) (λ i lt. absurd (in_place_none (spot_of g.layout g.copy to) at i lt))
+      refl h.agrees ((h.holds.0, λ e. h.value), h.holds.1) (λ i lt. absurd (in_place_none (spot_of g.layout g.copy to) at i lt))
 
   pub update_given : (op : BinOp) (to : Place) (right : Expression) (operation : Ty) (size : ℕ) (ty : Ty) (line : ℕ) (at : spot.Spot) (v : Datum) (k : List Pending) (cp : CopyOf) (l : source.Memory) (w : World value.Byte) (c : Machine) → is_scalar ty ≡ true
       → Mirrors z (state cp (Value v) (In (tree.Update op to right operation size ty line) (At at) ∷ k) l w) c
@@ -179,7 +179,7 @@ module _ (z : Scene) (laws : SceneLaws z) where
       ∙ ap (λ t. todo (wider x.ty o L) (Todo [] (code.Binary op o L L (Frame g.copy t)) ∷ R)) right_is
       ∙ ap (λ t. todo (wider x.ty o (Frame t left_at)) (Todo [] (code.Binary op o (Frame t left_at) (Frame t left_at) (Frame t right_at)) ∷ R)) (own_copy z cp) in
       let hx : HasDatum z n left_at (datum.Number x) c.memory = subst (λ t. HasDatum z t left_at (datum.Number x) c.memory) (own_copy z cp) (subst (λ t. HasDatum z g.copy t (datum.Number x) c.memory) left_is h.value) in
-      let hy : HasDatum z n right_at (datum.Number y) c.memory = subst (λ t. HasDatum z t right_at (datum.Number y) c.memory) (own_copy z cp) (subst (λ t. HasDatum z g.copy t (datum.Number y) c.memory) right_is h.holds.0.1) in
+      let hy : HasDatum z n right_at (datum.Number y) c.memory = subst (λ t. HasDatum z t right_at (datum.Number y) c.memory) (own_copy z cp) (subst (λ t. HasDatum z g.copy t (datum.Number y) c.memory) right_is (h.holds.0.1 plain)) in
       let later : R ≡ writing z g.layout.root s at (Frame g.copy b) (Frame g.copy (stored g b e)) i 0 (code_after g (In e (Stores at v) ∷ k)) =
       row_writes z g.layout.root s at (Frame g.copy b) L i (code_after g (In e (Stores at v) ∷ k)) ∙ ap (λ t. writing z g.layout.root s at (Frame g.copy b) (Frame g.copy t) i 0 (code_after g (In e (Stores at v) ∷ k))) (sym left_is) in
       subst (λ a. Follow z (78 + 10 * bytes_of o) 0 c (changes a e at false (datum.Number x) line k cp l (arrived z.outside w))) (sym (number_changed z (active cp (Value (datum.Number x)) k) op o size x y sum))
