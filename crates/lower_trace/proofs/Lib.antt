@@ -82,3 +82,4 @@ pub mod Folding
 pub mod ConstantUpdates
 pub mod CopyEnds
 pub mod FoldedOperands
+pub mod Living
