@@ -1,8 +1,9 @@
 -- What lives in the source lives in byte code: the same copies wait there, but for a main that has ended.
 use Rattle.c_typed.specs.Trees as tree
-use Rattle.c_typed.specs.Trees.{Expression, Place, Statement}
+use Rattle.c_typed.specs.Trees.{Expression, Place, Statement, Statements}
 use Rattle.c_typed.specs.declared.statement.LoopForm.{LoopForm}
 use Rattle.c_typed.specs.declared.statement.LoopForm.TheVariants.{Do as DoLoop, For, While}
+use Rattle.c_typed.specs.declared.statement.TCase.{TCase}
 use Rattle.core_code.specs.Machine as core
 use Rattle.core_code.specs.Machine.{Do as Todo, InCall, InHandler, InLoop, Join, LoadFrom, Over as Ended, Put, PutBack, PutBit, StoreTo, Task, Waiting, is_over, loading, storing, waiting}
 use Rattle.core_code.specs.Bytes as core_bytes
@@ -15,12 +16,13 @@ use Rattle.lower_expr.specs.Spots.{spot_of}
 use Rattle.lower_expr.specs.declared.places.Spot as place
 use Rattle.lower_expr.specs.declared.places.Spot.TheVariants.{Bit, Computed, Fixed}
 use Rattle.lower_stmt.specs.Ground.{Ground, first, local_byte}
-use Rattle.lower_trace.proofs.CodeLeft.{Jumps, Scene, carrying, carrying_at, code_after, code_at, code_doing, code_left, copies_from, copying_at, ground_in, is_seen, joining, joins, loading_from, number, plain, plain_behind, putting, putting_if, reading, reading_at, reading_in, stack_after, stack_doing, storing_to, todo, turn_behind, turn_rest, writing, writing_at, writing_in}
+use Rattle.lower_stmt.specs.Labels.{labels_of}
+use Rattle.lower_trace.proofs.CodeLeft.{Jumps, Looped, Scene, Switched, blanking_at, carrying, carrying_at, code_after, code_at, code_before, code_doing, code_left, comparing_at, copies_from, copying_at, ground_in, if_labelled, inner_loops, is_seen, joining, joins, jumps, loading_from, loops_in, number, plain, plain_behind, putting, putting_if, reading, reading_at, reading_in, spelling_at, stack_after, stack_doing, stacked, storing_to, switch_on, todo, turn_behind, turn_rest, writing, writing_at, writing_in}
 use Rattle.lower_trace.proofs.Entering.{copy_is}
 use Rattle.lower_trace.proofs.PointerTests.{LivesAll}
 use Rattle.lower_trace.proofs.Written.{nat_same}
 use Rattle.pic_world.specs.declared.Root.{Root}
-use Rattle.src_values.specs.Control.{Before, Begins, Chosen, CopyRead, CopyWrite, Doing, Eval, Fetch, Find, Focus, Got, In, InArm, Items, Leaves, One, Over, Pending, Picks, PutBit as BitPut, Resumes, Returns, Run, Skim, Stage, Steps, Tests, To, Turns, Write, callers, running}
+use Rattle.src_values.specs.Control.{AtItem, Before, Begins, Blank, Blanks, Chooses, Chosen, Compares, CopyRead, CopyWrite, Doing, Eval, Fetch, Find, Focus, Got, In, InArm, Items, Leaves, One, Over, Pending, Picks, PutBit as BitPut, Resumes, Returns, Run, Skim, Spell, Stage, Steps, Tests, To, Turns, Write, callers, running}
 use Rattle.src_values.specs.Objects.{is_alive, is_among, same_copy}
 use Rattle.src_values.specs.declared.objects.Byte as value
 use Rattle.src_values.specs.declared.objects.CopyOf.{CopyOf}
@@ -28,7 +30,7 @@ use Rattle.src_values.specs.declared.objects.Object.TheVariants as objects
 use Rattle.src_values.specs.declared.objects.Pointer.TheVariants.{Into}
 use Rattle.src_values.specs.declared.objects.Spot as spot
 use Rattle.src_values.specs.declared.objects.Spot.TheVariants as spots
-use Rattle.std.proofs.Common.{Bool, List, Some, [], ap, false, if◌then◌else◌, inl, inr, length, nat_eq, refl, suc, sym, true, zero, ℕ, ⊎_elim, ◌-◌, ◌∙◌, ◌∷◌, ◌≡◌, ◌||◌, ◌⊎◌}
+use Rattle.std.proofs.Common.{Bool, List, None, Option, Some, [], ap, false, if◌then◌else◌, inl, inr, length, nat_eq, refl, suc, sym, true, zero, ℕ, ⊎_elim, ◌-◌, ◌∙◌, ◌∷◌, ◌≡◌, ◌||◌, ◌⊎◌}
 
 -- ---- code that isn't the end of main
 todo_on : (ts : List Tree) (c : List Task) → is_over c ≡ false → is_over (todo ts c) ≡ false
@@ -57,15 +59,23 @@ doing_on g j (tree.Loop shape begin condition step body line) Begins c h = refl
 doing_on g j (tree.Loop shape begin condition step body line) Tests c h = todo_on _ [] refl
 doing_on g j (tree.Loop shape begin condition step body line) Turns c h = turn_on shape
 doing_on g j (tree.Loop shape begin condition step body line) Steps c h = refl
+doing_on g j (tree.Switch value cases default ss line) Tests c h = todo_on _ c h
+doing_on g j (tree.Switch value cases default ss line) Turns c h = refl
+doing_on g j (tree.InitList local all line) (AtItem item rest) c h = todo_on _ c h
+doing_on g j (tree.InitList local all line) (Items item rest) c h = todo_on _ c h
 doing_on g j (tree.Return (Some e) line) Tests c h = todo_on _ c h
 doing_on g j _ _ c h = h
+
+before_on : (g : Ground) (o : Option Switched) (ss : Statements) (j : Jumps) (c : List Task) → is_over c ≡ false → is_over (code_before g o ss j c) ≡ false
+before_on g None ss j c h = todo_on _ c h
+before_on g (Some x) ss j c h = todo_on _ c h
 
 after_on : (g : Ground) (k : List Pending) → is_over (code_after g k) ≡ false
 after_on g [] = refl
 after_on g (In e got ∷ k) = todo_on _ _ (joining_on e got _ (after_on g k))
 after_on g (To sought ∷ k) = todo_on _ _ (after_on g k)
-after_on g (Doing t stage ∷ k) = doing_on g _ t stage _ (after_on g k)
-after_on g (Before ss ∷ k) = todo_on _ _ (after_on g k)
+after_on g (Doing t stage ∷ k) = doing_on g (jumps k) t stage _ (after_on g k)
+after_on g (Before ss ∷ k) = before_on g (switch_on k) ss (jumps k) _ (after_on g k)
 after_on g (Returns d ∷ k) = refl
 after_on g (Resumes d x ∷ k) = refl
 
@@ -127,7 +137,24 @@ writing_in_on z g b _ got at done c h = h
 writing_at_on : (z : Scene) (g : Ground) (k : List Pending) (at : spot.Spot) (done : ℕ) → is_over (writing_at z g k at done) ≡ false
 writing_at_on z g (In e got ∷ k) at done = writing_in_on z g _ e got at done _ (after_on g (In e got ∷ k))
 writing_at_on z g (Doing (tree.InitScalar local e line) stage ∷ k) at done = todo_on _ _ (after_on g k)
+writing_at_on z g (Doing (tree.InitList local all line) (Items (tree.Scalar offset e) rest) ∷ k) at done = todo_on _ _ (after_on g (Doing (tree.InitList local all line) (Items (tree.Scalar offset e) rest) ∷ k))
 writing_at_on z g k at done = after_on g k
+
+spelling_at_on : (g : Ground) (k : List Pending) (left : ℕ) (c : List Task) → is_over c ≡ false → is_over (spelling_at g k left c) ≡ false
+spelling_at_on g (Doing (tree.InitList local all line) (Items (tree.Text offset bytes size) rest) ∷ k) left c h = todo_on _ c h
+spelling_at_on g k left c h = h
+
+blanking_at_on : (g : Ground) (k : List Pending) (at left : ℕ) (c : List Task) → is_over c ≡ false → is_over (blanking_at g k at left c) ≡ false
+blanking_at_on g (Doing (tree.InitList local all line) Blanks ∷ k) at left c h = todo_on _ c h
+blanking_at_on g k at left c h = h
+
+labelled_on : (labels : List ℕ) (a b : List Task) → is_over a ≡ false → is_over b ≡ false → is_over (if_labelled labels a b) ≡ false
+labelled_on [] a b h i = i
+labelled_on (label ∷ labels) a b h i = h
+
+comparing_at_on : (g : Ground) (k : List Pending) (labels : List TCase) (c : List Task) → is_over c ≡ false → is_over (comparing_at g k labels c) ≡ false
+comparing_at_on g (Doing (tree.Switch value cases default ss line) Chooses ∷ k) labels c h = labelled_on (labels_of cases default) _ c (todo_on _ [] refl) h
+comparing_at_on g k labels c h = h
 
 carrying_on : (z : Scene) (root : Root) (p q : place.Spot) (at : Byte) (size : ℕ) (from : spot.Spot) (byte : value.Byte) (i : ℕ) (c : List Task) → is_over (carrying z root p q at size from byte i c) ≡ false
 carrying_on z root (Fixed x) (Fixed y) at size from byte i c = refl
@@ -174,6 +201,9 @@ runs z d (Write at v done) k ds = goes_on (number z d) _ (numbers z ds) (writing
 runs z d (BitPut register bit v old) k ds = refl
 runs z d (CopyRead to from left) k ds = goes_on (number z d) _ (numbers z ds) (copying_at_on (ground_in z d) k left)
 runs z d (CopyWrite to from byte left) k ds = goes_on (number z d) _ (numbers z ds) (carrying_at_on z (ground_in z d) k from byte left)
+runs z d (Spell at text left) k ds = goes_on (number z d) _ (numbers z ds) (spelling_at_on (ground_in z d) k left _ (after_on (ground_in z d) k))
+runs z d (Blank at left) k ds = goes_on (number z d) _ (numbers z ds) (blanking_at_on (ground_in z d) k at left _ (after_on (ground_in z d) k))
+runs z d (Compares v labels) k ds = goes_on (number z d) _ (numbers z ds) (comparing_at_on (ground_in z d) k labels _ (after_on (ground_in z d) k))
 runs z d (Leaves v) k ds = goes_on (number z d) _ (numbers z ds) (left_on z k)
 runs z d _ k ds = goes_on (number z d) _ (numbers z ds) (after_on (ground_in z d) k)
 
@@ -199,18 +229,28 @@ waiting_turn g While condition step body s = refl
 waiting_turn g DoLoop condition step body s = refl
 waiting_turn g For condition step body s = refl
 
-waiting_doing : (g : Ground) (t : Statement) (stage : Stage) (c : List Task) (s : List Waiting) → waiting (stack_doing g t stage c s) ≡ waiting s
-waiting_doing g (tree.Loop shape begin condition step body line) Tests c s = refl
-waiting_doing g (tree.Loop shape begin condition step body line) Steps c s = refl
-waiting_doing g (tree.Loop shape begin condition step body line) Turns c s = waiting_turn g shape condition step _ (InLoop _ c ∷ s)
-waiting_doing g _ _ c s = refl
+waiting_stacked : (xs : List Looped) (s : List Waiting) → waiting (stacked xs s) ≡ waiting s
+waiting_stacked [] s = refl
+waiting_stacked (x ∷ xs) s = waiting_stacked xs s
+
+waiting_labelled : (labels : List ℕ) (a b : List Waiting) → waiting a ≡ waiting b → waiting (if_labelled labels a b) ≡ waiting b
+waiting_labelled [] a b h = refl
+waiting_labelled (label ∷ labels) a b h = h
+
+waiting_doing : (g : Ground) (j : Jumps) (t : Statement) (stage : Stage) (c : List Task) (s : List Waiting) → waiting (stack_doing g j t stage c s) ≡ waiting s
+waiting_doing g j (tree.Loop shape begin condition step body line) Tests c s = refl
+waiting_doing g j (tree.Loop shape begin condition step body line) Steps c s = refl
+waiting_doing g j (tree.Loop shape begin condition step body line) Turns c s = waiting_turn g shape condition step _ (InLoop _ c ∷ s)
+waiting_doing g j (tree.Switch value cases default ss line) Chooses c s = waiting_labelled (labels_of cases default) _ s (waiting_stacked (loops_in g j (record { value = value; cases = cases; default = default; body = ss })) _)
+waiting_doing g j (tree.Switch value cases default ss line) Turns c s = refl
+waiting_doing g j _ _ c s = refl
 
 waiting_after : (z : Scene) (g : Ground) (k : List Pending) → waiting (stack_after z g k) ≡ numbers z (callers k)
 waiting_after z g [] = refl
 waiting_after z g (In e got ∷ k) = waiting_after z g k
 waiting_after z g (To sought ∷ k) = waiting_after z g k
-waiting_after z g (Doing t stage ∷ k) = waiting_doing g t stage (code_after g k) (stack_after z g k) ∙ waiting_after z g k
-waiting_after z g (Before ss ∷ k) = waiting_after z g k
+waiting_after z g (Doing t stage ∷ k) = waiting_doing g (jumps k) t stage (code_after g k) (stack_after z g k) ∙ waiting_after z g k
+waiting_after z g (Before ss ∷ k) = waiting_stacked (inner_loops g (jumps k) (switch_on k) ss) (stack_after z g k) ∙ waiting_after z g k
 waiting_after z g (Returns d ∷ k) = ap (λ x. number z d ∷ x) (waiting_after z (ground_in z d) k)
 waiting_after z g (Resumes d x ∷ k) = ap (core.running (number z d) (code_at z (ground_in z d) x k)) (waiting_after z (ground_in z d) k) ∙ runs z d x k (callers k)
 
