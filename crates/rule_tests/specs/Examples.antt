@@ -27,11 +27,16 @@ byte_at offset n = record { offset = offset; byte = initial.Number n }
 abbrev pub two_ints : Program
 two_ints = record {
   targets = plain (types.Int int.Int) ∷ [];
-  structures = []; sizes = [];
+  structures = [];
+  sizes = [];
   statics = record {
-    name = codes "a"; ty = plain (types.Array 0 2 4);
-    initial = byte_at 0 1 ∷ byte_at 1 0 ∷ byte_at 2 2 ∷ byte_at 3 0 ∷ []; line = 1 } ∷ [];
-  functions = [] }
+    name = codes "a";
+    ty = plain (types.Array 0 2 4);
+    initial = byte_at 0 1 ∷ byte_at 1 0 ∷ byte_at 2 2 ∷ byte_at 3 0 ∷ [];
+    line = 1;
+  } ∷ [];
+  functions = [];
+}
 
 -- The number is converted to the type of the register.
 abbrev pub port : Qualified

@@ -90,8 +90,8 @@ writes_const =
 abbrev pub measures_param : List ItemTree
 measures_param =
     unit.Declaration (declares (one_word words.Void) (suffixed (codes "f") (tree.Params 1
-        (tree.Named (one_word words.Int) (object (codes "n")))
-        (tree.AndParam 1 (tree.Named (one_word words.Char) (array (codes "a") (tree.Before (tree.Sizeof 1) (variable (codes "n"))))) tree.NoParam) 1))) ∷ []
+    (tree.Named (one_word words.Int) (object (codes "n")))
+    (tree.AndParam 1 (tree.Named (one_word words.Char) (array (codes "a") (tree.Before (tree.Sizeof 1) (variable (codes "n"))))) tree.NoParam) 1))) ∷ []
 
 -- `int f(void);int f(void)(void);`
 abbrev pub gives_function : List ItemTree
@@ -115,8 +115,8 @@ too_many = unit.Declaration (begins (one_word words.Int) (array (codes "a") (num
 abbrev pub register_element : List ItemTree
 register_element =
     main_with
-        (declares (two_words words.Register words.Int) (array (codes "a") (number 2)) ∷ [])
-        (does (prefixed marks.Ampersand (prefixed marks.Star (tree.Group 1 (joined marks.Plus (variable (codes "a")) (number 1)) 1)))) ∷ []
+    (declares (two_words words.Register words.Int) (array (codes "a") (number 2)) ∷ [])
+    (does (prefixed marks.Ampersand (prefixed marks.Star (tree.Group 1 (joined marks.Plus (variable (codes "a")) (number 1)) 1)))) ∷ []
 
 -- `void f(void){}void main(void){(f)();}`
 abbrev pub calls_in_brackets : List ItemTree
@@ -128,7 +128,7 @@ calls_in_brackets =
 abbrev pub equal_labels : List ItemTree
 equal_labels =
     main_with [] (unit.AndStatement (unit.Switch 1 (record { opening = 1; expr = number 1; closing = 1 }) 1
-        (unit.AndLabel (unit.Case 1 (number 1) 1) (unit.AndLabel (unit.Case 1 (number 1) 1) (unit.AndInner (unit.Plain None 1) unit.NoItem))) 1) unit.NoStatement) ∷ []
+    (unit.AndLabel (unit.Case 1 (number 1) 1) (unit.AndLabel (unit.Case 1 (number 1) 1) (unit.AndInner (unit.Plain None 1) unit.NoItem))) 1) unit.NoStatement) ∷ []
 
 -- `int a[]={1,2};`
 abbrev pub takes_length : List ItemTree
