@@ -256,7 +256,6 @@ module _ (z : Scene) (laws : SceneLaws z) (cp : CopyOf) (k : List Pending) (l : 
       untouched : (root : Root) (m : Memory) (ob : object.Object) (at : ℕ) → with_byte (with_byte m (Result root 0) (bytes.Number 1)) (Result root 1) (bytes.Number 0) (core_byte z ob at) ≡ m (core_byte z ob at)
       untouched root m (objects.Fixed i) at = refl
       untouched root m (objects.Variable d i) at = refl
-
   ready_then (suc i) left to from r T w m c x e all due now target source has agrees holds pl next =
       let n = number z cp in
       let s = stack_after z (ground_in z cp) k in

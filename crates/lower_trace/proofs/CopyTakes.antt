@@ -197,7 +197,7 @@ module _ (z : Scene) (laws : SceneLaws z) (cp : CopyOf) (k : List Pending) (l : 
       (holds_above z cp k m m' way around (omega arith) above holds)
       (node.carried to from byte left m' (
         trail_of z cp.root n b p q to from done 0 true m' through (trails_above z n p b done 0 way to m m' (omega arith) above hp) (subst (λ x. Trails z n x q from done 0 m') (sym (second_is z laws cp k l around resumables p q b size through node.based room)) (trails_above z n q (b + pointer_bytes p) done 0 way from m m' (omega arith) above hq))
-        (above (Result cp.root 0) tt ∙ one.0, above (Result cp.root 1) tt ∙ one.1),
+            (above (Result cp.root 0) tt ∙ one.0, above (Result cp.root 1) tt ∙ one.1),
         carries_of z n b p q from byte way m' through (third_is z laws cp k l around resumables p q b size through node.based room) (λ no. on_way),
         ok.set,
         tt,
