@@ -2,4 +2,3 @@ pub mod Telling
 pub mod Sums
 pub mod Handed
 pub mod BlockViews
-pub mod Translating

@@ -1,8 +1,8 @@
--- Blocks that have addresses have few words, and none is over a page.
-use Rattle.std.proofs.Common.{◌≡◌, ℕ, zero, suc, ◌+◌, ◌-◌, ◌%◌, ◌<◌, ◌≤◌, List, [], ◌∷◌, length, slice_index, sum, subst, arith}
+-- Blocks that have addresses have few words.
+use Rattle.std.proofs.Common.{◌≡◌, ℕ, zero, suc, ◌+◌, ◌-◌, ◌%◌, ◌<◌, ◌≤◌, List, [], ◌∷◌, length, slice_index, sum, arith}
 use Rattle.std.proofs.lemmas.Bool.Decides.{nat_tests}
 use Rattle.std.proofs.lemmas.List.Sums.{sum_by-cons}
-use Rattle.code_place.specs.Pages.{start_of, addresses_from, addresses, AreWithinPages, AreInMemory}
+use Rattle.code_place.specs.Pages.{start_of, addresses_from, addresses}
 
 from : (end words : ℕ) → end ≤ start_of end words
 from end words = grind (arith, nat_tests)
@@ -21,9 +21,3 @@ pub few : (blocks at : List ℕ) → at ≡ addresses blocks → ((k : ℕ) → 
 few blocks at is within =
     let few : 0 + sum blocks ≤ 8192 = few_from 0 blocks (omega arith) (rw (is) at within) in
     omega (arith, few)
-
-pub within_pages : (blocks sizes : List ℕ) → blocks ≡ sizes → AreWithinPages blocks → AreWithinPages sizes
-within_pages blocks sizes is within = subst AreWithinPages is within
-
-pub in_memory : (blocks sizes : List ℕ) → blocks ≡ sizes → AreInMemory (addresses blocks) → AreInMemory (addresses sizes)
-in_memory blocks sizes is within = subst (λ (l : List ℕ). AreInMemory (addresses l)) is within

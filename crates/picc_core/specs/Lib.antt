@@ -5,4 +5,3 @@ pub mod Blocks
 pub mod Compiled
 pub mod Agreement
 pub mod Accepted
-pub mod Coded

@@ -3,7 +3,6 @@
 ghost use Rattle.std.specs.Prelude.{◌≡◌, ◌++◌, IfOk, OnOk};
 ghost use Rattle.std.specs.List.Sorted.{IsPermutation};
 ghost use Rattle.select_wide.specs.Blocks.{views_of};
-ghost use Rattle.picc_core.specs.Coded.{IsSymbolic};
 ghost use Rattle.program_code.specs.Joined.{helper_at, helpers_from, IsJoined};
 
 use crate::code_order::rank_at;
@@ -92,11 +91,7 @@ pub fn symbolic(
     core: &CoreProgram,
     copies: &Copies,
     placed: &Placed,
-) -> Result<SymProgram, AllocError>
-    // Each select stands for a need.
-    ensures { IfOk result (λ made. IsSymbolic core.now copies.now.list.items placed.now made.blocks.items) }
-{
+) -> Result<SymProgram, AllocError> {
     let program = joined(alloc, core, copies, placed)?;
-    let made = selects(alloc, &program, placed)?;
-    Ok(made)
+    selects(alloc, &program, placed)
 }

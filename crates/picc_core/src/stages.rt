@@ -9,13 +9,12 @@ ghost use Rattle.call_graph.specs.Levels.{IsAcyclic};
 ghost use Rattle.pic_map.specs.MapView.{object_of, frame_of};
 ghost use Rattle.ram_place.specs.Placement as placement;
 ghost use Rattle.picc_core.specs.Answers.{IsRefusedUnless, TellsError};
-ghost use Rattle.picc_core.specs.Blocks.{HasBlocks, IsCodeRefusal, IsOfCode};
+ghost use Rattle.picc_core.specs.Blocks.{copy_words as words_of_copy, sizes, HasBlocks, IsCodeRefusal, IsOfCode};
 ghost use Rattle.picc_core.specs.Texts.{tokens_left, program_tokens, HasTree};
 ghost use Rattle.picc_core.specs.declared.refusal.CompileError.TheVariants.{NoMemory, Refused};
 ghost use Rattle.picc_core.specs.declared.refusal.LimitKind.TheVariants as kinds;
 ghost use Rattle.picc_core.specs.declared.refusal.Refusal.{Refusal};
 ghost use Rattle.picc_core.specs.declared.refusal.Refusal.TheVariants as refusals;
-ghost use Rattle.program_code.specs.Stated.{copy_words as words_of_copy, sizes};
 
 use crate::code_order::code_order;
 use crate::known::Front;
@@ -78,7 +77,7 @@ fn typed_of(alloc: Global, text: &[u8]) -> Result<Typed, CompileError>
     Ok(check(alloc, &unit)?)
 }
 
-#[tactic(auto, unfolding(program_code::specs::Stated::copy_words))]
+#[tactic(auto, unfolding(crate::specs::Blocks::copy_words))]
 fn copy_words(p: &Typed, copy: FnCopy) -> u64
     ensures { result ≡ words_of_copy (program_of p.now) copy }
 {
@@ -179,7 +178,7 @@ struct Code {
     words: u32,
 }
 
-#[tactic(auto, using(crate::proofs::Sums::few, crate::proofs::Sums::within_pages, crate::proofs::Sums::in_memory))]
+#[tactic(auto, using(crate::proofs::Sums::few))]
 fn code_of(alloc: Global, p: &Typed, copies: &Copies) -> Result<Code, CompileError>
     ensures blocks { IfOk result (λ code. HasBlocks (program_of p.now) copies.now.list.items code.at.items code.words) }
     ensures refused { IfErr result IsOfCode }
