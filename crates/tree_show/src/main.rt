@@ -71,7 +71,7 @@ fn broken(alloc: Global, kind: Kind, line: u32) -> Result<Vec<u8>, AllocError> {
     Ok(out.text())
 }
 
-fn shown(alloc: Global, text: &[u8]) -> Result<Shown, AllocError> {
+fn judged(alloc: Global, text: &[u8]) -> Result<Shown, AllocError> {
     match found(alloc, text) {
         Found::Tree(typed) => Ok(Shown {
             text: typed_text(alloc, &typed)?,
@@ -112,7 +112,7 @@ fn print<H: Host>(host: &mut H, bytes: &[u8], status: u8) -> u8 {
 }
 
 fn show<H: Host>(alloc: Global, host: &mut H, text: &[u8]) -> u8 {
-    match shown(alloc, text) {
+    match judged(alloc, text) {
         Ok(shown) => print(host, &shown.text, shown.status),
         Err(_) => 9,
     }
