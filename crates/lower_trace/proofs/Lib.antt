@@ -75,3 +75,6 @@ pub mod Scenes
 pub mod Surroundings
 pub mod Rooms
 pub mod Fitting
+pub mod Shapes
+pub mod FitsKept
+pub mod FitsOn
