@@ -78,3 +78,4 @@ pub mod Fitting
 pub mod Shapes
 pub mod FitsKept
 pub mod FitsOn
+pub mod Known
