@@ -79,3 +79,6 @@ pub mod Shapes
 pub mod FitsKept
 pub mod FitsOn
 pub mod Known
+pub mod Leads
+pub mod LedStatements
+pub mod LedSteps
