@@ -82,3 +82,5 @@ pub mod Known
 pub mod Leads
 pub mod LedStatements
 pub mod LedSteps
+pub mod LedValues
+pub mod LedPlaces
