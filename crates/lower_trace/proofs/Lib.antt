@@ -84,3 +84,4 @@ pub mod LedStatements
 pub mod LedSteps
 pub mod LedValues
 pub mod LedPlaces
+pub mod LedFetches
