@@ -85,3 +85,4 @@ pub mod LedSteps
 pub mod LedValues
 pub mod LedPlaces
 pub mod LedFetches
+pub mod LedCalls
