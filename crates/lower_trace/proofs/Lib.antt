@@ -86,3 +86,5 @@ pub mod LedValues
 pub mod LedPlaces
 pub mod LedFetches
 pub mod LedCalls
+pub mod FirstMemory
+pub mod LedRuns
