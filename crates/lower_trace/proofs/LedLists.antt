@@ -27,10 +27,10 @@ use Rattle.lower_trace.proofs.Mirrors.{Mirrors}
 use Rattle.lower_trace.proofs.Scenes.{frame_is, scene_laws}
 
 module _ (z : Scene) (given : IsLowerable z.program z.copies) (input : All (λ byte. byte < 256) z.outside.input) where
-  own_low : (cp : CopyOf) → IsReached z.program cp → (ground_in z cp).base ≤ (core_in z).program.frame_bytes (number z cp)
+  pub own_low : (cp : CopyOf) → IsReached z.program cp → (ground_in z cp).base ≤ (core_in z).program.frame_bytes (number z cp)
   own_low cp r = let a = low z given input cp r in let f = frame_is z given cp r in omega arith
 
-  listed : (cp : CopyOf) (local : ℕ) (all : List Item) → IsReached z.program cp → IsListOf z.program cp.function local all → Listed z cp local
+  pub listed : (cp : CopyOf) (local : ℕ) (all : List Item) → IsReached z.program cp → IsListOf z.program cp.function local all → Listed z cp local
   listed cp local all r is = listed_of z (scene_laws z given) cp local all r is
 
   -- The characters of a string come one after another.

@@ -27,6 +27,7 @@ use Rattle.lower_trace.proofs.Fitting.{pointer_at, step_operation, width_is}
 use Rattle.lower_trace.proofs.Increments.{found_step}
 use Rattle.lower_trace.proofs.Known.{around, front, small, resumables}
 use Rattle.lower_trace.proofs.Leads.{Law, led_by}
+use Rattle.lower_trace.proofs.LedCopies.{structures, list_structures}
 use Rattle.lower_trace.proofs.LedValues.{around_in}
 use Rattle.lower_trace.proofs.MemberPlaces.{found_member}
 use Rattle.lower_trace.proofs.Members.{found_struct, found_update}
@@ -39,9 +40,7 @@ pub record PlaceLaws (z : Scene) : Type 0 where
   -- a structure, or nothing, is read for nothing
   pub skims : (place : Place) (ty : Ty) (line : ℕ) (spot : Spot) (k : List Pending) → is_scalar ty ≡ false → Law z (Found spot) (In (tree.Read place ty line) Nothing ∷ k)
   pub addresses : (place : Place) (ty : Ty) (line : ℕ) (spot : Spot) (k : List Pending) → Law z (Found spot) (In (tree.Address place ty line) Nothing ∷ k)
-  pub structures : (place from : Place) (size line : ℕ) (to spot : Spot) (k : List Pending) → Law z (Found spot) (In (tree.StructAssign place from size line) (At to) ∷ k)
   pub known_counts : (op : BinOp) (place : Place) (value : Expression) (operation : Ty) (size : ℕ) (ty : Ty) (line : ℕ) (spot : Spot) (k : List Pending) → shifts_by_constant op value ≡ true → Law z (Found spot) (In (tree.Update op place value operation size ty line) Nothing ∷ k)
-  pub list_items : (local : ℕ) (all : List Item) (line : ℕ) (item : Item) (rest : List Item) (spot : Spot) (k : List Pending) → Law z (Found spot) (Doing (tree.InitList local all line) (AtItem item rest) ∷ k)
 
 pub step_scalar : (z : Scene) (operation ty : Ty) → IsStep z.program operation ty → is_scalar ty ≡ true
 step_scalar z operation types.Void (inl e) = absurd (cc)
@@ -96,7 +95,7 @@ module _ (z : Scene) (given : IsLowerable z.program z.copies) (input : All (λ b
   nodes_found (tree.Address place ty line) Nothing spot k cp l w c known due h = laws.addresses place ty line spot k cp l w c known due h
   nodes_found (tree.Assign place value ty line) Nothing spot k cp l w c known due h = led_by z 0 0 c _ (found_assign z (scene_laws z given) place value ty line spot k cp l w c h)
   nodes_found (tree.StructAssign place from size line) Nothing spot k cp l w c known due h = led_by z 0 0 c _ (found_struct z (scene_laws z given) place from size line spot k cp l w c h)
-  nodes_found (tree.StructAssign place from size line) (At to) spot k cp l w c known due h = laws.structures place from size line to spot k cp l w c known due h
+  nodes_found (tree.StructAssign place from size line) (At to) spot k cp l w c known due h = structures z given input place from size line to spot k cp l w c known due h
   nodes_found (tree.Update op place value operation size ty line) Nothing spot k cp l w c known due h = updates_found (shifts_by_constant op value) op place value operation size ty line spot k refl cp l w c known due h
   nodes_found (tree.Step op place operation size ty line) Nothing spot k cp l w c known due h = steps_found op place operation size ty line spot k cp l w c known due h
   nodes_found _ _ spot k cp l w c known due h = absurd known.stands.focus.1
@@ -125,7 +124,7 @@ module _ (z : Scene) (given : IsLowerable z.program z.copies) (input : All (λ b
   members_found _ spot k cp l w c known due h = absurd known.stands.focus.1
 
   statements_found : (t : Statement) (stage : Stage) (spot : Spot) (k : List Pending) → Law z (Found spot) (Doing t stage ∷ k)
-  statements_found (tree.InitList local all line) (AtItem item rest) spot k cp l w c known due h = laws.list_items local all line item rest spot k cp l w c known due h
+  statements_found (tree.InitList local all line) (AtItem item rest) spot k cp l w c known due h = list_structures z given input local all line item rest spot k cp l w c known due h
   statements_found _ _ spot k cp l w c known due h = absurd known.stands.focus.1
 
   -- A place goes to the frame that waits for it.

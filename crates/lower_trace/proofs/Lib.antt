@@ -117,5 +117,6 @@ pub mod LedFetches
 pub mod LedCalls
 pub mod LedSwitches
 pub mod LedLists
+pub mod LedCopies
 pub mod FirstMemory
 pub mod LedRuns
