@@ -118,5 +118,6 @@ pub mod LedCalls
 pub mod LedSwitches
 pub mod LedLists
 pub mod LedCopies
+pub mod LedOperators
 pub mod FirstMemory
 pub mod LedRuns
