@@ -119,5 +119,6 @@ pub mod LedSwitches
 pub mod LedLists
 pub mod LedCopies
 pub mod LedOperators
+pub mod LedChanges
 pub mod FirstMemory
 pub mod LedRuns
