@@ -1,8 +1,8 @@
 -- The laws of changes of integers, put together: `++` and `--`, and updates that need no helper.
-use Rattle.std.proofs.Common.{◌≡◌, ℕ, ◌+◌, ◌*◌, ◌<◌, ◌≤◌, inl, inr, Bool, true, false, List, ◌∷◌, refl, sym, ap, ◌∙◌, subst, arith}
+use Rattle.std.proofs.Common.{◌≡◌, ℕ, ◌+◌, ◌*◌, ◌<◌, ◌≤◌, inl, inr, Bool, true, false, ◌||◌, if◌then◌else◌, List, ◌∷◌, refl, sym, ap, ◌∙◌, subst, arith}
 use Rattle.std.proofs.lemmas.Bool.{and_parts}
 use Rattle.std.specs.List.{All}
-use Rattle.c_ints.specs.Conversions.{common}
+use Rattle.c_ints.specs.Conversions.{common, is_long, is_unsigned_int, is_unsigned_long, promoted}
 use Rattle.c_ints.specs.Quantity.{Quantity}
 use Rattle.c_ints.specs.Range.{bytes_of}
 use Rattle.c_ints.specs.declared.operators.BinOp.{BinOp}
@@ -56,6 +56,31 @@ common_wider int.Int = omega arith
 common_wider int.UInt = omega arith
 common_wider int.Long = omega arith
 common_wider int.ULong = omega arith
+
+-- the common type of two has as many bytes as either, and an int's at least
+common_two : (b c d : Bool) → 2 ≤ bytes_of (if b then int.ULong else if c then int.Long else if d then int.UInt else int.Int)
+common_two true c d = omega arith
+common_two false true d = omega arith
+common_two false false true = omega arith
+common_two false false false = omega arith
+
+two_common : (a b : IntTy) → 2 ≤ bytes_of (common a b)
+two_common a b = common_two (is_unsigned_long (promoted a) || is_unsigned_long (promoted b)) (is_long (promoted a) || is_long (promoted b)) (is_unsigned_int (promoted a) || is_unsigned_int (promoted b))
+
+long_left : (b : Bool) → 4 ≤ bytes_of (if b then int.ULong else int.Long)
+long_left true = omega arith
+long_left false = omega arith
+
+wider_left : (a b : IntTy) → bytes_of a ≤ bytes_of (common a b)
+wider_left int.Char b = let q = two_common int.Char b in omega arith
+wider_left int.SChar b = let q = two_common int.SChar b in omega arith
+wider_left int.UChar b = let q = two_common int.UChar b in omega arith
+wider_left int.Short b = let q = two_common int.Short b in omega arith
+wider_left int.UShort b = let q = two_common int.UShort b in omega arith
+wider_left int.Int b = let q = two_common int.Int b in omega arith
+wider_left int.UInt b = let q = two_common int.UInt b in omega arith
+wider_left int.Long b = long_left (is_unsigned_long (promoted b))
+wider_left int.ULong b = omega arith
 
 no_pointer : false ≡ true → ⊥
 no_pointer e = cc
@@ -136,10 +161,10 @@ module _ (z : Scene) (given : IsLowerable z.program z.copies) (input : All (λ b
   same_int_type : (a b : IntTy) → types.Int a ≡ types.Int b → a ≡ b
   same_int_type a b e = cc
 
-  sum_on : (op : BinOp) (place : Place) (right : Expression) (o : IntTy) (size line : ℕ) (spot : Spot) (y x : Quantity) (k : List Pending) → IsSum op → integer_update_fits op (types.Int x.ty) (type_of right) (types.Int o) ≡ true → bytes_of x.ty ≤ bytes_of (common x.ty o)
+  sum_on : (op : BinOp) (place : Place) (right : Expression) (o : IntTy) (size line : ℕ) (spot : Spot) (y x : Quantity) (k : List Pending) → IsSum op → integer_update_fits op (types.Int x.ty) (type_of right) (types.Int o) ≡ true
       → Law z (Holds (datum.Number x)) (In (tree.Update op place right (types.Int o) size (types.Int x.ty) line) (AtWith spot (datum.Number y)) ∷ k)
   unfolding act room
-  sum_on op place right o size line spot y x k sum rule wide_enough cp l w c known due h =
+  sum_on op place right o size line spot y x k sum rule cp l w c known due h =
       let e = tree.Update op place right (types.Int o) size (types.Int x.ty) line in
       let s = known.stands in
       let sizes = z.program.sizes in
@@ -148,6 +173,7 @@ module _ (z : Scene) (given : IsLowerable z.program z.copies) (input : All (λ b
       let r = update_rule z.program op place right (types.Int o) size (types.Int x.ty) line s.stack.0.0 in
       let types_are = sum_types op x.ty o (type_of right) sum rule in
       let wider = ap bytes_of types_are.1 in
+      let left_wide = wider_left x.ty o in
       let few = bytes_small o in
       let less = small z given input cp s.reached in
       let f = frame_is z given cp s.reached in
@@ -177,3 +203,21 @@ module _ (z : Scene) (given : IsLowerable z.program z.copies) (input : All (λ b
         left_is = refl;
         room = omega arith;
       }) due h)
+
+  sum_by : (op : BinOp) (place : Place) (right : Expression) (operation : Ty) (size line : ℕ) (spot : Spot) (y x : Quantity) (k : List Pending) → IsSum op → IsUpdate z.program op (type_of right) operation size (types.Int x.ty)
+      → Law z (Holds (datum.Number x)) (In (tree.Update op place right operation size (types.Int x.ty) line) (AtWith spot (datum.Number y)) ∷ k)
+  sum_by op place right operation size line spot y x k sum (inr e) cp l w c known due h = absurd (no_pointer (moves_rule z.program (types.Int x.ty) (type_of right) size (types.Int x.ty) e.1).0)
+  sum_by op place right (types.Int o) size line spot y x k sum (inl e) cp l w c known due h = sum_on op place right o size line spot y x k sum e cp l w c known due h
+  sum_by op place right types.Void size line spot y x k sum (inl e) cp l w c known due h = absurd (no_pointer e)
+  sum_by op place right (types.Pointer row) size line spot y x k sum (inl e) cp l w c known due h = absurd (no_pointer e)
+  sum_by op place right (types.Array element length bytes) size line spot y x k sum (inl e) cp l w c known due h = absurd (no_pointer e)
+  sum_by op place right (types.Struct number) size line spot y x k sum (inl e) cp l w c known due h = absurd (no_pointer e)
+
+  -- An update by a sum and its like has the place's value.
+  pub number_sums : (op : BinOp) (place : Place) (right : Expression) (operation : Ty) (size : ℕ) (ty : Ty) (line : ℕ) (spot : Spot) (y x : Quantity) (k : List Pending) → IsSum op → Law z (Holds (datum.Number x)) (In (tree.Update op place right operation size ty line) (AtWith spot (datum.Number y)) ∷ k)
+  number_sums op place right operation size ty line spot y x k sum cp l w c known due h =
+      let s = known.stands in
+      let t = subst (λ v. HasType z.program v (datum.Number x)) s.focus.1 s.focus.2 in
+      let r = (update_rule z.program op place right operation size ty line s.stack.0.0).1 in
+      subst (λ v. Law z (Holds (datum.Number x)) (In (tree.Update op place right operation size v line) (AtWith spot (datum.Number y)) ∷ k)) (sym t.0)
+      (sum_by op place right operation size line spot y x k sum (subst (λ v. IsUpdate z.program op (type_of right) operation size v) t.0 r)) cp l w c known due h

@@ -122,3 +122,4 @@ pub mod LedOperators
 pub mod LedChanges
 pub mod FirstMemory
 pub mod LedRuns
+pub mod OpenLaws

@@ -1,0 +1,170 @@
+-- What is open of the laws of each focus, and the laws of all of them from it.
+use Rattle.std.proofs.Common.{◌≡◌, ℕ, ◌<◌, ◌⊎◌, inl, inr, true, false, List, ◌∷◌, Option, ⊎_elim}
+use Rattle.std.specs.List.{All}
+use Rattle.c_ints.specs.declared.operators.BinOp.{BinOp}
+use Rattle.c_ints.specs.declared.operators.BinOp.TheVariants as ops
+use Rattle.c_typed.specs.Sameness.{is_scalar}
+use Rattle.c_typed.specs.Trees as tree
+use Rattle.c_typed.specs.Trees.{Expression, Place}
+use Rattle.c_typed.specs.declared.expression.StepOp.{StepOp}
+use Rattle.c_typed.specs.declared.types.Ty.{Ty}
+use Rattle.lower_expr.specs.Lowering.{shifts_by_constant}
+use Rattle.src_values.specs.Control.{Holds, Found, Fetch, Skim, Write, PutBit, CopyRead, CopyWrite, Calls, Nothing, One, At, AtWith, Pending, In}
+use Rattle.src_values.specs.Data as datum
+use Rattle.src_values.specs.Data.{Datum}
+use Rattle.src_values.specs.declared.objects.Byte.{Byte}
+use Rattle.src_values.specs.declared.objects.Spot.{Spot}
+use Rattle.lower_trace.specs.Lowering.{IsLowerable}
+use Rattle.lower_trace.proofs.Changing.{IsSum}
+use Rattle.lower_trace.proofs.CodeLeft.{Scene}
+use Rattle.lower_trace.proofs.Leads.{Law}
+use Rattle.lower_trace.proofs.LedCalls.{leavings, returns}
+use Rattle.lower_trace.proofs.LedChanges.{number_steps, number_sums}
+use Rattle.lower_trace.proofs.LedFetches.{fetches}
+use Rattle.lower_trace.proofs.LedLists.{spells, blanks}
+use Rattle.lower_trace.proofs.LedOperators.{unaries, plain_binaries}
+use Rattle.lower_trace.proofs.LedPlaces.{PlaceLaws, places}
+use Rattle.lower_trace.proofs.LedRuns.{Followed, followed}
+use Rattle.lower_trace.proofs.LedSteps.{NodeLaws}
+use Rattle.lower_trace.proofs.LedSwitches.{comparisons}
+use Rattle.lower_trace.proofs.LedValues.{ValueLaws, values}
+use Rattle.lower_trace.proofs.Operating.{IsPlain}
+use Rattle.src_rules.specs.Runs.{moment}
+use Rattle.lower_trace.proofs.CodeLeft.{source_in}
+
+-- Two integers have a law where the operator is a sum, a comparison or a bit operator. Others are open.
+abbrev pub IsOpenBinary : BinOp → Datum → Datum → Type 0
+IsOpenBinary op (datum.Number x) (datum.Number y) = IsPlain op → ⊥
+IsOpenBinary op u v = Unit {0}
+
+abbrev pub IsOpenUpdate : BinOp → Datum → Datum → Type 0
+IsOpenUpdate op (datum.Number y) (datum.Number x) = IsSum op → ⊥
+IsOpenUpdate op u v = Unit {0}
+
+abbrev pub IsOpenStep : Datum → Type 0
+IsOpenStep (datum.Number x) = ⊥
+IsOpenStep v = Unit {0}
+
+pub record OpenLaws (z : Scene) : Type 0 where
+  pub converts : (operand : Expression) (ty : Ty) (line : ℕ) (v : Datum) (k : List Pending) → Law z (Holds v) (In (tree.Convert operand ty line) Nothing ∷ k)
+  pub casts : (operand : Expression) (ty : Ty) (line : ℕ) (v : Datum) (k : List Pending) → Law z (Holds v) (In (tree.Cast operand ty line) Nothing ∷ k)
+  pub known_counts : (op : BinOp) (left right : Expression) (ty : Ty) (line : ℕ) (v : Datum) (k : List Pending) → shifts_by_constant op right ≡ true → Law z (Holds v) (In (tree.Binary op left right ty line) Nothing ∷ k)
+  pub binaries : (op : BinOp) (left right : Expression) (ty : Ty) (line : ℕ) (u v : Datum) (k : List Pending) → IsOpenBinary op u v → Law z (Holds v) (In (tree.Binary op left right ty line) (One u) ∷ k)
+  pub offsets : (op : BinOp) (left right : Expression) (size : ℕ) (ty : Ty) (line : ℕ) (u v : Datum) (k : List Pending) → Law z (Holds v) (In (tree.Offset op left right size ty line) (One u) ∷ k)
+  pub differences : (left right : Expression) (size line : ℕ) (u v : Datum) (k : List Pending) → Law z (Holds v) (In (tree.Difference left right size line) (One u) ∷ k)
+  pub updates : (op : BinOp) (place : Place) (value : Expression) (operation : Ty) (size : ℕ) (ty : Ty) (line : ℕ) (spot : Spot) (u v : Datum) (k : List Pending) → IsOpenUpdate op u v → Law z (Holds v) (In (tree.Update op place value operation size ty line) (AtWith spot u) ∷ k)
+  pub steps : (op : StepOp) (place : Place) (operation : Ty) (size : ℕ) (ty : Ty) (line : ℕ) (spot : Spot) (v : Datum) (k : List Pending) → IsOpenStep v → Law z (Holds v) (In (tree.Step op place operation size ty line) (At spot) ∷ k)
+  -- places that are found
+  pub found_skims : (place : Place) (ty : Ty) (line : ℕ) (spot : Spot) (k : List Pending) → is_scalar ty ≡ false → Law z (Found spot) (In (tree.Read place ty line) Nothing ∷ k)
+  pub addresses : (place : Place) (ty : Ty) (line : ℕ) (spot : Spot) (k : List Pending) → Law z (Found spot) (In (tree.Address place ty line) Nothing ∷ k)
+  pub known_updates : (op : BinOp) (place : Place) (value : Expression) (operation : Ty) (size : ℕ) (ty : Ty) (line : ℕ) (spot : Spot) (k : List Pending) → shifts_by_constant op value ≡ true → Law z (Found spot) (In (tree.Update op place value operation size ty line) Nothing ∷ k)
+  -- bytes
+  pub structures_fetched : (place : Place) (ty : Ty) (line : ℕ) (start spot : Spot) (read : List Byte) (k : List Pending) → is_scalar ty ≡ false → Law z (Fetch spot read) (In (tree.Read place ty line) (At start) ∷ k)
+  pub skims : (spot : Spot) (left : ℕ) (byte : Option Byte) (k : List Pending) → Law z (Skim spot left byte) k
+  pub writes : (spot : Spot) (v : Datum) (at : ℕ) (k : List Pending) → Law z (Write spot v at) k
+  pub bits : (register number : ℕ) (v : Datum) (old : ℕ) (k : List Pending) → Law z (PutBit register number v old) k
+  pub copy_reads : (to from : Spot) (left : ℕ) (k : List Pending) → Law z (CopyRead to from left) k
+  pub copy_writes : (to from : Spot) (byte : Byte) (left : ℕ) (k : List Pending) → Law z (CopyWrite to from byte left) k
+  pub calls : (k : List Pending) → Law z Calls k
+
+plain_or : (op : BinOp) → IsPlain op ⊎ (IsPlain op → ⊥)
+plain_or ops.Add = inl tt
+plain_or ops.Sub = inl tt
+plain_or ops.And = inl tt
+plain_or ops.Or = inl tt
+plain_or ops.Xor = inl tt
+plain_or ops.Lt = inl tt
+plain_or ops.Gt = inl tt
+plain_or ops.Le = inl tt
+plain_or ops.Ge = inl tt
+plain_or ops.Eq = inl tt
+plain_or ops.Ne = inl tt
+plain_or ops.Mul = inr (λ h. h)
+plain_or ops.Div = inr (λ h. h)
+plain_or ops.Rem = inr (λ h. h)
+plain_or ops.Shl = inr (λ h. h)
+plain_or ops.Shr = inr (λ h. h)
+
+sum_or : (op : BinOp) → IsSum op ⊎ (IsSum op → ⊥)
+sum_or ops.Add = inl tt
+sum_or ops.Sub = inl tt
+sum_or ops.And = inl tt
+sum_or ops.Or = inl tt
+sum_or ops.Xor = inl tt
+sum_or ops.Lt = inr (λ h. h)
+sum_or ops.Gt = inr (λ h. h)
+sum_or ops.Le = inr (λ h. h)
+sum_or ops.Ge = inr (λ h. h)
+sum_or ops.Eq = inr (λ h. h)
+sum_or ops.Ne = inr (λ h. h)
+sum_or ops.Mul = inr (λ h. h)
+sum_or ops.Div = inr (λ h. h)
+sum_or ops.Rem = inr (λ h. h)
+sum_or ops.Shl = inr (λ h. h)
+sum_or ops.Shr = inr (λ h. h)
+
+module _ (z : Scene) (given : IsLowerable z.program z.copies) (input : All (λ byte. byte < 256) z.outside.input) (open_laws : OpenLaws z) where
+  binaries_by : (op : BinOp) (left right : Expression) (ty : Ty) (line : ℕ) (u v : Datum) (k : List Pending) → Law z (Holds v) (In (tree.Binary op left right ty line) (One u) ∷ k)
+  binaries_by op left right ty line (datum.Number x) (datum.Number y) k cp l w c known due h =
+      ⊎_elim
+      (λ plain. plain_binaries z given input op left right ty line x y k plain cp l w c known due h)
+      (λ other. open_laws.binaries op left right ty line (datum.Number x) (datum.Number y) k other cp l w c known due h)
+      (plain_or op)
+  binaries_by op left right ty line (datum.Number x) (datum.Pointer y) k cp l w c known due h = open_laws.binaries op left right ty line (datum.Number x) (datum.Pointer y) k tt cp l w c known due h
+  binaries_by op left right ty line (datum.Number x) datum.Missing k cp l w c known due h = open_laws.binaries op left right ty line (datum.Number x) datum.Missing k tt cp l w c known due h
+  binaries_by op left right ty line (datum.Pointer x) v k cp l w c known due h = open_laws.binaries op left right ty line (datum.Pointer x) v k tt cp l w c known due h
+  binaries_by op left right ty line datum.Missing v k cp l w c known due h = open_laws.binaries op left right ty line datum.Missing v k tt cp l w c known due h
+
+  updates_by : (op : BinOp) (place : Place) (value : Expression) (operation : Ty) (size : ℕ) (ty : Ty) (line : ℕ) (spot : Spot) (u v : Datum) (k : List Pending) → Law z (Holds v) (In (tree.Update op place value operation size ty line) (AtWith spot u) ∷ k)
+  updates_by op place value operation size ty line spot (datum.Number y) (datum.Number x) k cp l w c known due h =
+      ⊎_elim
+      (λ sum. number_sums z given input op place value operation size ty line spot y x k sum cp l w c known due h)
+      (λ other. open_laws.updates op place value operation size ty line spot (datum.Number y) (datum.Number x) k other cp l w c known due h)
+      (sum_or op)
+  updates_by op place value operation size ty line spot (datum.Number y) (datum.Pointer x) k cp l w c known due h = open_laws.updates op place value operation size ty line spot (datum.Number y) (datum.Pointer x) k tt cp l w c known due h
+  updates_by op place value operation size ty line spot (datum.Number y) datum.Missing k cp l w c known due h = open_laws.updates op place value operation size ty line spot (datum.Number y) datum.Missing k tt cp l w c known due h
+  updates_by op place value operation size ty line spot (datum.Pointer y) v k cp l w c known due h = open_laws.updates op place value operation size ty line spot (datum.Pointer y) v k tt cp l w c known due h
+  updates_by op place value operation size ty line spot datum.Missing v k cp l w c known due h = open_laws.updates op place value operation size ty line spot datum.Missing v k tt cp l w c known due h
+
+  steps_by : (op : StepOp) (place : Place) (operation : Ty) (size : ℕ) (ty : Ty) (line : ℕ) (spot : Spot) (v : Datum) (k : List Pending) → Law z (Holds v) (In (tree.Step op place operation size ty line) (At spot) ∷ k)
+  steps_by op place operation size ty line spot (datum.Number x) k cp l w c known due h = number_steps z given input op place operation size ty line spot x k cp l w c known due h
+  steps_by op place operation size ty line spot (datum.Pointer x) k cp l w c known due h = open_laws.steps op place operation size ty line spot (datum.Pointer x) k tt cp l w c known due h
+  steps_by op place operation size ty line spot datum.Missing k cp l w c known due h = open_laws.steps op place operation size ty line spot datum.Missing k tt cp l w c known due h
+
+  pub value_laws : ValueLaws z
+  value_laws = record {
+    converts = open_laws.converts;
+    casts = open_laws.casts;
+    unaries = unaries z given input;
+    known_counts = open_laws.known_counts;
+    binaries = binaries_by;
+    offsets = open_laws.offsets;
+    differences = open_laws.differences;
+    updates = updates_by;
+    steps = steps_by;
+    returns = returns z given input;
+  }
+
+  pub place_laws : PlaceLaws z
+  place_laws = record { skims = open_laws.found_skims; addresses = open_laws.addresses; known_counts = open_laws.known_updates }
+
+  pub node_laws : NodeLaws z
+  node_laws = record {
+    values = values z given input value_laws;
+    places = places z given input place_laws;
+    fetches = fetches z given input open_laws.structures_fetched;
+    skims = open_laws.skims;
+    writes = open_laws.writes;
+    bits = open_laws.bits;
+    copy_reads = open_laws.copy_reads;
+    copy_writes = open_laws.copy_writes;
+    spells = spells z given input;
+    blanks = blanks z given input;
+    calls = open_laws.calls;
+    leavings = leavings z given input;
+    compares = comparisons z given input;
+  }
+
+  -- Byte code follows each state of a run.
+  pub run_followed : (n : ℕ) → Followed z (moment (source_in z) n)
+  run_followed n = followed z given input node_laws n
