@@ -122,4 +122,6 @@ pub mod LedOperators
 pub mod LedChanges
 pub mod FirstMemory
 pub mod LedRuns
+pub mod LedMissing
+pub mod LedConverts
 pub mod OpenLaws

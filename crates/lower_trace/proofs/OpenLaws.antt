@@ -1,6 +1,7 @@
 -- What is open of the laws of each focus, and the laws of all of them from it.
 use Rattle.std.proofs.Common.{◌≡◌, ℕ, ◌<◌, ◌⊎◌, inl, inr, true, false, List, ◌∷◌, Option, ⊎_elim}
 use Rattle.std.specs.List.{All}
+use Rattle.c_ints.specs.Quantity.{Quantity}
 use Rattle.c_ints.specs.declared.operators.BinOp.{BinOp}
 use Rattle.c_ints.specs.declared.operators.BinOp.TheVariants as ops
 use Rattle.c_typed.specs.Sameness.{is_scalar}
@@ -13,6 +14,7 @@ use Rattle.src_values.specs.Control.{Holds, Found, Fetch, Skim, Write, PutBit, C
 use Rattle.src_values.specs.Data as datum
 use Rattle.src_values.specs.Data.{Datum}
 use Rattle.src_values.specs.declared.objects.Byte.{Byte}
+use Rattle.src_values.specs.declared.objects.Pointer.{Pointer}
 use Rattle.src_values.specs.declared.objects.Spot.{Spot}
 use Rattle.lower_trace.specs.Lowering.{IsLowerable}
 use Rattle.lower_trace.proofs.Changing.{IsSum}
@@ -20,8 +22,10 @@ use Rattle.lower_trace.proofs.CodeLeft.{Scene}
 use Rattle.lower_trace.proofs.Leads.{Law}
 use Rattle.lower_trace.proofs.LedCalls.{leavings, returns}
 use Rattle.lower_trace.proofs.LedChanges.{number_steps, number_sums}
+use Rattle.lower_trace.proofs.LedConverts.{IsNullMade, null_or, converts, casts}
 use Rattle.lower_trace.proofs.LedFetches.{fetches}
 use Rattle.lower_trace.proofs.LedLists.{spells, blanks}
+use Rattle.lower_trace.proofs.LedMissing.{apart_binaries, apart_offsets, apart_differences, missing_updates, updates_missing, missing_steps}
 use Rattle.lower_trace.proofs.LedOperators.{unaries, plain_binaries}
 use Rattle.lower_trace.proofs.LedPlaces.{PlaceLaws, places}
 use Rattle.lower_trace.proofs.LedRuns.{Followed, followed}
@@ -32,28 +36,31 @@ use Rattle.lower_trace.proofs.Operating.{IsPlain}
 use Rattle.src_rules.specs.Runs.{moment}
 use Rattle.lower_trace.proofs.CodeLeft.{source_in}
 
--- Two integers have a law where the operator is a sum, a comparison or a bit operator. Others are open.
+-- Two integers have a law where the operator is a sum, a comparison or a bit operator. Others are open, and so are two pointers.
 abbrev pub IsOpenBinary : BinOp → Datum → Datum → Type 0
 IsOpenBinary op (datum.Number x) (datum.Number y) = IsPlain op → ⊥
-IsOpenBinary op u v = Unit {0}
+IsOpenBinary op (datum.Pointer x) (datum.Pointer y) = Unit {0}
+IsOpenBinary op u v = ⊥
 
+-- what an update is by, and the place's value
 abbrev pub IsOpenUpdate : BinOp → Datum → Datum → Type 0
 IsOpenUpdate op (datum.Number y) (datum.Number x) = IsSum op → ⊥
+IsOpenUpdate op datum.Missing v = ⊥
+IsOpenUpdate op u datum.Missing = ⊥
 IsOpenUpdate op u v = Unit {0}
 
-abbrev pub IsOpenStep : Datum → Type 0
-IsOpenStep (datum.Number x) = ⊥
-IsOpenStep v = Unit {0}
-
 pub record OpenLaws (z : Scene) : Type 0 where
-  pub converts : (operand : Expression) (ty : Ty) (line : ℕ) (v : Datum) (k : List Pending) → Law z (Holds v) (In (tree.Convert operand ty line) Nothing ∷ k)
-  pub casts : (operand : Expression) (ty : Ty) (line : ℕ) (v : Datum) (k : List Pending) → Law z (Holds v) (In (tree.Cast operand ty line) Nothing ∷ k)
+  -- a null constant becomes a pointer
+  pub null_converts : (operand : Expression) (ty : Ty) (line : ℕ) (v : Datum) (k : List Pending) → IsNullMade ty v → Law z (Holds v) (In (tree.Convert operand ty line) Nothing ∷ k)
+  pub null_casts : (operand : Expression) (ty : Ty) (line : ℕ) (v : Datum) (k : List Pending) → IsNullMade ty v → Law z (Holds v) (In (tree.Cast operand ty line) Nothing ∷ k)
   pub known_counts : (op : BinOp) (left right : Expression) (ty : Ty) (line : ℕ) (v : Datum) (k : List Pending) → shifts_by_constant op right ≡ true → Law z (Holds v) (In (tree.Binary op left right ty line) Nothing ∷ k)
   pub binaries : (op : BinOp) (left right : Expression) (ty : Ty) (line : ℕ) (u v : Datum) (k : List Pending) → IsOpenBinary op u v → Law z (Holds v) (In (tree.Binary op left right ty line) (One u) ∷ k)
-  pub offsets : (op : BinOp) (left right : Expression) (size : ℕ) (ty : Ty) (line : ℕ) (u v : Datum) (k : List Pending) → Law z (Holds v) (In (tree.Offset op left right size ty line) (One u) ∷ k)
-  pub differences : (left right : Expression) (size line : ℕ) (u v : Datum) (k : List Pending) → Law z (Holds v) (In (tree.Difference left right size line) (One u) ∷ k)
+  -- a pointer is moved, by an integer behind it or before it
+  pub offsets : (op : BinOp) (left right : Expression) (size : ℕ) (ty : Ty) (line : ℕ) (x : Pointer) (q : Quantity) (k : List Pending) → Law z (Holds (datum.Number q)) (In (tree.Offset op left right size ty line) (One (datum.Pointer x)) ∷ k)
+  pub turned_offsets : (op : BinOp) (left right : Expression) (size : ℕ) (ty : Ty) (line : ℕ) (q : Quantity) (x : Pointer) (k : List Pending) → Law z (Holds (datum.Pointer x)) (In (tree.Offset op left right size ty line) (One (datum.Number q)) ∷ k)
+  pub differences : (left right : Expression) (size line : ℕ) (x y : Pointer) (k : List Pending) → Law z (Holds (datum.Pointer y)) (In (tree.Difference left right size line) (One (datum.Pointer x)) ∷ k)
   pub updates : (op : BinOp) (place : Place) (value : Expression) (operation : Ty) (size : ℕ) (ty : Ty) (line : ℕ) (spot : Spot) (u v : Datum) (k : List Pending) → IsOpenUpdate op u v → Law z (Holds v) (In (tree.Update op place value operation size ty line) (AtWith spot u) ∷ k)
-  pub steps : (op : StepOp) (place : Place) (operation : Ty) (size : ℕ) (ty : Ty) (line : ℕ) (spot : Spot) (v : Datum) (k : List Pending) → IsOpenStep v → Law z (Holds v) (In (tree.Step op place operation size ty line) (At spot) ∷ k)
+  pub steps : (op : StepOp) (place : Place) (operation : Ty) (size : ℕ) (ty : Ty) (line : ℕ) (spot : Spot) (x : Pointer) (k : List Pending) → Law z (Holds (datum.Pointer x)) (In (tree.Step op place operation size ty line) (At spot) ∷ k)
   -- places that are found
   pub found_skims : (place : Place) (ty : Ty) (line : ℕ) (spot : Spot) (k : List Pending) → is_scalar ty ≡ false → Law z (Found spot) (In (tree.Read place ty line) Nothing ∷ k)
   pub addresses : (place : Place) (ty : Ty) (line : ℕ) (spot : Spot) (k : List Pending) → Law z (Found spot) (In (tree.Address place ty line) Nothing ∷ k)
@@ -110,10 +117,42 @@ module _ (z : Scene) (given : IsLowerable z.program z.copies) (input : All (λ b
       (λ plain. plain_binaries z given input op left right ty line x y k plain cp l w c known due h)
       (λ other. open_laws.binaries op left right ty line (datum.Number x) (datum.Number y) k other cp l w c known due h)
       (plain_or op)
-  binaries_by op left right ty line (datum.Number x) (datum.Pointer y) k cp l w c known due h = open_laws.binaries op left right ty line (datum.Number x) (datum.Pointer y) k tt cp l w c known due h
-  binaries_by op left right ty line (datum.Number x) datum.Missing k cp l w c known due h = open_laws.binaries op left right ty line (datum.Number x) datum.Missing k tt cp l w c known due h
-  binaries_by op left right ty line (datum.Pointer x) v k cp l w c known due h = open_laws.binaries op left right ty line (datum.Pointer x) v k tt cp l w c known due h
-  binaries_by op left right ty line datum.Missing v k cp l w c known due h = open_laws.binaries op left right ty line datum.Missing v k tt cp l w c known due h
+  binaries_by op left right ty line (datum.Pointer x) (datum.Pointer y) k cp l w c known due h = open_laws.binaries op left right ty line (datum.Pointer x) (datum.Pointer y) k tt cp l w c known due h
+  binaries_by op left right ty line (datum.Number x) (datum.Pointer y) k cp l w c known due h = apart_binaries z op left right ty line (datum.Number x) (datum.Pointer y) k tt cp l w c known due h
+  binaries_by op left right ty line (datum.Pointer x) (datum.Number y) k cp l w c known due h = apart_binaries z op left right ty line (datum.Pointer x) (datum.Number y) k tt cp l w c known due h
+  binaries_by op left right ty line (datum.Number x) datum.Missing k cp l w c known due h = apart_binaries z op left right ty line (datum.Number x) datum.Missing k tt cp l w c known due h
+  binaries_by op left right ty line (datum.Pointer x) datum.Missing k cp l w c known due h = apart_binaries z op left right ty line (datum.Pointer x) datum.Missing k tt cp l w c known due h
+  binaries_by op left right ty line datum.Missing v k cp l w c known due h = apart_binaries z op left right ty line datum.Missing v k tt cp l w c known due h
+
+  offsets_by : (op : BinOp) (left right : Expression) (size : ℕ) (ty : Ty) (line : ℕ) (u v : Datum) (k : List Pending) → Law z (Holds v) (In (tree.Offset op left right size ty line) (One u) ∷ k)
+  offsets_by op left right size ty line (datum.Pointer x) (datum.Number q) k cp l w c known due h = open_laws.offsets op left right size ty line x q k cp l w c known due h
+  offsets_by op left right size ty line (datum.Number q) (datum.Pointer x) k cp l w c known due h = open_laws.turned_offsets op left right size ty line q x k cp l w c known due h
+  offsets_by op left right size ty line (datum.Number q) (datum.Number y) k cp l w c known due h = apart_offsets z op left right size ty line (datum.Number q) (datum.Number y) k tt cp l w c known due h
+  offsets_by op left right size ty line (datum.Number q) datum.Missing k cp l w c known due h = apart_offsets z op left right size ty line (datum.Number q) datum.Missing k tt cp l w c known due h
+  offsets_by op left right size ty line (datum.Pointer x) (datum.Pointer y) k cp l w c known due h = apart_offsets z op left right size ty line (datum.Pointer x) (datum.Pointer y) k tt cp l w c known due h
+  offsets_by op left right size ty line (datum.Pointer x) datum.Missing k cp l w c known due h = apart_offsets z op left right size ty line (datum.Pointer x) datum.Missing k tt cp l w c known due h
+  offsets_by op left right size ty line datum.Missing v k cp l w c known due h = apart_offsets z op left right size ty line datum.Missing v k tt cp l w c known due h
+
+  differences_by : (left right : Expression) (size line : ℕ) (u v : Datum) (k : List Pending) → Law z (Holds v) (In (tree.Difference left right size line) (One u) ∷ k)
+  differences_by left right size line (datum.Pointer x) (datum.Pointer y) k cp l w c known due h = open_laws.differences left right size line x y k cp l w c known due h
+  differences_by left right size line (datum.Pointer x) (datum.Number q) k cp l w c known due h = apart_differences z left right size line (datum.Pointer x) (datum.Number q) k tt cp l w c known due h
+  differences_by left right size line (datum.Pointer x) datum.Missing k cp l w c known due h = apart_differences z left right size line (datum.Pointer x) datum.Missing k tt cp l w c known due h
+  differences_by left right size line (datum.Number q) v k cp l w c known due h = apart_differences z left right size line (datum.Number q) v k tt cp l w c known due h
+  differences_by left right size line datum.Missing v k cp l w c known due h = apart_differences z left right size line datum.Missing v k tt cp l w c known due h
+
+  converts_by : (operand : Expression) (ty : Ty) (line : ℕ) (v : Datum) (k : List Pending) → Law z (Holds v) (In (tree.Convert operand ty line) Nothing ∷ k)
+  converts_by operand ty line v k cp l w c known due h =
+      ⊎_elim
+      (λ null. converts z given input operand ty line v k null cp l w c known due h)
+      (λ made. open_laws.null_converts operand ty line v k made cp l w c known due h)
+      (null_or ty v)
+
+  casts_by : (operand : Expression) (ty : Ty) (line : ℕ) (v : Datum) (k : List Pending) → Law z (Holds v) (In (tree.Cast operand ty line) Nothing ∷ k)
+  casts_by operand ty line v k cp l w c known due h =
+      ⊎_elim
+      (λ null. casts z given input operand ty line v k null cp l w c known due h)
+      (λ made. open_laws.null_casts operand ty line v k made cp l w c known due h)
+      (null_or ty v)
 
   updates_by : (op : BinOp) (place : Place) (value : Expression) (operation : Ty) (size : ℕ) (ty : Ty) (line : ℕ) (spot : Spot) (u v : Datum) (k : List Pending) → Law z (Holds v) (In (tree.Update op place value operation size ty line) (AtWith spot u) ∷ k)
   updates_by op place value operation size ty line spot (datum.Number y) (datum.Number x) k cp l w c known due h =
@@ -122,24 +161,26 @@ module _ (z : Scene) (given : IsLowerable z.program z.copies) (input : All (λ b
       (λ other. open_laws.updates op place value operation size ty line spot (datum.Number y) (datum.Number x) k other cp l w c known due h)
       (sum_or op)
   updates_by op place value operation size ty line spot (datum.Number y) (datum.Pointer x) k cp l w c known due h = open_laws.updates op place value operation size ty line spot (datum.Number y) (datum.Pointer x) k tt cp l w c known due h
-  updates_by op place value operation size ty line spot (datum.Number y) datum.Missing k cp l w c known due h = open_laws.updates op place value operation size ty line spot (datum.Number y) datum.Missing k tt cp l w c known due h
-  updates_by op place value operation size ty line spot (datum.Pointer y) v k cp l w c known due h = open_laws.updates op place value operation size ty line spot (datum.Pointer y) v k tt cp l w c known due h
-  updates_by op place value operation size ty line spot datum.Missing v k cp l w c known due h = open_laws.updates op place value operation size ty line spot datum.Missing v k tt cp l w c known due h
+  updates_by op place value operation size ty line spot (datum.Pointer y) (datum.Number x) k cp l w c known due h = open_laws.updates op place value operation size ty line spot (datum.Pointer y) (datum.Number x) k tt cp l w c known due h
+  updates_by op place value operation size ty line spot (datum.Pointer y) (datum.Pointer x) k cp l w c known due h = open_laws.updates op place value operation size ty line spot (datum.Pointer y) (datum.Pointer x) k tt cp l w c known due h
+  updates_by op place value operation size ty line spot (datum.Number y) datum.Missing k cp l w c known due h = missing_updates z op place value operation size ty line spot (datum.Number y) k cp l w c known due h
+  updates_by op place value operation size ty line spot (datum.Pointer y) datum.Missing k cp l w c known due h = missing_updates z op place value operation size ty line spot (datum.Pointer y) k cp l w c known due h
+  updates_by op place value operation size ty line spot datum.Missing v k cp l w c known due h = updates_missing z op place value operation size ty line spot v k cp l w c known due h
 
   steps_by : (op : StepOp) (place : Place) (operation : Ty) (size : ℕ) (ty : Ty) (line : ℕ) (spot : Spot) (v : Datum) (k : List Pending) → Law z (Holds v) (In (tree.Step op place operation size ty line) (At spot) ∷ k)
   steps_by op place operation size ty line spot (datum.Number x) k cp l w c known due h = number_steps z given input op place operation size ty line spot x k cp l w c known due h
-  steps_by op place operation size ty line spot (datum.Pointer x) k cp l w c known due h = open_laws.steps op place operation size ty line spot (datum.Pointer x) k tt cp l w c known due h
-  steps_by op place operation size ty line spot datum.Missing k cp l w c known due h = open_laws.steps op place operation size ty line spot datum.Missing k tt cp l w c known due h
+  steps_by op place operation size ty line spot (datum.Pointer x) k cp l w c known due h = open_laws.steps op place operation size ty line spot x k cp l w c known due h
+  steps_by op place operation size ty line spot datum.Missing k cp l w c known due h = missing_steps z op place operation size ty line spot k cp l w c known due h
 
   pub value_laws : ValueLaws z
   value_laws = record {
-    converts = open_laws.converts;
-    casts = open_laws.casts;
+    converts = converts_by;
+    casts = casts_by;
     unaries = unaries z given input;
     known_counts = open_laws.known_counts;
     binaries = binaries_by;
-    offsets = open_laws.offsets;
-    differences = open_laws.differences;
+    offsets = offsets_by;
+    differences = differences_by;
     updates = updates_by;
     steps = steps_by;
     returns = returns z given input;
