@@ -11,15 +11,13 @@ use Rattle.c_ints.specs.declared.types.IntTy.{IntTy}
 use Rattle.c_ints.specs.declared.types.IntTy.TheVariants as int
 use Rattle.c_typed.specs.Room.{place_room, room}
 use Rattle.c_typed.specs.Rules.{integer_update_fits}
-use Rattle.c_typed.specs.Sameness.{same_int}
 use Rattle.c_typed.specs.Trees as tree
 use Rattle.c_typed.specs.Trees.{Expression, Place}
 use Rattle.c_typed.specs.Types.{form_of, place_bytes, place_type, type_bytes, type_of, value_bytes}
 use Rattle.c_typed.specs.declared.expression.StepOp.{StepOp}
 use Rattle.c_typed.specs.declared.types.Ty.{Ty}
 use Rattle.c_typed.specs.declared.types.Ty.TheVariants as types
-use Rattle.lower_expr.specs.Bytes.{beyond}
-use Rattle.lower_expr.specs.Layout.{value_width, width}
+use Rattle.lower_expr.specs.Layout.{width}
 use Rattle.lower_expr.specs.Lowering.{shifts_by_constant}
 use Rattle.lower_expr.specs.Spots.{pointer_bytes, spot_of}
 use Rattle.lower_expr.specs.Lowering.{behind_pointer}

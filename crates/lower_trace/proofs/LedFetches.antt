@@ -96,7 +96,7 @@ module _ (z : Scene) (cp : CopyOf) where
   device_fixed (tree.Member whole member offset ty line) a s = absurd (memory_no_device _ a s.4)
   device_fixed (tree.Deref pointer ty line) a s = absurd (memory_no_device _ a s.2)
 
-  memory_no_bit : (sought : Place) (x : Pointer) (r n : ℕ) → IsSpotOf z.program cp sought (spots.Memory x) → found_as sought ≡ Bit r n → ⊥
+  pub memory_no_bit : (sought : Place) (x : Pointer) (r n : ℕ) → IsSpotOf z.program cp sought (spots.Memory x) → found_as sought ≡ Bit r n → ⊥
   unfolding spot_of
   memory_no_bit (tree.Name object ty line) x r n s e = cc
   memory_no_bit (tree.Bit register bit line) x r n s e = let q : spots.Memory x ≡ spots.Bit register bit = s in cc

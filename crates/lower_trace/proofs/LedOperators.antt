@@ -38,7 +38,7 @@ use Rattle.src_values.specs.declared.objects.Byte.{Byte}
 use Rattle.src_values.specs.declared.objects.CopyOf.{CopyOf}
 use Rattle.lower_trace.specs.Lowering.{IsLowerable}
 use Rattle.lower_trace.proofs.Choosing.{bang_given}
-use Rattle.lower_trace.proofs.CodeLeft.{Scene, base, ground_in, source_in}
+use Rattle.lower_trace.proofs.CodeLeft.{Scene, ground_in, source_in}
 use Rattle.lower_trace.proofs.Computing.{unary_given, binary_given}
 use Rattle.lower_trace.proofs.Fitting.{width_is}
 use Rattle.lower_trace.proofs.Known.{Known, around}

@@ -124,4 +124,5 @@ pub mod FirstMemory
 pub mod LedRuns
 pub mod LedMissing
 pub mod LedConverts
+pub mod LedSkims
 pub mod OpenLaws

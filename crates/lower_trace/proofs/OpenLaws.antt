@@ -9,7 +9,10 @@ use Rattle.c_typed.specs.Trees as tree
 use Rattle.c_typed.specs.Trees.{Expression, Place}
 use Rattle.c_typed.specs.declared.expression.StepOp.{StepOp}
 use Rattle.c_typed.specs.declared.types.Ty.{Ty}
+use Rattle.c_typed.specs.declared.types.Ty.TheVariants as types
 use Rattle.lower_expr.specs.Lowering.{shifts_by_constant}
+use Rattle.src_rules.proofs.Rules.{read_rule}
+use Rattle.src_rules.specs.Runs.{moment}
 use Rattle.src_values.specs.Control.{Holds, Found, Fetch, Skim, Write, PutBit, CopyRead, CopyWrite, Calls, Nothing, One, At, AtWith, Pending, In}
 use Rattle.src_values.specs.Data as datum
 use Rattle.src_values.specs.Data.{Datum}
@@ -18,7 +21,7 @@ use Rattle.src_values.specs.declared.objects.Pointer.{Pointer}
 use Rattle.src_values.specs.declared.objects.Spot.{Spot}
 use Rattle.lower_trace.specs.Lowering.{IsLowerable}
 use Rattle.lower_trace.proofs.Changing.{IsSum}
-use Rattle.lower_trace.proofs.CodeLeft.{Scene}
+use Rattle.lower_trace.proofs.CodeLeft.{Scene, source_in}
 use Rattle.lower_trace.proofs.Leads.{Law}
 use Rattle.lower_trace.proofs.LedCalls.{leavings, returns}
 use Rattle.lower_trace.proofs.LedChanges.{number_steps, number_sums}
@@ -29,12 +32,11 @@ use Rattle.lower_trace.proofs.LedMissing.{apart_binaries, apart_offsets, apart_d
 use Rattle.lower_trace.proofs.LedOperators.{unaries, plain_binaries}
 use Rattle.lower_trace.proofs.LedPlaces.{PlaceLaws, places}
 use Rattle.lower_trace.proofs.LedRuns.{Followed, followed}
+use Rattle.lower_trace.proofs.LedSkims.{structures_found}
 use Rattle.lower_trace.proofs.LedSteps.{NodeLaws}
 use Rattle.lower_trace.proofs.LedSwitches.{comparisons}
 use Rattle.lower_trace.proofs.LedValues.{ValueLaws, values}
 use Rattle.lower_trace.proofs.Operating.{IsPlain}
-use Rattle.src_rules.specs.Runs.{moment}
-use Rattle.lower_trace.proofs.CodeLeft.{source_in}
 
 -- Two integers have a law where the operator is a sum, a comparison or a bit operator. Others are open, and so are two pointers.
 abbrev pub IsOpenBinary : BinOp → Datum → Datum → Type 0
@@ -62,7 +64,7 @@ pub record OpenLaws (z : Scene) : Type 0 where
   pub updates : (op : BinOp) (place : Place) (value : Expression) (operation : Ty) (size : ℕ) (ty : Ty) (line : ℕ) (spot : Spot) (u v : Datum) (k : List Pending) → IsOpenUpdate op u v → Law z (Holds v) (In (tree.Update op place value operation size ty line) (AtWith spot u) ∷ k)
   pub steps : (op : StepOp) (place : Place) (operation : Ty) (size : ℕ) (ty : Ty) (line : ℕ) (spot : Spot) (x : Pointer) (k : List Pending) → Law z (Holds (datum.Pointer x)) (In (tree.Step op place operation size ty line) (At spot) ∷ k)
   -- places that are found
-  pub found_skims : (place : Place) (ty : Ty) (line : ℕ) (spot : Spot) (k : List Pending) → is_scalar ty ≡ false → Law z (Found spot) (In (tree.Read place ty line) Nothing ∷ k)
+  pub void_reads : (place : Place) (line : ℕ) (spot : Spot) (k : List Pending) → Law z (Found spot) (In (tree.Read place types.Void line) Nothing ∷ k)
   pub addresses : (place : Place) (ty : Ty) (line : ℕ) (spot : Spot) (k : List Pending) → Law z (Found spot) (In (tree.Address place ty line) Nothing ∷ k)
   pub known_updates : (op : BinOp) (place : Place) (value : Expression) (operation : Ty) (size : ℕ) (ty : Ty) (line : ℕ) (spot : Spot) (k : List Pending) → shifts_by_constant op value ≡ true → Law z (Found spot) (In (tree.Update op place value operation size ty line) Nothing ∷ k)
   -- bytes
@@ -109,6 +111,9 @@ sum_or ops.Div = inr (λ h. h)
 sum_or ops.Rem = inr (λ h. h)
 sum_or ops.Shl = inr (λ h. h)
 sum_or ops.Shr = inr (λ h. h)
+
+true_false : true ≡ false → ⊥
+true_false e = cc
 
 module _ (z : Scene) (given : IsLowerable z.program z.copies) (input : All (λ byte. byte < 256) z.outside.input) (open_laws : OpenLaws z) where
   binaries_by : (op : BinOp) (left right : Expression) (ty : Ty) (line : ℕ) (u v : Datum) (k : List Pending) → Law z (Holds v) (In (tree.Binary op left right ty line) (One u) ∷ k)
@@ -172,6 +177,13 @@ module _ (z : Scene) (given : IsLowerable z.program z.copies) (input : All (λ b
   steps_by op place operation size ty line spot (datum.Pointer x) k cp l w c known due h = open_laws.steps op place operation size ty line spot x k cp l w c known due h
   steps_by op place operation size ty line spot datum.Missing k cp l w c known due h = missing_steps z op place operation size ty line spot k cp l w c known due h
 
+  skims_by : (place : Place) (ty : Ty) (line : ℕ) (spot : Spot) (k : List Pending) → is_scalar ty ≡ false → Law z (Found spot) (In (tree.Read place ty line) Nothing ∷ k)
+  skims_by place types.Void line spot k is cp l w c known due h = open_laws.void_reads place line spot k cp l w c known due h
+  skims_by place (types.Int ty) line spot k is cp l w c known due h = absurd (true_false is)
+  skims_by place (types.Pointer row) line spot k is cp l w c known due h = absurd (true_false is)
+  skims_by place (types.Array element length bytes) line spot k is cp l w c known due h = absurd (true_false (read_rule z.program place (types.Array element length bytes) line known.stands.stack.0.0).1)
+  skims_by place (types.Struct number) line spot k is cp l w c known due h = structures_found z given input place number line spot k cp l w c known due h
+
   pub value_laws : ValueLaws z
   value_laws = record {
     converts = converts_by;
@@ -187,7 +199,7 @@ module _ (z : Scene) (given : IsLowerable z.program z.copies) (input : All (λ b
   }
 
   pub place_laws : PlaceLaws z
-  place_laws = record { skims = open_laws.found_skims; addresses = open_laws.addresses; known_counts = open_laws.known_updates }
+  place_laws = record { skims = skims_by; addresses = open_laws.addresses; known_counts = open_laws.known_updates }
 
   pub node_laws : NodeLaws z
   node_laws = record {
