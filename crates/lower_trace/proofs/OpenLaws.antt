@@ -1,12 +1,14 @@
 -- What is open of the laws of each focus, and the laws of all of them from it.
-use Rattle.std.proofs.Common.{◌≡◌, ℕ, ◌<◌, ◌⊎◌, inl, inr, true, false, List, ◌∷◌, Option, ⊎_elim}
+use Rattle.std.proofs.Common.{◌≡◌, ℕ, ◌<◌, ◌⊎◌, inl, inr, true, false, List, ◌∷◌, Option, refl, ⊎_elim, arith}
+use Rattle.std.proofs.lemmas.Bool.{cases_lt}
 use Rattle.std.specs.List.{All}
 use Rattle.c_ints.specs.Quantity.{Quantity}
 use Rattle.c_ints.specs.declared.operators.BinOp.{BinOp}
 use Rattle.c_ints.specs.declared.operators.BinOp.TheVariants as ops
-use Rattle.c_typed.specs.Sameness.{is_scalar}
+use Rattle.c_typed.specs.Sameness.{is_scalar, is_struct}
 use Rattle.c_typed.specs.Trees as tree
 use Rattle.c_typed.specs.Trees.{Expression, Place}
+use Rattle.c_typed.specs.Types.{type_bytes}
 use Rattle.c_typed.specs.declared.expression.StepOp.{StepOp}
 use Rattle.c_typed.specs.declared.types.Ty.{Ty}
 use Rattle.c_typed.specs.declared.types.Ty.TheVariants as types
@@ -32,7 +34,7 @@ use Rattle.lower_trace.proofs.LedMissing.{apart_binaries, apart_offsets, apart_d
 use Rattle.lower_trace.proofs.LedOperators.{unaries, plain_binaries}
 use Rattle.lower_trace.proofs.LedPlaces.{PlaceLaws, places}
 use Rattle.lower_trace.proofs.LedRuns.{Followed, followed}
-use Rattle.lower_trace.proofs.LedSkims.{structures_found}
+use Rattle.lower_trace.proofs.LedSkims.{structures_found, structures_skimmed}
 use Rattle.lower_trace.proofs.LedSteps.{NodeLaws}
 use Rattle.lower_trace.proofs.LedSwitches.{comparisons}
 use Rattle.lower_trace.proofs.LedValues.{ValueLaws, values}
@@ -69,7 +71,9 @@ pub record OpenLaws (z : Scene) : Type 0 where
   pub known_updates : (op : BinOp) (place : Place) (value : Expression) (operation : Ty) (size : ℕ) (ty : Ty) (line : ℕ) (spot : Spot) (k : List Pending) → shifts_by_constant op value ≡ true → Law z (Found spot) (In (tree.Update op place value operation size ty line) Nothing ∷ k)
   -- bytes
   pub structures_fetched : (place : Place) (ty : Ty) (line : ℕ) (start spot : Spot) (read : List Byte) (k : List Pending) → is_scalar ty ≡ false → Law z (Fetch spot read) (In (tree.Read place ty line) (At start) ∷ k)
-  pub skims : (spot : Spot) (left : ℕ) (byte : Option Byte) (k : List Pending) → Law z (Skim spot left byte) k
+  -- what is no structure, or one of no bytes, is read for nothing
+  pub plain_skims : (place : Place) (ty : Ty) (line : ℕ) (start spot : Spot) (left : ℕ) (byte : Option Byte) (k : List Pending) → is_struct ty ≡ false → Law z (Skim spot left byte) (In (tree.Read place ty line) (At start) ∷ k)
+  pub empty_skims : (place : Place) (number line : ℕ) (start spot : Spot) (left : ℕ) (byte : Option Byte) (k : List Pending) → type_bytes z.program.sizes (types.Struct number) ≡ 0 → Law z (Skim spot left byte) (In (tree.Read place (types.Struct number) line) (At start) ∷ k)
   pub writes : (spot : Spot) (v : Datum) (at : ℕ) (k : List Pending) → Law z (Write spot v at) k
   pub bits : (register number : ℕ) (v : Datum) (old : ℕ) (k : List Pending) → Law z (PutBit register number v old) k
   pub copy_reads : (to from : Spot) (left : ℕ) (k : List Pending) → Law z (CopyRead to from left) k
@@ -184,6 +188,24 @@ module _ (z : Scene) (given : IsLowerable z.program z.copies) (input : All (λ b
   skims_by place (types.Array element length bytes) line spot k is cp l w c known due h = absurd (true_false (read_rule z.program place (types.Array element length bytes) line known.stands.stack.0.0).1)
   skims_by place (types.Struct number) line spot k is cp l w c known due h = structures_found z given input place number line spot k cp l w c known due h
 
+  structures_by : (place : Place) (number line : ℕ) (start spot : Spot) (left : ℕ) (byte : Option Byte) (k : List Pending) → Law z (Skim spot left byte) (In (tree.Read place (types.Struct number) line) (At start) ∷ k)
+  structures_by place number line start spot left byte k cp l w c known due h =
+      ⊎_elim
+      (λ some. structures_skimmed z given input place number line start spot left byte k some cp l w c known due h)
+      (λ none. open_laws.empty_skims place number line start spot left byte k (omega arith) cp l w c known due h)
+      (cases_lt 0 (type_bytes z.program.sizes (types.Struct number)))
+
+  reads_skim : (place : Place) (ty : Ty) (line : ℕ) (start spot : Spot) (left : ℕ) (byte : Option Byte) (k : List Pending) → Law z (Skim spot left byte) (In (tree.Read place ty line) (At start) ∷ k)
+  reads_skim place types.Void line start spot left byte k cp l w c known due h = open_laws.plain_skims place types.Void line start spot left byte k refl cp l w c known due h
+  reads_skim place (types.Int ty) line start spot left byte k cp l w c known due h = open_laws.plain_skims place (types.Int ty) line start spot left byte k refl cp l w c known due h
+  reads_skim place (types.Pointer row) line start spot left byte k cp l w c known due h = open_laws.plain_skims place (types.Pointer row) line start spot left byte k refl cp l w c known due h
+  reads_skim place (types.Array element length bytes) line start spot left byte k cp l w c known due h = open_laws.plain_skims place (types.Array element length bytes) line start spot left byte k refl cp l w c known due h
+  reads_skim place (types.Struct number) line start spot left byte k cp l w c known due h = structures_by place number line start spot left byte k cp l w c known due h
+
+  skims : (spot : Spot) (left : ℕ) (byte : Option Byte) (k : List Pending) → Law z (Skim spot left byte) k
+  skims spot left byte (In (tree.Read place ty line) (At start) ∷ k) cp l w c known due h = reads_skim place ty line start spot left byte k cp l w c known due h
+  skims spot left byte _ cp l w c known due h = absurd known.stands.focus.node
+
   pub value_laws : ValueLaws z
   value_laws = record {
     converts = converts_by;
@@ -206,7 +228,7 @@ module _ (z : Scene) (given : IsLowerable z.program z.copies) (input : All (λ b
     values = values z given input value_laws;
     places = places z given input place_laws;
     fetches = fetches z given input open_laws.structures_fetched;
-    skims = open_laws.skims;
+    skims = skims;
     writes = open_laws.writes;
     bits = open_laws.bits;
     copy_reads = open_laws.copy_reads;
