@@ -125,4 +125,5 @@ pub mod LedRuns
 pub mod LedMissing
 pub mod LedConverts
 pub mod LedSkims
+pub mod LedWrites
 pub mod OpenLaws
