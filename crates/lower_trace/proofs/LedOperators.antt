@@ -1,5 +1,6 @@
 -- The laws of operators whose last operand is there, put together: of one operand, and those that need no helper.
 use Rattle.std.proofs.Common.{◌≡◌, ℕ, ◌+◌, ◌*◌, ◌<◌, ◌≤◌, Bool, true, false, ◌&&◌, if◌then◌else◌, nat_lt, List, ◌∷◌, refl, sym, ap, ◌∙◌, subst, arith}
+use Rattle.std.proofs.Math.Nat.{le-max_right}
 use Rattle.std.proofs.lemmas.Bool.{and_parts}
 use Rattle.std.specs.List.{All}
 use Rattle.c_ints.specs.Conversions.{promoted}
@@ -49,7 +50,6 @@ use Rattle.lower_trace.proofs.Operating.{IsPlain, IsSigned}
 use Rattle.lower_trace.proofs.Rests.{plus_given}
 use Rattle.lower_trace.proofs.Rooms.{binary_parts, value_room}
 use Rattle.lower_trace.proofs.Scenes.{frame_is, scene_laws}
-use Rattle.std.proofs.Math.Nat.{le-max_right}
 
 -- ---- promoted types
 wide_int : (ty : IntTy) → same_int (promoted ty) ty ≡ true → nat_lt 1 (bytes_of ty) ≡ true

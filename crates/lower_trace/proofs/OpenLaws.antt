@@ -7,7 +7,7 @@ use Rattle.c_ints.specs.declared.operators.BinOp.{BinOp}
 use Rattle.c_ints.specs.declared.operators.BinOp.TheVariants as ops
 use Rattle.c_typed.specs.Sameness.{is_scalar, is_struct}
 use Rattle.c_typed.specs.Trees as tree
-use Rattle.c_typed.specs.Trees.{Expression, Place}
+use Rattle.c_typed.specs.Trees.{Expression, Item, Place}
 use Rattle.c_typed.specs.Types.{type_bytes}
 use Rattle.c_typed.specs.declared.expression.StepOp.{StepOp}
 use Rattle.c_typed.specs.declared.types.Ty.{Ty}
@@ -15,9 +15,10 @@ use Rattle.c_typed.specs.declared.types.Ty.TheVariants as types
 use Rattle.lower_expr.specs.Lowering.{shifts_by_constant}
 use Rattle.src_rules.proofs.Rules.{read_rule}
 use Rattle.src_rules.specs.Runs.{moment}
-use Rattle.src_values.specs.Control.{Holds, Found, Fetch, Skim, Write, PutBit, CopyRead, CopyWrite, Calls, Nothing, One, At, AtWith, Pending, In}
+use Rattle.src_values.specs.Control.{Holds, Found, Fetch, Skim, Write, PutBit, CopyRead, CopyWrite, Calls, Nothing, One, At, AtWith, Pending, In, Stores, Fills, Items, Doing}
 use Rattle.src_values.specs.Data as datum
 use Rattle.src_values.specs.Data.{Datum}
+use Rattle.src_values.specs.Values.{byte_count}
 use Rattle.src_values.specs.declared.objects.Byte.{Byte}
 use Rattle.src_values.specs.declared.objects.Pointer.{Pointer}
 use Rattle.src_values.specs.declared.objects.Spot.{Spot}
@@ -38,6 +39,7 @@ use Rattle.lower_trace.proofs.LedSkims.{structures_found, structures_skimmed}
 use Rattle.lower_trace.proofs.LedSteps.{NodeLaws}
 use Rattle.lower_trace.proofs.LedSwitches.{comparisons}
 use Rattle.lower_trace.proofs.LedValues.{ValueLaws, values}
+use Rattle.lower_trace.proofs.LedWrites.{scalar_writes}
 use Rattle.lower_trace.proofs.Operating.{IsPlain}
 
 -- Two integers have a law where the operator is a sum, a comparison or a bit operator. Others are open, and so are two pointers.
@@ -74,7 +76,10 @@ pub record OpenLaws (z : Scene) : Type 0 where
   -- what is no structure, or one of no bytes, is read for nothing
   pub plain_skims : (place : Place) (ty : Ty) (line : ℕ) (start spot : Spot) (left : ℕ) (byte : Option Byte) (k : List Pending) → is_struct ty ≡ false → Law z (Skim spot left byte) (In (tree.Read place ty line) (At start) ∷ k)
   pub empty_skims : (place : Place) (number line : ℕ) (start spot : Spot) (left : ℕ) (byte : Option Byte) (k : List Pending) → type_bytes z.program.sizes (types.Struct number) ≡ 0 → Law z (Skim spot left byte) (In (tree.Read place (types.Struct number) line) (At start) ∷ k)
-  pub writes : (spot : Spot) (v : Datum) (at : ℕ) (k : List Pending) → Law z (Write spot v at) k
+  -- The value of the focus is that of the frame, and it isn't missing. An item of a list has room.
+  pub node_writes : (e : Expression) (start spot : Spot) (u v : Datum) (at : ℕ) (k : List Pending) → Law z (Write spot v at) (In e (Stores start u) ∷ k)
+  pub missing_writes : (local : ℕ) (e : Expression) (line : ℕ) (spot : Spot) (v : Datum) (at : ℕ) (k : List Pending) → byte_count v ≡ 0 → Law z (Write spot v at) (Doing (tree.InitScalar local e line) Fills ∷ k)
+  pub item_writes : (local : ℕ) (all : List Item) (line offset : ℕ) (e : Expression) (rest : List Item) (spot : Spot) (v : Datum) (at : ℕ) (k : List Pending) → Law z (Write spot v at) (Doing (tree.InitList local all line) (Items (tree.Scalar offset e) rest) ∷ k)
   pub bits : (register number : ℕ) (v : Datum) (old : ℕ) (k : List Pending) → Law z (PutBit register number v old) k
   pub copy_reads : (to from : Spot) (left : ℕ) (k : List Pending) → Law z (CopyRead to from left) k
   pub copy_writes : (to from : Spot) (byte : Byte) (left : ℕ) (k : List Pending) → Law z (CopyWrite to from byte left) k
@@ -206,6 +211,19 @@ module _ (z : Scene) (given : IsLowerable z.program z.copies) (input : All (λ b
   skims spot left byte (In (tree.Read place ty line) (At start) ∷ k) cp l w c known due h = reads_skim place ty line start spot left byte k cp l w c known due h
   skims spot left byte _ cp l w c known due h = absurd known.stands.focus.node
 
+  locals_by : (local : ℕ) (e : Expression) (line : ℕ) (spot : Spot) (v : Datum) (at : ℕ) (k : List Pending) → Law z (Write spot v at) (Doing (tree.InitScalar local e line) Fills ∷ k)
+  locals_by local e line spot v at k cp l w c known due h =
+      ⊎_elim
+      (λ some. scalar_writes z given input local e line spot v at k some cp l w c known due h)
+      (λ none. open_laws.missing_writes local e line spot v at k (omega arith) cp l w c known due h)
+      (cases_lt 0 (byte_count v))
+
+  writes : (spot : Spot) (v : Datum) (at : ℕ) (k : List Pending) → Law z (Write spot v at) k
+  writes spot v at (In e (Stores start u) ∷ k) cp l w c known due h = open_laws.node_writes e start spot u v at k cp l w c known due h
+  writes spot v at (Doing (tree.InitScalar local e line) Fills ∷ k) cp l w c known due h = locals_by local e line spot v at k cp l w c known due h
+  writes spot v at (Doing (tree.InitList local all line) (Items (tree.Scalar offset e) rest) ∷ k) cp l w c known due h = open_laws.item_writes local all line offset e rest spot v at k cp l w c known due h
+  writes spot v at _ cp l w c known due h = absurd known.stands.focus.node
+
   pub value_laws : ValueLaws z
   value_laws = record {
     converts = converts_by;
@@ -229,7 +247,7 @@ module _ (z : Scene) (given : IsLowerable z.program z.copies) (input : All (λ b
     places = places z given input place_laws;
     fetches = fetches z given input open_laws.structures_fetched;
     skims = skims;
-    writes = open_laws.writes;
+    writes = writes;
     bits = open_laws.bits;
     copy_reads = open_laws.copy_reads;
     copy_writes = open_laws.copy_writes;
