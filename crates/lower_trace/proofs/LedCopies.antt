@@ -1,4 +1,4 @@
--- The laws of structures whose copies begin, put together.
+-- The laws of structures whose copies begin or end, put together.
 use Rattle.std.proofs.Common.{◌≡◌, ℕ, ◌<◌, true, List, ◌∷◌, subst, arith}
 use Rattle.std.proofs.lemmas.Bool.{and_parts}
 use Rattle.std.specs.List.{All}
@@ -13,16 +13,17 @@ use Rattle.src_rules.specs.Parts.{Obeys}
 use Rattle.src_rules.specs.Standing.{IsSpotOf}
 use Rattle.src_rules.specs.State.{state}
 use Rattle.src_rules.specs.Step.{act}
-use Rattle.src_values.specs.Control.{Found, At, AtItem, Pending, In, Doing}
+use Rattle.src_values.specs.Control.{Found, CopyRead, At, Copies, AtItem, Items, Pending, In, Doing}
 use Rattle.src_values.specs.declared.objects.Spot.{Spot}
 use Rattle.lower_trace.specs.Lowering.{IsLowerable}
 use Rattle.lower_trace.proofs.CodeLeft.{Scene}
-use Rattle.lower_trace.proofs.CopyEnds.{struct_object}
+use Rattle.lower_trace.proofs.CopyEnds.{assign_ends, struct_object}
 use Rattle.lower_trace.proofs.CopyNodes.{assign_copies}
-use Rattle.lower_trace.proofs.Known.{around}
+use Rattle.lower_trace.proofs.Known.{around, resumables}
 use Rattle.lower_trace.proofs.Leads.{Law, led_by}
 use Rattle.lower_trace.proofs.LedLists.{listed, own_low}
-use Rattle.lower_trace.proofs.ListStructs.{item_copies}
+use Rattle.lower_trace.proofs.LedValues.{around_in}
+use Rattle.lower_trace.proofs.ListStructs.{item_copies, item_copied}
 use Rattle.lower_trace.proofs.LocalPlaces.{local_size, item_inside}
 use Rattle.lower_trace.proofs.Scenes.{scene_laws}
 
@@ -62,3 +63,17 @@ module _ (z : Scene) (given : IsLowerable z.program z.copies) (input : All (λ b
       (struct_object z cp from spot is.2 is.0 at) (spot_placed z.program cp from spot s.reached is.2 at) h)
   list_structures local all line (tree.Scalar offset e) rest spot k cp l w c known due h = absurd known.stands.focus.1
   list_structures local all line (tree.Text offset text size) rest spot k cp l w c known due h = absurd known.stands.focus.1
+
+  -- all bytes are copied
+  pub assigns_end : (place from : Place) (size line : ℕ) (to spot : Spot) (k : List Pending) → Law z (CopyRead to spot 0) (In (tree.StructAssign place from size line) Copies ∷ k)
+  unfolding act
+  assigns_end place from size line to spot k cp l w c known due h =
+      let e = tree.StructAssign place from size line in
+      let t = state cp (CopyRead to spot 0) (In e Copies ∷ k) l w in
+      led_by z 8 0 c _ (assign_ends z (scene_laws z given) cp l place from size line to spot k w c (around_in z cp e Copies k (around z given input t known)) (resumables z t known) due h)
+
+  pub items_end : (local : ℕ) (all : List Item) (line offset : ℕ) (from : Place) (size : ℕ) (rest : List Item) (to spot : Spot) (k : List Pending) → 0 < size → Law z (CopyRead to spot 0) (Doing (tree.InitList local all line) (Items (tree.Struct offset from size) rest) ∷ k)
+  unfolding act
+  items_end local all line offset from size rest to spot k some cp l w c known due h =
+      let s = known.stands in
+      led_by z 0 0 c _ (item_copied z (scene_laws z given) local all line k cp l (listed z given input cp local all s.reached s.stack.0.1) (own_low z given input cp s.reached) offset from size rest to spot w c some h)

@@ -1,5 +1,5 @@
 -- What is open of the laws of each focus, and the laws of all of them from it.
-use Rattle.std.proofs.Common.{◌≡◌, ℕ, ◌<◌, ◌⊎◌, inl, inr, true, false, List, ◌∷◌, Option, refl, ⊎_elim, arith}
+use Rattle.std.proofs.Common.{◌≡◌, ℕ, zero, suc, ◌<◌, ◌⊎◌, inl, inr, true, false, List, ◌∷◌, Option, refl, ⊎_elim, arith}
 use Rattle.std.proofs.lemmas.Bool.{cases_lt}
 use Rattle.std.specs.List.{All}
 use Rattle.c_ints.specs.Quantity.{Quantity}
@@ -15,7 +15,7 @@ use Rattle.c_typed.specs.declared.types.Ty.TheVariants as types
 use Rattle.lower_expr.specs.Lowering.{shifts_by_constant}
 use Rattle.src_rules.proofs.Rules.{read_rule}
 use Rattle.src_rules.specs.Runs.{moment}
-use Rattle.src_values.specs.Control.{Holds, Found, Fetch, Skim, Write, PutBit, CopyRead, CopyWrite, Calls, Nothing, One, At, AtWith, Pending, In, Stores, Fills, Items, Doing}
+use Rattle.src_values.specs.Control.{Holds, Found, Fetch, Skim, Write, PutBit, CopyRead, CopyWrite, Calls, Nothing, One, At, AtWith, Pending, In, Stores, Fills, Items, Doing, Copies}
 use Rattle.src_values.specs.Data as datum
 use Rattle.src_values.specs.Data.{Datum}
 use Rattle.src_values.specs.Values.{byte_count}
@@ -29,6 +29,7 @@ use Rattle.lower_trace.proofs.Leads.{Law}
 use Rattle.lower_trace.proofs.LedCalls.{leavings, returns}
 use Rattle.lower_trace.proofs.LedChanges.{number_steps, number_sums}
 use Rattle.lower_trace.proofs.LedConverts.{IsNullMade, null_or, converts, casts}
+use Rattle.lower_trace.proofs.LedCopies.{assigns_end, items_end}
 use Rattle.lower_trace.proofs.LedFetches.{fetches}
 use Rattle.lower_trace.proofs.LedLists.{spells, blanks}
 use Rattle.lower_trace.proofs.LedMissing.{apart_binaries, apart_offsets, apart_differences, missing_updates, updates_missing, missing_steps}
@@ -81,7 +82,9 @@ pub record OpenLaws (z : Scene) : Type 0 where
   pub missing_writes : (local : ℕ) (e : Expression) (line : ℕ) (spot : Spot) (v : Datum) (at : ℕ) (k : List Pending) → byte_count v ≡ 0 → Law z (Write spot v at) (Doing (tree.InitScalar local e line) Fills ∷ k)
   pub item_writes : (local : ℕ) (all : List Item) (line offset : ℕ) (e : Expression) (rest : List Item) (spot : Spot) (v : Datum) (at : ℕ) (k : List Pending) → Law z (Write spot v at) (Doing (tree.InitList local all line) (Items (tree.Scalar offset e) rest) ∷ k)
   pub bits : (register number : ℕ) (v : Datum) (old : ℕ) (k : List Pending) → Law z (PutBit register number v old) k
-  pub copy_reads : (to from : Spot) (left : ℕ) (k : List Pending) → Law z (CopyRead to from left) k
+  -- a byte of a structure is copied, or a structure of no bytes is
+  pub copy_reads : (to from : Spot) (left : ℕ) (k : List Pending) → Law z (CopyRead to from (suc left)) k
+  pub empty_items : (local : ℕ) (all : List Item) (line offset : ℕ) (other : Place) (rest : List Item) (to from : Spot) (k : List Pending) → Law z (CopyRead to from 0) (Doing (tree.InitList local all line) (Items (tree.Struct offset other 0) rest) ∷ k)
   pub copy_writes : (to from : Spot) (byte : Byte) (left : ℕ) (k : List Pending) → Law z (CopyWrite to from byte left) k
   pub calls : (k : List Pending) → Law z Calls k
 
@@ -224,6 +227,13 @@ module _ (z : Scene) (given : IsLowerable z.program z.copies) (input : All (λ b
   writes spot v at (Doing (tree.InitList local all line) (Items (tree.Scalar offset e) rest) ∷ k) cp l w c known due h = open_laws.item_writes local all line offset e rest spot v at k cp l w c known due h
   writes spot v at _ cp l w c known due h = absurd known.stands.focus.node
 
+  copy_reads : (to from : Spot) (left : ℕ) (k : List Pending) → Law z (CopyRead to from left) k
+  copy_reads to from (suc left) k cp l w c known due h = open_laws.copy_reads to from left k cp l w c known due h
+  copy_reads to from zero (In (tree.StructAssign place other size line) Copies ∷ k) cp l w c known due h = assigns_end z given input place other size line to from k cp l w c known due h
+  copy_reads to from zero (Doing (tree.InitList local all line) (Items (tree.Struct offset other zero) rest) ∷ k) cp l w c known due h = open_laws.empty_items local all line offset other rest to from k cp l w c known due h
+  copy_reads to from zero (Doing (tree.InitList local all line) (Items (tree.Struct offset other (suc size)) rest) ∷ k) cp l w c known due h = items_end z given input local all line offset other (suc size) rest to from k (omega arith) cp l w c known due h
+  copy_reads to from zero _ cp l w c known due h = absurd known.stands.focus.node
+
   pub value_laws : ValueLaws z
   value_laws = record {
     converts = converts_by;
@@ -249,7 +259,7 @@ module _ (z : Scene) (given : IsLowerable z.program z.copies) (input : All (λ b
     skims = skims;
     writes = writes;
     bits = open_laws.bits;
-    copy_reads = open_laws.copy_reads;
+    copy_reads = copy_reads;
     copy_writes = open_laws.copy_writes;
     spells = spells z given input;
     blanks = blanks z given input;
