@@ -4,7 +4,6 @@ use Rattle.c_typed.specs.Room.{room, place_room, arguments_room, arguments_bytes
 use Rattle.c_typed.specs.Trees as tree
 use Rattle.c_typed.specs.Trees.{Expression, Expressions, Place, Statement}
 use Rattle.c_typed.specs.Types.{type_bytes, type_of, value_bytes, place_bytes, form_of}
-use Rattle.c_typed.specs.declared.expression.PlaceForm.TheVariants as forms
 use Rattle.c_typed.specs.declared.expression.LogicalOp.{LogicalOp}
 use Rattle.c_typed.specs.declared.types.Ty.{Ty}
 use Rattle.c_typed.specs.declared.types.Ty.TheVariants as types

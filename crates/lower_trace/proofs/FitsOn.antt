@@ -19,7 +19,6 @@ use Rattle.src_rules.specs.State.{State, Outcome, Went, Undefined, Idle, Lost}
 use Rattle.src_rules.specs.Statements.{turn, test, first_of, next_of, loops, last, arms, break_at, continue_at, unwound, turned, proceed, handed, leave, begin}
 use Rattle.src_rules.specs.Step.{copy_of, has_missing, call_in, call, act, refused, refused_at, interrupted, step}
 use Rattle.src_values.specs.Accesses.{Taking, Takes, Breaks, Putting, Puts, Refuses}
-use Rattle.src_values.specs.Control as control
 use Rattle.src_values.specs.Control.{Focus, Eval, Find, Holds, Found, Run, Past, Fetch, Skim, Write, PutBit, CopyRead, CopyWrite, Spell, Blank, Calls, Leaves, Compares, Over, Got, Nothing, Chosen, One, At, AtWith, Stores, Copies, Args, Passed, Called, Stage, Tests, Begins, Steps, Turns, Picks, InArm, Chooses, Fills, AtItem, Items, Blanks, Pending, In, To, Doing, Before, Returns, Resumes, read_type}
 use Rattle.src_values.specs.Data.{Datum, Missing}
 use Rattle.src_values.specs.Memory as source

@@ -23,7 +23,6 @@ use Rattle.src_rules.specs.Step.{act}
 use Rattle.src_values.specs.Control.{Holds, Leaves, Called, Tests, Pending, In, Doing, Returns}
 use Rattle.src_values.specs.Data as datum
 use Rattle.src_values.specs.Data.{Datum}
-use Rattle.src_values.specs.Memory as source
 use Rattle.src_values.specs.Objects.{function_at, or_no_function}
 use Rattle.src_values.specs.Values.{byte_count}
 use Rattle.src_values.specs.declared.objects.CopyOf.{CopyOf}

@@ -11,7 +11,6 @@ use Rattle.src_rules.specs.State.{state}
 use Rattle.src_rules.specs.Step.{act}
 use Rattle.src_values.specs.Control.{Spell, Blank, Items, Blanks, Pending, Doing}
 use Rattle.src_values.specs.Lists.{covered_from}
-use Rattle.src_values.specs.Memory as source
 use Rattle.src_values.specs.Objects.{local_of, behind}
 use Rattle.src_values.specs.declared.objects.CopyOf.{CopyOf}
 use Rattle.src_values.specs.declared.objects.Spot.{Spot}

@@ -5,7 +5,7 @@ use Rattle.c_ints.specs.declared.operators.BinOp.{BinOp}
 use Rattle.c_typed.specs.Room.{place_room, room}
 use Rattle.c_typed.specs.Sameness.{is_pointer, is_scalar}
 use Rattle.c_typed.specs.Trees as tree
-use Rattle.c_typed.specs.Trees.{Expression, Place, Item, Statement}
+use Rattle.c_typed.specs.Trees.{Expression, Place, Statement}
 use Rattle.c_typed.specs.Types.{form_of, place_bytes, type_bytes}
 use Rattle.c_typed.specs.declared.expression.StepOp.{StepOp}
 use Rattle.c_typed.specs.declared.types.Ty.{Ty}
@@ -18,7 +18,6 @@ use Rattle.src_rules.specs.Standing.{IsSpotOf}
 use Rattle.src_rules.specs.State.{state}
 use Rattle.src_rules.specs.Step.{act}
 use Rattle.src_values.specs.Control.{Found, Got, Nothing, At, Stage, AtItem, Pending, In, To, Doing, Before, Returns, Resumes}
-use Rattle.src_values.specs.Memory as source
 use Rattle.src_values.specs.declared.objects.Spot.{Spot}
 use Rattle.src_values.specs.declared.objects.Spot.TheVariants as spots
 use Rattle.lower_trace.specs.Lowering.{IsLowerable}

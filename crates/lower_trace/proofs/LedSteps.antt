@@ -12,7 +12,6 @@ use Rattle.pic_world.specs.declared.Root.TheVariants.{Main, Isr}
 use Rattle.src_rules.proofs.Changes.{events_count}
 use Rattle.src_rules.specs.State.{State, Outcome, Went, Undefined, Idle, Lost, state}
 use Rattle.src_rules.specs.Step.{copy_of, is_some_line, act, enter, refused, interrupted, enters, counts, step}
-use Rattle.src_values.specs.Control as control
 use Rattle.src_values.specs.Control.{Focus, Eval, Find, Holds, Found, Run, Past, Fetch, Skim, Write, PutBit, CopyRead, CopyWrite, Spell, Blank, Calls, Leaves, Compares, Over, Turns, Pending, Doing, Before}
 use Rattle.src_values.specs.Counting.{counted_line}
 use Rattle.src_values.specs.Data.{Datum}

@@ -5,7 +5,6 @@ use Rattle.std.specs.List.{All}
 use Rattle.c_ints.specs.Range.{bytes_of}
 use Rattle.c_ints.specs.declared.operators.BinOp.{BinOp}
 use Rattle.c_ints.specs.declared.operators.UnOp.{UnOp}
-use Rattle.c_ints.specs.declared.operators.UnOp.TheVariants as unop
 use Rattle.c_ints.specs.declared.types.IntTy.{IntTy}
 use Rattle.c_ints.specs.declared.types.IntTy.TheVariants as int
 use Rattle.std.specs.Prelude.{max}
@@ -24,7 +23,6 @@ use Rattle.core_code.specs.Machine.{Machine}
 use Rattle.lower_expr.specs.Layout.{value_width}
 use Rattle.lower_expr.specs.Lowering.{shifts_by_constant}
 use Rattle.lower_expr.specs.Puts.{test_size}
-use Rattle.lower_stmt.specs.Ground as ground
 use Rattle.pic_world.specs.World.{World, arrived, is_due}
 use Rattle.src_rules.proofs.Rules.{IsUpdate, update_rule, moves_rule}
 use Rattle.src_rules.specs.Parts.{IsExpressionOf}

@@ -1,5 +1,5 @@
 -- The law of the bytes of a local that begins with a value, put together.
-use Rattle.std.proofs.Common.{◌≡◌, ℕ, ◌+◌, ◌<◌, ◌≤◌, List, ◌∷◌, false, nat_lt, sym, ap, ◌∙◌, subst, arith}
+use Rattle.std.proofs.Common.{◌≡◌, ℕ, ◌<◌, List, ◌∷◌, false, nat_lt, sym, ap, ◌∙◌, subst, arith}
 use Rattle.std.specs.List.{All}
 use Rattle.c_typed.specs.Room.{room, statement_room}
 use Rattle.c_typed.specs.Trees as tree
@@ -23,11 +23,11 @@ use Rattle.src_values.specs.declared.objects.CopyOf.{CopyOf}
 use Rattle.src_values.specs.declared.objects.Spot.{Spot}
 use Rattle.lower_trace.specs.Lowering.{IsLowerable}
 use Rattle.lower_trace.proofs.Beginnings.{Follow}
-use Rattle.lower_trace.proofs.CodeLeft.{Scene, ground_in, source_in}
+use Rattle.lower_trace.proofs.CodeLeft.{Scene, source_in}
 use Rattle.lower_trace.proofs.Costs.{either}
 use Rattle.src_rules.specs.Runs.{one_if}
 use Rattle.lower_trace.proofs.Fitting.{width_is}
-use Rattle.lower_trace.proofs.Known.{Known, around, lowest, reached_below, small}
+use Rattle.lower_trace.proofs.Known.{Known, around, lowest, reached_below}
 use Rattle.lower_trace.proofs.Leads.{Led, Law, led_by}
 use Rattle.lower_trace.proofs.LedLists.{own_low}
 use Rattle.lower_trace.proofs.LedValues.{IsTested, number_tested, pointer_tested}

@@ -56,6 +56,8 @@ IsOpenUpdate op datum.Missing v = ⊥
 IsOpenUpdate op u datum.Missing = ⊥
 IsOpenUpdate op u v = Unit {0}
 
+-- Some ask for more than is known of a state: that a number which becomes a pointer is 0, that a value which is written is the frame's
+-- and isn't missing, that a structure is never fetched as a number is, and that an item of a list has room.
 pub record OpenLaws (z : Scene) : Type 0 where
   -- a null constant becomes a pointer
   pub null_converts : (operand : Expression) (ty : Ty) (line : ℕ) (v : Datum) (k : List Pending) → IsNullMade ty v → Law z (Holds v) (In (tree.Convert operand ty line) Nothing ∷ k)
@@ -77,7 +79,7 @@ pub record OpenLaws (z : Scene) : Type 0 where
   -- what is no structure, or one of no bytes, is read for nothing
   pub plain_skims : (place : Place) (ty : Ty) (line : ℕ) (start spot : Spot) (left : ℕ) (byte : Option Byte) (k : List Pending) → is_struct ty ≡ false → Law z (Skim spot left byte) (In (tree.Read place ty line) (At start) ∷ k)
   pub empty_skims : (place : Place) (number line : ℕ) (start spot : Spot) (left : ℕ) (byte : Option Byte) (k : List Pending) → type_bytes z.program.sizes (types.Struct number) ≡ 0 → Law z (Skim spot left byte) (In (tree.Read place (types.Struct number) line) (At start) ∷ k)
-  -- The value of the focus is that of the frame, and it isn't missing. An item of a list has room.
+  -- a value is written
   pub node_writes : (e : Expression) (start spot : Spot) (u v : Datum) (at : ℕ) (k : List Pending) → Law z (Write spot v at) (In e (Stores start u) ∷ k)
   pub missing_writes : (local : ℕ) (e : Expression) (line : ℕ) (spot : Spot) (v : Datum) (at : ℕ) (k : List Pending) → byte_count v ≡ 0 → Law z (Write spot v at) (Doing (tree.InitScalar local e line) Fills ∷ k)
   pub item_writes : (local : ℕ) (all : List Item) (line offset : ℕ) (e : Expression) (rest : List Item) (spot : Spot) (v : Datum) (at : ℕ) (k : List Pending) → Law z (Write spot v at) (Doing (tree.InitList local all line) (Items (tree.Scalar offset e) rest) ∷ k)
