@@ -1,15 +1,16 @@
--- Temporary bytes fit into the frames: of each node that is under way or waits there is room for all that it needs.
-use Rattle.std.proofs.Common.{◌≡◌, ℕ, ◌+◌, ◌≤◌, inl, inr, true, List, [], ◌∷◌, length, refl, sym, ap, ◌∙◌, ⊎_elim, arith}
+-- Temporary bytes fit into the frames: of each node that is under way or waits there is room for all that it needs. Statements have the
+-- shapes that sound programs give them.
+use Rattle.std.proofs.Common.{◌≡◌, ℕ, ◌+◌, ◌<◌, ◌≤◌, inl, inr, true, List, [], ◌∷◌, length, refl, sym, ap, ◌∙◌, ⊎_elim, arith}
 use Rattle.std.proofs.lemmas.Bool.{and_parts, or_cases}
 use Rattle.c_ints.specs.Range.{bytes_of}
 use Rattle.c_ints.specs.declared.operators.BinOp.{BinOp}
 use Rattle.c_ints.specs.declared.operators.BinOp.TheVariants as binop
 use Rattle.c_ints.specs.declared.types.IntTy.TheVariants as int
-use Rattle.c_typed.specs.Room.{binary_room, room, place_room, arguments_room, arguments_bytes, statement_room, statements_room, frame_size}
+use Rattle.c_typed.specs.Room.{binary_room, room, place_room, arguments_room, arguments_bytes, items_room, statement_room, statements_room, arm_room, arms_room, frame_size}
 use Rattle.c_typed.specs.Rules.{offset_fits, moves, integer_step_fits}
 use Rattle.c_typed.specs.Sameness.{is_pointer, is_index}
 use Rattle.c_typed.specs.Trees as tree
-use Rattle.c_typed.specs.Trees.{Expression, Expressions, Place, Program}
+use Rattle.c_typed.specs.Trees.{Expression, Expressions, Place, Statement, Program}
 use Rattle.c_typed.specs.Types.{type_bytes, type_of, value_bytes, place_bytes, form_of}
 use Rattle.c_typed.specs.declared.types.Ty.{Ty}
 use Rattle.c_typed.specs.declared.types.Ty.TheVariants as types
@@ -22,15 +23,16 @@ use Rattle.src_rules.proofs.Rules.{IsStep, offset_rule, difference_rule, assign_
 use Rattle.src_rules.proofs.Values.{same_type_is}
 use Rattle.src_rules.specs.Parts.{IsExpressionOf, AreArgumentsOf}
 use Rattle.src_rules.specs.Standing.{IsReached, HasType, GotStands, StackStands, IsSplit, HaveTypes}
-use Rattle.src_values.specs.Control.{Focus, Eval, Find, Run, Got, Nothing, Chosen, One, At, AtWith, Stores, Copies, Args, Passed, Called, Pending, In, To, Doing, Before, Returns, Resumes}
+use Rattle.src_values.specs.Control.{Focus, Eval, Find, Run, Got, One, At, AtWith, Stores, Args, Passed, Stage, Picks, InArm, AtItem, Items, Pending, In, To, Doing, Before, Returns, Resumes}
 use Rattle.src_values.specs.Data as datum
 use Rattle.src_values.specs.Data.{Datum}
 use Rattle.src_values.specs.Objects.{function_at}
 use Rattle.src_values.specs.Values.{byte_count}
 use Rattle.src_values.specs.declared.objects.CopyOf.{CopyOf}
-use Rattle.lower_trace.proofs.CodeLeft.{Scene, ground_in, base, above, stored, before_argument}
+use Rattle.lower_trace.proofs.CodeLeft.{Scene, ground_in, base, above, stored, before_argument, arm_count}
 use Rattle.lower_trace.proofs.Kept.{Below, ArgumentsBelow, Piled, Reached, bytes_small}
 use Rattle.lower_trace.proofs.Operations.{beyond_is}
+use Rattle.lower_trace.proofs.Shapes.{Shaped, AreShaped, ArmShaped, ArmsShaped}
 use Rattle.lower_trace.proofs.Rooms.{read_parts, two_parts, three_parts, binary_parts, assign_parts, struct_parts, update_parts, pointer_is, pointer_few, pointer_bytes_are, value_room}
 
 -- how many bytes the frame of a copy has
@@ -40,15 +42,23 @@ frame_of z c = frame_size z.program.sizes (function_at z.program c.function)
 abbrev pub FocusFits : Scene → CopyOf → Focus → List Pending → Type 0
 FocusFits z c (Eval e) k = base (ground_in z c) k + room z.program.sizes e ≤ frame_of z c
 FocusFits z c (Find place) k = base (ground_in z c) k + place_room z.program.sizes place ≤ frame_of z c
-FocusFits z c (Run t) k = (ground_in z c).base + statement_room z.program.sizes t ≤ frame_of z c
+FocusFits z c (Run t) k = ((ground_in z c).base + statement_room z.program.sizes t ≤ frame_of z c) × Shaped t
 FocusFits z c _ k = Unit {0}
+
+-- the parts of a statement that a stage holds
+abbrev pub StageFits : Scene → CopyOf → Statement → Stage → Type 0
+StageFits z c (tree.If chain otherwise line) (Picks arm more) = ((ground_in z c).base + arm_room z.program.sizes arm ≤ frame_of z c) × ((ground_in z c).base + arms_room z.program.sizes more ≤ frame_of z c) × ArmShaped arm × ArmsShaped more × (arm_count more < arm_count chain)
+StageFits z c t (InArm more) = (ground_in z c).base + arms_room z.program.sizes more ≤ frame_of z c
+StageFits z c t (AtItem item rest) = (ground_in z c).base + items_room z.program.sizes rest ≤ frame_of z c
+StageFits z c t (Items item rest) = (ground_in z c).base + items_room z.program.sizes rest ≤ frame_of z c
+StageFits z c _ _ = Unit {0}
 
 abbrev pub StackFits : Scene → CopyOf → List Pending → Type 0
 StackFits z c [] = Unit {0}
 StackFits z c (In e got ∷ k) = (base (ground_in z c) k + room z.program.sizes e ≤ frame_of z c) × StackFits z c k
 StackFits z c (To place ∷ k) = (base (ground_in z c) k + place_room z.program.sizes place ≤ frame_of z c) × StackFits z c k
-StackFits z c (Doing t stage ∷ k) = ((ground_in z c).base + statement_room z.program.sizes t ≤ frame_of z c) × StackFits z c k
-StackFits z c (Before ss ∷ k) = ((ground_in z c).base + statements_room z.program.sizes ss ≤ frame_of z c) × StackFits z c k
+StackFits z c (Doing t stage ∷ k) = (((ground_in z c).base + statement_room z.program.sizes t ≤ frame_of z c) × Shaped t) × StageFits z c t stage × StackFits z c k
+StackFits z c (Before ss ∷ k) = (((ground_in z c).base + statements_room z.program.sizes ss ≤ frame_of z c) × AreShaped ss) × StackFits z c k
 StackFits z c (Returns d ∷ k) = StackFits z d k
 StackFits z c (Resumes d x ∷ k) = FocusFits z d x k × StackFits z d k
 
@@ -71,10 +81,10 @@ module _ (z : Scene) (c : CopyOf) (small : frame_of z c ≤ 96) where
   abbrev sizes : List ℕ
   sizes = z.program.sizes
 
-  value_at : (b : ℕ) (e : Expression) → b + value_bytes sizes e ≤ 96 → beyond b (value_width g.layout e) ≡ b + value_bytes sizes e
+  pub value_at : (b : ℕ) (e : Expression) → b + value_bytes sizes e ≤ 96 → beyond b (value_width g.layout e) ≡ b + value_bytes sizes e
   value_at b e le = let w = width_is z c (type_of e) (omega arith) in ap (beyond b) w ∙ beyond_is b (value_bytes sizes e) (omega arith)
 
-  pointer_at : (b : ℕ) (place : Place) → b ≤ 96 → behind_pointer g.layout g.copy b place ≡ b + pointer_bytes (spot_of g.layout g.copy place)
+  pub pointer_at : (b : ℕ) (place : Place) → b ≤ 96 → behind_pointer g.layout g.copy b place ≡ b + pointer_bytes (spot_of g.layout g.copy place)
   pointer_at b place le = let few = pointer_few (spot_of g.layout g.copy place) in beyond_is b (pointer_bytes (spot_of g.layout g.copy place)) (omega arith)
 
   -- where the right operand of a binary operator goes
@@ -136,19 +146,19 @@ module _ (z : Scene) (c : CopyOf) (small : frame_of z c ≤ 96) where
       ((omega arith, r.0), omega arith, omega arith)
 
   -- ---- nodes
-  offset_two : (op : BinOp) (left right : Ty) (size : ℕ) (ty : Ty) → offset_fits z.program op left right size ty ≡ true → type_bytes sizes left ≤ 2
+  pub offset_two : (op : BinOp) (left right : Ty) (size : ℕ) (ty : Ty) → offset_fits z.program op left right size ty ≡ true → type_bytes sizes left ≡ 2
   offset_two binop.Add left right size ty e =
       ⊎_elim
-      (λ h. let q = pointer_bytes_are sizes left (moves_rule z.program left right size ty h).0 in omega arith)
+      (λ h. pointer_bytes_are sizes left (moves_rule z.program left right size ty h).0)
       (λ h. index_two left (and_parts _ _ h).0)
       (or_cases (moves z.program left right size ty) (moves z.program right left size ty) e)
     where
-      index_two : (t : Ty) → is_index t ≡ true → type_bytes sizes t ≤ 2
-      index_two t h = ⊎_elim (λ q. let r = ap (type_bytes sizes) (same_type_is t (types.Int int.Int) q) in omega arith) (λ q. let r = ap (type_bytes sizes) (same_type_is t (types.Int int.UInt) q) in omega arith) (or_cases _ _ h)
-  offset_two binop.Sub left right size ty e = let q = pointer_bytes_are sizes left (moves_rule z.program left right size ty e).0 in omega arith
+      index_two : (t : Ty) → is_index t ≡ true → type_bytes sizes t ≡ 2
+      index_two t h = ⊎_elim (λ q. ap (type_bytes sizes) (same_type_is t (types.Int int.Int) q)) (λ q. ap (type_bytes sizes) (same_type_is t (types.Int int.UInt) q)) (or_cases _ _ h)
+  offset_two binop.Sub left right size ty e = pointer_bytes_are sizes left (moves_rule z.program left right size ty e).0
   offset_two _ left right size ty e = absurd (cc)
 
-  step_operation : (operation ty : Ty) → IsStep z.program operation ty → (type_bytes sizes operation ≡ bytes_of (operation_type operation)) × (type_bytes sizes operation ≤ 4)
+  pub step_operation : (operation ty : Ty) → IsStep z.program operation ty → (type_bytes sizes operation ≡ bytes_of (operation_type operation)) × (type_bytes sizes operation ≤ 4)
   step_operation operation ty (inl e) = int_operation ty operation e
     where
       int_operation : (ty operation : Ty) → integer_step_fits ty operation ≡ true → (type_bytes sizes operation ≡ bytes_of (operation_type operation)) × (type_bytes sizes operation ≤ 4)
@@ -188,7 +198,7 @@ module _ (z : Scene) (c : CopyOf) (small : frame_of z c ≤ 96) where
   lies b (tree.Offset op left right size ty line) (One u) fits h s =
       let q = (binary_parts (room sizes left) (value_bytes sizes left) (room sizes right) (value_bytes sizes right) (type_bytes sizes ty)).2 in
       let few = offset_two op (type_of left) (type_of right) size ty (offset_rule z.program op left right size ty line h.0) in
-      let r = two_at b left u (omega arith) few s in
+      let r = two_at b left u (omega arith) (omega arith) s in
       let r0 = r.0 in
       let r1 = r.1 in
       let r2 = r.2 in
@@ -288,7 +298,7 @@ module _ (z : Scene) (c : CopyOf) (small : frame_of z c ≤ 96) where
       let l = lies (base g k) e got (omega arith) st.0 st.2 in
       (l.below, l.high, piled k st.3 f.1)
   piled (To place ∷ k) st f = piled k st.2 f.1
-  piled (Doing t stage ∷ k) st f = (st.1, piled k st.3 f.1)
+  piled (Doing t stage ∷ k) st f = (st.1, piled k st.3 f.2)
   piled (Before ss ∷ k) st f = (st.1, piled k st.2 f.1)
   piled (Returns d ∷ k) st f = tt
   piled (Resumes d x ∷ k) st f = tt
@@ -309,7 +319,7 @@ module _ (z : Scene) (small : (c : CopyOf) → IsReached z.program c → frame_o
   reached c [] r st f = tt
   reached c (In e got ∷ k) r st f = (base_low z c (small c r) k (low c r) st.3 f.1, reached c k r st.3 f.1)
   reached c (To place ∷ k) r st f = reached c k r st.2 f.1
-  reached c (Doing t stage ∷ k) r st f = reached c k r st.3 f.1
+  reached c (Doing t stage ∷ k) r st f = reached c k r st.3 f.2
   reached c (Before ss ∷ k) r st f = reached c k r st.2 f.1
   reached c (Returns d ∷ k) r st f = (st.0, piled z d (small d st.0) k st.3 f, reached d k st.0 st.3 f)
   reached c (Resumes d x ∷ k) r st f = (st.0, base_low z d (small d st.0) k (low d st.0) st.4 f.1, piled z d (small d st.0) k st.4 f.1, reached d k st.0 st.4 f.1)

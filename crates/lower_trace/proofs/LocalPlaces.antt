@@ -77,18 +77,20 @@ ground_bytes : (z : Scene) (c : CopyOf) → (ground_in z c).bytes ≡ map (varia
 unfolding ground_in
 ground_bytes z c = refl
 
-pub listed_of : (z : Scene) (laws : SceneLaws z) (c : CopyOf) (local : ℕ) (all : List Item) → IsReached z.program c → IsListOf z.program c.function local all → Listed z c local
+pub listed_there : (z : Scene) (laws : SceneLaws z) (c : CopyOf) (local : ℕ) (v : VariableTree) → IsReached z.program c → slice_get (function_at z.program c.function).locals local ≡ Some v → Listed z c local
 unfolding object_bytes
-listed_of z laws c local all reached is =
+listed_there z laws c local v reached there_is =
     let f = function_at z.program c.function in
-    let v = is.variable in
-    let less = get_below f.locals local v is.there in
+    let less = get_below f.locals local v there_is in
     let sum = length-append f.params f.locals in
     record {
       there = omega arith;
-      starts = laws.names c (names.Local local) v.ty 0 reached (local_named z c local v is.there) ∙ ap (λ n. Some (object_byte (ground_in z c).layout n (names.Local local))) (sym (own_copy z c));
-      size = ap (bytes_of_variable z.program.sizes) (get_behind f.params f.locals local ∙ is.there) ∙ sym (ap (λ bytes. slice_index bytes local) (ground_bytes z c) ∙ get_mapped (variable_bytes z.program.sizes) f.locals local v is.there);
+      starts = laws.names c (names.Local local) v.ty 0 reached (local_named z c local v there_is) ∙ ap (λ n. Some (object_byte (ground_in z c).layout n (names.Local local))) (sym (own_copy z c));
+      size = ap (bytes_of_variable z.program.sizes) (get_behind f.params f.locals local ∙ there_is) ∙ sym (ap (λ bytes. slice_index bytes local) (ground_bytes z c) ∙ get_mapped (variable_bytes z.program.sizes) f.locals local v there_is);
     }
+
+pub listed_of : (z : Scene) (laws : SceneLaws z) (c : CopyOf) (local : ℕ) (all : List Item) → IsReached z.program c → IsListOf z.program c.function local all → Listed z c local
+listed_of z laws c local all reached is = listed_there z laws c local is.variable reached is.there
 
 -- ---- items lie in their local
 pub local_size : (z : Scene) (c : CopyOf) (local : ℕ) → object_bytes z.program (local_of z.program c local) ≡ bytes_in z.program c.function local

@@ -242,7 +242,7 @@ module _ (z : Scene) (laws : SceneLaws z) where
       (at_place k cp place (spots.Memory y) m' waits (subst (λ t. IsAt z g.copy b (member_spot t offset) (spots.Memory y) m') (sym sp) (y, refl, subst (λ t. HasDatum z t b (datum.Pointer y) m') (sym (own_copy z cp)) hy))))
 
   -- by where the whole place is
-  member_case : (s : place.Spot) (whole : Place) (member offset : ℕ) (ty : Qualified) (line : ℕ) (x y : Pointer) (k : List Pending) (cp : CopyOf) (l : source.Memory) (w : World value.Byte) (c : Machine) → spot_of (ground_in z cp).layout (ground_in z cp).copy whole ≡ s → Around z cp k → Resumables cp.root k → WaitsForPlace k (tree.Member whole member offset ty line) → SpotIsThere z.program (spots.Memory x) → moved z.program x (pos offset) ≡ Some y → base (ground_in z cp) k + 2 ≤ (core_in z).program.frame_bytes (number z cp) → is_due (arrived z.outside w) ≡ false
+  member_case : (s : place.Spot) (whole : Place) (member offset : ℕ) (ty : Qualified) (line : ℕ) (x y : Pointer) (k : List Pending) (cp : CopyOf) (l : source.Memory) (w : World value.Byte) (c : Machine) → spot_of (ground_in z cp).layout (ground_in z cp).copy whole ≡ s → Around z cp k → Resumables cp.root k → WaitsForPlace k (tree.Member whole member offset ty line) → SpotIsThere z.program (spots.Memory x) → moved z.program x (pos offset) ≡ Some y → (s ≡ Computed → base (ground_in z cp) k + 2 ≤ (core_in z).program.frame_bytes (number z cp)) → is_due (arrived z.outside w) ≡ false
       → IsAt z (ground_in z cp).copy (base (ground_in z cp) k) s (spots.Memory x) c.memory
       → Mirrors z (state cp (Found (spots.Memory x)) (To (tree.Member whole member offset ty line) ∷ k) l w) c → Comes (core_in z) (Mirrors z (state cp (Found (spots.Memory y)) k l (arrived z.outside w))) 28 0 c
   unfolding active spot_of
@@ -262,15 +262,15 @@ module _ (z : Scene) (laws : SceneLaws z) where
       (omega arith) (omega arith)
   member_case (Bit register bit) whole member offset ty line x y k cp l w c sp around resumables waits there is room due at h = absurd (cc)
   member_case Computed whole member offset ty line x y k cp l w c sp around resumables waits there is room due at h =
-      behind_case (nat_eq offset 0) whole member offset ty line x y k cp l w c refl sp around resumables waits there is room due
+      behind_case (nat_eq offset 0) whole member offset ty line x y k cp l w c refl sp around resumables waits there is (room refl) due
       (subst (λ t. HasDatum z (ground_in z cp).copy (base (ground_in z cp) k) (datum.Pointer t) c.memory) (sym (spot_is x at.0 at.1)) at.2) h
 
-  found_or_none : (o : Option Pointer) (whole : Place) (member offset : ℕ) (ty : Qualified) (line : ℕ) (x : Pointer) (k : List Pending) (cp : CopyOf) (l : source.Memory) (w : World value.Byte) (c : Machine) → moved z.program x (pos offset) ≡ o → Around z cp k → Resumables cp.root k → WaitsForPlace k (tree.Member whole member offset ty line) → SpotIsThere z.program (spots.Memory x) → base (ground_in z cp) k + 2 ≤ (core_in z).program.frame_bytes (number z cp) → is_due (arrived z.outside w) ≡ false
+  found_or_none : (o : Option Pointer) (whole : Place) (member offset : ℕ) (ty : Qualified) (line : ℕ) (x : Pointer) (k : List Pending) (cp : CopyOf) (l : source.Memory) (w : World value.Byte) (c : Machine) → moved z.program x (pos offset) ≡ o → Around z cp k → Resumables cp.root k → WaitsForPlace k (tree.Member whole member offset ty line) → SpotIsThere z.program (spots.Memory x) → (spot_of (ground_in z cp).layout (ground_in z cp).copy whole ≡ Computed → base (ground_in z cp) k + 2 ≤ (core_in z).program.frame_bytes (number z cp)) → is_due (arrived z.outside w) ≡ false
       → Mirrors z (state cp (Found (spots.Memory x)) (To (tree.Member whole member offset ty line) ∷ k) l w) c → Follow z 28 0 c (at_member o line k cp l (arrived z.outside w))
   found_or_none None whole member offset ty line x k cp l w c is around resumables waits there room due h = tt
   found_or_none (Some y) whole member offset ty line x k cp l w c is around resumables waits there room due h =
       member_case (spot_of (ground_in z cp).layout (ground_in z cp).copy whole) whole member offset ty line x y k cp l w c refl around resumables waits there is room due (h.value whole refl) h
 
-  pub found_member : (whole : Place) (member offset : ℕ) (ty : Qualified) (line : ℕ) (x : Pointer) (k : List Pending) (cp : CopyOf) (l : source.Memory) (w : World value.Byte) (c : Machine) → Around z cp k → Resumables cp.root k → WaitsForPlace k (tree.Member whole member offset ty line) → SpotIsThere z.program (spots.Memory x) → base (ground_in z cp) k + 2 ≤ (core_in z).program.frame_bytes (number z cp) → is_due (arrived z.outside w) ≡ false
+  pub found_member : (whole : Place) (member offset : ℕ) (ty : Qualified) (line : ℕ) (x : Pointer) (k : List Pending) (cp : CopyOf) (l : source.Memory) (w : World value.Byte) (c : Machine) → Around z cp k → Resumables cp.root k → WaitsForPlace k (tree.Member whole member offset ty line) → SpotIsThere z.program (spots.Memory x) → (spot_of (ground_in z cp).layout (ground_in z cp).copy whole ≡ Computed → base (ground_in z cp) k + 2 ≤ (core_in z).program.frame_bytes (number z cp)) → is_due (arrived z.outside w) ≡ false
       → Mirrors z (state cp (Found (spots.Memory x)) (To (tree.Member whole member offset ty line) ∷ k) l w) c → Follow z 28 0 c (found_to (source_in z) (tree.Member whole member offset ty line) (spots.Memory x) k cp l (arrived z.outside w))
   found_member whole member offset ty line x k cp l w c around resumables waits there room due h = found_or_none (moved z.program x (pos offset)) whole member offset ty line x k cp l w c refl around resumables waits there room due h

@@ -62,7 +62,7 @@ module _ (z : Scene) (laws : SceneLaws z) where
   roots_differ c d i m rc rd same = let e = laws.apart d c rd rc same in let q : Main ≡ Isr = sym m ∙ ap (λ x. x.root) e ∙ i in cc
 
   -- below the handler main's copies wait
-  mains_apart : (c d : CopyOf) (k : List Pending) → c.root ≡ Isr → d.root ≡ Main → IsReached z.program c → StackStands z.program d k → Apart z (number z c) k
+  pub mains_apart : (c d : CopyOf) (k : List Pending) → c.root ≡ Isr → d.root ≡ Main → IsReached z.program c → StackStands z.program d k → Apart z (number z c) k
   mains_apart c d [] i m r h = tt
   mains_apart c d (In e got ∷ k) i m r h = mains_apart c d k i m r h.3
   mains_apart c d (To place ∷ k) i m r h = mains_apart c d k i m r h.2
