@@ -42,7 +42,7 @@ enum Found {
     NoMemory,
 }
 
-fn found(alloc: Global, text: &[u8]) -> Found {
+fn meaning_of(alloc: Global, text: &[u8]) -> Found {
     if text.len() > LIMIT {
         return Found::Nothing;
     }
@@ -72,7 +72,7 @@ fn broken(alloc: Global, kind: Kind, line: u32) -> Result<Vec<u8>, AllocError> {
 }
 
 fn judged(alloc: Global, text: &[u8]) -> Result<Shown, AllocError> {
-    match found(alloc, text) {
+    match meaning_of(alloc, text) {
         Found::Tree(typed) => Ok(Shown {
             text: typed_text(alloc, &typed)?,
             status: 0,
