@@ -107,6 +107,9 @@ pub mod Living
 pub mod Shapes
 pub mod FitsKept
 pub mod FitsOn
+pub mod Sure
+pub mod SureKept
+pub mod SureOn
 pub mod Known
 pub mod Leads
 pub mod LedStatements
