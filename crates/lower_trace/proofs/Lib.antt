@@ -130,3 +130,6 @@ pub mod LedConverts
 pub mod LedSkims
 pub mod LedWrites
 pub mod OpenLaws
+pub mod OpenTrees
+pub mod OpenSound
+pub mod OpenBodies
