@@ -133,3 +133,7 @@ pub mod OpenLaws
 pub mod OpenTrees
 pub mod OpenSound
 pub mod OpenBodies
+pub mod Opens
+pub mod OpensKept
+pub mod OpensOn
+pub mod OpensStep
