@@ -39,6 +39,7 @@ use Rattle.lower_trace.proofs.Returning.{Resumables}
 use Rattle.lower_trace.proofs.Scenes.{base_at, frame_small, scene_laws}
 use Rattle.lower_trace.proofs.SegmentFrames.{AtFocus, InSegments, StaysIn, stays_in, starts_in}
 use Rattle.lower_trace.proofs.Shapes.{AreShaped, body_shaped}
+use Rattle.lower_trace.proofs.SureRuns.{IsSure, sure_first, sure_next}
 use Rattle.lower_trace.proofs.Surroundings.{mains_wait, others_wait, reaches_all}
 use Rattle.lower_trace.proofs.Variables.{joined_bytes}
 
@@ -62,6 +63,8 @@ pub record Known (z : Scene) (t : State) : Type 0 where
   pub quiet : IsResumable t.focus ⊎ (enters (source_in z) t ≡ false)
   -- above the body of a switch wait only the last statements of it
   pub segments : AtFocus t.focus t.stack × InSegments t.stack
+  -- what is sure of values under way
+  pub sure : IsSure z t
 
 -- ---- what the handler interrupted
 held_below : (k : List Pending) → IsHeld k → IsHeld (below k)
@@ -192,6 +195,7 @@ module _ (z : Scene) (given : IsLowerable z.program z.copies) (input : All (λ b
     resumable = tt;
     quiet = inl tt;
     segments = starts_in (source_in z);
+    sure = sure_first z given.sound;
   }
 
   both_fit : (u : State) (event : Option (Happening Byte)) → KeepsFits z (Went u event) → FocusFits z u.copy u.focus u.stack × StackFits z u.copy u.stack
@@ -245,6 +249,7 @@ module _ (z : Scene) (given : IsLowerable z.program z.copies) (input : All (λ b
         resumable = held_next t u event k e;
         quiet = quiet_next t u event k e h;
         segments = subst StaysIn e (stays_in (source_in z) t k.segments.0 k.segments.1);
+        sure = sure_next z given.sound t u event k.stands k.focus k.stack k.sure e;
       }
 
   -- ---- what the laws ask of the stack

@@ -110,6 +110,7 @@ pub mod FitsOn
 pub mod Sure
 pub mod SureKept
 pub mod SureOn
+pub mod SureRuns
 pub mod Known
 pub mod Leads
 pub mod LedStatements
