@@ -131,6 +131,10 @@ pub mod LedConverts
 pub mod LedSkims
 pub mod LedWrites
 pub mod OpenLaws
+pub mod PlaceTypes
+pub mod LedNulls
+pub mod LedReads
+pub mod LedItems
 pub mod OpenTrees
 pub mod OpenSound
 pub mod OpenBodies
