@@ -87,16 +87,16 @@ bit_write_then g T n a s w due now register bit_is from v r m c valid room is p 
     (omega arith) (omega arith)
 
 -- ---- the lowest bit of an unsigned char
-bit_only : (q : ℤ) → value_of ops.And (record { ty = int.UChar; number = q }) (cut_to int.UChar (pos 1)) ≡ cut_to int.UChar (pos (pattern int.UChar q % 2))
+pub bit_only : (q : ℤ) → value_of ops.And (record { ty = int.UChar; number = q }) (cut_to int.UChar (pos 1)) ≡ cut_to int.UChar (pos (pattern int.UChar q % 2))
 bit_only q = ap (λ x. cut_to int.UChar (pos x)) (and_numeral (pattern int.UChar q) 0 refl)
 
-bit_byte : (x : ℕ) → pattern int.UChar (cut int.UChar (pos (x % 2))) / 256 ^ 0 % 256 ≡ x % 2
+pub bit_byte : (x : ℕ) → pattern int.UChar (cut int.UChar (pos (x % 2))) / 256 ^ 0 % 256 ≡ x % 2
 bit_byte x = omega arith
 
-bit_again : (x : ℕ) → x % 2 % 2 ≡ x % 2
+pub bit_again : (x : ℕ) → x % 2 % 2 ≡ x % 2
 bit_again x = omega arith
 
-one_there : (m : Memory) (root : Root) → value_in int.UChar (with_byte m (Result root 0) (bytes.Number 1)) (Result root 0) ≡ Some (core.Number (cut_to int.UChar (pos 1)))
+pub one_there : (m : Memory) (root : Root) → value_in int.UChar (with_byte m (Result root 0) (bytes.Number 1)) (Result root 0) ≡ Some (core.Number (cut_to int.UChar (pos 1)))
 unfolding value_in
 one_there m root = ap (λ x. core.or_number None (option_map (λ i. core.Number (cut_to int.UChar (pos i))) (core.with_low x (Some 0)))) (on (bytes.same_byte (Result root 0) (Result root 0)) (bytes.Number 1) (m (Result root 0)) (byte_same (Result root 0)))
 

@@ -79,7 +79,7 @@ module _ (z : Scene) (cp : CopyOf) where
   found_as sought = spot_of (ground_in z cp).layout (ground_in z cp).copy sought
 
   -- a register has one byte
-  device_one : (sought : Place) (a : ℕ) → IsPlaceOf z.program cp.function sought → IsSpotOf z.program cp sought (spots.Device a) → type_bytes z.program.sizes (place_type sought).ty ≡ 1
+  pub device_one : (sought : Place) (a : ℕ) → IsPlaceOf z.program cp.function sought → IsSpotOf z.program cp sought (spots.Device a) → type_bytes z.program.sizes (place_type sought).ty ≡ 1
   unfolding place_rule_holds
   device_one (tree.Name (names.Static n) ty line) a h s = absurd (memory_no_device _ a s)
   device_one (tree.Name (names.Param n) ty line) a h s = absurd (memory_no_device _ a s)
@@ -89,7 +89,7 @@ module _ (z : Scene) (cp : CopyOf) where
   device_one (tree.Member whole member offset ty line) a h s = absurd (memory_no_device _ a s.4)
   device_one (tree.Deref pointer ty line) a h s = absurd (memory_no_device _ a s.2)
 
-  device_fixed : (sought : Place) (a : ℕ) → IsSpotOf z.program cp sought (spots.Device a) → (from : code.Byte) × (found_as sought ≡ Fixed from)
+  pub device_fixed : (sought : Place) (a : ℕ) → IsSpotOf z.program cp sought (spots.Device a) → (from : code.Byte) × (found_as sought ≡ Fixed from)
   unfolding spot_of
   device_fixed (tree.Name object ty line) a s = (_, refl)
   device_fixed (tree.Bit register bit line) a s = absurd (cc)
@@ -103,7 +103,7 @@ module _ (z : Scene) (cp : CopyOf) where
   memory_no_bit (tree.Member whole member offset ty line) x r n s e = member_no_bit (found_as whole) offset r n e
   memory_no_bit (tree.Deref pointer ty line) x r n s e = cc
 
-  abbrev bit_is : Spot → Place → Type 0
+  abbrev pub bit_is : Spot → Place → Type 0
   bit_is (spots.Device a) sought = Unit {0}
   bit_is (spots.Memory x) sought = Unit {0}
   bit_is (spots.Bit r n) sought = BitPlace z cp sought r n × ((place_type sought).ty ≡ types.Int int.UChar)
@@ -113,7 +113,7 @@ module _ (z : Scene) (cp : CopyOf) where
   bit_here register bit line h = let g = and_parts (is_device register) (nat_lt bit 8) h in (record { spot = refl; known = g.0; small = lt_of bit 8 g.1 }, refl)
 
   -- a bit is found as it is
-  bit_place : (sought : Place) (r n : ℕ) → IsPlaceOf z.program cp.function sought → IsSpotOf z.program cp sought (spots.Bit r n) → bit_is (spots.Bit r n) sought
+  pub bit_place : (sought : Place) (r n : ℕ) → IsPlaceOf z.program cp.function sought → IsSpotOf z.program cp sought (spots.Bit r n) → bit_is (spots.Bit r n) sought
   bit_place (tree.Name (names.Static i) ty line) r n h s = absurd (let q : spots.Bit r n ≡ spots.Memory _ = s in cc)
   bit_place (tree.Name (names.Param i) ty line) r n h s = absurd (let q : spots.Bit r n ≡ spots.Memory _ = s in cc)
   bit_place (tree.Name (names.Local i) ty line) r n h s = absurd (let q : spots.Bit r n ≡ spots.Memory _ = s in cc)

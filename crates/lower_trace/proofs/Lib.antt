@@ -135,6 +135,11 @@ pub mod PlaceTypes
 pub mod LedNulls
 pub mod LedReads
 pub mod LedItems
+pub mod NodeRooms
+pub mod LedNodes
+pub mod BitStores
+pub mod LedBits
+pub mod LedStores
 pub mod OpenTrees
 pub mod OpenSound
 pub mod OpenBodies
