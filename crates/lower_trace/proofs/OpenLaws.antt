@@ -5,9 +5,9 @@ use Rattle.std.specs.List.{All}
 use Rattle.c_ints.specs.Quantity.{Quantity}
 use Rattle.c_ints.specs.declared.operators.BinOp.{BinOp}
 use Rattle.c_ints.specs.declared.operators.BinOp.TheVariants as ops
-use Rattle.c_typed.specs.Sameness.{is_scalar, is_struct}
+use Rattle.c_typed.specs.Sameness.{is_scalar}
 use Rattle.c_typed.specs.Trees as tree
-use Rattle.c_typed.specs.Trees.{Expression, Item, Place}
+use Rattle.c_typed.specs.Trees.{Expression, Place}
 use Rattle.c_typed.specs.Types.{type_bytes}
 use Rattle.c_typed.specs.declared.expression.StepOp.{StepOp}
 use Rattle.c_typed.specs.declared.types.Ty.{Ty}
@@ -15,7 +15,7 @@ use Rattle.c_typed.specs.declared.types.Ty.TheVariants as types
 use Rattle.lower_expr.specs.Lowering.{shifts_by_constant}
 use Rattle.src_rules.proofs.Rules.{read_rule}
 use Rattle.src_rules.specs.Runs.{moment}
-use Rattle.src_values.specs.Control.{Holds, Found, Fetch, Skim, Write, PutBit, CopyRead, CopyWrite, Calls, Nothing, One, At, AtWith, Pending, In, Stores, Fills, Items, Doing, Copies}
+use Rattle.src_values.specs.Control.{Holds, Found, Skim, Write, PutBit, CopyRead, CopyWrite, Calls, Nothing, One, At, AtWith, Pending, In, Stores, Fills, Items, Doing, Copies}
 use Rattle.src_values.specs.Data as datum
 use Rattle.src_values.specs.Data.{Datum}
 use Rattle.src_values.specs.Values.{byte_count}
@@ -28,16 +28,20 @@ use Rattle.lower_trace.proofs.CodeLeft.{Scene, source_in}
 use Rattle.lower_trace.proofs.Leads.{Law}
 use Rattle.lower_trace.proofs.LedCalls.{leavings, returns}
 use Rattle.lower_trace.proofs.LedChanges.{number_steps, number_sums}
-use Rattle.lower_trace.proofs.LedConverts.{IsNullMade, null_or, converts, casts}
+use Rattle.lower_trace.proofs.LedConverts.{null_or, converts, casts}
 use Rattle.lower_trace.proofs.LedCopies.{assigns_end, items_end}
 use Rattle.lower_trace.proofs.LedFetches.{fetches}
+use Rattle.lower_trace.proofs.LedItems.{item_writes, missing_writes}
 use Rattle.lower_trace.proofs.LedLists.{spells, blanks}
 use Rattle.lower_trace.proofs.LedMissing.{apart_binaries, apart_offsets, apart_differences, missing_updates, updates_missing, missing_steps}
+use Rattle.lower_trace.proofs.LedNulls.{null_casts, null_converts}
 use Rattle.lower_trace.proofs.LedOperators.{unaries, plain_binaries}
 use Rattle.lower_trace.proofs.LedPlaces.{PlaceLaws, places}
+use Rattle.lower_trace.proofs.LedReads.{HaveBytes, empty_items, empty_skims, plain_skims, structures_fetched, void_reads}
 use Rattle.lower_trace.proofs.LedRuns.{Followed, followed}
 use Rattle.lower_trace.proofs.LedSkims.{structures_found, structures_skimmed}
 use Rattle.lower_trace.proofs.LedSteps.{NodeLaws}
+use Rattle.lower_trace.proofs.LedStores.{node_writes}
 use Rattle.lower_trace.proofs.LedSwitches.{comparisons}
 use Rattle.lower_trace.proofs.LedValues.{ValueLaws, values}
 use Rattle.lower_trace.proofs.LedWrites.{scalar_writes}
@@ -56,12 +60,8 @@ IsOpenUpdate op datum.Missing v = ⊥
 IsOpenUpdate op u datum.Missing = ⊥
 IsOpenUpdate op u v = Unit {0}
 
--- Some ask for more than is known of a state: that a number which becomes a pointer is 0, that a value which is written is the frame's
--- and isn't missing, that a structure is never fetched as a number is, and that an item of a list has room.
+-- One of them says of programs what isn't known of them yet.
 pub record OpenLaws (z : Scene) : Type 0 where
-  -- a null constant becomes a pointer
-  pub null_converts : (operand : Expression) (ty : Ty) (line : ℕ) (v : Datum) (k : List Pending) → IsNullMade ty v → Law z (Holds v) (In (tree.Convert operand ty line) Nothing ∷ k)
-  pub null_casts : (operand : Expression) (ty : Ty) (line : ℕ) (v : Datum) (k : List Pending) → IsNullMade ty v → Law z (Holds v) (In (tree.Cast operand ty line) Nothing ∷ k)
   pub known_counts : (op : BinOp) (left right : Expression) (ty : Ty) (line : ℕ) (v : Datum) (k : List Pending) → shifts_by_constant op right ≡ true → Law z (Holds v) (In (tree.Binary op left right ty line) Nothing ∷ k)
   pub binaries : (op : BinOp) (left right : Expression) (ty : Ty) (line : ℕ) (u v : Datum) (k : List Pending) → IsOpenBinary op u v → Law z (Holds v) (In (tree.Binary op left right ty line) (One u) ∷ k)
   -- a pointer is moved, by an integer behind it or before it
@@ -71,22 +71,13 @@ pub record OpenLaws (z : Scene) : Type 0 where
   pub updates : (op : BinOp) (place : Place) (value : Expression) (operation : Ty) (size : ℕ) (ty : Ty) (line : ℕ) (spot : Spot) (u v : Datum) (k : List Pending) → IsOpenUpdate op u v → Law z (Holds v) (In (tree.Update op place value operation size ty line) (AtWith spot u) ∷ k)
   pub steps : (op : StepOp) (place : Place) (operation : Ty) (size : ℕ) (ty : Ty) (line : ℕ) (spot : Spot) (x : Pointer) (k : List Pending) → Law z (Holds (datum.Pointer x)) (In (tree.Step op place operation size ty line) (At spot) ∷ k)
   -- places that are found
-  pub void_reads : (place : Place) (line : ℕ) (spot : Spot) (k : List Pending) → Law z (Found spot) (In (tree.Read place types.Void line) Nothing ∷ k)
   pub addresses : (place : Place) (ty : Ty) (line : ℕ) (spot : Spot) (k : List Pending) → Law z (Found spot) (In (tree.Address place ty line) Nothing ∷ k)
   pub known_updates : (op : BinOp) (place : Place) (value : Expression) (operation : Ty) (size : ℕ) (ty : Ty) (line : ℕ) (spot : Spot) (k : List Pending) → shifts_by_constant op value ≡ true → Law z (Found spot) (In (tree.Update op place value operation size ty line) Nothing ∷ k)
-  -- bytes
-  pub structures_fetched : (place : Place) (ty : Ty) (line : ℕ) (start spot : Spot) (read : List Byte) (k : List Pending) → is_scalar ty ≡ false → Law z (Fetch spot read) (In (tree.Read place ty line) (At start) ∷ k)
-  -- what is no structure, or one of no bytes, is read for nothing
-  pub plain_skims : (place : Place) (ty : Ty) (line : ℕ) (start spot : Spot) (left : ℕ) (byte : Option Byte) (k : List Pending) → is_struct ty ≡ false → Law z (Skim spot left byte) (In (tree.Read place ty line) (At start) ∷ k)
-  pub empty_skims : (place : Place) (number line : ℕ) (start spot : Spot) (left : ℕ) (byte : Option Byte) (k : List Pending) → type_bytes z.program.sizes (types.Struct number) ≡ 0 → Law z (Skim spot left byte) (In (tree.Read place (types.Struct number) line) (At start) ∷ k)
-  -- a value is written
-  pub node_writes : (e : Expression) (start spot : Spot) (u v : Datum) (at : ℕ) (k : List Pending) → Law z (Write spot v at) (In e (Stores start u) ∷ k)
-  pub missing_writes : (local : ℕ) (e : Expression) (line : ℕ) (spot : Spot) (v : Datum) (at : ℕ) (k : List Pending) → byte_count v ≡ 0 → Law z (Write spot v at) (Doing (tree.InitScalar local e line) Fills ∷ k)
-  pub item_writes : (local : ℕ) (all : List Item) (line offset : ℕ) (e : Expression) (rest : List Item) (spot : Spot) (v : Datum) (at : ℕ) (k : List Pending) → Law z (Write spot v at) (Doing (tree.InitList local all line) (Items (tree.Scalar offset e) rest) ∷ k)
+  -- a structure has bytes
+  pub structures : HaveBytes z.program
   pub bits : (register number : ℕ) (v : Datum) (old : ℕ) (k : List Pending) → Law z (PutBit register number v old) k
-  -- a byte of a structure is copied, or a structure of no bytes is
+  -- a byte of a structure is copied
   pub copy_reads : (to from : Spot) (left : ℕ) (k : List Pending) → Law z (CopyRead to from (suc left)) k
-  pub empty_items : (local : ℕ) (all : List Item) (line offset : ℕ) (other : Place) (rest : List Item) (to from : Spot) (k : List Pending) → Law z (CopyRead to from 0) (Doing (tree.InitList local all line) (Items (tree.Struct offset other 0) rest) ∷ k)
   pub copy_writes : (to from : Spot) (byte : Byte) (left : ℕ) (k : List Pending) → Law z (CopyWrite to from byte left) k
   pub calls : (k : List Pending) → Law z Calls k
 
@@ -163,14 +154,14 @@ module _ (z : Scene) (given : IsLowerable z.program z.copies) (input : All (λ b
   converts_by operand ty line v k cp l w c known due h =
       ⊎_elim
       (λ null. converts z given input operand ty line v k null cp l w c known due h)
-      (λ made. open_laws.null_converts operand ty line v k made cp l w c known due h)
+      (λ made. null_converts z given input operand ty line v k made cp l w c known due h)
       (null_or ty v)
 
   casts_by : (operand : Expression) (ty : Ty) (line : ℕ) (v : Datum) (k : List Pending) → Law z (Holds v) (In (tree.Cast operand ty line) Nothing ∷ k)
   casts_by operand ty line v k cp l w c known due h =
       ⊎_elim
       (λ null. casts z given input operand ty line v k null cp l w c known due h)
-      (λ made. open_laws.null_casts operand ty line v k made cp l w c known due h)
+      (λ made. null_casts z given input operand ty line v k made cp l w c known due h)
       (null_or ty v)
 
   updates_by : (op : BinOp) (place : Place) (value : Expression) (operation : Ty) (size : ℕ) (ty : Ty) (line : ℕ) (spot : Spot) (u v : Datum) (k : List Pending) → Law z (Holds v) (In (tree.Update op place value operation size ty line) (AtWith spot u) ∷ k)
@@ -192,7 +183,7 @@ module _ (z : Scene) (given : IsLowerable z.program z.copies) (input : All (λ b
   steps_by op place operation size ty line spot datum.Missing k cp l w c known due h = missing_steps z op place operation size ty line spot k cp l w c known due h
 
   skims_by : (place : Place) (ty : Ty) (line : ℕ) (spot : Spot) (k : List Pending) → is_scalar ty ≡ false → Law z (Found spot) (In (tree.Read place ty line) Nothing ∷ k)
-  skims_by place types.Void line spot k is cp l w c known due h = open_laws.void_reads place line spot k cp l w c known due h
+  skims_by place types.Void line spot k is cp l w c known due h = void_reads z given place line spot k cp l w c known due h
   skims_by place (types.Int ty) line spot k is cp l w c known due h = absurd (true_false is)
   skims_by place (types.Pointer row) line spot k is cp l w c known due h = absurd (true_false is)
   skims_by place (types.Array element length bytes) line spot k is cp l w c known due h = absurd (true_false (read_rule z.program place (types.Array element length bytes) line known.stands.stack.0.0).1)
@@ -202,14 +193,14 @@ module _ (z : Scene) (given : IsLowerable z.program z.copies) (input : All (λ b
   structures_by place number line start spot left byte k cp l w c known due h =
       ⊎_elim
       (λ some. structures_skimmed z given input place number line start spot left byte k some cp l w c known due h)
-      (λ none. open_laws.empty_skims place number line start spot left byte k (omega arith) cp l w c known due h)
+      (λ none. empty_skims z given open_laws.structures place number line start spot left byte k (omega arith) cp l w c known due h)
       (cases_lt 0 (type_bytes z.program.sizes (types.Struct number)))
 
   reads_skim : (place : Place) (ty : Ty) (line : ℕ) (start spot : Spot) (left : ℕ) (byte : Option Byte) (k : List Pending) → Law z (Skim spot left byte) (In (tree.Read place ty line) (At start) ∷ k)
-  reads_skim place types.Void line start spot left byte k cp l w c known due h = open_laws.plain_skims place types.Void line start spot left byte k refl cp l w c known due h
-  reads_skim place (types.Int ty) line start spot left byte k cp l w c known due h = open_laws.plain_skims place (types.Int ty) line start spot left byte k refl cp l w c known due h
-  reads_skim place (types.Pointer row) line start spot left byte k cp l w c known due h = open_laws.plain_skims place (types.Pointer row) line start spot left byte k refl cp l w c known due h
-  reads_skim place (types.Array element length bytes) line start spot left byte k cp l w c known due h = open_laws.plain_skims place (types.Array element length bytes) line start spot left byte k refl cp l w c known due h
+  reads_skim place types.Void line start spot left byte k cp l w c known due h = plain_skims z given place types.Void line start spot left byte k refl cp l w c known due h
+  reads_skim place (types.Int ty) line start spot left byte k cp l w c known due h = plain_skims z given place (types.Int ty) line start spot left byte k refl cp l w c known due h
+  reads_skim place (types.Pointer row) line start spot left byte k cp l w c known due h = plain_skims z given place (types.Pointer row) line start spot left byte k refl cp l w c known due h
+  reads_skim place (types.Array element length bytes) line start spot left byte k cp l w c known due h = plain_skims z given place (types.Array element length bytes) line start spot left byte k refl cp l w c known due h
   reads_skim place (types.Struct number) line start spot left byte k cp l w c known due h = structures_by place number line start spot left byte k cp l w c known due h
 
   skims : (spot : Spot) (left : ℕ) (byte : Option Byte) (k : List Pending) → Law z (Skim spot left byte) k
@@ -220,19 +211,19 @@ module _ (z : Scene) (given : IsLowerable z.program z.copies) (input : All (λ b
   locals_by local e line spot v at k cp l w c known due h =
       ⊎_elim
       (λ some. scalar_writes z given input local e line spot v at k some cp l w c known due h)
-      (λ none. open_laws.missing_writes local e line spot v at k (omega arith) cp l w c known due h)
+      (λ none. missing_writes z given input local e line spot v at k (omega arith) cp l w c known due h)
       (cases_lt 0 (byte_count v))
 
   writes : (spot : Spot) (v : Datum) (at : ℕ) (k : List Pending) → Law z (Write spot v at) k
-  writes spot v at (In e (Stores start u) ∷ k) cp l w c known due h = open_laws.node_writes e start spot u v at k cp l w c known due h
+  writes spot v at (In e (Stores start u) ∷ k) cp l w c known due h = node_writes z given input e start spot u v at k cp l w c known due h
   writes spot v at (Doing (tree.InitScalar local e line) Fills ∷ k) cp l w c known due h = locals_by local e line spot v at k cp l w c known due h
-  writes spot v at (Doing (tree.InitList local all line) (Items (tree.Scalar offset e) rest) ∷ k) cp l w c known due h = open_laws.item_writes local all line offset e rest spot v at k cp l w c known due h
+  writes spot v at (Doing (tree.InitList local all line) (Items (tree.Scalar offset e) rest) ∷ k) cp l w c known due h = item_writes z given input local all line offset e rest spot v at k cp l w c known due h
   writes spot v at _ cp l w c known due h = absurd known.stands.focus.node
 
   copy_reads : (to from : Spot) (left : ℕ) (k : List Pending) → Law z (CopyRead to from left) k
   copy_reads to from (suc left) k cp l w c known due h = open_laws.copy_reads to from left k cp l w c known due h
   copy_reads to from zero (In (tree.StructAssign place other size line) Copies ∷ k) cp l w c known due h = assigns_end z given input place other size line to from k cp l w c known due h
-  copy_reads to from zero (Doing (tree.InitList local all line) (Items (tree.Struct offset other zero) rest) ∷ k) cp l w c known due h = open_laws.empty_items local all line offset other rest to from k cp l w c known due h
+  copy_reads to from zero (Doing (tree.InitList local all line) (Items (tree.Struct offset other zero) rest) ∷ k) cp l w c known due h = empty_items z given open_laws.structures local all line offset other rest to from k cp l w c known due h
   copy_reads to from zero (Doing (tree.InitList local all line) (Items (tree.Struct offset other (suc size)) rest) ∷ k) cp l w c known due h = items_end z given input local all line offset other (suc size) rest to from k (omega arith) cp l w c known due h
   copy_reads to from zero _ cp l w c known due h = absurd known.stands.focus.node
 
@@ -257,7 +248,7 @@ module _ (z : Scene) (given : IsLowerable z.program z.copies) (input : All (λ b
   node_laws = record {
     values = values z given input value_laws;
     places = places z given input place_laws;
-    fetches = fetches z given input open_laws.structures_fetched;
+    fetches = fetches z given input (structures_fetched z given);
     skims = skims;
     writes = writes;
     bits = open_laws.bits;
