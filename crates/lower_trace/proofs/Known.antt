@@ -58,13 +58,13 @@ pub record Known (z : Scene) (t : State) : Type 0 where
   -- temporary bytes fit into the frames
   pub focus : FocusFits z t.copy t.focus t.stack
   pub stack : StackFits z t.copy t.stack
+  -- what is sure of values under way
+  pub sure : IsSure z t
   -- what the handler interrupted isn't the end of a function, and no end of one is interrupted
   pub resumable : IsHeld t.stack
   pub quiet : IsResumable t.focus ⊎ (enters (source_in z) t ≡ false)
   -- above the body of a switch wait only the last statements of it
   pub segments : AtFocus t.focus t.stack × InSegments t.stack
-  -- what is sure of values under way
-  pub sure : IsSure z t
 
 -- ---- what the handler interrupted
 held_below : (k : List Pending) → IsHeld k → IsHeld (below k)
@@ -192,10 +192,10 @@ module _ (z : Scene) (given : IsLowerable z.program z.copies) (input : All (λ b
     stands = starts (source_in z) proper;
     focus = tt;
     stack = (bodies _, tt);
+    sure = sure_first z given.sound;
     resumable = tt;
     quiet = inl tt;
     segments = starts_in (source_in z);
-    sure = sure_first z given.sound;
   }
 
   both_fit : (u : State) (event : Option (Happening Byte)) → KeepsFits z (Went u event) → FocusFits z u.copy u.focus u.stack × StackFits z u.copy u.stack
@@ -246,10 +246,10 @@ module _ (z : Scene) (given : IsLowerable z.program z.copies) (input : All (λ b
         stands = subst (Keeps z.program) e (steps (source_in z) proper input t k.stands);
         focus = f.0;
         stack = f.1;
+        sure = sure_next z given.sound t u event k.stands k.focus k.stack k.sure e;
         resumable = held_next t u event k e;
         quiet = quiet_next t u event k e h;
         segments = subst StaysIn e (stays_in (source_in z) t k.segments.0 k.segments.1);
-        sure = sure_next z given.sound t u event k.stands k.focus k.stack k.sure e;
       }
 
   -- ---- what the laws ask of the stack

@@ -26,7 +26,7 @@ use Rattle.lower_trace.proofs.CodeLeft.{Scene, source_in}
 use Rattle.lower_trace.proofs.FixedWrites.{IsOpen}
 use Rattle.lower_trace.proofs.Known.{Known}
 use Rattle.lower_trace.proofs.Leads.{Led, Law}
-use Rattle.lower_trace.proofs.LedBits.{assign_bits, step_bits, update_bits}
+use Rattle.lower_trace.proofs.LedBitNodes.{assign_bits, step_bits, update_bits}
 use Rattle.lower_trace.proofs.LedNodes.{NodeLed, assign_device, assign_memory, step_device, step_memory, update_device, update_memory}
 use Rattle.lower_trace.proofs.Mirrors.{Mirrors}
 use Rattle.lower_trace.proofs.Opens.{IsOpenSpot}

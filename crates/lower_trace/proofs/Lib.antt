@@ -138,7 +138,7 @@ pub mod LedItems
 pub mod NodeRooms
 pub mod LedNodes
 pub mod BitStores
-pub mod LedBits
+pub mod LedBitNodes
 pub mod LedStores
 pub mod OpenTrees
 pub mod OpenSound

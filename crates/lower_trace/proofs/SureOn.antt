@@ -225,7 +225,7 @@ module _ (z : Scene) (c : CopyOf) where
 
   stored_for_sure : (t : Statement) (stage : Stage) (k : List Pending) (m : source.Memory) (w : World Byte) → StageFits z c t stage → StackSure z c k → KeepsSure z (stored_for (source_in z) t stage k c m w)
   stored_for_sure (tree.InitScalar local e line) Fills k m w s st = (tt, st)
-  stored_for_sure (tree.InitList local all line) (Items item rest) k m w s st = items_sure local all line _ rest k m w s st
+  stored_for_sure (tree.InitList local all line) (Items item rest) k m w s st = let q = (two_parts (item_room z.program.sizes item) (items_room z.program.sizes rest)).1 in items_sure local all line _ rest k m w (omega arith) st
   stored_for_sure (tree.InitList local all line) Blanks k m w s st = (tt, st)
   stored_for_sure _ _ k m w s st = tt
 
