@@ -107,6 +107,9 @@ pub mod Living
 pub mod Shapes
 pub mod FitsKept
 pub mod FitsOn
+pub mod PartsOf
+pub mod PartsKept
+pub mod PartsOn
 pub mod Known
 pub mod Leads
 pub mod LedStatements
