@@ -103,7 +103,7 @@ module _ (z : Scene) (cp : CopyOf) where
   memory_no_bit (tree.Member whole member offset ty line) x r n s e = member_no_bit (found_as whole) offset r n e
   memory_no_bit (tree.Deref pointer ty line) x r n s e = cc
 
-  abbrev bit_is : Spot → Place → Type 0
+  abbrev pub bit_is : Spot → Place → Type 0
   bit_is (spots.Device a) sought = Unit {0}
   bit_is (spots.Memory x) sought = Unit {0}
   bit_is (spots.Bit r n) sought = BitPlace z cp sought r n × ((place_type sought).ty ≡ types.Int int.UChar)
@@ -113,7 +113,7 @@ module _ (z : Scene) (cp : CopyOf) where
   bit_here register bit line h = let g = and_parts (is_device register) (nat_lt bit 8) h in (record { spot = refl; known = g.0; small = lt_of bit 8 g.1 }, refl)
 
   -- a bit is found as it is
-  bit_place : (sought : Place) (r n : ℕ) → IsPlaceOf z.program cp.function sought → IsSpotOf z.program cp sought (spots.Bit r n) → bit_is (spots.Bit r n) sought
+  pub bit_place : (sought : Place) (r n : ℕ) → IsPlaceOf z.program cp.function sought → IsSpotOf z.program cp sought (spots.Bit r n) → bit_is (spots.Bit r n) sought
   bit_place (tree.Name (names.Static i) ty line) r n h s = absurd (let q : spots.Bit r n ≡ spots.Memory _ = s in cc)
   bit_place (tree.Name (names.Param i) ty line) r n h s = absurd (let q : spots.Bit r n ≡ spots.Memory _ = s in cc)
   bit_place (tree.Name (names.Local i) ty line) r n h s = absurd (let q : spots.Bit r n ≡ spots.Memory _ = s in cc)

@@ -77,7 +77,9 @@ pub mod PointerSteps
 pub mod PointerUpdates
 pub mod BitReads
 pub mod BitEnds
+pub mod LedBits
 pub mod HelpedUpdates
+pub mod HelperCopies
 pub mod Costs
 pub mod Positions
 pub mod Reaches
@@ -122,7 +124,9 @@ pub mod LedSwitches
 pub mod LedLists
 pub mod LedCopies
 pub mod LedOperators
+pub mod LedHelped
 pub mod LedChanges
+pub mod LedHelpedUpdates
 pub mod FirstMemory
 pub mod LedRuns
 pub mod LedMissing
