@@ -15,7 +15,7 @@ use Rattle.c_typed.specs.declared.types.Ty.TheVariants as types
 use Rattle.lower_expr.specs.Lowering.{shifts_by_constant}
 use Rattle.src_rules.proofs.Rules.{read_rule}
 use Rattle.src_rules.specs.Runs.{moment}
-use Rattle.src_values.specs.Control.{Holds, Found, Fetch, Skim, Write, PutBit, CopyRead, CopyWrite, Calls, Nothing, One, At, AtWith, Pending, In, Stores, Fills, Items, Doing, Copies}
+use Rattle.src_values.specs.Control.{Holds, Found, Fetch, Skim, Write, CopyRead, CopyWrite, Calls, Nothing, One, At, AtWith, Pending, In, Stores, Fills, Items, Doing, Copies}
 use Rattle.src_values.specs.Data as datum
 use Rattle.src_values.specs.Data.{Datum}
 use Rattle.src_values.specs.Values.{byte_count}
@@ -26,11 +26,14 @@ use Rattle.lower_trace.specs.Lowering.{IsLowerable}
 use Rattle.lower_trace.proofs.Changing.{IsSum}
 use Rattle.lower_trace.proofs.CodeLeft.{Scene, source_in}
 use Rattle.lower_trace.proofs.Leads.{Law}
+use Rattle.lower_trace.proofs.LedBits.{bits}
 use Rattle.lower_trace.proofs.LedCalls.{leavings, returns}
 use Rattle.lower_trace.proofs.LedChanges.{number_steps, number_sums}
 use Rattle.lower_trace.proofs.LedConverts.{IsNullMade, null_or, converts, casts}
 use Rattle.lower_trace.proofs.LedCopies.{assigns_end, items_end}
 use Rattle.lower_trace.proofs.LedFetches.{fetches}
+use Rattle.lower_trace.proofs.LedHelped.{helped_binaries}
+use Rattle.lower_trace.proofs.LedHelpedUpdates.{helped_updates}
 use Rattle.lower_trace.proofs.LedLists.{spells, blanks}
 use Rattle.lower_trace.proofs.LedMissing.{apart_binaries, apart_offsets, apart_differences, missing_updates, updates_missing, missing_steps}
 use Rattle.lower_trace.proofs.LedOperators.{unaries, plain_binaries}
@@ -43,15 +46,14 @@ use Rattle.lower_trace.proofs.LedValues.{ValueLaws, values}
 use Rattle.lower_trace.proofs.LedWrites.{scalar_writes}
 use Rattle.lower_trace.proofs.Operating.{IsPlain}
 
--- Two integers have a law where the operator is a sum, a comparison or a bit operator. Others are open, and so are two pointers.
+-- Two integers have a law. Two pointers are open.
 abbrev pub IsOpenBinary : BinOp → Datum → Datum → Type 0
-IsOpenBinary op (datum.Number x) (datum.Number y) = IsPlain op → ⊥
 IsOpenBinary op (datum.Pointer x) (datum.Pointer y) = Unit {0}
 IsOpenBinary op u v = ⊥
 
--- what an update is by, and the place's value
+-- what an update is by, and the place's value: an integer by an integer has a law
 abbrev pub IsOpenUpdate : BinOp → Datum → Datum → Type 0
-IsOpenUpdate op (datum.Number y) (datum.Number x) = IsSum op → ⊥
+IsOpenUpdate op (datum.Number y) (datum.Number x) = ⊥
 IsOpenUpdate op datum.Missing v = ⊥
 IsOpenUpdate op u datum.Missing = ⊥
 IsOpenUpdate op u v = Unit {0}
@@ -83,7 +85,6 @@ pub record OpenLaws (z : Scene) : Type 0 where
   pub node_writes : (e : Expression) (start spot : Spot) (u v : Datum) (at : ℕ) (k : List Pending) → Law z (Write spot v at) (In e (Stores start u) ∷ k)
   pub missing_writes : (local : ℕ) (e : Expression) (line : ℕ) (spot : Spot) (v : Datum) (at : ℕ) (k : List Pending) → byte_count v ≡ 0 → Law z (Write spot v at) (Doing (tree.InitScalar local e line) Fills ∷ k)
   pub item_writes : (local : ℕ) (all : List Item) (line offset : ℕ) (e : Expression) (rest : List Item) (spot : Spot) (v : Datum) (at : ℕ) (k : List Pending) → Law z (Write spot v at) (Doing (tree.InitList local all line) (Items (tree.Scalar offset e) rest) ∷ k)
-  pub bits : (register number : ℕ) (v : Datum) (old : ℕ) (k : List Pending) → Law z (PutBit register number v old) k
   -- a byte of a structure is copied, or a structure of no bytes is
   pub copy_reads : (to from : Spot) (left : ℕ) (k : List Pending) → Law z (CopyRead to from (suc left)) k
   pub empty_items : (local : ℕ) (all : List Item) (line offset : ℕ) (other : Place) (rest : List Item) (to from : Spot) (k : List Pending) → Law z (CopyRead to from 0) (Doing (tree.InitList local all line) (Items (tree.Struct offset other 0) rest) ∷ k)
@@ -134,7 +135,7 @@ module _ (z : Scene) (given : IsLowerable z.program z.copies) (input : All (λ b
   binaries_by op left right ty line (datum.Number x) (datum.Number y) k cp l w c known due h =
       ⊎_elim
       (λ plain. plain_binaries z given input op left right ty line x y k plain cp l w c known due h)
-      (λ other. open_laws.binaries op left right ty line (datum.Number x) (datum.Number y) k other cp l w c known due h)
+      (λ other. helped_binaries z given input op left right ty line x y k other cp l w c known due h)
       (plain_or op)
   binaries_by op left right ty line (datum.Pointer x) (datum.Pointer y) k cp l w c known due h = open_laws.binaries op left right ty line (datum.Pointer x) (datum.Pointer y) k tt cp l w c known due h
   binaries_by op left right ty line (datum.Number x) (datum.Pointer y) k cp l w c known due h = apart_binaries z op left right ty line (datum.Number x) (datum.Pointer y) k tt cp l w c known due h
@@ -177,7 +178,7 @@ module _ (z : Scene) (given : IsLowerable z.program z.copies) (input : All (λ b
   updates_by op place value operation size ty line spot (datum.Number y) (datum.Number x) k cp l w c known due h =
       ⊎_elim
       (λ sum. number_sums z given input op place value operation size ty line spot y x k sum cp l w c known due h)
-      (λ other. open_laws.updates op place value operation size ty line spot (datum.Number y) (datum.Number x) k other cp l w c known due h)
+      (λ other. helped_updates z given input op place value operation size ty line spot y x k other cp l w c known due h)
       (sum_or op)
   updates_by op place value operation size ty line spot (datum.Number y) (datum.Pointer x) k cp l w c known due h = open_laws.updates op place value operation size ty line spot (datum.Number y) (datum.Pointer x) k tt cp l w c known due h
   updates_by op place value operation size ty line spot (datum.Pointer y) (datum.Number x) k cp l w c known due h = open_laws.updates op place value operation size ty line spot (datum.Pointer y) (datum.Number x) k tt cp l w c known due h
@@ -260,7 +261,7 @@ module _ (z : Scene) (given : IsLowerable z.program z.copies) (input : All (λ b
     fetches = fetches z given input open_laws.structures_fetched;
     skims = skims;
     writes = writes;
-    bits = open_laws.bits;
+    bits = bits z given input;
     copy_reads = copy_reads;
     copy_writes = open_laws.copy_writes;
     spells = spells z given input;
