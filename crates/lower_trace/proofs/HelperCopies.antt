@@ -1,5 +1,5 @@
 -- A helper that a node of a function calls has a copy under each root that reaches the function, so byte code may use it there.
-use Rattle.std.proofs.Common.{◌≡◌, ℕ, ◌+◌, ◌<◌, Bool, true, false, ◌&&◌, ◌||◌, if◌then◌else◌, nat_eq, nat_lt, List, [], ◌∷◌, ◌++◌, length, map, replicate, get_or, Option, Some, None, slice_get, is_some, refl, sym, ap, ◌∙◌, subst, arith}
+use Rattle.std.proofs.Common.{◌≡◌, ℕ, ◌+◌, ◌<◌, Bool, true, false, ◌&&◌, ◌||◌, if◌then◌else◌, nat_eq, nat_lt, List, [], ◌∷◌, ◌++◌, length, map, replicate, get_or, Option, Some, None, slice_get, is_some, refl, sym, ap, ◌∙◌, subst}
 use Rattle.std.proofs.lemmas.List.{get_or-map, get_or_append_left, length-map}
 use Rattle.std.proofs.lemmas.Option.{same_Some, slice_get-get_or}
 use Rattle.std.specs.List.{Contains, list_any}
@@ -31,7 +31,7 @@ use Rattle.src_values.specs.declared.objects.CopyOf.{CopyOf}
 use Rattle.lower_trace.specs.Lowering.{IsLowerable}
 use Rattle.lower_trace.proofs.CodeLeft.{Scene, core_in, number}
 use Rattle.lower_trace.proofs.Helped.{MayHelp}
-use Rattle.lower_trace.proofs.Numbering.{IsNumbered, function_there, numbered, roots_agree}
+use Rattle.lower_trace.proofs.Numbering.{function_there, numbered, roots_agree}
 use Rattle.lower_trace.proofs.PartsOf.{Has, right_has}
 use Rattle.lower_trace.proofs.Positions.{is_found}
 use Rattle.lower_trace.proofs.Reaches.{any_in, helper_copied, member_contained}

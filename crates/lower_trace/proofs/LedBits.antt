@@ -1,5 +1,5 @@
 -- The law of the write of a register of which a bit is written, put together; and what waits keeps what it has while a bit is written.
-use Rattle.std.proofs.Common.{◌≡◌, ℕ, ◌+◌, ◌<◌, ◌≤◌, inl, inr, Bool, true, ◌&&◌, List, ◌∷◌, refl, sym, ap, ◌∙◌, subst, arith}
+use Rattle.std.proofs.Common.{◌≡◌, ℕ, ◌+◌, ◌<◌, ◌≤◌, inr, List, ◌∷◌, sym, ap, ◌∙◌, subst, arith}
 use Rattle.std.specs.List.{All}
 use Rattle.c_typed.specs.Trees as tree
 use Rattle.c_typed.specs.Trees.{Expression, Place}
@@ -9,11 +9,9 @@ use Rattle.core_code.specs.Bytes.{Held, Memory, with_bytes}
 use Rattle.core_code.specs.declared.code.Byte.TheVariants.{Frame}
 use Rattle.lower_expr.specs.Bytes.{beyond}
 use Rattle.lower_expr.specs.Layout.{place_width, width}
-use Rattle.lower_expr.specs.Rows.{keeps_old}
 use Rattle.lower_expr.specs.Spots.{spot_of}
 use Rattle.lower_expr.specs.declared.places.Spot as place
 use Rattle.lower_expr.specs.declared.places.Spot.TheVariants.{Bit, Computed, Fixed}
-use Rattle.pic_world.specs.World.{arrived, is_due}
 use Rattle.src_rules.specs.Standing.{IsSpotOf, stepped}
 use Rattle.src_rules.specs.Step.{act}
 use Rattle.src_values.specs.Control.{PutBit, Fills, Items, Pending, In, Doing, Stores}
@@ -25,10 +23,9 @@ use Rattle.src_values.specs.declared.objects.Spot.{Spot}
 use Rattle.src_values.specs.declared.objects.Spot.TheVariants as spots
 use Rattle.src_values.specs.Objects.{behind}
 use Rattle.lower_trace.specs.Lowering.{IsLowerable}
-use Rattle.lower_trace.proofs.BitReads.{BitPlace}
 use Rattle.lower_trace.proofs.BitWrites.{put_bit_goes}
 use Rattle.lower_trace.proofs.Changing.{above_written, holds_above}
-use Rattle.lower_trace.proofs.CodeLeft.{Scene, base, code_after, ground_in, number, stored, wanted, writing}
+use Rattle.lower_trace.proofs.CodeLeft.{Scene, base, code_after, ground_in, number, stored, writing}
 use Rattle.lower_trace.proofs.Giving.{Around}
 use Rattle.lower_trace.proofs.Kept.{own_copy}
 use Rattle.lower_trace.proofs.Leads.{Law, led_by}

@@ -1,5 +1,5 @@
 -- The laws of operators on two integers that a helper computes, and of shifts, put together.
-use Rattle.std.proofs.Common.{◌≡◌, ℕ, zero, suc, ◌+◌, ◌*◌, ◌<◌, ◌≤◌, ◌⊎◌, inl, inr, Bool, true, false, ◌&&◌, if◌then◌else◌, nat_lt, List, [], ◌∷◌, ◌++◌, refl, sym, ap, ◌∙◌, subst, ⊎_elim, arith}
+use Rattle.std.proofs.Common.{◌≡◌, ℕ, suc, ◌+◌, ◌<◌, ◌⊎◌, inl, inr, Bool, true, false, ◌&&◌, nat_lt, List, ◌∷◌, ◌++◌, refl, sym, ap, ◌∙◌, subst, ⊎_elim, arith}
 use Rattle.std.proofs.lemmas.Bool.{and_parts}
 use Rattle.std.specs.List.{All}
 use Rattle.c_ints.specs.Conversions.{promoted}
@@ -24,9 +24,9 @@ use Rattle.lower_expr.specs.Bytes.{beyond, operation_type}
 use Rattle.lower_expr.specs.Layout.{value_width}
 use Rattle.lower_expr.specs.Lowering.{change_code, expr_code, shifts_by_constant}
 use Rattle.lower_expr.specs.Rows.{binary_row, is_shift}
-use Rattle.pic_world.specs.World.{World, arrived, is_due}
+use Rattle.pic_world.specs.World.{World}
 use Rattle.src_rules.proofs.Rules.{binary_rule}
-use Rattle.src_rules.proofs.Values.{same_int_is, same_type_is}
+use Rattle.src_rules.proofs.Values.{same_type_is}
 use Rattle.src_rules.specs.Standing.{HasType}
 use Rattle.src_rules.specs.State.{state}
 use Rattle.src_rules.specs.Step.{act}
@@ -36,14 +36,14 @@ use Rattle.src_values.specs.Memory as source
 use Rattle.src_values.specs.declared.objects.Byte.{Byte}
 use Rattle.src_values.specs.declared.objects.CopyOf.{CopyOf}
 use Rattle.lower_trace.specs.Lowering.{IsLowerable}
-use Rattle.lower_trace.proofs.CodeLeft.{Scene, base, code_after, ground_in, todo, source_in}
+use Rattle.lower_trace.proofs.CodeLeft.{Scene, base, code_after, ground_in, todo}
 use Rattle.lower_trace.proofs.ConstantShifts.{constant_shift}
 use Rattle.lower_trace.proofs.Fitting.{value_at, width_is}
 use Rattle.lower_trace.proofs.Helped.{IsProduct, Shifts, product_given, product_helps, product_right, shift_given, shift_helps}
 use Rattle.lower_trace.proofs.HelperCopies.{binary_helped}
 use Rattle.lower_trace.proofs.Kept.{bytes_small}
-use Rattle.lower_trace.proofs.Known.{Known, around, resumables, small}
-use Rattle.lower_trace.proofs.Leads.{Led, Law, led_by}
+use Rattle.lower_trace.proofs.Known.{around, resumables, small}
+use Rattle.lower_trace.proofs.Leads.{Law, led_by}
 use Rattle.lower_trace.proofs.LedValues.{around_in}
 use Rattle.lower_trace.proofs.Mirrors.{Mirrors}
 use Rattle.lower_trace.proofs.Operating.{IsPlain}

@@ -1,5 +1,5 @@
 -- The laws of updates of integers by operators that a helper computes, and by shifts, put together.
-use Rattle.std.proofs.Common.{◌≡◌, ℕ, zero, suc, ◌+◌, ◌*◌, ◌<◌, ◌≤◌, ◌⊎◌, inl, inr, Bool, true, false, not, ◌&&◌, if◌then◌else◌, nat_lt, List, ◌∷◌, refl, sym, ap, ◌∙◌, subst, ⊎_elim, arith}
+use Rattle.std.proofs.Common.{◌≡◌, ℕ, suc, ◌+◌, ◌<◌, ◌≤◌, ◌⊎◌, inl, inr, Bool, true, false, ◌&&◌, nat_lt, List, ◌∷◌, refl, sym, ap, ◌∙◌, subst, ⊎_elim, arith}
 use Rattle.std.proofs.lemmas.Bool.{and_parts}
 use Rattle.std.specs.List.{All}
 use Rattle.c_ints.specs.Conversions.{common, promoted}
@@ -11,7 +11,7 @@ use Rattle.c_ints.specs.declared.types.IntTy.{IntTy}
 use Rattle.c_ints.specs.declared.types.IntTy.TheVariants as int
 use Rattle.c_typed.specs.Room.{place_room, room}
 use Rattle.c_typed.specs.Rules.{integer_update_fits}
-use Rattle.c_typed.specs.Sameness.{is_promoted, same_int}
+use Rattle.c_typed.specs.Sameness.{is_promoted}
 use Rattle.c_typed.specs.Trees as tree
 use Rattle.c_typed.specs.Trees.{Expression, Place}
 use Rattle.c_typed.specs.Types.{form_of, is_constant, place_bytes, place_type, type_bytes, type_of, value_bytes}
@@ -20,7 +20,6 @@ use Rattle.c_typed.specs.declared.types.Ty.TheVariants as types
 use Rattle.lower_expr.specs.Lowering.{behind_pointer, shifts_by_constant}
 use Rattle.lower_expr.specs.Rows.{is_shift}
 use Rattle.lower_expr.specs.Spots.{pointer_bytes, spot_of}
-use Rattle.core_code.specs.Values.{right_type}
 use Rattle.src_rules.proofs.Rules.{IsUpdate, moves_rule, update_rule}
 use Rattle.src_rules.proofs.Values.{same_int_is, same_type_is}
 use Rattle.src_rules.specs.Standing.{HasType}
@@ -41,7 +40,7 @@ use Rattle.lower_trace.proofs.Kept.{bytes_small}
 use Rattle.lower_trace.proofs.Known.{around, resumables, small}
 use Rattle.lower_trace.proofs.Leads.{Law, led_by}
 use Rattle.lower_trace.proofs.LedChanges.{two_common, wider_left}
-use Rattle.lower_trace.proofs.LedHelped.{bytes_more, promoted_two, same_int_type, value_bits}
+use Rattle.lower_trace.proofs.LedHelped.{bytes_more, same_int_type, value_bits}
 use Rattle.lower_trace.proofs.LedValues.{around_in}
 use Rattle.lower_trace.proofs.Rooms.{pointer_is, update_parts}
 use Rattle.lower_trace.proofs.Scenes.{frame_is, scene_laws}
