@@ -123,6 +123,7 @@ pub mod LedCalls
 pub mod LedSwitches
 pub mod LedLists
 pub mod LedCopies
+pub mod LedBitWrites
 pub mod LedOperators
 pub mod LedHelped
 pub mod LedChanges
