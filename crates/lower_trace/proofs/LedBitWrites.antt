@@ -1,16 +1,15 @@
 -- The laws of nodes that write a bit of a register, put together: the register is read, and behind its write the node has its value.
-use Rattle.std.proofs.Common.{◌≡◌, ℕ, ℤ, zero, suc, ◌+◌, ◌*◌, ◌<◌, ◌≤◌, true, false, List, ◌∷◌, refl, sym, ap, ◌∙◌, subst, arith}
+use Rattle.std.proofs.Common.{◌≡◌, ℕ, ℤ, zero, suc, ◌+◌, ◌<◌, ◌≤◌, false, List, ◌∷◌, refl, sym, ap, ◌∙◌, subst, arith}
 use Rattle.std.specs.List.{All}
 use Rattle.c_ints.specs.Quantity.{Quantity}
 use Rattle.c_ints.specs.Range.{IsInRange, bytes_of}
 use Rattle.c_ints.specs.declared.operators.BinOp.{BinOp}
-use Rattle.c_ints.specs.declared.types.IntTy.{IntTy}
 use Rattle.c_ints.specs.declared.types.IntTy.TheVariants as int
 use Rattle.c_typed.specs.Room.{place_room, room}
 use Rattle.c_typed.specs.Sameness.{is_pointer}
 use Rattle.c_typed.specs.Trees as tree
 use Rattle.c_typed.specs.Trees.{Expression, Place}
-use Rattle.c_typed.specs.Types.{form_of, place_bytes, place_type, type_bytes, type_of, value_bytes}
+use Rattle.c_typed.specs.Types.{form_of, place_bytes, place_type, type_bytes, value_bytes}
 use Rattle.c_typed.specs.declared.expression.StepOp.{StepOp}
 use Rattle.c_typed.specs.declared.types.Ty.{Ty}
 use Rattle.c_typed.specs.declared.types.Ty.TheVariants as types
@@ -21,11 +20,11 @@ use Rattle.lower_expr.specs.Bytes.{operation_type}
 use Rattle.lower_expr.specs.Layout.{place_width, width}
 use Rattle.lower_expr.specs.Lowering.{behind_pointer}
 use Rattle.lower_expr.specs.Rows.{keeps_old}
-use Rattle.lower_expr.specs.Spots.{pointer_bytes, spot_of}
+use Rattle.lower_expr.specs.Spots.{spot_of}
 use Rattle.lower_expr.specs.declared.places.Spot.TheVariants.{Bit}
 use Rattle.pic_world.specs.World.{World, arrived, is_due}
 use Rattle.src_rules.proofs.Rules.{assign_rule, step_rule, update_rule}
-use Rattle.src_rules.specs.Standing.{HasType, IsSpotOf, stepped}
+use Rattle.src_rules.specs.Standing.{HasType, stepped}
 use Rattle.src_rules.specs.State.{state}
 use Rattle.src_rules.specs.Step.{act}
 use Rattle.src_values.specs.Control.{Write, Pending, In, Stores}
@@ -43,7 +42,7 @@ use Rattle.lower_trace.proofs.BitReads.{BitPlace}
 use Rattle.lower_trace.proofs.BitWrites.{write_bit}
 use Rattle.lower_trace.proofs.CodeLeft.{Scene, base, code_after, core_in, ground_in, number, source_in, stored, writing, writing_at}
 use Rattle.lower_trace.proofs.Fitting.{pointer_at, step_operation, value_at, width_is}
-use Rattle.lower_trace.proofs.Giving.{Around, value_high}
+use Rattle.lower_trace.proofs.Giving.{value_high}
 use Rattle.lower_trace.proofs.Kept.{own_root}
 use Rattle.lower_trace.proofs.Known.{Known, around, resumables, small}
 use Rattle.lower_trace.proofs.Leads.{Led, Law, led_by}
