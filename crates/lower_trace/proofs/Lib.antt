@@ -126,4 +126,6 @@ pub mod LedMissing
 pub mod LedConverts
 pub mod LedSkims
 pub mod LedWrites
+pub mod TypeSizes
+pub mod PlaceSizes
 pub mod OpenLaws
