@@ -1,17 +1,16 @@
 -- How many bytes places have: each that isn't an array without a length has one at least, and one that no pointer leads to lies within its object.
-use Rattle.std.proofs.Common.{◌≡◌, ℕ, ◌+◌, ◌<◌, ◌≤◌, Bool, true, false, not, ◌&&◌, ◌||◌, if◌then◌else◌, nat_eq, pos, ◌+ℤ◌, unsigned_abs, List, [], ◌∷◌, length, Option, Some, None, slice_get, refl, sym, ap, ◌∙◌, subst, ⊎_elim, arith}
+use Rattle.std.proofs.Common.{◌≡◌, ℕ, ◌+◌, ◌<◌, ◌≤◌, Bool, true, false, ◌&&◌, ◌||◌, if◌then◌else◌, nat_eq, pos, ◌+ℤ◌, List, length, Option, Some, None, slice_get, refl, sym, ap, ◌∙◌, subst, ⊎_elim, arith}
 use Rattle.std.proofs.lemmas.Bool.{and_parts, or_cases, false≢true}
 use Rattle.std.proofs.lemmas.Option.{slice_get_within}
 use Rattle.std.specs.Option.{option_map}
 use Rattle.std.specs.Ordering.{int_eq}
 use Rattle.std.specs.Prelude.{int_lt, unwrap_or}
-use Rattle.c_ints.specs.declared.types.IntTy.TheVariants as int
 use Rattle.c_typed.specs.Fits.{declared_type, is_device, is_named, is_open, is_open_array, member_at, names_local, place_rule_holds, register_type, static_type, variable_type}
-use Rattle.c_typed.specs.Rules.{deref_fits, member_fits}
+use Rattle.c_typed.specs.Rules.{member_fits}
 use Rattle.c_typed.specs.Sameness.{is_array, is_complete, is_the, members_in, pointed, same_flag, same_qualified, same_type}
 use Rattle.c_typed.specs.Sound.{is_sound}
 use Rattle.c_typed.specs.Trees as tree
-use Rattle.c_typed.specs.Trees.{FunctionTree, MemberTree, Place, Program, StaticTree, StructureTree, VariableTree}
+use Rattle.c_typed.specs.Trees.{MemberTree, Place, Program, StaticTree, StructureTree, VariableTree}
 use Rattle.c_typed.specs.Types.{form_of, member_form, place_type, type_bytes, type_of}
 use Rattle.c_typed.specs.Views.{program_of}
 use Rattle.c_typed.specs.declared.Typed.{Typed}

@@ -166,7 +166,7 @@ module _ (z : Scene) (laws : SceneLaws z) (bounded : (o : object.Object) → IsT
         (holds_above z cp k m m' b around (omega arith) above holds)
         (if_datum z (wanted k) (ground_in z cp).copy b (datum.Number q) m' (subst (λ t. HasDatum z t b (datum.Number q) m') (sym (own_copy z cp)) h))
 
-    module _ (a : object.Object) (f g size : ℕ) (resumables : Resumables cp.root k) (some : 1 ≤ size) (there : (core_in z).program.helped n ops.Div int.Int ≡ true) (pf : IsPointer z.program (Into a f)) (pg : IsPointer z.program (Into a g)) (room : b + 4 ≤ (core_in z).program.frame_bytes n) where
+    module _ (a : object.Object) (f g size : ℕ) (resumables : Resumables cp.root k) (some : 1 ≤ size) (there : nat_eq size 1 ≡ false → (core_in z).program.helped n ops.Div int.Int ≡ true) (pf : IsPointer z.program (Into a f)) (pg : IsPointer z.program (Into a g)) (room : b + 4 ≤ (core_in z).program.frame_bytes n) where
       abbrev answer : Quantity
       answer = cut_to int.Int (int_div (far f g) (pos size))
 
@@ -235,7 +235,7 @@ module _ (z : Scene) (laws : SceneLaws z) (bounded : (o : object.Object) → IsT
           let above2 : OnlyAbove n b c.memory m2 = above_then n b c.memory m1 m2 above1 (above_written n b (b + 2) 2 m1 bits_are (omega arith)) in
           let hd : HasDatum z n b (datum.Number (sint (far f g))) m2 = λ i lt. bytes_clear m1 n (b + 2) 2 bits_are (Frame n (b + i)) (inr (inl (omega arith))) ∙ h1 i lt in
           let hs : HasDatum z n (b + 2) (datum.Number (sint (pos size))) m2 = set_there z n (b + 2) size m1 few in
-          helped_then z (core_in z) T n s W (due_below z (arrived z.outside w) due) (again_below z w) ops.Div int.Int b (b + 2) (sint (far f g)) (sint (pos size)) answer r m2 d2 0 0 tt refl (omega arith) there (omega arith) (omega arith) (omega arith)
+          helped_then z (core_in z) T n s W (due_below z (arrived z.outside w) due) (again_below z w) ops.Div int.Int b (b + 2) (sint (far f g)) (sint (pos size)) answer r m2 d2 0 0 tt refl (omega arith) (there one_is) (omega arith) (omega arith) (omega arith)
           (value_number z n b (sint (far f g)) m2 range hd) (value_number z n (b + 2) (sint (pos size)) m2 (size_range size few) hs) outcome_is p2
           (λ helped d3 p3.
           let root = (core_in z).program.root n in
@@ -247,7 +247,7 @@ module _ (z : Scene) (laws : SceneLaws z) (bounded : (o : object.Object) → IsT
           (above_written n b b 2 m3 (core.byte_of (core.Number answer)) (omega arith)) (λ i lt. bytes_there m3 n b 2 (core.byte_of (core.Number answer)) i lt) p3))))
           (omega arith) (omega arith)
 
-  same_case : (one : Bool) (a c_a : object.Object) (f g size : ℕ) (left right : Expression) (line : ℕ) (k : List Pending) (cp : CopyOf) (l : source.Memory) (w : World value.Byte) (c : Machine) → same_object a c_a ≡ one → Around z cp k → Resumables cp.root k → 1 ≤ size → (core_in z).program.helped (number z cp) ops.Div int.Int ≡ true → IsPointer z.program (Into a f) → IsPointer z.program (Into c_a g)
+  same_case : (one : Bool) (a c_a : object.Object) (f g size : ℕ) (left right : Expression) (line : ℕ) (k : List Pending) (cp : CopyOf) (l : source.Memory) (w : World value.Byte) (c : Machine) → same_object a c_a ≡ one → Around z cp k → Resumables cp.root k → 1 ≤ size → (nat_eq size 1 ≡ false → (core_in z).program.helped (number z cp) ops.Div int.Int ≡ true) → IsPointer z.program (Into a f) → IsPointer z.program (Into c_a g)
       → base (ground_in z cp) k + 4 ≤ (core_in z).program.frame_bytes (number z cp) → is_due (arrived z.outside w) ≡ false
       → Mirrors z (state cp (Value (datum.Pointer (Into c_a g))) (In (tree.Difference left right size line) (One (datum.Pointer (Into a f))) ∷ k) l w) c
       → Follow z 2250 0 c (answered (if one then answers.Gives (datum.Number (cut_to int.Int (int_div (far f g) (pos size)))) else answers.Fails Order) line k cp l (arrived z.outside w))
@@ -267,8 +267,8 @@ module _ (z : Scene) (laws : SceneLaws z) (bounded : (o : object.Object) → IsT
       (subst (λ t. Placed (core_in z) n1 None t (stack_after z g1 k) c.memory (world_as (held z) (arrived z.outside w)) c) (ap (λ t. todo (difference_row (Frame t b1) size) (code_after g1 k)) (own_copy z cp))
       (placed_of z (state cp (Value (datum.Pointer (Into c_a g))) (In e (One (datum.Pointer (Into a f))) ∷ k) l w) c h))
 
-  -- a pointer is taken from one that stands there
-  pub difference_given : (x y : Pointer) (size : ℕ) (left right : Expression) (line : ℕ) (k : List Pending) (cp : CopyOf) (l : source.Memory) (w : World value.Byte) (c : Machine) → Around z cp k → Resumables cp.root k → 1 ≤ size → (core_in z).program.helped (number z cp) ops.Div int.Int ≡ true → IsPointer z.program x → IsPointer z.program y
+  -- A pointer is taken from one that stands there. Where an element has more than one byte the distance is divided.
+  pub difference_given : (x y : Pointer) (size : ℕ) (left right : Expression) (line : ℕ) (k : List Pending) (cp : CopyOf) (l : source.Memory) (w : World value.Byte) (c : Machine) → Around z cp k → Resumables cp.root k → 1 ≤ size → (nat_eq size 1 ≡ false → (core_in z).program.helped (number z cp) ops.Div int.Int ≡ true) → IsPointer z.program x → IsPointer z.program y
       → base (ground_in z cp) k + 4 ≤ (core_in z).program.frame_bytes (number z cp) → is_due (arrived z.outside w) ≡ false
       → Mirrors z (state cp (Value (datum.Pointer y)) (In (tree.Difference left right size line) (One (datum.Pointer x)) ∷ k) l w) c
       → Follow z 2250 0 c (take_in (source_in z) (tree.Difference left right size line) (One (datum.Pointer x)) (datum.Pointer y) k cp l (arrived z.outside w))

@@ -153,18 +153,18 @@ module _ (z : Scene) (g : Setting) (T : Machine → Type 0) (n : ℕ) (s : List 
   multiples_then zero (suc e) size x b y r m c q l some lt deep xl low room hb hy p next = absurd (omega arith)
   multiples_then (suc digits) e size x b y r m c q l some lt deep xl low room hb hy p next = multiples_case (nat_lt size 2) e digits size x b y r m c q l (multiples_then digits) refl some lt deep xl low room hb hy p next
 
-  -- the number at y times the size, at b
-  pub scaled_then : (size x b y : ℕ) (r : List Task) (m : Memory) (c : Machine) (q l : ℕ) → 1 ≤ size → size < 65536 → x < 65536 → y + 2 ≤ b → b + 2 ≤ g.program.frame_bytes n → HasDatum z n y (datum.Number (uint x)) m
+  -- the number at y times the size, which has 41 binary digits at most, at b
+  pub scaled_then : (size x b y : ℕ) (r : List Task) (m : Memory) (c : Machine) (q l : ℕ) → 1 ≤ size → size < 2199023255552 → x < 65536 → y + 2 ≤ b → b + 2 ≤ g.program.frame_bytes n → HasDatum z n y (datum.Number (uint x)) m
       → Placed g n None (todo (scaled (Frame n b) (Frame n y) size) r) s m w c
-      → ((d : Machine) (m' : Memory) → OnlyAbove n b m m' → HasDatum z n b (datum.Number (uint (x * size % 65536))) m' → Placed g n None r s m' w d → Comes g T q l d) → Comes g T (1512 + q) l c
+      → ((d : Machine) (m' : Memory) → OnlyAbove n b m m' → HasDatum z n b (datum.Number (uint (x * size % 65536))) m' → Placed g n None r s m' w d → Comes g T q l d) → Comes g T (4012 + q) l c
   scaled_then size x b y r m c q l some lt xl low room hy p next =
       let m1 = with_bytes m (Frame n b) 2 (λ j. m (Frame n (y + j))) in
       let above1 = above_written n b b 2 m (λ j. m (Frame n (y + j))) (omega arith) in
-      comes_within g T (6 * 2 + (100 * 15 + q)) (2 + l) (1512 + q) l c
-      (move_then g T n None s w due now small b y 2 (todo (multiples (Frame n b) (Frame n y) size 64) r) m c (100 * 15 + q) l (inr low) room (omega arith)
+      comes_within g T (6 * 2 + (100 * 40 + q)) (2 + l) (4012 + q) l c
+      (move_then g T n None s w due now small b y 2 (todo (multiples (Frame n b) (Frame n y) size 64) r) m c (100 * 40 + q) l (inr low) room (omega arith)
       (subst (λ t. Placed g n None t s m w c) (todo_join (copies (Frame n b) (Frame n y) 2) (multiples (Frame n b) (Frame n y) size 64) r) p)
       (λ d1 p1.
-      multiples_then 64 15 size x b y r m1 d1 q l some lt (omega arith) xl low room
+      multiples_then 64 40 size x b y r m1 d1 q l some lt (omega arith) xl low room
       (λ j few. bytes_there m n b 2 (λ j. m (Frame n (y + j))) j few ∙ hy j few)
       (datum_above z n y b (datum.Number (uint x)) m m1 low above1 hy) p1
       (λ d2 m2 above2 h2 p2. next d2 m2 (above_then n b m m1 m2 above1 above2) h2 p2)))

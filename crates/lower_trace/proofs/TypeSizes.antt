@@ -1,13 +1,13 @@
 -- Each object has a byte at least, and so has each element that a pointer counts in. A number of bytes has 41 binary digits at most.
-use Rattle.std.proofs.Common.{◌≡◌, ℕ, zero, suc, ◌+◌, ◌-◌, ◌*◌, ◌^◌, ◌%◌, ◌<◌, ◌≤◌, Bool, true, false, not, ◌&&◌, if◌then◌else◌, nat_eq, nat_lt, List, [], ◌∷◌, ◌++◌, length, map, Option, Some, None, slice_get, slice_index, refl, sym, ap, ◌∙◌, subst, ⊎_elim, arith}
+use Rattle.std.proofs.Common.{◌≡◌, ℕ, zero, suc, ◌+◌, ◌-◌, ◌*◌, ◌%◌, ◌<◌, ◌≤◌, Bool, true, false, not, ◌&&◌, if◌then◌else◌, nat_eq, nat_lt, List, [], ◌∷◌, ◌++◌, length, map, Option, Some, None, slice_get, slice_index, refl, sym, ap, ◌∙◌, subst, ⊎_elim, arith}
 use Rattle.std.proofs.lemmas.Bool.{and_parts, cases_lt, false≢true}
 use Rattle.std.proofs.lemmas.Option.{same_Some}
 use Rattle.std.specs.List.{list_all}
 use Rattle.std.specs.Prelude.{is_some}
 use Rattle.c_typed.specs.Rules.{counts_in}
 use Rattle.c_typed.specs.Sameness.{is_complete, is_scalar, is_some_member, members_in, pointed}
-use Rattle.c_typed.specs.Shown.{size_of, structure_of, program_from}
-use Rattle.c_typed.specs.Sound.{array_is_there, function_fits, is_sound, kept, local_fits, members_fit, param_fits, result_fits, static_fits, statements_fit, structure_fits, target_fits, type_is_there}
+use Rattle.c_typed.specs.Shown.{size_of, structure_of}
+use Rattle.c_typed.specs.Sound.{array_is_there, function_fits, is_sound, kept, local_fits, members_fit, param_fits, result_fits, statements_fit, structure_fits, target_fits, type_is_there}
 use Rattle.c_typed.specs.Trees.{FunctionTree, MemberTree, Program, StaticTree, StructureTree, VariableTree}
 use Rattle.c_typed.specs.Types.{type_bytes}
 use Rattle.c_typed.specs.Views.{program_of}
