@@ -128,4 +128,6 @@ pub mod LedSkims
 pub mod LedWrites
 pub mod TypeSizes
 pub mod PlaceSizes
+pub mod LedPointers
+pub mod LedMoves
 pub mod OpenLaws
