@@ -2,7 +2,6 @@
 use Rattle.std.proofs.Common.{◌≡◌, ℕ, zero, suc, ◌<◌, ◌⊎◌, inl, inr, true, false, List, ◌∷◌, Option, refl, ⊎_elim, arith}
 use Rattle.std.proofs.lemmas.Bool.{cases_lt}
 use Rattle.std.specs.List.{All}
-use Rattle.c_ints.specs.Quantity.{Quantity}
 use Rattle.c_ints.specs.declared.operators.BinOp.{BinOp}
 use Rattle.c_ints.specs.declared.operators.BinOp.TheVariants as ops
 use Rattle.c_typed.specs.Sameness.{is_scalar, is_struct}
@@ -20,7 +19,6 @@ use Rattle.src_values.specs.Data as datum
 use Rattle.src_values.specs.Data.{Datum}
 use Rattle.src_values.specs.Values.{byte_count}
 use Rattle.src_values.specs.declared.objects.Byte.{Byte}
-use Rattle.src_values.specs.declared.objects.Pointer.{Pointer}
 use Rattle.src_values.specs.declared.objects.Spot.{Spot}
 use Rattle.lower_trace.specs.Lowering.{IsLowerable}
 use Rattle.lower_trace.proofs.Changing.{IsSum}
@@ -34,7 +32,9 @@ use Rattle.lower_trace.proofs.LedFetches.{fetches}
 use Rattle.lower_trace.proofs.LedLists.{spells, blanks}
 use Rattle.lower_trace.proofs.LedMissing.{apart_binaries, apart_offsets, apart_differences, missing_updates, updates_missing, missing_steps}
 use Rattle.lower_trace.proofs.LedOperators.{unaries, plain_binaries}
+use Rattle.lower_trace.proofs.LedMoves.{place_addresses, pointer_steps, pointer_updates, updates_apart}
 use Rattle.lower_trace.proofs.LedPlaces.{PlaceLaws, places}
+use Rattle.lower_trace.proofs.LedPointers.{DifferencesDivide, pointer_binaries, pointer_differences, pointer_offsets, turned_offsets}
 use Rattle.lower_trace.proofs.LedRuns.{Followed, followed}
 use Rattle.lower_trace.proofs.LedSkims.{structures_found, structures_skimmed}
 use Rattle.lower_trace.proofs.LedSteps.{NodeLaws}
@@ -42,37 +42,33 @@ use Rattle.lower_trace.proofs.LedSwitches.{comparisons}
 use Rattle.lower_trace.proofs.LedValues.{ValueLaws, values}
 use Rattle.lower_trace.proofs.LedWrites.{scalar_writes}
 use Rattle.lower_trace.proofs.Operating.{IsPlain}
+use Rattle.lower_trace.proofs.TypeSizes.{IsSized}
 
--- Two integers have a law where the operator is a sum, a comparison or a bit operator. Others are open, and so are two pointers.
+-- Two integers have a law where the operator is a sum, a comparison or a bit operator. Others are open.
 abbrev pub IsOpenBinary : BinOp → Datum → Datum → Type 0
 IsOpenBinary op (datum.Number x) (datum.Number y) = IsPlain op → ⊥
-IsOpenBinary op (datum.Pointer x) (datum.Pointer y) = Unit {0}
 IsOpenBinary op u v = ⊥
 
 -- what an update is by, and the place's value
 abbrev pub IsOpenUpdate : BinOp → Datum → Datum → Type 0
 IsOpenUpdate op (datum.Number y) (datum.Number x) = IsSum op → ⊥
-IsOpenUpdate op datum.Missing v = ⊥
-IsOpenUpdate op u datum.Missing = ⊥
-IsOpenUpdate op u v = Unit {0}
+IsOpenUpdate op u v = ⊥
 
 -- Some ask for more than is known of a state: that a number which becomes a pointer is 0, that a value which is written is the frame's
 -- and isn't missing, that a structure is never fetched as a number is, and that an item of a list has room.
 pub record OpenLaws (z : Scene) : Type 0 where
+  -- each object and each element has a byte at least, which soundness alone doesn't say
+  pub sized : IsSized z.program
   -- a null constant becomes a pointer
   pub null_converts : (operand : Expression) (ty : Ty) (line : ℕ) (v : Datum) (k : List Pending) → IsNullMade ty v → Law z (Holds v) (In (tree.Convert operand ty line) Nothing ∷ k)
   pub null_casts : (operand : Expression) (ty : Ty) (line : ℕ) (v : Datum) (k : List Pending) → IsNullMade ty v → Law z (Holds v) (In (tree.Cast operand ty line) Nothing ∷ k)
   pub known_counts : (op : BinOp) (left right : Expression) (ty : Ty) (line : ℕ) (v : Datum) (k : List Pending) → shifts_by_constant op right ≡ true → Law z (Holds v) (In (tree.Binary op left right ty line) Nothing ∷ k)
   pub binaries : (op : BinOp) (left right : Expression) (ty : Ty) (line : ℕ) (u v : Datum) (k : List Pending) → IsOpenBinary op u v → Law z (Holds v) (In (tree.Binary op left right ty line) (One u) ∷ k)
-  -- a pointer is moved, by an integer behind it or before it
-  pub offsets : (op : BinOp) (left right : Expression) (size : ℕ) (ty : Ty) (line : ℕ) (x : Pointer) (q : Quantity) (k : List Pending) → Law z (Holds (datum.Number q)) (In (tree.Offset op left right size ty line) (One (datum.Pointer x)) ∷ k)
-  pub turned_offsets : (op : BinOp) (left right : Expression) (size : ℕ) (ty : Ty) (line : ℕ) (q : Quantity) (x : Pointer) (k : List Pending) → Law z (Holds (datum.Pointer x)) (In (tree.Offset op left right size ty line) (One (datum.Number q)) ∷ k)
-  pub differences : (left right : Expression) (size line : ℕ) (x y : Pointer) (k : List Pending) → Law z (Holds (datum.Pointer y)) (In (tree.Difference left right size line) (One (datum.Pointer x)) ∷ k)
+  -- where a difference of pointers divides, its helper is there
+  pub differences_divide : DifferencesDivide z
   pub updates : (op : BinOp) (place : Place) (value : Expression) (operation : Ty) (size : ℕ) (ty : Ty) (line : ℕ) (spot : Spot) (u v : Datum) (k : List Pending) → IsOpenUpdate op u v → Law z (Holds v) (In (tree.Update op place value operation size ty line) (AtWith spot u) ∷ k)
-  pub steps : (op : StepOp) (place : Place) (operation : Ty) (size : ℕ) (ty : Ty) (line : ℕ) (spot : Spot) (x : Pointer) (k : List Pending) → Law z (Holds (datum.Pointer x)) (In (tree.Step op place operation size ty line) (At spot) ∷ k)
   -- places that are found
   pub void_reads : (place : Place) (line : ℕ) (spot : Spot) (k : List Pending) → Law z (Found spot) (In (tree.Read place types.Void line) Nothing ∷ k)
-  pub addresses : (place : Place) (ty : Ty) (line : ℕ) (spot : Spot) (k : List Pending) → Law z (Found spot) (In (tree.Address place ty line) Nothing ∷ k)
   pub known_updates : (op : BinOp) (place : Place) (value : Expression) (operation : Ty) (size : ℕ) (ty : Ty) (line : ℕ) (spot : Spot) (k : List Pending) → shifts_by_constant op value ≡ true → Law z (Found spot) (In (tree.Update op place value operation size ty line) Nothing ∷ k)
   -- bytes
   pub structures_fetched : (place : Place) (ty : Ty) (line : ℕ) (start spot : Spot) (read : List Byte) (k : List Pending) → is_scalar ty ≡ false → Law z (Fetch spot read) (In (tree.Read place ty line) (At start) ∷ k)
@@ -136,7 +132,7 @@ module _ (z : Scene) (given : IsLowerable z.program z.copies) (input : All (λ b
       (λ plain. plain_binaries z given input op left right ty line x y k plain cp l w c known due h)
       (λ other. open_laws.binaries op left right ty line (datum.Number x) (datum.Number y) k other cp l w c known due h)
       (plain_or op)
-  binaries_by op left right ty line (datum.Pointer x) (datum.Pointer y) k cp l w c known due h = open_laws.binaries op left right ty line (datum.Pointer x) (datum.Pointer y) k tt cp l w c known due h
+  binaries_by op left right ty line (datum.Pointer x) (datum.Pointer y) k cp l w c known due h = pointer_binaries z given input open_laws.sized op left right ty line x y k cp l w c known due h
   binaries_by op left right ty line (datum.Number x) (datum.Pointer y) k cp l w c known due h = apart_binaries z op left right ty line (datum.Number x) (datum.Pointer y) k tt cp l w c known due h
   binaries_by op left right ty line (datum.Pointer x) (datum.Number y) k cp l w c known due h = apart_binaries z op left right ty line (datum.Pointer x) (datum.Number y) k tt cp l w c known due h
   binaries_by op left right ty line (datum.Number x) datum.Missing k cp l w c known due h = apart_binaries z op left right ty line (datum.Number x) datum.Missing k tt cp l w c known due h
@@ -144,8 +140,8 @@ module _ (z : Scene) (given : IsLowerable z.program z.copies) (input : All (λ b
   binaries_by op left right ty line datum.Missing v k cp l w c known due h = apart_binaries z op left right ty line datum.Missing v k tt cp l w c known due h
 
   offsets_by : (op : BinOp) (left right : Expression) (size : ℕ) (ty : Ty) (line : ℕ) (u v : Datum) (k : List Pending) → Law z (Holds v) (In (tree.Offset op left right size ty line) (One u) ∷ k)
-  offsets_by op left right size ty line (datum.Pointer x) (datum.Number q) k cp l w c known due h = open_laws.offsets op left right size ty line x q k cp l w c known due h
-  offsets_by op left right size ty line (datum.Number q) (datum.Pointer x) k cp l w c known due h = open_laws.turned_offsets op left right size ty line q x k cp l w c known due h
+  offsets_by op left right size ty line (datum.Pointer x) (datum.Number q) k cp l w c known due h = pointer_offsets z given input open_laws.sized op left right size ty line x q k cp l w c known due h
+  offsets_by op left right size ty line (datum.Number q) (datum.Pointer x) k cp l w c known due h = turned_offsets z given input open_laws.sized op left right size ty line q x k cp l w c known due h
   offsets_by op left right size ty line (datum.Number q) (datum.Number y) k cp l w c known due h = apart_offsets z op left right size ty line (datum.Number q) (datum.Number y) k tt cp l w c known due h
   offsets_by op left right size ty line (datum.Number q) datum.Missing k cp l w c known due h = apart_offsets z op left right size ty line (datum.Number q) datum.Missing k tt cp l w c known due h
   offsets_by op left right size ty line (datum.Pointer x) (datum.Pointer y) k cp l w c known due h = apart_offsets z op left right size ty line (datum.Pointer x) (datum.Pointer y) k tt cp l w c known due h
@@ -153,7 +149,7 @@ module _ (z : Scene) (given : IsLowerable z.program z.copies) (input : All (λ b
   offsets_by op left right size ty line datum.Missing v k cp l w c known due h = apart_offsets z op left right size ty line datum.Missing v k tt cp l w c known due h
 
   differences_by : (left right : Expression) (size line : ℕ) (u v : Datum) (k : List Pending) → Law z (Holds v) (In (tree.Difference left right size line) (One u) ∷ k)
-  differences_by left right size line (datum.Pointer x) (datum.Pointer y) k cp l w c known due h = open_laws.differences left right size line x y k cp l w c known due h
+  differences_by left right size line (datum.Pointer x) (datum.Pointer y) k cp l w c known due h = pointer_differences z given input open_laws.sized open_laws.differences_divide left right size line x y k cp l w c known due h
   differences_by left right size line (datum.Pointer x) (datum.Number q) k cp l w c known due h = apart_differences z left right size line (datum.Pointer x) (datum.Number q) k tt cp l w c known due h
   differences_by left right size line (datum.Pointer x) datum.Missing k cp l w c known due h = apart_differences z left right size line (datum.Pointer x) datum.Missing k tt cp l w c known due h
   differences_by left right size line (datum.Number q) v k cp l w c known due h = apart_differences z left right size line (datum.Number q) v k tt cp l w c known due h
@@ -179,16 +175,16 @@ module _ (z : Scene) (given : IsLowerable z.program z.copies) (input : All (λ b
       (λ sum. number_sums z given input op place value operation size ty line spot y x k sum cp l w c known due h)
       (λ other. open_laws.updates op place value operation size ty line spot (datum.Number y) (datum.Number x) k other cp l w c known due h)
       (sum_or op)
-  updates_by op place value operation size ty line spot (datum.Number y) (datum.Pointer x) k cp l w c known due h = open_laws.updates op place value operation size ty line spot (datum.Number y) (datum.Pointer x) k tt cp l w c known due h
-  updates_by op place value operation size ty line spot (datum.Pointer y) (datum.Number x) k cp l w c known due h = open_laws.updates op place value operation size ty line spot (datum.Pointer y) (datum.Number x) k tt cp l w c known due h
-  updates_by op place value operation size ty line spot (datum.Pointer y) (datum.Pointer x) k cp l w c known due h = open_laws.updates op place value operation size ty line spot (datum.Pointer y) (datum.Pointer x) k tt cp l w c known due h
+  updates_by op place value operation size ty line spot (datum.Number y) (datum.Pointer x) k cp l w c known due h = pointer_updates z given input open_laws.sized op place value operation size ty line spot y x k cp l w c known due h
+  updates_by op place value operation size ty line spot (datum.Pointer y) (datum.Number x) k cp l w c known due h = updates_apart z given input open_laws.sized op place value operation size ty line spot y (datum.Number x) k cp l w c known due h
+  updates_by op place value operation size ty line spot (datum.Pointer y) (datum.Pointer x) k cp l w c known due h = updates_apart z given input open_laws.sized op place value operation size ty line spot y (datum.Pointer x) k cp l w c known due h
   updates_by op place value operation size ty line spot (datum.Number y) datum.Missing k cp l w c known due h = missing_updates z op place value operation size ty line spot (datum.Number y) k cp l w c known due h
   updates_by op place value operation size ty line spot (datum.Pointer y) datum.Missing k cp l w c known due h = missing_updates z op place value operation size ty line spot (datum.Pointer y) k cp l w c known due h
   updates_by op place value operation size ty line spot datum.Missing v k cp l w c known due h = updates_missing z op place value operation size ty line spot v k cp l w c known due h
 
   steps_by : (op : StepOp) (place : Place) (operation : Ty) (size : ℕ) (ty : Ty) (line : ℕ) (spot : Spot) (v : Datum) (k : List Pending) → Law z (Holds v) (In (tree.Step op place operation size ty line) (At spot) ∷ k)
   steps_by op place operation size ty line spot (datum.Number x) k cp l w c known due h = number_steps z given input op place operation size ty line spot x k cp l w c known due h
-  steps_by op place operation size ty line spot (datum.Pointer x) k cp l w c known due h = open_laws.steps op place operation size ty line spot x k cp l w c known due h
+  steps_by op place operation size ty line spot (datum.Pointer x) k cp l w c known due h = pointer_steps z given input open_laws.sized op place operation size ty line spot x k cp l w c known due h
   steps_by op place operation size ty line spot datum.Missing k cp l w c known due h = missing_steps z op place operation size ty line spot k cp l w c known due h
 
   skims_by : (place : Place) (ty : Ty) (line : ℕ) (spot : Spot) (k : List Pending) → is_scalar ty ≡ false → Law z (Found spot) (In (tree.Read place ty line) Nothing ∷ k)
@@ -251,7 +247,7 @@ module _ (z : Scene) (given : IsLowerable z.program z.copies) (input : All (λ b
   }
 
   pub place_laws : PlaceLaws z
-  place_laws = record { skims = skims_by; addresses = open_laws.addresses; known_counts = open_laws.known_updates }
+  place_laws = record { skims = skims_by; addresses = place_addresses z given input open_laws.sized; known_counts = open_laws.known_updates }
 
   pub node_laws : NodeLaws z
   node_laws = record {
