@@ -126,4 +126,10 @@ pub mod LedMissing
 pub mod LedConverts
 pub mod LedSkims
 pub mod LedWrites
+pub mod Waiting
+pub mod OpenPlaces
+pub mod CopySites
+pub mod LedCounts
+pub mod LedBytes
+pub mod LedWaits
 pub mod OpenLaws
