@@ -132,4 +132,5 @@ pub mod CopySites
 pub mod LedCounts
 pub mod LedBytes
 pub mod LedWaits
+pub mod LedConstants
 pub mod OpenLaws
