@@ -15,7 +15,7 @@ use Rattle.c_typed.specs.declared.types.Ty.TheVariants as types
 use Rattle.lower_expr.specs.Lowering.{shifts_by_constant}
 use Rattle.src_rules.proofs.Rules.{read_rule}
 use Rattle.src_rules.specs.Runs.{moment}
-use Rattle.src_values.specs.Control.{Holds, Found, Fetch, Skim, Write, PutBit, CopyRead, CopyWrite, Calls, Nothing, One, At, AtWith, Pending, In, Stores, Fills, Items, Doing, Copies}
+use Rattle.src_values.specs.Control.{Holds, Found, Fetch, Skim, Write, PutBit, CopyRead, Calls, Nothing, One, At, AtWith, Pending, In, Stores, Fills, Items, Doing, Copies}
 use Rattle.src_values.specs.Data as datum
 use Rattle.src_values.specs.Data.{Datum}
 use Rattle.src_values.specs.Values.{byte_count}
@@ -25,11 +25,15 @@ use Rattle.src_values.specs.declared.objects.Spot.{Spot}
 use Rattle.lower_trace.specs.Lowering.{IsLowerable}
 use Rattle.lower_trace.proofs.Changing.{IsSum}
 use Rattle.lower_trace.proofs.CodeLeft.{Scene, source_in}
+use Rattle.lower_trace.proofs.Entering.{bool_cases}
 use Rattle.lower_trace.proofs.Leads.{Law}
+use Rattle.lower_trace.proofs.LedBytes.{CopiesAreOpen, copy_reads as bytes_read, copy_writes}
 use Rattle.lower_trace.proofs.LedCalls.{leavings, returns}
 use Rattle.lower_trace.proofs.LedChanges.{number_steps, number_sums}
+use Rattle.lower_trace.proofs.LedConstants.{constant_updates}
 use Rattle.lower_trace.proofs.LedConverts.{IsNullMade, null_or, converts, casts}
 use Rattle.lower_trace.proofs.LedCopies.{assigns_end, items_end}
+use Rattle.lower_trace.proofs.LedCounts.{known_counts, known_updates}
 use Rattle.lower_trace.proofs.LedFetches.{fetches}
 use Rattle.lower_trace.proofs.LedLists.{spells, blanks}
 use Rattle.lower_trace.proofs.LedMissing.{apart_binaries, apart_offsets, apart_differences, missing_updates, updates_missing, missing_steps}
@@ -50,11 +54,11 @@ IsOpenBinary op (datum.Pointer x) (datum.Pointer y) = Unit {0}
 IsOpenBinary op u v = ⊥
 
 -- what an update is by, and the place's value
-abbrev pub IsOpenUpdate : BinOp → Datum → Datum → Type 0
-IsOpenUpdate op (datum.Number y) (datum.Number x) = IsSum op → ⊥
-IsOpenUpdate op datum.Missing v = ⊥
-IsOpenUpdate op u datum.Missing = ⊥
-IsOpenUpdate op u v = Unit {0}
+abbrev pub IsOpenUpdate : BinOp → Expression → Datum → Datum → Type 0
+IsOpenUpdate op value (datum.Number y) (datum.Number x) = (IsSum op → ⊥) × (shifts_by_constant op value ≡ false)
+IsOpenUpdate op value datum.Missing v = ⊥
+IsOpenUpdate op value u datum.Missing = ⊥
+IsOpenUpdate op value u v = Unit {0}
 
 -- Some ask for more than is known of a state: that a number which becomes a pointer is 0, that a value which is written is the frame's
 -- and isn't missing, that a structure is never fetched as a number is, and that an item of a list has room.
@@ -62,18 +66,16 @@ pub record OpenLaws (z : Scene) : Type 0 where
   -- a null constant becomes a pointer
   pub null_converts : (operand : Expression) (ty : Ty) (line : ℕ) (v : Datum) (k : List Pending) → IsNullMade ty v → Law z (Holds v) (In (tree.Convert operand ty line) Nothing ∷ k)
   pub null_casts : (operand : Expression) (ty : Ty) (line : ℕ) (v : Datum) (k : List Pending) → IsNullMade ty v → Law z (Holds v) (In (tree.Cast operand ty line) Nothing ∷ k)
-  pub known_counts : (op : BinOp) (left right : Expression) (ty : Ty) (line : ℕ) (v : Datum) (k : List Pending) → shifts_by_constant op right ≡ true → Law z (Holds v) (In (tree.Binary op left right ty line) Nothing ∷ k)
   pub binaries : (op : BinOp) (left right : Expression) (ty : Ty) (line : ℕ) (u v : Datum) (k : List Pending) → IsOpenBinary op u v → Law z (Holds v) (In (tree.Binary op left right ty line) (One u) ∷ k)
   -- a pointer is moved, by an integer behind it or before it
   pub offsets : (op : BinOp) (left right : Expression) (size : ℕ) (ty : Ty) (line : ℕ) (x : Pointer) (q : Quantity) (k : List Pending) → Law z (Holds (datum.Number q)) (In (tree.Offset op left right size ty line) (One (datum.Pointer x)) ∷ k)
   pub turned_offsets : (op : BinOp) (left right : Expression) (size : ℕ) (ty : Ty) (line : ℕ) (q : Quantity) (x : Pointer) (k : List Pending) → Law z (Holds (datum.Pointer x)) (In (tree.Offset op left right size ty line) (One (datum.Number q)) ∷ k)
   pub differences : (left right : Expression) (size line : ℕ) (x y : Pointer) (k : List Pending) → Law z (Holds (datum.Pointer y)) (In (tree.Difference left right size line) (One (datum.Pointer x)) ∷ k)
-  pub updates : (op : BinOp) (place : Place) (value : Expression) (operation : Ty) (size : ℕ) (ty : Ty) (line : ℕ) (spot : Spot) (u v : Datum) (k : List Pending) → IsOpenUpdate op u v → Law z (Holds v) (In (tree.Update op place value operation size ty line) (AtWith spot u) ∷ k)
+  pub updates : (op : BinOp) (place : Place) (value : Expression) (operation : Ty) (size : ℕ) (ty : Ty) (line : ℕ) (spot : Spot) (u v : Datum) (k : List Pending) → IsOpenUpdate op value u v → Law z (Holds v) (In (tree.Update op place value operation size ty line) (AtWith spot u) ∷ k)
   pub steps : (op : StepOp) (place : Place) (operation : Ty) (size : ℕ) (ty : Ty) (line : ℕ) (spot : Spot) (x : Pointer) (k : List Pending) → Law z (Holds (datum.Pointer x)) (In (tree.Step op place operation size ty line) (At spot) ∷ k)
   -- places that are found
   pub void_reads : (place : Place) (line : ℕ) (spot : Spot) (k : List Pending) → Law z (Found spot) (In (tree.Read place types.Void line) Nothing ∷ k)
   pub addresses : (place : Place) (ty : Ty) (line : ℕ) (spot : Spot) (k : List Pending) → Law z (Found spot) (In (tree.Address place ty line) Nothing ∷ k)
-  pub known_updates : (op : BinOp) (place : Place) (value : Expression) (operation : Ty) (size : ℕ) (ty : Ty) (line : ℕ) (spot : Spot) (k : List Pending) → shifts_by_constant op value ≡ true → Law z (Found spot) (In (tree.Update op place value operation size ty line) Nothing ∷ k)
   -- bytes
   pub structures_fetched : (place : Place) (ty : Ty) (line : ℕ) (start spot : Spot) (read : List Byte) (k : List Pending) → is_scalar ty ≡ false → Law z (Fetch spot read) (In (tree.Read place ty line) (At start) ∷ k)
   -- what is no structure, or one of no bytes, is read for nothing
@@ -84,10 +86,10 @@ pub record OpenLaws (z : Scene) : Type 0 where
   pub missing_writes : (local : ℕ) (e : Expression) (line : ℕ) (spot : Spot) (v : Datum) (at : ℕ) (k : List Pending) → byte_count v ≡ 0 → Law z (Write spot v at) (Doing (tree.InitScalar local e line) Fills ∷ k)
   pub item_writes : (local : ℕ) (all : List Item) (line offset : ℕ) (e : Expression) (rest : List Item) (spot : Spot) (v : Datum) (at : ℕ) (k : List Pending) → Law z (Write spot v at) (Doing (tree.InitList local all line) (Items (tree.Scalar offset e) rest) ∷ k)
   pub bits : (register number : ℕ) (v : Datum) (old : ℕ) (k : List Pending) → Law z (PutBit register number v old) k
-  -- a byte of a structure is copied, or a structure of no bytes is
-  pub copy_reads : (to from : Spot) (left : ℕ) (k : List Pending) → Law z (CopyRead to from (suc left)) k
+  -- a structure of no bytes is copied
   pub empty_items : (local : ℕ) (all : List Item) (line offset : ℕ) (other : Place) (rest : List Item) (to from : Spot) (k : List Pending) → Law z (CopyRead to from 0) (Doing (tree.InitList local all line) (Items (tree.Struct offset other 0) rest) ∷ k)
-  pub copy_writes : (to from : Spot) (byte : Byte) (left : ℕ) (k : List Pending) → Law z (CopyWrite to from byte left) k
+  -- what a structure is copied to through a pointer isn't part of a const static object
+  pub copied_open : CopiesAreOpen z
   pub calls : (k : List Pending) → Law z Calls k
 
 plain_or : (op : BinOp) → IsPlain op ⊎ (IsPlain op → ⊥)
@@ -177,7 +179,11 @@ module _ (z : Scene) (given : IsLowerable z.program z.copies) (input : All (λ b
   updates_by op place value operation size ty line spot (datum.Number y) (datum.Number x) k cp l w c known due h =
       ⊎_elim
       (λ sum. number_sums z given input op place value operation size ty line spot y x k sum cp l w c known due h)
-      (λ other. open_laws.updates op place value operation size ty line spot (datum.Number y) (datum.Number x) k other cp l w c known due h)
+      (λ other.
+      ⊎_elim
+      (λ constant. constant_updates z given input op place value operation size ty line spot y x k constant cp l w c known due h)
+      (λ no. open_laws.updates op place value operation size ty line spot (datum.Number y) (datum.Number x) k (other, no) cp l w c known due h)
+      (bool_cases (shifts_by_constant op value)))
       (sum_or op)
   updates_by op place value operation size ty line spot (datum.Number y) (datum.Pointer x) k cp l w c known due h = open_laws.updates op place value operation size ty line spot (datum.Number y) (datum.Pointer x) k tt cp l w c known due h
   updates_by op place value operation size ty line spot (datum.Pointer y) (datum.Number x) k cp l w c known due h = open_laws.updates op place value operation size ty line spot (datum.Pointer y) (datum.Number x) k tt cp l w c known due h
@@ -230,7 +236,7 @@ module _ (z : Scene) (given : IsLowerable z.program z.copies) (input : All (λ b
   writes spot v at _ cp l w c known due h = absurd known.stands.focus.node
 
   copy_reads : (to from : Spot) (left : ℕ) (k : List Pending) → Law z (CopyRead to from left) k
-  copy_reads to from (suc left) k cp l w c known due h = open_laws.copy_reads to from left k cp l w c known due h
+  copy_reads to from (suc left) k cp l w c known due h = bytes_read z given input to from left k cp l w c known due h
   copy_reads to from zero (In (tree.StructAssign place other size line) Copies ∷ k) cp l w c known due h = assigns_end z given input place other size line to from k cp l w c known due h
   copy_reads to from zero (Doing (tree.InitList local all line) (Items (tree.Struct offset other zero) rest) ∷ k) cp l w c known due h = open_laws.empty_items local all line offset other rest to from k cp l w c known due h
   copy_reads to from zero (Doing (tree.InitList local all line) (Items (tree.Struct offset other (suc size)) rest) ∷ k) cp l w c known due h = items_end z given input local all line offset other (suc size) rest to from k (omega arith) cp l w c known due h
@@ -241,7 +247,7 @@ module _ (z : Scene) (given : IsLowerable z.program z.copies) (input : All (λ b
     converts = converts_by;
     casts = casts_by;
     unaries = unaries z given input;
-    known_counts = open_laws.known_counts;
+    known_counts = known_counts z given input;
     binaries = binaries_by;
     offsets = offsets_by;
     differences = differences_by;
@@ -251,7 +257,7 @@ module _ (z : Scene) (given : IsLowerable z.program z.copies) (input : All (λ b
   }
 
   pub place_laws : PlaceLaws z
-  place_laws = record { skims = skims_by; addresses = open_laws.addresses; known_counts = open_laws.known_updates }
+  place_laws = record { skims = skims_by; addresses = open_laws.addresses; known_counts = known_updates z given input }
 
   pub node_laws : NodeLaws z
   node_laws = record {
@@ -262,7 +268,7 @@ module _ (z : Scene) (given : IsLowerable z.program z.copies) (input : All (λ b
     writes = writes;
     bits = open_laws.bits;
     copy_reads = copy_reads;
-    copy_writes = open_laws.copy_writes;
+    copy_writes = copy_writes z given input open_laws.copied_open;
     spells = spells z given input;
     blanks = blanks z given input;
     calls = open_laws.calls;
