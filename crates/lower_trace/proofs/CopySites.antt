@@ -57,7 +57,6 @@ pub record CopySite (z : Scene) (cp : CopyOf) (k : List Pending) (to from : Spot
   pub away : IsBehind (size - left) from
   pub room : b + pointer_bytes p + pointer_bytes q + 1 ≤ (core_in z).program.frame_bytes (number z cp)
   pub fixed : BothFixed p q → AreFixed z cp k
-  pub both : AreFixed z cp k → BothFixed p q
 
 -- ---- bytes behind the start of a place
 stepped_object : (n : ℕ) (at : Spot) → IsObject at → IsObject (stepped n at)
@@ -119,7 +118,6 @@ module _ (z : Scene) (given : IsLowerable z.program z.copies) (input : All (λ b
         away = behind_of size f.done left from f.other all f.read;
         room = omega arith;
         fixed = λ h. h;
-        both = λ h. h;
       }
 
   -- an item of a list of first values does
@@ -152,5 +150,4 @@ module _ (z : Scene) (given : IsLowerable z.program z.copies) (input : All (λ b
         away = behind_of size f.done left from f.other all f.read;
         room = omega arith;
         fixed = λ h. h;
-        both = λ h. h;
       }
