@@ -127,3 +127,7 @@ pub mod LedConverts
 pub mod LedSkims
 pub mod LedWrites
 pub mod OpenLaws
+pub mod CopyNumbers
+pub mod CalledCopies
+pub mod Parameters
+pub mod LedCalling
