@@ -15,7 +15,7 @@ use Rattle.c_typed.specs.declared.types.Ty.TheVariants as types
 use Rattle.lower_expr.specs.Lowering.{shifts_by_constant}
 use Rattle.src_rules.proofs.Rules.{read_rule}
 use Rattle.src_rules.specs.Runs.{moment}
-use Rattle.src_values.specs.Control.{Holds, Found, Fetch, Skim, Write, PutBit, CopyRead, CopyWrite, Calls, Nothing, One, At, AtWith, Pending, In, Stores, Fills, Items, Doing, Copies}
+use Rattle.src_values.specs.Control.{Holds, Found, Fetch, Skim, Write, PutBit, CopyRead, CopyWrite, Nothing, One, At, AtWith, Pending, In, Stores, Fills, Items, Doing, Copies}
 use Rattle.src_values.specs.Data as datum
 use Rattle.src_values.specs.Data.{Datum}
 use Rattle.src_values.specs.Values.{byte_count}
@@ -26,6 +26,7 @@ use Rattle.lower_trace.specs.Lowering.{IsLowerable}
 use Rattle.lower_trace.proofs.Changing.{IsSum}
 use Rattle.lower_trace.proofs.CodeLeft.{Scene, source_in}
 use Rattle.lower_trace.proofs.Leads.{Law}
+use Rattle.lower_trace.proofs.LedCalling.{calls}
 use Rattle.lower_trace.proofs.LedCalls.{leavings, returns}
 use Rattle.lower_trace.proofs.LedChanges.{number_steps, number_sums}
 use Rattle.lower_trace.proofs.LedConverts.{IsNullMade, null_or, converts, casts}
@@ -88,7 +89,6 @@ pub record OpenLaws (z : Scene) : Type 0 where
   pub copy_reads : (to from : Spot) (left : ℕ) (k : List Pending) → Law z (CopyRead to from (suc left)) k
   pub empty_items : (local : ℕ) (all : List Item) (line offset : ℕ) (other : Place) (rest : List Item) (to from : Spot) (k : List Pending) → Law z (CopyRead to from 0) (Doing (tree.InitList local all line) (Items (tree.Struct offset other 0) rest) ∷ k)
   pub copy_writes : (to from : Spot) (byte : Byte) (left : ℕ) (k : List Pending) → Law z (CopyWrite to from byte left) k
-  pub calls : (k : List Pending) → Law z Calls k
 
 plain_or : (op : BinOp) → IsPlain op ⊎ (IsPlain op → ⊥)
 plain_or ops.Add = inl tt
@@ -265,7 +265,7 @@ module _ (z : Scene) (given : IsLowerable z.program z.copies) (input : All (λ b
     copy_writes = open_laws.copy_writes;
     spells = spells z given input;
     blanks = blanks z given input;
-    calls = open_laws.calls;
+    calls = calls z given input;
     leavings = leavings z given input;
     compares = comparisons z given input;
   }
