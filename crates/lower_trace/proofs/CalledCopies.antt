@@ -46,9 +46,10 @@ user_called functions g (callee.Helper h) e lt = absurd (omega (arith, e, lt))
 row_is : (p : Program) (f : ℕ) → f < length p.functions → get_or (graph_of p) f [] ≡ row_of (length p.functions) (function_at p f)
 row_is p f lt =
     let n = length p.functions in
+    let none : List ℕ = [] in
     let l = length-map p.functions (row_of n) in
-    get_or_append_left (map (row_of n) p.functions) (replicate 16 []) [] f (omega (arith, l, lt))
-    ∙ get_or-map (row_of n) p.functions f (function_at p f) [] lt
+    get_or_append_left (map (row_of n) p.functions) (replicate 16 none) none f (omega (arith, l, lt))
+    ∙ get_or-map (row_of n) p.functions f (function_at p f) none lt
     ∙ ap (row_of n) (get_or_from_slice_get p.functions f (function_at p f) (function_at p f) (function_there p f lt))
 
 -- The function that is called stands among the calls of the caller's body.
@@ -56,7 +57,7 @@ pub called_among : (p : Program) (f g : ℕ) → f < length p.functions → g < 
 called_among p f g own there call =
     let n = length p.functions in
     let calls = statements_calls (function_at p f).body in
-    let m = contained_member g (map (number_of n) calls) (subst (λ row. Contains row g) (row_is p f own) call) in
+    let m = contained_member g (map (number_of n) calls) (subst (λ (row : List ℕ). Contains row g) (row_is p f own) call) in
     let r = member_mapped (number_of n) calls g m in
     subst (λ (x : FnId). Member x calls) (user_called n g r.0 r.2 there) r.1
 
