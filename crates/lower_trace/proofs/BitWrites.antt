@@ -27,16 +27,16 @@ use Rattle.lower_expr.specs.Spots.{pointer_bytes, spot_of}
 use Rattle.lower_expr.specs.declared.places.Spot.TheVariants.{Bit}
 use Rattle.lower_trace.proofs.Beginnings.{Follow}
 use Rattle.lower_trace.proofs.Bits.{bit_there, put_back_then}
-use Rattle.lower_trace.proofs.Changing.{above_written, agrees_above, holds_above}
+use Rattle.lower_trace.proofs.Changing.{above_written, agrees_above}
 use Rattle.lower_trace.proofs.CodeLeft.{Scene, base, code_after, core_in, ground_in, held, number, source_in, stack_after, stored, stored_at, todo, wanted, writing, writing_at}
 use Rattle.lower_trace.proofs.Constants.{again_below, due_below}
 use Rattle.lower_trace.proofs.FixedPlaces.{device_valid}
 use Rattle.lower_trace.proofs.Flow.{arrive}
-use Rattle.lower_trace.proofs.Giving.{Around, agrees_same, mirrors, placed_of, value_high}
+use Rattle.lower_trace.proofs.Giving.{agrees_same, mirrors, placed_of}
 use Rattle.lower_trace.proofs.Handing.{own_result}
 use Rattle.lower_trace.proofs.Jumping.{join_then}
 use Rattle.lower_trace.proofs.Kept.{SameFrame, SceneLaws, own_copy}
-use Rattle.lower_trace.proofs.Mirrors.{HasDatum, HasIf, Mirrors, core_byte}
+use Rattle.lower_trace.proofs.Mirrors.{HasDatum, HasIf, Holds, Mirrors, core_byte}
 use Rattle.lower_trace.proofs.Moving.{binary_any_then, set_result_then}
 use Rattle.lower_trace.proofs.Operating.{itself, value_number}
 use Rattle.lower_trace.proofs.Operations.{Comes, beyond_is, comes_first, comes_here, comes_within, own_frame}
@@ -48,6 +48,7 @@ use Rattle.pic_world.specs.World.{Happening, World, WriteOf, after_device_read, 
 use Rattle.pic_world.specs.declared.Cell.TheVariants as cells
 use Rattle.pic_world.specs.declared.Root.{Root}
 use Rattle.src_rules.specs.Accesses.{after_putting, put_bit, read_bit}
+use Rattle.src_rules.specs.Standing.{IsReached}
 use Rattle.src_rules.specs.State.{state}
 use Rattle.src_values.specs.Accesses.{Puts, Refuses}
 use Rattle.src_values.specs.Control.{In, Pending, PutBit, Stores, Holds as Value, Write, active, line_at}
@@ -100,7 +101,9 @@ pub one_there : (m : Memory) (root : Root) → value_in int.UChar (with_byte m (
 unfolding value_in
 one_there m root = ap (λ x. core.or_number None (option_map (λ i. core.Number (cut_to int.UChar (pos i))) (core.with_low x (Some 0)))) (on (bytes.same_byte (Result root 0) (Result root 0)) (bytes.Number 1) (m (Result root 0)) (byte_same (Result root 0)))
 
-module _ (z : Scene) (laws : SceneLaws z) (cp : CopyOf) (k : List Pending) (l : source.Memory) (around : Around z cp k) (resumables : Resumables cp.root k) (register bit_is count from : ℕ) (pointer : Byte) (code_is : (a : spot.Spot) (i : ℕ) → writing_at z (ground_in z cp) k a i ≡ writing z cp.root (Bit register bit_is) a pointer (Frame (ground_in z cp).copy from) count i (code_after (ground_in z cp) k)) (from_is : stored_at (ground_in z cp) k ≡ from) (room : from + 1 ≤ (core_in z).program.frame_bytes (number z cp)) (high : base (ground_in z cp) k ≤ from) (known : is_device register ≡ true) (small_bit : bit_is < 8) where
+-- What waits keeps what it has where the byte at `from` changes: it is the one byte of the value that is written.
+module _ (z : Scene) (laws : SceneLaws z) (cp : CopyOf) (k : List Pending) (l : source.Memory) (reached : IsReached z.program cp) (resumables : Resumables cp.root k) (register bit_is count from : ℕ) (pointer : Byte) (code_is : (a : spot.Spot) (i : ℕ) → writing_at z (ground_in z cp) k a i ≡ writing z cp.root (Bit register bit_is) a pointer (Frame (ground_in z cp).copy from) count i (code_after (ground_in z cp) k)) (from_is : stored_at (ground_in z cp) k ≡ from) (room : from + 1 ≤ (core_in z).program.frame_bytes (number z cp)) (above_locals : (ground_in z cp).base ≤ from)
+    (kept : (m : Memory) (h : ℕ → Held) → Holds z (ground_in z cp) k m → Holds z (ground_in z cp) k (with_bytes m (Frame (number z cp) from) 1 h)) (known : is_device register ≡ true) (small_bit : bit_is < 8) where
   -- the register is read
   pub write_bit : (q : ℤ) (line : ℕ) (w : World value.Byte) (c : Machine) → IsInRange int.UChar q → is_due (arrived z.outside w) ≡ false
       → Mirrors z (state cp (Write (spots.Bit register bit_is) (datum.Number (record { ty = int.UChar; number = q })) 0) k l w) c
@@ -124,7 +127,7 @@ module _ (z : Scene) (laws : SceneLaws z) (cp : CopyOf) (k : List Pending) (l : 
       let m1 = with_byte c.memory (Result cp.root 0) (bytes.Number 1) in
       let m2 = with_bytes m1 (Frame n from) 1 (core.byte_of (core.Number o)) in
       let R = code_after g k in
-      let own = own_result (core_in z) n 0 cp.root (laws.roots cp around.reached) (omega arith) in
+      let own = own_result (core_in z) n 0 cp.root (laws.roots cp reached) (omega arith) in
       let hx : HasDatum z n from v m1 = λ i lt. ap (λ y. c.memory (Frame y (from + i))) (sym (own_copy z cp)) ∙ ap (λ y. c.memory (Frame g.copy (y + i))) (sym from_is) ∙ h.value i lt in
       let frames : (i : ℕ) → SameFrame i c.memory m1 = λ i y. refl in
       let zero_is : from ≡ from + 0 = omega arith in
@@ -145,8 +148,8 @@ module _ (z : Scene) (laws : SceneLaws z) (cp : CopyOf) (k : List Pending) (l : 
       (λ f pf. mirrors z cp (PutBit register bit_is v old) k l w' m2 f
       (subst (λ y. Placed (core_in z) n None (y ∷ Join ∷ R) (stack_after z g k) m2 (world_as (held z) (arrived z.outside w')) f) later
       (subst (λ y. Placed (core_in z) n None (PutBack register (core_machine.with_bit bit_is (low % 2) (device_value z.outside register W)) ∷ Join ∷ R) (stack_after z g k) m2 y f) (ap (arrived z.outside) (read_as (held z) values.Number z.outside register V) ∙ arrived_as (held z) z.outside w') pf))
-      (agrees_above z laws cp (active cp (PutBit register bit_is v old) k) l m1 m2 from around.reached (let y = value_high z cp k around in omega arith) (above_written n from from 1 m1 (core.byte_of (core.Number o)) (omega arith)) (agrees_same z (active cp (PutBit register bit_is v old) k) l c.memory m1 (λ ob at there lt. untouched z cp.root c.memory ob at) h.agrees))
-      (holds_above z cp k m1 m2 from around high (above_written n from from 1 m1 (core.byte_of (core.Number o)) (omega arith)) (holds_frames z cp.root cp k c.memory m1 resumables frames (set_others cp.root 0 (bytes.Number 1) c.memory) h.holds))
+      (agrees_above z laws cp (active cp (PutBit register bit_is v old) k) l m1 m2 from reached above_locals (above_written n from from 1 m1 (core.byte_of (core.Number o)) (omega arith)) (agrees_same z (active cp (PutBit register bit_is v old) k) l c.memory m1 (λ ob at there lt. untouched z cp.root c.memory ob at) h.agrees))
+      (kept m1 (core.byte_of (core.Number o)) (holds_frames z cp.root cp k c.memory m1 resumables frames (set_others cp.root 0 (bytes.Number 1) c.memory) h.holds))
       (λ i lt.
       let none : i ≡ 0 = omega arith in
       ap (λ y. m2 (Frame y (stored_at g k + i))) (own_copy z cp) ∙ ap (λ y. m2 (Frame n (y + i))) from_is ∙ ap (λ y. m2 (Frame n (from + y))) none ∙ ap (λ y. m2 (Frame n y)) (sym zero_is) ∙ bit_is_there
@@ -157,7 +160,8 @@ module _ (z : Scene) (laws : SceneLaws z) (cp : CopyOf) (k : List Pending) (l : 
       untouched z root m (objects.Fixed i) at = refl
       untouched z root m (objects.Variable d i) at = refl
 
-  -- and written
+-- The register is written back: an event. Behind it the operation is over.
+module _ (z : Scene) (cp : CopyOf) (k : List Pending) (l : source.Memory) (register bit_is : ℕ) (known : is_device register ≡ true) (join_is : writing_at z (ground_in z cp) k (spots.Bit register bit_is) 1 ≡ Join ∷ code_after (ground_in z cp) k) where
   put_case : (sets : Bool) (event : Option (Happening value.Byte)) (v : Datum) (old line : ℕ) (w : World value.Byte) (c : Machine) → sets_gie register (core_machine.with_bit bit_is (lowest_bit v) old) (arrived z.outside w) ≡ sets → is_due (arrived z.outside w) ≡ false
       → Mirrors z (state cp (PutBit register bit_is v old) k l w) c
       → Follow z 3 0 c (after_putting (if sets then Refuses Gie else Puts l (after_device_write values.Number register (core_machine.with_bit bit_is (lowest_bit v) old) (arrived z.outside w)) event) (Write (spots.Bit register bit_is) v 1) cp k line)
@@ -174,7 +178,7 @@ module _ (z : Scene) (laws : SceneLaws z) (cp : CopyOf) (k : List Pending) (l : 
       put_back_then (core_in z) T n None (stack_after z g k) W (due_below z V due) (again_below z w) register x (Join ∷ code_after g k) c.memory c (device_valid (core_in z).program n register known) (gie_as (held z) register x V ∙ gie)
       (placed_of z (state cp (PutBit register bit_is v old) k l w) c h)
       (λ d pd. mirrors z cp (Write (spots.Bit register bit_is) v 1) k l w' c.memory d
-      (subst (λ y. Placed (core_in z) n None y (stack_after z g k) c.memory (world_as (held z) (arrived z.outside w')) d) (sym (code_is (spots.Bit register bit_is) 1))
+      (subst (λ y. Placed (core_in z) n None y (stack_after z g k) c.memory (world_as (held z) (arrived z.outside w')) d) (sym join_is)
       (subst (λ y. Placed (core_in z) n None (Join ∷ code_after g k) (stack_after z g k) c.memory y d) (ap (arrived z.outside) (write_as (held z) values.Number register x V) ∙ arrived_as (held z) z.outside w') pd))
       h.agrees h.holds h.value)
 

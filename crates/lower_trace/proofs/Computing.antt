@@ -109,7 +109,7 @@ binary_given z laws op left right ty line x y k cp l w c around plain type same 
     ∙ ap (λ t. Todo [] (code.Binary op (operation_type t) (Frame g.copy b) (Frame g.copy b) (Frame g.copy (beyond b (value_width g.layout left)))) ∷ code_after g k) type
     ∙ ap (λ f. Todo [] (code.Binary op x.ty (Frame g.copy b) (Frame g.copy b) (Frame g.copy f)) ∷ code_after g k) second
     ∙ ap (λ f. Todo [] (code.Binary op x.ty (Frame f b) (Frame f b) (Frame f (b + i))) ∷ code_after g k) (own_copy z cp) in
-    let hx : HasDatum z n b (datum.Number x) c.memory = subst (λ f. HasDatum z f b (datum.Number x) c.memory) (own_copy z cp) h.holds.0 in
+    let hx : HasDatum z n b (datum.Number x) c.memory = subst (λ f. HasDatum z f b (datum.Number x) c.memory) (own_copy z cp) h.holds.0.0 in
     let hy : HasDatum z n (b + i) (datum.Number y) c.memory = subst (λ f. HasDatum z n f (datum.Number y) c.memory) second (subst (λ f. HasDatum z f (beyond b (value_width g.layout left)) (datum.Number y) c.memory) (own_copy z cp) h.value) in
     subst (λ a. Follow z (10 * i + 30) 1 c (answered a line k cp l (arrived z.outside w))) (sym (plain_answer z.program (active cp (Value (datum.Number y)) k) op ty x y plain))
     (comes_within (core_in z) T (10 * i + 30 + 0) (1 + 0) (10 * i + 30) 1 c

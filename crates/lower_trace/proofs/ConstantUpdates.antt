@@ -38,7 +38,7 @@ use Rattle.lower_trace.proofs.Flow.{arrive}
 use Rattle.lower_trace.proofs.Giving.{Around, placed_of, value_high}
 use Rattle.lower_trace.proofs.Helped.{Shifts, count_small, count_there, shift_bad, shift_right}
 use Rattle.lower_trace.proofs.Kept.{SceneLaws, at_same, bytes_small, own_copy}
-use Rattle.lower_trace.proofs.Mirrors.{HasDatum, Mirrors}
+use Rattle.lower_trace.proofs.Mirrors.{HasBits, HasDatum, Mirrors}
 use Rattle.lower_trace.proofs.Narrowing.{narrow_bytes}
 use Rattle.lower_trace.proofs.Operating.{value_number}
 use Rattle.lower_trace.proofs.Operations.{Comes, comes_within}
@@ -80,11 +80,11 @@ pub record ShiftsPlace (z : Scene) (cp : CopyOf) (k : List Pending) (sought : Pl
 
 module _ (z : Scene) (laws : SceneLaws z) where
   -- the count's value is there, and byte code stands where the place was found: the place is read
-  count_reads : (op : BinOp) (to : Place) (right : Expression) (operation : Ty) (size : ℕ) (ty : Ty) (line : ℕ) (at : spot.Spot) (v : Datum) (k : List Pending) (cp : CopyOf) (l : source.Memory) (w : World value.Byte) (c : Machine) → shifts_by_constant op right ≡ true
+  count_reads : (op : BinOp) (to : Place) (right : Expression) (operation : Ty) (size : ℕ) (ty : Ty) (line : ℕ) (at : spot.Spot) (v : Datum) (k : List Pending) (cp : CopyOf) (l : source.Memory) (w : World value.Byte) (c : Machine) → shifts_by_constant op right ≡ true → HasBits right v
       → Mirrors z (state cp (Found at) (In (tree.Update op to right operation size ty line) Nothing ∷ k) l w) c
       → Comes (core_in z) (Mirrors z (state cp (Fetch at []) (In (tree.Update op to right operation size ty line) (AtWith at v) ∷ k) l (arrived z.outside w))) 0 0 c
   unfolding active
-  count_reads op to right operation size ty line at v k cp l w c constant h =
+  count_reads op to right operation size ty line at v k cp l w c constant bits_are h =
       let e = tree.Update op to right operation size ty line in
       let g = ground_in z cp in
       let b = base g k in
@@ -93,16 +93,16 @@ module _ (z : Scene) (laws : SceneLaws z) where
       rests z cp (Found at) (Fetch at []) (In e Nothing ∷ k) (In e (AtWith at v) ∷ k) l l w c h refl
       (ap (λ f. todo (change_code f (expr_code g.layout g.copy (behind_pointer g.layout g.copy b to) true right) ++ row) (code_after g k)) constant
       ∙ update_row_is z (wanted k) g.layout op to right operation size s at g.layout.root (Frame g.copy b) (place_width g.layout to) (place_type to).ty (code_after g k))
-      refl h.agrees ((h.value to refl, λ plain. absurd (let q = sym constant ∙ plain in cc)), h.holds.1) (λ i lt. absurd (in_place_none s at i lt))
+      refl h.agrees ((h.value to refl, λ plain. absurd (let q = sym constant ∙ plain in cc), λ e. bits_are), h.holds.1) (λ i lt. absurd (in_place_none s at i lt))
 
-  pub count_given : (op : BinOp) (to : Place) (right : Expression) (operation : Ty) (size : ℕ) (ty : Ty) (line : ℕ) (at : spot.Spot) (v : Datum) (k : List Pending) (cp : CopyOf) (l : source.Memory) (w : World value.Byte) (c : Machine) → shifts_by_constant op right ≡ true → is_scalar ty ≡ true
+  pub count_given : (op : BinOp) (to : Place) (right : Expression) (operation : Ty) (size : ℕ) (ty : Ty) (line : ℕ) (at : spot.Spot) (v : Datum) (k : List Pending) (cp : CopyOf) (l : source.Memory) (w : World value.Byte) (c : Machine) → shifts_by_constant op right ≡ true → HasBits right v → is_scalar ty ≡ true
       → Mirrors z (state cp (Found at) (In (tree.Update op to right operation size ty line) Nothing ∷ k) l w) c
       → Follow z 0 0 c (take_in (source_in z) (tree.Update op to right operation size ty line) (At at) v k cp l (arrived z.outside w))
-  count_given op to right operation size (types.Int t) line at v k cp l w c constant scalar h = count_reads op to right operation size (types.Int t) line at v k cp l w c constant h
-  count_given op to right operation size (types.Pointer row) line at v k cp l w c constant scalar h = count_reads op to right operation size (types.Pointer row) line at v k cp l w c constant h
-  count_given op to right operation size types.Void line at v k cp l w c constant scalar h = absurd (cc)
-  count_given op to right operation size (types.Array element count room) line at v k cp l w c constant scalar h = absurd (cc)
-  count_given op to right operation size (types.Struct number) line at v k cp l w c constant scalar h = absurd (cc)
+  count_given op to right operation size (types.Int t) line at v k cp l w c constant bits_are scalar h = count_reads op to right operation size (types.Int t) line at v k cp l w c constant bits_are h
+  count_given op to right operation size (types.Pointer row) line at v k cp l w c constant bits_are scalar h = count_reads op to right operation size (types.Pointer row) line at v k cp l w c constant bits_are h
+  count_given op to right operation size types.Void line at v k cp l w c constant bits_are scalar h = absurd (cc)
+  count_given op to right operation size (types.Array element count room) line at v k cp l w c constant bits_are scalar h = absurd (cc)
+  count_given op to right operation size (types.Struct number) line at v k cp l w c constant bits_are scalar h = absurd (cc)
 
   -- the place's value is there: it is shifted
   update_case : (bad : Option Undef) (o : Option Quantity) (op : BinOp) (to : Place) (right : Expression) (t : IntTy) (size line : ℕ) (at : spot.Spot) (x y : Quantity) (left_at right_at less : ℕ) (k : List Pending) (cp : CopyOf) (l : source.Memory) (w : World value.Byte) (c : Machine) → bad_right op (types.Int t) (datum.Number y) ≡ bad → outcome op (cut_to t x.number) y ≡ o → Shifts op → shifts_by_constant op right ≡ true

@@ -355,7 +355,7 @@ module _ (z : Scene) (c : CopyOf) where
 
   stored_for_fits : (t : Statement) (stage : Stage) (k : List Pending) (m : source.Memory) (w : World Byte) → Has t → StageFits z c t stage → StackFits z c k → KeepsFits z (stored_for (source_in z) t stage k c m w)
   stored_for_fits (tree.InitScalar local e line) Fills k m w has s st = (tt, st)
-  stored_for_fits (tree.InitList local all line) (Items item rest) k m w has s st = items_fit local all line _ rest k m w has s st
+  stored_for_fits (tree.InitList local all line) (Items item rest) k m w has s st = let q = (two_parts (item_room sizes item) (items_room sizes rest)).1 in items_fit local all line _ rest k m w has (omega arith) st
   stored_for_fits (tree.InitList local all line) Blanks k m w has s st = (tt, st)
   stored_for_fits _ _ k m w has s st = tt
 

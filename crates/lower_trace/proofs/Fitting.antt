@@ -49,8 +49,8 @@ FocusFits z c _ k = Unit {0}
 abbrev pub StageFits : Scene → CopyOf → Statement → Stage → Type 0
 StageFits z c (tree.If chain otherwise line) (Picks arm more) = ((ground_in z c).base + arm_room z.program.sizes arm ≤ frame_of z c) × ((ground_in z c).base + arms_room z.program.sizes more ≤ frame_of z c) × ArmShaped arm × ArmsShaped more × (arm_count more < arm_count chain)
 StageFits z c t (InArm more) = (ground_in z c).base + arms_room z.program.sizes more ≤ frame_of z c
-StageFits z c t (AtItem item rest) = (ground_in z c).base + items_room z.program.sizes rest ≤ frame_of z c
-StageFits z c t (Items item rest) = (ground_in z c).base + items_room z.program.sizes rest ≤ frame_of z c
+StageFits z c t (AtItem item rest) = (ground_in z c).base + items_room z.program.sizes (item ∷ rest) ≤ frame_of z c
+StageFits z c t (Items item rest) = (ground_in z c).base + items_room z.program.sizes (item ∷ rest) ≤ frame_of z c
 StageFits z c _ _ = Unit {0}
 
 abbrev pub StackFits : Scene → CopyOf → List Pending → Type 0

@@ -18,7 +18,7 @@ use Rattle.lower_trace.proofs.Kept.{Reached, SceneLaws}
 use Rattle.lower_trace.proofs.MemberPlaces.{fixed_bytes}
 use Rattle.lower_trace.proofs.Members.{byte_is_so}
 use Rattle.lower_trace.proofs.Mirrors.{Mirrors, core_byte}
-use Rattle.lower_trace.proofs.Operations.{beyond_is, comes_here, comes_within, own_frame, read_then, write_then}
+use Rattle.lower_trace.proofs.Operations.{comes_here, comes_within, own_frame, read_then, write_then}
 use Rattle.lower_trace.proofs.Pausing.{CopyPauses, Leads, Stands}
 use Rattle.lower_trace.proofs.Placed.{Placed}
 use Rattle.lower_trace.proofs.Placing.{writable_so}
@@ -44,6 +44,7 @@ use Rattle.src_values.specs.declared.objects.Spot as spot
 use Rattle.src_values.specs.declared.objects.Spot.TheVariants as spots
 use Rattle.src_values.specs.declared.objects.Undef.{Undef}
 use Rattle.std.proofs.Common.{List, None, Option, Some, [], ap, arith, false, inl, inr, length, nat_eq, not, refl, subst, suc, sym, true, ℕ, ◌+◌, ◌-◌, ◌<◌, ◌∙◌, ◌∷◌, ◌≡◌, ◌≤◌}
+use Rattle.std.proofs.lemmas.Grind.{common_steps}
 
 -- ---- objects that a body names
 pub own_there : (z : Scene) (cp : CopyOf) (k : List Pending) (o : object.Object) (f : ℕ) → Around z cp k → IsOwnSpot z cp (spots.Memory (Into o f)) → IsThere z.program o
@@ -69,15 +70,19 @@ own_byte z laws cp k (objects.Variable d i) f around own inside room =
       valid = ap (λ y. is_valid (core_in z).program n (Frame y (variable_offset z.program d.function i + f))) same ∙ own_frame (core_in z).program n (variable_offset z.program d.function i + f) 1 (omega arith);
     }
 
-module _ (z : Scene) (laws : SceneLaws z) (cp : CopyOf) (k : List Pending) (l : source.Memory) (around : Around z cp k) (reach : Reached z (ground_in z cp) k) (X Y : Byte) (b size : ℕ) (node : CopyNode z cp k (Fixed X) (Fixed Y) b size) (few : size ≤ 65535) (room : (ground_in z cp).base ≤ (core_in z).program.frame_bytes (number z cp)) where
+-- byte code has an operation for each byte of the first 65,535, and no object has more
+counted : (size done : ℕ) → done < size → done < 65535 → done < beyond 0 size
+unfolding beyond
+counted size done part near = grind (arith, common_steps)
+
+module _ (z : Scene) (laws : SceneLaws z) (cp : CopyOf) (k : List Pending) (l : source.Memory) (around : Around z cp k) (reach : Reached z (ground_in z cp) k) (X Y : Byte) (b size : ℕ) (node : CopyNode z cp k (Fixed X) (Fixed Y) b size) (room : (ground_in z cp).base ≤ (core_in z).program.frame_bytes (number z cp)) where
   -- the copy of the byte that comes next
   abbrev rest : ℕ → List Task
   rest done = todo (copies_from X Y (done + 1) (beyond 0 size - (done + 1))) (code_after (ground_in z cp) k)
 
-  code_now : (left : ℕ) → suc left ≤ size → copying_at (ground_in z cp) k (suc left) ≡ Todo [] (code.Copy (behind X (size - suc left)) (behind Y (size - suc left))) ∷ rest (size - suc left)
-  code_now left part =
-      let small = beyond_is 0 size (omega arith) in
-      node.code (suc left) ∙ ap (λ y. todo y (code_after (ground_in z cp) k)) (copies_step X Y (size - suc left) (beyond 0 size) (omega arith))
+  code_now : (left : ℕ) → suc left ≤ size → size - suc left < 65535 → copying_at (ground_in z cp) k (suc left) ≡ Todo [] (code.Copy (behind X (size - suc left)) (behind Y (size - suc left))) ∷ rest (size - suc left)
+  code_now left part near =
+      node.code (suc left) ∙ ap (λ y. todo y (code_after (ground_in z cp) k)) (copies_step X Y (size - suc left) (beyond 0 size) (counted size (size - suc left) (omega arith) near))
 
   -- the next byte lies behind this one
   next_there : (x : Byte) (o : object.Object) (f left : ℕ) → suc left ≤ size → IsThere z.program o → f < object_bytes z.program o → Some (core_byte z o f) ≡ Some (behind x (size - suc left)) → Some (core_byte z o (f + 1)) ≡ Some (behind x (size - left))
@@ -86,13 +91,13 @@ module _ (z : Scene) (laws : SceneLaws z) (cp : CopyOf) (k : List Pending) (l : 
       ap Some (sym (fixed_bytes z laws o f 1 there (omega arith)) ∙ ap (λ y. behind y 1) (byte_is_so (core_byte z o f) (behind x (size - suc left)) is) ∙ behind_next x (size - suc left) ∙ ap (behind x) e)
 
   -- ---- a byte of a static object is read
-  static_case : (fault : Option Undef) (i f : ℕ) (to : spot.Spot) (left line : ℕ) (w : World value.Byte) (c : Machine) → suc left ≤ size → i < length z.program.statics → is_due (arrived z.outside w) ≡ false
+  static_case : (fault : Option Undef) (i f : ℕ) (to : spot.Spot) (left line : ℕ) (w : World value.Byte) (c : Machine) → suc left ≤ size → size - suc left ≤ f → i < length z.program.statics → is_due (arrived z.outside w) ≡ false
       → read_fault z.program (active cp (CopyRead to (spots.Memory (Into (objects.Fixed i) f)) (suc left)) k) cp.root is_any (objects.Fixed i) f (l (objects.Fixed i) f) ≡ fault
       → Mirrors z (state cp (CopyRead to (spots.Memory (Into (objects.Fixed i) f)) (suc left)) k l w) c
       → Leads z 6 0 c (after_taking (taken_unless fault (l (objects.Fixed i) f) (arrived z.outside w) (event_at z.program ReadOf (objects.Fixed i) f (l (objects.Fixed i) f))) (λ byte. CopyWrite to (spots.Memory (Into (objects.Fixed i) f)) byte left) cp k l line)
   unfolding active held_at after_read is_valid
-  static_case (Some kind) i f to left line w c part there due e h = tt
-  static_case None i f to left line w c part there due e h =
+  static_case (Some kind) i f to left line w c part near there due e h = tt
+  static_case None i f to left line w c part near there due e h =
       let n = number z cp in
       let g = ground_in z cp in
       let o = objects.Fixed i in
@@ -105,6 +110,8 @@ module _ (z : Scene) (laws : SceneLaws z) (cp : CopyOf) (k : List Pending) (l : 
       let ok = readable z (cp ∷ callers k) cp.root is_any o f byte e in
       let size_is = laws.statics i there in
       let inside = ok.inside in
+      let few = laws.fits o there in
+      let reach_is = laws.reach o there in
       let same : 0 + f ≡ f = omega arith in
       let U = Stands z (state cp (CopyWrite to from byte left) k l w') in
       let there_is : c.memory (Static i (0 + f)) ≡ held z byte = set_agrees z byte (c.memory (core_byte z o f)) ok.set (h.agrees o f there ok.alive ok.inside) in
@@ -118,7 +125,7 @@ module _ (z : Scene) (laws : SceneLaws z) (cp : CopyOf) (k : List Pending) (l : 
       ∙ noted_if z (is_watched z.program o) (ReadOf (cells.Static i f) byte) V in
       comes_within (core_in z) U 3 1 6 0 c
       (read_then (core_in z) U n None (stack_after z g k) W (due_below z V due) (again_below z w) (behind X done) (Static i (0 + f)) (rest done) c.memory c refl (lt_true (0 + f) (static_bytes (core_in z).program i) (omega arith))
-      (subst (λ y. Placed (core_in z) n None y (stack_after z g k) c.memory W c) (code_now left part ∙ ap (λ y. Todo [] (code.Copy (behind X done) y) ∷ rest done) source_is) (placed_of z (state cp (CopyRead to from (suc left)) k l w) c h))
+      (subst (λ y. Placed (core_in z) n None y (stack_after z g k) c.memory W c) (code_now left part (omega arith) ∙ ap (λ y. Todo [] (code.Copy (behind X done) y) ∷ rest done) source_is) (placed_of z (state cp (CopyRead to from (suc left)) k l w) c h))
       (λ d pd. inl
       (mirrors z cp (CopyWrite to from byte left) k l w' c.memory d
       (subst (λ y. Placed (core_in z) n None y (stack_after z g k) c.memory (world_as (held z) (arrived z.outside w')) d) later
@@ -155,13 +162,13 @@ module _ (z : Scene) (laws : SceneLaws z) (cp : CopyOf) (k : List Pending) (l : 
       quiet_again : (w : World value.Byte) → is_due (arrived z.outside w) ≡ false → is_due (arrived z.outside (arrived z.outside w)) ≡ false
       quiet_again w due = ap is_due (arrived_again z.outside w) ∙ due
 
-  pub fixed_copy_read : (to : spot.Spot) (o : object.Object) (f left : ℕ) (w : World value.Byte) (c : Machine) → suc left ≤ size → IsOwnSpot z cp (spots.Memory (Into o f)) → is_due (arrived z.outside w) ≡ false
+  pub fixed_copy_read : (to : spot.Spot) (o : object.Object) (f left : ℕ) (w : World value.Byte) (c : Machine) → suc left ≤ size → size - suc left ≤ f → IsOwnSpot z cp (spots.Memory (Into o f)) → is_due (arrived z.outside w) ≡ false
       → Mirrors z (state cp (CopyRead to (spots.Memory (Into o f)) (suc left)) k l w) c
       → Leads z 6 0 c (copy_read (source_in z) to (spots.Memory (Into o f)) (suc left) k cp l (arrived z.outside w))
   unfolding take_byte
-  fixed_copy_read to (objects.Fixed i) f left w c part own due h =
-      static_case (read_fault z.program (active cp (CopyRead to (spots.Memory (Into (objects.Fixed i) f)) (suc left)) k) cp.root is_any (objects.Fixed i) f (l (objects.Fixed i) f)) i f to left (line_at k) w c part own due refl h
-  fixed_copy_read to (objects.Variable d i) f left w c part own due h =
+  fixed_copy_read to (objects.Fixed i) f left w c part near own due h =
+      static_case (read_fault z.program (active cp (CopyRead to (spots.Memory (Into (objects.Fixed i) f)) (suc left)) k) cp.root is_any (objects.Fixed i) f (l (objects.Fixed i) f)) i f to left (line_at k) w c part near own due refl h
+  fixed_copy_read to (objects.Variable d i) f left w c part near own due h =
       variable_case (read_fault z.program (active cp (CopyRead to (spots.Memory (Into (objects.Variable d i) f)) (suc left)) k) cp.root is_any (objects.Variable d i) f (l (objects.Variable d i) f)) d i f to left (line_at k) w c due refl h
 
   -- ---- the byte is written
@@ -201,13 +208,13 @@ module _ (z : Scene) (laws : SceneLaws z) (cp : CopyOf) (k : List Pending) (l : 
       (omega arith) (omega arith)
 
   -- it is still to be read
-  paused_case : (fault : Option Undef) (o : object.Object) (d : CopyOf) (i f e : ℕ) (byte : value.Byte) (left line : ℕ) (w : World value.Byte) (c : Machine) → suc left ≤ size → IsOwnSpot z cp (spots.Memory (Into o f)) → IsOpen z (spots.Memory (Into o f)) → IsOwnSpot z cp (spots.Memory (Into (objects.Variable d i) e))
+  paused_case : (fault : Option Undef) (o : object.Object) (d : CopyOf) (i f e : ℕ) (byte : value.Byte) (left line : ℕ) (w : World value.Byte) (c : Machine) → suc left ≤ size → size - suc left ≤ e → IsOwnSpot z cp (spots.Memory (Into o f)) → IsOpen z (spots.Memory (Into o f)) → IsOwnSpot z cp (spots.Memory (Into (objects.Variable d i) e))
       → write_fault z.program (active cp (CopyWrite (spots.Memory (Into o f)) (spots.Memory (Into (objects.Variable d i) e)) byte left) k) cp.root o f ≡ fault
       → CopyPauses z (spots.Memory (Into o f)) d i e byte left cp k l w c
       → Follow z 6 1 c (after_putting (put_unless fault o f byte (event_at z.program WriteOf o f byte) l (arrived z.outside w)) (CopyRead (spots.Memory (Into o (f + 1))) (spots.Memory (Into (objects.Variable d i) (e + 1))) left) cp k line)
   unfolding active
-  paused_case (Some kind) o d i f e byte left line w c part own open_is from_own fault_is x = tt
-  paused_case None o d i f e byte left line w c part own open_is from_own fault_is x =
+  paused_case (Some kind) o d i f e byte left line w c part near own open_is from_own fault_is x = tt
+  paused_case None o d i f e byte left line w c part near own open_is from_own fault_is x =
       let n = number z cp in
       let g = ground_in z cp in
       let h = x.stands in
@@ -224,6 +231,9 @@ module _ (z : Scene) (laws : SceneLaws z) (cp : CopyOf) (k : List Pending) (l : 
       let there = own_there z cp k p e around from_own in
       let named = own_byte z laws cp k o f around own ok.inside room in
       let source_named = own_byte z laws cp k p e around from_own x.inside room in
+      let inside = x.inside in
+      let few = laws.fits p there in
+      let reach_is = laws.reach p there in
       let U = Mirrors z (state cp (CopyRead (spots.Memory (Into o (f + 1))) (spots.Memory (Into p (e + 1))) left) k (source.with_byte l o f byte) w') in
       let has = node.has to from (suc left) c.memory h.value in
       let target : behind X done ≡ core_byte z o f = sym (byte_is_so (core_byte z o f) (behind X done) has.0) in
@@ -234,7 +244,7 @@ module _ (z : Scene) (laws : SceneLaws z) (cp : CopyOf) (k : List Pending) (l : 
       let later : rest done ≡ todo (copying cp.root (Fixed X) (Fixed Y) (Frame n b) size (size - left)) (code_after g k) = ap (λ i. todo (copies_from X Y i (beyond 0 size - i)) (code_after g k)) next_is in
       write_then (core_in z) U n None (stack_after z g k) W (due_below z V due) (again_below z w) (core_byte z o f) (core_byte z p e) (rest done) c.memory c refl source_named.valid named.own named.valid
       (ap (λ y. may_hold (core_in z).program (core_byte z o f) y W) holds_byte ∙ byte_holds z o f byte W laws o_there open_is x.set)
-      (subst (λ y. Placed (core_in z) n None y (stack_after z g k) c.memory W c) (code_now left part ∙ ap (λ y. Todo [] (code.Copy y (behind Y done)) ∷ rest done) target ∙ ap (λ y. Todo [] (code.Copy (core_byte z o f) y) ∷ rest done) source_is) (placed_of z (state cp (CopyRead to from (suc left)) k l w) c h))
+      (subst (λ y. Placed (core_in z) n None y (stack_after z g k) c.memory W c) (code_now left part (omega arith) ∙ ap (λ y. Todo [] (code.Copy y (behind Y done)) ∷ rest done) target ∙ ap (λ y. Todo [] (code.Copy (core_byte z o f) y) ∷ rest done) source_is) (placed_of z (state cp (CopyRead to from (suc left)) k l w) c h))
       (λ r pr. copied_arrives z laws cp k l around reach (Fixed X) (Fixed Y) b size node o f (spots.Memory (Into p (e + 1))) byte left c.memory w w' r o_there ok.inside h.agrees h.holds
       (next_there X o f left part o_there ok.inside has.0, next_there Y p e left part there x.inside has.1)
       (subst (λ y. Placed (core_in z) n None y (stack_after z g k) (memory_with (core_byte z o f) (held z byte) c.memory) (world_as (held z) (arrived z.outside w')) r) later
@@ -248,9 +258,9 @@ module _ (z : Scene) (laws : SceneLaws z) (cp : CopyOf) (k : List Pending) (l : 
   fixed_copy_write o p f e byte left w c part own open_is there within due h =
       write_case (write_fault z.program (active cp (CopyWrite (spots.Memory (Into o f)) (spots.Memory (Into p e)) byte left) k) cp.root o f) o p f e byte left (line_at k) w c part own open_is there within due refl h
 
-  pub paused_copy_write : (o : object.Object) (d : CopyOf) (i f e : ℕ) (byte : value.Byte) (left : ℕ) (w : World value.Byte) (c : Machine) → suc left ≤ size → IsOwnSpot z cp (spots.Memory (Into o f)) → IsOpen z (spots.Memory (Into o f)) → IsOwnSpot z cp (spots.Memory (Into (objects.Variable d i) e))
+  pub paused_copy_write : (o : object.Object) (d : CopyOf) (i f e : ℕ) (byte : value.Byte) (left : ℕ) (w : World value.Byte) (c : Machine) → suc left ≤ size → size - suc left ≤ e → IsOwnSpot z cp (spots.Memory (Into o f)) → IsOpen z (spots.Memory (Into o f)) → IsOwnSpot z cp (spots.Memory (Into (objects.Variable d i) e))
       → CopyPauses z (spots.Memory (Into o f)) d i e byte left cp k l w c
       → Follow z 6 1 c (copy_write (source_in z) (spots.Memory (Into o f)) (spots.Memory (Into (objects.Variable d i) e)) byte left k cp l (arrived z.outside w))
   unfolding put_byte
-  paused_copy_write o d i f e byte left w c part own open_is from_own x =
-      paused_case (write_fault z.program (active cp (CopyWrite (spots.Memory (Into o f)) (spots.Memory (Into (objects.Variable d i) e)) byte left) k) cp.root o f) o d i f e byte left (line_at k) w c part own open_is from_own refl x
+  paused_copy_write o d i f e byte left w c part near own open_is from_own x =
+      paused_case (write_fault z.program (active cp (CopyWrite (spots.Memory (Into o f)) (spots.Memory (Into (objects.Variable d i) e)) byte left) k) cp.root o f) o d i f e byte left (line_at k) w c part near own open_is from_own refl x

@@ -227,7 +227,7 @@ module _ (z : Scene) (laws : SceneLaws z) where
       let W = world_as (held z) (arrived z.outside w) in
       let T = Mirrors z (state cp (Value (datum.Number v)) k l (arrived z.outside w)) in
       let ra = right_is refl in
-      let hx : HasDatum z n b (datum.Number x) c.memory = subst (λ f. HasDatum z f b (datum.Number x) c.memory) (own_copy z cp) h.holds.0 in
+      let hx : HasDatum z n b (datum.Number x) c.memory = subst (λ f. HasDatum z f b (datum.Number x) c.memory) (own_copy z cp) h.holds.0.0 in
       let typed : bytes_of v.ty ≡ bytes_of x.ty = ap bytes_of (value_type v is) ∙ ap bytes_of (helped_unshared op x.ty may) in
       comes_within (core_in z) T (2138 + 0) 0 2138 0 c
       (helped_then z (core_in z) T n (stack_after z g k) W (due_below z (arrived z.outside w) due) (again_below z w) op x.ty b at x ra.u v (code_after g k) c.memory c 0 0 may two (bytes_small x.ty) there room from (omega arith) (value_number z n b x c.memory xr hx) ra.there (ra.alike ∙ is)

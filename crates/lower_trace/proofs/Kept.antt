@@ -190,18 +190,18 @@ read_far z g (Resumes d x ∷ k) at read m m' s h = tt
 
 -- what waits in a frame is the same, if the bytes below the next part's value are
 pub waits_same : (z : Scene) (g : Ground) (b : ℕ) (w : Bool) (e : Expression) (got : Got) (m m' : Memory) → ((y : ℕ) → y < above g b e got → m' (Frame g.copy y) ≡ m (Frame g.copy y)) → Below g b e got → Waits z g b w e got m → Waits z g b w e got m'
-waits_same z g b w (tree.Binary op left right ty line) (One u) m m' s k h = datum_same z g.copy b u m m' (λ y le lt. s y (omega arith)) h
+waits_same z g b w (tree.Binary op left right ty line) (One u) m m' s k h = (datum_same z g.copy b u m m' (λ y le lt. s y (omega arith)) h.0, h.1)
 waits_same z g b w (tree.Offset op left right size ty line) (One u) m m' s k h = datum_same z g.copy b u m m' (λ y le lt. s y (omega arith)) h
 waits_same z g b w (tree.Difference left right size line) (One u) m m' s k h = datum_same z g.copy b u m m' (λ y le lt. s y (omega arith)) h
 waits_same z g b w (tree.Read place ty line) (At at) m m' s k h = at_same z g.copy b (spot_of g.layout g.copy place) at m m' (λ y le lt. s y (omega arith)) h
 waits_same z g b w (tree.Assign place value ty line) (At at) m m' s k h = at_same z g.copy b (spot_of g.layout g.copy place) at m m' (λ y le lt. s y (omega arith)) h
 waits_same z g b w (tree.Assign place value ty line) (Stores at v) m m' s k h = at_same z g.copy b (spot_of g.layout g.copy place) at m m' (λ y le lt. s y (omega arith)) h
 waits_same z g b w (tree.StructAssign place from size line) (At at) m m' s k h = at_same z g.copy b (spot_of g.layout g.copy place) at m m' (λ y le lt. s y (omega arith)) h
-waits_same z g b w (tree.Update op place value operation size ty line) (At at) m m' s k h = at_same z g.copy b (spot_of g.layout g.copy place) at m m' (λ y le lt. s y (omega arith)) h
+waits_same z g b w (tree.Update op place value operation size ty line) (At at) m m' s k h = (at_same z g.copy b (spot_of g.layout g.copy place) at m m' (λ y le lt. s y (omega arith)) h.0, h.1)
 waits_same z g b w (tree.Update op place value operation size ty line) (AtWith at u) m m' s k h =
     let k0 = k.0 in
     let k1 = k.1 in
-    (at_same z g.copy b (spot_of g.layout g.copy place) at m m' (λ y le lt. s y (omega arith)) h.0, λ e. datum_same z g.copy (behind_pointer g.layout g.copy b place) u m m' (λ y le lt. s y (omega arith)) (h.1 e))
+    (at_same z g.copy b (spot_of g.layout g.copy place) at m m' (λ y le lt. s y (omega arith)) h.0, λ e. datum_same z g.copy (behind_pointer g.layout g.copy b place) u m m' (λ y le lt. s y (omega arith)) (h.1 e), h.2)
 waits_same z g b w (tree.Update op place value operation size ty line) (Stores at v) m m' s k h = at_same z g.copy b (spot_of g.layout g.copy place) at m m' (λ y le lt. s y (omega arith)) h
 waits_same z g b w (tree.Call function arguments ty line) (Args before more) m m' s k h = arguments_same z g b 0 arguments before (above g b (tree.Call function arguments ty line) (Args before more)) m m' s k h
 waits_same z g b w (tree.Call function arguments ty line) (Passed values) m m' s k h = arguments_same z g b 0 arguments values (above g b (tree.Call function arguments ty line) (Passed values)) m m' s k h
@@ -234,16 +234,16 @@ abbrev pub SameFrame : ℕ → Memory → Memory → Type 0
 SameFrame n m m' = (y : ℕ) → m' (Frame n y) ≡ m (Frame n y)
 
 pub waits_far : (z : Scene) (g : Ground) (b : ℕ) (w : Bool) (e : Expression) (got : Got) (m m' : Memory) → SameFrame g.copy m m' → Waits z g b w e got m → Waits z g b w e got m'
-waits_far z g b w (tree.Binary op left right ty line) (One u) m m' s h = datum_same z g.copy b u m m' (λ y le lt. s y) h
+waits_far z g b w (tree.Binary op left right ty line) (One u) m m' s h = (datum_same z g.copy b u m m' (λ y le lt. s y) h.0, h.1)
 waits_far z g b w (tree.Offset op left right size ty line) (One u) m m' s h = datum_same z g.copy b u m m' (λ y le lt. s y) h
 waits_far z g b w (tree.Difference left right size line) (One u) m m' s h = datum_same z g.copy b u m m' (λ y le lt. s y) h
 waits_far z g b w (tree.Read place ty line) (At at) m m' s h = at_same z g.copy b (spot_of g.layout g.copy place) at m m' (λ y le lt. s y) h
 waits_far z g b w (tree.Assign place value ty line) (At at) m m' s h = at_same z g.copy b (spot_of g.layout g.copy place) at m m' (λ y le lt. s y) h
 waits_far z g b w (tree.Assign place value ty line) (Stores at v) m m' s h = at_same z g.copy b (spot_of g.layout g.copy place) at m m' (λ y le lt. s y) h
 waits_far z g b w (tree.StructAssign place from size line) (At at) m m' s h = at_same z g.copy b (spot_of g.layout g.copy place) at m m' (λ y le lt. s y) h
-waits_far z g b w (tree.Update op place value operation size ty line) (At at) m m' s h = at_same z g.copy b (spot_of g.layout g.copy place) at m m' (λ y le lt. s y) h
+waits_far z g b w (tree.Update op place value operation size ty line) (At at) m m' s h = (at_same z g.copy b (spot_of g.layout g.copy place) at m m' (λ y le lt. s y) h.0, h.1)
 waits_far z g b w (tree.Update op place value operation size ty line) (AtWith at u) m m' s h =
-    (at_same z g.copy b (spot_of g.layout g.copy place) at m m' (λ y le lt. s y) h.0, λ e. datum_same z g.copy (behind_pointer g.layout g.copy b place) u m m' (λ y le lt. s y) (h.1 e))
+    (at_same z g.copy b (spot_of g.layout g.copy place) at m m' (λ y le lt. s y) h.0, λ e. datum_same z g.copy (behind_pointer g.layout g.copy b place) u m m' (λ y le lt. s y) (h.1 e), h.2)
 waits_far z g b w (tree.Update op place value operation size ty line) (Stores at v) m m' s h = at_same z g.copy b (spot_of g.layout g.copy place) at m m' (λ y le lt. s y) h
 waits_far z g b w (tree.Step op place operation size ty line) (At at) m m' s h = (
   at_same z g.copy b (spot_of g.layout g.copy place) at m m' (λ y le lt. s y) h.0,

@@ -35,6 +35,8 @@ use Rattle.lower_trace.proofs.Giving.{Around}
 use Rattle.lower_trace.proofs.Kept.{Reached}
 use Rattle.lower_trace.proofs.Leaving.{IsResumable}
 use Rattle.lower_trace.proofs.Loading.{ReachesAll}
+use Rattle.lower_trace.proofs.PartsOf.{FocusHas, StackHas, KeepsParts}
+use Rattle.lower_trace.proofs.PartsOn.{step_parts, start_parts}
 use Rattle.lower_trace.proofs.Returning.{Resumables}
 use Rattle.lower_trace.proofs.Scenes.{base_at, frame_small, scene_laws}
 use Rattle.lower_trace.proofs.SegmentFrames.{AtFocus, InSegments, StaysIn, stays_in, starts_in}
@@ -65,6 +67,8 @@ pub record Known (z : Scene) (t : State) : Type 0 where
   pub quiet : IsResumable t.focus ⊎ (enters (source_in z) t ≡ false)
   -- above the body of a switch wait only the last statements of it
   pub segments : AtFocus t.focus t.stack × InSegments t.stack
+  -- what is under way calls what its function calls, and where a constant is waited for, its value comes
+  pub parts : FocusHas z.program t.copy t.focus t.stack × StackHas z.program t.copy t.stack
 
 -- ---- what the handler interrupted
 held_below : (k : List Pending) → IsHeld k → IsHeld (below k)
@@ -196,6 +200,7 @@ module _ (z : Scene) (given : IsLowerable z.program z.copies) (input : All (λ b
     resumable = tt;
     quiet = inl tt;
     segments = starts_in (source_in z);
+    parts = start_parts (source_in z);
   }
 
   both_fit : (u : State) (event : Option (Happening Byte)) → KeepsFits z (Went u event) → FocusFits z u.copy u.focus u.stack × StackFits z u.copy u.stack
@@ -250,6 +255,7 @@ module _ (z : Scene) (given : IsLowerable z.program z.copies) (input : All (λ b
         resumable = held_next t u event k e;
         quiet = quiet_next t u event k e h;
         segments = subst StaysIn e (stays_in (source_in z) t k.segments.0 k.segments.1);
+        parts = subst (KeepsParts z.program) e (step_parts (source_in z) t k.stands k.parts.0 k.parts.1);
       }
 
   -- ---- what the laws ask of the stack

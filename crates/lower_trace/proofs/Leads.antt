@@ -17,10 +17,11 @@ use Rattle.lower_trace.proofs.Ends.{Again, FollowOn}
 use Rattle.lower_trace.proofs.Known.{Known}
 use Rattle.lower_trace.proofs.Mirrors.{Mirrors}
 use Rattle.lower_trace.proofs.Operations.{Comes}
+use Rattle.lower_trace.proofs.Waiting.{Waiting}
 
--- Byte code stands at the same place, or behind a `continue` before its jump, where no handler is due.
+-- Byte code stands at the same place, or behind a `continue` before its jump, where no handler is due, or it waits.
 abbrev pub Meets : Scene → State → Machine → Type 0
-Meets z t c = Mirrors z t c ⊎ (Again z t.copy t.focus t.stack t.memory t.world c × (enters (source_in z) t ≡ false))
+Meets z t c = Mirrors z t c ⊎ (Again z t.copy t.focus t.stack t.memory t.world c × (enters (source_in z) t ≡ false)) ⊎ Waiting z t c
 
 -- where the source ends a micro-step so, byte code comes to a machine that stands for the next state
 abbrev pub Arrives : Scene → ℕ → ℕ → Machine → Outcome → Type 0
@@ -70,7 +71,7 @@ on_led z (Went u None) q n x k cp l w c e s stays due f =
     record {
       most = q;
       least = n;
-      on = comes_map (core_in z) (λ d. Mirrors z u d ⊎ Again z u.copy u.focus u.stack u.memory u.world d) (Meets z u) q n c (λ d h. ⊎_elim (λ m. inl m) (λ a. inr (a, quiet_behind z x k cp l w u stays due e)) h) f;
+      on = comes_map (core_in z) (λ d. Mirrors z u d ⊎ Again z u.copy u.focus u.stack u.memory u.world d) (Meets z u) q n c (λ d h. ⊎_elim (λ m. inl m) (λ a. inr (inl (a, quiet_behind z x k cp l w u stays due e))) h) f;
     }
 on_led z (Undefined kind line) q n x k cp l w c e s stays due f = record { most = q; least = n; on = tt }
 on_led z Idle q n x k cp l w c e s stays due f = record { most = q; least = n; on = tt }

@@ -62,14 +62,14 @@ common_two false true d = omega arith
 common_two false false true = omega arith
 common_two false false false = omega arith
 
-two_common : (a b : IntTy) → 2 ≤ bytes_of (common a b)
+pub two_common : (a b : IntTy) → 2 ≤ bytes_of (common a b)
 two_common a b = common_two (is_unsigned_long (promoted a) || is_unsigned_long (promoted b)) (is_long (promoted a) || is_long (promoted b)) (is_unsigned_int (promoted a) || is_unsigned_int (promoted b))
 
 long_left : (b : Bool) → 4 ≤ bytes_of (if b then int.ULong else int.Long)
 long_left true = omega arith
 long_left false = omega arith
 
-wider_left : (a b : IntTy) → bytes_of a ≤ bytes_of (common a b)
+pub wider_left : (a b : IntTy) → bytes_of a ≤ bytes_of (common a b)
 wider_left int.Char b = let q = two_common int.Char b in omega arith
 wider_left int.SChar b = let q = two_common int.SChar b in omega arith
 wider_left int.UChar b = let q = two_common int.UChar b in omega arith

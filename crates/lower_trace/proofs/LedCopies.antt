@@ -27,7 +27,7 @@ use Rattle.lower_trace.proofs.ListStructs.{item_copies, item_copied}
 use Rattle.lower_trace.proofs.LocalPlaces.{local_size, item_inside}
 use Rattle.lower_trace.proofs.Scenes.{scene_laws}
 
-copy_rule : (p : Program) (place from : Place) (size line : ℕ) → Obeys p (tree.StructAssign place from size line) → (is_struct (place_type place).ty ≡ true) × ((place_type place).ty ≡ (place_type from).ty)
+pub copy_rule : (p : Program) (place from : Place) (size line : ℕ) → Obeys p (tree.StructAssign place from size line) → (is_struct (place_type place).ty ≡ true) × ((place_type place).ty ≡ (place_type from).ty)
 unfolding rule_holds
 copy_rule p place from size line h =
     let g = and_parts _ _ (and_parts _ _ h.1).1 in

@@ -66,7 +66,7 @@ none_values p live op datum.Missing (datum.Number y) h = tt
 none_values p live op datum.Missing (datum.Pointer y) h = tt
 none_values p live op datum.Missing datum.Missing h = tt
 
-none_binary : (p : Program) (live : List CopyOf) (op : BinOp) (ty : Ty) (u v : Datum) → AreApart u v → IsNone (binary_answer p live op ty u v)
+pub none_binary : (p : Program) (live : List CopyOf) (op : BinOp) (ty : Ty) (u v : Datum) → AreApart u v → IsNone (binary_answer p live op ty u v)
 unfolding binary_answer
 none_binary p live op ty u v h = none_unless (bad_right op ty v) (on_values p live op u v) (none_values p live op u v h)
 

@@ -52,7 +52,7 @@ use Rattle.lower_trace.proofs.Rooms.{binary_parts, value_room}
 use Rattle.lower_trace.proofs.Scenes.{frame_is, scene_laws}
 
 -- ---- promoted types
-wide_int : (ty : IntTy) → same_int (promoted ty) ty ≡ true → nat_lt 1 (bytes_of ty) ≡ true
+pub wide_int : (ty : IntTy) → same_int (promoted ty) ty ≡ true → nat_lt 1 (bytes_of ty) ≡ true
 wide_int int.Char e = absurd (cc)
 wide_int int.SChar e = absurd (cc)
 wide_int int.UChar e = absurd (cc)

@@ -29,11 +29,13 @@ use Rattle.lower_trace.proofs.Entering.{enters_goes, bool_cases}
 use Rattle.lower_trace.proofs.Known.{Known, around}
 use Rattle.lower_trace.proofs.Leads.{Meets, Led, Law, comes_map}
 use Rattle.lower_trace.proofs.LedStatements.{evals, finds, runs_on, goes_past, repeats_past}
+use Rattle.lower_trace.proofs.LedWaits.{waits_on}
 use Rattle.lower_trace.proofs.Leaving.{IsResumable}
 use Rattle.lower_trace.proofs.Mirrors.{Mirrors}
 use Rattle.lower_trace.proofs.Operations.{Comes, comes_here}
 use Rattle.lower_trace.proofs.Scenes.{scene_laws}
 use Rattle.lower_trace.proofs.Surroundings.{mains_apart}
+use Rattle.lower_trace.proofs.Waiting.{waits_quiet, waits_world}
 
 -- The laws of what follows a value, a place or an access, and of calls.
 pub record NodeLaws (z : Scene) : Type 0 where
@@ -78,7 +80,8 @@ worlds_trace z w c e = ap (λ v. v.trace) e
 
 pub meets_trace : (z : Scene) (t : State) (c : Machine) → Meets z t c → c.world.trace ≡ map (event_as (held z)) t.world.trace
 meets_trace z t c (inl h) = worlds_trace z t.world c h.world
-meets_trace z t c (inr h) = worlds_trace z t.world c (again_trace z t.copy t.focus t.stack t.memory t.world c h.0)
+meets_trace z t c (inr (inl h)) = worlds_trace z t.world c (again_trace z t.copy t.focus t.stack t.memory t.world c h.0)
+meets_trace z t c (inr (inr h)) = worlds_trace z t.world c (waits_world z t c h)
 
 pub relates_trace : (z : Scene) (t : State) (c : Machine) → Relates z t c → c.world.trace ≡ map (event_as (held z)) t.world.trace
 relates_trace z t c (inl h) = meets_trace z t c h
@@ -140,7 +143,8 @@ module _ (z : Scene) (given : IsLowerable z.program z.copies) (input : All (λ b
 
   meets_led : (t : State) (c : Machine) → Known z t → is_due (arrived z.outside t.world) ≡ false → Meets z t c → Led z c (act (source_in z) t.focus t.stack t.copy t.memory (arrived z.outside t.world))
   meets_led t c known due (inl h) = law t.focus t.stack t.copy t.memory t.world c known due h
-  meets_led t c known due (inr h) = again_led t.focus t.stack t.copy t.memory t.world c known due h.0
+  meets_led t c known due (inr (inl h)) = again_led t.focus t.stack t.copy t.memory t.world c known due h.0
+  meets_led t c known due (inr (inr h)) = waits_on z given input t c known due h
 
   stepped_by : (c : Machine) (u : State) (event : Option (Happening Byte)) → Led z c (Went u event) → Stepped z c u
   stepped_by c u event d = record { most = d.most; least = d.least; comes = comes_map (core_in z) (Meets z u) (Relates z u) d.most d.least c (λ m h. inl h) d.on }
@@ -168,9 +172,10 @@ module _ (z : Scene) (given : IsLowerable z.program z.copies) (input : All (λ b
   -- ---- the handler is entered
   enters_led : (h : ℕ) (t : State) (c : Machine) (u : State) (event : Option (Happening Byte)) → Known z t → is_due (arrived z.outside t.world) ≡ true → handler_in z.program ≡ Some h → Meets z t c → step (source_in z) t ≡ Went u event → Stepped z c u
   unfolding step enters
-  enters_led h t c u event known due some (inr a) e =
+  enters_led h t c u event known due some (inr (inl a)) e =
       let inside : enters (source_in z) t ≡ true = ap (λ b. b && is_some_line (handler_in z.program)) due ∙ ap is_some_line some in
       absurd (apart (sym inside ∙ a.1))
+  enters_led h t c u event known due some (inr (inr a)) e = absurd (apart (sym due ∙ waits_quiet z t c a))
   enters_led h t c u event known due some (inl m) e =
       let w = arrived z.outside t.world in
       let s = known.stands in

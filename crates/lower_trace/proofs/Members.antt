@@ -161,4 +161,4 @@ module _ (z : Scene) (laws : SceneLaws z) where
       rests z cp (Found at) (Eval right) (In e Nothing ∷ k) (In e (At at) ∷ k) l l w c h refl
       (right_code (shifts_by_constant op right) (expr_code g.layout g.copy (behind_pointer g.layout g.copy b to) true right)
       (update_row (update_of (wanted k) g.layout op to right operation size) (spot_of g.layout g.copy to) g.layout.root (Frame g.copy b) (place_width g.layout to) (place_type to).ty) (code_after g k) plain)
-      refl h.agrees (h.value to refl, h.holds.1) tt
+      refl h.agrees ((h.value to refl, plain), h.holds.1) tt

@@ -2,7 +2,9 @@
 -- and that objects of active copies agree.
 use Rattle.std.specs.Prelude.{◌≡◌, ℕ, zero, suc, ◌+◌, ◌-◌, ◌<◌, Bool, true, false, ◌&&◌, if◌then◌else◌, pos, List, [], ◌∷◌, length, Option, Some, None, slice_index_or}
 use Rattle.c_ints.specs.Operators.{cut_to}
+use Rattle.c_ints.specs.Range.{pattern}
 use Rattle.c_ints.specs.declared.types.IntTy.TheVariants as IntTy
+use Rattle.c_typed.specs.Folding.{constant_bits}
 use Rattle.c_typed.specs.Trees as tree
 use Rattle.c_typed.specs.Trees.{Expression, Expressions, Place, Statement}
 use Rattle.core_code.specs.Bytes.{Held, Number, Memory, byte_in, is_private}
@@ -74,18 +76,23 @@ HasArguments z l n b before es [] m = Unit {0}
 HasArguments z l n b before tree.NoExpression (v ∷ vs) m = ⊥
 HasArguments z l n b before (tree.AndExpression e es) (v ∷ vs) m = HasDatum z n (beyond b before) v m × HasArguments z l n b (beyond before (value_width l e)) es vs m
 
+-- The count of a shift that is a constant has its bits. While it is under way byte code waits.
+abbrev pub HasBits : Expression → Datum → Type 0
+HasBits count (datum.Number q) = pattern q.ty q.number ≡ constant_bits count
+HasBits count v = Unit {0}
+
 -- what an expression that waits has, its value being due at b, where it is wanted or not
 abbrev pub Waits : Scene → Ground → ℕ → Bool → Expression → Got → Memory → Type 0
-Waits z g b w (tree.Binary op left right ty line) (One u) m = HasDatum z g.copy b u m
+Waits z g b w (tree.Binary op left right ty line) (One u) m = HasDatum z g.copy b u m × (shifts_by_constant op right ≡ false)
 Waits z g b w (tree.Offset op left right size ty line) (One u) m = HasDatum z g.copy b u m
 Waits z g b w (tree.Difference left right size line) (One u) m = HasDatum z g.copy b u m
 Waits z g b w (tree.Read place ty line) (At at) m = IsAt z g.copy b (spot_of g.layout g.copy place) at m
 Waits z g b w (tree.Assign place value ty line) (At at) m = IsAt z g.copy b (spot_of g.layout g.copy place) at m
 Waits z g b w (tree.Assign place value ty line) (Stores at v) m = IsAt z g.copy b (spot_of g.layout g.copy place) at m
 Waits z g b w (tree.StructAssign place from size line) (At at) m = IsAt z g.copy b (spot_of g.layout g.copy place) at m
-Waits z g b w (tree.Update op place value operation size ty line) (At at) m = IsAt z g.copy b (spot_of g.layout g.copy place) at m
+Waits z g b w (tree.Update op place value operation size ty line) (At at) m = IsAt z g.copy b (spot_of g.layout g.copy place) at m × (shifts_by_constant op value ≡ false)
 Waits z g b w (tree.Update op place value operation size ty line) (AtWith at u) m =
-    IsAt z g.copy b (spot_of g.layout g.copy place) at m × (shifts_by_constant op value ≡ false → HasDatum z g.copy (behind_pointer g.layout g.copy b place) u m)
+    IsAt z g.copy b (spot_of g.layout g.copy place) at m × (shifts_by_constant op value ≡ false → HasDatum z g.copy (behind_pointer g.layout g.copy b place) u m) × (shifts_by_constant op value ≡ true → HasBits value u)
 Waits z g b w (tree.Update op place value operation size ty line) (Stores at v) m = IsAt z g.copy b (spot_of g.layout g.copy place) at m
 Waits z g b w (tree.Step op place operation size ty line) (At at) m =
     IsAt z g.copy b (spot_of g.layout g.copy place) at m

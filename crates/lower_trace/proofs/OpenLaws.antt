@@ -2,7 +2,6 @@
 use Rattle.std.proofs.Common.{◌≡◌, ℕ, zero, suc, ◌<◌, ◌⊎◌, inl, inr, true, false, List, ◌∷◌, Option, refl, ⊎_elim, arith}
 use Rattle.std.proofs.lemmas.Bool.{cases_lt}
 use Rattle.std.specs.List.{All}
-use Rattle.c_ints.specs.Quantity.{Quantity}
 use Rattle.c_ints.specs.declared.operators.BinOp.{BinOp}
 use Rattle.c_ints.specs.declared.operators.BinOp.TheVariants as ops
 use Rattle.c_typed.specs.Sameness.{is_scalar}
@@ -15,7 +14,7 @@ use Rattle.c_typed.specs.declared.types.Ty.TheVariants as types
 use Rattle.lower_expr.specs.Lowering.{shifts_by_constant}
 use Rattle.src_rules.proofs.Rules.{read_rule}
 use Rattle.src_rules.specs.Runs.{moment}
-use Rattle.src_values.specs.Control.{Holds, Found, Skim, Write, PutBit, CopyRead, CopyWrite, Calls, Nothing, One, At, AtWith, Pending, In, Stores, Fills, Items, Doing, Copies}
+use Rattle.src_values.specs.Control.{Holds, Found, Skim, Write, CopyRead, Nothing, One, At, AtWith, Pending, In, Stores, Fills, Items, Doing, Copies}
 use Rattle.src_values.specs.Data as datum
 use Rattle.src_values.specs.Data.{Datum}
 use Rattle.src_values.specs.Values.{byte_count}
@@ -26,6 +25,17 @@ use Rattle.lower_trace.specs.Lowering.{IsLowerable}
 use Rattle.lower_trace.proofs.Changing.{IsSum}
 use Rattle.lower_trace.proofs.CodeLeft.{Scene, source_in}
 use Rattle.lower_trace.proofs.Leads.{Law}
+use Rattle.lower_trace.proofs.Entering.{bool_cases}
+use Rattle.lower_trace.proofs.LedBits.{bits}
+use Rattle.lower_trace.proofs.LedBytes.{copy_reads as bytes_read, copy_writes}
+use Rattle.lower_trace.proofs.LedCalling.{calls}
+use Rattle.lower_trace.proofs.LedConstants.{constant_updates}
+use Rattle.lower_trace.proofs.LedCounts.{known_counts, known_updates}
+use Rattle.lower_trace.proofs.LedHelped.{helped_binaries}
+use Rattle.lower_trace.proofs.LedHelpedUpdates.{helped_updates}
+use Rattle.lower_trace.proofs.LedMoves.{place_addresses, pointer_steps, pointer_updates, updates_apart}
+use Rattle.lower_trace.proofs.LedPointers.{DifferencesDivide, pointer_binaries, pointer_differences, pointer_offsets, turned_offsets}
+use Rattle.lower_trace.proofs.TypeSizes.{IsSized, structure_some}
 use Rattle.lower_trace.proofs.LedCalls.{leavings, returns}
 use Rattle.lower_trace.proofs.LedChanges.{number_steps, number_sums}
 use Rattle.lower_trace.proofs.LedConverts.{null_or, converts, casts}
@@ -41,45 +51,22 @@ use Rattle.lower_trace.proofs.LedReads.{HaveBytes, empty_items, empty_skims, pla
 use Rattle.lower_trace.proofs.LedRuns.{Followed, followed}
 use Rattle.lower_trace.proofs.LedSkims.{structures_found, structures_skimmed}
 use Rattle.lower_trace.proofs.LedSteps.{NodeLaws}
-use Rattle.lower_trace.proofs.LedStores.{node_writes}
+use Rattle.lower_trace.proofs.LedStores.{carries_open, node_writes}
 use Rattle.lower_trace.proofs.LedSwitches.{comparisons}
 use Rattle.lower_trace.proofs.LedValues.{ValueLaws, values}
 use Rattle.lower_trace.proofs.LedWrites.{scalar_writes}
 use Rattle.lower_trace.proofs.Operating.{IsPlain}
 
--- Two integers have a law where the operator is a sum, a comparison or a bit operator. Others are open, and so are two pointers.
-abbrev pub IsOpenBinary : BinOp → Datum → Datum → Type 0
-IsOpenBinary op (datum.Number x) (datum.Number y) = IsPlain op → ⊥
-IsOpenBinary op (datum.Pointer x) (datum.Pointer y) = Unit {0}
-IsOpenBinary op u v = ⊥
-
--- what an update is by, and the place's value
-abbrev pub IsOpenUpdate : BinOp → Datum → Datum → Type 0
-IsOpenUpdate op (datum.Number y) (datum.Number x) = IsSum op → ⊥
-IsOpenUpdate op datum.Missing v = ⊥
-IsOpenUpdate op u datum.Missing = ⊥
-IsOpenUpdate op u v = Unit {0}
-
--- One of them says of programs what isn't known of them yet.
+-- What isn't known yet of a program that is lowered.
 pub record OpenLaws (z : Scene) : Type 0 where
-  pub known_counts : (op : BinOp) (left right : Expression) (ty : Ty) (line : ℕ) (v : Datum) (k : List Pending) → shifts_by_constant op right ≡ true → Law z (Holds v) (In (tree.Binary op left right ty line) Nothing ∷ k)
-  pub binaries : (op : BinOp) (left right : Expression) (ty : Ty) (line : ℕ) (u v : Datum) (k : List Pending) → IsOpenBinary op u v → Law z (Holds v) (In (tree.Binary op left right ty line) (One u) ∷ k)
-  -- a pointer is moved, by an integer behind it or before it
-  pub offsets : (op : BinOp) (left right : Expression) (size : ℕ) (ty : Ty) (line : ℕ) (x : Pointer) (q : Quantity) (k : List Pending) → Law z (Holds (datum.Number q)) (In (tree.Offset op left right size ty line) (One (datum.Pointer x)) ∷ k)
-  pub turned_offsets : (op : BinOp) (left right : Expression) (size : ℕ) (ty : Ty) (line : ℕ) (q : Quantity) (x : Pointer) (k : List Pending) → Law z (Holds (datum.Pointer x)) (In (tree.Offset op left right size ty line) (One (datum.Number q)) ∷ k)
-  pub differences : (left right : Expression) (size line : ℕ) (x y : Pointer) (k : List Pending) → Law z (Holds (datum.Pointer y)) (In (tree.Difference left right size line) (One (datum.Pointer x)) ∷ k)
-  pub updates : (op : BinOp) (place : Place) (value : Expression) (operation : Ty) (size : ℕ) (ty : Ty) (line : ℕ) (spot : Spot) (u v : Datum) (k : List Pending) → IsOpenUpdate op u v → Law z (Holds v) (In (tree.Update op place value operation size ty line) (AtWith spot u) ∷ k)
-  pub steps : (op : StepOp) (place : Place) (operation : Ty) (size : ℕ) (ty : Ty) (line : ℕ) (spot : Spot) (x : Pointer) (k : List Pending) → Law z (Holds (datum.Pointer x)) (In (tree.Step op place operation size ty line) (At spot) ∷ k)
-  -- places that are found
-  pub addresses : (place : Place) (ty : Ty) (line : ℕ) (spot : Spot) (k : List Pending) → Law z (Found spot) (In (tree.Address place ty line) Nothing ∷ k)
-  pub known_updates : (op : BinOp) (place : Place) (value : Expression) (operation : Ty) (size : ℕ) (ty : Ty) (line : ℕ) (spot : Spot) (k : List Pending) → shifts_by_constant op value ≡ true → Law z (Found spot) (In (tree.Update op place value operation size ty line) Nothing ∷ k)
-  -- a structure has bytes
-  pub structures : HaveBytes z.program
-  pub bits : (register number : ℕ) (v : Datum) (old : ℕ) (k : List Pending) → Law z (PutBit register number v old) k
-  -- a byte of a structure is copied
-  pub copy_reads : (to from : Spot) (left : ℕ) (k : List Pending) → Law z (CopyRead to from (suc left)) k
-  pub copy_writes : (to from : Spot) (byte : Byte) (left : ℕ) (k : List Pending) → Law z (CopyWrite to from byte left) k
-  pub calls : (k : List Pending) → Law z Calls k
+  -- each object and each element has a byte at least, which soundness alone doesn't say
+  pub sized : IsSized z.program
+  -- where a difference of pointers divides, its helper is there
+  pub differences_divide : DifferencesDivide z
+
+-- a structure with a body has a byte
+sized_bytes : (z : Scene) → IsLowerable z.program z.copies → IsSized z.program → HaveBytes z.program
+sized_bytes z given sized = λ number complete. let some = structure_some z.program given.typed given.same given.sound sized number complete in omega arith
 
 plain_or : (op : BinOp) → IsPlain op ⊎ (IsPlain op → ⊥)
 plain_or ops.Add = inl tt
@@ -125,9 +112,9 @@ module _ (z : Scene) (given : IsLowerable z.program z.copies) (input : All (λ b
   binaries_by op left right ty line (datum.Number x) (datum.Number y) k cp l w c known due h =
       ⊎_elim
       (λ plain. plain_binaries z given input op left right ty line x y k plain cp l w c known due h)
-      (λ other. open_laws.binaries op left right ty line (datum.Number x) (datum.Number y) k other cp l w c known due h)
+      (λ other. helped_binaries z given input op left right ty line x y k other cp l w c known due h)
       (plain_or op)
-  binaries_by op left right ty line (datum.Pointer x) (datum.Pointer y) k cp l w c known due h = open_laws.binaries op left right ty line (datum.Pointer x) (datum.Pointer y) k tt cp l w c known due h
+  binaries_by op left right ty line (datum.Pointer x) (datum.Pointer y) k cp l w c known due h = pointer_binaries z given input open_laws.sized op left right ty line x y k cp l w c known due h
   binaries_by op left right ty line (datum.Number x) (datum.Pointer y) k cp l w c known due h = apart_binaries z op left right ty line (datum.Number x) (datum.Pointer y) k tt cp l w c known due h
   binaries_by op left right ty line (datum.Pointer x) (datum.Number y) k cp l w c known due h = apart_binaries z op left right ty line (datum.Pointer x) (datum.Number y) k tt cp l w c known due h
   binaries_by op left right ty line (datum.Number x) datum.Missing k cp l w c known due h = apart_binaries z op left right ty line (datum.Number x) datum.Missing k tt cp l w c known due h
@@ -135,8 +122,8 @@ module _ (z : Scene) (given : IsLowerable z.program z.copies) (input : All (λ b
   binaries_by op left right ty line datum.Missing v k cp l w c known due h = apart_binaries z op left right ty line datum.Missing v k tt cp l w c known due h
 
   offsets_by : (op : BinOp) (left right : Expression) (size : ℕ) (ty : Ty) (line : ℕ) (u v : Datum) (k : List Pending) → Law z (Holds v) (In (tree.Offset op left right size ty line) (One u) ∷ k)
-  offsets_by op left right size ty line (datum.Pointer x) (datum.Number q) k cp l w c known due h = open_laws.offsets op left right size ty line x q k cp l w c known due h
-  offsets_by op left right size ty line (datum.Number q) (datum.Pointer x) k cp l w c known due h = open_laws.turned_offsets op left right size ty line q x k cp l w c known due h
+  offsets_by op left right size ty line (datum.Pointer x) (datum.Number q) k cp l w c known due h = pointer_offsets z given input open_laws.sized op left right size ty line x q k cp l w c known due h
+  offsets_by op left right size ty line (datum.Number q) (datum.Pointer x) k cp l w c known due h = turned_offsets z given input open_laws.sized op left right size ty line q x k cp l w c known due h
   offsets_by op left right size ty line (datum.Number q) (datum.Number y) k cp l w c known due h = apart_offsets z op left right size ty line (datum.Number q) (datum.Number y) k tt cp l w c known due h
   offsets_by op left right size ty line (datum.Number q) datum.Missing k cp l w c known due h = apart_offsets z op left right size ty line (datum.Number q) datum.Missing k tt cp l w c known due h
   offsets_by op left right size ty line (datum.Pointer x) (datum.Pointer y) k cp l w c known due h = apart_offsets z op left right size ty line (datum.Pointer x) (datum.Pointer y) k tt cp l w c known due h
@@ -144,7 +131,7 @@ module _ (z : Scene) (given : IsLowerable z.program z.copies) (input : All (λ b
   offsets_by op left right size ty line datum.Missing v k cp l w c known due h = apart_offsets z op left right size ty line datum.Missing v k tt cp l w c known due h
 
   differences_by : (left right : Expression) (size line : ℕ) (u v : Datum) (k : List Pending) → Law z (Holds v) (In (tree.Difference left right size line) (One u) ∷ k)
-  differences_by left right size line (datum.Pointer x) (datum.Pointer y) k cp l w c known due h = open_laws.differences left right size line x y k cp l w c known due h
+  differences_by left right size line (datum.Pointer x) (datum.Pointer y) k cp l w c known due h = pointer_differences z given input open_laws.sized open_laws.differences_divide left right size line x y k cp l w c known due h
   differences_by left right size line (datum.Pointer x) (datum.Number q) k cp l w c known due h = apart_differences z left right size line (datum.Pointer x) (datum.Number q) k tt cp l w c known due h
   differences_by left right size line (datum.Pointer x) datum.Missing k cp l w c known due h = apart_differences z left right size line (datum.Pointer x) datum.Missing k tt cp l w c known due h
   differences_by left right size line (datum.Number q) v k cp l w c known due h = apart_differences z left right size line (datum.Number q) v k tt cp l w c known due h
@@ -168,18 +155,22 @@ module _ (z : Scene) (given : IsLowerable z.program z.copies) (input : All (λ b
   updates_by op place value operation size ty line spot (datum.Number y) (datum.Number x) k cp l w c known due h =
       ⊎_elim
       (λ sum. number_sums z given input op place value operation size ty line spot y x k sum cp l w c known due h)
-      (λ other. open_laws.updates op place value operation size ty line spot (datum.Number y) (datum.Number x) k other cp l w c known due h)
+      (λ other.
+      ⊎_elim
+      (λ constant. constant_updates z given input op place value operation size ty line spot y x k constant cp l w c known due h)
+      (λ no. helped_updates z given input op place value operation size ty line spot y x k other cp l w c known due h)
+      (bool_cases (shifts_by_constant op value)))
       (sum_or op)
-  updates_by op place value operation size ty line spot (datum.Number y) (datum.Pointer x) k cp l w c known due h = open_laws.updates op place value operation size ty line spot (datum.Number y) (datum.Pointer x) k tt cp l w c known due h
-  updates_by op place value operation size ty line spot (datum.Pointer y) (datum.Number x) k cp l w c known due h = open_laws.updates op place value operation size ty line spot (datum.Pointer y) (datum.Number x) k tt cp l w c known due h
-  updates_by op place value operation size ty line spot (datum.Pointer y) (datum.Pointer x) k cp l w c known due h = open_laws.updates op place value operation size ty line spot (datum.Pointer y) (datum.Pointer x) k tt cp l w c known due h
+  updates_by op place value operation size ty line spot (datum.Number y) (datum.Pointer x) k cp l w c known due h = pointer_updates z given input open_laws.sized op place value operation size ty line spot y x k cp l w c known due h
+  updates_by op place value operation size ty line spot (datum.Pointer y) (datum.Number x) k cp l w c known due h = updates_apart z given input open_laws.sized op place value operation size ty line spot y (datum.Number x) k cp l w c known due h
+  updates_by op place value operation size ty line spot (datum.Pointer y) (datum.Pointer x) k cp l w c known due h = updates_apart z given input open_laws.sized op place value operation size ty line spot y (datum.Pointer x) k cp l w c known due h
   updates_by op place value operation size ty line spot (datum.Number y) datum.Missing k cp l w c known due h = missing_updates z op place value operation size ty line spot (datum.Number y) k cp l w c known due h
   updates_by op place value operation size ty line spot (datum.Pointer y) datum.Missing k cp l w c known due h = missing_updates z op place value operation size ty line spot (datum.Pointer y) k cp l w c known due h
   updates_by op place value operation size ty line spot datum.Missing v k cp l w c known due h = updates_missing z op place value operation size ty line spot v k cp l w c known due h
 
   steps_by : (op : StepOp) (place : Place) (operation : Ty) (size : ℕ) (ty : Ty) (line : ℕ) (spot : Spot) (v : Datum) (k : List Pending) → Law z (Holds v) (In (tree.Step op place operation size ty line) (At spot) ∷ k)
   steps_by op place operation size ty line spot (datum.Number x) k cp l w c known due h = number_steps z given input op place operation size ty line spot x k cp l w c known due h
-  steps_by op place operation size ty line spot (datum.Pointer x) k cp l w c known due h = open_laws.steps op place operation size ty line spot x k cp l w c known due h
+  steps_by op place operation size ty line spot (datum.Pointer x) k cp l w c known due h = pointer_steps z given input open_laws.sized op place operation size ty line spot x k cp l w c known due h
   steps_by op place operation size ty line spot datum.Missing k cp l w c known due h = missing_steps z op place operation size ty line spot k cp l w c known due h
 
   skims_by : (place : Place) (ty : Ty) (line : ℕ) (spot : Spot) (k : List Pending) → is_scalar ty ≡ false → Law z (Found spot) (In (tree.Read place ty line) Nothing ∷ k)
@@ -193,7 +184,7 @@ module _ (z : Scene) (given : IsLowerable z.program z.copies) (input : All (λ b
   structures_by place number line start spot left byte k cp l w c known due h =
       ⊎_elim
       (λ some. structures_skimmed z given input place number line start spot left byte k some cp l w c known due h)
-      (λ none. empty_skims z given open_laws.structures place number line start spot left byte k (omega arith) cp l w c known due h)
+      (λ none. empty_skims z given (sized_bytes z given open_laws.sized) place number line start spot left byte k (omega arith) cp l w c known due h)
       (cases_lt 0 (type_bytes z.program.sizes (types.Struct number)))
 
   reads_skim : (place : Place) (ty : Ty) (line : ℕ) (start spot : Spot) (left : ℕ) (byte : Option Byte) (k : List Pending) → Law z (Skim spot left byte) (In (tree.Read place ty line) (At start) ∷ k)
@@ -221,9 +212,9 @@ module _ (z : Scene) (given : IsLowerable z.program z.copies) (input : All (λ b
   writes spot v at _ cp l w c known due h = absurd known.stands.focus.node
 
   copy_reads : (to from : Spot) (left : ℕ) (k : List Pending) → Law z (CopyRead to from left) k
-  copy_reads to from (suc left) k cp l w c known due h = open_laws.copy_reads to from left k cp l w c known due h
+  copy_reads to from (suc left) k cp l w c known due h = bytes_read z given input to from left k cp l w c known due h
   copy_reads to from zero (In (tree.StructAssign place other size line) Copies ∷ k) cp l w c known due h = assigns_end z given input place other size line to from k cp l w c known due h
-  copy_reads to from zero (Doing (tree.InitList local all line) (Items (tree.Struct offset other zero) rest) ∷ k) cp l w c known due h = empty_items z given open_laws.structures local all line offset other rest to from k cp l w c known due h
+  copy_reads to from zero (Doing (tree.InitList local all line) (Items (tree.Struct offset other zero) rest) ∷ k) cp l w c known due h = empty_items z given (sized_bytes z given open_laws.sized) local all line offset other rest to from k cp l w c known due h
   copy_reads to from zero (Doing (tree.InitList local all line) (Items (tree.Struct offset other (suc size)) rest) ∷ k) cp l w c known due h = items_end z given input local all line offset other (suc size) rest to from k (omega arith) cp l w c known due h
   copy_reads to from zero _ cp l w c known due h = absurd known.stands.focus.node
 
@@ -232,7 +223,7 @@ module _ (z : Scene) (given : IsLowerable z.program z.copies) (input : All (λ b
     converts = converts_by;
     casts = casts_by;
     unaries = unaries z given input;
-    known_counts = open_laws.known_counts;
+    known_counts = known_counts z given input;
     binaries = binaries_by;
     offsets = offsets_by;
     differences = differences_by;
@@ -242,7 +233,7 @@ module _ (z : Scene) (given : IsLowerable z.program z.copies) (input : All (λ b
   }
 
   pub place_laws : PlaceLaws z
-  place_laws = record { skims = skims_by; addresses = open_laws.addresses; known_counts = open_laws.known_updates }
+  place_laws = record { skims = skims_by; addresses = place_addresses z given input open_laws.sized; known_counts = known_updates z given input }
 
   pub node_laws : NodeLaws z
   node_laws = record {
@@ -251,12 +242,12 @@ module _ (z : Scene) (given : IsLowerable z.program z.copies) (input : All (λ b
     fetches = fetches z given input (structures_fetched z given);
     skims = skims;
     writes = writes;
-    bits = open_laws.bits;
+    bits = bits z given input;
     copy_reads = copy_reads;
-    copy_writes = open_laws.copy_writes;
+    copy_writes = copy_writes z given input (λ place other size line to from byte left k cp l w is known. carries_open z to from byte left (In (tree.StructAssign place other size line) Copies ∷ k) cp l w known);
     spells = spells z given input;
     blanks = blanks z given input;
-    calls = open_laws.calls;
+    calls = calls z given input;
     leavings = leavings z given input;
     compares = comparisons z given input;
   }

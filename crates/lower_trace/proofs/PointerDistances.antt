@@ -166,7 +166,7 @@ module _ (z : Scene) (laws : SceneLaws z) (bounded : (o : object.Object) → IsT
         (holds_above z cp k m m' b around (omega arith) above holds)
         (if_datum z (wanted k) (ground_in z cp).copy b (datum.Number q) m' (subst (λ t. HasDatum z t b (datum.Number q) m') (sym (own_copy z cp)) h))
 
-    module _ (a : object.Object) (f g size : ℕ) (resumables : Resumables cp.root k) (some : 1 ≤ size) (there : (core_in z).program.helped n ops.Div int.Int ≡ true) (pf : IsPointer z.program (Into a f)) (pg : IsPointer z.program (Into a g)) (room : b + 4 ≤ (core_in z).program.frame_bytes n) where
+    module _ (a : object.Object) (f g size : ℕ) (resumables : Resumables cp.root k) (some : 1 ≤ size) (there : nat_eq size 1 ≡ false → (core_in z).program.helped n ops.Div int.Int ≡ true) (pf : IsPointer z.program (Into a f)) (pg : IsPointer z.program (Into a g)) (room : b + 4 ≤ (core_in z).program.frame_bytes n) where
       abbrev answer : Quantity
       answer = cut_to int.Int (int_div (far f g) (pos size))
 
@@ -174,7 +174,7 @@ module _ (z : Scene) (laws : SceneLaws z) (bounded : (o : object.Object) → IsT
       T = Mirrors z (state cp (Value (datum.Number answer)) k l (arrived z.outside w))
 
       row_then : (huge one : Bool) (c : Machine) → nat_lt 32767 size ≡ huge → nat_eq size 1 ≡ one → Agrees z (active cp (Value (datum.Number answer)) k) l c.memory → Holds z (ground_in z cp) k c.memory → HasDatum z n b (datum.Pointer (Into a f)) c.memory → HasDatum z n (b + 2) (datum.Pointer (Into a g)) c.memory
-          → Placed (core_in z) n None (todo (difference_row (Frame n b) size) (code_after (ground_in z cp) k)) (stack_after z (ground_in z cp) k) c.memory W c → Comes (core_in z) T 2250 0 c
+          → Placed (core_in z) n None (todo (difference_row (Frame n b) size) (code_after (ground_in z cp) k)) (stack_after z (ground_in z cp) k) c.memory W c → Comes (core_in z) T 2250 1 c
       row_then true one c huge_is one_is agrees holds hx hy p =
           let small = laws.small n in
           let large = lt_of 32767 size huge_is in
@@ -184,7 +184,7 @@ module _ (z : Scene) (laws : SceneLaws z) (bounded : (o : object.Object) → IsT
           let range = far_range f g (omega arith) (omega arith) in
           let none : answer ≡ sint (pos 0) = ap (cut_to int.Int) (div_none (far f g) f g size refl (omega arith) (omega arith) large) ∙ ap (λ t. record { ty = int.Int; number = t }) (unchanged int.Int (pos 0) (size_range 0 (omega arith))) in
           let m' = with_bytes c.memory (Frame n b) 2 (λ i. bytes.Number (byte_at 0 i)) in
-          comes_within (core_in z) T (4 * 2 + 0) (2 + 0) 2250 0 c
+          comes_within (core_in z) T (4 * 2 + 0) (2 + 0) 2250 1 c
           (sets_then (core_in z) T n None (stack_after z (ground_in z cp) k) W (due_below z (arrived z.outside w) due) (again_below z w) 2 b 0 (code_after (ground_in z cp) k) c.memory c 0 0 (omega arith) (omega arith)
           (subst (λ t. Placed (core_in z) n None t (stack_after z (ground_in z cp) k) c.memory W c) (ap (λ t. todo (if t then sets (Frame n b) 0 2 else (operator ops.Sub int.UInt (Frame n b) (lower.behind (Frame n b) 2) ∷ [] ++ quotient_row (Frame n b) size)) (code_after (ground_in z cp) k)) huge_is) p)
           (λ d pd. lands answer c.memory m' d agrees holds (above_written n b b 2 c.memory (λ i. bytes.Number (byte_at 0 i)) (omega arith)) (subst (λ t. HasDatum z n b (datum.Number t) m') (sym none) (set_there z n b 0 c.memory (omega arith))) pd))
@@ -202,7 +202,7 @@ module _ (z : Scene) (laws : SceneLaws z) (bounded : (o : object.Object) → IsT
           ap (λ t. todo (if t then sets (Frame n b) 0 2 else (operator ops.Sub int.UInt (Frame n b) (lower.behind (Frame n b) 2) ∷ [] ++ quotient_row (Frame n b) size)) (code_after (ground_in z cp) k)) huge_is
           ∙ ap (λ t. todo (operator ops.Sub int.UInt (Frame n b) (lower.behind (Frame n b) 2) ∷ [] ++ (if t then [] else (sets (lower.behind (Frame n b) 2) size 2 ++ operator ops.Div int.Int (Frame n b) (lower.behind (Frame n b) 2) ∷ []))) (code_after (ground_in z cp) k)) one_is
           ∙ ap (λ t. Todo [] (code.Binary ops.Sub int.UInt (Frame n b) (Frame n b) (Frame n t)) ∷ code_after (ground_in z cp) k) second in
-          comes_within (core_in z) T (50 + 0) (1 + 0) 2250 0 c
+          comes_within (core_in z) T (50 + 0) (1 + 0) 2250 1 c
           (distance_then a f g n b T (stack_after z (ground_in z cp) k) W (due_below z (arrived z.outside w) due) (again_below z w) (code_after (ground_in z cp) k) c.memory c 0 0 pf pg room hx hy
           (subst (λ t. Placed (core_in z) n None t (stack_after z (ground_in z cp) k) c.memory W c) now p)
           (λ d m' above h pd. lands answer c.memory m' d agrees holds above (subst (λ t. HasDatum z n b (datum.Number t) m') (sym is) h) pd))
@@ -226,7 +226,7 @@ module _ (z : Scene) (laws : SceneLaws z) (bounded : (o : object.Object) → IsT
           ∙ ap (λ t. Todo [] (code.Binary ops.Sub int.UInt (Frame n b) (Frame n b) (Frame n (b + 2))) ∷ t) (todo_join (sets (Frame n (b + 2)) size 2) (operator ops.Div int.Int (Frame n b) (Frame n (b + 2)) ∷ []) r) in
           let outcome_is : outcome ops.Div (sint (far f g)) (sint (pos size)) ≡ Some answer = ap (λ t. if t then None else Some answer) (divides_well (far f g) size some) in
           let cut_size : sint (pos size) ≡ sint (pos size) = refl in
-          comes_within (core_in z) T (50 + (4 * 2 + (2138 + 0))) (1 + (2 + 0)) 2250 0 c
+          comes_within (core_in z) T (50 + (4 * 2 + (2138 + 0))) (1 + (2 + 0)) 2250 1 c
           (distance_then a f g n b T s W (due_below z (arrived z.outside w) due) (again_below z w) (todo (sets (Frame n (b + 2)) size 2) D) c.memory c (4 * 2 + (2138 + 0)) (2 + 0) pf pg room hx hy
           (subst (λ t. Placed (core_in z) n None t s c.memory W c) now p)
           (λ d1 m1 above1 h1 p1. sets_then (core_in z) T n None s W (due_below z (arrived z.outside w) due) (again_below z w) 2 (b + 2) size D m1 d1 (2138 + 0) 0 (omega arith) (omega arith) p1
@@ -235,7 +235,7 @@ module _ (z : Scene) (laws : SceneLaws z) (bounded : (o : object.Object) → IsT
           let above2 : OnlyAbove n b c.memory m2 = above_then n b c.memory m1 m2 above1 (above_written n b (b + 2) 2 m1 bits_are (omega arith)) in
           let hd : HasDatum z n b (datum.Number (sint (far f g))) m2 = λ i lt. bytes_clear m1 n (b + 2) 2 bits_are (Frame n (b + i)) (inr (inl (omega arith))) ∙ h1 i lt in
           let hs : HasDatum z n (b + 2) (datum.Number (sint (pos size))) m2 = set_there z n (b + 2) size m1 few in
-          helped_then z (core_in z) T n s W (due_below z (arrived z.outside w) due) (again_below z w) ops.Div int.Int b (b + 2) (sint (far f g)) (sint (pos size)) answer r m2 d2 0 0 tt refl (omega arith) there (omega arith) (omega arith) (omega arith)
+          helped_then z (core_in z) T n s W (due_below z (arrived z.outside w) due) (again_below z w) ops.Div int.Int b (b + 2) (sint (far f g)) (sint (pos size)) answer r m2 d2 0 0 tt refl (omega arith) (there one_is) (omega arith) (omega arith) (omega arith)
           (value_number z n b (sint (far f g)) m2 range hd) (value_number z n (b + 2) (sint (pos size)) m2 (size_range size few) hs) outcome_is p2
           (λ helped d3 p3.
           let root = (core_in z).program.root n in
@@ -247,10 +247,10 @@ module _ (z : Scene) (laws : SceneLaws z) (bounded : (o : object.Object) → IsT
           (above_written n b b 2 m3 (core.byte_of (core.Number answer)) (omega arith)) (λ i lt. bytes_there m3 n b 2 (core.byte_of (core.Number answer)) i lt) p3))))
           (omega arith) (omega arith)
 
-  same_case : (one : Bool) (a c_a : object.Object) (f g size : ℕ) (left right : Expression) (line : ℕ) (k : List Pending) (cp : CopyOf) (l : source.Memory) (w : World value.Byte) (c : Machine) → same_object a c_a ≡ one → Around z cp k → Resumables cp.root k → 1 ≤ size → (core_in z).program.helped (number z cp) ops.Div int.Int ≡ true → IsPointer z.program (Into a f) → IsPointer z.program (Into c_a g)
+  same_case : (one : Bool) (a c_a : object.Object) (f g size : ℕ) (left right : Expression) (line : ℕ) (k : List Pending) (cp : CopyOf) (l : source.Memory) (w : World value.Byte) (c : Machine) → same_object a c_a ≡ one → Around z cp k → Resumables cp.root k → 1 ≤ size → (nat_eq size 1 ≡ false → (core_in z).program.helped (number z cp) ops.Div int.Int ≡ true) → IsPointer z.program (Into a f) → IsPointer z.program (Into c_a g)
       → base (ground_in z cp) k + 4 ≤ (core_in z).program.frame_bytes (number z cp) → is_due (arrived z.outside w) ≡ false
       → Mirrors z (state cp (Value (datum.Pointer (Into c_a g))) (In (tree.Difference left right size line) (One (datum.Pointer (Into a f))) ∷ k) l w) c
-      → Follow z 2250 0 c (answered (if one then answers.Gives (datum.Number (cut_to int.Int (int_div (far f g) (pos size)))) else answers.Fails Order) line k cp l (arrived z.outside w))
+      → Follow z 2250 1 c (answered (if one then answers.Gives (datum.Number (cut_to int.Int (int_div (far f g) (pos size)))) else answers.Fails Order) line k cp l (arrived z.outside w))
   unfolding active
   same_case false a c_a f g size left right line k cp l w c one around resumables some there pf pg room due h = tt
   same_case true a c_a f g size left right line k cp l w c one around resumables some there pf pg room due h =
@@ -267,11 +267,11 @@ module _ (z : Scene) (laws : SceneLaws z) (bounded : (o : object.Object) → IsT
       (subst (λ t. Placed (core_in z) n1 None t (stack_after z g1 k) c.memory (world_as (held z) (arrived z.outside w)) c) (ap (λ t. todo (difference_row (Frame t b1) size) (code_after g1 k)) (own_copy z cp))
       (placed_of z (state cp (Value (datum.Pointer (Into c_a g))) (In e (One (datum.Pointer (Into a f))) ∷ k) l w) c h))
 
-  -- a pointer is taken from one that stands there
-  pub difference_given : (x y : Pointer) (size : ℕ) (left right : Expression) (line : ℕ) (k : List Pending) (cp : CopyOf) (l : source.Memory) (w : World value.Byte) (c : Machine) → Around z cp k → Resumables cp.root k → 1 ≤ size → (core_in z).program.helped (number z cp) ops.Div int.Int ≡ true → IsPointer z.program x → IsPointer z.program y
+  -- A pointer is taken from one that stands there. Where an element has more than one byte the distance is divided.
+  pub difference_given : (x y : Pointer) (size : ℕ) (left right : Expression) (line : ℕ) (k : List Pending) (cp : CopyOf) (l : source.Memory) (w : World value.Byte) (c : Machine) → Around z cp k → Resumables cp.root k → 1 ≤ size → (nat_eq size 1 ≡ false → (core_in z).program.helped (number z cp) ops.Div int.Int ≡ true) → IsPointer z.program x → IsPointer z.program y
       → base (ground_in z cp) k + 4 ≤ (core_in z).program.frame_bytes (number z cp) → is_due (arrived z.outside w) ≡ false
       → Mirrors z (state cp (Value (datum.Pointer y)) (In (tree.Difference left right size line) (One (datum.Pointer x)) ∷ k) l w) c
-      → Follow z 2250 0 c (take_in (source_in z) (tree.Difference left right size line) (One (datum.Pointer x)) (datum.Pointer y) k cp l (arrived z.outside w))
+      → Follow z 2250 1 c (take_in (source_in z) (tree.Difference left right size line) (One (datum.Pointer x)) (datum.Pointer y) k cp l (arrived z.outside w))
   unfolding difference_answer
   difference_given Null y size left right line k cp l w c around resumables some there px py room due h = tt
   difference_given (Into a f) Null size left right line k cp l w c around resumables some there px py room due h = tt

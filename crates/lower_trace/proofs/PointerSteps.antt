@@ -31,29 +31,34 @@ use Rattle.lower_trace.proofs.Giving.{Around, placed_of, value_high}
 use Rattle.lower_trace.proofs.Increments.{keeps_is}
 use Rattle.lower_trace.proofs.Kept.{SceneLaws, at_same, own_copy}
 use Rattle.lower_trace.proofs.Mirrors.{HasDatum, Mirrors}
-use Rattle.lower_trace.proofs.Offsets.{distance_is, moved_by, same_distance}
+use Rattle.lower_trace.proofs.Offsets.{distance_is, moved_by, one_element, same_distance}
 use Rattle.lower_trace.proofs.Operating.{or_true}
 use Rattle.lower_trace.proofs.Operations.{beyond_is, comes_within, le_true}
 use Rattle.lower_trace.proofs.Placed.{Placed}
-use Rattle.lower_trace.proofs.PointerSums.{PointsThere, SameMove, mover, pointer_sum_then}
+use Rattle.lower_trace.proofs.PointerSums.{PointsThere, SameMove, mover, null_moved, pointer_sum_then, signed}
 use Rattle.lower_trace.proofs.Scaling.{uint}
 use Rattle.lower_trace.proofs.Takes.{first_standing}
 use Rattle.lower_trace.proofs.Updating.{changed_code, row_writes}
 use Rattle.lower_trace.proofs.Written.{and_right}
 use Rattle.pic_world.specs.World.{World, arrived, is_due, world_as}
 use Rattle.src_rules.specs.Giving.{changes, take_in}
+use Rattle.src_rules.specs.Standing.{IsPointer}
 use Rattle.src_rules.specs.State.{state}
 use Rattle.src_values.specs.Control.{At, In, Pending, Stores, Holds as Value, Write, active}
 use Rattle.src_values.specs.Data as datum
 use Rattle.src_values.specs.Memory as source
-use Rattle.src_values.specs.Objects.{moved}
+use Rattle.src_values.specs.Objects.{moved, object_bytes}
 use Rattle.src_values.specs.Values.{byte_count, change_answer, converted, distance, is_postfix, offset_answer, pointer_or_outside, then_converted}
 use Rattle.src_values.specs.declared.objects.Byte as value
 use Rattle.src_values.specs.declared.objects.CopyOf.{CopyOf}
+use Rattle.src_values.specs.declared.objects.Object as object
+use Rattle.src_values.specs.declared.objects.Pointer.TheVariants.{Into, Null}
 use Rattle.src_values.specs.declared.objects.Pointer.{Pointer}
 use Rattle.src_values.specs.declared.objects.Spot as spot
-use Rattle.std.proofs.Common.{Bool, List, None, Option, Some, [], ap, arith, false, if◌then◌else◌, inr, nat_eq, nat_le, not, pos, refl, subst, sym, true, ℕ, ◌%◌, ◌&&◌, ◌*◌, ◌+◌, ◌<◌, ◌∙◌, ◌∷◌, ◌≡◌, ◌≤◌}
+use Rattle.std.proofs.Common.{Bool, List, None, Option, Some, [], ap, arith, false, if◌then◌else◌, inr, nat_eq, nat_le, not, pos, refl, subst, sym, true, unsigned_abs, ℕ, ◌%◌, ◌&&◌, ◌*◌, ◌+ℤ◌, ◌+◌, ◌<◌, ◌∙◌, ◌∷◌, ◌≡◌, ◌≤◌, ◌||◌}
+use Rattle.std.proofs.lemmas.Grind.{common_steps}
 use Rattle.std.proofs.lemmas.Int.{ints}
+use Rattle.std.specs.Prelude.{int_lt}
 
 pub step_minus : StepOp → Bool
 step_minus shapes.PreIncrement = false
@@ -94,20 +99,50 @@ one_int = omega (arith, ints)
 pub misses_under : (n b y : ℕ) → y + 2 ≤ b → misses (Frame n b) 2 (Frame n y) 2 ≡ true
 misses_under n b y le = or_true (not (nat_eq n n)) _ (or_true (nat_le (b + 2) y) (nat_le (y + 2) b) (le_true (y + 2) b le))
 
+-- ---- elements that are larger than any object
+none_few : (minus : Bool) (size : ℕ) → signed minus size ≡ pos 0 → size < 65536
+none_few true size e = omega (arith, ints, e)
+none_few false size e = omega (arith, ints, e)
+
+inside_few : (minus : Bool) (f size bytes : ℕ) → int_lt (pos f +ℤ signed minus size) (pos 0) ≡ false → int_lt (pos bytes) (pos f +ℤ signed minus size) ≡ false → f ≤ 65535 → bytes ≤ 65535 → size < 65536
+inside_few true f size bytes a b start few = grind (ints, arith, common_steps)
+inside_few false f size bytes a b start few = grind (ints, arith, common_steps)
+
+range_few : (minus : Bool) (f size : ℕ) (o : object.Object) (bytes : ℕ) (y : Pointer) (out : Bool) → (int_lt (pos f +ℤ signed minus size) (pos 0) || int_lt (pos bytes) (pos f +ℤ signed minus size)) ≡ out → (if out then None else Some (Into o (unsigned_abs (pos f +ℤ signed minus size)))) ≡ Some y → f ≤ 65535 → bytes ≤ 65535 → size < 65536
+range_few minus f size o bytes y true is e start few = absurd (cc)
+range_few minus f size o bytes y false is e start few = let parts = neither (int_lt (pos f +ℤ signed minus size) (pos 0)) (int_lt (pos bytes) (pos f +ℤ signed minus size)) is in inside_few minus f size bytes parts.0 parts.1 start few
+  where
+    neither : (a b : Bool) → (a || b) ≡ false → (a ≡ false) × (b ≡ false)
+    neither true b e = absurd (cc)
+    neither false b e = (refl, e)
+
+signed_few : (z : Scene) (minus : Bool) (x y : Pointer) (size : ℕ) → ((o : object.Object) → object_bytes z.program o ≤ 65535) → IsPointer z.program x → moved z.program x (signed minus size) ≡ Some y → size < 65536
+unfolding moved
+signed_few z minus Null y size small h e = none_few minus size (null_moved z (signed minus size) y e).1
+signed_few z minus (Into o f) y size small h e =
+    let few = small o in
+    let at = h.1 in
+    range_few minus f size o (object_bytes z.program o) y (int_lt (pos f +ℤ signed minus size) (pos 0) || int_lt (pos (object_bytes z.program o)) (pos f +ℤ signed minus size)) refl e (omega (arith, few, at)) few
+
+-- a pointer goes on by an element only within its object
+pub step_few : (z : Scene) (minus : Bool) (x y : Pointer) (size : ℕ) → ((o : object.Object) → object_bytes z.program o ≤ 65535) → IsPointer z.program x → moved z.program x (moved_by minus size (pos 1)) ≡ Some y → size < 65536
+step_few z minus x y size small h e = signed_few z minus x y size small h (sym (ap (moved z.program x) (one_element minus size)) ∙ e)
+
 -- the source's new value
 pub pointer_changed : (z : Scene) (live : List CopyOf) (op : BinOp) (from to size : ℕ) (x : Pointer) (q : Quantity) → change_answer z.program live op (types.Pointer from) size (types.Pointer to) (datum.Pointer x) (datum.Number q) ≡ then_converted (types.Pointer to) (pointer_or_outside (moved z.program x (distance op size q.number)))
 unfolding change_answer offset_answer
 pointer_changed z live op from to size x q = refl
 
 module _ (z : Scene) (laws : SceneLaws z) where
-  step_case : (o : Option Pointer) (op : StepOp) (to : Place) (row size line : ℕ) (at : spot.Spot) (x : Pointer) (left_at right_at count : ℕ) (k : List Pending) (cp : CopyOf) (l : source.Memory) (w : World value.Byte) (c : Machine) → moved z.program x (moved_by (step_minus op) size (pos 1)) ≡ o → 1 ≤ size → size < 65536 → PointsThere z.program x → width (ground_in z cp).layout (types.Pointer row) ≡ count
+  step_case : (o : Option Pointer) (op : StepOp) (to : Place) (row size line : ℕ) (at : spot.Spot) (x : Pointer) (left_at right_at count : ℕ) (k : List Pending) (cp : CopyOf) (l : source.Memory) (w : World value.Byte) (c : Machine) → moved z.program x (moved_by (step_minus op) size (pos 1)) ≡ o → 1 ≤ size → ((y : Pointer) → o ≡ Some y → size < 65536) → PointsThere z.program x → width (ground_in z cp).layout (types.Pointer row) ≡ count
       → beyond (behind_pointer (ground_in z cp).layout (ground_in z cp).copy (base (ground_in z cp) k) to) (width (ground_in z cp).layout (types.Pointer row)) ≡ left_at → behind_pointer (ground_in z cp).layout (ground_in z cp).copy (base (ground_in z cp) k) to ≡ right_at
       → (p : Moves z cp k to left_at right_at count) → is_due (arrived z.outside w) ≡ false
       → Mirrors z (state cp (Value (datum.Pointer x)) (In (tree.Step op to (types.Pointer row) size (types.Pointer p.target) line) (At at) ∷ k) l w) c
-      → Follow z 74 0 c (changes (then_converted (types.Pointer p.target) (pointer_or_outside o)) (tree.Step op to (types.Pointer row) size (types.Pointer p.target) line) at (is_postfix op) (datum.Pointer x) line k cp l (arrived z.outside w))
+      → Follow z 44 1 c (changes (then_converted (types.Pointer p.target) (pointer_or_outside o)) (tree.Step op to (types.Pointer row) size (types.Pointer p.target) line) at (is_postfix op) (datum.Pointer x) line k cp l (arrived z.outside w))
   unfolding active converted
-  step_case None op to row size line at x left_at right_at count k cp l w c is some few there count_is left_is right_is p due h = tt
-  step_case (Some y) op to row size line at x left_at right_at count k cp l w c is some few there count_is left_is right_is p due h =
+  step_case None op to row size line at x left_at right_at count k cp l w c is some small there count_is left_is right_is p due h = tt
+  step_case (Some y) op to row size line at x left_at right_at count k cp l w c is some small there count_is left_is right_is p due h =
+      let few = small y refl in
       let e = tree.Step op to (types.Pointer row) size (types.Pointer p.target) line in
       let g = ground_in z cp in
       let n = number z cp in
@@ -119,7 +154,7 @@ module _ (z : Scene) (laws : SceneLaws z) where
       let v = datum.Pointer y in
       let u = if is_postfix op then datum.Pointer x else v in
       let T = Mirrors z (state cp (Write at v 0) (In e (Stores at u) ∷ k) l (arrived z.outside w)) in
-      let small = laws.small n in
+      let low = laws.small n in
       let pw = p.wide in
       let pc = p.count_is in
       let pr = p.right_is in
@@ -147,8 +182,8 @@ module _ (z : Scene) (laws : SceneLaws z) where
       row_writes z g.layout.root s at A L i rest ∙ ap (λ t. writing z g.layout.root s at A (Frame g.copy t) i 0 rest) (sym left_is) in
       let old_at : beyond (stored g b e) wide ≡ kept = ap (λ t. beyond t wide) left_is ∙ ap (beyond left_at) count_is in
       let same : SameMove (step_minus op) size (moved_by (step_minus op) size (pos 1)) = subst (λ t. SameMove (step_minus op) t (moved_by (step_minus op) size (pos 1))) (one_step size few) (same_distance (step_minus op) int.Int (pos 1) size refl (omega (arith, ints), omega (arith, ints))) in
-      comes_within (core_in z) T (24 + (50 + 0)) (1 + 0) 74 0 c
-      (keep_then z (core_in z) T n (stack_after z g k) W (due_below z (arrived z.outside w) due) (again_below z w) small keeps kept left_at i (Todo [] (code.Binary (mover (step_minus op)) int.UInt (Frame n left_at) (Frame n left_at) (Frame n right_at)) ∷ R) c.memory c (50 + 0) (1 + 0) (omega arith) (omega arith) (omega arith) (omega arith)
+      comes_within (core_in z) T (24 + (20 + 0)) (1 + 0) 44 1 c
+      (keep_then z (core_in z) T n (stack_after z g k) W (due_below z (arrived z.outside w) due) (again_below z w) low keeps kept left_at i (Todo [] (code.Binary (mover (step_minus op)) int.UInt (Frame n left_at) (Frame n left_at) (Frame n right_at)) ∷ R) c.memory c (20 + 0) (1 + 0) (omega arith) (omega arith) (omega arith) (omega arith)
       (subst (λ t. Placed (core_in z) n None t (stack_after z g k) c.memory W c) now (placed_of z (state cp (Value (datum.Pointer x)) (In e (At at) ∷ k) l w) c h))
       (λ d1 m1 above1 keep1 p1.
       let low1 = lower_above n left_at kept c.memory m1 (omega arith) above1 in
@@ -177,14 +212,15 @@ module _ (z : Scene) (laws : SceneLaws z) where
       pointer_few : (x : Pointer) (left_at kept : ℕ) → left_at + 2 ≤ kept → left_at + byte_count (datum.Pointer x) ≤ kept
       pointer_few x left_at kept le = le
 
-  pub step_moved : (op : StepOp) (to : Place) (row size line : ℕ) (at : spot.Spot) (x : Pointer) (left_at right_at count : ℕ) (k : List Pending) (cp : CopyOf) (l : source.Memory) (w : World value.Byte) (c : Machine) → 1 ≤ size → size < 65536 → PointsThere z.program x → width (ground_in z cp).layout (types.Pointer row) ≡ count
+  pub step_moved : (op : StepOp) (to : Place) (row size line : ℕ) (at : spot.Spot) (x : Pointer) (left_at right_at count : ℕ) (k : List Pending) (cp : CopyOf) (l : source.Memory) (w : World value.Byte) (c : Machine) → 1 ≤ size → ((y : Pointer) → moved z.program x (moved_by (step_minus op) size (pos 1)) ≡ Some y → size < 65536) → PointsThere z.program x → width (ground_in z cp).layout (types.Pointer row) ≡ count
       → beyond (behind_pointer (ground_in z cp).layout (ground_in z cp).copy (base (ground_in z cp) k) to) (width (ground_in z cp).layout (types.Pointer row)) ≡ left_at → behind_pointer (ground_in z cp).layout (ground_in z cp).copy (base (ground_in z cp) k) to ≡ right_at
       → (p : Moves z cp k to left_at right_at count) → is_due (arrived z.outside w) ≡ false
       → Mirrors z (state cp (Value (datum.Pointer x)) (In (tree.Step op to (types.Pointer row) size (types.Pointer p.target) line) (At at) ∷ k) l w) c
-      → Follow z 74 0 c (take_in (source_in z) (tree.Step op to (types.Pointer row) size (types.Pointer p.target) line) (At at) (datum.Pointer x) k cp l (arrived z.outside w))
+      → Follow z 44 1 c (take_in (source_in z) (tree.Step op to (types.Pointer row) size (types.Pointer p.target) line) (At at) (datum.Pointer x) k cp l (arrived z.outside w))
   step_moved op to row size line at x left_at right_at count k cp l w c some few there count_is left_is right_is p due h =
-      subst (λ a. Follow z 74 0 c (changes a (tree.Step op to (types.Pointer row) size (types.Pointer p.target) line) at (is_postfix op) (datum.Pointer x) line k cp l (arrived z.outside w)))
+      subst (λ a. Follow z 44 1 c (changes a (tree.Step op to (types.Pointer row) size (types.Pointer p.target) line) at (is_postfix op) (datum.Pointer x) line k cp l (arrived z.outside w)))
       (sym (pointer_changed z (active cp (Value (datum.Pointer x)) k) (step_operator op) row p.target size x (cut_to int.Int (pos 1))))
-      (step_case (moved z.program x (distance (step_operator op) size (cut_to int.Int (pos 1)).number)) op to row size line at x left_at right_at count k cp l w c
-      (ap (λ t. moved z.program x t) (sym (distance_is (step_minus op) size (pos 1))) ∙ ap (λ t. moved z.program x (distance t size (pos 1))) (sym (step_mover op)) ∙ ap (λ t. moved z.program x (distance (step_operator op) size t)) (sym one_int))
-      some few there count_is left_is right_is p due h)
+      (step_case (moved z.program x (distance (step_operator op) size (cut_to int.Int (pos 1)).number)) op to row size line at x left_at right_at count k cp l w c same some (λ y e. few y (same ∙ e)) there count_is left_is right_is p due h)
+    where
+      same : moved z.program x (moved_by (step_minus op) size (pos 1)) ≡ moved z.program x (distance (step_operator op) size (cut_to int.Int (pos 1)).number)
+      same = ap (λ t. moved z.program x t) (sym (distance_is (step_minus op) size (pos 1))) ∙ ap (λ t. moved z.program x (distance t size (pos 1))) (sym (step_mover op)) ∙ ap (λ t. moved z.program x (distance (step_operator op) size t)) (sym one_int)

@@ -72,7 +72,7 @@ mover_right : (minus : Bool) → right_type (mover minus) int.UInt ≡ int.UInt
 mover_right true = refl
 mover_right false = refl
 
-mover_cost : (minus : Bool) (count : Option ℕ) → binary_cost (mover minus) count 2 ≤ 50
+mover_cost : (minus : Bool) (count : Option ℕ) → binary_cost (mover minus) count 2 ≤ 20
 mover_cost true count = omega arith
 mover_cost false count = omega arith
 
@@ -122,7 +122,7 @@ module _ (z : Scene) (laws : SceneLaws z) where
   pub pointer_sum_then : (minus : Bool) (x y : Pointer) (by : ℤ) (num n b at : ℕ) (T : Machine → Type 0) (s : List Waiting) (w : World Held) (due : is_due w ≡ false) (now : arrived (core_in z).outside w ≡ w) (r : List Task) (m : Memory) (c : Machine) (q l : ℕ) → PointsThere z.program x → moved z.program x by ≡ Some y → num < 65536 → SameMove minus num by
       → misses (Frame n b) 2 (Frame n at) 2 ≡ true → b + 2 ≤ (core_in z).program.frame_bytes n → at + 2 ≤ (core_in z).program.frame_bytes n → HasDatum z n b (datum.Pointer x) m → HasDatum z n at (datum.Number (uint num)) m
       → Placed (core_in z) n None (Todo [] (code.Binary (mover minus) int.UInt (Frame n b) (Frame n b) (Frame n at)) ∷ r) s m w c
-      → ((d : Machine) (m' : Memory) → ((t : ℕ) → b + 2 ≤ t → m' (Frame n t) ≡ m (Frame n t)) → OnlyAbove n b m m' → HasDatum z n b (datum.Pointer y) m' → Placed (core_in z) n None r s m' w d → Comes (core_in z) T q l d) → Comes (core_in z) T (50 + q) (1 + l) c
+      → ((d : Machine) (m' : Memory) → ((t : ℕ) → b + 2 ≤ t → m' (Frame n t) ≡ m (Frame n t)) → OnlyAbove n b m m' → HasDatum z n b (datum.Pointer y) m' → Placed (core_in z) n None r s m' w d → Comes (core_in z) T q l d) → Comes (core_in z) T (20 + q) (1 + l) c
   unfolding extent
   pointer_sum_then minus Null y by num n b at T s w due now r m c q l there is lt same apart room from hx hy p next =
       let null = null_moved z by y is in
@@ -130,7 +130,7 @@ module _ (z : Scene) (laws : SceneLaws z) where
       let zero_there : HasDatum z n at (datum.Number (uint 0)) m = subst (λ t. HasDatum z n at (datum.Number (uint t)) m) none hy in
       let null_there : HasDatum z n b (datum.Number (uint 0)) m = λ j few. hx j few ∙ sym (null_byte j few) in
       let m' = with_bytes m (Frame n b) 2 (core.byte_of (core.Number (uint 0))) in
-      binary_any_then (core_in z) T n s w due now (mover minus) int.UInt (Frame n b) (Frame n b) (Frame n at) (core.Number (uint 0)) (core.Number (uint 0)) (core.Number (uint 0)) r m c q l 50
+      binary_any_then (core_in z) T n s w due now (mover minus) int.UInt (Frame n b) (Frame n b) (Frame n at) (core.Number (uint 0)) (core.Number (uint 0)) (core.Number (uint 0)) r m c q l 20
       (λ before. mover_fits minus (number_left before (Frame n at)) n b at apart) (mover_alone minus) (own_frame (core_in z).program n b 2 room) (ap (λ t. is_own (core_in z).program n (Frame n at) (bytes_of t)) (mover_right minus) ∙ own_frame (core_in z).program n at 2 from)
       (value_number z n b (uint 0) m (uint_range 0 (omega arith)) null_there) (ap (λ t. value_in t m (Frame n at)) (mover_right minus) ∙ value_number z n at (uint 0) m (uint_range 0 (omega arith)) zero_there)
       (λ s' e. mover_null minus (extent (core_in z).program n s')) (own_frame (core_in z).program n b 2 room) (mover_cost minus) (mover_least minus) p
@@ -146,7 +146,7 @@ module _ (z : Scene) (laws : SceneLaws z) where
       let gives : (s' : List Waiting) → binary_value (extent (core_in z).program n s') (mover minus) int.UInt (core.Pointer from_is) (core.Number (uint num)) ≡ Some result =
       λ s'. mover_moves minus (extent (core_in z).program n s') from_is num ∙ (mv s').core_is ∙ ap (λ t. Some (core.Pointer (record { object = object_as z.copies o; offset = offset_as z.program o + t }))) (offset_is s') in
       let m' = with_bytes m (Frame n b) 2 (core.byte_of result) in
-      binary_any_then (core_in z) T n s w due now (mover minus) int.UInt (Frame n b) (Frame n b) (Frame n at) (core.Pointer from_is) (core.Number (uint num)) result r m c q l 50
+      binary_any_then (core_in z) T n s w due now (mover minus) int.UInt (Frame n b) (Frame n b) (Frame n at) (core.Pointer from_is) (core.Number (uint num)) result r m c q l 20
       (λ before. mover_fits minus (number_left before (Frame n at)) n b at apart) (mover_alone minus) (own_frame (core_in z).program n b 2 room) (ap (λ t. is_own (core_in z).program n (Frame n at) (bytes_of t)) (mover_right minus) ∙ own_frame (core_in z).program n at 2 from)
       (pointer_value z n b o f m hx) (ap (λ t. value_in t m (Frame n at)) (mover_right minus) ∙ value_number z n at (uint num) m (uint_range num lt) hy)
       (λ s' e. gives s') (own_frame (core_in z).program n b 2 room) (mover_cost minus) (mover_least minus) p

@@ -396,7 +396,7 @@ module _ (z : Scene) (laws : SceneLaws z) (some : (o : object.Object) → IsTher
       ∙ ap (λ t. Todo [] (code.Binary op (operation_type t) (Frame g.copy b) (Frame g.copy b) (Frame g.copy (beyond b (value_width g.layout left)))) ∷ code_after g k) points
       ∙ ap (λ f. Todo [] (code.Binary op int.UInt (Frame g.copy b) (Frame g.copy b) (Frame g.copy f)) ∷ code_after g k) second
       ∙ ap (λ f. Todo [] (code.Binary op int.UInt (Frame f b) (Frame f b) (Frame f (b + 2))) ∷ code_after g k) (own_copy z cp) in
-      let hx : HasDatum z n b (datum.Pointer x) c.memory = subst (λ f. HasDatum z f b (datum.Pointer x) c.memory) (own_copy z cp) h.holds.0 in
+      let hx : HasDatum z n b (datum.Pointer x) c.memory = subst (λ f. HasDatum z f b (datum.Pointer x) c.memory) (own_copy z cp) h.holds.0.0 in
       let hy : HasDatum z n (b + 2) (datum.Pointer y) c.memory = subst (λ f. HasDatum z n f (datum.Pointer y) c.memory) second (subst (λ f. HasDatum z f (beyond b (value_width g.layout left)) (datum.Pointer y) c.memory) (own_copy z cp) h.value) in
       let right_is = plain_right op int.UInt plain in
       comes_within (core_in z) T (50 + 0) (1 + 0) 50 1 c

@@ -53,11 +53,11 @@ mover_plain true right = refl
 mover_plain false right = refl
 
 module _ (z : Scene) (laws : SceneLaws z) where
-  update_case : (o : Option Pointer) (minus : Bool) (to : Place) (right : Expression) (row size line : ℕ) (at : spot.Spot) (x : Pointer) (q : Quantity) (left_at right_at count : ℕ) (k : List Pending) (cp : CopyOf) (l : source.Memory) (w : World value.Byte) (c : Machine) → moved z.program x (moved_by minus size q.number) ≡ o → bytes_of q.ty ≡ 2 → IsInRange q.ty q.number → 1 ≤ size → size < 65536 → PointsThere z.program x
+  update_case : (o : Option Pointer) (minus : Bool) (to : Place) (right : Expression) (row size line : ℕ) (at : spot.Spot) (x : Pointer) (q : Quantity) (left_at right_at count : ℕ) (k : List Pending) (cp : CopyOf) (l : source.Memory) (w : World value.Byte) (c : Machine) → moved z.program x (moved_by minus size q.number) ≡ o → bytes_of q.ty ≡ 2 → IsInRange q.ty q.number → 1 ≤ size → size < 2199023255552 → PointsThere z.program x
       → beyond (behind_pointer (ground_in z cp).layout (ground_in z cp).copy (base (ground_in z cp) k) to) (value_width (ground_in z cp).layout right) ≡ left_at → behind_pointer (ground_in z cp).layout (ground_in z cp).copy (base (ground_in z cp) k) to ≡ right_at
       → (p : Moves z cp k to left_at right_at count) → is_due (arrived z.outside w) ≡ false
       → Mirrors z (state cp (Value (datum.Pointer x)) (In (tree.Update (mover minus) to right (types.Pointer row) size (types.Pointer p.target) line) (AtWith at (datum.Number q)) ∷ k) l w) c
-      → Follow z 1562 0 c (changes (then_converted (types.Pointer p.target) (pointer_or_outside o)) (tree.Update (mover minus) to right (types.Pointer row) size (types.Pointer p.target) line) at false (datum.Pointer x) line k cp l (arrived z.outside w))
+      → Follow z 1632 1 c (changes (then_converted (types.Pointer p.target) (pointer_or_outside o)) (tree.Update (mover minus) to right (types.Pointer row) size (types.Pointer p.target) line) at false (datum.Pointer x) line k cp l (arrived z.outside w))
   unfolding active converted
   update_case None minus to right row size line at x q left_at right_at count k cp l w c is two range some few there left_is right_is p due h = tt
   update_case (Some y) minus to right row size line at x q left_at right_at count k cp l w c is two range some few there left_is right_is p due h =
@@ -109,12 +109,12 @@ module _ (z : Scene) (laws : SceneLaws z) where
       (subst (λ y. HasDatum z g.copy (stored g b e) y m') (sym (first_standing at v))
       (λ j lt. ap (λ t. m' (Frame t (stored g b e + j))) (own_copy z cp) ∙ ap (λ t. m' (Frame n (t + j))) left_is ∙ hr j lt)))
 
-  pub update_moved : (minus : Bool) (to : Place) (right : Expression) (row size line : ℕ) (at : spot.Spot) (x : Pointer) (q : Quantity) (left_at right_at count : ℕ) (k : List Pending) (cp : CopyOf) (l : source.Memory) (w : World value.Byte) (c : Machine) → bytes_of q.ty ≡ 2 → IsInRange q.ty q.number → 1 ≤ size → size < 65536 → PointsThere z.program x
+  pub update_moved : (minus : Bool) (to : Place) (right : Expression) (row size line : ℕ) (at : spot.Spot) (x : Pointer) (q : Quantity) (left_at right_at count : ℕ) (k : List Pending) (cp : CopyOf) (l : source.Memory) (w : World value.Byte) (c : Machine) → bytes_of q.ty ≡ 2 → IsInRange q.ty q.number → 1 ≤ size → size < 2199023255552 → PointsThere z.program x
       → beyond (behind_pointer (ground_in z cp).layout (ground_in z cp).copy (base (ground_in z cp) k) to) (value_width (ground_in z cp).layout right) ≡ left_at → behind_pointer (ground_in z cp).layout (ground_in z cp).copy (base (ground_in z cp) k) to ≡ right_at
       → (p : Moves z cp k to left_at right_at count) → is_due (arrived z.outside w) ≡ false
       → Mirrors z (state cp (Value (datum.Pointer x)) (In (tree.Update (mover minus) to right (types.Pointer row) size (types.Pointer p.target) line) (AtWith at (datum.Number q)) ∷ k) l w) c
-      → Follow z 1562 0 c (take_in (source_in z) (tree.Update (mover minus) to right (types.Pointer row) size (types.Pointer p.target) line) (AtWith at (datum.Number q)) (datum.Pointer x) k cp l (arrived z.outside w))
+      → Follow z 1632 1 c (take_in (source_in z) (tree.Update (mover minus) to right (types.Pointer row) size (types.Pointer p.target) line) (AtWith at (datum.Number q)) (datum.Pointer x) k cp l (arrived z.outside w))
   update_moved minus to right row size line at x q left_at right_at count k cp l w c two range some few there left_is right_is p due h =
-      subst (λ a. Follow z 1562 0 c (changes a (tree.Update (mover minus) to right (types.Pointer row) size (types.Pointer p.target) line) at false (datum.Pointer x) line k cp l (arrived z.outside w)))
+      subst (λ a. Follow z 1632 1 c (changes a (tree.Update (mover minus) to right (types.Pointer row) size (types.Pointer p.target) line) at false (datum.Pointer x) line k cp l (arrived z.outside w)))
       (sym (pointer_changed z (active cp (Value (datum.Pointer x)) k) (mover minus) row p.target size x q))
       (update_case (moved z.program x (distance (mover minus) size q.number)) minus to right row size line at x q left_at right_at count k cp l w c (ap (λ t. moved z.program x t) (sym (distance_is minus size q.number))) two range some few there left_is right_is p due h)

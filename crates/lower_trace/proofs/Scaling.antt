@@ -4,7 +4,7 @@ use Rattle.c_ints.specs.Quantity.{Quantity}
 use Rattle.c_ints.specs.Range.{IsInRange, cut}
 use Rattle.c_ints.specs.declared.operators.BinOp.TheVariants as ops
 use Rattle.c_ints.specs.declared.types.IntTy.TheVariants as int
-use Rattle.core_code.specs.Bytes.{Held, Memory, with_bytes}
+use Rattle.core_code.specs.Bytes.{Held, Memory, same_byte, with_bytes}
 use Rattle.core_code.specs.Machine.{Machine, Setting, Task, Do as Todo, Waiting}
 use Rattle.core_code.specs.Operands.{fits_together}
 use Rattle.core_code.specs.Values as core
@@ -12,18 +12,18 @@ use Rattle.core_code.specs.Values.{binary_value}
 use Rattle.core_code.specs.declared.code.Byte.TheVariants.{Frame}
 use Rattle.lower_expr.specs.Puts.{copies, operator}
 use Rattle.lower_expr.specs.Rows.{multiples, odd_part, scaled}
-use Rattle.lower_trace.proofs.Changing.{OnlyAbove, above_same, above_then, above_written, datum_above, sum_then}
+use Rattle.lower_trace.proofs.Changing.{OnlyAbove, above_same, above_then, above_written, datum_above}
 use Rattle.lower_trace.proofs.CodeLeft.{Scene, todo}
 use Rattle.lower_trace.proofs.FixedWrites.{move_then}
 use Rattle.lower_trace.proofs.Mirrors.{HasDatum}
 use Rattle.lower_trace.proofs.Moving.{binary_any_then}
-use Rattle.lower_trace.proofs.Operating.{itself, value_number}
-use Rattle.lower_trace.proofs.Operations.{Comes, comes_within, own_frame}
+use Rattle.lower_trace.proofs.Operating.{itself, or_true, value_number}
+use Rattle.lower_trace.proofs.Operations.{Comes, comes_within, le_true, own_frame}
 use Rattle.lower_trace.proofs.Placed.{Placed, todo_join}
 use Rattle.lower_trace.proofs.Written.{both, bytes_there}
 use Rattle.pic_world.specs.World.{World, arrived, is_due}
 use Rattle.src_values.specs.Data as datum
-use Rattle.std.proofs.Common.{Bool, List, None, [], ap, arith, false, if◌then◌else◌, inr, nat_eq, nat_lt, pos, refl, subst, suc, true, zero, ℕ, ◌%◌, ◌*◌, ◌++◌, ◌+ℤ◌, ◌+◌, ◌/◌, ◌<◌, ◌∙◌, ◌∷◌, ◌≡◌, ◌≤◌}
+use Rattle.std.proofs.Common.{Bool, List, None, [], ap, arith, false, if◌then◌else◌, inr, nat_eq, nat_le, nat_lt, not, pos, refl, subst, suc, true, zero, ℕ, ◌%◌, ◌*◌, ◌++◌, ◌+ℤ◌, ◌+◌, ◌/◌, ◌<◌, ◌∙◌, ◌∷◌, ◌≡◌, ◌≤◌}
 use Rattle.std.proofs.Math.Nat.{suc-mul}
 use Rattle.std.proofs.lemmas.Grind.{common_steps}
 use Rattle.std.proofs.lemmas.Int.{ints}
@@ -58,15 +58,15 @@ module _ (z : Scene) (g : Setting) (T : Machine → Type 0) (n : ℕ) (s : List 
   -- a number is doubled where it stands
   double_then : (x b : ℕ) (r : List Task) (m : Memory) (c : Machine) (q l : ℕ) → x < 65536 → b + 2 ≤ g.program.frame_bytes n → HasDatum z n b (datum.Number (uint x)) m
       → Placed g n None (Todo [] (operator ops.Add int.UInt (Frame n b) (Frame n b)) ∷ r) s m w c
-      → ((d : Machine) (m' : Memory) → OnlyAbove n b m m' → HasDatum z n b (datum.Number (uint ((x + x) % 65536))) m' → Placed g n None r s m' w d → Comes g T q l d) → Comes g T (50 + q) l c
+      → ((d : Machine) (m' : Memory) → OnlyAbove n b m m' → HasDatum z n b (datum.Number (uint ((x + x) % 65536))) m' → Placed g n None r s m' w d → Comes g T q l d) → Comes g T (20 + q) l c
   unfolding fits_together binary_value
   double_then x b r m c q l lt room hx p next =
       let v = value_of ops.Add (uint x) (uint x) in
       let m' = with_bytes m (Frame n b) 2 (core.byte_of (core.Number v)) in
       let vx = value_number z n b (uint x) m (uint_range x lt) hx in
       let own = own_frame g.program n b 2 room in
-      comes_within g T (50 + q) (1 + l) (50 + q) l c
-      (binary_any_then g T n s w due now ops.Add int.UInt (Frame n b) (Frame n b) (Frame n b) (core.Number (uint x)) (core.Number (uint x)) (core.Number v) r m c q l 50
+      comes_within g T (20 + q) (1 + l) (20 + q) l c
+      (binary_any_then g T n s w due now ops.Add int.UInt (Frame n b) (Frame n b) (Frame n b) (core.Number (uint x)) (core.Number (uint x)) (core.Number v) r m c q l 20
       (λ before. both _ _ (itself n b 2) (itself n b 2)) (λ count. refl) own own vx vx (λ s' e. refl) own (λ count. omega arith) (omega arith) p
       (λ d pd. next d m' (above_written n b b 2 m (core.byte_of (core.Number v)) (omega arith))
       (subst (λ t. HasDatum z n b (datum.Number t) m') (uint_sum x x) (λ j few. bytes_there m n b 2 (core.byte_of (core.Number v)) j few)) pd))
@@ -75,15 +75,24 @@ module _ (z : Scene) (g : Setting) (T : Machine → Type 0) (n : ℕ) (s : List 
   -- the number itself is added, if the digit is 1
   odd_then : (odd : Bool) (size x v b y : ℕ) (r : List Task) (m : Memory) (c : Machine) (q l : ℕ) → nat_eq (size % 2) 1 ≡ odd → x < 65536 → v < 65536 → y + 2 ≤ b → b + 2 ≤ g.program.frame_bytes n → HasDatum z n b (datum.Number (uint v)) m → HasDatum z n y (datum.Number (uint x)) m
       → Placed g n None (todo (odd_part (Frame n b) (Frame n y) size) r) s m w c
-      → ((d : Machine) (m' : Memory) → OnlyAbove n b m m' → HasDatum z n b (datum.Number (uint ((v + (if odd then x else 0)) % 65536))) m' → Placed g n None r s m' w d → Comes g T q l d) → Comes g T (50 + q) l c
+      → ((d : Machine) (m' : Memory) → OnlyAbove n b m m' → HasDatum z n b (datum.Number (uint ((v + (if odd then x else 0)) % 65536))) m' → Placed g n None r s m' w d → Comes g T q l d) → Comes g T (20 + q) l c
+  unfolding fits_together binary_value
   odd_then true size x v b y r m c q l odd lt vl low room hv hx p next =
-      comes_within g T (50 + q) (1 + l) (50 + q) l c
-      (sum_then z g T n s w due now ops.Add (uint v) (uint x) b y r m c q l tt (uint_range v vl) (uint_range x lt) refl low room hv hx
+      let sum = value_of ops.Add (uint v) (uint x) in
+      let m' = with_bytes m (Frame n b) 2 (core.byte_of (core.Number sum)) in
+      let vv = value_number z n b (uint v) m (uint_range v vl) hv in
+      let vx = value_number z n y (uint x) m (uint_range x lt) hx in
+      let own = own_frame g.program n b 2 room in
+      comes_within g T (20 + q) (1 + l) (20 + q) l c
+      (binary_any_then g T n s w due now ops.Add int.UInt (Frame n b) (Frame n b) (Frame n y) (core.Number (uint v)) (core.Number (uint x)) (core.Number sum) r m c q l 20
+      (λ before. both _ _ (itself n b 2) (or_true (same_byte (Frame n b) (Frame n y)) _ (or_true (not (nat_eq n n)) _ (or_true (nat_le (b + 2) y) (nat_le (y + 2) b) (le_true (y + 2) b low))))) (λ count. refl)
+      own (own_frame g.program n y 2 (omega arith)) vv vx (λ s' e. refl) own (λ count. omega arith) (omega arith)
       (subst (λ t. Placed g n None t s m w c) (ap (λ t. todo (if t then operator ops.Add int.UInt (Frame n b) (Frame n y) ∷ [] else []) r) odd) p)
-      (λ d m' above far h pd. next d m' above (subst (λ t. HasDatum z n b (datum.Number t) m') (uint_sum v x) h) pd))
+      (λ d pd. next d m' (above_written n b b 2 m (core.byte_of (core.Number sum)) (omega arith))
+      (subst (λ t. HasDatum z n b (datum.Number t) m') (uint_sum v x) (λ j few. bytes_there m n b 2 (core.byte_of (core.Number sum)) j few)) pd))
       (omega arith) (omega arith)
   odd_then false size x v b y r m c q l odd lt vl low room hv hx p next =
-      comes_within g T q l (50 + q) l c
+      comes_within g T q l (20 + q) l c
       (next c m (above_same n b m) (subst (λ t. HasDatum z n b (datum.Number (uint t)) m) (let e : v ≡ (v + 0) % 65536 = omega arith in e) hv)
       (subst (λ t. Placed g n None t s m w c) (ap (λ t. todo (if t then operator ops.Add int.UInt (Frame n b) (Frame n y) ∷ [] else []) r) odd) p))
       (omega arith) (omega arith)
@@ -116,14 +125,14 @@ module _ (z : Scene) (g : Setting) (T : Machine → Type 0) (n : ℕ) (s : List 
   abbrev Multiplies : ℕ → Type 0
   Multiplies digits = (e size x b y : ℕ) (r : List Task) (m : Memory) (c : Machine) (q l : ℕ) → 1 ≤ size → size < two_to e → e ≤ digits → x < 65536 → y + 2 ≤ b → b + 2 ≤ g.program.frame_bytes n → HasDatum z n b (datum.Number (uint x)) m → HasDatum z n y (datum.Number (uint x)) m
       → Placed g n None (todo (multiples (Frame n b) (Frame n y) size digits) r) s m w c
-      → ((d : Machine) (m' : Memory) → OnlyAbove n b m m' → HasDatum z n b (datum.Number (uint (x * size % 65536))) m' → Placed g n None r s m' w d → Comes g T q l d) → Comes g T (100 * e + q) l c
+      → ((d : Machine) (m' : Memory) → OnlyAbove n b m m' → HasDatum z n b (datum.Number (uint (x * size % 65536))) m' → Placed g n None r s m' w d → Comes g T q l d) → Comes g T (40 * e + q) l c
 
   multiples_case : (few : Bool) (e digits size x b y : ℕ) (r : List Task) (m : Memory) (c : Machine) (q l : ℕ) → Multiplies digits → nat_lt size 2 ≡ few → 1 ≤ size → size < two_to e → e ≤ suc digits → x < 65536 → y + 2 ≤ b → b + 2 ≤ g.program.frame_bytes n → HasDatum z n b (datum.Number (uint x)) m → HasDatum z n y (datum.Number (uint x)) m
       → Placed g n None (todo (if few then [] else ((multiples (Frame n b) (Frame n y) (size / 2) digits ++ (operator ops.Add int.UInt (Frame n b) (Frame n b) ∷ [])) ++ odd_part (Frame n b) (Frame n y) size)) r) s m w c
-      → ((d : Machine) (m' : Memory) → OnlyAbove n b m m' → HasDatum z n b (datum.Number (uint (x * size % 65536))) m' → Placed g n None r s m' w d → Comes g T q l d) → Comes g T (100 * e + q) l c
+      → ((d : Machine) (m' : Memory) → OnlyAbove n b m m' → HasDatum z n b (datum.Number (uint (x * size % 65536))) m' → Placed g n None r s m' w d → Comes g T q l d) → Comes g T (40 * e + q) l c
   multiples_case true e digits size x b y r m c q l more few some lt deep xl low room hb hy p next =
       let one : size ≡ 1 = grind (arith, common_steps) in
-      comes_within g T q l (100 * e + q) l c
+      comes_within g T q l (40 * e + q) l c
       (next c m (above_same n b m) (subst (λ t. HasDatum z n b (datum.Number (uint t)) m) (once x size one xl) hb) p)
       (omega arith) (omega arith)
   multiples_case false zero digits size x b y r m c q l more few some lt deep xl low room hb hy p next = absurd (grind (arith, common_steps))
@@ -132,11 +141,11 @@ module _ (z : Scene) (g : Setting) (T : Machine → Type 0) (n : ℕ) (s : List 
       let half = size / 2 in
       let v = x * half % 65536 in
       let R = todo (odd_part (Frame n b) (Frame n y) size) r in
-      comes_within g T (100 * e + (50 + (50 + q))) l (100 * suc e + q) l c
-      (more e half x b y (Todo [] (operator ops.Add int.UInt (Frame n b) (Frame n b)) ∷ R) m c (50 + (50 + q)) l (omega arith) (omega arith) (omega arith) xl low room hb hy
+      comes_within g T (40 * e + (20 + (20 + q))) l (40 * suc e + q) l c
+      (more e half x b y (Todo [] (operator ops.Add int.UInt (Frame n b) (Frame n b)) ∷ R) m c (20 + (20 + q)) l (omega arith) (omega arith) (omega arith) xl low room hb hy
       (subst (λ t. Placed g n None t s m w c) (todo_join (multiples (Frame n b) (Frame n y) half digits ++ (operator ops.Add int.UInt (Frame n b) (Frame n b) ∷ [])) (odd_part (Frame n b) (Frame n y) size) r ∙ todo_join (multiples (Frame n b) (Frame n y) half digits) (operator ops.Add int.UInt (Frame n b) (Frame n b) ∷ []) R) p)
       (λ d1 m1 above1 h1 p1.
-      double_then v b R m1 d1 (50 + q) l (omega arith) room h1 p1
+      double_then v b R m1 d1 (20 + q) l (omega arith) room h1 p1
       (λ d2 m2 above2 h2 p2.
       odd_then (nat_eq (size % 2) 1) size x ((v + v) % 65536) b y r m2 d2 q l refl xl (omega arith) low room h2 (datum_above z n y b (datum.Number (uint x)) m m2 low (above_then n b m m1 m2 above1 above2) hy) p2
       (λ d3 m3 above3 h3 p3.
@@ -147,24 +156,24 @@ module _ (z : Scene) (g : Setting) (T : Machine → Type 0) (n : ℕ) (s : List 
   multiples_then : (digits : ℕ) → Multiplies digits
   unfolding multiples
   multiples_then zero zero size x b y r m c q l some lt deep xl low room hb hy p next =
-      comes_within g T q l (100 * 0 + q) l c
+      comes_within g T q l (40 * 0 + q) l c
       (next c m (above_same n b m) (subst (λ t. HasDatum z n b (datum.Number (uint t)) m) (once x size (omega arith) xl) hb) p)
       (omega arith) (omega arith)
   multiples_then zero (suc e) size x b y r m c q l some lt deep xl low room hb hy p next = absurd (omega arith)
   multiples_then (suc digits) e size x b y r m c q l some lt deep xl low room hb hy p next = multiples_case (nat_lt size 2) e digits size x b y r m c q l (multiples_then digits) refl some lt deep xl low room hb hy p next
 
-  -- the number at y times the size, at b
-  pub scaled_then : (size x b y : ℕ) (r : List Task) (m : Memory) (c : Machine) (q l : ℕ) → 1 ≤ size → size < 65536 → x < 65536 → y + 2 ≤ b → b + 2 ≤ g.program.frame_bytes n → HasDatum z n y (datum.Number (uint x)) m
+  -- the number at y times the size, which has 41 binary digits at most, at b
+  pub scaled_then : (size x b y : ℕ) (r : List Task) (m : Memory) (c : Machine) (q l : ℕ) → 1 ≤ size → size < 2199023255552 → x < 65536 → y + 2 ≤ b → b + 2 ≤ g.program.frame_bytes n → HasDatum z n y (datum.Number (uint x)) m
       → Placed g n None (todo (scaled (Frame n b) (Frame n y) size) r) s m w c
-      → ((d : Machine) (m' : Memory) → OnlyAbove n b m m' → HasDatum z n b (datum.Number (uint (x * size % 65536))) m' → Placed g n None r s m' w d → Comes g T q l d) → Comes g T (1512 + q) l c
+      → ((d : Machine) (m' : Memory) → OnlyAbove n b m m' → HasDatum z n b (datum.Number (uint (x * size % 65536))) m' → Placed g n None r s m' w d → Comes g T q l d) → Comes g T (1612 + q) l c
   scaled_then size x b y r m c q l some lt xl low room hy p next =
       let m1 = with_bytes m (Frame n b) 2 (λ j. m (Frame n (y + j))) in
       let above1 = above_written n b b 2 m (λ j. m (Frame n (y + j))) (omega arith) in
-      comes_within g T (6 * 2 + (100 * 15 + q)) (2 + l) (1512 + q) l c
-      (move_then g T n None s w due now small b y 2 (todo (multiples (Frame n b) (Frame n y) size 64) r) m c (100 * 15 + q) l (inr low) room (omega arith)
+      comes_within g T (6 * 2 + (40 * 40 + q)) (2 + l) (1612 + q) l c
+      (move_then g T n None s w due now small b y 2 (todo (multiples (Frame n b) (Frame n y) size 64) r) m c (40 * 40 + q) l (inr low) room (omega arith)
       (subst (λ t. Placed g n None t s m w c) (todo_join (copies (Frame n b) (Frame n y) 2) (multiples (Frame n b) (Frame n y) size 64) r) p)
       (λ d1 p1.
-      multiples_then 64 15 size x b y r m1 d1 q l some lt (omega arith) xl low room
+      multiples_then 64 40 size x b y r m1 d1 q l some lt (omega arith) xl low room
       (λ j few. bytes_there m n b 2 (λ j. m (Frame n (y + j))) j few ∙ hy j few)
       (datum_above z n y b (datum.Number (uint x)) m m1 low above1 hy) p1
       (λ d2 m2 above2 h2 p2. next d2 m2 (above_then n b m m1 m2 above1 above2) h2 p2)))

@@ -194,7 +194,7 @@ module _ (z : Scene) (given : IsLowerable z.program z.copies) where
       mapped_twice (y ∷ xs) zero x e = ap (λ s. map first_held (firsts.static_bytes p.sizes s)) (same_Some y x e)
       mapped_twice (y ∷ xs) (suc i) x e = mapped_twice xs i x e
 
-  static_small : (n : ℕ) → n < length p.statics → object_bytes p (objects.Fixed n) ≤ 96
+  pub static_small : (n : ℕ) → n < length p.statics → object_bytes p (objects.Fixed n) ≤ 96
   unfolding object_bytes
   static_small n lt =
       let s = element_there p.statics n lt in

@@ -58,17 +58,17 @@ arguments_high z g b before (tree.AndExpression e es) (v ∷ vs) m m' small s h 
     (datum_same z g.copy (beyond b before) v m m' (λ y le lt. s y (omega arith)) h.0, arguments_high z g b (beyond before (value_width g.layout e)) es vs m m' small s h.1)
 
 waits_high : (z : Scene) (g : Ground) (b : ℕ) (w : Bool) (e : Expression) (got : Got) (m m' : Memory) → b ≤ 65535 → ((y : ℕ) → b ≤ y → m' (Frame g.copy y) ≡ m (Frame g.copy y)) → Waits z g b w e got m → Waits z g b w e got m'
-waits_high z g b w (tree.Binary op left right ty line) (One u) m m' small s h = datum_same z g.copy b u m m' (λ y le lt. s y le) h
+waits_high z g b w (tree.Binary op left right ty line) (One u) m m' small s h = (datum_same z g.copy b u m m' (λ y le lt. s y le) h.0, h.1)
 waits_high z g b w (tree.Offset op left right size ty line) (One u) m m' small s h = datum_same z g.copy b u m m' (λ y le lt. s y le) h
 waits_high z g b w (tree.Difference left right size line) (One u) m m' small s h = datum_same z g.copy b u m m' (λ y le lt. s y le) h
 waits_high z g b w (tree.Read place ty line) (At at) m m' small s h = at_same z g.copy b (spot_of g.layout g.copy place) at m m' (λ y le lt. s y le) h
 waits_high z g b w (tree.Assign place value ty line) (At at) m m' small s h = at_same z g.copy b (spot_of g.layout g.copy place) at m m' (λ y le lt. s y le) h
 waits_high z g b w (tree.Assign place value ty line) (Stores at v) m m' small s h = at_same z g.copy b (spot_of g.layout g.copy place) at m m' (λ y le lt. s y le) h
 waits_high z g b w (tree.StructAssign place from size line) (At at) m m' small s h = at_same z g.copy b (spot_of g.layout g.copy place) at m m' (λ y le lt. s y le) h
-waits_high z g b w (tree.Update op place value operation size ty line) (At at) m m' small s h = at_same z g.copy b (spot_of g.layout g.copy place) at m m' (λ y le lt. s y le) h
+waits_high z g b w (tree.Update op place value operation size ty line) (At at) m m' small s h = (at_same z g.copy b (spot_of g.layout g.copy place) at m m' (λ y le lt. s y le) h.0, h.1)
 waits_high z g b w (tree.Update op place value operation size ty line) (AtWith at u) m m' small s h =
     let q = beyond_high b (pointer_bytes (spot_of g.layout g.copy place)) small in
-    (at_same z g.copy b (spot_of g.layout g.copy place) at m m' (λ y le lt. s y le) h.0, λ e. datum_same z g.copy (behind_pointer g.layout g.copy b place) u m m' (λ y le lt. s y (omega arith)) (h.1 e))
+    (at_same z g.copy b (spot_of g.layout g.copy place) at m m' (λ y le lt. s y le) h.0, λ e. datum_same z g.copy (behind_pointer g.layout g.copy b place) u m m' (λ y le lt. s y (omega arith)) (h.1 e), h.2)
 waits_high z g b w (tree.Update op place value operation size ty line) (Stores at v) m m' small s h = at_same z g.copy b (spot_of g.layout g.copy place) at m m' (λ y le lt. s y le) h
 waits_high z g b w (tree.Step op place operation size ty line) (At at) m m' small s h =
     let q = beyond_high b (pointer_bytes (spot_of g.layout g.copy place)) small in (

@@ -66,7 +66,7 @@ module _ (z : Scene) where
       rests z cp (Value v) (Eval right) (In e Nothing ∷ k) (In e (One v) ∷ k) l l w c h refl
       (right_code (shifts_by_constant op right) (expr_code g.layout g.copy (beyond b (value_width g.layout left)) true right)
       (binary_row (shifts_by_constant op right) op (operation_type (type_of left)) (Frame g.copy b) (Frame g.copy (beyond b (value_width g.layout left))) (constant_bits right) (value_width g.layout right)) (code_after g k) plain)
-      refl h.agrees (h.value, h.holds.1) tt
+      refl h.agrees ((h.value, plain), h.holds.1) tt
 
   pub offset_left : (op : BinOp) (left right : Expression) (size : ℕ) (ty : Ty) (line : ℕ) (v : Datum) (k : List Pending) (cp : CopyOf) (l : source.Memory) (w : World value.Byte) (c : Machine)
       → Mirrors z (state cp (Value v) (In (tree.Offset op left right size ty line) Nothing ∷ k) l w) c → Follow z 0 0 c (take_in (source_in z) (tree.Offset op left right size ty line) Nothing v k cp l (arrived z.outside w))

@@ -111,7 +111,7 @@ module _ (z : Scene) where
       let b = base g k in
       rests z cp (Value v) (Fetch at []) (In e (At at) ∷ k) (In e (AtWith at v) ∷ k) l l w c h refl
       (update_row_is z (wanted k) g.layout op to right operation size (spot_of g.layout g.copy to) at g.layout.root (Frame g.copy b) (place_width g.layout to) (place_type to).ty (code_after g k))
-      refl h.agrees ((h.holds.0, λ e. h.value), h.holds.1) (λ i lt. absurd (in_place_none (spot_of g.layout g.copy to) at i lt))
+      refl h.agrees ((h.holds.0.0, λ e. h.value, λ e. absurd (let q = sym e ∙ h.holds.0.1 in cc)), h.holds.1) (λ i lt. absurd (in_place_none (spot_of g.layout g.copy to) at i lt))
 
   pub update_given : (op : BinOp) (to : Place) (right : Expression) (operation : Ty) (size : ℕ) (ty : Ty) (line : ℕ) (at : spot.Spot) (v : Datum) (k : List Pending) (cp : CopyOf) (l : source.Memory) (w : World value.Byte) (c : Machine) → is_scalar ty ≡ true
       → Mirrors z (state cp (Value v) (In (tree.Update op to right operation size ty line) (At at) ∷ k) l w) c
