@@ -24,6 +24,7 @@ use Rattle.src_values.specs.declared.objects.Spot.{Spot}
 use Rattle.lower_trace.specs.Lowering.{IsLowerable}
 use Rattle.lower_trace.proofs.Changing.{IsSum}
 use Rattle.lower_trace.proofs.CodeLeft.{Scene, source_in}
+use Rattle.lower_trace.proofs.HelperCopies.{difference_helped}
 use Rattle.lower_trace.proofs.Leads.{Law}
 use Rattle.lower_trace.proofs.Entering.{bool_cases}
 use Rattle.lower_trace.proofs.LedBits.{bits}
@@ -61,8 +62,6 @@ use Rattle.lower_trace.proofs.Operating.{IsPlain}
 pub record OpenLaws (z : Scene) : Type 0 where
   -- each object and each element has a byte at least, which soundness alone doesn't say
   pub sized : IsSized z.program
-  -- where a difference of pointers divides, its helper is there
-  pub differences_divide : DifferencesDivide z
 
 -- a structure with a body has a byte
 sized_bytes : (z : Scene) → IsLowerable z.program z.copies → IsSized z.program → HaveBytes z.program
@@ -130,8 +129,12 @@ module _ (z : Scene) (given : IsLowerable z.program z.copies) (input : All (λ b
   offsets_by op left right size ty line (datum.Pointer x) datum.Missing k cp l w c known due h = apart_offsets z op left right size ty line (datum.Pointer x) datum.Missing k tt cp l w c known due h
   offsets_by op left right size ty line datum.Missing v k cp l w c known due h = apart_offsets z op left right size ty line datum.Missing v k tt cp l w c known due h
 
+  -- where a difference of pointers divides, its helper is there
+  differences_divide : DifferencesDivide z
+  differences_divide left right size line u v k cp l w known many = difference_helped z given cp known.stands.reached left right size line many known.parts.1.0.0
+
   differences_by : (left right : Expression) (size line : ℕ) (u v : Datum) (k : List Pending) → Law z (Holds v) (In (tree.Difference left right size line) (One u) ∷ k)
-  differences_by left right size line (datum.Pointer x) (datum.Pointer y) k cp l w c known due h = pointer_differences z given input open_laws.sized open_laws.differences_divide left right size line x y k cp l w c known due h
+  differences_by left right size line (datum.Pointer x) (datum.Pointer y) k cp l w c known due h = pointer_differences z given input open_laws.sized differences_divide left right size line x y k cp l w c known due h
   differences_by left right size line (datum.Pointer x) (datum.Number q) k cp l w c known due h = apart_differences z left right size line (datum.Pointer x) (datum.Number q) k tt cp l w c known due h
   differences_by left right size line (datum.Pointer x) datum.Missing k cp l w c known due h = apart_differences z left right size line (datum.Pointer x) datum.Missing k tt cp l w c known due h
   differences_by left right size line (datum.Number q) v k cp l w c known due h = apart_differences z left right size line (datum.Number q) v k tt cp l w c known due h
