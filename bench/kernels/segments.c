@@ -6,7 +6,10 @@
 /* Segments a to g from bit 0 on. */
 static const unsigned char segments[10] = { 0x3F, 0x06, 0x5B, 0x4F, 0x66, 0x6D, 0x7D, 0x07, 0x7F, 0x6F };
 
-static volatile unsigned char digits[DIGITS];   /* units first */
+/* What lights each digit at port C, units first. */
+static const unsigned char pins[DIGITS] = { 0x01, 0x02, 0x04, 0x08 };
+
+static volatile unsigned char digits[DIGITS];
 
 void interrupt refresh(void)
 {
@@ -16,7 +19,7 @@ void interrupt refresh(void)
         TMR0IF = 0;
         PORTC = 0;
         PORTD = segments[digits[place]];
-        PORTC = 1 << place;
+        PORTC = pins[place];
         place = (place + 1) & (DIGITS - 1);
     }
 }
