@@ -2,3 +2,4 @@ pub mod Telling
 pub mod Sums
 pub mod Handed
 pub mod BlockViews
+pub mod Translating

@@ -14,7 +14,7 @@ use Rattle.call_graph.specs.declared.types.FnCopy.{FnCopy}
 use Rattle.code_place.specs.Pages.{page_words, addresses, AreWithinPages, AreInMemory, PassesMemory}
 use Rattle.pic_map.specs.MapContent.{ObjectLine, FrameLine}
 use Rattle.ram_place.specs.Placement.{IsPlacing, LacksObject, LacksFrame}
-use Rattle.picc_core.specs.Blocks.{copy_words, sizes}
+use Rattle.program_code.specs.Stated.{copy_words, sizes}
 use Rattle.picc_core.specs.declared.refusal.Refusal.{Refusal}
 use Rattle.picc_core.specs.declared.refusal.Refusal.TheVariants.{Lex, Word, Directive, Syntax, Typing, Recursion, Roots, Depth, Ram, Code, Page, Limit}
 

@@ -1,31 +1,26 @@
 -- The blocks of a program's code: the start block, and one for each copy.
-use Rattle.std.specs.Prelude.{ℕ, ◌≡◌, ◌≤◌, List, ◌∷◌, map, sum}
-use Rattle.std.specs.List.Sorted.{IsPermutation}
-use Rattle.c_typed.specs.Nodes.{capped}
+use Rattle.std.specs.Prelude.{ℕ, ◌≡◌, ◌≤◌, List, sum}
+use Rattle.std.specs.List.Sorted.{IsNonDecreasingBy, IsPermutation}
 use Rattle.c_typed.specs.Trees.{Program}
-use Rattle.c_typed.specs.Words.{start_size}
 use Rattle.call_graph.specs.Copies.{AreCopies}
 use Rattle.call_graph.specs.declared.types.FnCopy.{FnCopy}
-use Rattle.code_place.specs.Pages.{addresses}
-use Rattle.ram_place.specs.Sizes.{block_words}
+use Rattle.code_place.specs.Pages.{addresses, AreWithinPages, AreInMemory}
+use Rattle.program_code.specs.Order.{rank}
+use Rattle.program_code.specs.Stated.{sizes}
 use Rattle.picc_core.specs.declared.refusal.CompileError.{CompileError}
 use Rattle.picc_core.specs.declared.refusal.CompileError.TheVariants.{NoMemory, Refused}
 use Rattle.picc_core.specs.declared.refusal.Refusal.{Refusal}
 use Rattle.picc_core.specs.declared.refusal.Refusal.TheVariants.{Page, Code}
 
--- the stated words of a copy's block
-unfoldable pub copy_words : Program → FnCopy → ℕ
-copy_words p copy = capped (block_words p copy.function)
-
--- the stated words of the start block, and of the copies in this order
-abbrev pub sizes : Program → List FnCopy → List ℕ
-sizes p order = capped (start_size p) ∷ map (copy_words p) order
-
--- The copies stand in some order behind the start block, each block at its address, and this is the sum of all words.
+-- The copies stand in the order of code behind the start block, each block at its address in pages 0 to 3 and none over a page, and this
+-- is the sum of all words.
 pub record HasBlocks (p : Program) (copies : List FnCopy) (at : List ℕ) (words : ℕ) : Type 0 where
   pub order : List FnCopy
   pub same : IsPermutation copies order
+  pub sorted : IsNonDecreasingBy rank order
   pub placed : at ≡ addresses (sizes p order)
+  pub pages : AreWithinPages (sizes p order)
+  pub memory : AreInMemory (addresses (sizes p order))
   pub sum : words ≡ sum (sizes p order)
   pub within : words ≤ 8192
 

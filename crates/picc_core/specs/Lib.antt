@@ -5,3 +5,4 @@ pub mod Blocks
 pub mod Compiled
 pub mod Agreement
 pub mod Accepted
+pub mod Coded

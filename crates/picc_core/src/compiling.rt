@@ -1,15 +1,20 @@
 //! From a text to the image of its program and the map of its memory.
 
-ghost use Rattle.std.specs.Prelude.{◌≡◌, ◌<◌, ◌≤◌, length, map, None, Err, IfOk, IfErr};
+ghost use Rattle.std.specs.Prelude.{◌≡◌, ◌<◌, ◌≤◌, true, length, map, None, Err, IfOk, IfErr};
+ghost use Rattle.std.specs.List.{AllPairs};
 ghost use Rattle.c_typed.specs.Chains.{graph_of};
 ghost use Rattle.c_typed.specs.Roots.{broken_root};
+ghost use Rattle.c_typed.specs.Sound.{is_sound};
 ghost use Rattle.c_typed.specs.Views.{program_of};
 ghost use Rattle.call_graph.specs.Levels.{IsAcyclic};
 ghost use Rattle.pic_map.specs.MapText.{AreInRange};
 ghost use Rattle.pic_map.specs.MapView.{content_of, object_of, frame_of};
+ghost use Rattle.program_code.specs.Translated.{AreOthers, IsTranslated};
 ghost use Rattle.ram_place.specs.Placement.{addresses_covered};
+ghost use Rattle.src_rules.specs.Numbers.{ProgramHasNumbers};
 ghost use Rattle.picc_core.specs.Answers.{IsRefusedUnless, TellsError};
 ghost use Rattle.picc_core.specs.Blocks.{HasWords};
+ghost use Rattle.picc_core.specs.Coded.{IsCoded};
 ghost use Rattle.picc_core.specs.Compiled.{IsPlaced, IsWithinDepth};
 ghost use Rattle.picc_core.specs.Texts.{program_tokens, HasTree};
 ghost use Rattle.picc_core.specs.declared.refusal.CompileError.TheVariants.{NoMemory, Refused};
@@ -19,13 +24,32 @@ ghost use Rattle.picc_core.specs.declared.refusal.Refusal.TheVariants as refusal
 
 use crate::joining::symbolic;
 use crate::known::{Built, Front};
-use crate::map_range::can_be_written;
+use crate::map_range::{can_be_written, have_own_names};
 use crate::refusal::CompileError;
 use crate::stages::front;
-use code_place::assemble;
+use c_check::Typed;
+use call_graph::Copies;
+use code_place::{Assembled, assemble};
 use lower_stmt::lower;
-use pic_map::Map;
+use pic_map::{Map, Placed};
 use std::alloc::{AllocError, Global};
+use typed_numbers::see_numbers;
+
+/// The image of a typed program whose copies, places and addresses these are, and where main begins and halts in it.
+fn coded(
+    alloc: Global,
+    typed: &Typed,
+    copies: &Copies,
+    placed: &Placed,
+    at: &[u16],
+) -> Result<Assembled, AllocError>
+    ensures { IfOk result (λ made. IsCoded (program_of typed.now) copies.now.list.items placed.now at.now made.image made.main made.halt) }
+{
+    let core = lower(alloc, typed, copies)?;
+    let program = symbolic(alloc, &core, copies, placed)?;
+    let made = assemble(alloc, &program, at, placed)?;
+    Ok(made)
+}
 
 /// The image and the map of what is known of a text.
 fn built(alloc: Global, front: Front) -> Result<Built, AllocError>
@@ -33,6 +57,7 @@ fn built(alloc: Global, front: Front) -> Result<Built, AllocError>
     ensures objects { IfOk result (λ built. built.map.objects ≡ front.placed.objects) }
     ensures frames { IfOk result (λ built. built.map.frames ≡ front.placed.frames) }
     ensures sizes { IfOk result (λ built. (built.ram ≡ front.placed.ram) × ((built.words ≡ front.words) × (built.depth ≡ front.copies.depth))) }
+    ensures code { IfOk result (λ built. IsCoded (program_of front.typed) front.copies.list.items front.placed front.at.items built.image built.map.main built.map.halt) }
 {
     let Front {
         typed,
@@ -41,9 +66,7 @@ fn built(alloc: Global, front: Front) -> Result<Built, AllocError>
         at,
         words,
     } = front;
-    let core = lower(alloc, &typed, &copies)?;
-    let program = symbolic(alloc, &core, &copies, &placed)?;
-    let assembled = assemble(alloc, &program, &at, &placed)?;
+    let assembled = coded(alloc, &typed, &copies, &placed, &at)?;
     let ram = placed.ram;
     Ok(Built {
         typed,
@@ -60,19 +83,28 @@ fn built(alloc: Global, front: Front) -> Result<Built, AllocError>
     })
 }
 
-/// The same, if its map is one that a map file can tell. Names are those of the text, and addresses and sizes those of
-/// memory, so every map is.
+/// The same, if its map is one that a map file can tell, and tells each frame by a root and a name of its own. Names are those of the
+/// text, and addresses and sizes those of memory, so every map does.
 fn checked(built: Built) -> Result<Built, CompileError>
     ensures same { IfOk result (λ checked. checked ≡ built) }
     ensures written { IfOk result (λ checked. AreInRange (content_of checked.map)) }
-    ensures few { IfOk result (λ checked. length checked.map.objects.items ≤ 65536) }
+    ensures few { IfOk result (λ checked. length checked.map.objects.items ≤ 65535) }
+    ensures apart { IfOk result (λ checked. AllPairs AreOthers (map frame_of checked.map.frames.items)) }
     ensures told { IfErr result (λ error. error ≡ NoMemory) }
 {
-    if can_be_written(&built.map) {
+    if can_be_written(&built.map) && have_own_names(&built.map.frames) {
         Ok(built)
     } else {
         Err(CompileError::NoMemory)
     }
+}
+
+/// The program keeps its typing rules, and its numbers are of their types. Values of the code are so by themselves.
+fn see_typed(typed: &Typed)
+    ensures sound { is_sound (program_of typed.now) ≡ true }
+    ensures numbers { ProgramHasNumbers (program_of typed.now) }
+{
+    see_numbers(typed);
 }
 
 /// What a text is compiled to, or the first refusal that holds of it, as `front` reports it.
@@ -99,9 +131,12 @@ pub fn compile(alloc: Global, text: &[u8]) -> Result<Built, CompileError>
     ensures words { IfOk result (λ built. HasWords (program_of built.typed) built.words) }
     // It has few objects.
     ensures few { IfOk result (λ built. length built.map.objects.items ≤ 65536) }
+    // The image and the map are what the passes make of the program: each promises its part.
+    ensures translated { IfOk result (λ built. IsTranslated (program_of built.typed) built.image (content_of built.map)) }
     // Each address that is covered is counted once.
     ensures ram { IfOk result (λ built. built.ram ≡ addresses_covered (map object_of built.map.objects.items) (map frame_of built.map.frames.items)) }
 {
     let front = front(alloc, text)?;
+    see_typed(&front.typed);
     checked(built(alloc, front)?)
 }

@@ -1,11 +1,13 @@
 //! The blocks of a program, joined to its symbolic code.
 
 ghost use Rattle.std.specs.Prelude.{◌≡◌, ◌++◌, IfOk, OnOk};
-ghost use Rattle.std.specs.List.Sorted.{IsPermutation};
+ghost use Rattle.std.specs.List.Sorted.{IsNonDecreasingBy, IsPermutation};
 ghost use Rattle.select_wide.specs.Blocks.{views_of};
+ghost use Rattle.picc_core.specs.Coded.{IsSymbolic};
 ghost use Rattle.program_code.specs.Joined.{helper_at, helpers_from, IsJoined};
+ghost use Rattle.program_code.specs.Order.{block_rank};
 
-use crate::code_order::rank_at;
+use crate::code_order::name_rank;
 use bank_page::selects;
 use call_graph::{Copies, FnCopy, FnId};
 use core_code::CoreProgram;
@@ -14,7 +16,7 @@ use math_helpers::helper;
 use pic_map::Placed;
 use select_wide::{handler_at, select};
 use std::alloc::{AllocError, Global};
-use sym_code::{BlockName, SymBlock, SymProgram};
+use sym_code::{SymBlock, SymProgram};
 
 // The number of a copy as blocks have it. No program that is placed has so many copies that it doesn't fit.
 fn numbered(number: Option<usize>) -> Result<Option<u16>, AllocError>
@@ -58,12 +60,10 @@ fn put_helpers(alloc: Global, list: &[FnCopy], blocks: &mut Vec<SymBlock>) -> Re
 
 // The blocks in the order of code.
 fn in_code_order(mut blocks: Vec<SymBlock>, copies: &Copies) -> Result<Vec<SymBlock>, AllocError>
-    ensures { IfOk result (λ order. IsPermutation blocks.items order.items) }
+    ensures same { IfOk result (λ order. IsPermutation blocks.items order.items) }
+    ensures sorted { IfOk result (λ order. IsNonDecreasingBy (block_rank copies.now.list.items) order.items) }
 {
-    blocks.sort_by_key(|block| match block.name {
-        BlockName::Start => None,
-        BlockName::Copy(number) => rank_at(copies, number),
-    })?;
+    blocks.sort_by_key(|block| name_rank(copies, block.name))?;
     Ok(blocks)
 }
 
@@ -74,7 +74,8 @@ pub fn joined(
     copies: &Copies,
     placed: &Placed,
 ) -> Result<SymProgram, AllocError>
-    // Each copy has its block, a function the one that is selected for its body and a helper its routine, and none is lost.
+    // Each copy has its block, a function the one that is selected for its body and a helper its routine, none is lost, and they stand in
+    // the order of code.
     ensures whole { IfOk result (λ program. IsJoined core.now copies.now.list.items program.blocks.items) }
 {
     let handler = numbered(handler_at(&copies.list))?;
@@ -91,7 +92,11 @@ pub fn symbolic(
     core: &CoreProgram,
     copies: &Copies,
     placed: &Placed,
-) -> Result<SymProgram, AllocError> {
+) -> Result<SymProgram, AllocError>
+    // Each select stands for a need.
+    ensures { IfOk result (λ made. IsSymbolic core.now copies.now.list.items placed.now made.blocks.items) }
+{
     let program = joined(alloc, core, copies, placed)?;
-    selects(alloc, &program, placed)
+    let made = selects(alloc, &program, placed)?;
+    Ok(made)
 }

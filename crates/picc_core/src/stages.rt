@@ -9,12 +9,13 @@ ghost use Rattle.call_graph.specs.Levels.{IsAcyclic};
 ghost use Rattle.pic_map.specs.MapView.{object_of, frame_of};
 ghost use Rattle.ram_place.specs.Placement as placement;
 ghost use Rattle.picc_core.specs.Answers.{IsRefusedUnless, TellsError};
-ghost use Rattle.picc_core.specs.Blocks.{copy_words as words_of_copy, sizes, HasBlocks, IsCodeRefusal, IsOfCode};
+ghost use Rattle.picc_core.specs.Blocks.{HasBlocks, IsCodeRefusal, IsOfCode};
 ghost use Rattle.picc_core.specs.Texts.{tokens_left, program_tokens, HasTree};
 ghost use Rattle.picc_core.specs.declared.refusal.CompileError.TheVariants.{NoMemory, Refused};
 ghost use Rattle.picc_core.specs.declared.refusal.LimitKind.TheVariants as kinds;
 ghost use Rattle.picc_core.specs.declared.refusal.Refusal.{Refusal};
 ghost use Rattle.picc_core.specs.declared.refusal.Refusal.TheVariants as refusals;
+ghost use Rattle.program_code.specs.Stated.{copy_words as words_of_copy, sizes};
 
 use crate::code_order::code_order;
 use crate::known::Front;
@@ -31,9 +32,6 @@ use std::alloc::{AllocError, Global};
 
 /// The longest text, in bytes.
 const LONGEST: usize = 262_144;
-
-/// The most functions that the call graph numbers. There is no memory for more.
-const MOST_FUNCTIONS: usize = 268_435_456;
 
 /// The words of a page of program memory.
 const PAGE_WORDS: u64 = 2048;
@@ -77,7 +75,7 @@ fn typed_of(alloc: Global, text: &[u8]) -> Result<Typed, CompileError>
     Ok(check(alloc, &unit)?)
 }
 
-#[tactic(auto, unfolding(crate::specs::Blocks::copy_words))]
+#[tactic(auto, unfolding(program_code::specs::Stated::copy_words))]
 fn copy_words(p: &Typed, copy: FnCopy) -> u64
     ensures { result ≡ words_of_copy (program_of p.now) copy }
 {
@@ -178,7 +176,7 @@ struct Code {
     words: u32,
 }
 
-#[tactic(auto, using(crate::proofs::Sums::few))]
+#[tactic(auto, using(crate::proofs::Sums::few, crate::proofs::Sums::blocks_had))]
 fn code_of(alloc: Global, p: &Typed, copies: &Copies) -> Result<Code, CompileError>
     ensures blocks { IfOk result (λ code. HasBlocks (program_of p.now) copies.now.list.items code.at.items code.words) }
     ensures refused { IfErr result IsOfCode }
@@ -220,9 +218,6 @@ fn known(alloc: Global, text: &[u8]) -> Result<Front, CompileError>
     ensures blocks { IfOk result (λ front. HasBlocks (program_of front.typed) front.copies.list.items front.at.items front.words) }
 {
     let typed = typed_of(alloc, text)?;
-    if typed.functions.len() > MOST_FUNCTIONS {
-        return Err(CompileError::NoMemory);
-    }
     let copies = copies(alloc, &typed)?;
     let placed = place(alloc, &typed, &copies)?;
     let Code { at, words } = code_of(alloc, &typed, &copies)?;

@@ -1,6 +1,6 @@
 -- The blocks of a program's symbolic code.
 use Rattle.std.specs.Prelude.{ℕ, ◌+◌, ◌≡◌, List, [], ◌∷◌, ◌++◌}
-use Rattle.std.specs.List.Sorted.{IsPermutation}
+use Rattle.std.specs.List.Sorted.{IsNonDecreasingBy, IsPermutation}
 use Rattle.call_graph.specs.Numbers.{handler_at}
 use Rattle.call_graph.specs.declared.types.FnCopy.{FnCopy}
 use Rattle.c_typed.specs.declared.calls.FnId.{FnId}
@@ -14,6 +14,7 @@ use Rattle.sym_code.specs.declared.code.BlockName.{BlockName}
 use Rattle.sym_code.specs.declared.code.BlockName.TheVariants.{Start, Copy}
 use Rattle.sym_code.specs.declared.code.Sym.{Sym}
 use Rattle.sym_code.specs.declared.code.SymBlock.{SymBlock}
+use Rattle.program_code.specs.Order.{block_rank}
 
 -- the block of a helper's copy: its name and its instructions
 abbrev pub helper_for : ℕ → Root → FnId → List (BlockName × List Sym)
@@ -28,14 +29,15 @@ abbrev pub helpers_from : ℕ → List FnCopy → List (BlockName × List Sym)
 helpers_from number [] = []
 helpers_from number (copy ∷ copies) = helper_at number copy ++ helpers_from (number + 1) copies
 
--- The start block, and behind it in some order the blocks of all copies: for each function the code of its body, for each helper its
--- routine.
+-- The start block, and behind it in the order of code the blocks of all copies: for each function the code of its body, for each helper
+-- its routine.
 pub record IsJoined (core : CoreProgram) (copies : List FnCopy) (blocks : List SymBlock) : Type 0 where
   pub start : SymBlock
   pub made : List SymBlock
   pub order : List SymBlock
   pub whole : blocks ≡ start ∷ order
   pub same : IsPermutation made order
+  pub sorted : IsNonDecreasingBy (block_rank copies) order
   pub views : views_of made ≡ blocks_from core.bodies.items copies 0 copies ++ helpers_from 0 copies
   pub name : start.name ≡ Start
   pub exact : start.list.items ≡ start_code (handler_at copies) core.statics.items

@@ -1,4 +1,5 @@
 pub mod Joined
+pub mod Order
 pub mod Passed
 pub mod Stated
 pub mod Translated

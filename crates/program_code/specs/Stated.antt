@@ -1,12 +1,13 @@
 -- The words that are stated of a program's blocks: the start block, and one for each copy.
 use Rattle.std.specs.Prelude.{ℕ, ◌≡◌, List, ◌∷◌, map}
-use Rattle.std.specs.List.Sorted.{IsPermutation}
+use Rattle.std.specs.List.Sorted.{IsNonDecreasingBy, IsPermutation}
 use Rattle.c_typed.specs.Nodes.{capped}
 use Rattle.c_typed.specs.Trees.{Program}
 use Rattle.c_typed.specs.Words.{start_size}
 use Rattle.call_graph.specs.declared.types.FnCopy.{FnCopy}
 use Rattle.code_place.specs.Pages.{addresses, AreWithinPages, AreInMemory}
 use Rattle.ram_place.specs.Sizes.{block_words}
+use Rattle.program_code.specs.Order.{rank}
 
 -- the stated words of a copy's block
 unfoldable pub copy_words : Program → FnCopy → ℕ
@@ -16,10 +17,12 @@ copy_words p copy = capped (block_words p copy.function)
 abbrev pub sizes : Program → List FnCopy → List ℕ
 sizes p order = capped (start_size p) ∷ map (copy_words p) order
 
--- The copies stand in some order behind the start block, each block at its address in pages 0 to 3, and none is stated to be over a page.
+-- The copies stand in the order of code behind the start block, each block at its address in pages 0 to 3, and none is stated to be over
+-- a page.
 pub record IsPaged (p : Program) (copies : List FnCopy) (at : List ℕ) : Type 0 where
   pub order : List FnCopy
   pub same : IsPermutation copies order
+  pub sorted : IsNonDecreasingBy rank order
   pub stand : at ≡ addresses (sizes p order)
   pub pages : AreWithinPages (sizes p order)
   pub memory : AreInMemory (addresses (sizes p order))

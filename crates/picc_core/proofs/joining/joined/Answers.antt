@@ -5,6 +5,6 @@ pub returns : goal.returns
 returns c = record {
   whole =
       are_joined c.args.core.now c.args.copies.now.list.items _ _ c.insert.new.self.items _ _ _ c.in_ok-start_block.field-0 _ _ c.deref.ensures.value c.deref-2.ensures.value
-      c.in_ok-insert.ensures.items c.in_ok-order.ensures c.in_ok-blocks.ensures.blocks c.in_ok-put_helpers.ensures c.in_ok-start_block.ensures.name
+      c.in_ok-insert.ensures.items c.in_ok-order.ensures.same c.in_ok-order.ensures.sorted c.in_ok-blocks.ensures.blocks c.in_ok-put_helpers.ensures c.in_ok-start_block.ensures.name
       c.in_ok-start_block.ensures.exact c.in_ok-handler.ensures c.handler_at.ensures;
 }

@@ -1,6 +1,6 @@
 use Rattle.std.proofs.Common.{◌≡◌, map, take}
 use Rattle.c_typed.specs.Views.{program_of}
-use Rattle.picc_core.specs.Blocks.{copy_words}
+use Rattle.program_code.specs.Stated.{copy_words}
 use Rattle.picc_core.proofs.stages.copies_words.Given as goal
 
 abbrev pub invariant-loop-copy : goal.invariant-loop-copy

@@ -1,0 +1,42 @@
+-- What is known of the code of a compiled program, from byte code on: what each pass promises of its part.
+use Rattle.std.specs.Prelude.{ℕ, ◌≡◌, List, map, Some}
+use Rattle.std.specs.List.{All, AllZip}
+use Rattle.c_typed.specs.Trees.{Program}
+use Rattle.call_graph.specs.declared.types.FnCopy.{FnCopy}
+use Rattle.core_code.specs.declared.code.CoreProgram.{CoreProgram}
+use Rattle.lower_stmt.specs.Bodies.{body_of, bodies_of, first_bytes}
+use Rattle.lower_stmt.specs.FirstBytes.{items_of}
+use Rattle.pic_map.specs.declared.Placed.{Placed}
+use Rattle.sym_code.specs.declared.code.BlockName.TheVariants.{Copy}
+use Rattle.sym_code.specs.declared.code.Label.TheVariants.{Halt}
+use Rattle.sym_code.specs.declared.code.SymBlock.{SymBlock}
+use Rattle.bank_page.specs.Selected.{names_of, bare_lists, IsApart, IsWithin, Reaches, IsExact}
+use Rattle.code_place.specs.Places.{block_place, label_place, BlocksHaveAddresses, HoldsInstructions, IsErasedElsewhere, TargetsStand}
+use Rattle.code_place.specs.Sizes.{Fit}
+use Rattle.program_code.specs.Joined.{IsJoined}
+
+-- The blocks are those that are joined from byte code, with the selects that they need.
+pub record IsSymbolic (core : CoreProgram) (copies : List FnCopy) (placed : Placed) (made : List SymBlock) : Type 0 where
+  pub given : List SymBlock
+  pub joined : IsJoined core copies given
+  pub names : names_of made ≡ names_of given
+  pub bare : bare_lists made ≡ bare_lists given
+  pub apart : All IsApart made
+  pub reaches : All (Reaches placed) made
+  pub few : AllZip IsWithin given made
+  pub exact : AllZip (IsExact placed) given made
+
+-- The image has the words of such blocks at their addresses, and no others; main begins at the first copy's, and ends at the label for that.
+pub record IsCoded (p : Program) (copies : List FnCopy) (placed : Placed) (at image : List ℕ) (main halt : ℕ) : Type 0 where
+  pub core : CoreProgram
+  pub bodies : map body_of core.bodies.items ≡ bodies_of p copies
+  pub statics : map items_of core.statics.items ≡ first_bytes p
+  pub made : List SymBlock
+  pub symbolic : IsSymbolic core copies placed made
+  pub fit : Fit made at
+  pub named : BlocksHaveAddresses placed made at
+  pub words : HoldsInstructions placed made at image
+  pub erased : IsErasedElsewhere made at image
+  pub targets : TargetsStand made at
+  pub begins : block_place made at (Copy 0) ≡ Some main
+  pub ends : label_place made at Halt ≡ Some halt
