@@ -11,6 +11,7 @@ use Rattle.pic_map.specs.MapContent.{MapContent}
 use Rattle.pic_map.specs.MapFile.{IsMapFile}
 use Rattle.picc_core.specs.Compiled.{IsPlaced, IsWithinDepth}
 use Rattle.picc_core.specs.Texts.{HasTree}
+use Rattle.program_code.specs.Translated.{IsTranslated}
 use Rattle.headline.specs.Headline.{IsFaithful}
 use Rattle.picc_cli.specs.PortProgram.{IsProgram, source_of}
 
@@ -34,7 +35,8 @@ IsRefused text = (assignments : List Assignment) → IsProgram text assignments 
 
 -- What is known of any text that is built: it has a tree and a typed program, which breaks no rule on main and the handler, in
 -- which no function reaches itself, and whose calls fit the return stack. The two files are a HEX file, in the one form that is
--- written, and a map file, whose lines are those of the program's objects and copies, where they are to stand.
+-- written, and a map file, whose lines are those of the program's objects and copies, where they are to stand; and the image and the map
+-- are what all passes make of the program, each as it promises its part.
 pub record IsCompiled (text hex map : List ℕ) : Type 0 where
   pub tree : HasTree text
   pub program : Program
@@ -48,6 +50,7 @@ pub record IsCompiled (text hex map : List ℕ) : Type 0 where
   pub written : hex ≡ hex_text image
   pub map_file : IsMapFile map content
   pub placed : IsPlaced program content.objects content.frames
+  pub translated : IsTranslated program image content
 
 -- The headline holds of a program of constants to ports, and what is known of any text of all others.
 abbrev pub IsMade : List ℕ → List ℕ → List ℕ → Type 0
