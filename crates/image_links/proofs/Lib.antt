@@ -32,3 +32,9 @@ pub mod Counted
 pub mod Routines
 pub mod Bounded
 pub mod Fitting
+pub mod SameNumbers
+pub mod Ranked
+pub mod Standing
+pub mod FewCopies
+pub mod Worded
+pub mod Faithful

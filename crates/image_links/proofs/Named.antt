@@ -15,7 +15,7 @@ use Rattle.core_code.specs.declared.code.CoreProgram.{CoreProgram}
 use Rattle.pic_world.specs.declared.Root.{Root}
 use Rattle.program_code.specs.Joined.{IsJoined, helper_for, helper_at, helpers_from}
 use Rattle.select_wide.specs.Blocks.{is_user, body_at, code_by, block_at, blocks_from, views_of}
-use Rattle.sym_code.specs.Programs.{same_name}
+use Rattle.sym_code.specs.Programs.{block_in, same_name}
 use Rattle.sym_code.specs.declared.code.BlockName.{BlockName}
 use Rattle.sym_code.specs.declared.code.BlockName.TheVariants.{Start, Copy}
 use Rattle.sym_code.specs.declared.code.Sym.{Sym}
@@ -150,3 +150,15 @@ own_place (x ∷ blocks) (s ∷ at) (suc k) block start is there once =
           → option_or (at_if b s) (first_place (place_by block.name) blocks at) ≡ Some start
       by true o below = let p = present blocks k block is in absurd (omega arith)
       by false o below = below (omega arith)
+
+-- .. and has its own instructions
+pub own_list : (blocks : List SymBlock) (k : ℕ) (block : SymBlock) → slice_get blocks k ≡ Some block → tally block.name (names_of blocks) ≤ 1 → block_in blocks block.name ≡ block.list.items
+own_list [] k block is once = absurd (cc)
+own_list (x ∷ blocks) zero block is once =
+    let same : same_name x.name block.name ≡ true = ap (λ (b : SymBlock). same_name b.name block.name) (some_is x block is) ∙ name_itself block.name in
+    ap (λ (b : Bool). if b then x.list.items else block_in blocks block.name) same ∙ ap (λ (b : SymBlock). b.list.items) (some_is x block is)
+own_list (x ∷ blocks) (suc k) block is once = by (same_name x.name block.name) once (own_list blocks k block is) where
+  by : (b : Bool) → one_for b + tally block.name (names_of blocks) ≤ 1 → (tally block.name (names_of blocks) ≤ 1 → block_in blocks block.name ≡ block.list.items)
+      → (if b then x.list.items else block_in blocks block.name) ≡ block.list.items
+  by true o below = let p = present blocks k block is in absurd (omega arith)
+  by false o below = below (omega arith)

@@ -1,9 +1,10 @@
 -- No block with its selects has more words than are stated of it, so each has room where blocks of the stated words are placed.
-use Rattle.std.specs.Prelude.{ℕ, suc, ◌≡◌, ◌≤◌, List, map, Option, Some, None, slice_get}
+use Rattle.std.specs.Prelude.{ℕ, suc, ◌≡◌, ◌<◌, ◌≤◌, List, length, map, Option, Some, None, slice_get}
 use Rattle.c_typed.specs.Trees.{Program}
 use Rattle.c_typed.specs.Views.{program_of}
 use Rattle.c_typed.specs.Words.{start_size}
 use Rattle.c_typed.specs.declared.program.Typed.{Typed}
+use Rattle.call_graph.specs.Copies.{AreCopies}
 use Rattle.call_graph.specs.declared.types.FnCopy.{FnCopy}
 use Rattle.core_code.specs.declared.code.CoreProgram.{CoreProgram}
 use Rattle.lower_stmt.specs.Bodies.{first_bytes}
@@ -61,3 +62,22 @@ abbrev pub BlocksFit : Type 0
 BlocksFit =
     (p : Program) (copies : List FnCopy) (made : List SymBlock) (at : List ℕ) → (paged : IsPaged p copies at) → AreInOrder copies paged.order made
     → ((k : ℕ) (block : SymBlock) → slice_get made k ≡ Some block → IsStated p copies block) → Fit made at
+
+-- What the passes make of a typed program stands in the order in which its words were given,
+abbrev pub BlocksAreInOrder : Type 0
+BlocksAreInOrder =
+    (typed : Typed) (copies : List FnCopy) (core : CoreProgram) (given made : List SymBlock) (placed : Placed) (at : List ℕ)
+    → AreBlocks (program_of typed) copies core given made placed → HasCalls (program_of typed) copies → (paged : IsPaged (program_of typed) copies at)
+    → AreInOrder copies paged.order made
+
+-- so each of its blocks has room at its address, whether that is tested or not.
+abbrev pub TranslationsFit : Type 0
+TranslationsFit =
+    (typed : Typed) (copies : List FnCopy) (core : CoreProgram) (given made : List SymBlock) (placed : Placed) (at : List ℕ)
+    → AreBlocks (program_of typed) copies core given made placed → HasCalls (program_of typed) copies
+    → IsPlacing (program_of typed) copies (map object_of placed.objects.items) (map frame_of placed.frames.items)
+    → map items_of core.statics.items ≡ first_bytes (program_of typed) → IsPaged (program_of typed) copies at → Fit made at
+
+-- A program whose blocks have addresses has few copies, since each block has a word.
+abbrev pub CopiesAreFew : Type 0
+CopiesAreFew = (p : Program) (copies : List FnCopy) (at : List ℕ) → IsPaged p copies at → AreCopies p copies → length copies < 8192

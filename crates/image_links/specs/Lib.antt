@@ -4,3 +4,4 @@ pub mod Selection
 pub mod Assembly
 pub mod Translations
 pub mod Bounded
+pub mod Faithful

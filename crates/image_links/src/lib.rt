@@ -6,7 +6,8 @@
 #![tactic(auto)]
 
 ghost use Rattle.image_links.specs.Assembly.{AssemblyIsHad, BeginningIsHad};
-ghost use Rattle.image_links.specs.Bounded.{BlocksAreStated, BlocksFit};
+ghost use Rattle.image_links.specs.Bounded.{BlocksAreInOrder, BlocksAreStated, BlocksFit, CopiesAreFew, TranslationsFit};
+ghost use Rattle.image_links.specs.Faithful.{TranslationsAreFaithful};
 ghost use Rattle.image_links.specs.Passed.{BodiesAreHad, LayoutIsHad, LayoutServes, SelectsAreHad, StartIsHad};
 ghost use Rattle.image_links.specs.Translations.{TranslationsAreLinked, TranslationsAreLowerable, TranslationsFollow};
 ghost use Rattle.image_links.specs.Selection.{DepthIsHad, LevelsAreHad, PricesAreHad, ReachIsHad, RoutinesHavePrices, SelectionIsHad};
@@ -79,9 +80,21 @@ pub fn translations_are_linked()
     ensures follow { TranslationsFollow }
 {}
 
+/// Of what all passes make of a typed program the headline holds, if lowering keeps what the source does: each word of the image is one of
+/// an instruction of the model, the map has exactly the program's objects and copies where they are to stand, frames that may be live
+/// together are apart and clear of objects, and every run of the chip follows the source.
+pub fn translations_are_faithful()
+    ensures { TranslationsAreFaithful }
+{}
+
 /// Each block with its selects has at most the words that are stated of it: the start block, the block of a function's copy, and that of
-/// a helper's. So each has room where blocks of the stated words are placed, if they stand in the same order.
+/// a helper's. So each has room where blocks of the stated words are placed, if they stand in the same order; and in what the passes make
+/// they do, since copies and blocks are sorted by the same ranks. So no block of it lacks room where `pages` puts it. A program has fewer
+/// than 8,192 copies, since each block has a word.
 pub fn blocks_have_room()
     ensures stated { BlocksAreStated }
     ensures fit { BlocksFit }
+    ensures in_order { BlocksAreInOrder }
+    ensures all_fit { TranslationsFit }
+    ensures few { CopiesAreFew }
 {}
