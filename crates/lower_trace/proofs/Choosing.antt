@@ -46,7 +46,7 @@ use Rattle.lower_trace.proofs.Flow.{arrive}
 use Rattle.lower_trace.proofs.Giving.{Around, placed_of, gives}
 use Rattle.lower_trace.proofs.Jumping.{picked, many_then, if_then, join_then, joins_then, exit_then}
 use Rattle.lower_trace.proofs.Kept.{SceneLaws, own_copy}
-use Rattle.lower_trace.proofs.Looping.{turn_then}
+use Rattle.lower_trace.proofs.Looping.{turn_cost, turn_then}
 use Rattle.lower_trace.proofs.Mirrors.{Mirrors, Agrees, Holds, HasDatum}
 use Rattle.lower_trace.proofs.NumberBytes.{truth_is}
 use Rattle.lower_trace.proofs.Operations.{Comes, comes_here, comes_within, own_frame, sets_then}
@@ -213,7 +213,7 @@ module _ (z : Scene) (laws : SceneLaws z) where
   loop_case : (shape : LoopForm) (begins : Option Expression) (condition : Expression) (step : Option Expression) (body : Statement) (line : ℕ) (v : Datum) (vt : Ty) (holds : Option Bool) (k : List Pending) (cp : CopyOf) (l : source.Memory) (w : World value.Byte) (c : Machine) → truth_of v ≡ holds
       → HasType z.program vt v → 0 < byte_count v → test_size (ground.width (ground_in z cp) condition) ≡ byte_count v → (ground_in z cp).base + byte_count v ≤ (core_in z).program.frame_bytes (number z cp) → is_due (arrived z.outside w) ≡ false
       → Mirrors z (state cp (Value v) (Doing (tree.Loop shape begins (Some condition) step body line) Tests ∷ k) l w) c
-      → Follow z (4 * byte_count v + 24) 1 c (branch holds line (turn (tree.Loop shape begins (Some condition) step body line) body k cp l (arrived z.outside w)) (Went (state cp Past k l (arrived z.outside w)) None))
+      → Follow z (4 * byte_count v + (20 + turn_cost shape)) 1 c (branch holds line (turn (tree.Loop shape begins (Some condition) step body line) body k cp l (arrived z.outside w)) (Went (state cp Past k l (arrived z.outside w)) None))
   unfolding active
   loop_case shape begins condition step body line v vt None k cp l w c is t lt size room due h = tt
   loop_case shape begins condition step body line v vt (Some true) k cp l w c is t lt size room due h =
@@ -227,11 +227,11 @@ module _ (z : Scene) (laws : SceneLaws z) where
       let y = test_size (ground.width g condition) in
       let rest = todo (behind_test g shape step (stmt_code g (jumps_in shape) body)) [] in
       let s = stack_after z g (Doing x Tests ∷ k) in
-      comes_within (core_in z) T (4 * y + 16 + (4 + 4)) (1 + 0) (4 * byte_count v + 24) 1 c
-      (if_then (core_in z) T n None W no ag (first g) y true (many []) (code.Exit 0) rest s c.memory c (4 + 4) 0
+      comes_within (core_in z) T (4 * y + 16 + (4 + turn_cost shape)) (1 + 0) (4 * byte_count v + (20 + turn_cost shape)) 1 c
+      (if_then (core_in z) T n None W no ag (first g) y true (many []) (code.Exit 0) rest s c.memory c (4 + turn_cost shape) 0
       (own_test g.base y cp (omega arith)) (truth_there vt v true g.base y cp c.memory t lt size h.value is) (placed_of z (state cp (Value v) (Doing x Tests ∷ k) l w) c h)
-      (λ d pd. many_then (core_in z) T n None W no ag [] (Join ∷ rest) s c.memory d (4 + 4) 0 pd
-      (λ e pe. join_then (core_in z) T n None W no ag rest s c.memory e 4 0 pe
+      (λ d pd. many_then (core_in z) T n None W no ag [] (Join ∷ rest) s c.memory d (4 + turn_cost shape) 0 pd
+      (λ e pe. join_then (core_in z) T n None W no ag rest s c.memory e (turn_cost shape) 0 pe
       (λ f pf. turn_then z begins (Some condition) step body line k cp l w c.memory due h.agrees h.holds shape f pf))))
       (omega arith) (omega arith)
   loop_case shape begins condition step body line v vt (Some false) k cp l w c is t lt size room due h =
@@ -245,7 +245,7 @@ module _ (z : Scene) (laws : SceneLaws z) where
       let y = test_size (ground.width g condition) in
       let rest = todo (behind_test g shape step (stmt_code g (jumps_in shape) body)) [] in
       let s = stack_after z g (Doing x Tests ∷ k) in
-      comes_within (core_in z) T (4 * y + 16 + (4 + 0)) (1 + 0) (4 * byte_count v + 24) 1 c
+      comes_within (core_in z) T (4 * y + 16 + (4 + 0)) (1 + 0) (4 * byte_count v + (20 + turn_cost shape)) 1 c
       (if_then (core_in z) T n None W no ag (first g) y false (many []) (code.Exit 0) rest s c.memory c (4 + 0) 0
       (own_test g.base y cp (omega arith)) (truth_there vt v false g.base y cp c.memory t lt size h.value is) (placed_of z (state cp (Value v) (Doing x Tests ∷ k) l w) c h)
       (λ d pd. exit_then (core_in z) T n None W no ag (loop_body g shape (Some condition) step (stmt_code g (jumps_in shape) body)) (Join ∷ rest) (code_after g k) (stack_after z g k) c.memory d 0 0 pd
@@ -255,7 +255,7 @@ module _ (z : Scene) (laws : SceneLaws z) where
   pub test_given : (shape : LoopForm) (begins : Option Expression) (condition : Expression) (step : Option Expression) (body : Statement) (line : ℕ) (v : Datum) (vt : Ty) (k : List Pending) (cp : CopyOf) (l : source.Memory) (w : World value.Byte) (c : Machine)
       → HasType z.program vt v → 0 < byte_count v → test_size (ground.width (ground_in z cp) condition) ≡ byte_count v → (ground_in z cp).base + byte_count v ≤ (core_in z).program.frame_bytes (number z cp) → is_due (arrived z.outside w) ≡ false
       → Mirrors z (state cp (Value v) (Doing (tree.Loop shape begins (Some condition) step body line) Tests ∷ k) l w) c
-      → Follow z (4 * byte_count v + 24) 1 c (take_for (source_in z) (tree.Loop shape begins (Some condition) step body line) Tests v k cp l (arrived z.outside w))
+      → Follow z (4 * byte_count v + (20 + turn_cost shape)) 1 c (take_for (source_in z) (tree.Loop shape begins (Some condition) step body line) Tests v k cp l (arrived z.outside w))
   test_given shape begins condition step body line v vt k cp l w c t lt size room due h = loop_case shape begins condition step body line v vt (truth_of v) k cp l w c refl t lt size room due h
 
   -- ---- ints that are 0 or 1

@@ -1,5 +1,5 @@
 -- Binary operators on numbers, as the source applies them.
-use Rattle.std.proofs.Common.{◌≡◌, ℕ, ◌+◌, ◌*◌, ◌≤◌, true, false, ◌&&◌, if◌then◌else◌, nat_lt, List, [], ◌∷◌, None, refl, sym, ap, ◌∙◌, subst, arith}
+use Rattle.std.proofs.Common.{◌≡◌, ℕ, ◌+◌, ◌-◌, ◌*◌, ◌≤◌, true, false, ◌&&◌, if◌then◌else◌, nat_lt, List, [], ◌∷◌, None, refl, sym, ap, ◌∙◌, subst, arith}
 use Rattle.c_ints.specs.Operators.{value_of, cut_to, unary_type, exact_unary, type_of as result_type}
 use Rattle.c_ints.specs.declared.operators.UnOp.{UnOp}
 use Rattle.c_ints.specs.declared.operators.UnOp.TheVariants as unary
@@ -40,7 +40,7 @@ use Rattle.lower_trace.proofs.Constants.{due_below, again_below, same_below}
 use Rattle.lower_trace.proofs.Giving.{Around, placed_of, gives}
 use Rattle.lower_trace.proofs.Kept.{SceneLaws, own_copy, bytes_small}
 use Rattle.lower_trace.proofs.Mirrors.{Mirrors, HasDatum}
-use Rattle.lower_trace.proofs.Operating.{IsPlain, plain_gives, binary_then, IsSigned, unary_then, convert_then}
+use Rattle.lower_trace.proofs.Operating.{IsPlain, plain_gives, binary_then, IsSigned, unary_then, convert_words_then}
 use Rattle.lower_trace.proofs.Operations.{comes_here, comes_within, beyond_is}
 use Rattle.lower_trace.proofs.Placed.{Placed}
 
@@ -157,7 +157,7 @@ unary_given z laws op operand ty line x k cp l w c around signed type two xr roo
 pub widened_given : (z : Scene) (laws : SceneLaws z) (operand : Expression) (to : IntTy) (line : ℕ) (x : Quantity) (k : List Pending) (cp : CopyOf) (l : source.Memory) (w : World value.Byte) (c : Machine) → Around z cp k → type_of operand ≡ types.Int x.ty → nat_lt (bytes_of x.ty) (bytes_of to) ≡ true → IsInRange x.ty x.number
     → base (ground_in z cp) k + bytes_of x.ty ≤ (core_in z).program.frame_bytes (number z cp) → base (ground_in z cp) k + bytes_of to ≤ (core_in z).program.frame_bytes (number z cp) → is_due (arrived z.outside w) ≡ false
     → Mirrors z (state cp (Value (datum.Number x)) (In (tree.Convert operand (types.Int to) line) Nothing ∷ k) l w) c
-    → Follow z 24 1 c (take_in (source_in z) (tree.Convert operand (types.Int to) line) Nothing (datum.Number x) k cp l (arrived z.outside w))
+    → Follow z (8 + 4 * (bytes_of to - bytes_of x.ty)) 1 c (take_in (source_in z) (tree.Convert operand (types.Int to) line) Nothing (datum.Number x) k cp l (arrived z.outside w))
 unfolding active converted
 widened_given z laws operand to line x k cp l w c around type wider_is xr room out due h =
     let e = tree.Convert operand (types.Int to) line in
@@ -172,8 +172,8 @@ widened_given z laws operand to line x k cp l w c around type wider_is xr room o
     ap (λ t. todo (widened t (types.Int to) (Frame g.copy b)) (code_after g k)) type
     ∙ ap (λ f. todo (if f then code.Convert x.ty to (Frame g.copy b) ∷ [] else []) (code_after g k)) wider_is
     ∙ ap (λ i. Todo [] (code.Convert x.ty to (Frame i b)) ∷ code_after g k) (own_copy z cp) in
-    comes_within (core_in z) T (24 + 0) (1 + 0) 24 1 c
-    (convert_then z (core_in z) T n s W (due_below z (arrived z.outside w) due) (again_below z w) to x b (code_after g k) c.memory c 0 0 xr wider_is room out (subst (λ i. HasDatum z i b (datum.Number x) c.memory) (own_copy z cp) h.value)
+    comes_within (core_in z) T (8 + 4 * (bytes_of to - bytes_of x.ty) + 0) (1 + 0) (8 + 4 * (bytes_of to - bytes_of x.ty)) 1 c
+    (convert_words_then z (core_in z) T n s W (due_below z (arrived z.outside w) due) (again_below z w) to x b (code_after g k) c.memory c 0 0 xr wider_is room out (subst (λ i. HasDatum z i b (datum.Number x) c.memory) (own_copy z cp) h.value)
     (subst (λ f. Placed (core_in z) n None f s c.memory W c) now (placed_of z (state cp (Value (datum.Number x)) (In e Nothing ∷ k) l w) c h))
     (λ d pd. comes_here (core_in z) T d
     (gives z laws cp k l (arrived z.outside w) c.memory (bytes_of to) (core.byte_of (core.Number q)) (datum.Number q) d around (omega arith) (λ j lt. refl)

@@ -33,7 +33,7 @@ use Rattle.lower_trace.proofs.Looping.{test_after, for_again}
 use Rattle.lower_trace.proofs.Mirrors.{Mirrors, Agrees, Holds}
 use Rattle.lower_trace.proofs.Operations.{Comes, comes_here, comes_within}
 use Rattle.lower_trace.proofs.Placed.{Placed}
-use Rattle.lower_trace.proofs.Rounds.{IsLoop, turn_least}
+use Rattle.lower_trace.proofs.Rounds.{IsLoop, turn_least, turned_cost}
 use Rattle.lower_trace.proofs.Segments.{loops_length}
 
 -- ---- where `continue` leads to
@@ -321,26 +321,26 @@ module _ (z : Scene) where
 
   -- a turn ends by the jump
   pub turn_repeats : (shape : LoopForm) (begins condition step : Option Expression) (body : Statement) (line : ℕ) (k : List Pending) (cp : CopyOf) (l : source.Memory) (w : World value.Byte) (c : Machine) → IsLoop shape begins step → is_due (arrived z.outside w) ≡ false
-      → Repeats z shape begins condition step body line k cp l w c → Follow z 12 (turn_least shape step) c (turned (tree.Loop shape begins condition step body line) Turns k cp l (arrived z.outside w))
+      → Repeats z shape begins condition step body line k cp l w c → Follow z (turned_cost shape step) (turn_least shape step) c (turned (tree.Loop shape begins condition step body line) Turns k cp l (arrived z.outside w))
   unfolding active
   turn_repeats While begins condition None body line k cp l w c fits due h =
       let t = tree.Loop While begins condition None body line in
       let g = ground_in z cp in
       let W = world_as (held z) (arrived z.outside w) in
       let ts = condition_code g condition ++ stmt_code g (jumps_in While) body in
-      test_after z begins condition None body line k cp l w c.memory due h.agrees h.holds While condition c 12 1 refl
-      (λ T next. comes_within (core_in z) T (4 + 4) (1 + 0) 12 1 c
-      (repeats_then (core_in z) T (number z cp) None W (due_below z (arrived z.outside w) due) (again_below z w) (length h.inside) (many ts) h.rest (code_after g k) (stacked h.inside (stack_after z g (Doing t Turns ∷ k))) (stack_after z g k) c.memory c 4 0 (record { copy = h.copy; passing = h.passing; code = h.code; stack = h.stack; memory = refl; world = h.world })
+      test_after z begins condition None body line k cp l w c.memory due h.agrees h.holds While condition c 4 1 refl
+      (λ T next. comes_within (core_in z) T (4 + 0) (1 + 0) 4 1 c
+      (repeats_then (core_in z) T (number z cp) None W (due_below z (arrived z.outside w) due) (again_below z w) (length h.inside) (many ts) h.rest (code_after g k) (stacked h.inside (stack_after z g (Doing t Turns ∷ k))) (stack_after z g k) c.memory c 0 0 (record { copy = h.copy; passing = h.passing; code = h.code; stack = h.stack; memory = refl; world = h.world })
       (again_past h.inside (many ts) (code_after g k) (stack_after z g k) c.stack h.stack)
-      (λ d pd. many_then (core_in z) T (number z cp) None W (due_below z (arrived z.outside w) due) (again_below z w) ts [] (stack_after z g (Doing t Tests ∷ k)) c.memory d 4 0 pd next))
+      (λ d pd. many_then (core_in z) T (number z cp) None W (due_below z (arrived z.outside w) due) (again_below z w) ts [] (stack_after z g (Doing t Tests ∷ k)) c.memory d 0 0 pd next))
       (omega arith) (omega arith))
   turn_repeats While begins condition (Some e) body line k cp l w c fits due h = let q = fits.1 in absurd (cc)
   turn_repeats Do begins condition None body line k cp l w c fits due h =
       let t = tree.Loop Do begins condition None body line in
       let g = ground_in z cp in
       let W = world_as (held z) (arrived z.outside w) in
-      test_after z begins condition None body line k cp l w c.memory due h.agrees h.holds Do condition c 12 0 refl
-      (λ T next. comes_within (core_in z) T (4 + 4) 0 12 0 c
+      test_after z begins condition None body line k cp l w c.memory due h.agrees h.holds Do condition c 8 0 refl
+      (λ T next. comes_within (core_in z) T (4 + 4) 0 8 0 c
       (exits_then (core_in z) T (number z cp) None W (due_below z (arrived z.outside w) due) (again_below z w) (length h.inside) h.rest (todo (condition_code g condition) []) (stacked h.inside (stack_after z g (Doing t Turns ∷ k))) (stack_after z g (Doing t Tests ∷ k)) c.memory c 4 0 (record { copy = h.copy; passing = h.passing; code = h.code; stack = h.stack; memory = refl; world = h.world })
       (exit_past h.inside (once_body (stmt_code g (jumps_in Do) body)) (todo (condition_code g condition) []) (stack_after z g (Doing t Tests ∷ k)) c.stack h.stack)
       (λ d pd. next d (subst (λ y. Placed (core_in z) (number z cp) None (todo y []) (stack_after z g (Doing t Tests ∷ k)) c.memory W d) (sym (append-nil (condition_code g condition))) pd)))
@@ -350,9 +350,9 @@ module _ (z : Scene) where
       let t = tree.Loop For begins condition None body line in
       let g = ground_in z cp in
       let W = world_as (held z) (arrived z.outside w) in
-      test_after z begins condition None body line k cp l w c.memory due h.agrees h.holds For condition c 12 1 refl
-      (λ T next. comes_within (core_in z) T (4 + 8) 1 12 1 c
-      (exits_then (core_in z) T (number z cp) None W (due_below z (arrived z.outside w) due) (again_below z w) (length h.inside) h.rest [] (stacked h.inside (stack_after z g (Doing t Turns ∷ k))) (stack_after z g (Doing t Tests ∷ k)) c.memory c 8 1 (record { copy = h.copy; passing = h.passing; code = h.code; stack = h.stack; memory = refl; world = h.world })
+      test_after z begins condition None body line k cp l w c.memory due h.agrees h.holds For condition c 8 1 refl
+      (λ T next. comes_within (core_in z) T (4 + 4) 1 8 1 c
+      (exits_then (core_in z) T (number z cp) None W (due_below z (arrived z.outside w) due) (again_below z w) (length h.inside) h.rest [] (stacked h.inside (stack_after z g (Doing t Turns ∷ k))) (stack_after z g (Doing t Tests ∷ k)) c.memory c 4 1 (record { copy = h.copy; passing = h.passing; code = h.code; stack = h.stack; memory = refl; world = h.world })
       (exit_past h.inside (once_body (stmt_code g (jumps_in For) body)) [] (stack_after z g (Doing t Tests ∷ k)) c.stack h.stack)
       (λ d pd. for_again z begins condition None body line k cp l w c.memory due h.agrees h.holds T d pd next))
       (omega arith) (omega arith))
@@ -360,7 +360,7 @@ module _ (z : Scene) where
       let t = tree.Loop For begins condition (Some e) body line in
       let g = ground_in z cp in
       let T = Mirrors z (state cp (Eval e) (Doing t Steps ∷ k) l (arrived z.outside w)) in
-      comes_within (core_in z) T (4 + 0) 0 12 0 c
+      comes_within (core_in z) T (4 + 0) 0 4 0 c
       (exits_then (core_in z) T (number z cp) None (world_as (held z) (arrived z.outside w)) (due_below z (arrived z.outside w) due) (again_below z w) (length h.inside) h.rest (todo (any_code g (Some e)) []) (stacked h.inside (stack_after z g (Doing t Turns ∷ k))) (stack_after z g (Doing t Tests ∷ k)) c.memory c 0 0 (record { copy = h.copy; passing = h.passing; code = h.code; stack = h.stack; memory = refl; world = h.world })
       (exit_past h.inside (once_body (stmt_code g (jumps_in For) body)) (todo (any_code g (Some e)) []) (stack_after z g (Doing t Tests ∷ k)) c.stack h.stack)
       (λ d pd. arrive z cp (Eval e) (Doing t Steps ∷ k) l w c.memory d pd h.agrees h.holds tt))

@@ -15,6 +15,8 @@ use Rattle.pic_world.specs.declared.Root.TheVariants.{Main, Isr}
 use Rattle.src_rules.proofs.Changes.{entry_keeps, below_stays, leave_goes_on, entry_is_behind}
 use Rattle.src_rules.proofs.Distinct.{distinct}
 use Rattle.src_rules.proofs.Moments.{starts, steps}
+use Rattle.src_rules.proofs.Rooms.{FocusSized, Sized, KeepsSize}
+use Rattle.src_rules.proofs.Roomy.{step_size}
 use Rattle.src_rules.specs.Laws.{IsProper, below, ending, resumes, leaves_handler}
 use Rattle.src_rules.specs.Standing.{IsReached, Keeps, StackStands, Stands}
 use Rattle.src_rules.specs.State.{State, Outcome, Went, Undefined, Idle, Lost}
@@ -69,6 +71,8 @@ pub record Known (z : Scene) (t : State) : Type 0 where
   pub segments : AtFocus t.focus t.stack × InSegments t.stack
   -- what is under way calls what its function calls, and where a constant is waited for, its value comes
   pub parts : FocusHas z.program t.copy t.focus t.stack × StackHas z.program t.copy t.stack
+  -- a part that is under way has no more nodes than what waits for it
+  pub sized : FocusSized z.program t.copy t.focus t.stack × Sized z.program t.copy t.stack
 
 -- ---- what the handler interrupted
 held_below : (k : List Pending) → IsHeld k → IsHeld (below k)
@@ -201,6 +205,7 @@ module _ (z : Scene) (given : IsLowerable z.program z.copies) (input : All (λ b
     quiet = inl tt;
     segments = starts_in (source_in z);
     parts = start_parts (source_in z);
+    sized = (tt, (omega arith, tt));
   }
 
   both_fit : (u : State) (event : Option (Happening Byte)) → KeepsFits z (Went u event) → FocusFits z u.copy u.focus u.stack × StackFits z u.copy u.stack
@@ -256,6 +261,7 @@ module _ (z : Scene) (given : IsLowerable z.program z.copies) (input : All (λ b
         quiet = quiet_next t u event k e h;
         segments = subst StaysIn e (stays_in (source_in z) t k.segments.0 k.segments.1);
         parts = subst (KeepsParts z.program) e (step_parts (source_in z) t k.stands k.parts.0 k.parts.1);
+        sized = subst (KeepsSize z.program) e (step_size (source_in z) t k.stands k.sized.0 k.sized.1);
       }
 
   -- ---- what the laws ask of the stack

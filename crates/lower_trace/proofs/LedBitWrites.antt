@@ -75,7 +75,7 @@ module _ (z : Scene) (given : IsLowerable z.program z.copies) (input : All (λ b
       → ((a : Spot) (i : ℕ) → writing_at z (ground_in z cp) (In e (Stores (spots.Bit r n) u) ∷ k) a i
       ≡ writing z (ground_in z cp).layout.root (spot_of (ground_in z cp).layout (ground_in z cp).copy sought) a (Frame (ground_in z cp).copy (base (ground_in z cp) k)) (Frame (ground_in z cp).copy (stored (ground_in z cp) (base (ground_in z cp) k) e)) count i (code_after (ground_in z cp) (In e (Stores (spots.Bit r n) u) ∷ k)))
       → ((m : Memory) (h : ℕ → Held) → Holds z (ground_in z cp) (In e (Stores (spots.Bit r n) u) ∷ k) m → Holds z (ground_in z cp) (In e (Stores (spots.Bit r n) u) ∷ k) (with_bytes m (Frame (number z cp) (stored (ground_in z cp) (base (ground_in z cp) k) e)) 1 h))
-      → Mirrors z (state cp (Write (spots.Bit r n) (char x) 0) (In e (Stores (spots.Bit r n) u) ∷ k) l w) c → Led z c (act (source_in z) (Write (spots.Bit r n) (char x) 0) (In e (Stores (spots.Bit r n) u) ∷ k) cp l (arrived z.outside w))
+      → Mirrors z (state cp (Write (spots.Bit r n) (char x) 0) (In e (Stores (spots.Bit r n) u) ∷ k) l w) c → Led z (Write (spots.Bit r n) (char x) 0) (In e (Stores (spots.Bit r n) u) ∷ k) c (act (source_in z) (Write (spots.Bit r n) (char x) 0) (In e (Stores (spots.Bit r n) u) ∷ k) cp l (arrived z.outside w))
   unfolding act
   first_on e sought r n count u x k cp l w c known due bit range high room code kept h =
       let K = In e (Stores (spots.Bit r n) u) ∷ k in
@@ -84,7 +84,7 @@ module _ (z : Scene) (given : IsLowerable z.program z.copies) (input : All (λ b
       let b = base g k in
       let from = stored g b e in
       let front = value_high z cp k (around_in z cp e (Stores (spots.Bit r n) u) k (around z given input t known)) in
-      led_by z 57 1 c _
+      led_by z _ _ 57 1 c _ (omega arith) (omega arith)
       (write_bit z (scene_laws z given) cp K l known.stands.reached (resumables z t known) r n count from (Frame g.copy b)
       (λ a i. code a i ∙ ap (λ y. writing z g.layout.root y a (Frame g.copy b) (Frame g.copy from) count i (code_after g K)) bit.spot ∙ ap (λ y. writing z y (Bit r n) a (Frame g.copy b) (Frame g.copy from) count i (code_after g K)) (own_root z cp))
       refl room (omega arith) kept bit.known bit.small x 0 w c range due h)
@@ -164,7 +164,7 @@ module _ (z : Scene) (given : IsLowerable z.program z.copies) (input : All (λ b
       let bit = (bit_place z cp sought r n s.stack.0.1 s.stack.2.0).0 in
       let less = small z given input cp s.reached in
       let fits = known.stack.0 in
-      led_by z 28 0 c _ (assign_bit z (scene_laws z given) cp l sought right ty line r n v k w c bit.spot (omega arith) due h)
+      led_by z _ _ 28 0 c _ (omega arith) (omega arith) (assign_bit z (scene_laws z given) cp l sought right ty line r n v k w c bit.spot (omega arith) due h)
 
   update_last : (op : BinOp) (sought : Place) (right : Expression) (operation : Ty) (size : ℕ) (ty : Ty) (line r n : ℕ) (v : Datum) (k : List Pending) → Law z (Write (spots.Bit r n) v 1) (In (tree.Update op sought right operation size ty line) (Stores (spots.Bit r n) v) ∷ k)
   unfolding act room
@@ -186,7 +186,7 @@ module _ (z : Scene) (given : IsLowerable z.program z.copies) (input : All (λ b
       let left = value_at z cp less (behind_pointer g.layout g.copy b sought) right (omega arith) in
       let one = ap (type_bytes sizes) bit.1 in
       let wide = width_is z cp (place_type sought).ty (omega arith) in
-      led_by z 28 0 c _ (update_bit z (scene_laws z given) cp l op sought right operation size ty line r n v k w c bit.0.spot below (wide ∙ one) (omega arith) (omega arith) (omega arith) due h)
+      led_by z _ _ 28 0 c _ (omega arith) (omega arith) (update_bit z (scene_laws z given) cp l op sought right operation size ty line r n v k w c bit.0.spot below (wide ∙ one) (omega arith) (omega arith) (omega arith) due h)
 
   step_last : (op : StepOp) (sought : Place) (operation : Ty) (size : ℕ) (ty : Ty) (line r n : ℕ) (u v : Datum) (k : List Pending) → (keeps_old op ≡ false → u ≡ v) → Law z (Write (spots.Bit r n) v 1) (In (tree.Step op sought operation size ty line) (Stores (spots.Bit r n) u) ∷ k)
   unfolding act room
@@ -212,7 +212,7 @@ module _ (z : Scene) (given : IsLowerable z.program z.copies) (input : All (λ b
       let old = beyond_is (stored g b e) (width g.layout operation) (omega arith) in
       let one = ap (type_bytes sizes) bit.1 in
       let wide = width_is z cp (place_type sought).ty (omega arith) in
-      led_by z 28 0 c _
+      led_by z _ _ 28 0 c _ (omega arith) (omega arith)
       (step_bit z (scene_laws z given) cp l op sought operation size ty line r n v u k w c bit.0.spot below (wide ∙ one) (omega arith) (omega arith) (omega arith) (omega arith) (char_few z ty u (sym rule.0 ∙ bit.1) s.stack.2.1) keeps due h)
 
   last_in : (e : Expression) (r n : ℕ) (u v : Datum) (k : List Pending) → KeepsValue e u v → Law z (Write (spots.Bit r n) v 1) (In e (Stores (spots.Bit r n) u) ∷ k)

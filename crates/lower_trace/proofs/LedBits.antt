@@ -54,7 +54,7 @@ module _ (z : Scene) (given : IsLowerable z.program z.copies) (input : All (λ b
       let b = base g k in
       let is = bit_start register number start (f.there ∙ ap (stepped 0) f.node.0) in
       let bit = (bit_place z cp sought register number s.stack.0.1 (subst (λ y. IsSpotOf z.program cp sought y) is s.stack.2.0)).0 in
-      led_by z 3 0 c _
+      led_by z _ _ 3 0 c _ (omega arith) (omega arith)
       (put_bit_goes z cp (In e (Stores start u) ∷ k) l register number bit.known
       (ap (λ y. writing z g.layout.root y (spots.Bit register number) (Frame g.copy b) (Frame g.copy (stored g b e)) (width g.layout ty) 1 (code_after g (In e (Stores start u) ∷ k))) bit.spot) v old w c due h)
   bits_in (tree.Update op sought value operation size ty line) start u register number v old k cp l w c known due h =
@@ -65,7 +65,7 @@ module _ (z : Scene) (given : IsLowerable z.program z.copies) (input : All (λ b
       let b = base g k in
       let is = bit_start register number start (f.there ∙ ap (stepped 0) f.node.0) in
       let bit = (bit_place z cp sought register number s.stack.0.1 (subst (λ y. IsSpotOf z.program cp sought y) is s.stack.2.0)).0 in
-      led_by z 3 0 c _
+      led_by z _ _ 3 0 c _ (omega arith) (omega arith)
       (put_bit_goes z cp (In e (Stores start u) ∷ k) l register number bit.known
       (ap (λ y. writing z g.layout.root y (spots.Bit register number) (Frame g.copy b) (Frame g.copy (stored g b e)) (place_width g.layout sought) 1 (code_after g (In e (Stores start u) ∷ k))) bit.spot) v old w c due h)
   bits_in (tree.Step op sought operation size ty line) start u register number v old k cp l w c known due h =
@@ -76,7 +76,7 @@ module _ (z : Scene) (given : IsLowerable z.program z.copies) (input : All (λ b
       let b = base g k in
       let is = bit_start register number start (f.there ∙ ap (stepped 0) f.node.0) in
       let bit = (bit_place z cp sought register number s.stack.0.1 (subst (λ y. IsSpotOf z.program cp sought y) is s.stack.2.0)).0 in
-      led_by z 3 0 c _
+      led_by z _ _ 3 0 c _ (omega arith) (omega arith)
       (put_bit_goes z cp (In e (Stores start u) ∷ k) l register number bit.known
       (ap (λ y. writing z g.layout.root y (spots.Bit register number) (Frame g.copy b) (Frame g.copy (stored g b e)) (place_width g.layout sought) 1 (code_after g (In e (Stores start u) ∷ k))) bit.spot) v old w c due h)
   bits_in _ start u register number v old k cp l w c known due h = absurd known.stands.stack.2.0

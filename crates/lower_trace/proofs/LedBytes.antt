@@ -18,13 +18,14 @@ use Rattle.lower_trace.proofs.CopyTakes.{through_copy_read}
 use Rattle.lower_trace.proofs.FixedCopies.{fixed_copy_read, fixed_copy_write, paused_copy_write}
 use Rattle.lower_trace.proofs.FixedWrites.{IsOpen}
 use Rattle.lower_trace.proofs.Known.{Known, around, reached_below, reaches, resumables}
-use Rattle.lower_trace.proofs.Leads.{Law, Led, Meets, comes_map, led_by}
+use Rattle.lower_trace.proofs.Leads.{Law, Led, Meets, comes_map, led_by, led_nowhere}
 use Rattle.lower_trace.proofs.LedCopies.{copy_rule}
 use Rattle.lower_trace.proofs.LedFetches.{memory_no_bit}
 use Rattle.lower_trace.proofs.LedLists.{own_low}
 use Rattle.lower_trace.proofs.Mirrors.{Mirrors}
 use Rattle.lower_trace.proofs.OpenPlaces.{stepped_open, struct_open}
 use Rattle.lower_trace.proofs.Pausing.{CopyPauses, Leads, Paused, Pauses, Stands}
+use Rattle.lower_trace.proofs.Prices.{least_at, most_at}
 use Rattle.lower_trace.proofs.Scenes.{scene_laws}
 use Rattle.lower_trace.proofs.Waiting.{AreFixed, BothFixed, CopyWaits}
 use Rattle.lower_trace.specs.Lowering.{IsLowerable}
@@ -42,7 +43,7 @@ use Rattle.src_values.specs.declared.objects.Object.TheVariants as objects
 use Rattle.src_values.specs.declared.objects.Pointer.TheVariants.{Into, Null}
 use Rattle.src_values.specs.declared.objects.Spot.TheVariants as spots
 use Rattle.src_values.specs.declared.objects.Spot.{Spot}
-use Rattle.std.proofs.Common.{List, ap, false, inl, inr, refl, subst, suc, sym, ℕ, ⊎_elim, ◌<◌, ◌∙◌, ◌∷◌, ◌≡◌}
+use Rattle.std.proofs.Common.{List, ap, arith, false, inl, inr, refl, subst, suc, sym, ℕ, ⊎_elim, ◌<◌, ◌∙◌, ◌∷◌, ◌≡◌, ◌≤◌}
 use Rattle.std.specs.List.{All}
 
 -- ---- byte code waits where a byte was read between fixed places
@@ -52,11 +53,18 @@ FixedIn z (Undefined kind line) = Unit {0}
 FixedIn z Idle = Unit {0}
 FixedIn z Lost = Unit {0}
 
-led_copies : (z : Scene) (q l : ℕ) (c : Machine) (o : Outcome) → FixedIn z o → Leads z q l c o → Led z c o
-led_copies z q l c (Went u event) fixed f = record { most = q; least = l; on = comes_map (core_in z) (Stands z u) (Meets z u) q l c (λ d h. ⊎_elim (λ m. inl m) (λ p. inr (inr (CopyWaits fixed p))) h) f }
-led_copies z q l c (Undefined kind line) fixed f = record { most = q; least = l; on = tt }
-led_copies z q l c Idle fixed f = record { most = q; least = l; on = tt }
-led_copies z q l c Lost fixed f = record { most = q; least = l; on = tt }
+led_copies : (z : Scene) (x : Focus) (k : List Pending) (q l : ℕ) (c : Machine) (o : Outcome) → q ≤ most_at z.program x k → least_at z.program x k ≤ l → FixedIn z o → Leads z q l c o → Led z x k c o
+led_copies z x k q l c (Went u event) low high fixed f =
+    record {
+      most = q;
+      least = l;
+      on = comes_map (core_in z) (Stands z u) (Meets z u) q l c (λ d h. ⊎_elim (λ m. inl m) (λ p. inr (inr (CopyWaits fixed p))) h) f;
+      low = low;
+      high = high;
+    }
+led_copies z x k q l c (Undefined kind line) low high fixed f = record { most = q; least = l; on = tt; low = low; high = high }
+led_copies z x k q l c Idle low high fixed f = record { most = q; least = l; on = tt; low = low; high = high }
+led_copies z x k q l c Lost low high fixed f = record { most = q; least = l; on = tt; low = low; high = high }
 
 taken_fixed : (z : Scene) (t : Taking) (next : Byte → Focus) (cp : CopyOf) (k : List Pending) (l : source.Memory) (line : ℕ) → AreFixed z cp k → FixedIn z (after_taking t next cp k l line)
 taken_fixed z (Takes byte w event) next cp k l line h = h
@@ -72,12 +80,12 @@ CopiesAreOpen z =
 abbrev ReadsBy : Scene → place.Spot → place.Spot → Spot → Spot → ℕ → List Pending → Type 0
 ReadsBy z p q to from left k =
     (b size : ℕ) (cp : CopyOf) (l : source.Memory) (w : World Byte) (c : Machine) → CopySite z cp k to from (suc left) p q b size → Known z (state cp (CopyRead to from (suc left)) k l w) → is_due (arrived z.outside w) ≡ false
-    → Mirrors z (state cp (CopyRead to from (suc left)) k l w) c → Led z c (act (source_in z) (CopyRead to from (suc left)) k cp l (arrived z.outside w))
+    → Mirrors z (state cp (CopyRead to from (suc left)) k l w) c → Led z (CopyRead to from (suc left)) k c (act (source_in z) (CopyRead to from (suc left)) k cp l (arrived z.outside w))
 
 abbrev WritesBy : Scene → place.Spot → place.Spot → Spot → Spot → Byte → ℕ → List Pending → Type 0
 WritesBy z p q to from byte left k =
     (b size : ℕ) (cp : CopyOf) (l : source.Memory) (w : World Byte) (c : Machine) → CopySite z cp k to from (suc left) p q b size → IsOpen z to → Known z (state cp (CopyWrite to from byte left) k l w) → is_due (arrived z.outside w) ≡ false
-    → Mirrors z (state cp (CopyWrite to from byte left) k l w) c → Led z c (act (source_in z) (CopyWrite to from byte left) k cp l (arrived z.outside w))
+    → Mirrors z (state cp (CopyWrite to from byte left) k l w) c → Led z (CopyWrite to from byte left) k c (act (source_in z) (CopyWrite to from byte left) k cp l (arrived z.outside w))
 
 -- An item of a list of first values goes to a local.
 listed_open : (z : Scene) (local : ℕ) (whole : List Item) (line offset : ℕ) (other : Place) (size : ℕ) (rest : List Item) (to from : Spot) (left : ℕ) (k : List Pending) (cp : CopyOf) → CopyStands z.program cp (Doing (tree.InitList local whole line) (Items (tree.Struct offset other size) rest) ∷ k) to from left → IsOpen z to
@@ -87,11 +95,11 @@ module _ (z : Scene) (given : IsLowerable z.program z.copies) (input : All (λ b
   -- ---- a byte is read
   reads_fixed : (X Y : core.Byte) (to from : Spot) (left : ℕ) (k : List Pending) → ReadsBy z (Fixed X) (Fixed Y) to from left k
   unfolding act take_byte
-  reads_fixed X Y to (spots.Memory Null) left k b size cp l w c site known due h = record { most = 0; least = 0; on = tt }
+  reads_fixed X Y to (spots.Memory Null) left k b size cp l w c site known due h = led_nowhere z _ _ c _ (λ q n. tt)
   reads_fixed X Y to (spots.Memory (Into o f)) left k b size cp l w c site known due h =
       let from = spots.Memory (Into o f) in
       let t = state cp (CopyRead to from (suc left)) k l w in
-      led_copies z 6 0 c _
+      led_copies z _ _ 6 0 c _ (omega arith) (omega arith)
       (taken_fixed z (take_byte (source_in z) (active cp (CopyRead to from (suc left)) k) cp.root is_any from l (arrived z.outside w)) (λ byte. CopyWrite to from byte left) cp k l (line_at k) (site.fixed tt))
       (fixed_copy_read z (scene_laws z given) cp k l (around z given input t known) (reached_below z given input t known) X Y b size site.node (own_low z given input cp known.stands.reached) to o f left w c site.part site.away site.own_from due h)
   reads_fixed X Y to (spots.Device a) left k b size cp l w c site known due h = absurd site.from_object
@@ -101,7 +109,7 @@ module _ (z : Scene) (given : IsLowerable z.program z.copies) (input : All (λ b
   unfolding act
   reads_through p q to (spots.Memory x) left k through b size cp l w c site known due h =
       let t = state cp (CopyRead to (spots.Memory x) (suc left)) k l w in
-      led_by z 60 1 c _
+      led_by z _ _ 60 1 c _ (omega arith) (omega arith)
       (through_copy_read z (scene_laws z given) cp k l (around z given input t known) (resumables z t known) p q b size through site.node site.room (reaches z given input t known) (own_low z given input cp known.stands.reached) to x left w c site.part site.to_placed site.from_placed site.own_from due h)
   reads_through p q to (spots.Device a) left k through b size cp l w c site known due h = absurd site.from_object
   reads_through p q to (spots.Bit r i) left k through b size cp l w c site known due h = absurd site.from_object
@@ -128,10 +136,10 @@ module _ (z : Scene) (given : IsLowerable z.program z.copies) (input : All (λ b
   -- ---- it is written
   writes_fixed : (X Y : core.Byte) (to from : Spot) (byte : Byte) (left : ℕ) (k : List Pending) → WritesBy z (Fixed X) (Fixed Y) to from byte left k
   unfolding act put_byte
-  writes_fixed X Y (spots.Memory Null) from byte left k b size cp l w c site open_is known due h = record { most = 0; least = 0; on = tt }
+  writes_fixed X Y (spots.Memory Null) from byte left k b size cp l w c site open_is known due h = led_nowhere z _ _ c _ (λ q n. tt)
   writes_fixed X Y (spots.Memory (Into o f)) (spots.Memory (Into p e)) byte left k b size cp l w c site open_is known due h =
       let t = state cp (CopyWrite (spots.Memory (Into o f)) (spots.Memory (Into p e)) byte left) k l w in
-      led_by z 6 1 c _
+      led_by z _ _ 6 1 c _ (omega arith) (omega arith)
       (fixed_copy_write z (scene_laws z given) cp k l (around z given input t known) (reached_below z given input t known) X Y b size site.node (own_low z given input cp known.stands.reached) o p f e byte left w c site.part site.own_to open_is site.from_placed.0 known.stands.focus.2 due h)
   writes_fixed X Y (spots.Memory (Into o f)) (spots.Memory Null) byte left k b size cp l w c site open_is known due h = absurd known.stands.focus.2
   writes_fixed X Y (spots.Memory (Into o f)) (spots.Device a) byte left k b size cp l w c site open_is known due h = absurd site.from_object
@@ -143,7 +151,7 @@ module _ (z : Scene) (given : IsLowerable z.program z.copies) (input : All (λ b
   unfolding act
   writes_through p q (spots.Memory x) (spots.Memory (Into o e)) byte left k through b size cp l w c site open_is known due h =
       let t = state cp (CopyWrite (spots.Memory x) (spots.Memory (Into o e)) byte left) k l w in
-      led_by z 24 1 c _
+      led_by z _ _ 24 1 c _ (omega arith) (omega arith)
       (through_copy_write z (scene_laws z given) cp k l (around z given input t known) (resumables z t known) p q b size through site.node site.room (reaches z given input t known) (own_low z given input cp known.stands.reached) x o e byte left w c site.part site.own_to open_is site.to_placed site.from_placed.0 known.stands.focus.2 (reached_below z given input t known) due h)
   writes_through p q (spots.Memory x) (spots.Memory Null) byte left k through b size cp l w c site open_is known due h = absurd known.stands.focus.2
   writes_through p q (spots.Memory x) (spots.Device a) byte left k through b size cp l w c site open_is known due h = absurd site.from_object
@@ -197,19 +205,19 @@ module _ (z : Scene) (given : IsLowerable z.program z.copies) (input : All (λ b
   -- ---- it is read and written at once
   paused_fixed : (X Y : core.Byte) (to : Spot) (d : CopyOf) (i e : ℕ) (byte : Byte) (left b size : ℕ) (k : List Pending) (cp : CopyOf) (l : source.Memory) (w : World Byte) (c : Machine) → CopySite z cp k to (spots.Memory (Into (objects.Variable d i) e)) (suc left) (Fixed X) (Fixed Y) b size → IsOpen z to
       → Known z (state cp (CopyWrite to (spots.Memory (Into (objects.Variable d i) e)) byte left) k l w) → CopyPauses z to d i e byte left cp k l w c
-      → Led z c (act (source_in z) (CopyWrite to (spots.Memory (Into (objects.Variable d i) e)) byte left) k cp l (arrived z.outside w))
+      → Led z (CopyWrite to (spots.Memory (Into (objects.Variable d i) e)) byte left) k c (act (source_in z) (CopyWrite to (spots.Memory (Into (objects.Variable d i) e)) byte left) k cp l (arrived z.outside w))
   unfolding act put_byte
-  paused_fixed X Y (spots.Memory Null) d i e byte left b size k cp l w c site open_is known x = record { most = 0; least = 0; on = tt }
+  paused_fixed X Y (spots.Memory Null) d i e byte left b size k cp l w c site open_is known x = led_nowhere z _ _ c _ (λ q n. tt)
   paused_fixed X Y (spots.Memory (Into o f)) d i e byte left b size k cp l w c site open_is known x =
       let t = state cp (CopyWrite (spots.Memory (Into o f)) (spots.Memory (Into (objects.Variable d i) e)) byte left) k l w in
-      led_by z 6 1 c _
+      led_by z _ _ 6 1 c _ (omega arith) (omega arith)
       (paused_copy_write z (scene_laws z given) cp k l (around z given input t known) (reached_below z given input t known) X Y b size site.node (own_low z given input cp known.stands.reached) o d i f e byte left w c site.part site.away site.own_to open_is site.own_from x)
   paused_fixed X Y (spots.Device a) d i e byte left b size k cp l w c site open_is known x = absurd site.to_object
   paused_fixed X Y (spots.Bit r n) d i e byte left b size k cp l w c site open_is known x = absurd site.to_object
 
   paused_by : (p q : place.Spot) (to : Spot) (d : CopyOf) (i e : ℕ) (byte : Byte) (left b size : ℕ) (k : List Pending) (cp : CopyOf) (l : source.Memory) (w : World Byte) (c : Machine) → BothFixed p q → CopySite z cp k to (spots.Memory (Into (objects.Variable d i) e)) (suc left) p q b size → IsOpen z to
       → Known z (state cp (CopyWrite to (spots.Memory (Into (objects.Variable d i) e)) byte left) k l w) → CopyPauses z to d i e byte left cp k l w c
-      → Led z c (act (source_in z) (CopyWrite to (spots.Memory (Into (objects.Variable d i) e)) byte left) k cp l (arrived z.outside w))
+      → Led z (CopyWrite to (spots.Memory (Into (objects.Variable d i) e)) byte left) k c (act (source_in z) (CopyWrite to (spots.Memory (Into (objects.Variable d i) e)) byte left) k cp l (arrived z.outside w))
   paused_by (Fixed X) (Fixed Y) to d i e byte left b size k cp l w c fixed site open_is known x = paused_fixed X Y to d i e byte left b size k cp l w c site open_is known x
   paused_by (Fixed X) (Bit r n) to d i e byte left b size k cp l w c fixed site open_is known x = absurd fixed
   paused_by (Fixed X) Computed to d i e byte left b size k cp l w c fixed site open_is known x = absurd fixed
@@ -223,7 +231,7 @@ module _ (z : Scene) (given : IsLowerable z.program z.copies) (input : All (λ b
   fixed_open_by Computed q place other size line to from left x k cp l w fixed e known f = absurd fixed
 
   paused_at : (to : Spot) (d : CopyOf) (i e : ℕ) (byte : Byte) (left : ℕ) (k : List Pending) (cp : CopyOf) (l : source.Memory) (w : World Byte) (c : Machine) → AreFixed z cp k → Known z (state cp (CopyWrite to (spots.Memory (Into (objects.Variable d i) e)) byte left) k l w) → CopyPauses z to d i e byte left cp k l w c
-      → Led z c (act (source_in z) (CopyWrite to (spots.Memory (Into (objects.Variable d i) e)) byte left) k cp l (arrived z.outside w))
+      → Led z (CopyWrite to (spots.Memory (Into (objects.Variable d i) e)) byte left) k c (act (source_in z) (CopyWrite to (spots.Memory (Into (objects.Variable d i) e)) byte left) k cp l (arrived z.outside w))
   paused_at to d i e byte left (In (tree.StructAssign place other size line) Copies ∷ k) cp l w c fixed known x =
       let from = spots.Memory (Into (objects.Variable d i) e) in
       let K = In (tree.StructAssign place other size line) Copies ∷ k in
@@ -238,10 +246,10 @@ module _ (z : Scene) (given : IsLowerable z.program z.copies) (input : All (λ b
       (listed_open z local whole line offset other size rest to from (suc left) k cp known.stands.focus.0) known x
   paused_at to d i e byte left _ cp l w c fixed known x = absurd known.stands.focus.0.node
 
-  paused_on : (x : Focus) (k : List Pending) (cp : CopyOf) (l : source.Memory) (w : World Byte) (c : Machine) → Known z (state cp x k l w) → AreFixed z cp k → Pauses z x cp k l w c → Led z c (act (source_in z) x k cp l (arrived z.outside w))
+  paused_on : (x : Focus) (k : List Pending) (cp : CopyOf) (l : source.Memory) (w : World Byte) (c : Machine) → Known z (state cp x k l w) → AreFixed z cp k → Pauses z x cp k l w c → Led z x k c (act (source_in z) x k cp l (arrived z.outside w))
   paused_on (CopyWrite to (spots.Memory (Into (objects.Variable d i) e)) byte left) k cp l w c known fixed x = paused_at to d i e byte left k cp l w c fixed known x
   paused_on _ k cp l w c known fixed x = absurd x
 
   -- A byte that was read between fixed places is read and written by byte code.
-  pub copies_wait : (t : State) (c : Machine) → Known z t → AreFixed z t.copy t.stack → Paused z t c → Led z c (act (source_in z) t.focus t.stack t.copy t.memory (arrived z.outside t.world))
+  pub copies_wait : (t : State) (c : Machine) → Known z t → AreFixed z t.copy t.stack → Paused z t c → Led z t.focus t.stack c (act (source_in z) t.focus t.stack t.copy t.memory (arrived z.outside t.world))
   copies_wait t c known fixed p = paused_on t.focus t.stack t.copy t.memory t.world c known fixed p

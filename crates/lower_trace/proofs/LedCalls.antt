@@ -40,7 +40,7 @@ use Rattle.lower_trace.proofs.Scenes.{frame_is, scene_laws}
 use Rattle.lower_trace.proofs.Surroundings.{mains_wait, others_wait}
 
 -- ---- types of results
-scalar_few : (sizes : List ℕ) (ty : Ty) → is_scalar ty ≡ true → type_bytes sizes ty ≤ 4
+pub scalar_few : (sizes : List ℕ) (ty : Ty) → is_scalar ty ≡ true → type_bytes sizes ty ≤ 4
 scalar_few sizes types.Void e = absurd (cc)
 scalar_few sizes (types.Int ty) e = (int_some ty).1
 scalar_few sizes (types.Pointer row) e = omega arith
@@ -101,7 +101,7 @@ module _ (z : Scene) (given : IsLowerable z.program z.copies) (input : All (λ b
         mains = mains_wait z.program d k below;
         piled = piled z d (small z given input d st.0) k below fits.1;
       } in
-      led_by z (6 * width (ground_in z d).layout ty) 0 c _ (call_handed z (scene_laws z given) g arguments ty line v d cp k l w c a st.0 (omega arith) (omega arith) (omega arith) st.1 due h)
+      led_by z _ _ (6 * width (ground_in z d).layout ty) 0 c _ (omega arith) (omega arith) (call_handed z (scene_laws z given) g arguments ty line v d cp k l w c a st.0 (omega arith) (omega arith) (omega arith) st.1 due h)
   leavings v (Returns d ∷ _) cp l w c known due h = absurd known.stands.stack.2
   leavings v _ cp l w c known due h = absurd known.stands.focus.0
 
@@ -133,4 +133,4 @@ module _ (z : Scene) (given : IsLowerable z.program z.copies) (input : All (λ b
       let value = value_room z.program cp.function e st.0.1 in
       let f = frame_is z given cp s.reached in
       let fits = known.stack.0.0 in
-      led_by z (6 * ground.width (ground_in z cp) e + 4) 1 c _ (return_given z (scene_laws z given) e line v d.copy k d.rest cp l w c d.is resumables s.reached (omega arith) (omega arith) (omega arith) due h)
+      led_by z _ _ (6 * ground.width (ground_in z cp) e + 4) 1 c _ (omega arith) (omega arith) (return_given z (scene_laws z given) e line v d.copy k d.rest cp l w c d.is resumables s.reached (omega arith) (omega arith) (omega arith) due h)

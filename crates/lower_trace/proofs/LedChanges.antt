@@ -112,7 +112,7 @@ module _ (z : Scene) (given : IsLowerable z.program z.copies) (input : All (λ b
       let place_wide = width_is z cp (place_type place).ty (omega arith) in
       let left = beyond_is (behind_pointer g.layout g.copy b place) (width g.layout (types.Int o)) (omega arith) in
       let p = pointer_bytes (spot_of g.layout g.copy place) in
-      led_by z (78 + 10 * bytes_of o) 0 c _
+      led_by z _ _ (78 + 10 * bytes_of o) 0 c _ (omega arith) (omega arith)
       (step_changed z (scene_laws z given) op place o size line spot x (b + p + bytes_of o) (b + p) (bytes_of o) k cp l w c wide (left ∙ (omega arith)) at
       (record {
         around = around_in z cp e (At spot) k (around z given input (state cp (Holds (datum.Number x)) (In e (At spot) ∷ k) l w) known);
@@ -188,7 +188,7 @@ module _ (z : Scene) (given : IsLowerable z.program z.copies) (input : All (λ b
       let place_wide = width_is z cp (place_type place).ty (omega arith) in
       let left = value_at z cp less (behind_pointer g.layout g.copy b place) right (omega arith) in
       let p = pointer_bytes (spot_of g.layout g.copy place) in
-      led_by z (78 + 10 * bytes_of o) 0 c _
+      led_by z _ _ (78 + 10 * bytes_of o) 0 c _ (omega arith) (omega arith)
       (update_changed z (scene_laws z given) op place right o size line spot x y (b + p + bytes_of o) (b + p) (bytes_of o) k cp l w c sum (no_shift op right sum) alike u.1 (wide ∙ right_bytes) (left ∙ (omega arith)) at
       (record {
         around = around_in z cp e (AtWith spot (datum.Number y)) k (around z given input (state cp (Holds (datum.Number x)) (In e (AtWith spot (datum.Number y)) ∷ k) l w) known);

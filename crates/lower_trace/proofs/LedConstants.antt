@@ -94,7 +94,7 @@ module _ (z : Scene) (given : IsLowerable z.program z.copies) (input : All (λ b
       let place_wide = width_is z cp (place_type place).ty (omega arith) in
       let left = value_at z cp less (behind_pointer g.layout g.copy b place) right (omega arith) in
       let p = pointer_bytes (spot_of g.layout g.copy place) in
-      led_by z 94 0 c _
+      led_by z _ _ 94 0 c _ (omega arith) (omega arith)
       (constant_update z (scene_laws z given) op place right o size line spot x y (b + p + bytes_of y.ty) (b + p) (bytes_of y.ty - 1) k cp l w c shift constant (left ∙ (omega arith)) at
       (record {
         around = around_in z cp e (AtWith spot (datum.Number y)) k (around z given input (state cp (Holds (datum.Number x)) (In e (AtWith spot (datum.Number y)) ∷ k) l w) known);

@@ -43,7 +43,7 @@ module _ (z : Scene) (given : IsLowerable z.program z.copies) (input : All (λ b
       let rule = copy_rule z.program place from size line e.0 in
       let other = subst (λ t. is_struct t ≡ true) rule.1 rule.0 in
       let at = subst (λ y. IsSpotOf z.program cp y spot) s.focus.1 s.focus.2 in
-      led_by z 0 0 c _
+      led_by z _ _ 0 0 c _ (omega arith) (omega arith)
       (assign_copies z (scene_laws z given) cp l place from size line to spot k w c (struct_object z cp place to e.1 rule.0 s.stack.2) (struct_object z cp from spot e.2 other at)
       (spot_placed z.program cp place to s.reached e.1 s.stack.2) (spot_placed z.program cp from spot s.reached e.2 at) h)
 
@@ -58,7 +58,7 @@ module _ (z : Scene) (given : IsLowerable z.program z.copies) (input : All (λ b
       let all_bytes = local_size z cp local in
       let is = item.1.1 in
       let at = subst (λ y. IsSpotOf z.program cp y spot) s.focus.1 s.focus.2 in
-      led_by z 0 0 c _
+      led_by z _ _ 0 0 c _ (omega arith) (omega arith)
       (item_copies z (scene_laws z given) local all line k cp l (listed z given input cp local all s.reached s.stack.0.1) (own_low z given input cp s.reached) offset from size rest spot w c (around z given input t known) (omega arith)
       (struct_object z cp from spot is.2 is.0 at) (spot_placed z.program cp from spot s.reached is.2 at) h)
   list_structures local all line (tree.Scalar offset e) rest spot k cp l w c known due h = absurd known.stands.focus.1
@@ -70,10 +70,10 @@ module _ (z : Scene) (given : IsLowerable z.program z.copies) (input : All (λ b
   assigns_end place from size line to spot k cp l w c known due h =
       let e = tree.StructAssign place from size line in
       let t = state cp (CopyRead to spot 0) (In e Copies ∷ k) l w in
-      led_by z 8 0 c _ (assign_ends z (scene_laws z given) cp l place from size line to spot k w c (around_in z cp e Copies k (around z given input t known)) (resumables z t known) due h)
+      led_by z _ _ 8 0 c _ (omega arith) (omega arith) (assign_ends z (scene_laws z given) cp l place from size line to spot k w c (around_in z cp e Copies k (around z given input t known)) (resumables z t known) due h)
 
   pub items_end : (local : ℕ) (all : List Item) (line offset : ℕ) (from : Place) (size : ℕ) (rest : List Item) (to spot : Spot) (k : List Pending) → 0 < size → Law z (CopyRead to spot 0) (Doing (tree.InitList local all line) (Items (tree.Struct offset from size) rest) ∷ k)
   unfolding act
   items_end local all line offset from size rest to spot k some cp l w c known due h =
       let s = known.stands in
-      led_by z 0 0 c _ (item_copied z (scene_laws z given) local all line k cp l (listed z given input cp local all s.reached s.stack.0.1) (own_low z given input cp s.reached) offset from size rest to spot w c some h)
+      led_by z _ _ 0 0 c _ (omega arith) (omega arith) (item_copied z (scene_laws z given) local all line k cp l (listed z given input cp local all s.reached s.stack.0.1) (own_low z given input cp s.reached) offset from size rest to spot w c some h)

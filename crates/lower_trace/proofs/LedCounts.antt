@@ -32,6 +32,7 @@ use Rattle.lower_trace.proofs.LedOperators.{wide_int}
 use Rattle.lower_trace.proofs.LedValues.{around_in, int_some, scalar_update}
 use Rattle.lower_trace.proofs.Mirrors.{Mirrors}
 use Rattle.lower_trace.proofs.Operations.{comes_here}
+use Rattle.lower_trace.proofs.Prices.{least_at}
 use Rattle.lower_trace.proofs.Rooms.{binary_parts}
 use Rattle.lower_trace.proofs.Scenes.{frame_is, scene_laws}
 use Rattle.lower_trace.proofs.Waiting.{CountWaits}
@@ -52,16 +53,16 @@ use Rattle.src_values.specs.Values.{binary_answer}
 use Rattle.src_values.specs.declared.objects.Byte.{Byte}
 use Rattle.src_values.specs.declared.objects.CopyOf.{CopyOf}
 use Rattle.src_values.specs.declared.objects.Spot.{Spot}
-use Rattle.std.proofs.Common.{List, [], ap, arith, false, inr, subst, sym, true, ℕ, ◌++◌, ◌+◌, ◌-◌, ◌<◌, ◌∙◌, ◌∷◌, ◌≡◌}
+use Rattle.std.proofs.Common.{List, [], ap, arith, false, inr, refl, subst, sym, true, ℕ, ◌++◌, ◌+◌, ◌-◌, ◌<◌, ◌∙◌, ◌∷◌, ◌≡◌}
 use Rattle.std.proofs.lemmas.Bool.{and_parts}
 use Rattle.std.specs.List.{All}
 
 -- byte code stands still
-led_folds : (z : Scene) (c : Machine) (o : Outcome) → Folds z c o → Led z c o
-led_folds z c (Went u event) f = record { most = 0; least = 0; on = comes_here (core_in z) (Meets z u) c (inr (inr (CountWaits f))) }
-led_folds z c (Undefined kind line) f = record { most = 0; least = 0; on = tt }
-led_folds z c Idle f = record { most = 0; least = 0; on = tt }
-led_folds z c Lost f = record { most = 0; least = 0; on = tt }
+led_folds : (z : Scene) (x : Focus) (k : List Pending) (c : Machine) (o : Outcome) → least_at z.program x k ≡ 0 → Folds z c o → Led z x k c o
+led_folds z x k c (Went u event) free f = record { most = 0; least = 0; on = comes_here (core_in z) (Meets z u) c (inr (inr (CountWaits f))); low = omega arith; high = omega arith }
+led_folds z x k c (Undefined kind line) free f = record { most = 0; least = 0; on = tt; low = omega arith; high = omega arith }
+led_folds z x k c Idle free f = record { most = 0; least = 0; on = tt; low = omega arith; high = omega arith }
+led_folds z x k c Lost free f = record { most = 0; least = 0; on = tt; low = omega arith; high = omega arith }
 
 -- ---- shifts
 pub shifts_are : (op : BinOp) → is_shift op ≡ true → Shifts op
@@ -92,17 +93,17 @@ shift_types _ t right ty s e = absurd s
 abbrev AfterCount : Scene → BinOp → Expression → Expression → Ty → ℕ → Datum → Quantity → List Pending → Type 0
 AfterCount z op left right ty line u q k =
     (cp : CopyOf) (l : source.Memory) (w : World Byte) (c : Machine) → Known z (state cp (Value (datum.Number q)) (In (tree.Binary op left right ty line) (One u) ∷ k) l w) → is_due (arrived z.outside w) ≡ false
-    → Mirrors z (state cp (Value u) (In (tree.Binary op left right ty line) Nothing ∷ k) l w) c → Led z c (act (source_in z) (Value (datum.Number q)) (In (tree.Binary op left right ty line) (One u) ∷ k) cp l (arrived z.outside w))
+    → Mirrors z (state cp (Value u) (In (tree.Binary op left right ty line) Nothing ∷ k) l w) c → Led z (Value (datum.Number q)) (In (tree.Binary op left right ty line) (One u) ∷ k) c (act (source_in z) (Value (datum.Number q)) (In (tree.Binary op left right ty line) (One u) ∷ k) cp l (arrived z.outside w))
 
 module _ (z : Scene) (given : IsLowerable z.program z.copies) (input : All (λ byte. byte < 256) z.outside.input) where
   -- ---- a count begins
   pub known_counts : (op : BinOp) (left right : Expression) (ty : Ty) (line : ℕ) (v : Datum) (k : List Pending) → shifts_by_constant op right ≡ true → Law z (Value v) (In (tree.Binary op left right ty line) Nothing ∷ k)
   unfolding act
-  known_counts op left right ty line v k constant cp l w c known due h = led_folds z c _ (shift_begins z k cp l w c op left right ty line v constant due h)
+  known_counts op left right ty line v k constant cp l w c known due h = led_folds z _ _ c _ refl (shift_begins z k cp l w c op left right ty line v constant due h)
 
   pub known_updates : (op : BinOp) (place : Place) (value : Expression) (operation : Ty) (size : ℕ) (ty : Ty) (line : ℕ) (spot : Spot) (k : List Pending) → shifts_by_constant op value ≡ true → Law z (Found spot) (In (tree.Update op place value operation size ty line) Nothing ∷ k)
   unfolding act
-  known_updates op place value operation size ty line spot k constant cp l w c known due h = led_folds z c _ (update_begins z k cp l w c op place value operation size ty line spot constant due h)
+  known_updates op place value operation size ty line spot k constant cp l w c known due h = led_folds z _ _ c _ refl (update_begins z k cp l w c op place value operation size ty line spot constant due h)
 
   -- ---- it is there
   shift_on : (op : BinOp) (left right : Expression) (line : ℕ) (x q : Quantity) (k : List Pending) → shifts_by_constant op right ≡ true → pattern q.ty q.number ≡ constant_bits right → integers_fit op (types.Int x.ty) (type_of right) (types.Int x.ty) ≡ true
@@ -127,16 +128,16 @@ module _ (z : Scene) (given : IsLowerable z.program z.copies) (input : All (λ b
       let some = (int_some q.ty).0 in
       let wide = width_is z cp (type_of right) (omega arith) in
       let second = value_at z cp less b left (omega arith) in
-      led_by z 70 0 c _
+      led_by z _ _ 70 0 c _ (omega arith) (omega arith)
       (constant_shift z (scene_laws z given) op left right line x q (b + bytes_of x.ty) (bytes_of q.ty - 1) k cp l w c shift constant (around_in z cp e (One (datum.Number x)) k (around z given input t known))
       (wide_int x.ty (shift_types op x.ty (type_of right) (types.Int x.ty) shift rule).0) u.0 u.1 bits_are (wide ∙ right_bytes) (omega arith) (second ∙ (omega arith)) (omega arith) (omega arith) due h)
 
   shift_after : (op : BinOp) (left right : Expression) (ty : Ty) (line : ℕ) (u : Datum) (q : Quantity) (k : List Pending) → shifts_by_constant op right ≡ true → pattern q.ty q.number ≡ constant_bits right → AfterCount z op left right ty line u q k
   unfolding act
   shift_after op left right ty line datum.Missing q k constant bits_are cp l w c known due h =
-      none_answered z (binary_answer z.program (active cp (Value (datum.Number q)) k) op ty datum.Missing (datum.Number q)) line k cp l (arrived z.outside w) c (none_binary z.program (active cp (Value (datum.Number q)) k) op ty datum.Missing (datum.Number q) tt)
+      none_answered z _ _ (binary_answer z.program (active cp (Value (datum.Number q)) k) op ty datum.Missing (datum.Number q)) line k cp l (arrived z.outside w) c (none_binary z.program (active cp (Value (datum.Number q)) k) op ty datum.Missing (datum.Number q) tt)
   shift_after op left right ty line (datum.Pointer x) q k constant bits_are cp l w c known due h =
-      none_answered z (binary_answer z.program (active cp (Value (datum.Number q)) k) op ty (datum.Pointer x) (datum.Number q)) line k cp l (arrived z.outside w) c (none_binary z.program (active cp (Value (datum.Number q)) k) op ty (datum.Pointer x) (datum.Number q) tt)
+      none_answered z _ _ (binary_answer z.program (active cp (Value (datum.Number q)) k) op ty (datum.Pointer x) (datum.Number q)) line k cp l (arrived z.outside w) c (none_binary z.program (active cp (Value (datum.Number q)) k) op ty (datum.Pointer x) (datum.Number q) tt)
   shift_after op left right ty line (datum.Number x) q k constant bits_are cp l w c known due h =
       let s = known.stands in
       let u = s.stack.2 in
@@ -147,15 +148,15 @@ module _ (z : Scene) (given : IsLowerable z.program z.copies) (input : All (λ b
 
   update_after : (op : BinOp) (place : Place) (value : Expression) (operation : Ty) (size : ℕ) (ty : Ty) (line : ℕ) (spot : Spot) (q : Quantity) (k : List Pending) (cp : CopyOf) (l : source.Memory) (w : World Byte) (c : Machine) → shifts_by_constant op value ≡ true → pattern q.ty q.number ≡ constant_bits value
       → Known z (state cp (Value (datum.Number q)) (In (tree.Update op place value operation size ty line) (At spot) ∷ k) l w) → Mirrors z (state cp (Found spot) (In (tree.Update op place value operation size ty line) Nothing ∷ k) l w) c
-      → Led z c (act (source_in z) (Value (datum.Number q)) (In (tree.Update op place value operation size ty line) (At spot) ∷ k) cp l (arrived z.outside w))
+      → Led z (Value (datum.Number q)) (In (tree.Update op place value operation size ty line) (At spot) ∷ k) c (act (source_in z) (Value (datum.Number q)) (In (tree.Update op place value operation size ty line) (At spot) ∷ k) cp l (arrived z.outside w))
   unfolding act
   update_after op place value operation size ty line spot q k cp l w c constant bits_are known h =
-      led_by z 0 0 c _
+      led_by z _ _ 0 0 c _ (omega arith) (omega arith)
       (count_given z (scene_laws z given) op place value operation size ty line spot (datum.Number q) k cp l w c constant bits_are
       (scalar_update z op (type_of value) operation size ty (update_rule z.program op place value operation size ty line known.stands.stack.0.0).1) h)
 
   after : (F before : Pending) (was : Focus) (count : Expression) (q : Quantity) (k : List Pending) (cp : CopyOf) (l : source.Memory) (w : World Byte) (c : Machine) → Known z (state cp (Value (datum.Number q)) (F ∷ k) l w) → is_due (arrived z.outside w) ≡ false
-      → FoldState z F before was count k [] (Value (datum.Number q)) cp l w c → Led z c (act (source_in z) (Value (datum.Number q)) (F ∷ k) cp l (arrived z.outside w))
+      → FoldState z F before was count k [] (Value (datum.Number q)) cp l w c → Led z (Value (datum.Number q)) (F ∷ k) c (act (source_in z) (Value (datum.Number q)) (F ∷ k) cp l (arrived z.outside w))
   after (In (tree.Binary op left right ty line) (One u)) before was count q k cp l w c known due h =
       let F = In (tree.Binary op left right ty line) (One u) in
       let x = h.waits in
@@ -177,20 +178,20 @@ module _ (z : Scene) (given : IsLowerable z.program z.copies) (input : All (λ b
   plain_on cp _ _ q waited e stands waits has = tt
 
   within : (x : Focus) (above : List Pending) (F before : Pending) (was : Focus) (count : Expression) (k : List Pending) (cp : CopyOf) (l : source.Memory) (w : World Byte) (c : Machine) → Known z (state cp x (above ++ F ∷ k) l w) → is_due (arrived z.outside w) ≡ false
-      → FoldState z F before was count k above x cp l w c → Led z c (act (source_in z) x (above ++ F ∷ k) cp l (arrived z.outside w))
+      → FoldState z F before was count k above x cp l w c → Led z x (above ++ F ∷ k) c (act (source_in z) x (above ++ F ∷ k) cp l (arrived z.outside w))
   unfolding act
-  within (Eval e) above F before was count k cp l w c known due h = led_folds z c _ (fold_eval z F before was count k cp l w c e above h)
+  within (Eval e) above F before was count k cp l w c known due h = led_folds z _ _ c _ refl (fold_eval z F before was count k cp l w c e above h)
   within (Value (datum.Number q)) [] F before was count k cp l w c known due h = after F before was count q k cp l w c known due h
   within (Value (datum.Number q)) (In e got ∷ above) F before was count k cp l w c known due h =
       let s = known.stands in
       let f = s.focus in
       let has : HasType z.program f.0 (datum.Number q) = f.2 in
-      led_folds z c _ (fold_take z F before was count k cp l w c e got q above has.1 (plain_on cp e got q f.0 s.stack.0 s.stack.2 f.1 has) h)
+      led_folds z _ _ c _ refl (fold_take z F before was count k cp l w c e got q above has.1 (plain_on cp e got q f.0 s.stack.0 s.stack.2 f.1 has) h)
   within (Value (datum.Number q)) (_ ∷ above) F before was count k cp l w c known due h = absurd h.folded
   within _ above F before was count k cp l w c known due h = absurd h.value
 
   -- A state within a count, or at its end.
-  pub counts_on : (t : State) (c : Machine) → Known z t → is_due (arrived z.outside t.world) ≡ false → FoldPauses z t c → Led z c (act (source_in z) t.focus t.stack t.copy t.memory (arrived z.outside t.world))
+  pub counts_on : (t : State) (c : Machine) → Known z t → is_due (arrived z.outside t.world) ≡ false → FoldPauses z t c → Led z t.focus t.stack c (act (source_in z) t.focus t.stack t.copy t.memory (arrived z.outside t.world))
   counts_on t c known due p =
-      subst (λ S. Known z (state t.copy t.focus S t.memory t.world) → Led z c (act (source_in z) t.focus S t.copy t.memory (arrived z.outside t.world))) (sym p.stack)
+      subst (λ S. Known z (state t.copy t.focus S t.memory t.world) → Led z t.focus S c (act (source_in z) t.focus S t.copy t.memory (arrived z.outside t.world))) (sym p.stack)
       (λ k. within t.focus p.above p.frame p.before p.was p.count p.below t.copy t.memory t.world c k due p.state_is) known

@@ -53,6 +53,7 @@ use Rattle.lower_trace.proofs.LedValues.{around_in, scalar_update}
 use Rattle.lower_trace.proofs.Mirrors.{Mirrors}
 use Rattle.lower_trace.proofs.Operations.{beyond_is}
 use Rattle.lower_trace.proofs.Pointed.{pointed_read, pointed_step, pointed_update}
+use Rattle.lower_trace.proofs.PriceTests.{either_room, one_or_none, same_room}
 use Rattle.lower_trace.proofs.Reading.{lt_of}
 use Rattle.lower_trace.proofs.Rooms.{pointer_is, read_parts, update_parts}
 use Rattle.lower_trace.proofs.Scenes.{frame_is, scene_laws}
@@ -144,7 +145,7 @@ module _ (z : Scene) (given : IsLowerable z.program z.copies) (input : All (λ b
 
   read_fixed : (start : Spot) (from : code.Byte) (sought : Place) (ty : Ty) (line : ℕ) (read : List Byte) (k : List Pending) (cp : CopyOf) (l : source.Memory) (w : World Byte) (c : Machine) → found_as z cp sought ≡ Fixed from → ((a : ℕ) → start ≡ spots.Device a → type_bytes z.program.sizes ty ≡ 1)
       → Known z (read_of sought ty line start read k cp l w) → length read ≤ type_bytes z.program.sizes ty → type_bytes z.program.sizes ty ≤ 4 → AreRead z.program ty [] read → is_due (arrived z.outside w) ≡ false → Mirrors z (read_of sought ty line start read k cp l w) c
-      → Led z c (act (source_in z) (Fetch (stepped (length read) start) read) (In (tree.Read sought ty line) (At start) ∷ k) cp l (arrived z.outside w))
+      → Led z (Fetch (stepped (length read) start) read) (In (tree.Read sought ty line) (At start) ∷ k) c (act (source_in z) (Fetch (stepped (length read) start) read) (In (tree.Read sought ty line) (At start) ∷ k) cp l (arrived z.outside w))
   unfolding act room
   read_fixed start from sought ty line read k cp l w c is one known le few are due h =
       let s = known.stands in
@@ -154,13 +155,13 @@ module _ (z : Scene) (given : IsLowerable z.program z.copies) (input : All (λ b
       let f = frame_is z given cp s.reached in
       let fits = known.stack.0 in
       let q = (read_parts (place_room z.program.sizes sought) (form_of sought) n).1 in
-      led_by z (either (nat_lt (length read) n) 6 3) (one_if (nat_lt (length read) n)) c _
+      led_by z _ _ (either (nat_lt (length read) n) 6 3) (one_if (nat_lt (length read) n)) c _ (either_room (nat_lt (length read) n) 6 3 27 (omega arith) (omega arith)) (one_or_none (nat_lt (length read) n))
       (read_fetch z (scene_laws z given) cp l sought ty line start from k read w c (record { spot = is; there = st.0.1; found = st.2; one = one }) (around z given input (read_of sought ty line start read k cp l w) known)
       (width_is z cp ty (omega arith)) (omega arith) (omega arith) le are due h)
 
   read_pointed : (x : Pointer) (sought : Place) (ty : Ty) (line : ℕ) (read : List Byte) (k : List Pending) (cp : CopyOf) (l : source.Memory) (w : World Byte) (c : Machine) → found_as z cp sought ≡ Computed → is_scalar ty ≡ true
       → Known z (read_of sought ty line (spots.Memory x) read k cp l w) → length read ≤ type_bytes z.program.sizes ty → type_bytes z.program.sizes ty ≤ 4 → AreRead z.program ty [] read → is_due (arrived z.outside w) ≡ false → Mirrors z (read_of sought ty line (spots.Memory x) read k cp l w) c
-      → Led z c (act (source_in z) (Fetch (stepped (length read) (spots.Memory x)) read) (In (tree.Read sought ty line) (At (spots.Memory x)) ∷ k) cp l (arrived z.outside w))
+      → Led z (Fetch (stepped (length read) (spots.Memory x)) read) (In (tree.Read sought ty line) (At (spots.Memory x)) ∷ k) c (act (source_in z) (Fetch (stepped (length read) (spots.Memory x)) read) (In (tree.Read sought ty line) (At (spots.Memory x)) ∷ k) cp l (arrived z.outside w))
   unfolding act room
   read_pointed x sought ty line read k cp l w c is scalar known le few are due h =
       let t = read_of sought ty line (spots.Memory x) read k cp l w in
@@ -173,14 +174,14 @@ module _ (z : Scene) (given : IsLowerable z.program z.copies) (input : All (λ b
       let p = pointer_is (ground_in z cp).layout (ground_in z cp).copy sought in
       let two = ap pointer_bytes is in
       let a = around z given input t known in
-      led_by z (either (nat_lt (length read) n) 20 27) (one_if (nat_lt (length read) n)) c _
+      led_by z _ _ (either (nat_lt (length read) n) 20 27) (one_if (nat_lt (length read) n)) c _ (either_room (nat_lt (length read) n) 20 27 27 (omega arith) (omega arith)) (one_or_none (nat_lt (length read) n))
       (pointed_read z (scene_laws z given) cp l sought ty line x k read w c
       (record { spot = is; there = spot_there z.program cp sought (spots.Memory x) s.reached st.0.1 st.2; some = scalar_some z.program.sizes ty scalar; few = few }) a (around_in z cp (tree.Read sought ty line) (At (spots.Memory x)) k a) (reaches z given input t known)
       (width_is z cp ty (omega arith)) (omega arith) le are due h)
 
   read_bit : (r n : ℕ) (sought : Place) (ty : Ty) (line : ℕ) (read : List Byte) (k : List Pending) (cp : CopyOf) (l : source.Memory) (w : World Byte) (c : Machine) → ty ≡ types.Int int.UChar → BitPlace z cp sought r n
       → Known z (read_of sought ty line (spots.Bit r n) read k cp l w) → length read ≤ type_bytes z.program.sizes ty → AreRead z.program ty [] read → is_due (arrived z.outside w) ≡ false → Mirrors z (read_of sought ty line (spots.Bit r n) read k cp l w) c
-      → Led z c (act (source_in z) (Fetch (spots.Bit r n) read) (In (tree.Read sought ty line) (At (spots.Bit r n)) ∷ k) cp l (arrived z.outside w))
+      → Led z (Fetch (spots.Bit r n) read) (In (tree.Read sought ty line) (At (spots.Bit r n)) ∷ k) c (act (source_in z) (Fetch (spots.Bit r n) read) (In (tree.Read sought ty line) (At (spots.Bit r n)) ∷ k) cp l (arrived z.outside w))
   unfolding act room
   read_bit r n sought (types.Int int.UChar) line read k cp l w c e bit known le are due h =
       let t = read_of sought (types.Int int.UChar) line (spots.Bit r n) read k cp l w in
@@ -189,12 +190,12 @@ module _ (z : Scene) (given : IsLowerable z.program z.copies) (input : All (λ b
       let f = frame_is z given cp s.reached in
       let fits = known.stack.0 in
       let q = (read_parts (place_room z.program.sizes sought) (form_of sought) 1).1 in
-      led_by z 6 (one_if (nat_lt (length read) 1)) c _ (bit_read z (scene_laws z given) cp l sought line r n k read w c bit (around z given input t known) (omega arith) (omega arith) le are due h)
+      led_by z _ _ 6 (one_if (nat_lt (length read) 1)) c _ (same_room (nat_lt (length read) 1) 6 27 (omega arith) (omega arith)) (one_or_none (nat_lt (length read) 1)) (bit_read z (scene_laws z given) cp l sought line r n k read w c bit (around z given input t known) (omega arith) (omega arith) le are due h)
   read_bit r n sought _ line read k cp l w c e bit known le are due h = absurd (cc)
 
   read_in_memory : (s : place.Spot) (x : Pointer) (sought : Place) (ty : Ty) (line : ℕ) (read : List Byte) (k : List Pending) (cp : CopyOf) (l : source.Memory) (w : World Byte) (c : Machine) → found_as z cp sought ≡ s → is_scalar ty ≡ true
       → Known z (read_of sought ty line (spots.Memory x) read k cp l w) → length read ≤ type_bytes z.program.sizes ty → type_bytes z.program.sizes ty ≤ 4 → AreRead z.program ty [] read → is_due (arrived z.outside w) ≡ false → Mirrors z (read_of sought ty line (spots.Memory x) read k cp l w) c
-      → Led z c (act (source_in z) (Fetch (stepped (length read) (spots.Memory x)) read) (In (tree.Read sought ty line) (At (spots.Memory x)) ∷ k) cp l (arrived z.outside w))
+      → Led z (Fetch (stepped (length read) (spots.Memory x)) read) (In (tree.Read sought ty line) (At (spots.Memory x)) ∷ k) c (act (source_in z) (Fetch (stepped (length read) (spots.Memory x)) read) (In (tree.Read sought ty line) (At (spots.Memory x)) ∷ k) cp l (arrived z.outside w))
   read_in_memory (Fixed from) x sought ty line read k cp l w c is scalar known le few are due h = read_fixed (spots.Memory x) from sought ty line read k cp l w c is (λ a e. absurd (cc)) known le few are due h
   read_in_memory (Bit r n) x sought ty line read k cp l w c is scalar known le few are due h = absurd (memory_no_bit z cp sought x r n known.stands.stack.2 is)
   read_in_memory Computed x sought ty line read k cp l w c is scalar known le few are due h = read_pointed x sought ty line read k cp l w c is scalar known le few are due h
@@ -202,7 +203,7 @@ module _ (z : Scene) (given : IsLowerable z.program z.copies) (input : All (λ b
   -- a byte of a number or a pointer is read
   fetch_read : (start : Spot) (sought : Place) (ty : Ty) (line : ℕ) (read : List Byte) (k : List Pending) (cp : CopyOf) (l : source.Memory) (w : World Byte) (c : Machine) → is_scalar ty ≡ true
       → Known z (read_of sought ty line start read k cp l w) → length read ≤ type_bytes z.program.sizes ty → type_bytes z.program.sizes ty ≤ 4 → AreRead z.program ty [] read → is_due (arrived z.outside w) ≡ false → Mirrors z (read_of sought ty line start read k cp l w) c
-      → Led z c (act (source_in z) (Fetch (stepped (length read) start) read) (In (tree.Read sought ty line) (At start) ∷ k) cp l (arrived z.outside w))
+      → Led z (Fetch (stepped (length read) start) read) (In (tree.Read sought ty line) (At start) ∷ k) c (act (source_in z) (Fetch (stepped (length read) start) read) (In (tree.Read sought ty line) (At start) ∷ k) cp l (arrived z.outside w))
   fetch_read (spots.Device a) sought ty line read k cp l w c scalar known le few are due h =
       let st = known.stands.stack in
       let fixed = device_fixed z cp sought a st.2 in
@@ -219,14 +220,14 @@ module _ (z : Scene) (given : IsLowerable z.program z.copies) (input : All (λ b
   read_fetches place ty line start spot read k scalar cp l w c known due h =
       let s = known.stands.focus in
       let at : spot ≡ stepped (length read) start = s.at ∙ ap (stepped (length read)) s.node in
-      subst (λ y. Led z c (act (source_in z) (Fetch y read) (In (tree.Read place ty line) (At start) ∷ k) cp l (arrived z.outside w))) (sym at)
+      subst (λ y. Led z (Fetch y read) (In (tree.Read place ty line) (At start) ∷ k) c (act (source_in z) (Fetch y read) (In (tree.Read place ty line) (At start) ∷ k) cp l (arrived z.outside w))) (sym at)
       (fetch_read start place ty line read k cp l w c scalar (subst (λ y. Known z (state cp (Fetch y read) (In (tree.Read place ty line) (At start) ∷ k) l w)) at known) s.part s.few s.bytes due
       (subst (λ y. Mirrors z (state cp (Fetch y read) (In (tree.Read place ty line) (At start) ∷ k) l w) c) at h))
 
   -- ---- an update
   update_fixed : (start : Spot) (from : code.Byte) (op : BinOp) (right : Expression) (operation : Ty) (size : ℕ) (u : Datum) (sought : Place) (ty : Ty) (line : ℕ) (read : List Byte) (k : List Pending) (cp : CopyOf) (l : source.Memory) (w : World Byte) (c : Machine) → found_as z cp sought ≡ Fixed from → ((a : ℕ) → start ≡ spots.Device a → type_bytes z.program.sizes ty ≡ 1)
       → Known z (state cp (Fetch (stepped (length read) start) read) (In (tree.Update op sought right operation size ty line) (AtWith start u) ∷ k) l w) → length read ≤ type_bytes z.program.sizes ty → type_bytes z.program.sizes ty ≤ 4 → AreRead z.program ty [] read → is_due (arrived z.outside w) ≡ false → Mirrors z (state cp (Fetch (stepped (length read) start) read) (In (tree.Update op sought right operation size ty line) (AtWith start u) ∷ k) l w) c
-      → Led z c (act (source_in z) (Fetch (stepped (length read) start) read) (In (tree.Update op sought right operation size ty line) (AtWith start u) ∷ k) cp l (arrived z.outside w))
+      → Led z (Fetch (stepped (length read) start) read) (In (tree.Update op sought right operation size ty line) (AtWith start u) ∷ k) c (act (source_in z) (Fetch (stepped (length read) start) read) (In (tree.Update op sought right operation size ty line) (AtWith start u) ∷ k) cp l (arrived z.outside w))
   unfolding act room
   update_fixed start from op right operation size u sought ty line read k cp l w c is one known le few are due h =
       let t = state cp (Fetch (stepped (length read) start) read) (In (tree.Update op sought right operation size ty line) (AtWith start u) ∷ k) l w in
@@ -244,12 +245,12 @@ module _ (z : Scene) (given : IsLowerable z.program z.copies) (input : All (λ b
       let a = pointer_at z cp less (base g k) sought (omega arith) in
       let v = value_at z cp less (behind_pointer g.layout g.copy (base g k) sought) right (omega arith) in
       let wide = width_is z cp (place_type sought).ty (omega arith) ∙ same in
-      led_by z (either (nat_lt (length read) n) 6 3) (one_if (nat_lt (length read) n)) c _
+      led_by z _ _ (either (nat_lt (length read) n) 6 3) (one_if (nat_lt (length read) n)) c _ (either_room (nat_lt (length read) n) 6 3 27 (omega arith) (omega arith)) (one_or_none (nat_lt (length read) n))
       (update_fetch z (scene_laws z given) cp l op sought right operation size ty line start u from k read w c (record { spot = is; there = st.0.1; found = st.2.0; one = one }) (around z given input t known) wide (omega arith) le are due h)
 
   update_pointed : (x : Pointer) (op : BinOp) (right : Expression) (operation : Ty) (size : ℕ) (u : Datum) (sought : Place) (ty : Ty) (line : ℕ) (read : List Byte) (k : List Pending) (cp : CopyOf) (l : source.Memory) (w : World Byte) (c : Machine) → found_as z cp sought ≡ Computed → is_scalar ty ≡ true
       → Known z (state cp (Fetch (stepped (length read) (spots.Memory x)) read) (In (tree.Update op sought right operation size ty line) (AtWith (spots.Memory x) u) ∷ k) l w) → length read ≤ type_bytes z.program.sizes ty → type_bytes z.program.sizes ty ≤ 4 → AreRead z.program ty [] read → is_due (arrived z.outside w) ≡ false → Mirrors z (state cp (Fetch (stepped (length read) (spots.Memory x)) read) (In (tree.Update op sought right operation size ty line) (AtWith (spots.Memory x) u) ∷ k) l w) c
-      → Led z c (act (source_in z) (Fetch (stepped (length read) (spots.Memory x)) read) (In (tree.Update op sought right operation size ty line) (AtWith (spots.Memory x) u) ∷ k) cp l (arrived z.outside w))
+      → Led z (Fetch (stepped (length read) (spots.Memory x)) read) (In (tree.Update op sought right operation size ty line) (AtWith (spots.Memory x) u) ∷ k) c (act (source_in z) (Fetch (stepped (length read) (spots.Memory x)) read) (In (tree.Update op sought right operation size ty line) (AtWith (spots.Memory x) u) ∷ k) cp l (arrived z.outside w))
   unfolding act room
   update_pointed x op right operation size u sought ty line read k cp l w c is scalar known le few are due h =
       let t = state cp (Fetch (stepped (length read) (spots.Memory x)) read) (In (tree.Update op sought right operation size ty line) (AtWith (spots.Memory x) u) ∷ k) l w in
@@ -268,13 +269,13 @@ module _ (z : Scene) (given : IsLowerable z.program z.copies) (input : All (λ b
       let v = value_at z cp less (behind_pointer g.layout g.copy (base g k) sought) right (omega arith) in
       let wide = width_is z cp (place_type sought).ty (omega arith) ∙ same in
       let two = ap pointer_bytes is in
-      led_by z (either (nat_lt (length read) n) 20 27) (one_if (nat_lt (length read) n)) c _
+      led_by z _ _ (either (nat_lt (length read) n) 20 27) (one_if (nat_lt (length read) n)) c _ (either_room (nat_lt (length read) n) 20 27 27 (omega arith) (omega arith)) (one_or_none (nat_lt (length read) n))
       (pointed_update z (scene_laws z given) cp l op sought right operation size ty line x u k read w c
       (record { spot = is; there = spot_there z.program cp sought (spots.Memory x) s.reached st.0.1 st.2.0; some = scalar_some z.program.sizes ty scalar; few = few }) (around z given input t known) (reaches z given input t known) wide (omega arith) (omega arith) le are due h)
 
   update_bit : (r n : ℕ) (op : BinOp) (right : Expression) (operation : Ty) (size : ℕ) (u : Datum) (sought : Place) (ty : Ty) (line : ℕ) (read : List Byte) (k : List Pending) (cp : CopyOf) (l : source.Memory) (w : World Byte) (c : Machine) → ty ≡ types.Int int.UChar → BitPlace z cp sought r n
       → Known z (state cp (Fetch (stepped (length read) (spots.Bit r n)) read) (In (tree.Update op sought right operation size ty line) (AtWith (spots.Bit r n) u) ∷ k) l w) → length read ≤ type_bytes z.program.sizes ty → AreRead z.program ty [] read → is_due (arrived z.outside w) ≡ false → Mirrors z (state cp (Fetch (stepped (length read) (spots.Bit r n)) read) (In (tree.Update op sought right operation size ty line) (AtWith (spots.Bit r n) u) ∷ k) l w) c
-      → Led z c (act (source_in z) (Fetch (spots.Bit r n) read) (In (tree.Update op sought right operation size ty line) (AtWith (spots.Bit r n) u) ∷ k) cp l (arrived z.outside w))
+      → Led z (Fetch (spots.Bit r n) read) (In (tree.Update op sought right operation size ty line) (AtWith (spots.Bit r n) u) ∷ k) c (act (source_in z) (Fetch (spots.Bit r n) read) (In (tree.Update op sought right operation size ty line) (AtWith (spots.Bit r n) u) ∷ k) cp l (arrived z.outside w))
   unfolding act room
   update_bit r n op right operation size u sought (types.Int int.UChar) line read k cp l w c e bit known le are due h =
       let t = state cp (Fetch (stepped (length read) (spots.Bit r n)) read) (In (tree.Update op sought right operation size (types.Int int.UChar) line) (AtWith (spots.Bit r n) u) ∷ k) l w in
@@ -292,19 +293,19 @@ module _ (z : Scene) (given : IsLowerable z.program z.copies) (input : All (λ b
       let a = pointer_at z cp less (base g k) sought (omega arith) in
       let v = value_at z cp less (behind_pointer g.layout g.copy (base g k) sought) right (omega arith) in
       let wide = width_is z cp (place_type sought).ty (omega arith) ∙ same in
-      led_by z 6 (one_if (nat_lt (length read) 1)) c _ (bit_update z (scene_laws z given) cp l op sought right operation size line r n u k read w c bit (around z given input t known) (omega arith) le are due h)
+      led_by z _ _ 6 (one_if (nat_lt (length read) 1)) c _ (same_room (nat_lt (length read) 1) 6 27 (omega arith) (omega arith)) (one_or_none (nat_lt (length read) 1)) (bit_update z (scene_laws z given) cp l op sought right operation size line r n u k read w c bit (around z given input t known) (omega arith) le are due h)
   update_bit r n op right operation size u sought _ line read k cp l w c e bit known le are due h = absurd (cc)
 
   update_in_memory : (s : place.Spot) (x : Pointer) (op : BinOp) (right : Expression) (operation : Ty) (size : ℕ) (u : Datum) (sought : Place) (ty : Ty) (line : ℕ) (read : List Byte) (k : List Pending) (cp : CopyOf) (l : source.Memory) (w : World Byte) (c : Machine) → found_as z cp sought ≡ s → is_scalar ty ≡ true
       → Known z (state cp (Fetch (stepped (length read) (spots.Memory x)) read) (In (tree.Update op sought right operation size ty line) (AtWith (spots.Memory x) u) ∷ k) l w) → length read ≤ type_bytes z.program.sizes ty → type_bytes z.program.sizes ty ≤ 4 → AreRead z.program ty [] read → is_due (arrived z.outside w) ≡ false → Mirrors z (state cp (Fetch (stepped (length read) (spots.Memory x)) read) (In (tree.Update op sought right operation size ty line) (AtWith (spots.Memory x) u) ∷ k) l w) c
-      → Led z c (act (source_in z) (Fetch (stepped (length read) (spots.Memory x)) read) (In (tree.Update op sought right operation size ty line) (AtWith (spots.Memory x) u) ∷ k) cp l (arrived z.outside w))
+      → Led z (Fetch (stepped (length read) (spots.Memory x)) read) (In (tree.Update op sought right operation size ty line) (AtWith (spots.Memory x) u) ∷ k) c (act (source_in z) (Fetch (stepped (length read) (spots.Memory x)) read) (In (tree.Update op sought right operation size ty line) (AtWith (spots.Memory x) u) ∷ k) cp l (arrived z.outside w))
   update_in_memory (Fixed from) x op right operation size u sought ty line read k cp l w c is scalar known le few are due h = update_fixed (spots.Memory x) from op right operation size u sought ty line read k cp l w c is (λ a e. absurd (cc)) known le few are due h
   update_in_memory (Bit r n) x op right operation size u sought ty line read k cp l w c is scalar known le few are due h = absurd (memory_no_bit z cp sought x r n known.stands.stack.2.0 is)
   update_in_memory Computed x op right operation size u sought ty line read k cp l w c is scalar known le few are due h = update_pointed x op right operation size u sought ty line read k cp l w c is scalar known le few are due h
 
   fetch_update : (start : Spot) (op : BinOp) (right : Expression) (operation : Ty) (size : ℕ) (u : Datum) (sought : Place) (ty : Ty) (line : ℕ) (read : List Byte) (k : List Pending) (cp : CopyOf) (l : source.Memory) (w : World Byte) (c : Machine) → is_scalar ty ≡ true
       → Known z (state cp (Fetch (stepped (length read) start) read) (In (tree.Update op sought right operation size ty line) (AtWith start u) ∷ k) l w) → length read ≤ type_bytes z.program.sizes ty → type_bytes z.program.sizes ty ≤ 4 → AreRead z.program ty [] read → is_due (arrived z.outside w) ≡ false → Mirrors z (state cp (Fetch (stepped (length read) start) read) (In (tree.Update op sought right operation size ty line) (AtWith start u) ∷ k) l w) c
-      → Led z c (act (source_in z) (Fetch (stepped (length read) start) read) (In (tree.Update op sought right operation size ty line) (AtWith start u) ∷ k) cp l (arrived z.outside w))
+      → Led z (Fetch (stepped (length read) start) read) (In (tree.Update op sought right operation size ty line) (AtWith start u) ∷ k) c (act (source_in z) (Fetch (stepped (length read) start) read) (In (tree.Update op sought right operation size ty line) (AtWith start u) ∷ k) cp l (arrived z.outside w))
   fetch_update (spots.Device a) op right operation size u sought ty line read k cp l w c scalar known le few are due h =
       let st = known.stands.stack in
       let fixed = device_fixed z cp sought a st.2.0 in
@@ -324,14 +325,14 @@ module _ (z : Scene) (given : IsLowerable z.program z.copies) (input : All (λ b
       let rule = (update_rule z.program op sought right operation size ty line st.0.0).1 in
       let scalar = scalar_update z op (type_of right) operation size ty rule in
       let at : spot ≡ stepped (length read) start = s.at ∙ ap (stepped (length read)) s.node in
-      subst (λ y. Led z c (act (source_in z) (Fetch y read) (In (tree.Update op sought right operation size ty line) (AtWith start u) ∷ k) cp l (arrived z.outside w))) (sym at)
+      subst (λ y. Led z (Fetch y read) (In (tree.Update op sought right operation size ty line) (AtWith start u) ∷ k) c (act (source_in z) (Fetch y read) (In (tree.Update op sought right operation size ty line) (AtWith start u) ∷ k) cp l (arrived z.outside w))) (sym at)
       (fetch_update start op right operation size u sought ty line read k cp l w c scalar (subst (λ y. Known z (state cp (Fetch y read) (In (tree.Update op sought right operation size ty line) (AtWith start u) ∷ k) l w)) at known) s.part s.few s.bytes due
       (subst (λ y. Mirrors z (state cp (Fetch y read) (In (tree.Update op sought right operation size ty line) (AtWith start u) ∷ k) l w) c) at h))
 
   -- ---- a step
   step_fixed : (start : Spot) (from : code.Byte) (op : StepOp) (operation : Ty) (size : ℕ) (sought : Place) (ty : Ty) (line : ℕ) (read : List Byte) (k : List Pending) (cp : CopyOf) (l : source.Memory) (w : World Byte) (c : Machine) → found_as z cp sought ≡ Fixed from → ((a : ℕ) → start ≡ spots.Device a → type_bytes z.program.sizes ty ≡ 1)
       → Known z (state cp (Fetch (stepped (length read) start) read) (In (tree.Step op sought operation size ty line) (At start) ∷ k) l w) → length read ≤ type_bytes z.program.sizes ty → type_bytes z.program.sizes ty ≤ 4 → AreRead z.program ty [] read → is_due (arrived z.outside w) ≡ false → Mirrors z (state cp (Fetch (stepped (length read) start) read) (In (tree.Step op sought operation size ty line) (At start) ∷ k) l w) c
-      → Led z c (act (source_in z) (Fetch (stepped (length read) start) read) (In (tree.Step op sought operation size ty line) (At start) ∷ k) cp l (arrived z.outside w))
+      → Led z (Fetch (stepped (length read) start) read) (In (tree.Step op sought operation size ty line) (At start) ∷ k) c (act (source_in z) (Fetch (stepped (length read) start) read) (In (tree.Step op sought operation size ty line) (At start) ∷ k) cp l (arrived z.outside w))
   unfolding act room
   step_fixed start from op operation size sought ty line read k cp l w c is one known le few are due h =
       let t = state cp (Fetch (stepped (length read) start) read) (In (tree.Step op sought operation size ty line) (At start) ∷ k) l w in
@@ -352,12 +353,12 @@ module _ (z : Scene) (given : IsLowerable z.program z.copies) (input : All (λ b
       let wo = width_is z cp operation (omega arith) in
       let v = beyond_is (behind_pointer g.layout g.copy (base g k) sought) (width g.layout operation) (omega arith) in
       let wide = width_is z cp (place_type sought).ty (omega arith) ∙ same in
-      led_by z (either (nat_lt (length read) n) 6 3) (one_if (nat_lt (length read) n)) c _
+      led_by z _ _ (either (nat_lt (length read) n) 6 3) (one_if (nat_lt (length read) n)) c _ (either_room (nat_lt (length read) n) 6 3 27 (omega arith) (omega arith)) (one_or_none (nat_lt (length read) n))
       (step_fetch z (scene_laws z given) cp l op sought operation size ty line start from k read w c (record { spot = is; there = st.0.1; found = st.2; one = one }) (around z given input t known) wide (omega arith) le are due h)
 
   step_pointed : (x : Pointer) (op : StepOp) (operation : Ty) (size : ℕ) (sought : Place) (ty : Ty) (line : ℕ) (read : List Byte) (k : List Pending) (cp : CopyOf) (l : source.Memory) (w : World Byte) (c : Machine) → found_as z cp sought ≡ Computed → is_scalar ty ≡ true
       → Known z (state cp (Fetch (stepped (length read) (spots.Memory x)) read) (In (tree.Step op sought operation size ty line) (At (spots.Memory x)) ∷ k) l w) → length read ≤ type_bytes z.program.sizes ty → type_bytes z.program.sizes ty ≤ 4 → AreRead z.program ty [] read → is_due (arrived z.outside w) ≡ false → Mirrors z (state cp (Fetch (stepped (length read) (spots.Memory x)) read) (In (tree.Step op sought operation size ty line) (At (spots.Memory x)) ∷ k) l w) c
-      → Led z c (act (source_in z) (Fetch (stepped (length read) (spots.Memory x)) read) (In (tree.Step op sought operation size ty line) (At (spots.Memory x)) ∷ k) cp l (arrived z.outside w))
+      → Led z (Fetch (stepped (length read) (spots.Memory x)) read) (In (tree.Step op sought operation size ty line) (At (spots.Memory x)) ∷ k) c (act (source_in z) (Fetch (stepped (length read) (spots.Memory x)) read) (In (tree.Step op sought operation size ty line) (At (spots.Memory x)) ∷ k) cp l (arrived z.outside w))
   unfolding act room
   step_pointed x op operation size sought ty line read k cp l w c is scalar known le few are due h =
       let t = state cp (Fetch (stepped (length read) (spots.Memory x)) read) (In (tree.Step op sought operation size ty line) (At (spots.Memory x)) ∷ k) l w in
@@ -379,13 +380,13 @@ module _ (z : Scene) (given : IsLowerable z.program z.copies) (input : All (λ b
       let v = beyond_is (behind_pointer g.layout g.copy (base g k) sought) (width g.layout operation) (omega arith) in
       let wide = width_is z cp (place_type sought).ty (omega arith) ∙ same in
       let two = ap pointer_bytes is in
-      led_by z (either (nat_lt (length read) n) 20 27) (one_if (nat_lt (length read) n)) c _
+      led_by z _ _ (either (nat_lt (length read) n) 20 27) (one_if (nat_lt (length read) n)) c _ (either_room (nat_lt (length read) n) 20 27 27 (omega arith) (omega arith)) (one_or_none (nat_lt (length read) n))
       (pointed_step z (scene_laws z given) cp l op sought operation size ty line x k read w c
       (record { spot = is; there = spot_there z.program cp sought (spots.Memory x) s.reached st.0.1 st.2; some = scalar_some z.program.sizes ty scalar; few = few }) (around z given input t known) (reaches z given input t known) wide (omega arith) (omega arith) le are due h)
 
   step_bit : (r n : ℕ) (op : StepOp) (operation : Ty) (size : ℕ) (sought : Place) (ty : Ty) (line : ℕ) (read : List Byte) (k : List Pending) (cp : CopyOf) (l : source.Memory) (w : World Byte) (c : Machine) → ty ≡ types.Int int.UChar → BitPlace z cp sought r n
       → Known z (state cp (Fetch (stepped (length read) (spots.Bit r n)) read) (In (tree.Step op sought operation size ty line) (At (spots.Bit r n)) ∷ k) l w) → length read ≤ type_bytes z.program.sizes ty → AreRead z.program ty [] read → is_due (arrived z.outside w) ≡ false → Mirrors z (state cp (Fetch (stepped (length read) (spots.Bit r n)) read) (In (tree.Step op sought operation size ty line) (At (spots.Bit r n)) ∷ k) l w) c
-      → Led z c (act (source_in z) (Fetch (spots.Bit r n) read) (In (tree.Step op sought operation size ty line) (At (spots.Bit r n)) ∷ k) cp l (arrived z.outside w))
+      → Led z (Fetch (spots.Bit r n) read) (In (tree.Step op sought operation size ty line) (At (spots.Bit r n)) ∷ k) c (act (source_in z) (Fetch (spots.Bit r n) read) (In (tree.Step op sought operation size ty line) (At (spots.Bit r n)) ∷ k) cp l (arrived z.outside w))
   unfolding act room
   step_bit r n op operation size sought (types.Int int.UChar) line read k cp l w c e bit known le are due h =
       let t = state cp (Fetch (stepped (length read) (spots.Bit r n)) read) (In (tree.Step op sought operation size (types.Int int.UChar) line) (At (spots.Bit r n)) ∷ k) l w in
@@ -406,19 +407,19 @@ module _ (z : Scene) (given : IsLowerable z.program z.copies) (input : All (λ b
       let wo = width_is z cp operation (omega arith) in
       let v = beyond_is (behind_pointer g.layout g.copy (base g k) sought) (width g.layout operation) (omega arith) in
       let wide = width_is z cp (place_type sought).ty (omega arith) ∙ same in
-      led_by z 6 (one_if (nat_lt (length read) 1)) c _ (bit_step z (scene_laws z given) cp l op sought operation size line r n k read w c bit (around z given input t known) (omega arith) le are due h)
+      led_by z _ _ 6 (one_if (nat_lt (length read) 1)) c _ (same_room (nat_lt (length read) 1) 6 27 (omega arith) (omega arith)) (one_or_none (nat_lt (length read) 1)) (bit_step z (scene_laws z given) cp l op sought operation size line r n k read w c bit (around z given input t known) (omega arith) le are due h)
   step_bit r n op operation size sought _ line read k cp l w c e bit known le are due h = absurd (cc)
 
   step_in_memory : (s : place.Spot) (x : Pointer) (op : StepOp) (operation : Ty) (size : ℕ) (sought : Place) (ty : Ty) (line : ℕ) (read : List Byte) (k : List Pending) (cp : CopyOf) (l : source.Memory) (w : World Byte) (c : Machine) → found_as z cp sought ≡ s → is_scalar ty ≡ true
       → Known z (state cp (Fetch (stepped (length read) (spots.Memory x)) read) (In (tree.Step op sought operation size ty line) (At (spots.Memory x)) ∷ k) l w) → length read ≤ type_bytes z.program.sizes ty → type_bytes z.program.sizes ty ≤ 4 → AreRead z.program ty [] read → is_due (arrived z.outside w) ≡ false → Mirrors z (state cp (Fetch (stepped (length read) (spots.Memory x)) read) (In (tree.Step op sought operation size ty line) (At (spots.Memory x)) ∷ k) l w) c
-      → Led z c (act (source_in z) (Fetch (stepped (length read) (spots.Memory x)) read) (In (tree.Step op sought operation size ty line) (At (spots.Memory x)) ∷ k) cp l (arrived z.outside w))
+      → Led z (Fetch (stepped (length read) (spots.Memory x)) read) (In (tree.Step op sought operation size ty line) (At (spots.Memory x)) ∷ k) c (act (source_in z) (Fetch (stepped (length read) (spots.Memory x)) read) (In (tree.Step op sought operation size ty line) (At (spots.Memory x)) ∷ k) cp l (arrived z.outside w))
   step_in_memory (Fixed from) x op operation size sought ty line read k cp l w c is scalar known le few are due h = step_fixed (spots.Memory x) from op operation size sought ty line read k cp l w c is (λ a e. absurd (cc)) known le few are due h
   step_in_memory (Bit r n) x op operation size sought ty line read k cp l w c is scalar known le few are due h = absurd (memory_no_bit z cp sought x r n known.stands.stack.2 is)
   step_in_memory Computed x op operation size sought ty line read k cp l w c is scalar known le few are due h = step_pointed x op operation size sought ty line read k cp l w c is scalar known le few are due h
 
   fetch_step : (start : Spot) (op : StepOp) (operation : Ty) (size : ℕ) (sought : Place) (ty : Ty) (line : ℕ) (read : List Byte) (k : List Pending) (cp : CopyOf) (l : source.Memory) (w : World Byte) (c : Machine) → is_scalar ty ≡ true
       → Known z (state cp (Fetch (stepped (length read) start) read) (In (tree.Step op sought operation size ty line) (At start) ∷ k) l w) → length read ≤ type_bytes z.program.sizes ty → type_bytes z.program.sizes ty ≤ 4 → AreRead z.program ty [] read → is_due (arrived z.outside w) ≡ false → Mirrors z (state cp (Fetch (stepped (length read) start) read) (In (tree.Step op sought operation size ty line) (At start) ∷ k) l w) c
-      → Led z c (act (source_in z) (Fetch (stepped (length read) start) read) (In (tree.Step op sought operation size ty line) (At start) ∷ k) cp l (arrived z.outside w))
+      → Led z (Fetch (stepped (length read) start) read) (In (tree.Step op sought operation size ty line) (At start) ∷ k) c (act (source_in z) (Fetch (stepped (length read) start) read) (In (tree.Step op sought operation size ty line) (At start) ∷ k) cp l (arrived z.outside w))
   fetch_step (spots.Device a) op operation size sought ty line read k cp l w c scalar known le few are due h =
       let st = known.stands.stack in
       let fixed = device_fixed z cp sought a st.2 in
@@ -438,7 +439,7 @@ module _ (z : Scene) (given : IsLowerable z.program z.copies) (input : All (λ b
       let rule = (step_rule z.program op sought operation size ty line st.0.0).1 in
       let scalar = step_scalar z operation ty rule in
       let at : spot ≡ stepped (length read) start = s.at ∙ ap (stepped (length read)) s.node in
-      subst (λ y. Led z c (act (source_in z) (Fetch y read) (In (tree.Step op sought operation size ty line) (At start) ∷ k) cp l (arrived z.outside w))) (sym at)
+      subst (λ y. Led z (Fetch y read) (In (tree.Step op sought operation size ty line) (At start) ∷ k) c (act (source_in z) (Fetch y read) (In (tree.Step op sought operation size ty line) (At start) ∷ k) cp l (arrived z.outside w))) (sym at)
       (fetch_step start op operation size sought ty line read k cp l w c scalar (subst (λ y. Known z (state cp (Fetch y read) (In (tree.Step op sought operation size ty line) (At start) ∷ k) l w)) at known) s.part s.few s.bytes due
       (subst (λ y. Mirrors z (state cp (Fetch y read) (In (tree.Step op sought operation size ty line) (At start) ∷ k) l w) c) at h))
 
@@ -446,7 +447,7 @@ module _ (z : Scene) (given : IsLowerable z.program z.copies) (input : All (λ b
   pub fetches : ((place : Place) (ty : Ty) (line : ℕ) (start spot : Spot) (read : List Byte) (k : List Pending) → is_scalar ty ≡ false → Law z (Fetch spot read) (In (tree.Read place ty line) (At start) ∷ k)) → (spot : Spot) (read : List Byte) (k : List Pending) → Law z (Fetch spot read) k
   fetches others spot read (In (tree.Read place ty line) (At start) ∷ k) cp l w c known due h = by (is_scalar ty) refl
     where
-      by : (b : Bool) → is_scalar ty ≡ b → Led z c (act (source_in z) (Fetch spot read) (In (tree.Read place ty line) (At start) ∷ k) cp l (arrived z.outside w))
+      by : (b : Bool) → is_scalar ty ≡ b → Led z (Fetch spot read) (In (tree.Read place ty line) (At start) ∷ k) c (act (source_in z) (Fetch spot read) (In (tree.Read place ty line) (At start) ∷ k) cp l (arrived z.outside w))
       by true e = read_fetches place ty line start spot read k e cp l w c known due h
       by false e = others place ty line start spot read k e cp l w c known due h
   fetches others spot read (In (tree.Update op sought right operation size ty line) (AtWith start u) ∷ k) cp l w c known due h = update_fetches op right operation size u sought ty line start spot read k cp l w c known due h

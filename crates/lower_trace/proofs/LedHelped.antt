@@ -114,7 +114,7 @@ module _ (z : Scene) (given : IsLowerable z.program z.copies) (input : All (λ b
       let right_bytes = ap (type_bytes sizes) (sym is.1) in
       let parts = (binary_parts (room sizes left) (value_bytes sizes left) (room sizes right) (value_bytes sizes right) (type_bytes sizes ty)).2 in
       let second = value_at z cp less b left (omega arith) in
-      led_by z 2138 0 c _
+      led_by z _ _ 2138 0 c _ (omega arith) (omega arith)
       (product_given z (scene_laws z given) op left right ty line x y (b + bytes_of x.ty) k cp l w c product (around_in z cp e (One (datum.Number x)) k (around z given input t known)) (resumables z t known) two u.0 alike u.1 v.1
       (binary_helped z given cp s.reached op left right ty line x.ty (product_helps op product) plain two u.0 known.parts.1.0.0) (second ∙ (omega arith)) (omega arith) (omega arith) due h)
 
@@ -138,7 +138,7 @@ module _ (z : Scene) (given : IsLowerable z.program z.copies) (input : All (λ b
       let left_bytes = ap (type_bytes sizes) u.0 in
       let parts = (binary_parts (room sizes left) (value_bytes sizes left) (room sizes right) (value_bytes sizes right) (type_bytes sizes (types.Int x.ty))).2 in
       let second = value_at z cp less b left (omega arith) in
-      led_by z 2138 0 c _
+      led_by z _ _ 2138 0 c _ (omega arith) (omega arith)
       (shift_given z (scene_laws z given) op left right line x y (b + bytes_of x.ty) k cp l w c shift plain (around_in z cp e (One (datum.Number x)) k (around z given input t known)) (resumables z t known) two u.0 u.1
       (binary_helped z given cp s.reached op left right (types.Int x.ty) line x.ty (shift_helps op shift) plain two u.0 known.parts.1.0.0) (second ∙ (omega arith)) (omega arith) (omega arith) due h)
 

@@ -141,7 +141,7 @@ module _ (z : Scene) (given : IsLowerable z.program z.copies) (input : All (λ b
       let p = pointer_bytes (spot_of g.layout g.copy place) in
       let reads = ap bytes_of (product_right op o product).0 in
       let plain : shifts_by_constant op right ≡ false = ap (λ v. v && is_constant right) (product_right op o product).1 in
-      led_by z 2162 0 c _
+      led_by z _ _ 2162 0 c _ (omega arith) (omega arith)
       (update_product z (scene_laws z given) op place right o size line spot x y (b + p + bytes_of o) (b + p) (bytes_of o) k cp l w c product alike u.1 (left ∙ (omega arith)) at
       (record {
         around = around_in z cp e (AtWith spot (datum.Number y)) k (around z given input here known);
@@ -187,7 +187,7 @@ module _ (z : Scene) (given : IsLowerable z.program z.copies) (input : All (λ b
       let left = value_at z cp less (behind_pointer g.layout g.copy b place) right (omega arith) in
       let p = pointer_bytes (spot_of g.layout g.copy place) in
       let reads = ap bytes_of (shift_right op o shift) in
-      led_by z 2162 0 c _
+      led_by z _ _ 2162 0 c _ (omega arith) (omega arith)
       (update_shift z (scene_laws z given) op place right o size line spot x y (b + p + bytes_of y.ty) (b + p) (bytes_of y.ty) k cp l w c shift plain (left ∙ (omega arith)) at
       (record {
         around = around_in z cp e (AtWith spot (datum.Number y)) k (around z given input here known);
@@ -234,7 +234,7 @@ module _ (z : Scene) (given : IsLowerable z.program z.copies) (input : All (λ b
       let place_wide = width_is z cp (place_type place).ty (omega arith) in
       let left = value_at z cp less (behind_pointer g.layout g.copy b place) right (omega arith) in
       let p = pointer_bytes (spot_of g.layout g.copy place) in
-      led_by z 94 0 c _
+      led_by z _ _ 94 0 c _ (omega arith) (omega arith)
       (constant_update z (scene_laws z given) op place right o size line spot x y (b + p + suc more.0) (b + p) more.0 k cp l w c shift constant (left ∙ (omega arith)) at
       (record {
         around = around_in z cp e (AtWith spot (datum.Number y)) k (around z given input here known);

@@ -1,5 +1,5 @@
 -- The laws of the bytes of an item that a local's list begins with, put together; and no value is written that has no bytes.
-use Rattle.std.proofs.Common.{◌≡◌, ℕ, ◌<◌, false, List, ◌∷◌, sym, ap, ◌∙◌, subst, ⊎_elim, arith}
+use Rattle.std.proofs.Common.{nat_lt, ◌≡◌, ℕ, ◌<◌, false, List, ◌∷◌, sym, ap, ◌∙◌, subst, ⊎_elim, arith}
 use Rattle.std.proofs.lemmas.Bool.{cases_lt}
 use Rattle.std.specs.List.{All}
 use Rattle.c_typed.specs.Room.{room}
@@ -18,7 +18,7 @@ use Rattle.src_values.specs.Data as datum
 use Rattle.src_values.specs.Data.{Datum}
 use Rattle.src_values.specs.Memory as source
 use Rattle.src_values.specs.Objects.{behind, local_of}
-use Rattle.src_values.specs.Values.{byte_count}
+use Rattle.src_values.specs.Values.{byte_count, written_bytes}
 use Rattle.src_values.specs.declared.objects.Byte.{Byte}
 use Rattle.src_values.specs.declared.objects.CopyOf.{CopyOf}
 use Rattle.src_values.specs.declared.objects.Spot.{Spot}
@@ -33,6 +33,7 @@ use Rattle.lower_trace.proofs.LedValues.{IsTested, number_tested, pointer_tested
 use Rattle.lower_trace.proofs.ListBytes.{item_byte, item_end}
 use Rattle.lower_trace.proofs.LocalPlaces.{local_size, item_inside}
 use Rattle.lower_trace.proofs.Mirrors.{Mirrors}
+use Rattle.lower_trace.proofs.PriceTests.{done_one, more_room, one_most}
 use Rattle.lower_trace.proofs.Rooms.{assign_parts, value_room}
 use Rattle.lower_trace.proofs.Scenes.{frame_is, scene_laws}
 
@@ -42,7 +43,7 @@ module _ (z : Scene) (given : IsLowerable z.program z.copies) (input : All (λ b
   missing_writes local e line spot v at k none cp l w c known due h = let some = known.sure.focus.0 in absurd (omega arith)
 
   item_on : (local : ℕ) (all : List Item) (line offset : ℕ) (e : Expression) (rest : List Item) (spot : Spot) (v : Datum) (at : ℕ) (k : List Pending) (cp : CopyOf) (l : source.Memory) (w : World Byte) (c : Machine) → Known z (state cp (Write spot v at) (Doing (tree.InitList local all line) (Items (tree.Scalar offset e) rest) ∷ k) l w) → is_due (arrived z.outside w) ≡ false
-      → IsTested z (type_of e) v → Mirrors z (state cp (Write spot v at) (Doing (tree.InitList local all line) (Items (tree.Scalar offset e) rest) ∷ k) l w) c → Led z c (act (source_in z) (Write spot v at) (Doing (tree.InitList local all line) (Items (tree.Scalar offset e) rest) ∷ k) cp l (arrived z.outside w))
+      → IsTested z (type_of e) v → Mirrors z (state cp (Write spot v at) (Doing (tree.InitList local all line) (Items (tree.Scalar offset e) rest) ∷ k) l w) c → Led z (Write spot v at) (Doing (tree.InitList local all line) (Items (tree.Scalar offset e) rest) ∷ k) c (act (source_in z) (Write spot v at) (Doing (tree.InitList local all line) (Items (tree.Scalar offset e) rest) ∷ k) cp l (arrived z.outside w))
   unfolding act
   item_on local all line offset e rest spot v at k cp l w c known due tested h =
       let K = Doing (tree.InitList local all line) (Items (tree.Scalar offset e) rest) ∷ k in
@@ -50,6 +51,7 @@ module _ (z : Scene) (given : IsLowerable z.program z.copies) (input : All (λ b
       let s = known.stands in
       let f = s.focus in
       let is : spot ≡ stepped at (behind (local_of z.program cp local) offset) = f.there ∙ ap (stepped at) f.node.0 in
+      let same : written_bytes spot v ≡ byte_count v = ap (λ y. written_bytes y v) is in
       let few = tested.few in
       let count = tested.all in
       let less = small z given input cp s.reached in
@@ -65,11 +67,11 @@ module _ (z : Scene) (given : IsLowerable z.program z.copies) (input : All (λ b
       let there = listed z given input cp local all s.reached s.stack.0.1 in
       ⊎_elim
       (λ more.
-      led_by z 6 1 c _
+      led_by z _ _ 6 1 c _ (more_room spot v at 6 0 same more (omega arith)) (one_most (nat_lt at (written_bytes spot v)))
       (subst (λ y. Mirrors z (state cp (Write y v at) K l w) c → Follow z 6 1 c (write (source_in z) y v at K cp l (arrived z.outside w))) (sym is)
       (λ m. item_byte z laws local all line k cp l there (own_low z given input cp s.reached) offset e rest (around z given input t known) (reached_below z given input t known) (lowest z given input cp s.reached) v (count ∙ sym wide) (omega arith) (omega arith) at w c more due m) h))
       (λ done.
-      led_by z 0 0 c _
+      led_by z _ _ 0 0 c _ (omega arith) (done_one spot v at 0 same done)
       (subst (λ y. Mirrors z (state cp (Write y v at) K l w) c → Follow z 0 0 c (write (source_in z) y v at K cp l (arrived z.outside w))) (sym is)
       (λ m. item_end z laws local all line k cp l there (own_low z given input cp s.reached) offset e rest (around z given input t known) (reached_below z given input t known) (lowest z given input cp s.reached) v (count ∙ sym wide) (omega arith) (omega arith) at w c done m) h))
       (cases_lt at (byte_count v))

@@ -23,6 +23,7 @@ use Rattle.lower_trace.proofs.ListBytes.{Listed, some_left, text_byte, blank_goe
 use Rattle.lower_trace.proofs.Listing.{text_written}
 use Rattle.lower_trace.proofs.LocalPlaces.{listed_of, local_size, item_inside}
 use Rattle.lower_trace.proofs.Mirrors.{Mirrors}
+use Rattle.lower_trace.proofs.PriceTests.{blank_one, blank_room}
 use Rattle.lower_trace.proofs.Scenes.{frame_is, scene_laws}
 
 module _ (z : Scene) (given : IsLowerable z.program z.copies) (input : All (λ byte. byte < 256) z.outside.input) where
@@ -36,7 +37,7 @@ module _ (z : Scene) (given : IsLowerable z.program z.copies) (input : All (λ b
   pub spells : (spot : Spot) (text : List ℕ) (left : ℕ) (k : List Pending) → Law z (Spell spot text left) k
   unfolding act
   spells spot text zero (Doing (tree.InitList local all line) (Items (tree.Text offset chars size) rest) ∷ k) cp l w c known due h =
-      led_by z 0 0 c _ (text_written z local all line k cp (listed cp local all known.stands.reached known.stands.stack.0.1).size offset chars size rest spot text l w c h)
+      led_by z _ _ 0 0 c _ (omega arith) (omega arith) (text_written z local all line k cp (listed cp local all known.stands.reached known.stands.stack.0.1).size offset chars size rest spot text l w c h)
   spells spot text (suc left) (Doing (tree.InitList local all line) (Items (tree.Text offset chars size) rest) ∷ k) cp l w c known due h =
       let K = Doing (tree.InitList local all line) (Items (tree.Text offset chars size) rest) ∷ k in
       let t = state cp (Spell spot text (suc left)) K l w in
@@ -46,7 +47,7 @@ module _ (z : Scene) (given : IsLowerable z.program z.copies) (input : All (λ b
       let item = s.stack.2 in
       let inside = item_inside z.program cp.function _ item.0 (tree.Text offset chars size) rest item.1 in
       let all_bytes = local_size z cp local in
-      led_by z 4 1 c _
+      led_by z _ _ 4 1 c _ (omega arith) (omega arith)
       (subst (λ y. Mirrors z (state cp (Spell y text (suc left)) K l w) c → Follow z 4 1 c (spell (source_in z) y text (suc left) K cp l (arrived z.outside w))) (sym is)
       (λ m. text_byte z (scene_laws z given) local all line k cp l (listed cp local all s.reached s.stack.0.1) (own_low cp s.reached) offset chars size rest f.done left text w c (around z given input t known) (reached_below z given input t known)
       (f.all ∙ f.node.2) (f.rest ∙ ap (drop f.done) f.node.1) (omega arith) due m) h)
@@ -63,6 +64,6 @@ module _ (z : Scene) (given : IsLowerable z.program z.copies) (input : All (λ b
       let sum = f.2 in
       let all_bytes = local_size z cp local in
       let more = some_left (left - covered_from z.program.sizes all at left) in
-      led_by z (4 * more) more c _
+      led_by z _ _ (4 * more) more c _ (blank_room (covered_from z.program.sizes all at left) left line) (blank_one (covered_from z.program.sizes all at left) left line)
       (blank_goes z (scene_laws z given) local all line k cp l (listed cp local all s.reached s.stack.0.1) (own_low cp s.reached) at left w c (around z given input t known) (reached_below z given input t known) (omega arith) due h)
   blanks at left _ cp l w c known due h = absurd known.stands.focus.1

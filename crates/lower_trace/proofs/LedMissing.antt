@@ -11,7 +11,7 @@ use Rattle.core_code.specs.Machine.{Machine}
 use Rattle.pic_world.specs.World.{World, arrived}
 use Rattle.src_rules.specs.Giving.{answered, changes}
 use Rattle.src_rules.specs.Step.{act}
-use Rattle.src_values.specs.Control.{Holds, At, AtWith, One, Pending, In, active}
+use Rattle.src_values.specs.Control.{Focus, Holds, At, AtWith, One, Pending, In, active}
 use Rattle.src_values.specs.Data as datum
 use Rattle.src_values.specs.Data.{Datum}
 use Rattle.src_values.specs.Memory as source
@@ -23,22 +23,22 @@ use Rattle.src_values.specs.declared.objects.Pointer.TheVariants.{Null, Into}
 use Rattle.src_values.specs.declared.objects.Spot.{Spot}
 use Rattle.src_values.specs.declared.objects.Undef.{Undef}
 use Rattle.lower_trace.proofs.CodeLeft.{Scene}
-use Rattle.lower_trace.proofs.Leads.{Led, Law}
+use Rattle.lower_trace.proofs.Leads.{Led, Law, led_nowhere}
 
 abbrev pub IsNone : Answer → Type 0
 IsNone (answers.Gives v) = ⊥
 IsNone (answers.Fails kind) = Unit {0}
 IsNone answers.Strays = Unit {0}
 
-pub none_answered : (z : Scene) (a : Answer) (line : ℕ) (k : List Pending) (cp : CopyOf) (l : source.Memory) (w : World Byte) (c : Machine) → IsNone a → Led z c (answered a line k cp l w)
-none_answered z (answers.Gives v) line k cp l w c h = absurd h
-none_answered z (answers.Fails kind) line k cp l w c h = record { most = 0; least = 0; on = tt }
-none_answered z answers.Strays line k cp l w c h = record { most = 0; least = 0; on = tt }
+pub none_answered : (z : Scene) (x : Focus) (stack : List Pending) (a : Answer) (line : ℕ) (k : List Pending) (cp : CopyOf) (l : source.Memory) (w : World Byte) (c : Machine) → IsNone a → Led z x stack c (answered a line k cp l w)
+none_answered z x stack (answers.Gives v) line k cp l w c h = absurd h
+none_answered z x stack (answers.Fails kind) line k cp l w c h = led_nowhere z x stack c _ (λ q l. tt)
+none_answered z x stack answers.Strays line k cp l w c h = led_nowhere z x stack c _ (λ q l. tt)
 
-none_changed : (z : Scene) (a : Answer) (e : Expression) (spot : Spot) (keeps : Bool) (old : Datum) (line : ℕ) (k : List Pending) (cp : CopyOf) (l : source.Memory) (w : World Byte) (c : Machine) → IsNone a → Led z c (changes a e spot keeps old line k cp l w)
-none_changed z (answers.Gives v) e spot keeps old line k cp l w c h = absurd h
-none_changed z (answers.Fails kind) e spot keeps old line k cp l w c h = record { most = 0; least = 0; on = tt }
-none_changed z answers.Strays e spot keeps old line k cp l w c h = record { most = 0; least = 0; on = tt }
+none_changed : (z : Scene) (x : Focus) (stack : List Pending) (a : Answer) (e : Expression) (spot : Spot) (keeps : Bool) (old : Datum) (line : ℕ) (k : List Pending) (cp : CopyOf) (l : source.Memory) (w : World Byte) (c : Machine) → IsNone a → Led z x stack c (changes a e spot keeps old line k cp l w)
+none_changed z x stack (answers.Gives v) e spot keeps old line k cp l w c h = absurd h
+none_changed z x stack (answers.Fails kind) e spot keeps old line k cp l w c h = led_nowhere z x stack c _ (λ q l. tt)
+none_changed z x stack answers.Strays e spot keeps old line k cp l w c h = led_nowhere z x stack c _ (λ q l. tt)
 
 none_unless : (b : Option Undef) (a : Answer) → IsNone a → IsNone (unless_bad b a)
 none_unless None a h = h
@@ -73,7 +73,7 @@ none_binary p live op ty u v h = none_unless (bad_right op ty v) (on_values p li
 pub apart_binaries : (z : Scene) (op : BinOp) (left right : Expression) (ty : Ty) (line : ℕ) (u v : Datum) (k : List Pending) → AreApart u v → Law z (Holds v) (In (tree.Binary op left right ty line) (One u) ∷ k)
 unfolding act
 apart_binaries z op left right ty line u v k h cp l w c known due m =
-    none_answered z (binary_answer z.program (active cp (Holds v) k) op ty u v) line k cp l (arrived z.outside w) c (none_binary z.program (active cp (Holds v) k) op ty u v h)
+    none_answered z _ _ (binary_answer z.program (active cp (Holds v) k) op ty u v) line k cp l (arrived z.outside w) c (none_binary z.program (active cp (Holds v) k) op ty u v h)
 
 -- no pointer and integer
 abbrev pub NoOffset : Datum → Datum → Type 0
@@ -96,7 +96,7 @@ none_offset p op size datum.Missing datum.Missing h = tt
 pub apart_offsets : (z : Scene) (op : BinOp) (left right : Expression) (size : ℕ) (ty : Ty) (line : ℕ) (u v : Datum) (k : List Pending) → NoOffset u v → Law z (Holds v) (In (tree.Offset op left right size ty line) (One u) ∷ k)
 unfolding act
 apart_offsets z op left right size ty line u v k h cp l w c known due m =
-    none_answered z (offset_answer z.program op size u v) line k cp l (arrived z.outside w) c (none_offset z.program op size u v h)
+    none_answered z _ _ (offset_answer z.program op size u v) line k cp l (arrived z.outside w) c (none_offset z.program op size u v h)
 
 -- no two pointers
 abbrev pub NoDifference : Datum → Datum → Type 0
@@ -120,7 +120,7 @@ none_difference size datum.Missing datum.Missing h = tt
 pub apart_differences : (z : Scene) (left right : Expression) (size line : ℕ) (u v : Datum) (k : List Pending) → NoDifference u v → Law z (Holds v) (In (tree.Difference left right size line) (One u) ∷ k)
 unfolding act
 apart_differences z left right size line u v k h cp l w c known due m =
-    none_answered z (difference_answer size u v) line k cp l (arrived z.outside w) c (none_difference size u v h)
+    none_answered z _ _ (difference_answer size u v) line k cp l (arrived z.outside w) c (none_difference size u v h)
 
 -- ---- changes
 -- the value of the place is missing
@@ -151,14 +151,14 @@ missing_by p live op (types.Struct number) size ty q = tt
 pub missing_updates : (z : Scene) (op : BinOp) (place : Place) (value : Expression) (operation : Ty) (size : ℕ) (ty : Ty) (line : ℕ) (spot : Spot) (u : Datum) (k : List Pending) → Law z (Holds datum.Missing) (In (tree.Update op place value operation size ty line) (AtWith spot u) ∷ k)
 unfolding act
 missing_updates z op place value operation size ty line spot u k cp l w c known due m =
-    none_changed z (change_answer z.program (active cp (Holds datum.Missing) k) op operation size ty datum.Missing u) _ spot _ _ line k cp l (arrived z.outside w) c (missing_old z.program (active cp (Holds datum.Missing) k) op operation size ty u)
+    none_changed z _ _ (change_answer z.program (active cp (Holds datum.Missing) k) op operation size ty datum.Missing u) _ spot _ _ line k cp l (arrived z.outside w) c (missing_old z.program (active cp (Holds datum.Missing) k) op operation size ty u)
 
 pub updates_missing : (z : Scene) (op : BinOp) (place : Place) (value : Expression) (operation : Ty) (size : ℕ) (ty : Ty) (line : ℕ) (spot : Spot) (v : Datum) (k : List Pending) → Law z (Holds v) (In (tree.Update op place value operation size ty line) (AtWith spot datum.Missing) ∷ k)
 unfolding act
 updates_missing z op place value operation size ty line spot v k cp l w c known due m =
-    none_changed z (change_answer z.program (active cp (Holds v) k) op operation size ty v datum.Missing) _ spot _ _ line k cp l (arrived z.outside w) c (missing_by z.program (active cp (Holds v) k) op operation size ty v)
+    none_changed z _ _ (change_answer z.program (active cp (Holds v) k) op operation size ty v datum.Missing) _ spot _ _ line k cp l (arrived z.outside w) c (missing_by z.program (active cp (Holds v) k) op operation size ty v)
 
 pub missing_steps : (z : Scene) (op : StepOp) (place : Place) (operation : Ty) (size : ℕ) (ty : Ty) (line : ℕ) (spot : Spot) (k : List Pending) → Law z (Holds datum.Missing) (In (tree.Step op place operation size ty line) (At spot) ∷ k)
 unfolding act
 missing_steps z op place operation size ty line spot k cp l w c known due m =
-    none_changed z (change_answer z.program (active cp (Holds datum.Missing) k) (step_operator op) operation size ty datum.Missing (one_in operation)) _ spot _ _ line k cp l (arrived z.outside w) c (missing_old z.program (active cp (Holds datum.Missing) k) (step_operator op) operation size ty (one_in operation))
+    none_changed z _ _ (change_answer z.program (active cp (Holds datum.Missing) k) (step_operator op) operation size ty datum.Missing (one_in operation)) _ spot _ _ line k cp l (arrived z.outside w) c (missing_old z.program (active cp (Holds datum.Missing) k) (step_operator op) operation size ty (one_in operation))

@@ -1,5 +1,5 @@
 -- The laws of pointers that are changed where they stand, and of addresses of places, put together.
-use Rattle.std.proofs.Common.{◌≡◌, ℕ, ◌+◌, ◌<◌, Bool, true, false, not, ◌&&◌, if◌then◌else◌, nat_eq, List, ◌∷◌, refl, sym, ap, ◌∙◌, subst, ⊎_elim, arith}
+use Rattle.std.proofs.Common.{◌≡◌, ℕ, ◌+◌, ◌<◌, ◌≤◌, Bool, true, false, not, ◌&&◌, if◌then◌else◌, nat_eq, List, ◌∷◌, refl, sym, ap, ◌∙◌, subst, ⊎_elim, arith}
 use Rattle.std.proofs.lemmas.Bool.{and_parts, false≢true, or_cases}
 use Rattle.std.specs.List.{All}
 use Rattle.c_ints.specs.Conversions.{common, promoted}
@@ -17,6 +17,7 @@ use Rattle.c_typed.specs.Trees.{Expression, Place, Program}
 use Rattle.c_typed.specs.Types.{form_of, member_form, place_bytes, place_type, type_bytes, type_of, value_bytes}
 use Rattle.c_typed.specs.declared.expression.PlaceForm.TheVariants as forms
 use Rattle.c_typed.specs.declared.expression.StepOp.{StepOp}
+use Rattle.c_typed.specs.Words.{address_words}
 use Rattle.c_typed.specs.declared.types.Ty.{Ty}
 use Rattle.c_typed.specs.declared.types.Ty.TheVariants as types
 use Rattle.core_code.specs.Bytes as core_bytes
@@ -49,7 +50,7 @@ use Rattle.lower_trace.proofs.FixedCopies.{own_byte}
 use Rattle.lower_trace.proofs.FixedPlaces.{own_spot}
 use Rattle.lower_trace.proofs.Giving.{Around}
 use Rattle.lower_trace.proofs.Known.{around, low, proper, small}
-use Rattle.lower_trace.proofs.Leads.{Law, led_by}
+use Rattle.lower_trace.proofs.Leads.{Law, led_by, led_nowhere}
 use Rattle.lower_trace.proofs.LedPointers.{element, index_two, points_there, points_to}
 use Rattle.lower_trace.proofs.LedValues.{around_in}
 use Rattle.lower_trace.proofs.Members.{address_most, byte_is_so, found_address}
@@ -123,6 +124,11 @@ fixed_form l n (tree.Bit register bit line) byte e = absurd (cc)
 fixed_form l n (tree.Member whole member offset ty line) byte e = let w = member_fixed (spot_of l n whole) offset byte e in ap member_form (fixed_form l n whole w.0 w.1)
 fixed_form l n (tree.Deref pointer ty line) byte e = absurd (cc)
 
+address_room : (s : place.Spot) (l : Layout) (n : ℕ) (sought : Place) → spot_of l n sought ≡ s → address_most s ≤ address_words (form_of sought)
+address_room (Fixed byte) l n sought e = subst (λ f. 8 ≤ address_words f) (sym (fixed_form l n sought byte e)) (omega arith)
+address_room (Bit register bit) l n sought e = omega arith
+address_room Computed l n sought e = omega arith
+
 module _ (z : Scene) (given : IsLowerable z.program z.copies) (input : All (λ byte. byte < 256) z.outside.input) (sized : IsSized z.program) where
   abbrev p : Program
   p = z.program
@@ -156,10 +162,10 @@ module _ (z : Scene) (given : IsLowerable z.program z.copies) (input : All (λ b
       let f = frame_is z given cp s.reached in
       let fits = known.stack.0 in
       let parts = (two_parts (place_room sizes place) 2).1 in
-      led_by z (address_most (spot_of g.layout g.copy place)) 0 c _
+      led_by z _ _ (address_most (spot_of g.layout g.copy place)) 0 c _ (address_room (spot_of g.layout g.copy place) g.layout g.copy place refl) (omega arith)
       (found_address z (scene_laws z given) place ty line (spots.Memory x) k cp l w c a (address_valid place x k cp c.memory a s.stack.0.1 at (h.value place refl)) (omega arith) due h)
-  place_addresses place ty line (spots.Device address) k cp l w c known due h = record { most = 0; least = 0; on = tt }
-  place_addresses place ty line (spots.Bit register bit) k cp l w c known due h = record { most = 0; least = 0; on = tt }
+  place_addresses place ty line (spots.Device address) k cp l w c known due h = led_nowhere z _ _ c _ (λ q l. tt)
+  place_addresses place ty line (spots.Bit register bit) k cp l w c known due h = led_nowhere z _ _ c _ (λ q l. tt)
 
   -- ---- a step
   step_on : (op : StepOp) (place : Place) (size target line : ℕ) (spot : Spot) (x : Pointer) (k : List Pending) → counts_in p (pointed p (types.Pointer target)) size ≡ true → Law z (Holds (datum.Pointer x)) (In (tree.Step op place (types.Pointer target) size (types.Pointer target) line) (At spot) ∷ k)
@@ -184,7 +190,7 @@ module _ (z : Scene) (given : IsLowerable z.program z.copies) (input : All (λ b
       let place_wide = width_is z cp (place_type place).ty (omega arith) in
       let left = beyond_is (behind_pointer g.layout g.copy b place) (width g.layout ty) (omega arith) in
       let front = pointer_bytes (spot_of g.layout g.copy place) in
-      led_by z 44 1 c _
+      led_by z _ _ 44 1 c _ (omega arith) (omega arith)
       (step_moved z (scene_laws z given) op place target size line spot x (b + front + 2) (b + front) 2 k cp l w c counted.0 (λ y is. step_few z (step_minus op) x y size (any_small p (proper z given input)) t.1 is) (points_there p x t.1) wide (left ∙ (omega arith)) at
       (record {
         around = around_in z cp e (At spot) k (around z given input (state cp (Holds (datum.Pointer x)) (In e (At spot) ∷ k) l w) known);
@@ -237,7 +243,7 @@ module _ (z : Scene) (given : IsLowerable z.program z.copies) (input : All (λ b
       let place_wide = width_is z cp (place_type place).ty (omega arith) in
       let left = value_at z cp less (behind_pointer g.layout g.copy b place) right (omega arith) in
       let front = pointer_bytes (spot_of g.layout g.copy place) in
-      led_by z 1632 1 c _
+      led_by z _ _ 1632 1 c _ (omega arith) (omega arith)
       (update_moved z (scene_laws z given) minus place right target size line spot x q (b + front + 2) (b + front) 2 k cp l w c two u.1 counted.0 counted.1 (points_there p x t.1) (left ∙ (omega arith)) at
       (record {
         around = around_in z cp e (AtWith spot (datum.Number q)) k (around z given input (state cp (Holds (datum.Pointer x)) (In e (AtWith spot (datum.Number q)) ∷ k) l w) known);

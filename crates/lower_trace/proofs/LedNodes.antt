@@ -43,6 +43,7 @@ use Rattle.lower_trace.proofs.LedLists.{own_low}
 use Rattle.lower_trace.proofs.LedValues.{IsTested, around_in, number_tested, pointer_tested, pointer_two}
 use Rattle.lower_trace.proofs.Mirrors.{Mirrors}
 use Rattle.lower_trace.proofs.NodeRooms.{assign_ahead, step_ahead, step_wider, update_ahead}
+use Rattle.lower_trace.proofs.PriceTests.{IsNoBit, all_written, write_room, write_one}
 use Rattle.lower_trace.proofs.Scenes.{scene_laws}
 use Rattle.lower_trace.proofs.Stored.{assign_write, step_write, update_write}
 use Rattle.lower_trace.proofs.StoredPointed.{pointed_assign, pointed_step_write, pointed_update_write}
@@ -78,7 +79,7 @@ writing_of e start u v at k cp l w = state cp (Write (stepped at start) v at) (I
 abbrev pub NodeLed : Scene → Expression → Spot → Datum → Datum → ℕ → List Pending → Type 0
 NodeLed z e start u v at k =
     (cp : CopyOf) (l : source.Memory) (w : World Byte) (c : Machine) → Known z (writing_of e start u v at k cp l w) → is_due (arrived z.outside w) ≡ false → IsOpen z start → HasType z.program (type_of e) v → Mirrors z (writing_of e start u v at k cp l w) c
-    → Led z c (act (source_in z) (Write (stepped at start) v at) (In e (Stores start u) ∷ k) cp l (arrived z.outside w))
+    → Led z (Write (stepped at start) v at) (In e (Stores start u) ∷ k) c (act (source_in z) (Write (stepped at start) v at) (In e (Stores start u) ∷ k) cp l (arrived z.outside w))
 
 abbrev pub IsOne : Scene → Spot → Ty → Type 0
 IsOne z start ty = (a : ℕ) → start ≡ spots.Device a → type_bytes z.program.sizes ty ≡ 1
@@ -89,11 +90,11 @@ found_as z cp sought = spot_of (ground_in z cp).layout (ground_in z cp).copy sou
 
 module _ (z : Scene) (given : IsLowerable z.program z.copies) (input : All (λ byte. byte < 256) z.outside.input) where
   -- ---- assignments
-  assign_fixed : (from : code.Byte) (sought : Place) (right : Expression) (ty : Ty) (line : ℕ) (start : Spot) (v : Datum) (at : ℕ) (k : List Pending) (cp : CopyOf) (l : source.Memory) (w : World Byte) (c : Machine) → found_as z cp sought ≡ Fixed from → IsOne z start ty
+  assign_fixed : (from : code.Byte) (sought : Place) (right : Expression) (ty : Ty) (line : ℕ) (start : Spot) (v : Datum) (at : ℕ) (k : List Pending) (cp : CopyOf) (l : source.Memory) (w : World Byte) (c : Machine) → found_as z cp sought ≡ Fixed from → IsOne z start ty → IsNoBit start
       → Known z (writing_of (tree.Assign sought right ty line) start v v at k cp l w) → is_due (arrived z.outside w) ≡ false → IsOpen z start → HasType z.program ty v → Mirrors z (writing_of (tree.Assign sought right ty line) start v v at k cp l w) c
-      → Led z c (act (source_in z) (Write (stepped at start) v at) (In (tree.Assign sought right ty line) (Stores start v) ∷ k) cp l (arrived z.outside w))
+      → Led z (Write (stepped at start) v at) (In (tree.Assign sought right ty line) (Stores start v) ∷ k) c (act (source_in z) (Write (stepped at start) v at) (In (tree.Assign sought right ty line) (Stores start v) ∷ k) cp l (arrived z.outside w))
   unfolding act
-  assign_fixed from sought right ty line start v at k cp l w c is one known due opened t h =
+  assign_fixed from sought right ty line start v at k cp l w c is one plain known due opened t h =
       let e = tree.Assign sought right ty line in
       let x = writing_of e start v v at k cp l w in
       let s = known.stands in
@@ -104,7 +105,8 @@ module _ (z : Scene) (given : IsLowerable z.program z.copies) (input : All (λ b
       let all = tested.all in
       let a = around z given input x known in
       let r = assign_ahead z given input cp s.reached k sought right ty line st.0.0 known.stack.0 in
-      led_by z (either (nat_lt at (byte_count v)) 6 0) (one_if (nat_lt at (byte_count v))) c _
+      let same = all_written start at v plain in
+      led_by z _ _ (either (nat_lt at (byte_count v)) 6 0) (one_if (nat_lt at (byte_count v))) c _ (write_room (stepped at start) v at 6 0 28 same (omega arith) (omega arith)) (write_one (stepped at start) v at same)
       (assign_write z (scene_laws z given) cp l sought right ty line start from v at k w c
       (record {
         place = record { spot = is; there = st.0.1; found = st.2.0; one = one };
@@ -124,7 +126,7 @@ module _ (z : Scene) (given : IsLowerable z.program z.copies) (input : All (λ b
 
   assign_pointed : (x : Pointer) (sought : Place) (right : Expression) (ty : Ty) (line : ℕ) (v : Datum) (at : ℕ) (k : List Pending) (cp : CopyOf) (l : source.Memory) (w : World Byte) (c : Machine) → found_as z cp sought ≡ Computed
       → Known z (writing_of (tree.Assign sought right ty line) (spots.Memory x) v v at k cp l w) → is_due (arrived z.outside w) ≡ false → IsOpen z (spots.Memory x) → HasType z.program ty v → Mirrors z (writing_of (tree.Assign sought right ty line) (spots.Memory x) v v at k cp l w) c
-      → Led z c (act (source_in z) (Write (stepped at (spots.Memory x)) v at) (In (tree.Assign sought right ty line) (Stores (spots.Memory x) v) ∷ k) cp l (arrived z.outside w))
+      → Led z (Write (stepped at (spots.Memory x)) v at) (In (tree.Assign sought right ty line) (Stores (spots.Memory x) v) ∷ k) c (act (source_in z) (Write (stepped at (spots.Memory x)) v at) (In (tree.Assign sought right ty line) (Stores (spots.Memory x) v) ∷ k) cp l (arrived z.outside w))
   unfolding act
   assign_pointed x sought right ty line v at k cp l w c is known due opened t h =
       let e = tree.Assign sought right ty line in
@@ -139,7 +141,8 @@ module _ (z : Scene) (given : IsLowerable z.program z.copies) (input : All (λ b
       let r = assign_ahead z given input cp s.reached k sought right ty line st.0.0 known.stack.0 in
       let two = ap pointer_bytes is in
       let far = r.far in
-      led_by z (either (nat_lt at (byte_count v)) 20 24) (one_if (nat_lt at (byte_count v))) c _
+      let same = all_written (spots.Memory x) at v tt in
+      led_by z _ _ (either (nat_lt at (byte_count v)) 20 24) (one_if (nat_lt at (byte_count v))) c _ (write_room (stepped at (spots.Memory x)) v at 20 24 28 same (omega arith) (omega arith)) (write_one (stepped at (spots.Memory x)) v at same)
       (pointed_assign z (scene_laws z given) cp l sought right ty line x v at k w c
       (record {
         place = record { spot = is; there = spot_there z.program cp sought (spots.Memory x) s.reached st.0.1 st.2.0; some = omega arith; few = omega arith };
@@ -158,8 +161,8 @@ module _ (z : Scene) (given : IsLowerable z.program z.copies) (input : All (λ b
 
   assign_in_memory : (s : place.Spot) (x : Pointer) (sought : Place) (right : Expression) (ty : Ty) (line : ℕ) (v : Datum) (at : ℕ) (k : List Pending) (cp : CopyOf) (l : source.Memory) (w : World Byte) (c : Machine) → found_as z cp sought ≡ s
       → Known z (writing_of (tree.Assign sought right ty line) (spots.Memory x) v v at k cp l w) → is_due (arrived z.outside w) ≡ false → IsOpen z (spots.Memory x) → HasType z.program ty v → Mirrors z (writing_of (tree.Assign sought right ty line) (spots.Memory x) v v at k cp l w) c
-      → Led z c (act (source_in z) (Write (stepped at (spots.Memory x)) v at) (In (tree.Assign sought right ty line) (Stores (spots.Memory x) v) ∷ k) cp l (arrived z.outside w))
-  assign_in_memory (Fixed from) x sought right ty line v at k cp l w c is known due opened t h = assign_fixed from sought right ty line (spots.Memory x) v at k cp l w c is (λ a e. absurd (memory_apart x a e)) known due opened t h
+      → Led z (Write (stepped at (spots.Memory x)) v at) (In (tree.Assign sought right ty line) (Stores (spots.Memory x) v) ∷ k) c (act (source_in z) (Write (stepped at (spots.Memory x)) v at) (In (tree.Assign sought right ty line) (Stores (spots.Memory x) v) ∷ k) cp l (arrived z.outside w))
+  assign_in_memory (Fixed from) x sought right ty line v at k cp l w c is known due opened t h = assign_fixed from sought right ty line (spots.Memory x) v at k cp l w c is (λ a e. absurd (memory_apart x a e)) tt known due opened t h
   assign_in_memory (Bit r n) x sought right ty line v at k cp l w c is known due opened t h = absurd (memory_no_bit z cp sought x r n known.stands.stack.2.0 is)
   assign_in_memory Computed x sought right ty line v at k cp l w c is known due opened t h = assign_pointed x sought right ty line v at k cp l w c is known due opened t h
 
@@ -171,14 +174,14 @@ module _ (z : Scene) (given : IsLowerable z.program z.copies) (input : All (λ b
       let st = known.stands.stack in
       let fixed = device_fixed z cp sought a st.2.0 in
       let rule = (assign_rule z.program sought right ty line st.0.0).0 in
-      assign_fixed fixed.0 sought right ty line (spots.Device a) v at k cp l w c fixed.1 (λ b e. sym (ap (type_bytes z.program.sizes) rule) ∙ device_one z cp sought a st.0.1 st.2.0) known due opened t h
+      assign_fixed fixed.0 sought right ty line (spots.Device a) v at k cp l w c fixed.1 (λ b e. sym (ap (type_bytes z.program.sizes) rule) ∙ device_one z cp sought a st.0.1 st.2.0) tt known due opened t h
 
   -- ---- updates
-  update_fixed : (from : code.Byte) (op : BinOp) (sought : Place) (right : Expression) (operation : Ty) (size : ℕ) (ty : Ty) (line : ℕ) (start : Spot) (v : Datum) (at : ℕ) (k : List Pending) (cp : CopyOf) (l : source.Memory) (w : World Byte) (c : Machine) → found_as z cp sought ≡ Fixed from → IsOne z start ty
+  update_fixed : (from : code.Byte) (op : BinOp) (sought : Place) (right : Expression) (operation : Ty) (size : ℕ) (ty : Ty) (line : ℕ) (start : Spot) (v : Datum) (at : ℕ) (k : List Pending) (cp : CopyOf) (l : source.Memory) (w : World Byte) (c : Machine) → found_as z cp sought ≡ Fixed from → IsOne z start ty → IsNoBit start
       → Known z (writing_of (tree.Update op sought right operation size ty line) start v v at k cp l w) → is_due (arrived z.outside w) ≡ false → IsOpen z start → HasType z.program ty v → Mirrors z (writing_of (tree.Update op sought right operation size ty line) start v v at k cp l w) c
-      → Led z c (act (source_in z) (Write (stepped at start) v at) (In (tree.Update op sought right operation size ty line) (Stores start v) ∷ k) cp l (arrived z.outside w))
+      → Led z (Write (stepped at start) v at) (In (tree.Update op sought right operation size ty line) (Stores start v) ∷ k) c (act (source_in z) (Write (stepped at start) v at) (In (tree.Update op sought right operation size ty line) (Stores start v) ∷ k) cp l (arrived z.outside w))
   unfolding act
-  update_fixed from op sought right operation size ty line start v at k cp l w c is one known due opened t h =
+  update_fixed from op sought right operation size ty line start v at k cp l w c is one plain known due opened t h =
       let e = tree.Update op sought right operation size ty line in
       let x = writing_of e start v v at k cp l w in
       let s = known.stands in
@@ -191,7 +194,8 @@ module _ (z : Scene) (given : IsLowerable z.program z.copies) (input : All (λ b
       let both = update_ahead z given input cp s.reached k op sought right operation size ty line st.0.0 known.stack.0 in
       let r = both.0 in
       let far = r.far in
-      led_by z (either (nat_lt at (byte_count v)) 6 24) (one_if (nat_lt at (byte_count v))) c _
+      let same = all_written start at v plain in
+      led_by z _ _ (either (nat_lt at (byte_count v)) 6 24) (one_if (nat_lt at (byte_count v))) c _ (write_room (stepped at start) v at 6 24 28 same (omega arith) (omega arith)) (write_one (stepped at start) v at same)
       (update_write z (scene_laws z given) cp l op sought right operation size ty line start from v at k w c
       (record {
         place = record { spot = is; there = st.0.1; found = st.2.0; one = one };
@@ -211,7 +215,7 @@ module _ (z : Scene) (given : IsLowerable z.program z.copies) (input : All (λ b
 
   update_pointed : (x : Pointer) (op : BinOp) (sought : Place) (right : Expression) (operation : Ty) (size : ℕ) (ty : Ty) (line : ℕ) (v : Datum) (at : ℕ) (k : List Pending) (cp : CopyOf) (l : source.Memory) (w : World Byte) (c : Machine) → found_as z cp sought ≡ Computed
       → Known z (writing_of (tree.Update op sought right operation size ty line) (spots.Memory x) v v at k cp l w) → is_due (arrived z.outside w) ≡ false → IsOpen z (spots.Memory x) → HasType z.program ty v → Mirrors z (writing_of (tree.Update op sought right operation size ty line) (spots.Memory x) v v at k cp l w) c
-      → Led z c (act (source_in z) (Write (stepped at (spots.Memory x)) v at) (In (tree.Update op sought right operation size ty line) (Stores (spots.Memory x) v) ∷ k) cp l (arrived z.outside w))
+      → Led z (Write (stepped at (spots.Memory x)) v at) (In (tree.Update op sought right operation size ty line) (Stores (spots.Memory x) v) ∷ k) c (act (source_in z) (Write (stepped at (spots.Memory x)) v at) (In (tree.Update op sought right operation size ty line) (Stores (spots.Memory x) v) ∷ k) cp l (arrived z.outside w))
   unfolding act
   update_pointed x op sought right operation size ty line v at k cp l w c is known due opened t h =
       let e = tree.Update op sought right operation size ty line in
@@ -227,7 +231,8 @@ module _ (z : Scene) (given : IsLowerable z.program z.copies) (input : All (λ b
       let r = both.0 in
       let two = ap pointer_bytes is in
       let far = r.far in
-      led_by z (either (nat_lt at (byte_count v)) 20 24) (one_if (nat_lt at (byte_count v))) c _
+      let same = all_written (spots.Memory x) at v tt in
+      led_by z _ _ (either (nat_lt at (byte_count v)) 20 24) (one_if (nat_lt at (byte_count v))) c _ (write_room (stepped at (spots.Memory x)) v at 20 24 28 same (omega arith) (omega arith)) (write_one (stepped at (spots.Memory x)) v at same)
       (pointed_update_write z (scene_laws z given) cp l op sought right operation size ty line x v at k w c
       (record {
         place = record { spot = is; there = spot_there z.program cp sought (spots.Memory x) s.reached st.0.1 st.2.0; some = omega arith; few = omega arith };
@@ -246,8 +251,8 @@ module _ (z : Scene) (given : IsLowerable z.program z.copies) (input : All (λ b
 
   update_in_memory : (s : place.Spot) (x : Pointer) (op : BinOp) (sought : Place) (right : Expression) (operation : Ty) (size : ℕ) (ty : Ty) (line : ℕ) (v : Datum) (at : ℕ) (k : List Pending) (cp : CopyOf) (l : source.Memory) (w : World Byte) (c : Machine) → found_as z cp sought ≡ s
       → Known z (writing_of (tree.Update op sought right operation size ty line) (spots.Memory x) v v at k cp l w) → is_due (arrived z.outside w) ≡ false → IsOpen z (spots.Memory x) → HasType z.program ty v → Mirrors z (writing_of (tree.Update op sought right operation size ty line) (spots.Memory x) v v at k cp l w) c
-      → Led z c (act (source_in z) (Write (stepped at (spots.Memory x)) v at) (In (tree.Update op sought right operation size ty line) (Stores (spots.Memory x) v) ∷ k) cp l (arrived z.outside w))
-  update_in_memory (Fixed from) x op sought right operation size ty line v at k cp l w c is known due opened t h = update_fixed from op sought right operation size ty line (spots.Memory x) v at k cp l w c is (λ a e. absurd (memory_apart x a e)) known due opened t h
+      → Led z (Write (stepped at (spots.Memory x)) v at) (In (tree.Update op sought right operation size ty line) (Stores (spots.Memory x) v) ∷ k) c (act (source_in z) (Write (stepped at (spots.Memory x)) v at) (In (tree.Update op sought right operation size ty line) (Stores (spots.Memory x) v) ∷ k) cp l (arrived z.outside w))
+  update_in_memory (Fixed from) x op sought right operation size ty line v at k cp l w c is known due opened t h = update_fixed from op sought right operation size ty line (spots.Memory x) v at k cp l w c is (λ a e. absurd (memory_apart x a e)) tt known due opened t h
   update_in_memory (Bit r n) x op sought right operation size ty line v at k cp l w c is known due opened t h = absurd (memory_no_bit z cp sought x r n known.stands.stack.2.0 is)
   update_in_memory Computed x op sought right operation size ty line v at k cp l w c is known due opened t h = update_pointed x op sought right operation size ty line v at k cp l w c is known due opened t h
 
@@ -259,14 +264,14 @@ module _ (z : Scene) (given : IsLowerable z.program z.copies) (input : All (λ b
       let st = known.stands.stack in
       let fixed = device_fixed z cp sought a st.2.0 in
       let rule = (update_rule z.program op sought right operation size ty line st.0.0).0 in
-      update_fixed fixed.0 op sought right operation size ty line (spots.Device a) v at k cp l w c fixed.1 (λ b e. sym (ap (type_bytes z.program.sizes) rule) ∙ device_one z cp sought a st.0.1 st.2.0) known due opened t h
+      update_fixed fixed.0 op sought right operation size ty line (spots.Device a) v at k cp l w c fixed.1 (λ b e. sym (ap (type_bytes z.program.sizes) rule) ∙ device_one z cp sought a st.0.1 st.2.0) tt known due opened t h
 
   -- ---- steps
-  step_fixed : (from : code.Byte) (op : StepOp) (sought : Place) (operation : Ty) (size : ℕ) (ty : Ty) (line : ℕ) (start : Spot) (u v : Datum) (at : ℕ) (k : List Pending) (cp : CopyOf) (l : source.Memory) (w : World Byte) (c : Machine) → found_as z cp sought ≡ Fixed from → IsOne z start ty
+  step_fixed : (from : code.Byte) (op : StepOp) (sought : Place) (operation : Ty) (size : ℕ) (ty : Ty) (line : ℕ) (start : Spot) (u v : Datum) (at : ℕ) (k : List Pending) (cp : CopyOf) (l : source.Memory) (w : World Byte) (c : Machine) → found_as z cp sought ≡ Fixed from → IsOne z start ty → IsNoBit start
       → Known z (writing_of (tree.Step op sought operation size ty line) start u v at k cp l w) → is_due (arrived z.outside w) ≡ false → IsOpen z start → HasType z.program ty v → Mirrors z (writing_of (tree.Step op sought operation size ty line) start u v at k cp l w) c
-      → Led z c (act (source_in z) (Write (stepped at start) v at) (In (tree.Step op sought operation size ty line) (Stores start u) ∷ k) cp l (arrived z.outside w))
+      → Led z (Write (stepped at start) v at) (In (tree.Step op sought operation size ty line) (Stores start u) ∷ k) c (act (source_in z) (Write (stepped at start) v at) (In (tree.Step op sought operation size ty line) (Stores start u) ∷ k) cp l (arrived z.outside w))
   unfolding act
-  step_fixed from op sought operation size ty line start u v at k cp l w c is one known due opened t h =
+  step_fixed from op sought operation size ty line start u v at k cp l w c is one plain known due opened t h =
       let e = tree.Step op sought operation size ty line in
       let x = writing_of e start u v at k cp l w in
       let s = known.stands in
@@ -281,7 +286,8 @@ module _ (z : Scene) (given : IsLowerable z.program z.copies) (input : All (λ b
       let r = three.0 in
       let far = r.far in
       let high = three.1.higher in
-      led_by z (either (nat_lt at (byte_count v)) 6 24) (one_if (nat_lt at (byte_count v))) c _
+      let same = all_written start at v plain in
+      led_by z _ _ (either (nat_lt at (byte_count v)) 6 24) (one_if (nat_lt at (byte_count v))) c _ (write_room (stepped at start) v at 6 24 28 same (omega arith) (omega arith)) (write_one (stepped at start) v at same)
       (step_write z (scene_laws z given) cp l op sought operation size ty line start from v u at k w c
       (record {
         place = record { spot = is; there = st.0.1; found = st.2.0; one = one };
@@ -301,7 +307,7 @@ module _ (z : Scene) (given : IsLowerable z.program z.copies) (input : All (λ b
 
   step_pointed : (x : Pointer) (op : StepOp) (sought : Place) (operation : Ty) (size : ℕ) (ty : Ty) (line : ℕ) (u v : Datum) (at : ℕ) (k : List Pending) (cp : CopyOf) (l : source.Memory) (w : World Byte) (c : Machine) → found_as z cp sought ≡ Computed
       → Known z (writing_of (tree.Step op sought operation size ty line) (spots.Memory x) u v at k cp l w) → is_due (arrived z.outside w) ≡ false → IsOpen z (spots.Memory x) → HasType z.program ty v → Mirrors z (writing_of (tree.Step op sought operation size ty line) (spots.Memory x) u v at k cp l w) c
-      → Led z c (act (source_in z) (Write (stepped at (spots.Memory x)) v at) (In (tree.Step op sought operation size ty line) (Stores (spots.Memory x) u) ∷ k) cp l (arrived z.outside w))
+      → Led z (Write (stepped at (spots.Memory x)) v at) (In (tree.Step op sought operation size ty line) (Stores (spots.Memory x) u) ∷ k) c (act (source_in z) (Write (stepped at (spots.Memory x)) v at) (In (tree.Step op sought operation size ty line) (Stores (spots.Memory x) u) ∷ k) cp l (arrived z.outside w))
   unfolding act
   step_pointed x op sought operation size ty line u v at k cp l w c is known due opened t h =
       let e = tree.Step op sought operation size ty line in
@@ -319,7 +325,8 @@ module _ (z : Scene) (given : IsLowerable z.program z.copies) (input : All (λ b
       let two = ap pointer_bytes is in
       let far = r.far in
       let high = three.1.higher in
-      led_by z (either (nat_lt at (byte_count v)) 20 24) (one_if (nat_lt at (byte_count v))) c _
+      let same = all_written (spots.Memory x) at v tt in
+      led_by z _ _ (either (nat_lt at (byte_count v)) 20 24) (one_if (nat_lt at (byte_count v))) c _ (write_room (stepped at (spots.Memory x)) v at 20 24 28 same (omega arith) (omega arith)) (write_one (stepped at (spots.Memory x)) v at same)
       (pointed_step_write z (scene_laws z given) cp l op sought operation size ty line x v u at k w c
       (record {
         place = record { spot = is; there = spot_there z.program cp sought (spots.Memory x) s.reached st.0.1 st.2.0; some = omega arith; few = omega arith };
@@ -338,8 +345,8 @@ module _ (z : Scene) (given : IsLowerable z.program z.copies) (input : All (λ b
 
   step_in_memory : (s : place.Spot) (x : Pointer) (op : StepOp) (sought : Place) (operation : Ty) (size : ℕ) (ty : Ty) (line : ℕ) (u v : Datum) (at : ℕ) (k : List Pending) (cp : CopyOf) (l : source.Memory) (w : World Byte) (c : Machine) → found_as z cp sought ≡ s
       → Known z (writing_of (tree.Step op sought operation size ty line) (spots.Memory x) u v at k cp l w) → is_due (arrived z.outside w) ≡ false → IsOpen z (spots.Memory x) → HasType z.program ty v → Mirrors z (writing_of (tree.Step op sought operation size ty line) (spots.Memory x) u v at k cp l w) c
-      → Led z c (act (source_in z) (Write (stepped at (spots.Memory x)) v at) (In (tree.Step op sought operation size ty line) (Stores (spots.Memory x) u) ∷ k) cp l (arrived z.outside w))
-  step_in_memory (Fixed from) x op sought operation size ty line u v at k cp l w c is known due opened t h = step_fixed from op sought operation size ty line (spots.Memory x) u v at k cp l w c is (λ a e. absurd (memory_apart x a e)) known due opened t h
+      → Led z (Write (stepped at (spots.Memory x)) v at) (In (tree.Step op sought operation size ty line) (Stores (spots.Memory x) u) ∷ k) c (act (source_in z) (Write (stepped at (spots.Memory x)) v at) (In (tree.Step op sought operation size ty line) (Stores (spots.Memory x) u) ∷ k) cp l (arrived z.outside w))
+  step_in_memory (Fixed from) x op sought operation size ty line u v at k cp l w c is known due opened t h = step_fixed from op sought operation size ty line (spots.Memory x) u v at k cp l w c is (λ a e. absurd (memory_apart x a e)) tt known due opened t h
   step_in_memory (Bit r n) x op sought operation size ty line u v at k cp l w c is known due opened t h = absurd (memory_no_bit z cp sought x r n known.stands.stack.2.0 is)
   step_in_memory Computed x op sought operation size ty line u v at k cp l w c is known due opened t h = step_pointed x op sought operation size ty line u v at k cp l w c is known due opened t h
 
@@ -351,4 +358,4 @@ module _ (z : Scene) (given : IsLowerable z.program z.copies) (input : All (λ b
       let st = known.stands.stack in
       let fixed = device_fixed z cp sought a st.2.0 in
       let rule = (step_rule z.program op sought operation size ty line st.0.0).0 in
-      step_fixed fixed.0 op sought operation size ty line (spots.Device a) u v at k cp l w c fixed.1 (λ b e. sym (ap (type_bytes z.program.sizes) rule) ∙ device_one z cp sought a st.0.1 st.2.0) known due opened t h
+      step_fixed fixed.0 op sought operation size ty line (spots.Device a) u v at k cp l w c fixed.1 (λ b e. sym (ap (type_bytes z.program.sizes) rule) ∙ device_one z cp sought a st.0.1 st.2.0) tt known due opened t h

@@ -42,8 +42,9 @@ use Rattle.lower_trace.proofs.Choosing.{bang_given}
 use Rattle.lower_trace.proofs.CodeLeft.{Scene, ground_in, source_in}
 use Rattle.lower_trace.proofs.Computing.{unary_given, binary_given}
 use Rattle.lower_trace.proofs.Fitting.{width_is}
+use Rattle.lower_trace.proofs.Kept.{bytes_small}
 use Rattle.lower_trace.proofs.Known.{Known, around}
-use Rattle.lower_trace.proofs.Leads.{Led, Law, led_by}
+use Rattle.lower_trace.proofs.Leads.{Led, Law, led_by, led_nowhere}
 use Rattle.lower_trace.proofs.LedValues.{IsTested, around_in, number_tested, pointer_tested, small_test}
 use Rattle.lower_trace.proofs.Mirrors.{Mirrors}
 use Rattle.lower_trace.proofs.Operating.{IsPlain, IsSigned}
@@ -92,7 +93,7 @@ module _ (z : Scene) (given : IsLowerable z.program z.copies) (input : All (λ b
 
   signed_on : (op : UnOp) (operand : Expression) (ty : Ty) (line : ℕ) (q : Quantity) (k : List Pending) (cp : CopyOf) (l : source.Memory) (w : World Byte) (c : Machine) → Known z (state cp (Holds (datum.Number q)) (In (tree.Unary op operand ty line) Nothing ∷ k) l w) → is_due (arrived z.outside w) ≡ false
       → IsSigned op → (unary_type op q.ty ≡ promoted q.ty) → (is_promoted (type_of operand) && same_type (type_of operand) ty) ≡ true → HasType z.program (type_of operand) (datum.Number q)
-      → Mirrors z (state cp (Holds (datum.Number q)) (In (tree.Unary op operand ty line) Nothing ∷ k) l w) c → Led z c (act (source_in z) (Holds (datum.Number q)) (In (tree.Unary op operand ty line) Nothing ∷ k) cp l (arrived z.outside w))
+      → Mirrors z (state cp (Holds (datum.Number q)) (In (tree.Unary op operand ty line) Nothing ∷ k) l w) c → Led z (Holds (datum.Number q)) (In (tree.Unary op operand ty line) Nothing ∷ k) c (act (source_in z) (Holds (datum.Number q)) (In (tree.Unary op operand ty line) Nothing ∷ k) cp l (arrived z.outside w))
   unfolding act
   signed_on op operand ty line q k cp l w c known due signed kind rule t h =
       let e = tree.Unary op operand ty line in
@@ -103,12 +104,13 @@ module _ (z : Scene) (given : IsLowerable z.program z.copies) (input : All (λ b
       let value = value_room z.program cp.function e s.stack.0 in
       let bytes = ap (type_bytes z.program.sizes) o.is in
       let result = ap bytes_of (kind ∙ o.same) in
-      led_by z (10 * bytes_of q.ty) 1 c _
+      let small_type = bytes_small q.ty in
+      led_by z _ _ (10 * bytes_of q.ty) 1 c _ (omega arith) (omega arith)
       (unary_given z (scene_laws z given) op operand ty line q k cp l w c (around_in z cp e Nothing k (around z given input (state cp (Holds (datum.Number q)) (In e Nothing ∷ k) l w) known)) signed o.is o.wide t.1 (omega arith) (omega arith) due h)
 
   bang_on : (operand : Expression) (ty : Ty) (line : ℕ) (v : Datum) (k : List Pending) (cp : CopyOf) (l : source.Memory) (w : World Byte) (c : Machine) → Known z (state cp (Holds v) (In (tree.Unary unop.Bang operand ty line) Nothing ∷ k) l w) → is_due (arrived z.outside w) ≡ false
       → HasType z.program (type_of operand) v → IsTested z (type_of operand) v
-      → Mirrors z (state cp (Holds v) (In (tree.Unary unop.Bang operand ty line) Nothing ∷ k) l w) c → Led z c (act (source_in z) (Holds v) (In (tree.Unary unop.Bang operand ty line) Nothing ∷ k) cp l (arrived z.outside w))
+      → Mirrors z (state cp (Holds v) (In (tree.Unary unop.Bang operand ty line) Nothing ∷ k) l w) c → Led z (Holds v) (In (tree.Unary unop.Bang operand ty line) Nothing ∷ k) c (act (source_in z) (Holds v) (In (tree.Unary unop.Bang operand ty line) Nothing ∷ k) cp l (arrived z.outside w))
   unfolding act room
   bang_on operand ty line v k cp l w c known due t tested h =
       let e = tree.Unary unop.Bang operand ty line in
@@ -117,13 +119,13 @@ module _ (z : Scene) (given : IsLowerable z.program z.copies) (input : All (λ b
       let fits = known.stack.0 in
       let all = tested.all in
       let part = le-max_right (room z.program.sizes operand) (value_bytes z.program.sizes operand + 2) in
-      led_by z (4 * byte_count v + 28) 1 c _
+      led_by z _ _ (4 * byte_count v + 28) 1 c _ (omega arith) (omega arith)
       (bang_given z (scene_laws z given) operand ty line v (type_of operand) k cp l w c (around_in z cp e Nothing k (around z given input (state cp (Holds v) (In e Nothing ∷ k) l w) known)) t tested.some (tests_all operand v cp tested) (omega arith) (omega arith) due h)
 
   -- An operator of one operand takes it.
   pub unaries : (op : UnOp) (operand : Expression) (ty : Ty) (line : ℕ) (v : Datum) (k : List Pending) → Law z (Holds v) (In (tree.Unary op operand ty line) Nothing ∷ k)
   unfolding act unary_answer
-  unaries op operand ty line datum.Missing k cp l w c known due h = record { most = 0; least = 0; on = tt }
+  unaries op operand ty line datum.Missing k cp l w c known due h = led_nowhere z _ _ c _ (λ q l. tt)
   unaries unop.Bang operand ty line (datum.Number q) k cp l w c known due h =
       let f = known.stands.focus in
       let t = subst (λ y. HasType z.program y (datum.Number q)) f.1 f.2 in
@@ -136,7 +138,7 @@ module _ (z : Scene) (given : IsLowerable z.program z.copies) (input : All (λ b
       let f = known.stands.focus in
       let t = subst (λ y. HasType z.program y (datum.Number q)) f.1 f.2 in
       let o = operand_is (type_of operand) ty q (unary_rule z.program unop.Plus operand ty line known.stands.stack.0.0) t.0 in
-      led_by z 0 0 c _ (plus_given z operand ty line q k cp l w c o.same t.1 h)
+      led_by z _ _ 0 0 c _ (omega arith) (omega arith) (plus_given z operand ty line q k cp l w c o.same t.1 h)
   unaries unop.Minus operand ty line (datum.Number q) k cp l w c known due h =
       let f = known.stands.focus in
       signed_on unop.Minus operand ty line q k cp l w c known due tt refl (unary_rule z.program unop.Minus operand ty line known.stands.stack.0.0) (subst (λ y. HasType z.program y (datum.Number q)) f.1 f.2) h
@@ -202,5 +204,6 @@ module _ (z : Scene) (given : IsLowerable z.program z.copies) (input : All (λ b
       let left_bytes = ap (type_bytes sizes) u.0 in
       let right_bytes = ap (type_bytes sizes) (sym same) in
       let few = result_few op x.ty in
-      led_by z (10 * bytes_of x.ty + 30) 1 c _
+      let small_type = bytes_small x.ty in
+      led_by z _ _ (10 * bytes_of x.ty + 30) 1 c _ (omega arith) (omega arith)
       (binary_given z (scene_laws z given) op left right ty line x y k cp l w c (around_in z cp e (One (datum.Number x)) k (around z given input (state cp (Holds (datum.Number y)) (In e (One (datum.Number x)) ∷ k) l w) known)) plain u.0 alike u.1 t.1 (omega arith) (omega arith) due h)

@@ -25,7 +25,7 @@ use Rattle.lower_trace.proofs.CodeLeft.{Scene, base, ground_in, number}
 use Rattle.lower_trace.proofs.Fitting.{pointer_at, step_operation, width_is}
 use Rattle.lower_trace.proofs.Increments.{found_step}
 use Rattle.lower_trace.proofs.Known.{around, front, small, resumables}
-use Rattle.lower_trace.proofs.Leads.{Law, led_by}
+use Rattle.lower_trace.proofs.Leads.{Law, led_by, led_nowhere}
 use Rattle.lower_trace.proofs.LedCopies.{structures, list_structures}
 use Rattle.lower_trace.proofs.LedValues.{around_in}
 use Rattle.lower_trace.proofs.MemberPlaces.{found_member}
@@ -61,13 +61,13 @@ module _ (z : Scene) (given : IsLowerable z.program z.copies) (input : All (λ b
   unfolding act
   reads_found true place ty line spot k is cp l w c known due h =
       let b = front z given input (state cp (Found spot) (In (tree.Read place ty line) Nothing ∷ k) l w) known in
-      led_by z 0 0 c _ (found_read z (scene_laws z given) place ty line spot k cp l w c (omega arith) is h)
+      led_by z _ _ 0 0 c _ (omega arith) (omega arith) (found_read z (scene_laws z given) place ty line spot k cp l w c (omega arith) is h)
   reads_found false place ty line spot k is cp l w c known due h = laws.skims place ty line spot k is cp l w c known due h
 
   updates_found : (constant : Bool) (op : BinOp) (place : Place) (value : Expression) (operation : Ty) (size : ℕ) (ty : Ty) (line : ℕ) (spot : Spot) (k : List Pending) → shifts_by_constant op value ≡ constant → Law z (Found spot) (In (tree.Update op place value operation size ty line) Nothing ∷ k)
   unfolding act
   updates_found true op place value operation size ty line spot k is cp l w c known due h = laws.known_counts op place value operation size ty line spot k is cp l w c known due h
-  updates_found false op place value operation size ty line spot k is cp l w c known due h = led_by z 0 0 c _ (found_update z (scene_laws z given) op place value operation size ty line spot k cp l w c is h)
+  updates_found false op place value operation size ty line spot k is cp l w c known due h = led_by z _ _ 0 0 c _ (omega arith) (omega arith) (found_update z (scene_laws z given) op place value operation size ty line spot k cp l w c is h)
 
   steps_found : (op : StepOp) (place : Place) (operation : Ty) (size : ℕ) (ty : Ty) (line : ℕ) (spot : Spot) (k : List Pending) → Law z (Found spot) (In (tree.Step op place operation size ty line) Nothing ∷ k)
   unfolding act room
@@ -86,14 +86,14 @@ module _ (z : Scene) (given : IsLowerable z.program z.copies) (input : All (λ b
       let pb = pointer_is g.layout g.copy place in
       let wide = width_is z cp operation (omega arith) in
       let at = pointer_at z cp less (base g k) place (omega arith) in
-      led_by z 16 0 c _ (found_step z (scene_laws z given) op place operation size ty line spot k cp l w c (step_scalar z operation ty r.1) (around_in z cp e Nothing k (around z given input (state cp (Found spot) (In e Nothing ∷ k) l w) known)) (wide ∙ o0) at (omega arith) due h)
+      led_by z _ _ 16 0 c _ (omega arith) (omega arith) (found_step z (scene_laws z given) op place operation size ty line spot k cp l w c (step_scalar z operation ty r.1) (around_in z cp e Nothing k (around z given input (state cp (Found spot) (In e Nothing ∷ k) l w) known)) (wide ∙ o0) at (omega arith) due h)
 
   nodes_found : (e : Expression) (got : Got) (spot : Spot) (k : List Pending) → Law z (Found spot) (In e got ∷ k)
   unfolding act
   nodes_found (tree.Read place ty line) Nothing spot k cp l w c known due h = reads_found (is_scalar ty) place ty line spot k refl cp l w c known due h
   nodes_found (tree.Address place ty line) Nothing spot k cp l w c known due h = laws.addresses place ty line spot k cp l w c known due h
-  nodes_found (tree.Assign place value ty line) Nothing spot k cp l w c known due h = led_by z 0 0 c _ (found_assign z (scene_laws z given) place value ty line spot k cp l w c h)
-  nodes_found (tree.StructAssign place from size line) Nothing spot k cp l w c known due h = led_by z 0 0 c _ (found_struct z (scene_laws z given) place from size line spot k cp l w c h)
+  nodes_found (tree.Assign place value ty line) Nothing spot k cp l w c known due h = led_by z _ _ 0 0 c _ (omega arith) (omega arith) (found_assign z (scene_laws z given) place value ty line spot k cp l w c h)
+  nodes_found (tree.StructAssign place from size line) Nothing spot k cp l w c known due h = led_by z _ _ 0 0 c _ (omega arith) (omega arith) (found_struct z (scene_laws z given) place from size line spot k cp l w c h)
   nodes_found (tree.StructAssign place from size line) (At to) spot k cp l w c known due h = structures z given input place from size line to spot k cp l w c known due h
   nodes_found (tree.Update op place value operation size ty line) Nothing spot k cp l w c known due h = updates_found (shifts_by_constant op value) op place value operation size ty line spot k refl cp l w c known due h
   nodes_found (tree.Step op place operation size ty line) Nothing spot k cp l w c known due h = steps_found op place operation size ty line spot k cp l w c known due h
@@ -114,12 +114,12 @@ module _ (z : Scene) (given : IsLowerable z.program z.copies) (input : All (λ b
       let computed = computed_room z.program cp.function whole place_is.1 in
       let g = ground_in z cp in
       let pb = pointer_is g.layout g.copy whole in
-      led_by z 28 0 c _
+      led_by z _ _ 28 0 c _ (omega arith) (omega arith)
       (found_member z (scene_laws z given) whole member offset ty line x k cp l w c (record { reached = a.reached; apart = a.apart; mains = a.mains; piled = a.piled }) (resumables z t known) s.stack.1
       (spot_there z.program cp whole (spots.Memory x) s.reached place_is.1 at)
       (λ is. let two = ap pointer_bytes is in omega arith) due h)
-  members_found (tree.Member whole member offset ty line) (spots.Device address) k cp l w c known due h = record { most = 0; least = 0; on = tt }
-  members_found (tree.Member whole member offset ty line) (spots.Bit register bit) k cp l w c known due h = record { most = 0; least = 0; on = tt }
+  members_found (tree.Member whole member offset ty line) (spots.Device address) k cp l w c known due h = led_nowhere z _ _ c _ (λ q l. tt)
+  members_found (tree.Member whole member offset ty line) (spots.Bit register bit) k cp l w c known due h = led_nowhere z _ _ c _ (λ q l. tt)
   members_found _ spot k cp l w c known due h = absurd known.stands.focus.1
 
   statements_found : (t : Statement) (stage : Stage) (spot : Spot) (k : List Pending) → Law z (Found spot) (Doing t stage ∷ k)

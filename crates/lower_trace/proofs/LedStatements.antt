@@ -1,9 +1,11 @@
 -- The laws of statements that begin and of what follows them, put together.
-use Rattle.std.proofs.Common.{◌≡◌, ◌-◌, ◌*◌, ◌<◌, false, List, [], ◌∷◌, Some, None, refl, arith}
+use Rattle.std.proofs.Common.{◌≡◌, ◌-◌, ◌*◌, ◌<◌, ◌≤◌, false, List, [], ◌∷◌, Option, Some, None, refl, arith}
 use Rattle.std.specs.List.{All}
 use Rattle.c_typed.specs.Room.{room}
 use Rattle.c_typed.specs.Trees as tree
 use Rattle.c_typed.specs.Trees.{Expression, Place, Statement}
+use Rattle.c_typed.specs.declared.statement.LoopForm.{LoopForm}
+use Rattle.c_typed.specs.declared.statement.LoopForm.TheVariants.{While, Do, For}
 use Rattle.core_code.specs.Machine.{Machine}
 use Rattle.pic_world.specs.World.{World, arrived, is_due}
 use Rattle.src_rules.specs.State.{state}
@@ -26,7 +28,9 @@ use Rattle.lower_trace.proofs.Leaving.{Lasts, end_least}
 use Rattle.lower_trace.proofs.Listing.{begin_list}
 use Rattle.lower_trace.proofs.LocalPlaces.{listed_of}
 use Rattle.lower_trace.proofs.Places.{find_goes}
-use Rattle.lower_trace.proofs.Rounds.{begin_loop, turn_ends, turn_least}
+use Rattle.lower_trace.proofs.Prices as price
+use Rattle.lower_trace.proofs.Prices.{turned_most, turned_least}
+use Rattle.lower_trace.proofs.Rounds.{begin_loop, turn_ends, turn_least, turned_cost}
 use Rattle.lower_trace.proofs.Scenes.{frame_is, scene_laws}
 use Rattle.lower_trace.proofs.SegmentFrames.{break_inside, continue_inside}
 
@@ -50,6 +54,25 @@ lasts_unwound (Doing t _ ∷ k) r = tt
 lasts_unwound (Before ss ∷ k) r = lasts_unwound k r
 lasts_unwound (Returns d ∷ k) r = tt
 lasts_unwound (Resumes d x ∷ k) r = r.0
+
+-- ---- prices
+eval_low : (e : Expression) → eval_most e ≤ price.eval_most e
+eval_low (tree.Constant q line) = omega arith
+eval_low _ = omega arith
+
+turned_low : (shape : LoopForm) (step : Option Expression) → turned_cost shape step ≤ turned_most shape step
+turned_low While step = omega arith
+turned_low Do None = omega arith
+turned_low Do (Some e) = omega arith
+turned_low For None = omega arith
+turned_low For (Some e) = omega arith
+
+turned_high : (shape : LoopForm) (step : Option Expression) → turned_least shape step ≤ turn_least shape step
+turned_high While step = omega arith
+turned_high Do None = omega arith
+turned_high Do (Some e) = omega arith
+turned_high For None = omega arith
+turned_high For (Some e) = omega arith
 
 module _ (z : Scene) (given : IsLowerable z.program z.copies) (input : All (λ byte. byte < 256) z.outside.input) where
   -- ---- expressions and places begin
@@ -75,11 +98,11 @@ module _ (z : Scene) (given : IsLowerable z.program z.copies) (input : All (λ b
 
   pub evals : (e : Expression) (k : List Pending) → Law z (Eval e) k
   unfolding act
-  evals e k cp l w c known due h = led_by z (eval_most e) (eval_least e) c _ (eval_goes z (scene_laws z given) e k cp l w c (around z given input (state cp (Eval e) k l w) known) (constant_room e k cp l w known) due h)
+  evals e k cp l w c known due h = led_by z (Eval e) k (eval_most e) (eval_least e) c _ (eval_low e) (omega arith) (eval_goes z (scene_laws z given) e k cp l w c (around z given input (state cp (Eval e) k l w) known) (constant_room e k cp l w known) due h)
 
   pub finds : (place : Place) (k : List Pending) → Law z (Find place) k
   unfolding act
-  finds place k cp l w c known due h = let f = known.stands.focus in led_by z 0 0 c _ (find_goes z (scene_laws z given) place k cp l w c (around z given input (state cp (Find place) k l w) known) f.0 f.1 h)
+  finds place k cp l w c known due h = let f = known.stands.focus in led_by z (Find place) k 0 0 c _ (omega arith) (omega arith) (find_goes z (scene_laws z given) place k cp l w c (around z given input (state cp (Find place) k l w) known) f.0 f.1 h)
 
   -- ---- statements begin
   -- a `continue` makes no event
@@ -97,49 +120,49 @@ module _ (z : Scene) (given : IsLowerable z.program z.copies) (input : All (λ b
 
   pub runs_on : (t : Statement) (k : List Pending) → Law z (Run t) k
   unfolding act
-  runs_on (tree.Block ss line) k cp l w c known due h = led_by z 0 0 c _ (begin_block z ss line k cp l w c known.segments.0 h)
-  runs_on (tree.Empty line) k cp l w c known due h = led_by z 0 0 c _ (begin_empty z line k cp l w c h)
-  runs_on (tree.Expr e line) k cp l w c known due h = led_by z 0 0 c _ (begin_expression z e line k cp l w c h)
-  runs_on (tree.Declare local line) k cp l w c known due h = led_by z 0 0 c _ (begin_declare z local line k cp l w c h)
-  runs_on (tree.InitScalar local e line) k cp l w c known due h = led_by z 0 0 c _ (begin_scalar z local e line k cp l w c h)
-  runs_on (tree.InitList local all line) k cp l w c known due h = led_by z 0 0 c _ (begin_list z local all line k cp (listed_of z (scene_laws z given) cp local all known.stands.reached known.stands.focus.0.1).size l w c h)
-  runs_on (tree.If chain otherwise line) k cp l w c known due h = led_by z 0 0 c _ (begin_if z chain otherwise line k cp l w c h)
-  runs_on (tree.Loop shape begins condition step body line) k cp l w c known due h = led_by z 4 0 c _ (begin_loop z shape begins condition step body line k cp l w c known.focus.1.0 due h)
-  runs_on (tree.Switch e cases default ss line) k cp l w c known due h = led_by z 0 0 c _ (begin_switch z e cases default ss line k cp l w c h)
+  runs_on (tree.Block ss line) k cp l w c known due h = led_by z (Run (tree.Block ss line)) k 0 0 c _ (omega arith) (omega arith) (begin_block z ss line k cp l w c known.segments.0 h)
+  runs_on (tree.Empty line) k cp l w c known due h = led_by z (Run (tree.Empty line)) k 0 0 c _ (omega arith) (omega arith) (begin_empty z line k cp l w c h)
+  runs_on (tree.Expr e line) k cp l w c known due h = led_by z (Run (tree.Expr e line)) k 0 0 c _ (omega arith) (omega arith) (begin_expression z e line k cp l w c h)
+  runs_on (tree.Declare local line) k cp l w c known due h = led_by z (Run (tree.Declare local line)) k 0 0 c _ (omega arith) (omega arith) (begin_declare z local line k cp l w c h)
+  runs_on (tree.InitScalar local e line) k cp l w c known due h = led_by z (Run (tree.InitScalar local e line)) k 0 0 c _ (omega arith) (omega arith) (begin_scalar z local e line k cp l w c h)
+  runs_on (tree.InitList local all line) k cp l w c known due h = led_by z (Run (tree.InitList local all line)) k 0 0 c _ (omega arith) (omega arith) (begin_list z local all line k cp (listed_of z (scene_laws z given) cp local all known.stands.reached known.stands.focus.0.1).size l w c h)
+  runs_on (tree.If chain otherwise line) k cp l w c known due h = led_by z (Run (tree.If chain otherwise line)) k 0 0 c _ (omega arith) (omega arith) (begin_if z chain otherwise line k cp l w c h)
+  runs_on (tree.Loop shape begins condition step body line) k cp l w c known due h = led_by z (Run (tree.Loop shape begins condition step body line)) k 0 0 c _ (omega arith) (omega arith) (begin_loop z shape begins condition step body line k cp l w c known.focus.1.0 due h)
+  runs_on (tree.Switch e cases default ss line) k cp l w c known due h = led_by z (Run (tree.Switch e cases default ss line)) k 0 0 c _ (omega arith) (omega arith) (begin_switch z e cases default ss line k cp l w c h)
   runs_on (tree.Break line) k cp l w c known due h =
       let f = known.stands.focus in
-      led_by z 4 0 c _ (begin_break z line k cp l w c (break_inside z.program cp k f.0 f.1 known.stands.stack known.segments.1) known.segments.0 due h)
+      led_by z (Run (tree.Break line)) k 4 0 c _ (omega arith) (omega arith) (begin_break z line k cp l w c (break_inside z.program cp k f.0 f.1 known.stands.stack known.segments.1) known.segments.0 due h)
   runs_on (tree.Continue line) k cp l w c known due h =
       let f = known.stands.focus in
-      on_led z (continue_at k cp l (arrived z.outside w)) 0 0 (Run (tree.Continue line)) k cp l w c refl (silent k cp l (arrived z.outside w)) refl due
+      on_led z (continue_at k cp l (arrived z.outside w)) 0 0 (Run (tree.Continue line)) k cp l w c refl (silent k cp l (arrived z.outside w)) refl due (omega arith) (omega arith)
       (begin_continue z line k cp l w c (continue_inside z.program cp k f.0 f.1 known.stands.stack known.segments.1) known.segments.0 h)
   runs_on (tree.Return None line) k cp l w c known due h =
-      led_by z 104 (end_least (unwound k)) c _ (begin_leave z line k cp l w c known.stands.focus.1 (around z given input (state cp (Run (tree.Return None line)) k l w) known).piled (lasts_unwound k known.resumable) due h)
-  runs_on (tree.Return (Some e) line) k cp l w c known due h = led_by z 0 0 c _ (begin_return z e line k cp l w c h)
+      led_by z (Run (tree.Return None line)) k 104 (end_least (unwound k)) c _ (omega arith) (omega arith) (begin_leave z line k cp l w c known.stands.focus.1 (around z given input (state cp (Run (tree.Return None line)) k l w) known).piled (lasts_unwound k known.resumable) due h)
+  runs_on (tree.Return (Some e) line) k cp l w c known due h = led_by z (Run (tree.Return (Some e) line)) k 0 0 c _ (omega arith) (omega arith) (begin_return z e line k cp l w c h)
 
   -- ---- what follows a statement
   pub goes_past : (k : List Pending) → Law z Past k
   unfolding act
-  goes_past [] cp l w c known due h = led_by z 104 0 c _ (body_past z [] cp l w c tt tt due h)
+  goes_past [] cp l w c known due h = led_by z Past [] 104 0 c _ (omega arith) (omega arith) (body_past z [] cp l w c tt tt due h)
   goes_past (In e got ∷ k) cp l w c known due h = absurd known.stands.focus
   goes_past (To place ∷ k) cp l w c known due h = absurd known.stands.focus
   goes_past (Doing (tree.Loop shape begins condition step body line) Turns ∷ k) cp l w c known due h =
-      led_by z 12 (turn_least shape step) c _ (turn_ends z shape begins condition step body line k cp l w c known.stack.0.1.0 due h)
-  goes_past (Doing (tree.Switch e cases default ss line) Turns ∷ k) cp l w c known due h = led_by z 4 0 c _ (switch_past z e cases default ss line k cp l w c due h)
-  goes_past (Doing (tree.If chain otherwise line) (InArm more) ∷ k) cp l w c known due h = led_by z (4 * (arm_count chain - arm_count more)) 0 c _ (arm_past z chain otherwise line more k cp l w c due h)
+      led_by z Past (Doing (tree.Loop shape begins condition step body line) Turns ∷ k) (turned_cost shape step) (turn_least shape step) c _ (turned_low shape step) (turned_high shape step) (turn_ends z shape begins condition step body line k cp l w c known.stack.0.1.0 due h)
+  goes_past (Doing (tree.Switch e cases default ss line) Turns ∷ k) cp l w c known due h = led_by z Past (Doing (tree.Switch e cases default ss line) Turns ∷ k) 4 0 c _ (omega arith) (omega arith) (switch_past z e cases default ss line k cp l w c due h)
+  goes_past (Doing (tree.If chain otherwise line) (InArm more) ∷ k) cp l w c known due h = led_by z Past (Doing (tree.If chain otherwise line) (InArm more) ∷ k) (4 * (arm_count chain - arm_count more)) 0 c _ (omega arith) (omega arith) (arm_past z chain otherwise line more k cp l w c due h)
   goes_past (Doing _ _ ∷ k) cp l w c known due h = absurd known.stands.focus
-  goes_past (Before ss ∷ k) cp l w c known due h = led_by z (falling (switch_on k) ss) 0 c _ (before_past z ss k cp l w c known.segments.1.0 due h)
-  goes_past (Returns d ∷ k) cp l w c known due h = led_by z 104 1 c _ (body_past z (Returns d ∷ k) cp l w c tt tt due h)
-  goes_past (Resumes d x ∷ k) cp l w c known due h = led_by z 104 1 c _ (body_past z (Resumes d x ∷ k) cp l w c tt known.resumable.0 due h)
+  goes_past (Before ss ∷ k) cp l w c known due h = led_by z Past (Before ss ∷ k) (falling (switch_on k) ss) 0 c _ (omega arith) (omega arith) (before_past z ss k cp l w c known.segments.1.0 due h)
+  goes_past (Returns d ∷ k) cp l w c known due h = led_by z Past (Returns d ∷ k) 104 1 c _ (omega arith) (omega arith) (body_past z (Returns d ∷ k) cp l w c tt tt due h)
+  goes_past (Resumes d x ∷ k) cp l w c known due h = led_by z Past (Resumes d x ∷ k) 104 1 c _ (omega arith) (omega arith) (body_past z (Resumes d x ∷ k) cp l w c tt known.resumable.0 due h)
 
   -- behind a `continue` a turn ends by the jump
-  pub repeats_past : (k : List Pending) (cp : CopyOf) (l : source.Memory) (w : World Byte) (c : Machine) → Known z (state cp Past k l w) → is_due (arrived z.outside w) ≡ false → Again z cp Past k l w c → Led z c (proceed k cp l (arrived z.outside w))
+  pub repeats_past : (k : List Pending) (cp : CopyOf) (l : source.Memory) (w : World Byte) (c : Machine) → Known z (state cp Past k l w) → is_due (arrived z.outside w) ≡ false → Again z cp Past k l w c → Led z Past k c (proceed k cp l (arrived z.outside w))
   repeats_past [] cp l w c known due a = absurd a
   repeats_past (In e got ∷ k) cp l w c known due a = absurd a
   repeats_past (To place ∷ k) cp l w c known due a = absurd a
   repeats_past (Doing (tree.Loop shape begins condition step body line) Turns ∷ k) cp l w c known due a =
-      led_by z 12 (turn_least shape step) c _ (turn_repeats z shape begins condition step body line k cp l w c known.stack.0.1.0 due a)
+      led_by z Past (Doing (tree.Loop shape begins condition step body line) Turns ∷ k) (turned_cost shape step) (turn_least shape step) c _ (turned_low shape step) (turned_high shape step) (turn_repeats z shape begins condition step body line k cp l w c known.stack.0.1.0 due a)
   repeats_past (Doing _ _ ∷ k) cp l w c known due a = absurd a
-  repeats_past (Before ss ∷ k) cp l w c known due a = led_by z 0 0 c _ (led_goes z ss k cp l w c known.segments.1.0 due a)
+  repeats_past (Before ss ∷ k) cp l w c known due a = led_by z Past (Before ss ∷ k) 0 0 c _ (omega arith) (omega arith) (led_goes z ss k cp l w c known.segments.1.0 due a)
   repeats_past (Returns d ∷ k) cp l w c known due a = absurd a
   repeats_past (Resumes d x ∷ k) cp l w c known due a = absurd a

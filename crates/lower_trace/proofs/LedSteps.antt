@@ -1,6 +1,6 @@
 -- A micro-step of the source, and where byte code comes to: from the laws of each focus. Where an interrupt is enabled and no handler is
--- there, the source goes on to its next step that counts, which is undefined, and byte code waits.
-use Rattle.std.proofs.Common.{◌≡◌, ℕ, ◌<◌, ◌⊎◌, inl, inr, Bool, true, false, not, ◌&&◌, if◌then◌else◌, List, ◌∷◌, Option, Some, None, map, refl, sym, ap, ◌∙◌, subst, ⊎_elim}
+-- there, the source goes on to its next step that counts, which is undefined, and byte code waits. The costs are within the prices.
+use Rattle.std.proofs.Common.{◌≡◌, ℕ, ◌<◌, ◌≤◌, ◌⊎◌, inl, inr, Bool, true, false, not, ◌&&◌, if◌then◌else◌, List, ◌∷◌, Option, Some, None, map, refl, sym, ap, ◌∙◌, subst, ⊎_elim, arith}
 use Rattle.std.specs.List.{All}
 use Rattle.c_typed.specs.declared.statement.TCase.{TCase}
 use Rattle.core_code.specs.Machine.{Machine}
@@ -27,12 +27,13 @@ use Rattle.lower_trace.proofs.CodeLeft.{Scene, core_in, held, source_in}
 use Rattle.lower_trace.proofs.Ends.{Again}
 use Rattle.lower_trace.proofs.Entering.{enters_goes, bool_cases}
 use Rattle.lower_trace.proofs.Known.{Known, around}
-use Rattle.lower_trace.proofs.Leads.{Meets, Led, Law, comes_map}
+use Rattle.lower_trace.proofs.Leads.{Meets, Led, Law, comes_map, led_nowhere}
 use Rattle.lower_trace.proofs.LedStatements.{evals, finds, runs_on, goes_past, repeats_past}
 use Rattle.lower_trace.proofs.LedWaits.{waits_on}
 use Rattle.lower_trace.proofs.Leaving.{IsResumable}
 use Rattle.lower_trace.proofs.Mirrors.{Mirrors}
 use Rattle.lower_trace.proofs.Operations.{Comes, comes_here}
+use Rattle.lower_trace.proofs.Prices.{most_at, least_at}
 use Rattle.lower_trace.proofs.Scenes.{scene_laws}
 use Rattle.lower_trace.proofs.Surroundings.{mains_apart}
 use Rattle.lower_trace.proofs.Waiting.{waits_quiet, waits_world}
@@ -63,10 +64,46 @@ pub record Doomed (z : Scene) (t : State) (c : Machine) : Type 0 where
 abbrev pub Relates : Scene → State → Machine → Type 0
 Relates z t c = Meets z t c ⊎ Doomed z t c
 
-pub record Stepped (z : Scene) (c : Machine) (u : State) : Type 0 where
+-- ---- what a micro-step may cost byte code, and costs at least
+-- Where an interrupt is enabled the handler is entered. If none is there, byte code waits.
+abbrev pub entry_most : Option ℕ → ℕ
+entry_most None = 0
+entry_most (Some handler) = 100
+
+abbrev pub entry_least : Option ℕ → ℕ
+entry_least None = 0
+entry_least (Some handler) = 1
+
+unfoldable pub step_at_most : Scene → State → ℕ
+step_at_most z t = if is_due (arrived z.outside t.world) then entry_most (handler_in z.program) else most_at z.program t.focus t.stack
+
+unfoldable pub step_at_least : Scene → State → ℕ
+step_at_least z t = if is_due (arrived z.outside t.world) then entry_least (handler_in z.program) else least_at z.program t.focus t.stack
+
+pub record Stepped (z : Scene) (t : State) (c : Machine) (u : State) : Type 0 where
   pub most : ℕ
   pub least : ℕ
   pub comes : Comes (core_in z) (Relates z u) most least c
+  pub low : most ≤ step_at_most z t
+  pub high : step_at_least z t ≤ least
+
+-- where no interrupt is enabled the prices are those of the focus and the stack
+pub most_free : (z : Scene) (t : State) → is_due (arrived z.outside t.world) ≡ false → step_at_most z t ≡ most_at z.program t.focus t.stack
+unfolding step_at_most
+most_free z t e = ap (λ b. if b then entry_most (handler_in z.program) else most_at z.program t.focus t.stack) e
+
+pub least_free : (z : Scene) (t : State) → is_due (arrived z.outside t.world) ≡ false → step_at_least z t ≡ least_at z.program t.focus t.stack
+unfolding step_at_least
+least_free z t e = ap (λ b. if b then entry_least (handler_in z.program) else least_at z.program t.focus t.stack) e
+
+-- and where one is, those of the handler
+pub most_entry : (z : Scene) (t : State) (o : Option ℕ) → is_due (arrived z.outside t.world) ≡ true → handler_in z.program ≡ o → step_at_most z t ≡ entry_most o
+unfolding step_at_most
+most_entry z t o e h = ap (λ b. if b then entry_most (handler_in z.program) else most_at z.program t.focus t.stack) e ∙ ap entry_most h
+
+pub least_entry : (z : Scene) (t : State) (o : Option ℕ) → is_due (arrived z.outside t.world) ≡ true → handler_in z.program ≡ o → step_at_least z t ≡ entry_least o
+unfolding step_at_least
+least_entry z t o e h = ap (λ b. if b then entry_least (handler_in z.program) else least_at z.program t.focus t.stack) e ∙ ap entry_least h
 
 -- ---- traces agree
 again_trace : (z : Scene) (cp : CopyOf) (x : Focus) (k : List Pending) (l : source.Memory) (w : World Byte) (c : Machine) → Again z cp x k l w c → arrived z.outside c.world ≡ world_as (held z) (arrived z.outside w)
@@ -113,7 +150,7 @@ main_root Isr e = absurd (cc)
 module _ (z : Scene) (given : IsLowerable z.program z.copies) (input : All (λ byte. byte < 256) z.outside.input) (nodes : NodeLaws z) where
   ends : (k : List Pending) → Law z Over k
   unfolding act
-  ends k cp l w c known due h = record { most = 0; least = 0; on = tt }
+  ends k cp l w c known due h = led_nowhere z Over k c _ (λ q n. tt)
 
   -- the law of each focus
   pub law : (x : Focus) (k : List Pending) → Law z x k
@@ -136,21 +173,26 @@ module _ (z : Scene) (given : IsLowerable z.program z.copies) (input : All (λ b
   law (Compares v labels) k = nodes.compares v labels k
   law Over k = ends k
 
-  again_led : (x : Focus) (k : List Pending) (cp : CopyOf) (l : source.Memory) (w : World Byte) (c : Machine) → Known z (state cp x k l w) → is_due (arrived z.outside w) ≡ false → Again z cp x k l w c → Led z c (act (source_in z) x k cp l (arrived z.outside w))
+  again_led : (x : Focus) (k : List Pending) (cp : CopyOf) (l : source.Memory) (w : World Byte) (c : Machine) → Known z (state cp x k l w) → is_due (arrived z.outside w) ≡ false → Again z cp x k l w c → Led z x k c (act (source_in z) x k cp l (arrived z.outside w))
   unfolding act
   again_led Past k cp l w c known due a = repeats_past z given input k cp l w c known due a
   again_led _ k cp l w c known due a = absurd a
 
-  meets_led : (t : State) (c : Machine) → Known z t → is_due (arrived z.outside t.world) ≡ false → Meets z t c → Led z c (act (source_in z) t.focus t.stack t.copy t.memory (arrived z.outside t.world))
+  meets_led : (t : State) (c : Machine) → Known z t → is_due (arrived z.outside t.world) ≡ false → Meets z t c → Led z t.focus t.stack c (act (source_in z) t.focus t.stack t.copy t.memory (arrived z.outside t.world))
   meets_led t c known due (inl h) = law t.focus t.stack t.copy t.memory t.world c known due h
   meets_led t c known due (inr (inl h)) = again_led t.focus t.stack t.copy t.memory t.world c known due h.0
   meets_led t c known due (inr (inr h)) = waits_on z given input t c known due h
 
-  stepped_by : (c : Machine) (u : State) (event : Option (Happening Byte)) → Led z c (Went u event) → Stepped z c u
-  stepped_by c u event d = record { most = d.most; least = d.least; comes = comes_map (core_in z) (Meets z u) (Relates z u) d.most d.least c (λ m h. inl h) d.on }
+  stepped_by : (t : State) (c : Machine) (u : State) (event : Option (Happening Byte)) → is_due (arrived z.outside t.world) ≡ false → Led z t.focus t.stack c (Went u event) → Stepped z t c u
+  stepped_by t c u event free d =
+      let low = d.low in
+      let high = d.high in
+      let m = most_free z t free in
+      let n = least_free z t free in
+      record { most = d.most; least = d.least; comes = comes_map (core_in z) (Meets z u) (Relates z u) d.most d.least c (λ m h. inl h) d.on; low = omega arith; high = omega arith }
 
   -- ---- no handler is there
-  dooms : (t : State) (c : Machine) (u : State) (event : Option (Happening Byte)) → is_due (arrived z.outside t.world) ≡ true → handler_in z.program ≡ None → c.world.trace ≡ map (event_as (held z)) t.world.trace → step (source_in z) t ≡ Went u event → Stepped z c u
+  dooms : (t : State) (c : Machine) (u : State) (event : Option (Happening Byte)) → is_due (arrived z.outside t.world) ≡ true → handler_in z.program ≡ None → c.world.trace ≡ map (event_as (held z)) t.world.trace → step (source_in z) t ≡ Went u event → Stepped z t c u
   unfolding step counts enters
   dooms t c u event due none same e =
       let w = arrived z.outside t.world in
@@ -163,14 +205,17 @@ module _ (z : Scene) (given : IsLowerable z.program z.copies) (input : All (λ b
       let world = (events_count (source_in z) t u event e free).1 in
       let again : arrived z.outside u.world ≡ arrived z.outside t.world = ap (arrived z.outside) world ∙ arrived_again z.outside t.world in
       let trace : u.world.trace ≡ t.world.trace = ap (λ v. v.trace) world ∙ arrived_trace z.outside t.world in
+      let paid = least_entry z t None due none in
       record {
         most = 0;
         least = 0;
+        low = omega arith;
+        high = omega arith;
         comes = comes_here (core_in z) (Relates z u) c (inr (record { due = ap is_due again ∙ due; none = none; trace = same ∙ ap (map (event_as (held z))) (sym trace) }));
       }
 
   -- ---- the handler is entered
-  enters_led : (h : ℕ) (t : State) (c : Machine) (u : State) (event : Option (Happening Byte)) → Known z t → is_due (arrived z.outside t.world) ≡ true → handler_in z.program ≡ Some h → Meets z t c → step (source_in z) t ≡ Went u event → Stepped z c u
+  enters_led : (h : ℕ) (t : State) (c : Machine) (u : State) (event : Option (Happening Byte)) → Known z t → is_due (arrived z.outside t.world) ≡ true → handler_in z.program ≡ Some h → Meets z t c → step (source_in z) t ≡ Went u event → Stepped z t c u
   unfolding step enters
   enters_led h t c u event known due some (inr (inl a)) e =
       let inside : enters (source_in z) t ≡ true = ap (λ b. b && is_some_line (handler_in z.program)) due ∙ ap is_some_line some in
@@ -188,10 +233,12 @@ module _ (z : Scene) (given : IsLowerable z.program z.copies) (input : All (λ b
       let handler = (laws.handles h some).0 in
       let f = enters_goes z laws h t.copy t.focus t.stack t.memory t.world c some s.reached root resumable (mains_apart z laws (copy_of Isr h) t.copy t.stack refl root handler s.stack) (around z given input t known).mains due m in
       let on : Follow z 100 1 c (Went u event) = subst (Follow z 100 1 c) now f in
-      record { most = 100; least = 1; comes = comes_map (core_in z) (Mirrors z u) (Relates z u) 100 1 c (λ d q. inl (inl q)) on }
+      let m = most_entry z t (Some h) due some in
+      let n = least_entry z t (Some h) due some in
+      record { most = 100; least = 1; low = omega arith; high = omega arith; comes = comes_map (core_in z) (Mirrors z u) (Relates z u) 100 1 c (λ d q. inl (inl q)) on }
 
   -- A micro-step that goes on is followed.
-  pub step_led : (t : State) (c : Machine) (u : State) (event : Option (Happening Byte)) → Known z t → Relates z t c → step (source_in z) t ≡ Went u event → Stepped z c u
+  pub step_led : (t : State) (c : Machine) (u : State) (event : Option (Happening Byte)) → Known z t → Relates z t c → step (source_in z) t ≡ Went u event → Stepped z t c u
   unfolding step
   step_led t c u event known (inr d) e = dooms t c u event d.due d.none d.trace e
   step_led t c u event known (inl m) e =
@@ -200,9 +247,9 @@ module _ (z : Scene) (given : IsLowerable z.program z.copies) (input : All (λ b
       (λ free.
       let now : act (source_in z) t.focus t.stack t.copy t.memory (arrived z.outside t.world) ≡ Went u event =
       sym (ap (λ b. if b then interrupted (source_in z) (handler_in z.program) t.focus t.stack t.copy t.memory (arrived z.outside t.world) else act (source_in z) t.focus t.stack t.copy t.memory (arrived z.outside t.world)) free) ∙ e in
-      stepped_by c u event (subst (Led z c) now (meets_led t c known free m)))
+      stepped_by t c u event free (subst (Led z t.focus t.stack c) now (meets_led t c known free m)))
       (bool_cases (is_due (arrived z.outside t.world)))
     where
-      by_handler : (o : Option ℕ) → handler_in z.program ≡ o → is_due (arrived z.outside t.world) ≡ true → Stepped z c u
+      by_handler : (o : Option ℕ) → handler_in z.program ≡ o → is_due (arrived z.outside t.world) ≡ true → Stepped z t c u
       by_handler (Some h) some due = enters_led h t c u event known due some m e
       by_handler None none due = dooms t c u event due none (meets_trace z t c m) e

@@ -108,7 +108,7 @@ module _ (z : Scene) (given : IsLowerable z.program z.copies) (input : All (λ b
       let here : f.start ≡ start = f.node.0 in
       let is : spot ≡ stepped at start = f.there ∙ ap (stepped at) here in
       let t : HasType z.program (type_of e) v = subst (λ y. HasType z.program y v) f.node.1 f.typed in
-      subst (λ y. Led z c (act (source_in z) (Write y v at) K cp l (arrived z.outside w))) (sym is)
+      subst (λ y. Led z (Write y v at) K c (act (source_in z) (Write y v at) K cp l (arrived z.outside w))) (sym is)
       (led cp l w c (subst (λ y. Known z (state cp (Write y v at) K l w)) is known) due (stores_open z e start u (Write spot v at) k cp l w known) t (subst (λ y. Mirrors z (state cp (Write y v at) K l w) c) is h))
 
   kept_led : (e : Expression) (start spot : Spot) (u v : Datum) (at : ℕ) (k : List Pending) → u ≡ v → NodeLed z e start v v at k → Law z (Write spot v at) (In e (Stores start u) ∷ k)

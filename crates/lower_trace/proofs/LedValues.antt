@@ -45,10 +45,12 @@ use Rattle.lower_trace.proofs.Comparing.{switch_given}
 use Rattle.lower_trace.proofs.Fitting.{frame_of, width_is}
 use Rattle.lower_trace.proofs.Giving.{Around}
 use Rattle.lower_trace.proofs.Known.{Known, around}
-use Rattle.lower_trace.proofs.Leads.{Led, Law, led_by}
+use Rattle.lower_trace.proofs.Leads.{Led, Law, led_by, led_nowhere}
 use Rattle.lower_trace.proofs.Listing.{item_given}
 use Rattle.lower_trace.proofs.LocalPlaces.{listed_of}
+use Rattle.lower_trace.proofs.Looping.{turn_cost}
 use Rattle.lower_trace.proofs.Mirrors.{Mirrors}
+use Rattle.lower_trace.proofs.Prices.{turn_most}
 use Rattle.lower_trace.proofs.Rooms.{three_parts, two_parts, value_room}
 use Rattle.lower_trace.proofs.Rounds.{begins_given, steps_given}
 use Rattle.lower_trace.proofs.Scenes.{frame_is, scene_laws}
@@ -123,6 +125,11 @@ scalar_update z op value operation size ty (inr h) = pointer_scalar ty (moves_ru
     pointer_scalar (types.Array element length bytes) e = absurd (cc)
     pointer_scalar (types.Struct number) e = absurd (cc)
 
+turn_low : (shape : LoopForm) → turn_cost shape ≤ turn_most shape
+turn_low While = omega arith
+turn_low Do = omega arith
+turn_low For = omega arith
+
 module _ (z : Scene) (given : IsLowerable z.program z.copies) (input : All (λ byte. byte < 256) z.outside.input) (laws : ValueLaws z) where
   -- a part's value fits in front of the temporary bytes of its node
   fits_in : (e part : Expression) (v : Datum) (k : List Pending) (cp : CopyOf) → base (ground_in z cp) k + room z.program.sizes e ≤ frame_of z cp → room z.program.sizes part ≤ room z.program.sizes e → IsExpressionOf z.program cp.function part → IsTested z (type_of part) v
@@ -145,16 +152,17 @@ module _ (z : Scene) (given : IsLowerable z.program z.copies) (input : All (λ b
   logical_parts op left right line = three_parts (room z.program.sizes left) (room z.program.sizes right) 2
 
   conditional_on : (condition chosen otherwise : Expression) (ty : Ty) (line : ℕ) (v : Datum) (k : List Pending) (cp : CopyOf) (l : source.Memory) (w : World Byte) (c : Machine) → Known z (state cp (Holds v) (In (tree.Conditional condition chosen otherwise ty line) Nothing ∷ k) l w) → is_due (arrived z.outside w) ≡ false
-      → HasType z.program (type_of condition) v → IsTested z (type_of condition) v → Mirrors z (state cp (Holds v) (In (tree.Conditional condition chosen otherwise ty line) Nothing ∷ k) l w) c → Led z c (act (source_in z) (Holds v) (In (tree.Conditional condition chosen otherwise ty line) Nothing ∷ k) cp l (arrived z.outside w))
+      → HasType z.program (type_of condition) v → IsTested z (type_of condition) v → Mirrors z (state cp (Holds v) (In (tree.Conditional condition chosen otherwise ty line) Nothing ∷ k) l w) c → Led z (Holds v) (In (tree.Conditional condition chosen otherwise ty line) Nothing ∷ k) c (act (source_in z) (Holds v) (In (tree.Conditional condition chosen otherwise ty line) Nothing ∷ k) cp l (arrived z.outside w))
   unfolding act
   conditional_on condition chosen otherwise ty line v k cp l w c known due t tested h =
       let s = known.stands.stack.0 in
       let f = frame_is z given cp known.stands.reached in
       let fits = fits_in (tree.Conditional condition chosen otherwise ty line) condition v k cp known.stack.0 (conditional_parts condition chosen otherwise ty line) s.1 tested in
-      led_by z (4 * byte_count v + 16) 1 c _ (conditional_given z (scene_laws z given) condition chosen otherwise ty line v (type_of condition) k cp l w c t tested.some (tests_all condition v cp tested) (omega arith) due h)
+      let few = tested.few in
+      led_by z _ _ (4 * byte_count v + 16) 1 c _ (omega arith) (omega arith) (conditional_given z (scene_laws z given) condition chosen otherwise ty line v (type_of condition) k cp l w c t tested.some (tests_all condition v cp tested) (omega arith) due h)
 
   logical_on : (op : LogicalOp) (left right : Expression) (line : ℕ) (v : Datum) (k : List Pending) (cp : CopyOf) (l : source.Memory) (w : World Byte) (c : Machine) → Known z (state cp (Holds v) (In (tree.Logical op left right line) Nothing ∷ k) l w) → is_due (arrived z.outside w) ≡ false
-      → HasType z.program (type_of left) v → IsTested z (type_of left) v → Mirrors z (state cp (Holds v) (In (tree.Logical op left right line) Nothing ∷ k) l w) c → Led z c (act (source_in z) (Holds v) (In (tree.Logical op left right line) Nothing ∷ k) cp l (arrived z.outside w))
+      → HasType z.program (type_of left) v → IsTested z (type_of left) v → Mirrors z (state cp (Holds v) (In (tree.Logical op left right line) Nothing ∷ k) l w) c → Led z (Holds v) (In (tree.Logical op left right line) Nothing ∷ k) c (act (source_in z) (Holds v) (In (tree.Logical op left right line) Nothing ∷ k) cp l (arrived z.outside w))
   unfolding act
   logical_on op left right line v k cp l w c known due t tested h =
       let s = known.stands.stack.0 in
@@ -165,10 +173,11 @@ module _ (z : Scene) (given : IsLowerable z.program z.copies) (input : All (λ b
       let e = tree.Logical op left right line in
       let a = around_in z cp e Nothing k (around z given input (state cp (Holds v) (In e Nothing ∷ k) l w) known) in
       let fits = fits_in e left v k cp known.stack.0 q.0 s.1 tested in
-      led_by z (4 * byte_count v + 28) 1 c _ (logical_left z (scene_laws z given) op left right line v (type_of left) k cp l w c a t tested.some (tests_all left v cp tested) (omega arith) (omega arith) due h)
+      let all = tested.all in
+      led_by z _ _ (4 * byte_count v + 28) 1 c _ (omega arith) (omega arith) (logical_left z (scene_laws z given) op left right line v (type_of left) k cp l w c a t tested.some (tests_all left v cp tested) (omega arith) (omega arith) due h)
 
   logical_end : (op : LogicalOp) (left right : Expression) (line : ℕ) (u v : Datum) (k : List Pending) (cp : CopyOf) (l : source.Memory) (w : World Byte) (c : Machine) → Known z (state cp (Holds v) (In (tree.Logical op left right line) (One u) ∷ k) l w) → is_due (arrived z.outside w) ≡ false
-      → HasType z.program (type_of right) v → IsTested z (type_of right) v → Mirrors z (state cp (Holds v) (In (tree.Logical op left right line) (One u) ∷ k) l w) c → Led z c (act (source_in z) (Holds v) (In (tree.Logical op left right line) (One u) ∷ k) cp l (arrived z.outside w))
+      → HasType z.program (type_of right) v → IsTested z (type_of right) v → Mirrors z (state cp (Holds v) (In (tree.Logical op left right line) (One u) ∷ k) l w) c → Led z (Holds v) (In (tree.Logical op left right line) (One u) ∷ k) c (act (source_in z) (Holds v) (In (tree.Logical op left right line) (One u) ∷ k) cp l (arrived z.outside w))
   unfolding act
   logical_end op left right line u v k cp l w c known due t tested h =
       let s = known.stands.stack.0 in
@@ -179,7 +188,8 @@ module _ (z : Scene) (given : IsLowerable z.program z.copies) (input : All (λ b
       let e = tree.Logical op left right line in
       let a = around_in z cp e (One u) k (around z given input (state cp (Holds v) (In e (One u) ∷ k) l w) known) in
       let fits = fits_in e right v k cp known.stack.0 q.1 s.2 tested in
-      led_by z (4 * byte_count v + 32) 1 c _ (logical_right z (scene_laws z given) op left right line u v (type_of right) k cp l w c a t tested.some (tests_all right v cp tested) (omega arith) (omega arith) due h)
+      let few = tested.few in
+      led_by z _ _ (4 * byte_count v + 32) 1 c _ (omega arith) (omega arith) (logical_right z (scene_laws z given) op left right line u v (type_of right) k cp l w c a t tested.some (tests_all right v cp tested) (omega arith) (omega arith) due h)
 
   -- ---- a node takes a value
   nodes_take : (e : Expression) (got : Got) (v : Datum) (k : List Pending) → Law z (Holds v) (In e got ∷ k)
@@ -189,15 +199,15 @@ module _ (z : Scene) (given : IsLowerable z.program z.copies) (input : All (λ b
   nodes_take (tree.Unary op operand ty line) Nothing v k cp l w c known due h = laws.unaries op operand ty line v k cp l w c known due h
   nodes_take (tree.Binary op left right ty line) Nothing v k cp l w c known due h = by (shifts_by_constant op right) refl
     where
-      by : (b : Bool) → shifts_by_constant op right ≡ b → Led z c (act (source_in z) (Holds v) (In (tree.Binary op left right ty line) Nothing ∷ k) cp l (arrived z.outside w))
+      by : (b : Bool) → shifts_by_constant op right ≡ b → Led z (Holds v) (In (tree.Binary op left right ty line) Nothing ∷ k) c (act (source_in z) (Holds v) (In (tree.Binary op left right ty line) Nothing ∷ k) cp l (arrived z.outside w))
       by true is = laws.known_counts op left right ty line v k is cp l w c known due h
-      by false is = led_by z 0 0 c _ (binary_left z op left right ty line v k cp l w c is h)
+      by false is = led_by z _ _ 0 0 c _ (omega arith) (omega arith) (binary_left z op left right ty line v k cp l w c is h)
   nodes_take (tree.Binary op left right ty line) (One u) v k cp l w c known due h = laws.binaries op left right ty line u v k cp l w c known due h
-  nodes_take (tree.Offset op left right size ty line) Nothing v k cp l w c known due h = led_by z 0 0 c _ (offset_left z op left right size ty line v k cp l w c h)
+  nodes_take (tree.Offset op left right size ty line) Nothing v k cp l w c known due h = led_by z _ _ 0 0 c _ (omega arith) (omega arith) (offset_left z op left right size ty line v k cp l w c h)
   nodes_take (tree.Offset op left right size ty line) (One u) v k cp l w c known due h = laws.offsets op left right size ty line u v k cp l w c known due h
-  nodes_take (tree.Difference left right size line) Nothing v k cp l w c known due h = led_by z 0 0 c _ (difference_left z left right size line v k cp l w c h)
+  nodes_take (tree.Difference left right size line) Nothing v k cp l w c known due h = led_by z _ _ 0 0 c _ (omega arith) (omega arith) (difference_left z left right size line v k cp l w c h)
   nodes_take (tree.Difference left right size line) (One u) v k cp l w c known due h = laws.differences left right size line u v k cp l w c known due h
-  nodes_take (tree.Logical op left right line) Nothing datum.Missing k cp l w c known due h = record { most = 0; least = 0; on = tt }
+  nodes_take (tree.Logical op left right line) Nothing datum.Missing k cp l w c known due h = led_nowhere z _ _ c _ (λ q n. tt)
   nodes_take (tree.Logical op left right line) Nothing (datum.Number q) k cp l w c known due h =
       let f = known.stands.focus in
       let t = subst (λ y. HasType z.program y (datum.Number q)) f.1 f.2 in
@@ -206,7 +216,7 @@ module _ (z : Scene) (given : IsLowerable z.program z.copies) (input : All (λ b
       let f = known.stands.focus in
       let t = subst (λ y. HasType z.program y (datum.Pointer x)) f.1 f.2 in
       logical_on op left right line (datum.Pointer x) k cp l w c known due t (pointer_tested z (type_of left) x t) h
-  nodes_take (tree.Logical op left right line) (One u) datum.Missing k cp l w c known due h = record { most = 0; least = 0; on = tt }
+  nodes_take (tree.Logical op left right line) (One u) datum.Missing k cp l w c known due h = led_nowhere z _ _ c _ (λ q n. tt)
   nodes_take (tree.Logical op left right line) (One u) (datum.Number q) k cp l w c known due h =
       let f = known.stands.focus in
       let t = subst (λ y. HasType z.program y (datum.Number q)) f.1 f.2 in
@@ -215,7 +225,7 @@ module _ (z : Scene) (given : IsLowerable z.program z.copies) (input : All (λ b
       let f = known.stands.focus in
       let t = subst (λ y. HasType z.program y (datum.Pointer x)) f.1 f.2 in
       logical_end op left right line u (datum.Pointer x) k cp l w c known due t (pointer_tested z (type_of right) x t) h
-  nodes_take (tree.Conditional condition chosen otherwise ty line) Nothing datum.Missing k cp l w c known due h = record { most = 0; least = 0; on = tt }
+  nodes_take (tree.Conditional condition chosen otherwise ty line) Nothing datum.Missing k cp l w c known due h = led_nowhere z _ _ c _ (λ q n. tt)
   nodes_take (tree.Conditional condition chosen otherwise ty line) Nothing (datum.Number q) k cp l w c known due h =
       let f = known.stands.focus in
       let t = subst (λ y. HasType z.program y (datum.Number q)) f.1 f.2 in
@@ -224,14 +234,14 @@ module _ (z : Scene) (given : IsLowerable z.program z.copies) (input : All (λ b
       let f = known.stands.focus in
       let t = subst (λ y. HasType z.program y (datum.Pointer x)) f.1 f.2 in
       conditional_on condition chosen otherwise ty line (datum.Pointer x) k cp l w c known due t (pointer_tested z (type_of condition) x t) h
-  nodes_take (tree.Conditional condition chosen otherwise ty line) Chosen v k cp l w c known due h = led_by z 4 0 c _ (chosen_given z condition chosen otherwise ty line v k cp l w c due h)
-  nodes_take (tree.Comma left right ty line) Nothing v k cp l w c known due h = led_by z 0 0 c _ (comma_left z left right ty line v k cp l w c h)
-  nodes_take (tree.Assign place value ty line) (At spot) v k cp l w c known due h = led_by z 0 0 c _ (assign_given z place value ty line spot v k cp l w c h)
+  nodes_take (tree.Conditional condition chosen otherwise ty line) Chosen v k cp l w c known due h = led_by z _ _ 4 0 c _ (omega arith) (omega arith) (chosen_given z condition chosen otherwise ty line v k cp l w c due h)
+  nodes_take (tree.Comma left right ty line) Nothing v k cp l w c known due h = led_by z _ _ 0 0 c _ (omega arith) (omega arith) (comma_left z left right ty line v k cp l w c h)
+  nodes_take (tree.Assign place value ty line) (At spot) v k cp l w c known due h = led_by z _ _ 0 0 c _ (omega arith) (omega arith) (assign_given z place value ty line spot v k cp l w c h)
   nodes_take (tree.Update op place value operation size ty line) (At spot) v k cp l w c known due h =
-      led_by z 0 0 c _ (update_given z op place value operation size ty line spot v k cp l w c (scalar_update z op (type_of value) operation size ty (update_rule z.program op place value operation size ty line known.stands.stack.0.0).1) h)
+      led_by z _ _ 0 0 c _ (omega arith) (omega arith) (update_given z op place value operation size ty line spot v k cp l w c (scalar_update z op (type_of value) operation size ty (update_rule z.program op place value operation size ty line known.stands.stack.0.0).1) h)
   nodes_take (tree.Update op place value operation size ty line) (AtWith spot u) v k cp l w c known due h = laws.updates op place value operation size ty line spot u v k cp l w c known due h
   nodes_take (tree.Step op place operation size ty line) (At spot) v k cp l w c known due h = laws.steps op place operation size ty line spot v k cp l w c known due h
-  nodes_take (tree.Call function all ty line) (Args before more) v k cp l w c known due h = led_by z 0 0 c _ (argument_given z function all ty line before more v k cp l w c known.stands.stack.2 h)
+  nodes_take (tree.Call function all ty line) (Args before more) v k cp l w c known due h = led_by z _ _ 0 0 c _ (omega arith) (omega arith) (argument_given z function all ty line before more v k cp l w c known.stands.stack.2 h)
   nodes_take _ _ v k cp l w c known due h = absurd known.stands.focus.1
 
   -- ---- a statement takes a value
@@ -249,7 +259,7 @@ module _ (z : Scene) (given : IsLowerable z.program z.copies) (input : All (λ b
 
   if_on : (chain : Arms) (otherwise : LastArm) (line : ℕ) (condition : Expression) (chosen : Statement) (at : ℕ) (more : Arms) (v : Datum) (k : List Pending) (cp : CopyOf) (l : source.Memory) (w : World Byte) (c : Machine)
       → Known z (state cp (Holds v) (Doing (tree.If chain otherwise line) (Picks (tree.OneArm condition chosen at) more) ∷ k) l w) → is_due (arrived z.outside w) ≡ false → HasType z.program (type_of condition) v → IsTested z (type_of condition) v
-      → Mirrors z (state cp (Holds v) (Doing (tree.If chain otherwise line) (Picks (tree.OneArm condition chosen at) more) ∷ k) l w) c → Led z c (act (source_in z) (Holds v) (Doing (tree.If chain otherwise line) (Picks (tree.OneArm condition chosen at) more) ∷ k) cp l (arrived z.outside w))
+      → Mirrors z (state cp (Holds v) (Doing (tree.If chain otherwise line) (Picks (tree.OneArm condition chosen at) more) ∷ k) l w) c → Led z (Holds v) (Doing (tree.If chain otherwise line) (Picks (tree.OneArm condition chosen at) more) ∷ k) c (act (source_in z) (Holds v) (Doing (tree.If chain otherwise line) (Picks (tree.OneArm condition chosen at) more) ∷ k) cp l (arrived z.outside w))
   unfolding act
   if_on chain otherwise line condition chosen at more v k cp l w c known due t tested h =
       let p = known.stands.stack.2.0.0.1 in
@@ -258,11 +268,11 @@ module _ (z : Scene) (given : IsLowerable z.program z.copies) (input : All (λ b
       let part = arm_part condition chosen at in
       let r = value_room z.program cp.function condition p in
       let a = tested.all in
-      led_by z (4 * byte_count v + 16 + end_joins chain more otherwise) 1 c _ (if_given z (scene_laws z given) chain otherwise line condition chosen at more v (type_of condition) k cp l w c known.stack.1.4 t tested.some (tests_all condition v cp tested) (omega arith) due h)
+      led_by z _ _ (4 * byte_count v + 16 + end_joins chain more otherwise) 1 c _ (omega arith) (omega arith) (if_given z (scene_laws z given) chain otherwise line condition chosen at more v (type_of condition) k cp l w c known.stack.1.4 t tested.some (tests_all condition v cp tested) (omega arith) due h)
 
   test_on : (shape : LoopForm) (begins : Option Expression) (condition : Expression) (step : Option Expression) (body : Statement) (line : ℕ) (v : Datum) (k : List Pending) (cp : CopyOf) (l : source.Memory) (w : World Byte) (c : Machine)
       → Known z (state cp (Holds v) (Doing (tree.Loop shape begins (Some condition) step body line) Tests ∷ k) l w) → is_due (arrived z.outside w) ≡ false → HasType z.program (type_of condition) v → IsTested z (type_of condition) v
-      → Mirrors z (state cp (Holds v) (Doing (tree.Loop shape begins (Some condition) step body line) Tests ∷ k) l w) c → Led z c (act (source_in z) (Holds v) (Doing (tree.Loop shape begins (Some condition) step body line) Tests ∷ k) cp l (arrived z.outside w))
+      → Mirrors z (state cp (Holds v) (Doing (tree.Loop shape begins (Some condition) step body line) Tests ∷ k) l w) c → Led z (Holds v) (Doing (tree.Loop shape begins (Some condition) step body line) Tests ∷ k) c (act (source_in z) (Holds v) (Doing (tree.Loop shape begins (Some condition) step body line) Tests ∷ k) cp l (arrived z.outside w))
   unfolding act
   test_on shape begins condition step body line v k cp l w c known due t tested h =
       let p = known.stands.stack.0.1.1 in
@@ -271,7 +281,8 @@ module _ (z : Scene) (given : IsLowerable z.program z.copies) (input : All (λ b
       let part = loop_part shape begins condition step body line in
       let r = value_room z.program cp.function condition p in
       let a = tested.all in
-      led_by z (4 * byte_count v + 24) 1 c _ (test_given z (scene_laws z given) shape begins condition step body line v (type_of condition) k cp l w c t tested.some (tests_all condition v cp tested) (omega arith) due h)
+      let turns = turn_low shape in
+      led_by z _ _ (4 * byte_count v + (20 + turn_cost shape)) 1 c _ (omega arith) (omega arith) (test_given z (scene_laws z given) shape begins condition step body line v (type_of condition) k cp l w c t tested.some (tests_all condition v cp tested) (omega arith) due h)
 
   -- only a `for` waits for what comes before its condition or behind its body
   none_there : (o : Option Expression) (ty : Ty) → o ≡ None → IsTypeOfAny o ty → ⊥
@@ -282,21 +293,21 @@ module _ (z : Scene) (given : IsLowerable z.program z.copies) (input : All (λ b
   unfolding act
   begins_on While begins condition step body line v k cp l w c known due h = absurd (none_there begins known.stands.focus.0 known.stack.0.1.0.0 known.stands.focus.1)
   begins_on Do begins condition step body line v k cp l w c known due h = absurd (none_there begins known.stands.focus.0 known.stack.0.1.0.0 known.stands.focus.1)
-  begins_on For begins condition step body line v k cp l w c known due h = led_by z 4 0 c _ (begins_given z begins condition step body line v k cp l w c due h)
+  begins_on For begins condition step body line v k cp l w c known due h = led_by z _ _ 0 0 c _ (omega arith) (omega arith) (begins_given z begins condition step body line v k cp l w c due h)
 
   steps_on : (shape : LoopForm) (begins condition step : Option Expression) (body : Statement) (line : ℕ) (v : Datum) (k : List Pending) → Law z (Holds v) (Doing (tree.Loop shape begins condition step body line) Steps ∷ k)
   unfolding act
   steps_on While begins condition step body line v k cp l w c known due h = absurd (none_there step known.stands.focus.0 known.stack.0.1.0.1 known.stands.focus.1)
   steps_on Do begins condition step body line v k cp l w c known due h = absurd (none_there step known.stands.focus.0 known.stack.0.1.0.1 known.stands.focus.1)
-  steps_on For begins condition step body line v k cp l w c known due h = led_by z 8 1 c _ (steps_given z begins condition step body line v k cp l w c due h)
+  steps_on For begins condition step body line v k cp l w c known due h = led_by z _ _ 4 1 c _ (omega arith) (omega arith) (steps_given z begins condition step body line v k cp l w c due h)
 
   statements_take : (t : Statement) (stage : Stage) (v : Datum) (k : List Pending) → Law z (Holds v) (Doing t stage ∷ k)
   unfolding act truth_of
-  statements_take (tree.Expr e line) Tests v k cp l w c known due h = led_by z 0 0 c _ (expression_given z e line v k cp l w c h)
-  statements_take (tree.InitScalar local e line) Tests v k cp l w c known due h = led_by z 0 0 c _ (scalar_given z local e line v k cp l w c h)
+  statements_take (tree.Expr e line) Tests v k cp l w c known due h = led_by z _ _ 0 0 c _ (omega arith) (omega arith) (expression_given z e line v k cp l w c h)
+  statements_take (tree.InitScalar local e line) Tests v k cp l w c known due h = led_by z _ _ 0 0 c _ (omega arith) (omega arith) (scalar_given z local e line v k cp l w c h)
   statements_take (tree.InitList local all line) (AtItem (tree.Scalar offset e) rest) v k cp l w c known due h =
-      led_by z 0 0 c _ (item_given z local all line k cp (listed_of z (scene_laws z given) cp local all known.stands.reached known.stands.stack.0.1).size offset e rest v l w c h)
-  statements_take (tree.If chain otherwise line) (Picks (tree.OneArm condition chosen at) more) datum.Missing k cp l w c known due h = record { most = 0; least = 0; on = tt }
+      led_by z _ _ 0 0 c _ (omega arith) (omega arith) (item_given z local all line k cp (listed_of z (scene_laws z given) cp local all known.stands.reached known.stands.stack.0.1).size offset e rest v l w c h)
+  statements_take (tree.If chain otherwise line) (Picks (tree.OneArm condition chosen at) more) datum.Missing k cp l w c known due h = led_nowhere z _ _ c _ (λ q n. tt)
   statements_take (tree.If chain otherwise line) (Picks (tree.OneArm condition chosen at) more) (datum.Number q) k cp l w c known due h =
       let f = known.stands.focus in
       let t = subst (λ y. HasType z.program y (datum.Number q)) f.1 f.2 in
@@ -308,7 +319,7 @@ module _ (z : Scene) (given : IsLowerable z.program z.copies) (input : All (λ b
   statements_take (tree.Loop shape begins condition step body line) Begins v k cp l w c known due h = begins_on shape begins condition step body line v k cp l w c known due h
   statements_take (tree.Loop shape begins condition step body line) Steps v k cp l w c known due h = steps_on shape begins condition step body line v k cp l w c known due h
   statements_take (tree.Loop shape begins None step body line) Tests v k cp l w c known due h = absurd known.stands.focus.1
-  statements_take (tree.Loop shape begins (Some condition) step body line) Tests datum.Missing k cp l w c known due h = record { most = 0; least = 0; on = tt }
+  statements_take (tree.Loop shape begins (Some condition) step body line) Tests datum.Missing k cp l w c known due h = led_nowhere z _ _ c _ (λ q n. tt)
   statements_take (tree.Loop shape begins (Some condition) step body line) Tests (datum.Number q) k cp l w c known due h =
       let f = known.stands.focus in
       let t = subst (λ y. HasType z.program y (datum.Number q)) f.1 f.2 in
@@ -317,14 +328,14 @@ module _ (z : Scene) (given : IsLowerable z.program z.copies) (input : All (λ b
       let f = known.stands.focus in
       let t = subst (λ y. HasType z.program y (datum.Pointer x)) f.1 f.2 in
       test_on shape begins condition step body line (datum.Pointer x) k cp l w c known due t (pointer_tested z (type_of condition) x t) h
-  statements_take (tree.Switch e cases default ss line) Tests v k cp l w c known due h = led_by z 0 0 c _ (switch_given z e cases default ss line k cp l v w c due h)
+  statements_take (tree.Switch e cases default ss line) Tests v k cp l w c known due h = led_by z _ _ 0 0 c _ (omega arith) (omega arith) (switch_given z e cases default ss line k cp l v w c due h)
   statements_take (tree.Return (Some e) line) Tests v k cp l w c known due h = laws.returns e line v k cp l w c known due h
   statements_take (tree.Return None line) Tests v k cp l w c known due h = absurd known.stands.focus.1
   statements_take _ _ v k cp l w c known due h = absurd known.stands.focus.1
 
   places_take : (place : Place) (v : Datum) (k : List Pending) → Law z (Holds v) (To place ∷ k)
   unfolding act
-  places_take (tree.Deref pointer ty line) v k cp l w c known due h = led_by z 0 0 c _ (deref_given z pointer ty line v k cp l w c known.stands.stack.1 h)
+  places_take (tree.Deref pointer ty line) v k cp l w c known due h = led_by z _ _ 0 0 c _ (omega arith) (omega arith) (deref_given z pointer ty line v k cp l w c known.stands.stack.1 h)
   places_take _ v k cp l w c known due h = absurd known.stands.focus.1
 
   -- A value goes to the frame that waits for it.

@@ -13,6 +13,6 @@ use Rattle.src_rules.specs.Step.{act}
 use Rattle.std.proofs.Common.{false, ◌<◌, ◌≡◌}
 use Rattle.std.specs.List.{All}
 
-pub waits_on : (z : Scene) (given : IsLowerable z.program z.copies) (input : All (λ byte. byte < 256) z.outside.input) (t : State) (c : Machine) → Known z t → is_due (arrived z.outside t.world) ≡ false → Waiting z t c → Led z c (act (source_in z) t.focus t.stack t.copy t.memory (arrived z.outside t.world))
+pub waits_on : (z : Scene) (given : IsLowerable z.program z.copies) (input : All (λ byte. byte < 256) z.outside.input) (t : State) (c : Machine) → Known z t → is_due (arrived z.outside t.world) ≡ false → Waiting z t c → Led z t.focus t.stack c (act (source_in z) t.focus t.stack t.copy t.memory (arrived z.outside t.world))
 waits_on z given input t c known due (CountWaits p) = counts_on z given input t c known due p
 waits_on z given input t c known due (CopyWaits fixed p) = copies_wait z given input t c known fixed p

@@ -17,7 +17,7 @@ use Rattle.src_values.specs.Data as datum
 use Rattle.src_values.specs.Data.{Datum}
 use Rattle.src_values.specs.Memory as source
 use Rattle.src_values.specs.Objects.{behind, local_of}
-use Rattle.src_values.specs.Values.{byte_count}
+use Rattle.src_values.specs.Values.{byte_count, written_bytes}
 use Rattle.src_values.specs.declared.objects.Byte.{Byte}
 use Rattle.src_values.specs.declared.objects.CopyOf.{CopyOf}
 use Rattle.src_values.specs.declared.objects.Spot.{Spot}
@@ -33,13 +33,14 @@ use Rattle.lower_trace.proofs.LedLists.{own_low}
 use Rattle.lower_trace.proofs.LedValues.{IsTested, number_tested, pointer_tested}
 use Rattle.lower_trace.proofs.LocalPlaces.{listed_there}
 use Rattle.lower_trace.proofs.Mirrors.{Mirrors}
+use Rattle.lower_trace.proofs.PriceTests.{write_room, write_one}
 use Rattle.lower_trace.proofs.Rests.{scalar_write}
 use Rattle.lower_trace.proofs.Rooms.{assign_parts, value_room}
 use Rattle.lower_trace.proofs.Scenes.{frame_is, scene_laws}
 
 module _ (z : Scene) (given : IsLowerable z.program z.copies) (input : All (λ byte. byte < 256) z.outside.input) where
   scalar_on : (local : ℕ) (e : Expression) (line : ℕ) (spot : Spot) (v : Datum) (at : ℕ) (k : List Pending) (cp : CopyOf) (l : source.Memory) (w : World Byte) (c : Machine) → Known z (state cp (Write spot v at) (Doing (tree.InitScalar local e line) Fills ∷ k) l w) → is_due (arrived z.outside w) ≡ false
-      → IsTested z (type_of e) v → Mirrors z (state cp (Write spot v at) (Doing (tree.InitScalar local e line) Fills ∷ k) l w) c → Led z c (act (source_in z) (Write spot v at) (Doing (tree.InitScalar local e line) Fills ∷ k) cp l (arrived z.outside w))
+      → IsTested z (type_of e) v → Mirrors z (state cp (Write spot v at) (Doing (tree.InitScalar local e line) Fills ∷ k) l w) c → Led z (Write spot v at) (Doing (tree.InitScalar local e line) Fills ∷ k) c (act (source_in z) (Write spot v at) (Doing (tree.InitScalar local e line) Fills ∷ k) cp l (arrived z.outside w))
   unfolding act statement_room
   scalar_on local e line spot v at k cp l w c known due tested h =
       let K = Doing (tree.InitScalar local e line) Fills ∷ k in
@@ -56,9 +57,10 @@ module _ (z : Scene) (given : IsLowerable z.program z.copies) (input : All (λ b
       let fits = known.stack.0.0 in
       let part = (assign_parts 0 forms.Fixed (room z.program.sizes e) (value_bytes z.program.sizes e)).1 in
       let frame = frame_is z given cp s.reached in
+      let same : written_bytes spot v ≡ byte_count v = ap (λ y. written_bytes y v) is in
       let q = either (nat_lt at (byte_count v)) 6 0 in
       let n = one_if (nat_lt at (byte_count v)) in
-      led_by z q n c _
+      led_by z _ _ q n c _ (write_room spot v at 6 0 0 same (omega arith) (omega arith)) (write_one spot v at same)
       (subst (λ y. Mirrors z (state cp (Write y v at) K l w) c → Follow z q n c (write (source_in z) y v at K cp l (arrived z.outside w))) (sym is)
       (λ m. scalar_write z (scene_laws z given) cp l local e line v at k w c (around z given input t known) (reached_below z given input t known) (lowest z given input cp s.reached) there.starts there.there (all ∙ sym wide) (omega arith) (own_low z given input cp s.reached) due m) h)
 

@@ -69,6 +69,12 @@ module _ (z : Scene) (shape : LoopForm) (begins condition step : Option Expressi
   unfolding active
   into d p = arrive z cp (Run body) (Doing loop Turns ∷ k) l w m d p agrees holds tt
 
+-- The next turn of a `do` begins with a jump behind its condition.
+abbrev pub turn_cost : LoopForm → ℕ
+turn_cost While = 0
+turn_cost Do = 4
+turn_cost For = 0
+
 condition_split : (g : Ground) (t : Expression) (x : Option Expression) (b : List Tree) → x ≡ Some t → todo (condition_code g x ++ b) [] ≡ todo (value_code g t) (todo (tested_condition g x ++ b) [])
 condition_split g t x b e =
     let here : todo (condition_code g (Some t) ++ b) [] ≡ todo (value_code g t) (todo (tested_condition g (Some t) ++ b) []) = simp todo_join in
@@ -78,12 +84,10 @@ module _ (z : Scene) (begins condition step : Option Expression) (body : Stateme
   -- A turn begins, where the code behind the condition is left.
   pub turn_then : (shape : LoopForm) (c : Machine)
       → Placed (core_in z) (number z cp) None (todo (behind_test (ground_in z cp) shape step (stmt_code (ground_in z cp) (jumps_in shape) body)) []) (stack_after z (ground_in z cp) (Doing (tree.Loop shape begins condition step body line) Tests ∷ k)) m (world_as (held z) (arrived z.outside w)) c
-      → Follow z 4 0 c (turn (tree.Loop shape begins condition step body line) body k cp l (arrived z.outside w))
-  turn_then While c p = comes_within (core_in z) (Turned z While begins condition step body line k cp l w m due agrees holds) 0 0 4 0 c (into z While begins condition step body line k cp l w m due agrees holds c p) (omega arith) (omega arith)
+      → Follow z (turn_cost shape) 0 c (turn (tree.Loop shape begins condition step body line) body k cp l (arrived z.outside w))
+  turn_then While c p = into z While begins condition step body line k cp l w m due agrees holds c p
   turn_then For c p =
-      comes_within (core_in z) (Turned z For begins condition step body line k cp l w m due agrees holds) 0 0 4 0 c
-      (once_then z For begins condition step body line k cp l w m due agrees holds (Turned z For begins condition step body line k cp l w m due agrees holds) (any_code (ground_in z cp) step) c p (into z For begins condition step body line k cp l w m due agrees holds))
-      (omega arith) (omega arith)
+      once_then z For begins condition step body line k cp l w m due agrees holds (Turned z For begins condition step body line k cp l w m due agrees holds) (any_code (ground_in z cp) step) c p (into z For begins condition step body line k cp l w m due agrees holds)
   turn_then Do c p =
       let T = Turned z Do begins condition step body line k cp l w m due agrees holds in
       let g = ground_in z cp in
@@ -99,7 +103,7 @@ module _ (z : Scene) (begins condition step : Option Expression) (body : Stateme
   -- the condition comes next
   pub test_then : (shape : LoopForm) (now : Option Expression) (c : Machine) → condition ≡ now
       → Placed (core_in z) (number z cp) None (todo (condition_code (ground_in z cp) condition ++ behind_test (ground_in z cp) shape step (stmt_code (ground_in z cp) (jumps_in shape) body)) []) (stack_after z (ground_in z cp) (Doing (tree.Loop shape begins condition step body line) Tests ∷ k)) m (world_as (held z) (arrived z.outside w)) c
-      → Follow z 4 0 c (test (tree.Loop shape begins condition step body line) now body k cp l (arrived z.outside w))
+      → Follow z (turn_cost shape) 0 c (test (tree.Loop shape begins condition step body line) now body k cp l (arrived z.outside w))
   unfolding active
   test_then shape None c e p =
       turn_then shape c
@@ -107,7 +111,7 @@ module _ (z : Scene) (begins condition step : Option Expression) (body : Stateme
   test_then shape (Some t) c e p =
       let T = Mirrors z (state cp (Eval t) (Doing (tree.Loop shape begins condition step body line) Tests ∷ k) l (arrived z.outside w)) in
       let b = behind_test (ground_in z cp) shape step (stmt_code (ground_in z cp) (jumps_in shape) body) in
-      comes_within (core_in z) T 0 0 4 0 c
+      comes_within (core_in z) T 0 0 (turn_cost shape) 0 c
       (arrive z cp (Eval t) (Doing (tree.Loop shape begins condition step body line) Tests ∷ k) l w m c
       (subst (λ y. Placed (core_in z) (number z cp) None y (stack_after z (ground_in z cp) (Doing (tree.Loop shape begins condition step body line) Tests ∷ k)) m (world_as (held z) (arrived z.outside w)) c) (condition_split (ground_in z cp) t condition b e) p)
       agrees holds tt)
@@ -115,18 +119,16 @@ module _ (z : Scene) (begins condition step : Option Expression) (body : Stateme
 
   -- a turn begins directly, as in a `do`
   pub enters_do : (c : Machine) → Placed (core_in z) (number z cp) None (todo (code.Loop (loop_body (ground_in z cp) Do condition step (stmt_code (ground_in z cp) (jumps_in Do) body)) ∷ []) (code_after (ground_in z cp) k)) (stack_after z (ground_in z cp) k) m (world_as (held z) (arrived z.outside w)) c
-      → Follow z 4 0 c (turn (tree.Loop Do begins condition step body line) body k cp l (arrived z.outside w))
+      → Follow z 0 0 c (turn (tree.Loop Do begins condition step body line) body k cp l (arrived z.outside w))
   enters_do c p =
       let T = Turned z Do begins condition step body line k cp l w m due agrees holds in
       let g = ground_in z cp in
       let no = due_below z (arrived z.outside w) due in
       let ag = again_below z w in
       let b = stmt_code g (jumps_in Do) body in
-      comes_within (core_in z) T 0 0 4 0 c
-      (loop_then (core_in z) T (number z cp) None (world_as (held z) (arrived z.outside w)) no ag (loop_body g Do condition step b) (code_after g k) (stack_after z g k) m c 0 0 p
+      loop_then (core_in z) T (number z cp) None (world_as (held z) (arrived z.outside w)) no ag (loop_body g Do condition step b) (code_after g k) (stack_after z g k) m c 0 0 p
       (λ d pd. many_then (core_in z) T (number z cp) None (world_as (held z) (arrived z.outside w)) no ag (once b ++ condition_code g condition) [] (InLoop (loop_body g Do condition step b) (code_after g k) ∷ stack_after z g k) m d 0 0 pd
-      (λ e pe. once_then z Do begins condition step body line k cp l w m due agrees holds T (condition_code g condition) e pe (into z Do begins condition step body line k cp l w m due agrees holds))))
-      (omega arith) (omega arith)
+      (λ e pe. once_then z Do begins condition step body line k cp l w m due agrees holds T (condition_code g condition) e pe (into z Do begins condition step body line k cp l w m due agrees holds)))
 
   -- the loop is entered: its body's first operations come next
   pub opened_loop : (q e : ℕ) (T : Machine → Type 0) (r : List Tree) (c : Machine) → Placed (core_in z) (number z cp) None (todo (code.Loop (many r) ∷ []) (code_after (ground_in z cp) k)) (stack_after z (ground_in z cp) k) m (world_as (held z) (arrived z.outside w)) c
@@ -140,7 +142,7 @@ module _ (z : Scene) (begins condition step : Option Expression) (body : Stateme
   -- the condition comes behind other operations
   pub test_after : (shape : LoopForm) (now : Option Expression) (c : Machine) (q e : ℕ) → condition ≡ now
       → ((T : Machine → Type 0)
-      → ((d : Machine) → Placed (core_in z) (number z cp) None (todo (condition_code (ground_in z cp) condition ++ behind_test (ground_in z cp) shape step (stmt_code (ground_in z cp) (jumps_in shape) body)) []) (stack_after z (ground_in z cp) (Doing (tree.Loop shape begins condition step body line) Tests ∷ k)) m (world_as (held z) (arrived z.outside w)) d → Comes (core_in z) T 4 0 d)
+      → ((d : Machine) → Placed (core_in z) (number z cp) None (todo (condition_code (ground_in z cp) condition ++ behind_test (ground_in z cp) shape step (stmt_code (ground_in z cp) (jumps_in shape) body)) []) (stack_after z (ground_in z cp) (Doing (tree.Loop shape begins condition step body line) Tests ∷ k)) m (world_as (held z) (arrived z.outside w)) d → Comes (core_in z) T (turn_cost shape) 0 d)
       → Comes (core_in z) T q e c)
       → Follow z q e c (test (tree.Loop shape begins condition step body line) now body k cp l (arrived z.outside w))
   test_after shape None c q e is before = before (Mirrors z (state cp (Run body) (Doing (tree.Loop shape begins condition step body line) Turns ∷ k) l (arrived z.outside w))) (λ d pd. test_then shape None d is pd)
@@ -170,15 +172,15 @@ module _ (z : Scene) (begins condition step : Option Expression) (body : Stateme
 
   -- ---- between a turn and the next condition
   pub while_again : (T : Machine → Type 0) (c : Machine) → Placed (core_in z) (number z cp) None [] (stack_after z (ground_in z cp) (Doing (tree.Loop While begins condition step body line) Tests ∷ k)) m (world_as (held z) (arrived z.outside w)) c
-      → ((d : Machine) → Placed (core_in z) (number z cp) None (todo (condition_code (ground_in z cp) condition ++ behind_test (ground_in z cp) While step (stmt_code (ground_in z cp) (jumps_in While) body)) []) (stack_after z (ground_in z cp) (Doing (tree.Loop While begins condition step body line) Tests ∷ k)) m (world_as (held z) (arrived z.outside w)) d → Comes (core_in z) T 4 0 d)
-      → Comes (core_in z) T 8 1 c
-  while_again T c p next = around_then While T 4 0 c (condition_code (ground_in z cp) condition ++ stmt_code (ground_in z cp) (jumps_in While) body) refl p next
+      → ((d : Machine) → Placed (core_in z) (number z cp) None (todo (condition_code (ground_in z cp) condition ++ behind_test (ground_in z cp) While step (stmt_code (ground_in z cp) (jumps_in While) body)) []) (stack_after z (ground_in z cp) (Doing (tree.Loop While begins condition step body line) Tests ∷ k)) m (world_as (held z) (arrived z.outside w)) d → Comes (core_in z) T 0 0 d)
+      → Comes (core_in z) T 4 1 c
+  while_again T c p next = around_then While T 0 0 c (condition_code (ground_in z cp) condition ++ stmt_code (ground_in z cp) (jumps_in While) body) refl p next
 
   pub for_again : (T : Machine → Type 0) (c : Machine) → Placed (core_in z) (number z cp) None [] (stack_after z (ground_in z cp) (Doing (tree.Loop For begins condition step body line) Tests ∷ k)) m (world_as (held z) (arrived z.outside w)) c
-      → ((d : Machine) → Placed (core_in z) (number z cp) None (todo (condition_code (ground_in z cp) condition ++ behind_test (ground_in z cp) For step (stmt_code (ground_in z cp) (jumps_in For) body)) []) (stack_after z (ground_in z cp) (Doing (tree.Loop For begins condition step body line) Tests ∷ k)) m (world_as (held z) (arrived z.outside w)) d → Comes (core_in z) T 4 0 d)
-      → Comes (core_in z) T 8 1 c
+      → ((d : Machine) → Placed (core_in z) (number z cp) None (todo (condition_code (ground_in z cp) condition ++ behind_test (ground_in z cp) For step (stmt_code (ground_in z cp) (jumps_in For) body)) []) (stack_after z (ground_in z cp) (Doing (tree.Loop For begins condition step body line) Tests ∷ k)) m (world_as (held z) (arrived z.outside w)) d → Comes (core_in z) T 0 0 d)
+      → Comes (core_in z) T 4 1 c
   for_again T c p next =
       let g = ground_in z cp in
       let b = stmt_code g (jumps_in For) body in
-      around_then For T 4 0 c (condition_code g condition ++ once b ++ any_code g step) refl p
+      around_then For T 0 0 c (condition_code g condition ++ once b ++ any_code g step) refl p
       (λ d pd. next d (subst (λ y. Placed (core_in z) (number z cp) None (todo y []) (stack_after z g (Doing (tree.Loop For begins condition step body line) Tests ∷ k)) m (world_as (held z) (arrived z.outside w)) d) (append_assoc (condition_code g condition) (once b) (any_code g step)) pd))

@@ -89,7 +89,7 @@ pointer_held z o f i lt = refl
 -- the address of a fixed place is set, and that of a computed one stands there
 abbrev pub address_most : place.Spot → ℕ
 address_most (Fixed byte) = 8
-address_most (Bit register bit) = 8
+address_most (Bit register bit) = 0
 address_most Computed = 0
 
 module _ (z : Scene) (laws : SceneLaws z) where

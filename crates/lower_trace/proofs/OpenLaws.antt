@@ -19,7 +19,6 @@ use Rattle.src_values.specs.Data as datum
 use Rattle.src_values.specs.Data.{Datum}
 use Rattle.src_values.specs.Values.{byte_count}
 use Rattle.src_values.specs.declared.objects.Byte.{Byte}
-use Rattle.src_values.specs.declared.objects.Pointer.{Pointer}
 use Rattle.src_values.specs.declared.objects.Spot.{Spot}
 use Rattle.lower_trace.specs.Lowering.{IsLowerable}
 use Rattle.lower_trace.proofs.Changing.{IsSum}
@@ -49,7 +48,7 @@ use Rattle.lower_trace.proofs.LedNulls.{null_casts, null_converts}
 use Rattle.lower_trace.proofs.LedOperators.{unaries, plain_binaries}
 use Rattle.lower_trace.proofs.LedPlaces.{PlaceLaws, places}
 use Rattle.lower_trace.proofs.LedReads.{HaveBytes, empty_items, empty_skims, plain_skims, structures_fetched, void_reads}
-use Rattle.lower_trace.proofs.LedRuns.{Followed, followed}
+use Rattle.lower_trace.proofs.LedRuns.{Followed, followed, most_to, least_to}
 use Rattle.lower_trace.proofs.LedSkims.{structures_found, structures_skimmed}
 use Rattle.lower_trace.proofs.LedSteps.{NodeLaws}
 use Rattle.lower_trace.proofs.LedStores.{carries_open, node_writes}
@@ -256,5 +255,5 @@ module _ (z : Scene) (given : IsLowerable z.program z.copies) (input : All (λ b
   }
 
   -- Byte code follows each state of a run.
-  pub run_followed : (n : ℕ) → Followed z (moment (source_in z) n)
+  pub run_followed : (n : ℕ) → Followed z (moment (source_in z) n) (most_to z n) (least_to z n)
   run_followed n = followed z given input node_laws n

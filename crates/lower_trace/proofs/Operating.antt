@@ -26,7 +26,7 @@ use Rattle.lower_trace.proofs.Cuts.{again}
 use Rattle.lower_trace.proofs.Kept.{bytes_small}
 use Rattle.lower_trace.proofs.Mirrors.{HasDatum}
 use Rattle.lower_trace.proofs.NumberBytes.{number_is_none, number_back}
-use Rattle.lower_trace.proofs.Operations.{Comes, first, own_frame, le_true}
+use Rattle.lower_trace.proofs.Operations.{Comes, comes_within, first, own_frame, le_true}
 use Rattle.lower_trace.proofs.Placed.{Placed}
 use Rattle.lower_trace.proofs.Written.{both, byte_same}
 
@@ -251,25 +251,36 @@ unary_then z g T n s w due again op x b r m c q l signed two xr room out hx p ne
     (λ s'. let e = signed_least op signed in omega arith)
     next
 
-widening_small : (k : ℕ) → k ≤ 4 → widening_cost k ≤ 24
-widening_small zero le = omega arith
-widening_small (suc k) le = omega arith
+widening_most : (k : ℕ) → widening_cost k ≤ 8 + 4 * k
+widening_most zero = omega arith
+widening_most (suc k) = omega arith
 
+pub convert_words_then : (z : Scene) (g : Setting) (T : Machine → Type 0) (n : ℕ) (s : List Waiting) (w : World Held) (due : is_due w ≡ false) (again : arrived g.outside w ≡ w) (to : IntTy) (x : Quantity) (b : ℕ) (r : List Task) (m : Memory) (c : Machine) (q l : ℕ) → IsInRange x.ty x.number → nat_lt (bytes_of x.ty) (bytes_of to) ≡ true
+    → b + bytes_of x.ty ≤ g.program.frame_bytes n → b + bytes_of to ≤ g.program.frame_bytes n → HasDatum z n b (datum.Number x) m
+    → Placed g n None (Todo [] (code.Convert x.ty to (Frame n b)) ∷ r) s m w c
+    → ((d : Machine) → Placed g n None r s (with_bytes m (Frame n b) (bytes_of to) (core.byte_of (core.Number (cut_to to x.number)))) w d → Comes g T q l d)
+    → Comes g T (8 + 4 * (bytes_of to - bytes_of x.ty) + q) (1 + l) c
+unfolding operate cost_of core.converted
+convert_words_then z g T n s w due again to x b r m c q l xr wider room out hx p next =
+    let X = Frame n b in
+    let vx = value_number z n b x m xr hx in
+    let ox = own_frame g.program n b (bytes_of x.ty) room in
+    let og = own_frame g.program n b (bytes_of to) out in
+    let cost = widening_most (bytes_of to - bytes_of x.ty) in
+    first g T n None s w due again (code.Convert x.ty to X) r m (with_bytes m X (bytes_of to) (core.byte_of (core.Number (cut_to to x.number)))) c q l (8 + 4 * (bytes_of to - bytes_of x.ty)) 1 p
+    (λ before rest s'. rw (ox, vx, og) refl)
+    (λ before s'. omega arith)
+    (λ s'. rw wider (omega arith))
+    next
+
+-- a conversion to more bytes costs at most 24, since no type has more bytes than four
 pub convert_then : (z : Scene) (g : Setting) (T : Machine → Type 0) (n : ℕ) (s : List Waiting) (w : World Held) (due : is_due w ≡ false) (again : arrived g.outside w ≡ w) (to : IntTy) (x : Quantity) (b : ℕ) (r : List Task) (m : Memory) (c : Machine) (q l : ℕ) → IsInRange x.ty x.number → nat_lt (bytes_of x.ty) (bytes_of to) ≡ true
     → b + bytes_of x.ty ≤ g.program.frame_bytes n → b + bytes_of to ≤ g.program.frame_bytes n → HasDatum z n b (datum.Number x) m
     → Placed g n None (Todo [] (code.Convert x.ty to (Frame n b)) ∷ r) s m w c
     → ((d : Machine) → Placed g n None r s (with_bytes m (Frame n b) (bytes_of to) (core.byte_of (core.Number (cut_to to x.number)))) w d → Comes g T q l d)
     → Comes g T (24 + q) (1 + l) c
-unfolding operate cost_of core.converted
 convert_then z g T n s w due again to x b r m c q l xr wider room out hx p next =
-    let X = Frame n b in
-    let vx = value_number z n b x m xr hx in
-    let ox = own_frame g.program n b (bytes_of x.ty) room in
-    let og = own_frame g.program n b (bytes_of to) out in
     let few = bytes_small to in
-    let cost = widening_small (bytes_of to - bytes_of x.ty) (omega arith) in
-    first g T n None s w due again (code.Convert x.ty to X) r m (with_bytes m X (bytes_of to) (core.byte_of (core.Number (cut_to to x.number)))) c q l 24 1 p
-    (λ before rest s'. rw (ox, vx, og) refl)
-    (λ before s'. omega arith)
-    (λ s'. rw wider (omega arith))
-    next
+    comes_within g T (8 + 4 * (bytes_of to - bytes_of x.ty) + q) (1 + l) (24 + q) (1 + l) c
+    (convert_words_then z g T n s w due again to x b r m c q l xr wider room out hx p next)
+    (omega arith) (omega arith)

@@ -16,6 +16,13 @@ use Rattle.src_values.specs.Objects.{function_at, or_no_function}
 use Rattle.lower_trace.proofs.CaseLabels.{AreInRange, ranges_of}
 use Rattle.lower_trace.proofs.Rounds.{IsLoop}
 
+-- Loops but `for` have a condition.
+abbrev pub HasTest : LoopForm → Option Expression → Type 0
+HasTest While None = ⊥
+HasTest Do None = ⊥
+HasTest For None = Unit {0}
+HasTest shape (Some e) = Unit {0}
+
 abbrev mutual
   pub Shaped : Statement → Type 0
   Shaped (tree.Block ss line) = AreShaped ss
@@ -25,7 +32,7 @@ abbrev mutual
   Shaped (tree.InitScalar local e line) = Unit {0}
   Shaped (tree.InitList local items line) = Unit {0}
   Shaped (tree.If chain otherwise line) = ArmsShaped chain × LastShaped otherwise
-  Shaped (tree.Loop shape begin condition step body line) = IsLoop shape begin step × Shaped body
+  Shaped (tree.Loop shape begin condition step body line) = IsLoop shape begin step × Shaped body × HasTest shape condition
   Shaped (tree.Switch e cases default ss line) = AreInRange cases × AreShaped ss
   Shaped (tree.Break line) = Unit {0}
   Shaped (tree.Continue line) = Unit {0}
@@ -61,6 +68,12 @@ loop_shaped While begin condition step e = let p = and_parts _ _ (and_parts _ _ 
 loop_shaped Do begin condition step e = let p = and_parts _ _ (and_parts _ _ e).1 in (left_out begin p.0, left_out step p.1)
 loop_shaped For begin condition step e = tt
 
+loop_tested : (shape : LoopForm) (begin condition step : Option Expression) → loop_fits shape (is_some begin) (is_some condition) (is_some step) ≡ true → HasTest shape condition
+loop_tested While begin None step e = absurd (cc)
+loop_tested Do begin None step e = absurd (cc)
+loop_tested For begin None step e = tt
+loop_tested shape begin (Some x) step e = tt
+
 module _ (p : Program) (f : FunctionTree) where
   mutual
     unfolding statement_fits
@@ -79,7 +92,7 @@ module _ (p : Program) (f : FunctionTree) where
         let q1 = and_parts (any_fits p f begin) (any_condition_fits p f condition && (any_fits p f step && b)) q.1 in
         let q2 = and_parts (any_condition_fits p f condition) (any_fits p f step && b) q1.1 in
         let q3 = and_parts (any_fits p f step) b q2.1 in
-        (loop_shaped shape begin condition step q.0, shaped false true true body q3.1 h.3)
+        (loop_shaped shape begin condition step q.0, shaped false true true body q3.1 h.3, loop_tested shape begin condition step q.0)
     shaped d l r (tree.Switch x cases default ss line) e h =
         let b = statements_fit p f false true r ss in
         let q1 = and_parts (switch_rule p f x) (cases_fit (type_of x) (count_of ss) cases && (default_fits (count_of ss) default && b)) e in

@@ -30,6 +30,7 @@ use Rattle.lower_trace.proofs.Mirrors.{HasDatum, IsAt, Mirrors, at_byte, last_of
 use Rattle.lower_trace.proofs.Operations.{Comes, beyond_is, comes_here, comes_within}
 use Rattle.lower_trace.proofs.Placed.{Placed}
 use Rattle.lower_trace.proofs.Places.{read_found}
+use Rattle.lower_trace.proofs.Prices.{some_left}
 use Rattle.lower_trace.proofs.Pointed.{pointed_all, pointer_at}
 use Rattle.lower_trace.specs.Lowering.{object_as, offset_as}
 use Rattle.pic_world.specs.World.{World, arrived, is_due, world_as}
@@ -207,7 +208,7 @@ module _ (z : Scene) (laws : SceneLaws z) (cp : CopyOf) (l : source.Memory) (sou
   pub skim_fixed : (from : Byte) (done left : ℕ) (byte : Option value.Byte) (w : World value.Byte) (c : Machine) → FixedPlace z cp sought start from (type_bytes z.program.sizes ty) → Around z cp (In (tree.Read sought ty line) (At start) ∷ k)
       → width (ground_in z cp).layout ty ≡ type_bytes z.program.sizes ty → base (ground_in z cp) k + type_bytes z.program.sizes ty ≤ (core_in z).program.frame_bytes (number z cp) → base (ground_in z cp) k ≤ 96 → done + left ≡ type_bytes z.program.sizes ty → is_due (arrived z.outside w) ≡ false
       → Mirrors z (state cp (Skim (stepped done start) left byte) (In (tree.Read sought ty line) (At start) ∷ k) l w) c
-      → Follow z 6 0 c (skim (source_in z) (stepped done start) left byte (In (tree.Read sought ty line) (At start) ∷ k) cp l (arrived z.outside w))
+      → Follow z 6 (some_left left) c (skim (source_in z) (stepped done start) left byte (In (tree.Read sought ty line) (At start) ∷ k) cp l (arrived z.outside w))
   unfolding active
   skim_fixed from done zero byte w c p around wide room low all due h =
       let g = ground_in z cp in
@@ -233,26 +234,21 @@ module _ (z : Scene) (laws : SceneLaws z) (cp : CopyOf) (l : source.Memory) (sou
       let done_is : length x.read ≡ done = omega arith in
       let is : at_byte z start ≡ Some from = subst (λ y. IsAt z g.copy b y start c.memory) p.spot h.holds.0 in
       let to_is : b ≡ above g b e (At start) = sym (ap (λ y. beyond b (pointer_bytes y)) p.spot ∙ beyond_is b 0 (omega arith) ∙ (omega arith)) in
-      comes_fixed (take_byte (source_in z) (active cp (Skim at (suc left) byte) f) cp.root is_any at l (arrived z.outside w)) x.read
-      (skim_next at (next_byte at) left x.read (take_byte (source_in z) (active cp (Skim at (suc left) byte) f) cp.root is_any at l (arrived z.outside w)) w c 6 1 n
+      skim_next at (next_byte at) left x.read (take_byte (source_in z) (active cp (Skim at (suc left) byte) f) cp.root is_any at l (arrived z.outside w)) w c 6 1 n
       (subst (λ i. Follow z 6 1 c (after_taking (take_byte (source_in z) (active cp (Fetch (stepped i start) x.read) f) cp.root is_any (stepped i start) l (arrived z.outside w)) (λ y. Fetch (next_byte (stepped i start)) (x.read ++ y ∷ [])) cp f l (line_at f))) done_is
       (fetch_fixed z laws cp f l from (above g b e (At start)) (width g.layout ty) (Frame g.copy b) (code_after g f) (reads_read z g sought ty line start k (Fixed from) p.spot) around (omega arith) start is_any x.read (line_at f) w c is
       (own_spot z cp g.layout g.copy sought from start p.spot around.reached p.there p.found) (λ a q. wide ∙ p.one a q) (omega arith) due
-      (subst (λ i. Mirrors z (state cp (Fetch (stepped i start) x.read) f l w) c) (sym done_is) x.stands))))
-    where
-      comes_fixed : (t : Taking) (read : List value.Byte) → Follow z 6 1 c (after_taking t (λ y. Skim (next_byte (stepped done start)) left (Some y)) cp (In (tree.Read sought ty line) (At start) ∷ k) l (line_at (In (tree.Read sought ty line) (At start) ∷ k)))
-          → Follow z 6 0 c (after_taking t (λ y. Skim (next_byte (stepped done start)) left (Some y)) cp (In (tree.Read sought ty line) (At start) ∷ k) l (line_at (In (tree.Read sought ty line) (At start) ∷ k)))
-      comes_fixed t read m = follow_within z 6 1 6 0 c _ m (omega arith) (omega arith)
+      (subst (λ i. Mirrors z (state cp (Fetch (stepped i start) x.read) f l w) c) (sym done_is) x.stands)))
 
   -- ---- a place that a pointer leads to
-  null_skim : (left : ℕ) (byte : Option value.Byte) (w : World value.Byte) (c : Machine) → Follow z (20 + 6 * type_bytes z.program.sizes ty) 0 c (skim (source_in z) (spots.Memory Null) (suc left) byte (In (tree.Read sought ty line) (At start) ∷ k) cp l (arrived z.outside w))
+  null_skim : (left : ℕ) (byte : Option value.Byte) (w : World value.Byte) (c : Machine) → Follow z (20 + 6 * type_bytes z.program.sizes ty) 1 c (skim (source_in z) (spots.Memory Null) (suc left) byte (In (tree.Read sought ty line) (At start) ∷ k) cp l (arrived z.outside w))
   unfolding take_byte
   null_skim left byte w c = tt
 
   pub skim_pointed : (x : Pointer) (done left : ℕ) (byte : Option value.Byte) (w : World value.Byte) (c : Machine) → start ≡ spots.Memory x → spot_of (ground_in z cp).layout (ground_in z cp).copy sought ≡ Computed → SpotIsThere z.program (spots.Memory x) → 0 < type_bytes z.program.sizes ty → Around z cp (In (tree.Read sought ty line) (At start) ∷ k) → Around z cp k → ReachesAll z cp (In (tree.Read sought ty line) (At start) ∷ k)
       → width (ground_in z cp).layout ty ≡ type_bytes z.program.sizes ty → base (ground_in z cp) k + 2 + type_bytes z.program.sizes ty ≤ (core_in z).program.frame_bytes (number z cp) → done + left ≡ type_bytes z.program.sizes ty → is_due (arrived z.outside w) ≡ false
       → Mirrors z (state cp (Skim (stepped done (spots.Memory x)) left byte) (In (tree.Read sought ty line) (At start) ∷ k) l w) c
-      → Follow z (20 + 6 * type_bytes z.program.sizes ty) 0 c (skim (source_in z) (stepped done (spots.Memory x)) left byte (In (tree.Read sought ty line) (At start) ∷ k) cp l (arrived z.outside w))
+      → Follow z (20 + 6 * type_bytes z.program.sizes ty) (some_left left) c (skim (source_in z) (stepped done (spots.Memory x)) left byte (In (tree.Read sought ty line) (At start) ∷ k) cp l (arrived z.outside w))
   unfolding active
   skim_pointed x done zero byte w c same computed there some around below reach wide room all due h =
       let g = ground_in z cp in
@@ -311,5 +307,5 @@ module _ (z : Scene) (laws : SceneLaws z) (cp : CopyOf) (l : source.Memory) (sou
       due y.stands))
     where
       comes_pointed : (t : Taking) (done : ℕ) (o : object.Object) (i left : ℕ) (c : Machine) → Follow z 20 1 c (after_taking t (λ y. Skim (next_byte (stepped done (spots.Memory (Into o i)))) left (Some y)) cp (In (tree.Read sought ty line) (At start) ∷ k) l (line_at (In (tree.Read sought ty line) (At start) ∷ k)))
-          → Follow z (20 + 6 * type_bytes z.program.sizes ty) 0 c (after_taking t (λ y. Skim (next_byte (stepped done (spots.Memory (Into o i)))) left (Some y)) cp (In (tree.Read sought ty line) (At start) ∷ k) l (line_at (In (tree.Read sought ty line) (At start) ∷ k)))
-      comes_pointed t done o i left c m = follow_within z 20 1 (20 + 6 * type_bytes z.program.sizes ty) 0 c _ m (omega arith) (omega arith)
+          → Follow z (20 + 6 * type_bytes z.program.sizes ty) 1 c (after_taking t (λ y. Skim (next_byte (stepped done (spots.Memory (Into o i)))) left (Some y)) cp (In (tree.Read sought ty line) (At start) ∷ k) l (line_at (In (tree.Read sought ty line) (At start) ∷ k)))
+      comes_pointed t done o i left c m = follow_within z 20 1 (20 + 6 * type_bytes z.program.sizes ty) 1 c _ m (omega arith) (omega arith)

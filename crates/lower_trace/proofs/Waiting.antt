@@ -11,8 +11,8 @@ use Rattle.lower_trace.proofs.CodeLeft.{Scene, ground_in, held}
 use Rattle.lower_trace.proofs.Folding.{FoldPauses}
 use Rattle.lower_trace.proofs.Pausing.{Paused, Pauses}
 use Rattle.pic_world.specs.World.{World, arrived, is_due, world_as}
-use Rattle.src_rules.specs.State.{State}
-use Rattle.src_values.specs.Control.{CopyWrite, Doing, Focus, In, Items, Pending}
+use Rattle.src_rules.specs.State.{State, state}
+use Rattle.src_values.specs.Control.{CopyWrite, Doing, Focus, In, Items, Over, Pending}
 use Rattle.src_values.specs.Memory as source
 use Rattle.src_values.specs.declared.objects.Byte.{Byte}
 use Rattle.src_values.specs.declared.objects.CopyOf.{CopyOf}
@@ -53,3 +53,8 @@ pauses_world z _ cp k l w c p = absurd p
 pub waits_world : (z : Scene) (t : State) (c : Machine) → Waiting z t c → arrived z.outside c.world ≡ world_as (held z) (arrived z.outside t.world)
 waits_world z t c (CountWaits p) = p.state_is.stands.world
 waits_world z t c (CopyWaits fixed p) = pauses_world z t.focus t.copy t.stack t.memory t.world c p
+
+-- Where main has ended it doesn't wait.
+pub over_waits : (z : Scene) (cp : CopyOf) (k : List Pending) (l : source.Memory) (w : World Byte) (c : Machine) → Waiting z (state cp Over k l w) c → ⊥
+over_waits z cp k l w c (CountWaits p) = p.state_is.value
+over_waits z cp k l w c (CopyWaits fixed p) = p
