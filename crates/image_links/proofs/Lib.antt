@@ -26,6 +26,7 @@ pub mod Assembling
 pub mod Beginning
 pub mod Longest
 pub mod Framed
+pub mod AllWords
 pub mod Lowerable
 pub mod Linking
 pub mod Counted

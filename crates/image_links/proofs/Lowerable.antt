@@ -18,6 +18,7 @@ use Rattle.program_code.specs.Translated.{IsTranslation}
 use Rattle.ram_place.specs.Sizes.{block_words}
 use Rattle.sym_code.specs.declared.code.SymBlock.{SymBlock}
 use Rattle.lower_trace.specs.Lowering.{IsSmallStatic, IsSmallCopy, IsLowerable}
+use Rattle.image_links.proofs.AllWords.{all_words}
 use Rattle.image_links.proofs.Entered.{at_is}
 use Rattle.image_links.proofs.Laid.{is_there, object_few, frame_few}
 
@@ -71,4 +72,5 @@ lowerable p copies core given made placed at image content t = record {
       let copy = is_there copies k lt in
       subst (IsSmallCopy p) (sym (get_or_from_slice_get copies k copy.0 d copy.1))
       (record { frame = frame_few p copies placed t.spread.placing k copy.0 copy.1; block = block_few p copies at t.paged k copy.0 copy.1 });
+  few_words = all_words p copies at t.paged;
 }

@@ -1,6 +1,6 @@
 -- What lowering keeps: byte code follows the source.
 use Rattle.std.specs.Prelude.{ℕ, ◌+◌, ◌*◌, ◌≡◌, ◌<◌, ◌≤◌, Bool, true, false, ◌&&◌, nat_eq, List, None, is_none, unwrap_or, length}
-use Rattle.std.specs.List.{All, position}
+use Rattle.std.specs.List.{All, position, sum_by}
 use Rattle.pic_world.specs.Roots.{same_root}
 use Rattle.pic_world.specs.World.{Outside, Happening, event_as}
 use Rattle.pic_world.specs.declared.Root.{Root}
@@ -78,8 +78,13 @@ pub record IsSmallCopy (p : Program) (copy : FnCopy) : Type 0 where
   pub frame : frame_bytes p copy.function ≤ 96
   pub block : block_words p copy.function ≤ 2048
 
+-- the words of all blocks together
+abbrev pub all_words : Program → List FnCopy → ℕ
+all_words p copies = sum_by (λ (copy : FnCopy). block_words p copy.function) copies
+
 -- A typed program with its copies, whose constants, labels, first bytes and characters are numbers of their types, whose calls fit the
--- return stack, whose objects and frames fit a region of memory each, and whose blocks fit a page each. Each accepted program is one.
+-- return stack, whose objects and frames fit a region of memory each, and whose blocks fit a page each and program memory together. Each accepted
+-- program is one.
 pub record IsLowerable (p : Program) (copies : List FnCopy) : Type 0 where
   pub typed : Typed
   pub same : p ≡ program_of typed
@@ -94,6 +99,7 @@ pub record IsLowerable (p : Program) (copies : List FnCopy) : Type 0 where
   pub few_statics : length p.statics ≤ 65535
   pub small_statics : All (IsSmallStatic p) p.statics
   pub small_copies : All (IsSmallCopy p) copies
+  pub few_words : all_words p copies ≤ 8192
 
 -- ---- what is kept
 -- byte code follows the first n micro-steps; and code without cost stands for no more steps than the program has nodes
