@@ -43,6 +43,7 @@ use Rattle.src_values.specs.declared.objects.Pointer.{Pointer}
 use Rattle.src_values.specs.declared.objects.Pointer.TheVariants.{Into, Null}
 use Rattle.src_values.specs.declared.objects.Spot.{Spot}
 use Rattle.src_values.specs.declared.objects.Spot.TheVariants as spots
+use Rattle.lower_trace.specs.Sizes.{IsSized}
 use Rattle.lower_trace.specs.Lowering.{IsLowerable}
 use Rattle.lower_trace.proofs.CodeLeft.{Scene, base, core_in, ground_in, number}
 use Rattle.lower_trace.proofs.Fitting.{pointer_at, value_at, width_is}
@@ -62,7 +63,6 @@ use Rattle.lower_trace.proofs.PointerSums.{mover}
 use Rattle.lower_trace.proofs.PointerUpdates.{update_moved}
 use Rattle.lower_trace.proofs.Rooms.{pointer_is, two_parts, update_parts}
 use Rattle.lower_trace.proofs.Scenes.{frame_is, scene_laws}
-use Rattle.lower_trace.proofs.TypeSizes.{IsSized}
 
 -- ---- rules
 -- a step of a pointer goes on by what it counts in

@@ -35,6 +35,7 @@ use Rattle.src_values.specs.declared.objects.Object.{Object}
 use Rattle.src_values.specs.declared.objects.Object.TheVariants as objects
 use Rattle.src_values.specs.declared.objects.Pointer.{Pointer}
 use Rattle.src_values.specs.declared.objects.Pointer.TheVariants.{Into, Null}
+use Rattle.lower_trace.specs.Sizes.{IsSized}
 use Rattle.lower_trace.specs.Lowering.{IsLowerable}
 use Rattle.lower_trace.proofs.CodeLeft.{Scene, core_in, number}
 use Rattle.lower_trace.proofs.Known.{Known, around, resumables}
@@ -48,7 +49,7 @@ use Rattle.lower_trace.proofs.PointerTests.{IsTest, pointers_given}
 use Rattle.lower_trace.proofs.Rooms.{binary_parts, pointer_bytes_are}
 use Rattle.lower_trace.proofs.Scenes.{frame_is, scene_laws, static_small}
 use Rattle.lower_trace.proofs.TurnedOffsets.{turned_given}
-use Rattle.lower_trace.proofs.TypeSizes.{IsSized, element_size, object_some}
+use Rattle.lower_trace.proofs.TypeSizes.{element_size, object_some}
 
 -- ---- types
 -- an index has two bytes

@@ -151,7 +151,7 @@ pub mod LedCounts
 pub mod LedBytes
 pub mod LedWaits
 pub mod LedConstants
-pub mod OpenLaws
+pub mod AllLaws
 pub mod PlaceTypes
 pub mod LedNulls
 pub mod LedReads

@@ -1,4 +1,4 @@
--- The theorem of lowering, from what is open of its laws.
+-- The theorem of lowering.
 use Rattle.std.proofs.Common.{◌≡◌, ℕ, ◌+◌, ◌*◌, ◌<◌, ◌≤◌, ◌⊎◌, true, List, Option, arith}
 use Rattle.std.specs.List.{All}
 use Rattle.c_typed.specs.TreeNodes.{nodes_of}
@@ -16,7 +16,7 @@ use Rattle.lower_trace.proofs.CodeLeft.{Scene, source_in}
 use Rattle.lower_trace.proofs.Known.{Known}
 use Rattle.lower_trace.proofs.LagPriced.{few_steps, steps_left, steps_pace}
 use Rattle.lower_trace.proofs.LedSteps.{step_at_least}
-use Rattle.lower_trace.proofs.OpenLaws.{OpenLaws, node_laws}
+use Rattle.lower_trace.proofs.AllLaws.{node_laws}
 use Rattle.lower_trace.proofs.PricedSteps.{Paces, priced}
 
 module _ (z : Scene) (given : IsLowerable z.program z.copies) (input : All (λ byte. byte < 256) z.outside.input) where
@@ -27,12 +27,12 @@ module _ (z : Scene) (given : IsLowerable z.program z.copies) (input : All (λ b
   paces : Paces z (steps_left z given input)
   paces = record { steps = step_paces; few = few_steps z given input }
 
-  pub lowered_by : OpenLaws z → (n : ℕ) → Goes (source_run (source_in z)) n → IsLowered z.program z.copies z.outside n
-  lowered_by open_laws n goes = lowered z given input (steps_left z given input) (priced z given input (node_laws z given input open_laws) (steps_left z given input) paces) n goes
+  pub lowered_by : (n : ℕ) → Goes (source_run (source_in z)) n → IsLowered z.program z.copies z.outside n
+  lowered_by n goes = lowered z given input (steps_left z given input) (priced z given input (node_laws z given input) (steps_left z given input) paces) n goes
 
 abbrev pub scene : Program → List FnCopy → Outside → Scene
 scene p copies o = record { program = p; copies = copies; outside = o }
 
--- Lowering keeps what it promises, if what is open holds.
-pub lowers : ((p : Program) (copies : List FnCopy) → IsLowerable p copies → (o : Outside) → OpenLaws (scene p copies o)) → Lowers
-lowers open_laws p copies given o input n goes = lowered_by (scene p copies o) given input (open_laws p copies given o) n goes
+-- Lowering keeps what it promises.
+pub lowers : Lowers
+lowers p copies given o input n goes = lowered_by (scene p copies o) given input n goes

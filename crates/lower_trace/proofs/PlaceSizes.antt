@@ -36,7 +36,8 @@ use Rattle.src_values.specs.declared.objects.Pointer.{Pointer}
 use Rattle.src_values.specs.declared.objects.Pointer.TheVariants.{Into, Null}
 use Rattle.src_values.specs.declared.objects.Spot.{Spot}
 use Rattle.src_values.specs.declared.objects.Spot.TheVariants as spots
-use Rattle.lower_trace.proofs.TypeSizes.{IsSized, member_within, object_some, param_has, size_is, structure_there}
+use Rattle.lower_trace.specs.Sizes.{IsSized}
+use Rattle.lower_trace.proofs.TypeSizes.{member_within, object_some, param_has, size_is, structure_there}
 use Rattle.lower_trace.proofs.Written.{same_nat}
 
 -- ---- names

@@ -26,17 +26,10 @@ use Rattle.src_rules.specs.Standing.{IsThere}
 use Rattle.src_values.specs.Objects.{bytes_of_static, bytes_of_variable, function_at, object_bytes, variables_of}
 use Rattle.src_values.specs.declared.objects.Object.{Object}
 use Rattle.src_values.specs.declared.objects.Object.TheVariants.{Fixed, Variable}
+use Rattle.lower_trace.specs.Sizes.{IsSized}
 use Rattle.lower_trace.proofs.Reading.{lt_of}
 use Rattle.lower_trace.proofs.Scenes.{element_there}
 use Rattle.lower_trace.proofs.Written.{same_nat}
-
--- Soundness alone doesn't say it: a structure that holds itself and an array of void have no bytes there. No text makes such types.
-pub record IsSized (p : Program) : Type 0 where
-  -- what pointers point to, where it can be counted in
-  pub targets : (n : ℕ) (t : Qualified) → slice_get p.targets n ≡ Some t → is_complete p t.ty ≡ true → 1 ≤ type_bytes p.sizes t.ty
-  pub members : (n i : ℕ) (s : StructureTree) (m : MemberTree) → slice_get p.structures n ≡ Some s → slice_get s.members i ≡ Some m → 1 ≤ type_bytes p.sizes m.ty.ty
-  pub statics : (n : ℕ) (s : StaticTree) → slice_get p.statics n ≡ Some s → 1 ≤ type_bytes p.sizes s.ty.ty
-  pub locals : (f n : ℕ) (function : FunctionTree) (v : VariableTree) → slice_get p.functions f ≡ Some function → slice_get function.locals n ≡ Some v → 1 ≤ type_bytes p.sizes v.ty.ty
 
 -- ---- scalars
 int_some : (ty : IntTy) → 1 ≤ bytes_of ty

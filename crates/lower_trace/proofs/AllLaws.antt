@@ -1,4 +1,4 @@
--- What is open of the laws of each focus, and the laws of all of them from it.
+-- The laws of all foci, from those of each kind of step, and what follows of each state of a run.
 use Rattle.std.proofs.Common.{◌≡◌, ℕ, zero, suc, ◌<◌, ◌⊎◌, inl, inr, true, false, List, ◌∷◌, Option, refl, ⊎_elim, arith}
 use Rattle.std.proofs.lemmas.Bool.{cases_lt}
 use Rattle.std.specs.List.{All}
@@ -35,7 +35,7 @@ use Rattle.lower_trace.proofs.LedHelped.{helped_binaries}
 use Rattle.lower_trace.proofs.LedHelpedUpdates.{helped_updates}
 use Rattle.lower_trace.proofs.LedMoves.{place_addresses, pointer_steps, pointer_updates, updates_apart}
 use Rattle.lower_trace.proofs.LedPointers.{DifferencesDivide, pointer_binaries, pointer_differences, pointer_offsets, turned_offsets}
-use Rattle.lower_trace.proofs.TypeSizes.{IsSized, structure_some}
+use Rattle.lower_trace.proofs.TypeSizes.{structure_some}
 use Rattle.lower_trace.proofs.LedCalls.{leavings, returns}
 use Rattle.lower_trace.proofs.LedChanges.{number_steps, number_sums}
 use Rattle.lower_trace.proofs.LedConverts.{null_or, converts, casts}
@@ -57,14 +57,9 @@ use Rattle.lower_trace.proofs.LedValues.{ValueLaws, values}
 use Rattle.lower_trace.proofs.LedWrites.{scalar_writes}
 use Rattle.lower_trace.proofs.Operating.{IsPlain}
 
--- What isn't known yet of a program that is lowered.
-pub record OpenLaws (z : Scene) : Type 0 where
-  -- each object and each element has a byte at least, which soundness alone doesn't say
-  pub sized : IsSized z.program
-
 -- a structure with a body has a byte
-sized_bytes : (z : Scene) → IsLowerable z.program z.copies → IsSized z.program → HaveBytes z.program
-sized_bytes z given sized = λ number complete. let some = structure_some z.program given.typed given.same given.sound sized number complete in omega arith
+sized_bytes : (z : Scene) → IsLowerable z.program z.copies → HaveBytes z.program
+sized_bytes z given = λ number complete. let some = structure_some z.program given.typed given.same given.sound given.sized number complete in omega arith
 
 plain_or : (op : BinOp) → IsPlain op ⊎ (IsPlain op → ⊥)
 plain_or ops.Add = inl tt
@@ -105,14 +100,14 @@ sum_or ops.Shr = inr (λ h. h)
 true_false : true ≡ false → ⊥
 true_false e = cc
 
-module _ (z : Scene) (given : IsLowerable z.program z.copies) (input : All (λ byte. byte < 256) z.outside.input) (open_laws : OpenLaws z) where
+module _ (z : Scene) (given : IsLowerable z.program z.copies) (input : All (λ byte. byte < 256) z.outside.input) where
   binaries_by : (op : BinOp) (left right : Expression) (ty : Ty) (line : ℕ) (u v : Datum) (k : List Pending) → Law z (Holds v) (In (tree.Binary op left right ty line) (One u) ∷ k)
   binaries_by op left right ty line (datum.Number x) (datum.Number y) k cp l w c known due h =
       ⊎_elim
       (λ plain. plain_binaries z given input op left right ty line x y k plain cp l w c known due h)
       (λ other. helped_binaries z given input op left right ty line x y k other cp l w c known due h)
       (plain_or op)
-  binaries_by op left right ty line (datum.Pointer x) (datum.Pointer y) k cp l w c known due h = pointer_binaries z given input open_laws.sized op left right ty line x y k cp l w c known due h
+  binaries_by op left right ty line (datum.Pointer x) (datum.Pointer y) k cp l w c known due h = pointer_binaries z given input given.sized op left right ty line x y k cp l w c known due h
   binaries_by op left right ty line (datum.Number x) (datum.Pointer y) k cp l w c known due h = apart_binaries z op left right ty line (datum.Number x) (datum.Pointer y) k tt cp l w c known due h
   binaries_by op left right ty line (datum.Pointer x) (datum.Number y) k cp l w c known due h = apart_binaries z op left right ty line (datum.Pointer x) (datum.Number y) k tt cp l w c known due h
   binaries_by op left right ty line (datum.Number x) datum.Missing k cp l w c known due h = apart_binaries z op left right ty line (datum.Number x) datum.Missing k tt cp l w c known due h
@@ -120,8 +115,8 @@ module _ (z : Scene) (given : IsLowerable z.program z.copies) (input : All (λ b
   binaries_by op left right ty line datum.Missing v k cp l w c known due h = apart_binaries z op left right ty line datum.Missing v k tt cp l w c known due h
 
   offsets_by : (op : BinOp) (left right : Expression) (size : ℕ) (ty : Ty) (line : ℕ) (u v : Datum) (k : List Pending) → Law z (Holds v) (In (tree.Offset op left right size ty line) (One u) ∷ k)
-  offsets_by op left right size ty line (datum.Pointer x) (datum.Number q) k cp l w c known due h = pointer_offsets z given input open_laws.sized op left right size ty line x q k cp l w c known due h
-  offsets_by op left right size ty line (datum.Number q) (datum.Pointer x) k cp l w c known due h = turned_offsets z given input open_laws.sized op left right size ty line q x k cp l w c known due h
+  offsets_by op left right size ty line (datum.Pointer x) (datum.Number q) k cp l w c known due h = pointer_offsets z given input given.sized op left right size ty line x q k cp l w c known due h
+  offsets_by op left right size ty line (datum.Number q) (datum.Pointer x) k cp l w c known due h = turned_offsets z given input given.sized op left right size ty line q x k cp l w c known due h
   offsets_by op left right size ty line (datum.Number q) (datum.Number y) k cp l w c known due h = apart_offsets z op left right size ty line (datum.Number q) (datum.Number y) k tt cp l w c known due h
   offsets_by op left right size ty line (datum.Number q) datum.Missing k cp l w c known due h = apart_offsets z op left right size ty line (datum.Number q) datum.Missing k tt cp l w c known due h
   offsets_by op left right size ty line (datum.Pointer x) (datum.Pointer y) k cp l w c known due h = apart_offsets z op left right size ty line (datum.Pointer x) (datum.Pointer y) k tt cp l w c known due h
@@ -133,7 +128,7 @@ module _ (z : Scene) (given : IsLowerable z.program z.copies) (input : All (λ b
   differences_divide left right size line u v k cp l w known many = difference_helped z given cp known.stands.reached left right size line many known.parts.1.0.0
 
   differences_by : (left right : Expression) (size line : ℕ) (u v : Datum) (k : List Pending) → Law z (Holds v) (In (tree.Difference left right size line) (One u) ∷ k)
-  differences_by left right size line (datum.Pointer x) (datum.Pointer y) k cp l w c known due h = pointer_differences z given input open_laws.sized differences_divide left right size line x y k cp l w c known due h
+  differences_by left right size line (datum.Pointer x) (datum.Pointer y) k cp l w c known due h = pointer_differences z given input given.sized differences_divide left right size line x y k cp l w c known due h
   differences_by left right size line (datum.Pointer x) (datum.Number q) k cp l w c known due h = apart_differences z left right size line (datum.Pointer x) (datum.Number q) k tt cp l w c known due h
   differences_by left right size line (datum.Pointer x) datum.Missing k cp l w c known due h = apart_differences z left right size line (datum.Pointer x) datum.Missing k tt cp l w c known due h
   differences_by left right size line (datum.Number q) v k cp l w c known due h = apart_differences z left right size line (datum.Number q) v k tt cp l w c known due h
@@ -163,16 +158,16 @@ module _ (z : Scene) (given : IsLowerable z.program z.copies) (input : All (λ b
       (λ no. helped_updates z given input op place value operation size ty line spot y x k other cp l w c known due h)
       (bool_cases (shifts_by_constant op value)))
       (sum_or op)
-  updates_by op place value operation size ty line spot (datum.Number y) (datum.Pointer x) k cp l w c known due h = pointer_updates z given input open_laws.sized op place value operation size ty line spot y x k cp l w c known due h
-  updates_by op place value operation size ty line spot (datum.Pointer y) (datum.Number x) k cp l w c known due h = updates_apart z given input open_laws.sized op place value operation size ty line spot y (datum.Number x) k cp l w c known due h
-  updates_by op place value operation size ty line spot (datum.Pointer y) (datum.Pointer x) k cp l w c known due h = updates_apart z given input open_laws.sized op place value operation size ty line spot y (datum.Pointer x) k cp l w c known due h
+  updates_by op place value operation size ty line spot (datum.Number y) (datum.Pointer x) k cp l w c known due h = pointer_updates z given input given.sized op place value operation size ty line spot y x k cp l w c known due h
+  updates_by op place value operation size ty line spot (datum.Pointer y) (datum.Number x) k cp l w c known due h = updates_apart z given input given.sized op place value operation size ty line spot y (datum.Number x) k cp l w c known due h
+  updates_by op place value operation size ty line spot (datum.Pointer y) (datum.Pointer x) k cp l w c known due h = updates_apart z given input given.sized op place value operation size ty line spot y (datum.Pointer x) k cp l w c known due h
   updates_by op place value operation size ty line spot (datum.Number y) datum.Missing k cp l w c known due h = missing_updates z op place value operation size ty line spot (datum.Number y) k cp l w c known due h
   updates_by op place value operation size ty line spot (datum.Pointer y) datum.Missing k cp l w c known due h = missing_updates z op place value operation size ty line spot (datum.Pointer y) k cp l w c known due h
   updates_by op place value operation size ty line spot datum.Missing v k cp l w c known due h = updates_missing z op place value operation size ty line spot v k cp l w c known due h
 
   steps_by : (op : StepOp) (place : Place) (operation : Ty) (size : ℕ) (ty : Ty) (line : ℕ) (spot : Spot) (v : Datum) (k : List Pending) → Law z (Holds v) (In (tree.Step op place operation size ty line) (At spot) ∷ k)
   steps_by op place operation size ty line spot (datum.Number x) k cp l w c known due h = number_steps z given input op place operation size ty line spot x k cp l w c known due h
-  steps_by op place operation size ty line spot (datum.Pointer x) k cp l w c known due h = pointer_steps z given input open_laws.sized op place operation size ty line spot x k cp l w c known due h
+  steps_by op place operation size ty line spot (datum.Pointer x) k cp l w c known due h = pointer_steps z given input given.sized op place operation size ty line spot x k cp l w c known due h
   steps_by op place operation size ty line spot datum.Missing k cp l w c known due h = missing_steps z op place operation size ty line spot k cp l w c known due h
 
   skims_by : (place : Place) (ty : Ty) (line : ℕ) (spot : Spot) (k : List Pending) → is_scalar ty ≡ false → Law z (Found spot) (In (tree.Read place ty line) Nothing ∷ k)
@@ -186,7 +181,7 @@ module _ (z : Scene) (given : IsLowerable z.program z.copies) (input : All (λ b
   structures_by place number line start spot left byte k cp l w c known due h =
       ⊎_elim
       (λ some. structures_skimmed z given input place number line start spot left byte k some cp l w c known due h)
-      (λ none. empty_skims z given (sized_bytes z given open_laws.sized) place number line start spot left byte k (omega arith) cp l w c known due h)
+      (λ none. empty_skims z given (sized_bytes z given) place number line start spot left byte k (omega arith) cp l w c known due h)
       (cases_lt 0 (type_bytes z.program.sizes (types.Struct number)))
 
   reads_skim : (place : Place) (ty : Ty) (line : ℕ) (start spot : Spot) (left : ℕ) (byte : Option Byte) (k : List Pending) → Law z (Skim spot left byte) (In (tree.Read place ty line) (At start) ∷ k)
@@ -216,7 +211,7 @@ module _ (z : Scene) (given : IsLowerable z.program z.copies) (input : All (λ b
   copy_reads : (to from : Spot) (left : ℕ) (k : List Pending) → Law z (CopyRead to from left) k
   copy_reads to from (suc left) k cp l w c known due h = bytes_read z given input to from left k cp l w c known due h
   copy_reads to from zero (In (tree.StructAssign place other size line) Copies ∷ k) cp l w c known due h = assigns_end z given input place other size line to from k cp l w c known due h
-  copy_reads to from zero (Doing (tree.InitList local all line) (Items (tree.Struct offset other zero) rest) ∷ k) cp l w c known due h = empty_items z given (sized_bytes z given open_laws.sized) local all line offset other rest to from k cp l w c known due h
+  copy_reads to from zero (Doing (tree.InitList local all line) (Items (tree.Struct offset other zero) rest) ∷ k) cp l w c known due h = empty_items z given (sized_bytes z given) local all line offset other rest to from k cp l w c known due h
   copy_reads to from zero (Doing (tree.InitList local all line) (Items (tree.Struct offset other (suc size)) rest) ∷ k) cp l w c known due h = items_end z given input local all line offset other (suc size) rest to from k (omega arith) cp l w c known due h
   copy_reads to from zero _ cp l w c known due h = absurd known.stands.focus.node
 
@@ -235,7 +230,7 @@ module _ (z : Scene) (given : IsLowerable z.program z.copies) (input : All (λ b
   }
 
   pub place_laws : PlaceLaws z
-  place_laws = record { skims = skims_by; addresses = place_addresses z given input open_laws.sized; known_counts = known_updates z given input }
+  place_laws = record { skims = skims_by; addresses = place_addresses z given input given.sized; known_counts = known_updates z given input }
 
   pub node_laws : NodeLaws z
   node_laws = record {
