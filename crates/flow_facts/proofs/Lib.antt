@@ -1,0 +1,6 @@
+pub mod Turns
+pub mod Plain
+pub mod More
+pub mod Along
+pub mod Lists
+pub mod Kept

@@ -1,0 +1,6 @@
+pub mod Facts
+pub mod Walk
+pub mod Stored
+pub mod Thin
+pub mod Laws
+pub mod Links

@@ -1,0 +1,38 @@
+-- What code with selects keeps, where flow facts say what is selected.
+use Rattle.std.specs.Prelude.{ℕ, ◌≡◌, true, false, List, Option}
+use Rattle.std.specs.List.{All}
+use Rattle.pic_map.specs.declared.Placed.{Placed}
+use Rattle.sym_code.specs.Effect.{Setting}
+use Rattle.sym_code.specs.Programs.{block_in}
+use Rattle.sym_code.specs.Selects.{bare}
+use Rattle.sym_code.specs.declared.code.BlockName.{BlockName}
+use Rattle.sym_code.specs.declared.code.SymBlock.{SymBlock}
+use Rattle.code_place.specs.Layouts.{program_of, page_of}
+use Rattle.code_place.specs.Places.{BlocksHaveAddresses}
+use Rattle.code_place.specs.Sizes.{Fit}
+use Rattle.bank_page.specs.Links.{SelectsKeep}
+use Rattle.bank_page.specs.Selected.{IsApart}
+use Rattle.flow_facts.specs.Facts.{Facts}
+use Rattle.flow_facts.specs.Walk.{is_consistent, Reaches}
+
+-- Blocks with their selects, and facts that are consistent: by these each access finds its bank selected, and each jump and call its
+-- page; between a skip and the instruction behind it stands none. All that is named has an address.
+pub record HasFlow (given made : List SymBlock) (handler : Option ℕ) (placed : Placed) (at : List ℕ) (facts : Facts) (g h : Setting) : Type 0 where
+  pub given_code : g.program ≡ program_of given handler placed
+  pub made_code : h.program ≡ program_of made handler placed
+  pub without : g.banked ≡ false
+  pub with : h.banked ≡ true
+  pub pages : h.page_of ≡ page_of made at
+  pub fit : Fit made at
+  pub named : BlocksHaveAddresses placed made at
+  pub limits : h.limit ≡ g.limit
+  pub same : (name : BlockName) → bare (block_in made name) ≡ block_in given name
+  pub apart : All IsApart made
+  pub consistent : is_consistent facts handler made ≡ true
+  pub reaches : All (Reaches placed facts) made
+
+-- Such code makes the events of the same code without selects, each instruction at the price of its selects.
+abbrev pub FlowsKeep : Type 0
+FlowsKeep =
+    (given made : List SymBlock) (handler : Option ℕ) (placed : Placed) (at : List ℕ) (facts : Facts) (g h : Setting)
+    → HasFlow given made handler placed at facts g h → SelectsKeep g h

@@ -1,0 +1,36 @@
+-- Flow facts as the code keeps them: for each copy, by its number, what is known at the front of its block, at its labels and where it returns.
+-- Of the start block, and of what isn't listed, nothing is known.
+use Rattle.std.specs.Prelude.{ℕ, List, Option, Some, None, slice_get}
+use Rattle.sym_code.specs.declared.code.BlockName.{BlockName}
+use Rattle.sym_code.specs.declared.code.BlockName.TheVariants as names
+use Rattle.bank_page.specs.Known.{nothing}
+use Rattle.flow_facts.specs.Facts.{Fact, Facts}
+use Rattle.flow_facts.specs.declared.facts.BlockFacts.{BlockFacts}
+use Rattle.flow_facts.specs.declared.facts.FlowFacts.{FlowFacts}
+
+abbrev pub listed : Option Fact → Fact
+listed None = Some nothing
+listed (Some fact) = fact
+
+abbrev pub front_of : Option BlockFacts → Fact
+front_of None = Some nothing
+front_of (Some facts) = facts.front
+
+abbrev pub back_of : Option BlockFacts → Fact
+back_of None = Some nothing
+back_of (Some facts) = facts.back
+
+abbrev pub label_of : Option BlockFacts → ℕ → Fact
+label_of None number = Some nothing
+label_of (Some facts) number = listed (slice_get facts.labels.items number)
+
+abbrev pub of_block : FlowFacts → BlockName → Option BlockFacts
+of_block facts names.Start = None
+of_block facts (names.Copy copy) = slice_get facts.copies.items copy
+
+abbrev pub facts_of : FlowFacts → Facts
+facts_of facts = record {
+  front = λ name. front_of (of_block facts name);
+  label = λ name number. label_of (of_block facts name) number;
+  back = λ name. back_of (of_block facts name);
+}

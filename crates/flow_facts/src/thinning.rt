@@ -1,0 +1,159 @@
+//! Code without the selects that need not be.
+
+ghost use Rattle.std.specs.Prelude.{ℕ, ◌≡◌, ◌∷◌, ◌++◌, [], true, false, List, IfOk};
+ghost use Rattle.std.specs.List.{AllZip};
+ghost use Rattle.sym_code.specs.WellFormed.{is_well_formed, are_well_formed};
+ghost use Rattle.sym_code.specs.declared.code.Sym.{Sym as AnySym};
+ghost use Rattle.flow_facts.specs.Stored.{facts_of};
+ghost use Rattle.flow_facts.specs.Thin as stated;
+ghost use Rattle.flow_facts.specs.Walk.{is_consistent as are_consistent};
+
+use crate::checking::is_consistent;
+use crate::facts::FlowFacts;
+use crate::kinds::{is_select, same_block};
+use crate::known::Known;
+use crate::search::search;
+use crate::walk::{Place, first_of, place_after};
+use std::alloc::{AllocError, Global};
+use sym_code::{BlockName, Sym, SymBlock, SymProgram};
+
+// Whether it is a select that sets what is known to be so, or to which nothing comes.
+fn is_known(own: BlockName, fact: Option<Known>, sym: Sym) -> bool
+    ensures { result ≡ stated.is_known own fact sym }
+{
+    match fact {
+        None => is_select(sym),
+        Some(known) => known.knows(own, sym),
+    }
+}
+
+// Puts an instruction, if it is none that is left out.
+#[tactic(auto, using(crate::proofs::Turns::left_out, crate::proofs::Turns::put_on))]
+fn put_next(
+    out: &mut SymBlock,
+    facts: &FlowFacts,
+    place: Place,
+    sym: Sym,
+) -> Result<Place, AllocError>
+    requires { is_well_formed sym ≡ true }
+    ensures next { IfOk result (λ next. (rest : List AnySym) → out.new.list.items ++ stated.thin_from (facts_of facts.now) out.old.name next.fact next.behind rest ≡ out.old.list.items ++ stated.thin_from (facts_of facts.now) out.old.name place.fact place.behind (sym ∷ rest)) }
+    ensures name { out.new.name ≡ out.old.name }
+{
+    if is_known(out.name, place.fact, sym) {
+        return Ok(place);
+    }
+    out.put(sym)?;
+    Ok(place_after(facts, out.name, place, sym))
+}
+
+// Puts a list but for what is left out.
+#[tactic(auto, using(crate::proofs::Turns::first_formed, crate::proofs::Turns::rest_formed, crate::proofs::Turns::thin_begin, crate::proofs::Turns::thin_on, crate::proofs::Turns::thin_end))]
+fn put_thin(out: &mut SymBlock, facts: &FlowFacts, list: &[Sym]) -> Result<(), AllocError>
+    requires fits { are_well_formed list.now ≡ true }
+    requires empty { out.old.list.items ≡ [] }
+    ensures name { out.new.name ≡ out.old.name }
+    ensures thin { IfOk result (λ _. out.new.list.items ≡ stated.thin_from (facts_of facts.now) out.old.name ((facts_of facts.now).front out.old.name) false list.now) }
+{
+    let mut place = Place {
+        fact: facts.front(out.name),
+        behind: false,
+    };
+    let mut left = list;
+    while let Some((sym, rest)) = first_of(left) {
+        place = put_next(out, facts, place, sym)?;
+        left = rest;
+    }
+    Ok(())
+}
+
+// Puts a list as it is.
+#[tactic(auto, using(crate::proofs::Turns::first_formed, crate::proofs::Turns::rest_formed, crate::proofs::Turns::whole_on, crate::proofs::Turns::whole_end))]
+fn put_whole(out: &mut SymBlock, list: &[Sym]) -> Result<(), AllocError>
+    requires fits { are_well_formed list.now ≡ true }
+    requires empty { out.old.list.items ≡ [] }
+    ensures name { out.new.name ≡ out.old.name }
+    ensures whole { IfOk result (λ _. out.new.list.items ≡ list.now) }
+{
+    let mut left = list;
+    while let Some((sym, rest)) = first_of(left) {
+        out.put(sym)?;
+        left = rest;
+    }
+    Ok(())
+}
+
+fn thin_block(alloc: Global, facts: &FlowFacts, block: &SymBlock) -> Result<SymBlock, AllocError>
+    ensures name { IfOk result (λ made. made.name ≡ block.now.name) }
+    ensures code { IfOk result (λ made. made.list.items ≡ stated.thin (facts_of facts.now) block.now) }
+{
+    let mut out = SymBlock::new(alloc, block.name);
+    if same_block(block.name, BlockName::Start) {
+        put_whole(&mut out, &block.list)?;
+    } else {
+        put_thin(&mut out, facts, &block.list)?;
+    }
+    Ok(out)
+}
+
+fn put_made(blocks: &mut Vec<SymBlock>, block: SymBlock) -> Result<(), AllocError>
+    ensures { IfOk result (λ _. blocks.new.items ≡ blocks.old.items ++ (block ∷ [])) }
+{
+    blocks.push(block)?;
+    Ok(())
+}
+
+#[tactic(auto, using(crate::proofs::Turns::zip_none, crate::proofs::Turns::zip_more, crate::proofs::Turns::zip_all))]
+fn thin_blocks(
+    alloc: Global,
+    facts: &FlowFacts,
+    blocks: &[SymBlock],
+) -> Result<Vec<SymBlock>, AllocError>
+    ensures { IfOk result (λ made. AllZip (stated.IsThin (facts_of facts.now)) blocks.now made.items) }
+{
+    let mut made = Vec::new(alloc);
+    for block in blocks {
+        let thin = thin_block(alloc, facts, block)?;
+        put_made(&mut made, thin)?;
+    }
+    Ok(made)
+}
+
+// Facts by which nothing is known.
+#[tactic(auto, using(crate::proofs::Plain::none_consistent))]
+fn none_known(alloc: Global, handler: Option<u16>, blocks: &[SymBlock]) -> FlowFacts
+    ensures { are_consistent (facts_of result) handler blocks.now ≡ true }
+{
+    FlowFacts {
+        copies: Vec::new(alloc),
+    }
+}
+
+/// Facts that are consistent.
+fn facts_for(
+    alloc: Global,
+    handler: Option<u16>,
+    blocks: &[SymBlock],
+) -> Result<FlowFacts, AllocError>
+    ensures { IfOk result (λ facts. are_consistent (facts_of facts) handler blocks.now ≡ true) }
+{
+    let found = search(alloc, blocks, handler)?;
+    if is_consistent(&found, handler, blocks) {
+        return Ok(found);
+    }
+    Ok(none_known(alloc, handler, blocks))
+}
+
+/// The program without those selects that set what is so on every way to them. Main is copy 0, and the handler the copy with this
+/// number. The start block stays whole.
+pub fn thinned(
+    alloc: Global,
+    program: &SymProgram,
+    handler: Option<u16>,
+) -> Result<SymProgram, AllocError>
+    // By facts that are consistent, the selects that set what is known are left out, and nothing else is.
+    ensures { IfOk result (λ made. stated.IsThinned handler program.now.blocks.items made.blocks.items) }
+{
+    let facts = facts_for(alloc, handler, &program.blocks)?;
+    let blocks = thin_blocks(alloc, &facts, &program.blocks)?;
+    Ok(SymProgram { blocks })
+}
