@@ -1,74 +1,98 @@
--- What is known at each place of a list, on every way there.
+-- What is known by flow facts at each place of a list.
 use Rattle.std.proofs.Common.{◌≡◌, ℕ, zero, suc, Bool, true, false, ◌&&◌, if◌then◌else◌, List, [], ◌∷◌, Option, Some, None, slice_get, refl, sym, ap, ◌∙◌, subst}
 use Rattle.std.proofs.lemmas.Option.{same_Some, none-some}
 use Rattle.sym_code.specs.Programs.{labels_in_front}
 use Rattle.sym_code.specs.declared.code.BankBit.TheVariants.{Rp0, Rp1}
 use Rattle.sym_code.specs.declared.code.BlockName.{BlockName}
+use Rattle.sym_code.specs.declared.code.Label.{Label}
 use Rattle.sym_code.specs.declared.code.Sym.{Sym}
 use Rattle.sym_code.specs.declared.code.Sym.TheVariants as syms
 use Rattle.bank_page.specs.Kinds.{is_skip}
-use Rattle.bank_page.specs.Known.{nothing}
-use Rattle.bank_page.specs.Selected.{Place, Free, Behind, Broken, place_after, walk, seen, all_pass}
+use Rattle.bank_page.specs.Selected.{Place, Free, Behind, Broken, place_after, walk}
 use Rattle.bank_page.specs.declared.known.Known.{Known}
-use Rattle.bank_page.specs.declared.selecting.State.{State}
-use Rattle.bank_trace.proofs.Lists.{calm_at, label_at, never, settle, settle_zero}
+use Rattle.flow_facts.specs.Facts.{Fact, Facts, at_label}
+use Rattle.flow_facts.specs.Walk.{fact_after, behind_after, holds_of, all_hold, leads}
+use Rattle.bank_trace.proofs.Lists.{calm_at, never, settle, settle_zero, settle_label}
+use Rattle.bank_trace.proofs.Holding.{Bits, HoldsFact, holds_given, both_first, both_last}
 
--- what is known before an index, where this is known before the list
-abbrev pub state_at : BlockName → State → List Sym → ℕ → State
-state_at own state [] j = state
-state_at own state (s ∷ list) zero = state
-state_at own state (s ∷ list) (suc j) = state_at own (seen own state s) list j
+-- what is known before an instruction, and whether that stands behind a skip
+pub record Spot : Type 0 where
+  pub fact : Fact
+  pub behind : Bool
 
-state_zero : (own : BlockName) (state : State) (list : List Sym) → state_at own state list 0 ≡ state
-state_zero own state [] = refl
-state_zero own state (s ∷ list) = refl
+abbrev pub spot_front : Facts → BlockName → Spot
+spot_front f own = record { fact = f.front own; behind = false }
 
-pub state_next : (own : BlockName) (state : State) (list : List Sym) (j : ℕ) (s : Sym) → slice_get list j ≡ Some s → state_at own state list (suc j) ≡ seen own (state_at own state list j) s
-state_next own state [] j s e = absurd (none-some s e)
-state_next own state (x ∷ list) zero s e = state_zero own (seen own state x) list ∙ ap (seen own state) (same_Some x s e)
-state_next own state (x ∷ list) (suc j) s e = state_next own (seen own state x) list j s e
+abbrev pub spot_after : Facts → BlockName → Spot → Sym → Spot
+spot_after f own spot s = record { fact = fact_after f own spot.fact spot.behind s; behind = behind_after spot.behind s }
 
--- behind the end nothing more is learned
-pub state_past : (own : BlockName) (state : State) (list : List Sym) (j : ℕ) → slice_get list j ≡ None → state_at own state list (suc j) ≡ state_at own state list j
-state_past own state [] j e = refl
-state_past own state (x ∷ list) zero e = absurd (none-some x (sym e))
-state_past own state (x ∷ list) (suc j) e = state_past own (seen own state x) list j e
+module _ (f : Facts) (own : BlockName) where
+  -- before an index, where this is before the list
+  abbrev pub spot_at : Spot → List Sym → ℕ → Spot
+  spot_at spot [] j = spot
+  spot_at spot (s ∷ list) zero = spot
+  spot_at spot (s ∷ list) (suc j) = spot_at (spot_after f own spot s) list j
 
-pub passes_at : (test : Known → Sym → Bool) (own : BlockName) (state : State) (list : List Sym) (j : ℕ) (s : Sym) → all_pass test own state list ≡ true → slice_get list j ≡ Some s → test (state_at own state list j).known s ≡ true
-passes_at test own state [] j s p e = absurd (none-some s e)
-passes_at test own state (x ∷ list) zero s p e = subst (λ y. test state.known y ≡ true) (same_Some x s e) (first (test state.known x) (all_pass test own (seen own state x) list) p)
-  where
-    first : (a b : Bool) → (a && b) ≡ true → a ≡ true
-    first true b p = refl
-    first false b p = p
-passes_at test own state (x ∷ list) (suc j) s p e = passes_at test own (seen own state x) list j s (later (test state.known x) (all_pass test own (seen own state x) list) p) e
-  where
-    later : (a b : Bool) → (a && b) ≡ true → b ≡ true
-    later true b p = p
-    later false b p = never p
+  pub spot_zero : (spot : Spot) (list : List Sym) → spot_at spot list 0 ≡ spot
+  spot_zero spot [] = refl
+  spot_zero spot (s ∷ list) = refl
 
--- ---- what is lost
--- A fact about what is known that holds of nothing known still holds behind labels.
-module _ (P : Known → Type 0) (none : P nothing) where
-  pub keeps_settle : (own : BlockName) (state : State) (list : List Sym) (j : ℕ) → P (state_at own state list j).known → P (state_at own state list (settle list j)).known
-  keeps_settle own state [] j p = p
-  keeps_settle own state (syms.Label label ∷ list) zero p =
-      subst (λ n. P (state_at own (seen own state (syms.Label label)) list n).known) (settle_zero list)
-      (keeps_settle own (seen own state (syms.Label label)) list zero (subst (λ x. P x.known) (sym (state_zero own (seen own state (syms.Label label)) list)) none))
-  keeps_settle own state (s ∷ list) zero p = p
-  keeps_settle own state (s ∷ list) (suc j) p = keeps_settle own (seen own state s) list j p
+  pub spot_next : (spot : Spot) (list : List Sym) (j : ℕ) (s : Sym) → slice_get list j ≡ Some s → spot_at spot list (suc j) ≡ spot_after f own (spot_at spot list j) s
+  spot_next spot [] j s e = absurd (none-some s e)
+  spot_next spot (x ∷ list) zero s e = spot_zero (spot_after f own spot x) list ∙ ap (spot_after f own spot) (same_Some x s e)
+  spot_next spot (x ∷ list) (suc j) s e = spot_next (spot_after f own spot x) list j s e
 
-  -- and it holds behind a label
-  pub holds_at_label : (own : BlockName) (state : State) (list : List Sym) (j : ℕ) → label_at (slice_get list j) ≡ true → P (state_at own state list (settle list j)).known
-  holds_at_label own state [] j e = never e
-  holds_at_label own state (syms.Label label ∷ list) zero e =
-      subst (λ n. P (state_at own (seen own state (syms.Label label)) list n).known) (settle_zero list)
-      (keeps_settle own (seen own state (syms.Label label)) list zero (subst (λ x. P x.known) (sym (state_zero own (seen own state (syms.Label label)) list)) none))
-  holds_at_label own state (s ∷ list) zero e = never e
-  holds_at_label own state (s ∷ list) (suc j) e = holds_at_label own (seen own state s) list j e
+  -- behind the end nothing more is learned
+  pub spot_past : (spot : Spot) (list : List Sym) (j : ℕ) → slice_get list j ≡ None → spot_at spot list (suc j) ≡ spot_at spot list j
+  spot_past spot [] j e = refl
+  spot_past spot (x ∷ list) zero e = absurd (none-some x (sym e))
+  spot_past spot (x ∷ list) (suc j) e = spot_past (spot_after f own spot x) list j e
 
-  pub holds_at_front : (own : BlockName) (behind : Bool) (list : List Sym) → P (state_at own (record { known = nothing; behind = behind }) list 0).known
-  holds_at_front own behind list = subst (λ x. P x.known) (sym (state_zero own (record { known = nothing; behind = behind }) list)) none
+  pub passes_at : (test : Known → Sym → Bool) (spot : Spot) (list : List Sym) (j : ℕ) (s : Sym) → all_hold test f own spot.fact spot.behind list ≡ true → slice_get list j ≡ Some s → holds_of test (spot_at spot list j).fact s ≡ true
+  passes_at test spot [] j s p e = absurd (none-some s e)
+  passes_at test spot (x ∷ list) zero s p e =
+      subst (λ y. holds_of test spot.fact y ≡ true) (same_Some x s e) (both_first (holds_of test spot.fact x) (all_hold test f own (fact_after f own spot.fact spot.behind x) (behind_after spot.behind x) list) p)
+  passes_at test spot (x ∷ list) (suc j) s p e =
+      passes_at test (spot_after f own spot x) list j s (both_last (holds_of test spot.fact x) (all_hold test f own (fact_after f own spot.fact spot.behind x) (behind_after spot.behind x) list) p) e
+
+  -- ---- behind labels
+  label_after : (fact : Fact) (behind : Bool) (label : Label) → fact_after f own fact behind (syms.Label label) ≡ at_label f own label
+  label_after None behind label = refl
+  label_after (Some known) behind label = refl
+
+  module _ (pages : BlockName → ℕ) (b : Bits) where
+    into_label : (fact : Fact) (behind : Bool) (label : Label) → holds_of (leads f own) fact (syms.Label label) ≡ true → HoldsFact pages fact b → HoldsFact pages (fact_after f own fact behind (syms.Label label)) b
+    into_label None behind label e h = absurd h
+    into_label (Some known) behind label e h = holds_given pages (Some known) (at_label f own label) b e h
+
+    -- what holds at a place holds behind the labels there
+    pub fact_settles : (spot : Spot) (list : List Sym) (j : ℕ) → all_hold (leads f own) f own spot.fact spot.behind list ≡ true → HoldsFact pages (spot_at spot list j).fact b → HoldsFact pages (spot_at spot list (settle list j)).fact b
+    fact_settles spot [] j p h = h
+    fact_settles spot (syms.Label label ∷ list) zero p h =
+        let s = syms.Label label in
+        let first = both_first (holds_of (leads f own) spot.fact s) (all_hold (leads f own) f own (fact_after f own spot.fact spot.behind s) (behind_after spot.behind s) list) p in
+        let later = both_last (holds_of (leads f own) spot.fact s) (all_hold (leads f own) f own (fact_after f own spot.fact spot.behind s) (behind_after spot.behind s) list) p in
+        subst (λ n. HoldsFact pages (spot_at (spot_after f own spot s) list n).fact b) (settle_zero list)
+        (fact_settles (spot_after f own spot s) list zero later (subst (λ (x : Spot). HoldsFact pages x.fact b) (sym (spot_zero (spot_after f own spot s) list)) (into_label spot.fact spot.behind label first h)))
+    fact_settles spot (s ∷ list) zero p h = h
+    fact_settles spot (s ∷ list) (suc j) p h =
+        fact_settles (spot_after f own spot s) list j (both_last (holds_of (leads f own) spot.fact s) (all_hold (leads f own) f own (fact_after f own spot.fact spot.behind s) (behind_after spot.behind s) list) p) h
+
+    -- what holds where one jumps to a label
+    pub fact_at_label : (spot : Spot) (list : List Sym) (j : ℕ) (label : Label) → all_hold (leads f own) f own spot.fact spot.behind list ≡ true → slice_get list j ≡ Some (syms.Label label)
+        → HoldsFact pages (at_label f own label) b → HoldsFact pages (spot_at spot list (settle list j)).fact b
+    fact_at_label spot list j label p e h =
+        let here = spot_at spot list j in
+        let next : (spot_at spot list (suc j)).fact ≡ at_label f own label = ap (λ (x : Spot). x.fact) (spot_next spot list j (syms.Label label) e) ∙ label_after here.fact here.behind label in
+        subst (λ n. HoldsFact pages (spot_at spot list n).fact b) (settle_label list j label e) (fact_settles spot list (suc j) p (subst (λ (x : Fact). HoldsFact pages x b) (sym next) h))
+
+  pub behind_settles : (spot : Spot) (list : List Sym) (j : ℕ) → (spot_at spot list j).behind ≡ true → (spot_at spot list (settle list j)).behind ≡ true
+  behind_settles spot [] j h = h
+  behind_settles spot (syms.Label label ∷ list) zero h =
+      let next = spot_after f own spot (syms.Label label) in
+      subst (λ n. (spot_at next list n).behind ≡ true) (settle_zero list) (behind_settles next list zero (ap (λ (x : Spot). x.behind) (spot_zero next list) ∙ h))
+  behind_settles spot (s ∷ list) zero h = h
+  behind_settles spot (s ∷ list) (suc j) h = behind_settles (spot_after f own spot s) list j h
 
 -- ---- skips
 walk_broken : (list : List Sym) → walk Broken list ≡ Broken

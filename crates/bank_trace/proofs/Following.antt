@@ -13,7 +13,7 @@ use Rattle.sym_code.specs.declared.code.BlockName.TheVariants.{Copy}
 use Rattle.bank_page.specs.Links.{price_in, one_each}
 use Rattle.bank_trace.proofs.Banks.{bits_of}
 use Rattle.bank_trace.proofs.Sites.{Site, IsSound, without, with, plain_setting, banked_setting}
-use Rattle.bank_trace.proofs.Places.{under_front, open_fine, open_front}
+use Rattle.bank_trace.proofs.Places.{under_front, open_front}
 use Rattle.bank_trace.proofs.Moments.{one, other}
 use Rattle.bank_trace.proofs.Hops.{Sim, pace, Hop, hop, rests}
 
@@ -63,7 +63,7 @@ module _ (x : Site) (sound : IsSound x) (e : Entry) (o : Outside) (r : Registers
         plain = ap f (under_front x (Copy 0));
         banked = refl;
         fine = record {
-          main = record { at = open_fine x (front (with x) (Copy 0)) (bits_of r) (open_front x (Copy 0)); stack = tt };
+          main = record { at = (open_front x sound 0 (bits_of r) sound.main).fine; stack = tt };
           isr = record { at = tt; stack = tt };
         };
       }

@@ -12,10 +12,12 @@ use Rattle.sym_code.specs.declared.code.PageBit.TheVariants.{Low, High}
 use Rattle.sym_code.specs.declared.code.Sym.{Sym}
 use Rattle.sym_code.specs.declared.code.Sym.TheVariants as syms
 use Rattle.sym_code.specs.declared.code.Target.{Target}
-use Rattle.bank_page.specs.Known.{nothing, kept, left, after, forgets, ends, learned, same_bit, is_bit, is_page, is_of_bit, writes_status, writes_pclath}
+use Rattle.bank_page.specs.Known.{nothing, kept, left, learned, same_bit, is_bit, is_page, is_of_bit, writes_status, writes_pclath}
 use Rattle.bank_page.specs.Selected.{has_bank, reaches_target}
 use Rattle.bank_page.specs.Step.{rp0_of, rp1_of}
 use Rattle.bank_page.specs.declared.known.Known.{Known}
+use Rattle.flow_facts.specs.Facts.{Fact, gives_bit, gives_page, gives, shared_bit, shared_page, shared}
+use Rattle.flow_facts.proofs.More.{given_parts}
 use Rattle.bank_trace.proofs.Lists.{never}
 
 -- RP0, RP1 and the bits of the page
@@ -50,18 +52,14 @@ kept_page : (pages : BlockName → ℕ) (bit : PageBit) (changed : Bool) (known 
 kept_page pages bit true known v h = tt
 kept_page pages bit false known v h = h
 
--- less is known behind an instruction, whether it runs or is skipped
-pub holds_after : (pages : BlockName → ℕ) (known : Known) (s : Sym) (behind : Bool) (b : Bits) → Holds pages known b → Holds pages (after known s behind) b
-holds_after pages known s behind b h = by_end (forgets s || (ends s && not behind))
-  where
-    by_end : (c : Bool) → Holds pages (if c then nothing else left known s (writes_status s) (writes_pclath s)) b
-    by_end true = holds_nothing pages b
-    by_end false = record {
-      rp0 = kept_bit (writes_status s && is_of_bit s 5) known.rp0 b.rp0 h.rp0;
-      rp1 = kept_bit (writes_status s && is_of_bit s 6) known.rp1 b.rp1 h.rp1;
-      low = kept_page pages Low (writes_pclath s && is_of_bit s 3) known.low b.low h.low;
-      high = kept_page pages High (writes_pclath s && is_of_bit s 4) known.high b.high h.high;
-    }
+-- less is known behind an instruction
+pub holds_left : (pages : BlockName → ℕ) (known : Known) (s : Sym) (b : Bits) → Holds pages known b → Holds pages (left known s (writes_status s) (writes_pclath s)) b
+holds_left pages known s b h = record {
+  rp0 = kept_bit (writes_status s && is_of_bit s 5) known.rp0 b.rp0 h.rp0;
+  rp1 = kept_bit (writes_status s && is_of_bit s 6) known.rp1 b.rp1 h.rp1;
+  low = kept_page pages Low (writes_pclath s && is_of_bit s 3) known.low b.low h.low;
+  high = kept_page pages High (writes_pclath s && is_of_bit s 4) known.high b.high h.high;
+}
 
 -- the bits behind a select in a block
 abbrev pub selected : (BlockName → ℕ) → BlockName → Sym → Bits → Bits
@@ -124,3 +122,91 @@ page_is pages own known target b l e h =
     let first = page_known pages High known.high name b.high (both_first (is_page known.high name) (is_page known.low name) e) h.high in
     let last = page_known pages Low known.low name b.low (both_last (is_page known.high name) (is_page known.low name) e) h.low in
     omega arith
+
+-- ---- flow facts
+-- nothing is where nothing comes
+abbrev pub HoldsFact : (BlockName → ℕ) → Fact → Bits → Type 0
+HoldsFact pages None b = ⊥
+HoldsFact pages (Some known) b = Holds pages known b
+
+wanted_bit : (known wanted : Option Bool) (v : ℕ) → gives_bit known wanted ≡ true → HoldsBit known v → HoldsBit wanted v
+wanted_bit known None v e h = tt
+wanted_bit known (Some on) v e h = bit_is known on v e h
+
+wanted_page : (pages : BlockName → ℕ) (bit : PageBit) (known wanted : Option BlockName) (v : ℕ) → gives_page known wanted ≡ true → HoldsPage pages bit known v → HoldsPage pages bit wanted v
+wanted_page pages bit known None v e h = tt
+wanted_page pages bit known (Some name) v e h = page_known pages bit known name v e h
+
+-- what is enough for a place holds there
+pub holds_given : (pages : BlockName → ℕ) (fact wanted : Fact) (b : Bits) → gives fact wanted ≡ true → HoldsFact pages fact b → HoldsFact pages wanted b
+holds_given pages None wanted b e h = absurd h
+holds_given pages (Some known) None b e h = never e
+holds_given pages (Some known) (Some wanted) b e h =
+    let g = given_parts known wanted e in
+    record {
+      rp0 = wanted_bit known.rp0 wanted.rp0 b.rp0 g.rp0 h.rp0;
+      rp1 = wanted_bit known.rp1 wanted.rp1 b.rp1 g.rp1 h.rp1;
+      low = wanted_page pages Low known.low wanted.low b.low g.low h.low;
+      high = wanted_page pages High known.high wanted.high b.high g.high h.high;
+    }
+
+first_bit : (one other : Option Bool) (v : ℕ) → HoldsBit one v → HoldsBit (shared_bit one other) v
+first_bit one None v h = tt
+first_bit one (Some on) v h = by (is_bit one on) refl
+  where
+    by : (c : Bool) → is_bit one on ≡ c → HoldsBit (if c then Some on else None) v
+    by true is = bit_is one on v is h
+    by false is = tt
+
+last_bit : (one other : Option Bool) (v : ℕ) → HoldsBit other v → HoldsBit (shared_bit one other) v
+last_bit one None v h = tt
+last_bit one (Some on) v h = by (is_bit one on)
+  where
+    by : (c : Bool) → HoldsBit (if c then Some on else None) v
+    by true = h
+    by false = tt
+
+first_page : (pages : BlockName → ℕ) (bit : PageBit) (one other : Option BlockName) (v : ℕ) → HoldsPage pages bit one v → HoldsPage pages bit (shared_page one other) v
+first_page pages bit one None v h = tt
+first_page pages bit one (Some name) v h = by (is_page one name) refl
+  where
+    by : (c : Bool) → is_page one name ≡ c → HoldsPage pages bit (if c then Some name else None) v
+    by true is = page_known pages bit one name v is h
+    by false is = tt
+
+last_page : (pages : BlockName → ℕ) (bit : PageBit) (one other : Option BlockName) (v : ℕ) → HoldsPage pages bit other v → HoldsPage pages bit (shared_page one other) v
+last_page pages bit one None v h = tt
+last_page pages bit one (Some name) v h = by (is_page one name)
+  where
+    by : (c : Bool) → HoldsPage pages bit (if c then Some name else None) v
+    by true = h
+    by false = tt
+
+-- what two places share holds at each
+pub holds_first : (pages : BlockName → ℕ) (known : Known) (fact : Fact) (b : Bits) → Holds pages known b → HoldsFact pages (shared (Some known) fact) b
+holds_first pages known None b h = h
+holds_first pages known (Some other) b h = record {
+  rp0 = first_bit known.rp0 other.rp0 b.rp0 h.rp0;
+  rp1 = first_bit known.rp1 other.rp1 b.rp1 h.rp1;
+  low = first_page pages Low known.low other.low b.low h.low;
+  high = first_page pages High known.high other.high b.high h.high;
+}
+
+pub holds_last : (pages : BlockName → ℕ) (known : Known) (fact : Fact) (b : Bits) → HoldsFact pages fact b → HoldsFact pages (shared (Some known) fact) b
+holds_last pages known None b h = absurd h
+holds_last pages known (Some other) b h = record {
+  rp0 = last_bit known.rp0 other.rp0 b.rp0 h.rp0;
+  rp1 = last_bit known.rp1 other.rp1 b.rp1 h.rp1;
+  low = last_page pages Low known.low other.low b.low h.low;
+  high = last_page pages High known.high other.high b.high h.high;
+}
+
+-- where a thread stands something is known
+pub record Live (pages : BlockName → ℕ) (fact : Fact) (b : Bits) : Type 0 where
+  pub known : Known
+  pub is : fact ≡ Some known
+  pub holds : Holds pages known b
+
+pub live : (pages : BlockName → ℕ) (fact : Fact) (b : Bits) → HoldsFact pages fact b → Live pages fact b
+live pages None b h = absurd h
+live pages (Some known) b h = record { known = known; is = refl; holds = h }

@@ -8,8 +8,9 @@ use Rattle.sym_code.specs.declared.code.BlockName.TheVariants.{Copy}
 use Rattle.bank_trace.proofs.Lists.{never}
 use Rattle.bank_trace.proofs.Holding.{Bits}
 use Rattle.bank_trace.proofs.Banks.{bits_of}
-use Rattle.bank_trace.proofs.Sites.{Site, without, with, plain_setting, banked_setting}
-use Rattle.bank_trace.proofs.Places.{under, open_fine, under_front, open_front, under_lands}
+use Rattle.flow_facts.specs.Walk.{is_open, is_open_at}
+use Rattle.bank_trace.proofs.Sites.{Site, IsSound, without, with, plain_setting, banked_setting}
+use Rattle.bank_trace.proofs.Places.{under, under_front, open_front, under_lands}
 use Rattle.bank_trace.proofs.Twins.{Twin, plain_thread, banked_thread, FineAt, IsFineTwin, Deed, Quietly, Reading, Writing, Leaving, Ending, Resting, plain_effect, banked_effect, IsFineDeed, is_resting}
 
 pub record Joint : Type 0 where
@@ -104,20 +105,21 @@ module _ (x : Site) (o : Outside) (j : Joint) (fine : IsFineJoint x j) where
     abbrev begun : ℕ → Twin
     begun copy = record { rest = None; at = Some (front (with x) (Copy copy)); stack = []; registers = e j.entries; bits = bits_of (e j.entries) }
 
-    fine_begun : (copy : ℕ) → IsFineTwin x (begun copy)
-    fine_begun copy = record { at = open_fine x (front (with x) (Copy copy)) (bits_of (e j.entries)) (open_front x (Copy copy)); stack = tt }
+    module _ (sound : IsSound x) where
+      fine_begun : (copy : ℕ) → is_open x.facts copy ≡ true → IsFineTwin x (begun copy)
+      fine_begun copy is = record { at = (open_front x sound copy (bits_of (e j.entries)) is).fine; stack = tt }
 
-    both_in : (copy : ℕ) (c d : Bool) → (c ≡ true → d ≡ true)
-        → Both x (if c then Goes (with_entry (at_front (without x) copy (e j.entries)) (plain_machine x j)) else Stops) (if d then Goes (with_entry (at_front (with x) copy (e j.entries)) (banked_machine j)) else Stops)
-    both_in copy false d ok = Stopped refl
-    both_in copy true true ok =
-        Went (record { main = j.main; isr = begun copy; entries = j.entries + 1; memory = j.memory; world = entered j.world }) (record { main = fine.main; isr = fine_begun copy })
-        (let g : Position → Next = λ p. Goes (with_entry (record { rest = None; at = Some p; stack = []; registers = e j.entries }) (plain_machine x j)) in ap g (under_front x (Copy copy)))
-        refl
-    both_in copy true false ok = never (ok refl)
+      both_in : (copy : ℕ) → is_open x.facts copy ≡ true → (c d : Bool) → (c ≡ true → d ≡ true)
+          → Both x (if c then Goes (with_entry (at_front (without x) copy (e j.entries)) (plain_machine x j)) else Stops) (if d then Goes (with_entry (at_front (with x) copy (e j.entries)) (banked_machine j)) else Stops)
+      both_in copy is false d ok = Stopped refl
+      both_in copy is true true ok =
+          Went (record { main = j.main; isr = begun copy; entries = j.entries + 1; memory = j.memory; world = entered j.world }) (record { main = fine.main; isr = fine_begun copy is })
+          (let g : Position → Next = λ p. Goes (with_entry (record { rest = None; at = Some p; stack = []; registers = e j.entries }) (plain_machine x j)) in ap g (under_front x (Copy copy)))
+          refl
+      both_in copy is true false ok = never (ok refl)
 
-    pub both_enter : (handler : Option ℕ) → Both x (enter (plain_setting x) e handler (plain_machine x j)) (enter (banked_setting x) e handler (banked_machine j))
-    both_enter None = Stopped refl
-    both_enter (Some copy) =
-        both_in copy (lands (without x) (front (without x) (Copy copy))) (lands (with x) (front (with x) (Copy copy)))
-        (λ c. under_lands x (front (with x) (Copy copy)) (open_front x (Copy copy)).settled (ap (lands (without x)) (sym (under_front x (Copy copy))) ∙ c))
+      pub both_enter : (handler : Option ℕ) → is_open_at x.facts handler ≡ true → Both x (enter (plain_setting x) e handler (plain_machine x j)) (enter (banked_setting x) e handler (banked_machine j))
+      both_enter None is = Stopped refl
+      both_enter (Some copy) is =
+          both_in copy is (lands (without x) (front (without x) (Copy copy))) (lands (with x) (front (with x) (Copy copy)))
+          (λ c. under_lands x (front (with x) (Copy copy)) (open_front x sound copy (bits_of (e j.entries)) is).fine.settled (ap (lands (without x)) (sym (under_front x (Copy copy))) ∙ c))

@@ -8,19 +8,20 @@ use Rattle.sym_code.specs.Programs.{Position, lands, behind, position}
 use Rattle.sym_code.specs.Registers.{Registers}
 use Rattle.sym_code.specs.Selects.{is_select}
 use Rattle.sym_code.specs.declared.code.BankBit.TheVariants.{Rp0, Rp1}
+use Rattle.sym_code.specs.declared.code.BlockName.{BlockName}
 use Rattle.sym_code.specs.declared.code.PageBit.TheVariants.{Low, High}
 use Rattle.sym_code.specs.declared.code.Sym.{Sym}
 use Rattle.sym_code.specs.declared.code.Sym.TheVariants as syms
-use Rattle.bank_page.specs.Known.{after, learned}
-use Rattle.bank_page.specs.Selected as selects
-use Rattle.bank_page.specs.declared.selecting.State.{State}
+use Rattle.bank_page.specs.declared.known.Known.{Known}
+use Rattle.flow_facts.specs.Facts.{Fact}
+use Rattle.flow_facts.specs.Walk.{fact_after}
 use Rattle.bank_trace.proofs.Lists.{select_at, never, settle_again, mark_settle, mark_select}
 use Rattle.bank_trace.proofs.Prices.{selects_before, selects_ahead, before_select, before_settle, ahead_select, ahead_settle}
-use Rattle.bank_trace.proofs.Facts.{state_at, state_next, keeps_settle}
-use Rattle.bank_trace.proofs.Holding.{Bits, Holds, holds_nothing, holds_learned, selected}
-use Rattle.bank_trace.proofs.Sites.{Site, with, banked_setting}
-use Rattle.bank_trace.proofs.Places.{behind_is, under, known_at, IsFine}
-use Rattle.bank_trace.proofs.Twins.{Twin, plain_thread, banked_thread, AreOpen}
+use Rattle.bank_trace.proofs.Facts.{Spot, spot_front, spot_at, spot_next, fact_settles}
+use Rattle.bank_trace.proofs.Holding.{Bits, Holds, HoldsFact, holds_learned, live, selected}
+use Rattle.bank_trace.proofs.Sites.{Site, IsSound, with, banked_setting}
+use Rattle.bank_trace.proofs.Places.{behind_is, block_behind, under, spot, fact_at, IsFine, AreBack}
+use Rattle.bank_trace.proofs.Twins.{Twin, plain_thread, banked_thread}
 use Rattle.bank_trace.proofs.Joints.{Joint, plain_machine, banked_machine, IsFineJoint, running_twin, running_by, put, moved_by, fine_put}
 use Rattle.bank_trace.proofs.Steps.{effect_some}
 
@@ -45,17 +46,23 @@ module _ (x : Site) (q : Position) (stack : List Position) (r : Registers) where
     pub select_under : under x to ≡ under x q
     select_under = ap (under x) (behind_is (with x) q) ∙ ap (position q.block) (mark_settle (x.made q.block) (suc q.index) ∙ mark_select (x.made q.block) q.index there)
 
-    holds_past : Holds x.pages (known_at x q) b → Holds x.pages (state_at q.block selects.front (x.made q.block) (suc q.index)).known set
-    holds_past h =
-        let state = state_at q.block selects.front (x.made q.block) q.index in
-        subst (λ (t : State). Holds x.pages t.known set) (sym (state_next q.block selects.front (x.made q.block) q.index s fetch))
-        (subst (λ (c : Bool). Holds x.pages (if c then learned q.block state.known s else after state.known s state.behind) set) (sym select) (holds_learned x.pages q.block state.known s b h))
+    holds_select : (known : Known) (behind : Bool) (t : Sym) → is_select t ≡ true → Holds x.pages known b → HoldsFact x.pages (fact_after x.facts q.block (Some known) behind t) (selected x.pages q.block t b)
+    holds_select known behind (syms.SelectBank Rp0 on) e h = holds_learned x.pages q.block known (syms.SelectBank Rp0 on) b h
+    holds_select known behind (syms.SelectBank Rp1 on) e h = holds_learned x.pages q.block known (syms.SelectBank Rp1 on) b h
+    holds_select known behind (syms.SelectPage bit target) e h = holds_learned x.pages q.block known (syms.SelectPage bit target) b h
+    holds_select known behind t e h = never e
 
-    pub select_fine : IsFine x q b → IsFine x to set
-    select_fine h =
+    holds_past : HoldsFact x.pages (fact_at x q) b → HoldsFact x.pages (spot_at x.facts q.block (spot_front x.facts q.block) (x.made q.block) (suc q.index)).fact set
+    holds_past h =
+        let l = live x.pages (fact_at x q) b h in
+        subst (λ (t : Spot). HoldsFact x.pages t.fact set) (sym (spot_next x.facts q.block (spot_front x.facts q.block) (x.made q.block) q.index s fetch))
+        (subst (λ (y : Fact). HoldsFact x.pages (fact_after x.facts q.block y (spot x q).behind s) set) (sym l.is) (holds_select l.known (spot x q).behind s select l.holds))
+
+    pub select_fine : IsSound x → IsFine x q b → IsFine x to set
+    select_fine sound h =
         subst (λ (p : Position). IsFine x p set) (sym (behind_is (with x) q)) (record {
           settled = settle_again (x.made q.block) (suc q.index);
-          holds = keeps_settle (λ k. Holds x.pages k set) (holds_nothing x.pages set) q.block selects.front (x.made q.block) (suc q.index) (holds_past h.holds);
+          holds = fact_settles x.facts q.block x.pages set (spot_front x.facts q.block) (x.made q.block) (suc q.index) (sound.lead q.block) (holds_past h.holds);
         })
 
     pub select_ahead : selects_ahead (x.made q.block) q.index ≡ suc (selects_ahead (x.made to.block) to.index)
@@ -125,5 +132,6 @@ module _ (x : Site) (q : Position) (stack : List Position) (r : Registers) where
       pub select_runs : running_twin behind_joint ≡ past
       select_runs = put_runs j.world.inside j.main j.isr past
 
-      pub select_joint : IsFineJoint x j → AreOpen x stack → IsFine x q b → IsFineJoint x behind_joint
-      select_joint h open_stack here = fine_put x j past None j.world h (record { at = select_fine here; stack = open_stack })
+      pub select_joint : IsSound x → IsFineJoint x j → AreBack x q.block stack → IsFine x q b → IsFineJoint x behind_joint
+      select_joint sound h open_stack here =
+          fine_put x j past None j.world h (record { at = select_fine sound here; stack = subst (λ (n : BlockName). AreBack x n stack) (sym (block_behind x q)) open_stack })

@@ -1,9 +1,12 @@
 -- Places in a list, and in what is left of it without its selects.
 use Rattle.std.proofs.Common.{◌≡◌, ℕ, zero, suc, ◌+◌, Bool, true, false, not, ◌&&◌, if◌then◌else◌, List, [], ◌∷◌, drop, Option, Some, None, option_map, slice_get, refl, sym, ap, ◌∙◌, subst, add-one, true≢false, arith}
+use Rattle.std.proofs.lemmas.Bool.{eqb-true}
+use Rattle.std.proofs.lemmas.Option.{none-some}
 use Rattle.sym_code.specs.Programs.{is_word, labels_in_front, label_from, same_label}
 use Rattle.sym_code.specs.Selects.{is_select, bare}
 use Rattle.sym_code.specs.declared.code.BankBit.TheVariants.{Rp0, Rp1}
 use Rattle.sym_code.specs.declared.code.Label.{Label}
+use Rattle.sym_code.specs.declared.code.Label.TheVariants as labels
 use Rattle.sym_code.specs.declared.code.Sym.{Sym}
 use Rattle.sym_code.specs.declared.code.Sym.TheVariants as syms
 use Rattle.bank_page.specs.Kinds.{is_label}
@@ -166,20 +169,38 @@ label_mark (s ∷ list) label =
     ∙ ap (option_map suc) (label_mark list label)
     ∙ sym (ap (option_map (settle (s ∷ bare list))) (label_suc (bare list) label 0) ∙ suc_out (settle (s ∷ bare list)) (settle (bare list)) (label_from (bare list) label 0) (λ k. refl))
 
--- a label stands where one is found
-abbrev pub FoundLabel : List Sym → Option ℕ → Type 0
-FoundLabel list None = Unit {0}
-FoundLabel list (Some k) = label_at (slice_get list k) ≡ true
+-- ---- the label that is found
+same_labels : (l label : Label) → same_label l label ≡ true → l ≡ label
+same_labels (labels.Inner n) (labels.Inner m) e = ap labels.Inner (eqb-true n m e)
+same_labels (labels.Inner n) labels.Halt e = never e
+same_labels (labels.Inner n) labels.Restore e = never e
+same_labels labels.Halt (labels.Inner m) e = never e
+same_labels labels.Halt labels.Halt e = refl
+same_labels labels.Halt labels.Restore e = never e
+same_labels labels.Restore (labels.Inner m) e = never e
+same_labels labels.Restore labels.Halt e = never e
+same_labels labels.Restore labels.Restore e = refl
 
-found_later : (s : Sym) (list : List Sym) (o : Option ℕ) → FoundLabel list o → FoundLabel (s ∷ list) (option_map suc o)
-found_later s list None found = tt
-found_later s list (Some k) found = found
+abbrev pub FoundSame : List Sym → Label → Option ℕ → Type 0
+FoundSame list label None = Unit {0}
+FoundSame list label (Some k) = slice_get list k ≡ Some (syms.Label label)
 
-pub found_label : (list : List Sym) (label : Label) → FoundLabel list (label_from list label 0)
-found_label [] label = tt
-found_label (syms.Label l ∷ list) label = by_label (same_label l label) (found_label list label)
+same_later : (s : Sym) (list : List Sym) (label : Label) (o : Option ℕ) → FoundSame list label o → FoundSame (s ∷ list) label (option_map suc o)
+same_later s list label None found = tt
+same_later s list label (Some k) found = found
+
+pub found_same : (list : List Sym) (label : Label) → FoundSame list label (label_from list label 0)
+found_same [] label = tt
+found_same (syms.Label l ∷ list) label = by_label (same_label l label) refl (found_same list label)
   where
-    by_label : (b : Bool) → FoundLabel list (label_from list label 0) → FoundLabel (syms.Label l ∷ list) (if b then Some 0 else label_from list label 1)
-    by_label true before = refl
-    by_label false before = subst (FoundLabel (syms.Label l ∷ list)) (sym (label_suc list label 0)) (found_later (syms.Label l) list (label_from list label 0) before)
-found_label (s ∷ list) label = subst (FoundLabel (s ∷ list)) (sym (label_suc list label 0)) (found_later s list (label_from list label 0) (found_label list label))
+    by_label : (b : Bool) → same_label l label ≡ b → FoundSame list label (label_from list label 0) → FoundSame (syms.Label l ∷ list) label (if b then Some 0 else label_from list label 1)
+    by_label true is before = ap (λ (x : Label). Some (syms.Label x)) (same_labels l label is)
+    by_label false is before = subst (FoundSame (syms.Label l ∷ list) label) (sym (label_suc list label 0)) (same_later (syms.Label l) list label (label_from list label 0) before)
+found_same (s ∷ list) label = subst (FoundSame (s ∷ list) label) (sym (label_suc list label 0)) (same_later s list label (label_from list label 0) (found_same list label))
+
+-- behind a label the code goes on where it goes on at it
+pub settle_label : (list : List Sym) (j : ℕ) (label : Label) → slice_get list j ≡ Some (syms.Label label) → settle list (suc j) ≡ settle list j
+settle_label [] j label e = absurd (none-some (syms.Label label) e)
+settle_label (syms.Label l ∷ list) zero label e = ap suc (settle_zero list)
+settle_label (s ∷ list) zero label e = never (ap label_at e)
+settle_label (s ∷ list) (suc j) label e = ap suc (settle_label list j label e)

@@ -105,13 +105,13 @@ module _ (x : Site) (sound : IsSound x) (e : Entry) (o : Outside) (first last : 
     goal_stands = ap (lands (without x)) (select_under x q stack r b s fetch select) ∙ stands
 
     goal_fine : IsFineJoint x goal
-    goal_fine = select_joint x q stack r b s fetch select j due runs fine here.stack here.at
+    goal_fine = select_joint x q stack r b s fetch select j due runs sound fine here.stack here.at
 
     goal_runs : running_twin goal ≡ at_select x place_past stack r (set x q stack r b s fetch select)
     goal_runs = select_runs x q stack r b s fetch select j due runs
 
     goal_step : sym_step_at (banked_setting x) e o (banked_machine j) ≡ Goes (banked_machine goal)
-    goal_step = select_step x q stack r b s fetch select j due runs e o (under_lands x place_past (select_fine x q stack r b s fetch select here.at).settled goal_stands)
+    goal_step = select_step x q stack r b s fetch select j due runs e o (under_lands x place_past (select_fine x q stack r b s fetch select sound here.at).settled goal_stands)
 
     goal_banked : settled o (other (suc m)) ≡ banked_machine goal
     goal_banked =

@@ -1,22 +1,26 @@
 -- Positions of code with its selects, the positions of the code without them that belong to these, and what is known there.
-use Rattle.std.proofs.Common.{◌≡◌, ℕ, suc, ◌+◌, Bool, true, false, not, ◌&&◌, if◌then◌else◌, Option, Some, None, option_map, slice_get, refl, sym, ap, ◌∙◌, subst, add-one}
-use Rattle.sym_code.specs.Programs.{Program, Position, position, is_word, lands, stand, front, behind, onward, label_from, place_of}
-use Rattle.sym_code.specs.Selects.{is_select, bare}
+use Rattle.std.proofs.Common.{◌≡◌, ℕ, suc, ◌+◌, Bool, true, false, not, ◌&&◌, if◌then◌else◌, List, [], ◌∷◌, Option, Some, None, option_map, slice_get, refl, sym, ap, ◌∙◌, subst, add-one}
+use Rattle.sym_code.specs.Programs.{Program, Position, position, is_word, lands, stand, front, behind, onward, label_from, place_of, block_of}
+use Rattle.sym_code.specs.Selects.{bare}
+use Rattle.sym_code.specs.declared.code.BankBit.TheVariants.{Rp0, Rp1, Irp}
 use Rattle.sym_code.specs.declared.code.BlockName.{BlockName}
+use Rattle.sym_code.specs.declared.code.BlockName.TheVariants as names
+use Rattle.sym_code.specs.declared.code.Label.{Label}
 use Rattle.sym_code.specs.declared.code.Label.TheVariants.{Inner, Halt, Restore}
 use Rattle.sym_code.specs.declared.code.Sym.{Sym}
 use Rattle.sym_code.specs.declared.code.Sym.TheVariants as syms
 use Rattle.sym_code.specs.declared.code.Target.{Target}
 use Rattle.sym_code.specs.declared.code.Target.TheVariants as targets
-use Rattle.bank_page.specs.Known.{nothing, after, learned}
-use Rattle.bank_page.specs.Kinds.{is_label}
-use Rattle.bank_page.specs.Selected as selected
+use Rattle.bank_page.specs.Known.{nothing, ends, is_return, is_retlw, left}
+use Rattle.bank_page.specs.Kinds.{is_skip}
 use Rattle.bank_page.specs.Selected.{Free}
 use Rattle.bank_page.specs.declared.known.Known.{Known}
-use Rattle.bank_page.specs.declared.selecting.State.{State}
-use Rattle.bank_trace.proofs.Lists.{calm_at, never, settle, settle_zero, settle_is, settle_again, mark, mark_zero, mark_settle, mark_behind, mark_lands, label_mark, FoundLabel, found_label}
-use Rattle.bank_trace.proofs.Facts.{state_at, state_next, state_past, keeps_settle, holds_at_label, holds_at_front, skip_at, calm_behind}
-use Rattle.bank_trace.proofs.Holding.{Bits, Holds, holds_nothing, holds_after}
+use Rattle.flow_facts.specs.Facts.{Fact, gives, at_label, at_target}
+use Rattle.flow_facts.specs.Walk.{called, fact_after, is_open}
+use Rattle.flow_facts.proofs.Along.{skip_behind}
+use Rattle.bank_trace.proofs.Lists.{is_plain, calm_at, never, settle, settle_zero, settle_is, settle_again, mark, mark_zero, mark_settle, mark_behind, mark_lands, label_mark, FoundSame, found_same}
+use Rattle.bank_trace.proofs.Facts.{Spot, spot_front, spot_at, spot_zero, spot_next, spot_past, fact_settles, fact_at_label, behind_settles, skip_at, calm_behind}
+use Rattle.bank_trace.proofs.Holding.{Bits, Holds, HoldsFact, holds_nothing, holds_left, holds_given, holds_first, holds_last, Live, live}
 use Rattle.bank_trace.proofs.Sites.{Site, IsSound, without, with}
 
 pub stand_is : (q : Program) (p : Position) → stand q p ≡ position p.block (settle (q.block p.block) p.index)
@@ -26,27 +30,53 @@ stand_is q p = ap (position p.block) (settle_is (q.block p.block) p.index)
 pub behind_is : (q : Program) (p : Position) → behind q p ≡ position p.block (settle (q.block p.block) (suc p.index))
 behind_is q p = stand_is q (position p.block (p.index + 1)) ∙ ap (λ n. position p.block (settle (q.block p.block) n)) (add-one p.index)
 
+-- an instruction behind which the code goes on, if it runs
+abbrev pub goes_past : Sym → Bool
+goes_past (syms.Call target) = false
+goes_past s = is_plain s && not (ends s)
+
+not_true : (c : Bool) → not c ≡ true → c ≡ false
+not_true true e = never e
+not_true false e = refl
+
+past_calm : (s : Sym) → goes_past s ≡ true → is_plain s ≡ true
+past_calm (syms.Label label) e = never e
+past_calm (syms.SelectBank Rp0 on) e = never e
+past_calm (syms.SelectBank Rp1 on) e = never e
+past_calm (syms.SelectPage bit target) e = never e
+past_calm s e = refl
+
 module _ (x : Site) where
   -- the position without selects that belongs to one with them
   abbrev pub under : Position → Position
   under q = position q.block (mark (x.made q.block) q.index)
 
   -- what is known there
-  abbrev pub known_at : Position → Known
-  known_at q = (state_at q.block selected.front (x.made q.block) q.index).known
+  abbrev pub spot : Position → Spot
+  spot q = spot_at x.facts q.block (spot_front x.facts q.block) (x.made q.block) q.index
+
+  abbrev pub fact_at : Position → Fact
+  fact_at q = (spot q).fact
 
   -- no label stands there, and what is known holds of the bits
   pub record IsFine (q : Position) (b : Bits) : Type 0 where
     pub settled : settle (x.made q.block) q.index ≡ q.index
-    pub holds : Holds x.pages (known_at q) b
+    pub holds : HoldsFact x.pages (fact_at q) b
 
-  -- no label stands there, and nothing is known
-  pub record IsOpen (q : Position) : Type 0 where
+  -- no label stands there, and what a block leaves holds there
+  pub record IsBack (own : BlockName) (q : Position) : Type 0 where
     pub settled : settle (x.made q.block) q.index ≡ q.index
-    pub nothing : known_at q ≡ nothing
+    pub holds : (b : Bits) → HoldsFact x.pages (x.facts.back own) b → HoldsFact x.pages (fact_at q) b
 
-  pub open_fine : (q : Position) (b : Bits) → IsOpen q → IsFine q b
-  open_fine q b h = record { settled = h.settled; holds = subst (λ k. Holds x.pages k b) (sym h.nothing) (holds_nothing x.pages b) }
+  -- where calls come back to, the innermost first, from a block
+  abbrev pub AreBack : BlockName → List Position → Type 0
+  AreBack own [] = Unit {0}
+  AreBack own (q ∷ stack) = IsBack own q × AreBack q.block stack
+
+  -- a block that leaves more comes back as well
+  pub back_more : (own name : BlockName) (stack : List Position) → gives (x.facts.back name) (x.facts.back own) ≡ true → AreBack own stack → AreBack name stack
+  back_more own name [] e h = tt
+  back_more own name (q ∷ stack) e h = (record { settled = h.0.settled; holds = λ b l. h.0.holds b (holds_given x.pages (x.facts.back name) (x.facts.back own) b e l) }, h.1)
 
   -- ---- where the code goes on
   pub under_behind : (q : Position) → calm_at (slice_get (x.made q.block) q.index) ≡ true → behind (without x) (under q) ≡ under (behind (with x) q)
@@ -78,78 +108,160 @@ module _ (x : Site) where
       ∙ ap (option_map (position q.block)) (sym (label_mark (x.made q.block) (Inner n)))
       ∙ sym (place_with q.block (label_from (x.made q.block) (Inner n) 0))
 
+  pub block_behind : (q : Position) → (behind (with x) q).block ≡ q.block
+  block_behind q = ap (λ (p : Position). p.block) (behind_is (with x) q)
+
   -- ---- what is known there
-  open_at : (p : Position) (q : Position) → q ≡ p → IsOpen p → IsOpen q
-  open_at p q e h = subst IsOpen (sym e) h
+  pub record Arrives (name : BlockName) (b : Bits) (p : Position) : Type 0 where
+    pub fine : IsFine p b
+    pub block : p.block ≡ name
 
-  pub open_front : (name : BlockName) → IsOpen (front (with x) name)
-  open_front name =
-      open_at (position name (settle (x.made name) 0)) (front (with x) name) (stand_is (with x) (position name 0)) (record {
-        settled = settle_again (x.made name) 0;
-        nothing = keeps_settle (λ k. k ≡ nothing) refl name selected.front (x.made name) 0 (holds_at_front (λ k. k ≡ nothing) refl name false (x.made name));
-      })
+  abbrev pub ArrivesAt : BlockName → Bits → Option Position → Type 0
+  ArrivesAt name b None = Unit {0}
+  ArrivesAt name b (Some p) = Arrives name b p
 
-  abbrev pub OpenPlace : Option Position → Type 0
-  OpenPlace None = Unit {0}
-  OpenPlace (Some q) = IsOpen q
+  -- behind an instruction, which may skip the next one
+  pub record Onto (b : Bits) (q : Position) (skips : Bool) : Type 0 where
+    pub same : onward (without x) (under q) skips ≡ under (onward (with x) q skips)
+    pub fine : IsFine (onward (with x) q skips) b
+    pub block : (onward (with x) q skips).block ≡ q.block
 
-  open_label : (name : BlockName) (o : Option ℕ) → FoundLabel (x.made name) o → OpenPlace (option_map (λ k. stand (with x) (position name k)) o)
-  open_label name None h = tt
-  open_label name (Some k) h =
-      open_at (position name (settle (x.made name) k)) (stand (with x) (position name k)) (stand_is (with x) (position name k)) (record {
+  module _ (sound : IsSound x) where
+    -- behind the labels at an index
+    fine_at : (name : BlockName) (j : ℕ) (b : Bits) → HoldsFact x.pages (spot_at x.facts name (spot_front x.facts name) (x.made name) j).fact b → IsFine (position name (settle (x.made name) j)) b
+    fine_at name j b h = record { settled = settle_again (x.made name) j; holds = fact_settles x.facts name x.pages b (spot_front x.facts name) (x.made name) j (sound.lead name) h }
+
+    pub fine_front : (name : BlockName) (b : Bits) → HoldsFact x.pages (x.facts.front name) b → Arrives name b (front (with x) name)
+    fine_front name b h = record {
+      fine = subst (λ (p : Position). IsFine p b) (sym (stand_is (with x) (position name 0))) (fine_at name 0 b (subst (λ (t : Spot). HoldsFact x.pages t.fact b) (sym (spot_zero x.facts name (spot_front x.facts name) (x.made name))) h));
+      block = ap (λ (p : Position). p.block) (stand_is (with x) (position name 0));
+    }
+
+    -- at the front of main and of the handler anything may be selected
+    pub open_front : (copy : ℕ) (b : Bits) → is_open x.facts copy ≡ true → Arrives (names.Copy copy) b (front (with x) (names.Copy copy))
+    open_front copy b e = fine_front (names.Copy copy) b (holds_given x.pages (Some nothing) (x.facts.front (names.Copy copy)) b e (holds_nothing x.pages b))
+
+    fine_label : (name : BlockName) (b : Bits) (label : Label) (o : Option ℕ) → FoundSame (x.made name) label o → HoldsFact x.pages (at_label x.facts name label) b → ArrivesAt name b (option_map (λ k. stand (with x) (position name k)) o)
+    fine_label name b label None found h = tt
+    fine_label name b label (Some k) found h = record {
+      fine = subst (λ (p : Position). IsFine p b) (sym (stand_is (with x) (position name k))) (record {
         settled = settle_again (x.made name) k;
-        nothing = holds_at_label (λ k. k ≡ nothing) refl name selected.front (x.made name) k h;
-      })
+        holds = fact_at_label x.facts name x.pages b (spot_front x.facts name) (x.made name) k label (sound.lead name) found h;
+      });
+      block = ap (λ (p : Position). p.block) (stand_is (with x) (position name k));
+    }
 
-  pub open_place : (q : Position) (target : Target) → OpenPlace (place_of (with x) q target)
-  open_place q (targets.Block name) = open_front name
-  open_place q (targets.Label Halt) = tt
-  open_place q (targets.Label Restore) = tt
-  open_place q (targets.Label (Inner n)) = open_label q.block (label_from (x.made q.block) (Inner n) 0) (found_label (x.made q.block) (Inner n))
+    -- where a jump or a call leads to
+    pub fine_place : (q : Position) (target : Target) (b : Bits) → HoldsFact x.pages (at_target x.facts q.block target) b → ArrivesAt (block_of q.block target) b (place_of (with x) q target)
+    fine_place q (targets.Block name) b h = fine_front name b h
+    fine_place q (targets.Label Halt) b h = tt
+    fine_place q (targets.Label Restore) b h = tt
+    fine_place q (targets.Label (Inner n)) b h = fine_label q.block b (Inner n) (label_from (x.made q.block) (Inner n) 0) (found_same (x.made q.block) (Inner n)) h
 
-  -- behind a call
-  pub open_behind : (q : Position) (target : Target) → slice_get (x.made q.block) q.index ≡ Some (syms.Call target) → IsOpen (behind (with x) q)
-  open_behind q target e =
-      open_at (position q.block (settle (x.made q.block) (suc q.index))) (behind (with x) q) (behind_is (with x) q) (record {
-        settled = settle_again (x.made q.block) (suc q.index);
-        nothing = keeps_settle (λ k. k ≡ nothing) refl q.block selected.front (x.made q.block) (suc q.index)
-            (ap (λ (s : State). s.known) (state_next q.block selected.front (x.made q.block) q.index (syms.Call target) e));
-      })
+    -- ---- behind a call
+    holds_called : (back : Fact) (known : Known) (behind : Bool) (b : Bits) → HoldsFact x.pages back b → HoldsFact x.pages (called back known behind) b
+    holds_called back known true b h = holds_last x.pages known back b h
+    holds_called back known false b h = h
 
-  -- behind an instruction, whether it ran or was skipped
-  module _ (b : Bits) where
-    plain_known : (name : BlockName) (state : State) (s : Sym) (c : Bool) → is_select s ≡ c → (not c && not (is_label s)) ≡ true → Holds x.pages state.known b → Holds x.pages (if c then learned name state.known s else after state.known s state.behind) b
-    plain_known name state s true is e h = never e
-    plain_known name state s false is e h = holds_after x.pages state.known s state.behind b h
+    call_after : (name : BlockName) (fact : Fact) (behind : Bool) (known : Known) (target : Target) (b : Bits) → fact ≡ Some known → HoldsFact x.pages (x.facts.back (block_of name target)) b → HoldsFact x.pages (fact_after x.facts name fact behind (syms.Call target)) b
+    call_after name fact behind known target b is h =
+        subst (λ (y : Fact). HoldsFact x.pages (fact_after x.facts name y behind (syms.Call target)) b) (sym is) (holds_called (x.facts.back (block_of name target)) known behind b h)
 
-    known_next : (name : BlockName) (j : ℕ) (o : Option Sym) → slice_get (x.made name) j ≡ o → calm_at o ≡ true → Holds x.pages (state_at name selected.front (x.made name) j).known b
-        → Holds x.pages (state_at name selected.front (x.made name) (suc j)).known b
-    known_next name j None is e h = subst (λ (s : State). Holds x.pages s.known b) (sym (state_past name selected.front (x.made name) j is)) h
-    known_next name j (Some s) is e h =
-        subst (λ (t : State). Holds x.pages t.known b) (sym (state_next name selected.front (x.made name) j s is))
-        (plain_known name (state_at name selected.front (x.made name) j) s (is_select s) refl e h)
-
-    pub fine_behind : (q : Position) → calm_at (slice_get (x.made q.block) q.index) ≡ true → Holds x.pages (known_at q) b → IsFine (behind (with x) q) b
-    fine_behind q e h =
-        subst (λ p. IsFine p b) (sym (behind_is (with x) q)) (record {
+    pub back_behind : (q : Position) (target : Target) (known : Known) → slice_get (x.made q.block) q.index ≡ Some (syms.Call target) → fact_at q ≡ Some known → IsBack (block_of q.block target) (behind (with x) q)
+    back_behind q target known e is =
+        let next = spot_next x.facts q.block (spot_front x.facts q.block) (x.made q.block) q.index (syms.Call target) e in
+        subst (λ (p : Position). IsBack (block_of q.block target) p) (sym (behind_is (with x) q)) (record {
           settled = settle_again (x.made q.block) (suc q.index);
-          holds = keeps_settle (λ k. Holds x.pages k b) (holds_nothing x.pages b) q.block selected.front (x.made q.block) (suc q.index)
-              (known_next q.block q.index (slice_get (x.made q.block) q.index) refl e h);
+          holds = λ b h. (fine_at q.block (suc q.index) b (subst (λ (t : Spot). HoldsFact x.pages t.fact b) (sym next) (call_after q.block (fact_at q) (spot q).behind known target b is h))).holds;
         })
 
-    pub record Onto (q : Position) (skips : Bool) : Type 0 where
-      pub same : onward (without x) (under q) skips ≡ under (onward (with x) q skips)
-      pub fine : IsFine (onward (with x) q skips) b
+    -- ---- behind an instruction, whether it ran or was skipped
+    module _ (b : Bits) where
+      passed_runs : (ended behind : Bool) (known : Known) → ended ≡ false → Holds x.pages known b → HoldsFact x.pages (if ended && not behind then None else Some known) b
+      passed_runs false behind known e h = h
+      passed_runs true behind known e h = never (sym e)
 
-    pub onto : IsSound x → (q : Position) (skips : Bool) → calm_at (slice_get (x.made q.block) q.index) ≡ true → (skips ≡ true → skip_at (slice_get (x.made q.block) q.index) ≡ true) → Holds x.pages (known_at q) b → Onto q skips
-    onto sound q false e skip h = record { same = under_behind q e; fine = fine_behind q e h }
-    onto sound q true e skip h =
-        let calm : calm_at (slice_get (x.made (behind (with x) q).block) (behind (with x) q).index) ≡ true =
-        subst (λ (p : Position). calm_at (slice_get (x.made p.block) p.index) ≡ true) (sym (behind_is (with x) q)) (calm_behind Free (x.made q.block) q.index (sound.apart q.block) (skip refl)) in
-        record {
-          same = ap (behind (without x)) (under_behind q e) ∙ under_behind (behind (with x) q) calm;
-          fine = fine_behind (behind (with x) q) calm (fine_behind q e h).holds;
-        }
+      passed_over : (ended : Bool) (known : Known) → Holds x.pages known b → HoldsFact x.pages (if ended && not true then None else Some known) b
+      passed_over true known h = h
+      passed_over false known h = h
+
+      ran : (name : BlockName) (known : Known) (behind : Bool) (s : Sym) → goes_past s ≡ true → Holds x.pages known b → HoldsFact x.pages (fact_after x.facts name (Some known) behind s) b
+      ran name known behind (syms.Label label) e h = never e
+      ran name known behind (syms.Call target) e h = never e
+      ran name known behind (syms.Goto target) e h = never e
+      ran name known behind (syms.SelectBank Rp0 on) e h = never e
+      ran name known behind (syms.SelectBank Rp1 on) e h = never e
+      ran name known behind (syms.SelectBank Irp on) e h = holds_left x.pages known (syms.SelectBank Irp on) b h
+      ran name known behind (syms.SelectPage bit target) e h = never e
+      ran name known behind (syms.Plain op) e h = passed_runs (is_return op) behind (left known (syms.Plain op) false false) (not_true (is_return op) e) (holds_left x.pages known (syms.Plain op) b h)
+      ran name known behind (syms.Literal op value) e h = passed_runs (is_retlw op) behind (left known (syms.Literal op value) false false) (not_true (is_retlw op) e) (holds_left x.pages known (syms.Literal op value) b h)
+      ran name known behind (syms.File op file into) e h = holds_left x.pages known (syms.File op file into) b h
+      ran name known behind (syms.Movwf file) e h = holds_left x.pages known (syms.Movwf file) b h
+      ran name known behind (syms.Clrf file) e h = holds_left x.pages known (syms.Clrf file) b h
+      ran name known behind (syms.Bit op file bit) e h = holds_left x.pages known (syms.Bit op file bit) b h
+
+      skipped : (name : BlockName) (known : Known) (s : Sym) → is_plain s ≡ true → Holds x.pages known b → HoldsFact x.pages (fact_after x.facts name (Some known) true s) b
+      skipped name known (syms.Label label) e h = never e
+      skipped name known (syms.Call target) e h = holds_first x.pages known (x.facts.back (block_of name target)) b h
+      skipped name known (syms.Goto target) e h = holds_left x.pages known (syms.Goto target) b h
+      skipped name known (syms.SelectBank Rp0 on) e h = never e
+      skipped name known (syms.SelectBank Rp1 on) e h = never e
+      skipped name known (syms.SelectBank Irp on) e h = holds_left x.pages known (syms.SelectBank Irp on) b h
+      skipped name known (syms.SelectPage bit target) e h = never e
+      skipped name known (syms.Plain op) e h = passed_over (is_return op) (left known (syms.Plain op) false false) (holds_left x.pages known (syms.Plain op) b h)
+      skipped name known (syms.Literal op value) e h = passed_over (is_retlw op) (left known (syms.Literal op value) false false) (holds_left x.pages known (syms.Literal op value) b h)
+      skipped name known (syms.File op file into) e h = holds_left x.pages known (syms.File op file into) b h
+      skipped name known (syms.Movwf file) e h = holds_left x.pages known (syms.Movwf file) b h
+      skipped name known (syms.Clrf file) e h = holds_left x.pages known (syms.Clrf file) b h
+      skipped name known (syms.Bit op file bit) e h = holds_left x.pages known (syms.Bit op file bit) b h
+
+      fine_behind : (q : Position) → HoldsFact x.pages (spot_at x.facts q.block (spot_front x.facts q.block) (x.made q.block) (suc q.index)).fact b → IsFine (behind (with x) q) b
+      fine_behind q h = subst (λ (p : Position). IsFine p b) (sym (behind_is (with x) q)) (fine_at q.block (suc q.index) b h)
+
+      -- an instruction that runs and goes on behind itself
+      pub fine_ran : (q : Position) (s : Sym) (known : Known) → slice_get (x.made q.block) q.index ≡ Some s → goes_past s ≡ true → fact_at q ≡ Some known → Holds x.pages known b → IsFine (behind (with x) q) b
+      fine_ran q s known fetch past is h =
+          let next = spot_next x.facts q.block (spot_front x.facts q.block) (x.made q.block) q.index s fetch in
+          fine_behind q (subst (λ (t : Spot). HoldsFact x.pages t.fact b) (sym next)
+          (subst (λ (y : Fact). HoldsFact x.pages (fact_after x.facts q.block y (spot q).behind s) b) (sym is) (ran q.block known (spot q).behind s past h)))
+
+      skipped_at : (q : Position) (o : Option Sym) → slice_get (x.made q.block) q.index ≡ o → calm_at o ≡ true → (spot q).behind ≡ true → (l : Live x.pages (fact_at q) b) → HoldsFact x.pages (spot_at x.facts q.block (spot_front x.facts q.block) (x.made q.block) (suc q.index)).fact b
+      skipped_at q None fetch e after l =
+          subst (λ (t : Spot). HoldsFact x.pages t.fact b) (sym (spot_past x.facts q.block (spot_front x.facts q.block) (x.made q.block) q.index fetch))
+          (subst (λ (y : Fact). HoldsFact x.pages y b) (sym l.is) l.holds)
+      skipped_at q (Some s) fetch e after l =
+          let next = spot_next x.facts q.block (spot_front x.facts q.block) (x.made q.block) q.index s fetch in
+          subst (λ (t : Spot). HoldsFact x.pages t.fact b) (sym next)
+          (subst (λ (c : Bool). HoldsFact x.pages (fact_after x.facts q.block (fact_at q) c s) b) (sym after)
+          (subst (λ (y : Fact). HoldsFact x.pages (fact_after x.facts q.block y true s) b) (sym l.is) (skipped q.block l.known s e l.holds)))
+
+      -- one that is skipped
+      fine_over : (q : Position) → calm_at (slice_get (x.made q.block) q.index) ≡ true → (spot q).behind ≡ true → IsFine q b → IsFine (behind (with x) q) b
+      fine_over q e after here = fine_behind q (skipped_at q (slice_get (x.made q.block) q.index) refl e after (live x.pages (fact_at q) b here.holds))
+
+      -- what stands behind a skip stands behind it behind labels too
+      after_skip : (q : Position) (s : Sym) → slice_get (x.made q.block) q.index ≡ Some s → is_skip s ≡ true → (spot (behind (with x) q)).behind ≡ true
+      after_skip q s fetch skip =
+          let next = spot_next x.facts q.block (spot_front x.facts q.block) (x.made q.block) q.index s fetch in
+          ap (λ (p : Position). (spot p).behind) (behind_is (with x) q)
+          ∙ behind_settles x.facts q.block (spot_front x.facts q.block) (x.made q.block) (suc q.index) (ap (λ (t : Spot). t.behind) next ∙ skip_behind (spot q).behind s skip)
+
+      pub onto : (q : Position) (s : Sym) (known : Known) (skips : Bool) → slice_get (x.made q.block) q.index ≡ Some s → goes_past s ≡ true → (skips ≡ true → is_skip s ≡ true) → fact_at q ≡ Some known → Holds x.pages known b → Onto b q skips
+      onto q s known false fetch past skip is h = record {
+        same = under_behind q (subst (λ (o : Option Sym). calm_at o ≡ true) (sym fetch) (past_calm s past));
+        fine = fine_ran q s known fetch past is h;
+        block = block_behind q;
+      }
+      onto q s known true fetch past skip is h =
+          let r = behind (with x) q in
+          let there : skip_at (slice_get (x.made q.block) q.index) ≡ true = subst (λ (o : Option Sym). skip_at o ≡ true) (sym fetch) (skip refl) in
+          let calm : calm_at (slice_get (x.made r.block) r.index) ≡ true =
+          subst (λ (p : Position). calm_at (slice_get (x.made p.block) p.index) ≡ true) (sym (behind_is (with x) q)) (calm_behind Free (x.made q.block) q.index (sound.apart q.block) there) in
+          record {
+            same = ap (behind (without x)) (under_behind q (subst (λ (o : Option Sym). calm_at o ≡ true) (sym fetch) (past_calm s past))) ∙ under_behind r calm;
+            fine = fine_over r calm (after_skip q s fetch (skip refl)) (fine_ran q s known fetch past is h);
+            block = block_behind r ∙ block_behind q;
+          }
 
   -- ---- where something stands
   pub under_lands : (q : Position) → settle (x.made q.block) q.index ≡ q.index → lands (without x) (under q) ≡ true → lands (with x) q ≡ true

@@ -14,8 +14,10 @@ use Rattle.code_place.specs.Instructions.{known}
 use Rattle.code_place.specs.Layouts.{page_of}
 use Rattle.code_place.specs.Places.{at_if, block_place, target_for, HasAddress, HaveAddresses, BlocksHaveAddresses}
 use Rattle.code_place.specs.Sizes.{Stands, Fit}
-use Rattle.bank_page.specs.Selected.{NoSelectBehindSkip, IsApart, Reaches, is_right, front, all_pass}
-use Rattle.bank_trace.proofs.Holding.{same_names}
+use Rattle.bank_page.specs.Selected.{NoSelectBehindSkip, IsApart, is_right}
+use Rattle.flow_facts.specs.Facts.{Facts}
+use Rattle.flow_facts.specs.Walk.{all_hold, holds_in, leads, all_lead, Reaches}
+use Rattle.bank_trace.proofs.Holding.{same_names, both_first, both_last}
 use Rattle.bank_trace.proofs.Sites.{IsNamed}
 
 -- ---- of each block, so of the block of a name
@@ -86,5 +88,18 @@ named_at placed blocks at fit named =
 pub apart_at : (blocks : List SymBlock) → All IsApart blocks → (name : BlockName) → NoSelectBehindSkip (block_in blocks name)
 apart_at blocks all = of_name IsApart (λ name list. NoSelectBehindSkip list) (λ block h. h) (λ name e. absurd (cc)) blocks (each_all IsApart blocks all)
 
-pub reaches_at : (placed : Placed) (blocks : List SymBlock) → All (Reaches placed) blocks → (name : BlockName) → all_pass (is_right placed name) name front (block_in blocks name) ≡ true
-reaches_at placed blocks all = of_name (Reaches placed) (λ name list. all_pass (is_right placed name) name front list ≡ true) (λ block h. h) (λ name. refl) blocks (each_all (Reaches placed) blocks all)
+pub reaches_at : (placed : Placed) (f : Facts) (blocks : List SymBlock) → All (Reaches placed f) blocks → (name : BlockName) → all_hold (is_right placed name) f name (f.front name) false (block_in blocks name) ≡ true
+reaches_at placed f blocks all =
+    of_name (Reaches placed f) (λ name list. all_hold (is_right placed name) f name (f.front name) false list ≡ true) (λ block h. h) (λ name. refl) blocks (each_all (Reaches placed f) blocks all)
+
+abbrev LeadsAlong : Facts → SymBlock → Type 0
+LeadsAlong f block = holds_in (leads f) f block ≡ true
+
+each_lead : (f : Facts) (blocks : List SymBlock) → all_lead f blocks ≡ true → Each (LeadsAlong f) blocks
+each_lead f [] all k block e = absurd (none-some block e)
+each_lead f (b ∷ blocks) all zero block e = subst (LeadsAlong f) (same_Some b block e) (both_first (holds_in (leads f) f b) (all_lead f blocks) all)
+each_lead f (b ∷ blocks) all (suc k) block e = each_lead f blocks (both_last (holds_in (leads f) f b) (all_lead f blocks) all) k block e
+
+pub lead_at : (f : Facts) (blocks : List SymBlock) → all_lead f blocks ≡ true → (name : BlockName) → all_hold (leads f name) f name (f.front name) false (block_in blocks name) ≡ true
+lead_at f blocks all =
+    of_name (LeadsAlong f) (λ name list. all_hold (leads f name) f name (f.front name) false list ≡ true) (λ block h. h) (λ name. refl) blocks (each_lead f blocks all)

@@ -1,9 +1,10 @@
 -- Each instruction does the same with its selects as without them.
-use Rattle.std.proofs.Common.{◌≡◌, ℕ, Bool, true, false, nat_eq, List, map, Option, Some, None, option_map, refl, sym, ap, ◌∙◌}
+use Rattle.std.proofs.Common.{◌≡◌, ℕ, Bool, true, false, nat_eq, List, map, Option, Some, None, option_map, refl, sym, ap, ◌∙◌, subst}
 use Rattle.std.proofs.Math.Path.{fun_ext}
 use Rattle.sym_code.specs.Effect.{Loud, Rest, Thread, Memory, Write, write, Access, Pointer, Event, Silent, Denied, Quiet, Reads, Writes, goes, quiet, file_to_w, file_to_file, store, change, test, put_flag, test_flag}
 use Rattle.sym_code.specs.Programs.{Position, behind, onward}
 use Rattle.sym_code.specs.Registers.{Registers, result_with, flags_with, skips_with}
+use Rattle.sym_code.specs.declared.code.BlockName.{BlockName}
 use Rattle.sym_code.specs.declared.code.FileOperation.{FileOperation}
 use Rattle.sym_code.specs.declared.code.FileOperation.TheVariants.{Decfsz, Incfsz}
 use Rattle.bank_page.specs.Kinds.{skips_by_file}
@@ -11,8 +12,8 @@ use Rattle.bank_trace.proofs.Lists.{never}
 use Rattle.bank_trace.proofs.Holding.{Bits}
 use Rattle.bank_trace.proofs.Banks.{over, result_over, flags_over, skips_over}
 use Rattle.bank_trace.proofs.Sites.{Site, without, with}
-use Rattle.bank_trace.proofs.Places.{under, Onto}
-use Rattle.bank_trace.proofs.Twins.{Twin, plain_thread, banked_thread, AreOpen, IsFineTwin, Quietly, Reading, Writing, Does, GetsStuck, Done}
+use Rattle.bank_trace.proofs.Places.{under, AreBack, Onto}
+use Rattle.bank_trace.proofs.Twins.{Twin, plain_thread, banked_thread, IsFineTwin, Quietly, Reading, Writing, Does, GetsStuck, Done}
 
 -- no other instruction on a file register skips
 skips_only : (r : Registers) (op : FileOperation) (v : ℕ) → skips_with r op v ≡ true → skips_by_file op ≡ true
@@ -22,7 +23,7 @@ skips_only r Incfsz v e = refl
 skips_only r op v e = never e
 
 -- ---- an instruction that goes on behind itself
-module _ (x : Site) (q : Position) (stack : List Position) (r : Registers) (b : Bits) (open_stack : AreOpen x stack) where
+module _ (x : Site) (q : Position) (stack : List Position) (r : Registers) (b : Bits) (open_stack : AreBack x q.block stack) where
   abbrev pub one : Thread
   one = record { rest = None; at = Some (under x q); stack = map (under x) stack; registers = r }
 
@@ -39,7 +40,7 @@ module _ (x : Site) (q : Position) (stack : List Position) (r : Registers) (b : 
         ap f (next c ok).same
 
     fine_moved : (c : Bool) → (c ≡ true → can_skip ≡ true) → (s : Registers) → IsFineTwin x (moved c s)
-    fine_moved c ok s = record { at = (next c ok).fine; stack = open_stack }
+    fine_moved c ok s = record { at = (next c ok).fine; stack = subst (λ (n : BlockName). AreBack x n stack) (sym (next c ok).block) open_stack }
 
     -- it doesn't skip
     abbrev straight : false ≡ true → can_skip ≡ true
@@ -57,7 +58,7 @@ module _ (x : Site) (q : Position) (stack : List Position) (r : Registers) (b : 
     pub change_does : (m : Memory) (f : ℕ → ℕ) (a : Access) → Does x (change (without x) (under x q) one m f a) (change (with x) q other m f a)
     change_does m f Pointer = goes_does (record r { fsr = f r.fsr }) None
     change_does m f (Event l) =
-        Done (Reading l (λ v. record (moved false r) { rest = Some (record { to = l; byte = f v }) })) (λ v. record { at = (next false straight).fine; stack = open_stack })
+        Done (Reading l (λ v. record (moved false r) { rest = Some (record { to = l; byte = f v }) })) (λ v. record { at = (fine_moved false straight r).at; stack = (fine_moved false straight r).stack })
         (ap (Reads l) (fun_ext (λ (v : ℕ). ap (λ (t : Thread). record t { rest = Some (record { to = l; byte = f v }) }) (goes_plain false straight r)))) refl refl
     change_does m f (Silent k) = goes_does r (write k (f (m k)))
     change_does m f Denied = GetsStuck refl
@@ -128,7 +129,7 @@ module _ (x : Site) (q : Position) (stack : List Position) (r : Registers) (b : 
       file_to_file_does m Pointer = Done (Quietly (filed in_fsr (λ s n. refl) r.fsr) None) (fine_filed in_fsr (λ s n. refl) r.fsr) (ap quiet (filed_plain in_fsr (λ s n. refl) r.fsr)) (ap quiet (filed_banked in_fsr (λ s n. refl) r.fsr)) refl
       file_to_file_does m (Event l) =
           Done (Reading l (λ v. record (kept v) { rest = left l (result_with r op v) }))
-          (λ v. record { at = (fine_filed flags_only (λ s n. refl) v).at; stack = open_stack })
+          (λ v. record { at = (fine_filed flags_only (λ s n. refl) v).at; stack = (fine_filed flags_only (λ s n. refl) v).stack })
           (ap (Reads l) (fun_ext (λ (v : ℕ). ap (λ (t : Thread). record t { rest = left l (result_with r op v) }) (filed_plain flags_only (λ s n. refl) v))))
           (ap (Reads l) (fun_ext (λ (v : ℕ).
           ap (λ (t : Thread). record t { rest = left l (result_with (over b r) op v) }) (filed_banked flags_only (λ s n. refl) v)

@@ -12,10 +12,10 @@ use Rattle.sym_code.specs.declared.code.Sym.TheVariants as syms
 use Rattle.bank_page.specs.Links.{price_in, one_each}
 use Rattle.bank_trace.proofs.Lists.{plain_at, calm_plain, never, mark_fetches}
 use Rattle.bank_trace.proofs.Prices.{selects_before, selects_ahead, price_is, ahead_none}
-use Rattle.bank_trace.proofs.Holding.{Bits}
+use Rattle.bank_trace.proofs.Holding.{Bits, live}
 use Rattle.bank_trace.proofs.Sites.{Site, IsSound, without, with, plain_setting, banked_setting}
-use Rattle.bank_trace.proofs.Places.{under, IsFine, under_lands}
-use Rattle.bank_trace.proofs.Twins.{Twin, plain_thread, banked_thread, AreOpen, IsFineTwin, Deed, Quietly, Reading, Writing, Leaving, Ending, Resting, plain_effect, banked_effect, Does, GetsStuck, Done}
+use Rattle.bank_trace.proofs.Places.{under, fact_at, IsFine, AreBack, under_lands}
+use Rattle.bank_trace.proofs.Twins.{Twin, plain_thread, banked_thread, IsFineTwin, Deed, Quietly, Reading, Writing, Leaving, Ending, Resting, plain_effect, banked_effect, Does, GetsStuck, Done}
 use Rattle.bank_trace.proofs.Instructions.{row_does}
 use Rattle.bank_trace.proofs.Joints.{Joint, plain_machine, banked_machine, IsFineJoint, running_twin, running_by, fine_running, Both, Stopped, Went, both_acted, both_enter}
 
@@ -118,7 +118,7 @@ module _ (x : Site) (sound : IsSound x) (o : Outside) (j : Joint) (fine : IsFine
     abbrev twin : Option Rest → Option Position → List Position → Registers → Bits → Twin
     twin rest at stack r b = record { rest = rest; at = at; stack = stack; registers = r; bits = b }
 
-    module _ (q : Position) (stack : List Position) (r : Registers) (b : Bits) (here : IsFine x q b) (open_stack : AreOpen x stack) where
+    module _ (q : Position) (stack : List Position) (r : Registers) (b : Bits) (here : IsFine x q b) (open_stack : AreBack x q.block stack) where
       abbrev one : Thread
       one = plain_thread x (twin None (Some q) stack r b)
 
@@ -139,7 +139,7 @@ module _ (x : Site) (sound : IsSound x) (o : Outside) (j : Joint) (fine : IsFine
 
       row_at : (s : Option Sym) → slice_get (x.made q.block) q.index ≡ s → plain_at s ≡ true → Does x (effect_if (plain_setting x) inside (under x q) one m s) (effect_if (banked_setting x) inside q other m s)
       row_at None e p = never p
-      row_at (Some s) e p = row_does x sound q stack r b open_stack m inside here.holds s e p
+      row_at (Some s) e p = let l = live x.pages (fact_at x q) b here.holds in row_does x sound q stack r b open_stack m inside l.known l.is l.holds s e p
 
       at_does : plain_at (slice_get (x.made q.block) q.index) ≡ true → Does x (effect (plain_setting x) inside one m) (effect (banked_setting x) inside other m)
       at_does p =
@@ -201,5 +201,5 @@ module _ (x : Site) (sound : IsSound x) (o : Outside) (j : Joint) (fine : IsFine
           (if c then 1 else thread_cost (plain_setting x) least_prices j.world.inside (running (plain_machine x j)) j.memory (running (plain_machine x j)).rest)
           (if c then 1 else thread_cost (banked_setting x) least_prices j.world.inside (running (banked_machine j)) j.memory (running (banked_machine j)).rest)
           (if c then 0 else before_of x (running_twin j).rest (running_twin j).at)
-      by_due true ready = outcome_of x _ _ context_cost context_cost 1 1 0 (omega arith) (omega arith) (both_enter x o j fine e x.handler)
+      by_due true ready = outcome_of x _ _ context_cost context_cost 1 1 0 (omega arith) (omega arith) (both_enter x o j fine e sound x.handler sound.entry)
       by_due false ready = running_outcome (ready refl)

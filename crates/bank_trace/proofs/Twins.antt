@@ -6,7 +6,7 @@ use Rattle.sym_code.specs.Registers.{Registers}
 use Rattle.bank_trace.proofs.Holding.{Bits}
 use Rattle.bank_trace.proofs.Banks.{over}
 use Rattle.bank_trace.proofs.Sites.{Site}
-use Rattle.bank_trace.proofs.Places.{under, IsFine, IsOpen}
+use Rattle.bank_trace.proofs.Places.{under, IsFine, AreBack}
 
 pub record Twin : Type 0 where
   pub rest : Option Rest
@@ -25,14 +25,14 @@ abbrev pub FineAt : Site → Option Position → Bits → Type 0
 FineAt x None b = Unit {0}
 FineAt x (Some q) b = IsFine x q b
 
--- nothing is known where calls come back to
-abbrev pub AreOpen : Site → List Position → Type 0
-AreOpen x [] = Unit {0}
-AreOpen x (q ∷ stack) = IsOpen x q × AreOpen x stack
+-- what the block leaves holds where calls come back to
+abbrev pub StackAt : Site → Option Position → List Position → Type 0
+StackAt x None stack = Unit {0}
+StackAt x (Some q) stack = AreBack x q.block stack
 
 pub record IsFineTwin (x : Site) (t : Twin) : Type 0 where
   pub at : FineAt x t.at t.bits
-  pub stack : AreOpen x t.stack
+  pub stack : StackAt x t.at t.stack
 
 -- ---- an effect on both
 pub data Deed : Type 0 where
