@@ -18,6 +18,7 @@ use Rattle.flow_facts.specs.Facts.{Facts}
 use Rattle.flow_facts.specs.Walk.{all_hold, leads, all_lead, is_open, is_open_at, is_consistent, Reaches}
 use Rattle.flow_facts.specs.Thin.{thin_from, thin, IsThin, IsThinned}
 use Rattle.flow_facts.specs.Laws.{is_lean, IsLean, IsShorter, Keeps, ThinningKeeps}
+use Rattle.flow_facts.specs.Links.{HasFlow, ThinningHasFlow}
 use Rattle.flow_facts.proofs.More.{never, and_first, and_last, and_both}
 use Rattle.flow_facts.proofs.Plain.{gives_nothing}
 use Rattle.flow_facts.proofs.Along.{right_whole, right_thin}
@@ -90,6 +91,18 @@ module _ (f : Facts) where
       ap (λ (l : List Sym). l ∷ bare_lists made) (of_made (λ n l. bare l ≡ bare g.list.items) g m z.0 (λ c e. bare_of g c))
       ∙ ap (λ (l : List (List Sym)). bare g.list.items ∷ l) (bares_are given made z.1)
 
+  same_bare : (given made : List SymBlock) → AllZip (IsThin f) given made → (name : BlockName) → bare (block_in made name) ≡ bare (block_in given name)
+  same_bare [] [] z name = refl
+  same_bare [] (m ∷ made) z name = absurd z
+  same_bare (g ∷ given) [] z name = absurd z
+  same_bare (g ∷ given) (m ∷ made) z name =
+      subst (λ (x : BlockName). bare (if same_name x name then m.list.items else block_in made name) ≡ bare (if same_name g.name name then g.list.items else block_in given name)) (sym z.0.name)
+      (by (same_name g.name name) (same_bare given made z.1 name))
+    where
+      by : (c : Bool) → bare (block_in made name) ≡ bare (block_in given name) → bare (if c then m.list.items else block_in made name) ≡ bare (if c then g.list.items else block_in given name)
+      by true later = of_made (λ n l. bare l ≡ bare g.list.items) g m z.0 (λ c e. bare_of g c)
+      by false later = later
+
   are_shorter : (given made : List SymBlock) → AllZip (IsThin f) given made → AllZip IsShorter given made
   are_shorter [] [] z = tt
   are_shorter [] (m ∷ made) z = absurd z
@@ -156,11 +169,30 @@ thinning_keeps placed handler given made thinned apart reaches =
     let f = thinned.facts in
     record {
       names = names_are f given made thinned.each;
-      bare = bares_are f given made thinned.each;
+      lists = bares_are f given made thinned.each;
+      same = same_bare f given made thinned.each;
       shorter = are_shorter f given made thinned.each;
       prices = prices_are f given made thinned.each;
       lean = are_lean f given made thinned.each;
       apart = are_apart f given made thinned.each apart;
       consistent = still_consistent f handler given made thinned.each apart thinned.consistent;
       reaches = all_reach f placed given made thinned.each reaches;
+    }
+
+pub thinning_has_flow : ThinningHasFlow
+thinning_has_flow given whole made handler placed at g h thinned apart reaches same given_code made_code without with pages fit named limits =
+    let keeps = thinning_keeps placed handler whole made thinned apart reaches in
+    record {
+      given_code = given_code;
+      made_code = made_code;
+      without = without;
+      with = with;
+      pages = pages;
+      fit = fit;
+      named = named;
+      limits = limits;
+      same = λ name. keeps.same name ∙ same name;
+      apart = keeps.apart;
+      consistent = keeps.consistent;
+      reaches = keeps.reaches;
     }

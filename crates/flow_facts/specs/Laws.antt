@@ -3,6 +3,7 @@ use Rattle.std.specs.Prelude.{◌≡◌, ◌≤◌, ℕ, Bool, true, false, not,
 use Rattle.std.specs.List.{All, AllZip}
 use Rattle.pic_map.specs.declared.Placed.{Placed}
 use Rattle.sym_code.specs.Programs.{same_name, block_in}
+use Rattle.sym_code.specs.Selects.{bare}
 use Rattle.sym_code.specs.Words.{words_in}
 use Rattle.sym_code.specs.declared.code.BlockName.{BlockName}
 use Rattle.sym_code.specs.declared.code.BlockName.TheVariants.{Start}
@@ -30,7 +31,9 @@ IsShorter given made = words_in made.list.items ≤ words_in given.list.items
 -- Of code with selects, none of which stands behind a skip, and which finds by what is known in straight code all selected that it needs.
 pub record Keeps (placed : Placed) (handler : Option ℕ) (given made : List SymBlock) (facts : Facts) : Type 0 where
   pub names : names_of made ≡ names_of given
-  pub bare : bare_lists made ≡ bare_lists given
+  pub lists : bare_lists made ≡ bare_lists given
+  -- of two blocks of one name the first counts
+  pub same : (name : BlockName) → bare (block_in made name) ≡ bare (block_in given name)
   pub shorter : AllZip IsShorter given made
   -- no instruction costs more with the selects before it
   pub prices : (name : BlockName) (n : ℕ) → price_in (block_in made) name n ≤ price_in (block_in given) name n

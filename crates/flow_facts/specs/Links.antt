@@ -11,8 +11,10 @@ use Rattle.code_place.specs.Layouts.{program_of, page_of}
 use Rattle.code_place.specs.Places.{BlocksHaveAddresses}
 use Rattle.code_place.specs.Sizes.{Fit}
 use Rattle.bank_page.specs.Links.{SelectsKeep}
+use Rattle.bank_page.specs.Selected as plain
 use Rattle.bank_page.specs.Selected.{IsApart}
 use Rattle.flow_facts.specs.Facts.{Facts}
+use Rattle.flow_facts.specs.Thin.{IsThinned}
 use Rattle.flow_facts.specs.Walk.{is_consistent, Reaches}
 
 -- Blocks with their selects, and facts that are consistent: by these each access finds its bank selected, and each jump and call its
@@ -36,3 +38,12 @@ abbrev pub FlowsKeep : Type 0
 FlowsKeep =
     (given made : List SymBlock) (handler : Option ℕ) (placed : Placed) (at : List ℕ) (facts : Facts) (g h : Setting)
     → HasFlow given made handler placed at facts g h → SelectsKeep g h
+
+-- What is left of code with selects, which finds by straight code what it needs, is such code.
+abbrev pub ThinningHasFlow : Type 0
+ThinningHasFlow =
+    (given whole made : List SymBlock) (handler : Option ℕ) (placed : Placed) (at : List ℕ) (g h : Setting) (thinned : IsThinned handler whole made)
+    → All IsApart whole → All (plain.Reaches placed) whole → ((name : BlockName) → bare (block_in whole name) ≡ block_in given name)
+    → g.program ≡ program_of given handler placed → h.program ≡ program_of made handler placed → g.banked ≡ false → h.banked ≡ true
+    → h.page_of ≡ page_of made at → Fit made at → BlocksHaveAddresses placed made at → h.limit ≡ g.limit
+    → HasFlow given made handler placed at thinned.facts g h
