@@ -10,3 +10,4 @@ mod Early
 mod Tracks
 mod Near
 pub mod Whole
+pub mod Cheaper

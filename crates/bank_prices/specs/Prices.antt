@@ -4,11 +4,12 @@ use Rattle.std.specs.List.{AllZip}
 use Rattle.c_typed.specs.declared.calls.Helper.{Helper}
 use Rattle.pic_world.specs.declared.Root.{Root}
 use Rattle.pic_map.specs.declared.Placed.{Placed}
-use Rattle.sym_code.specs.Layout.{frame, is_whole}
+use Rattle.sym_code.specs.Layout.{DataLayout, frame, is_whole}
 use Rattle.sym_code.specs.Programs.{block_in}
 use Rattle.sym_code.specs.Selects.{bare}
 use Rattle.sym_code.specs.declared.code.BlockName.{BlockName}
 use Rattle.sym_code.specs.declared.code.BlockName.TheVariants.{Copy}
+use Rattle.sym_code.specs.declared.code.Sym.{Sym}
 use Rattle.sym_code.specs.declared.code.SymBlock.{SymBlock}
 use Rattle.code_place.specs.Layouts.{layout_of}
 use Rattle.math_helpers.specs.Routines.{helper_code}
@@ -42,3 +43,10 @@ abbrev pub LeavesBlocks : Type 0
 LeavesBlocks =
     (placed : Placed) (given made : List SymBlock) → AllZip (IsExact placed) given made → ((name : BlockName) → bare (block_in given name) ≡ block_in given name)
     → AreSelected placed given made
+
+-- Where each instruction costs no more, what is within these bounds stays so.
+abbrev pub CheaperIsDear : Type 0
+CheaperIsDear = (l : DataLayout) (price less : ℕ → ℕ) (list : List Sym) → ((k : ℕ) → less k ≤ price k) → AreDear l price list → AreDear l less list
+
+abbrev pub CheaperIsPriced : Type 0
+CheaperIsPriced = (price less : ℕ → ℕ) (list : List Sym) → ((k : ℕ) → less k ≤ price k) → ArePriced price list → ArePriced less list

@@ -5,7 +5,7 @@
 //! were counted with.
 #![tactic(auto)]
 
-ghost use Rattle.bank_prices.specs.Prices.{LeavesBlocks, BlocksAreDear, RoutinesArePriced};
+ghost use Rattle.bank_prices.specs.Prices.{LeavesBlocks, BlocksAreDear, RoutinesArePriced, CheaperIsDear, CheaperIsPriced};
 
 /// What is answered for blocks without selects has no more of them than selection was counted with: two at most for each byte in a
 /// bank and each jump and call, and two at all where no bank but that of one frame is asked for; and in a routine two for its frame's
@@ -14,4 +14,10 @@ pub fn selects_are_few()
     ensures leaves { LeavesBlocks }
     ensures dear { BlocksAreDear }
     ensures priced { RoutinesArePriced }
+{}
+
+/// Code of which each instruction costs no more stays within the bounds.
+pub fn cheaper_stays()
+    ensures dear { CheaperIsDear }
+    ensures priced { CheaperIsPriced }
 {}
