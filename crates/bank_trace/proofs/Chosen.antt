@@ -70,7 +70,8 @@ plain_reaches placed (block ∷ blocks) all =
     All-cons (Reaches placed unknown) block blocks (right_whole unknown block.name placed (unknown.front block.name) false nothing false block.list.items (λ e. e) refl (all 0 block (omega arith)))
     (plain_reaches placed blocks (λ i d l. all (suc i) d (omega arith)))
 
-flows_of : (given made : List SymBlock) (handler : Option ℕ) (placed : Placed) (at : List ℕ) (g h : Setting) → HasSelects given made handler placed at g h → HasFlow given made handler placed at unknown g h
+-- code with selects for all that straight code doesn't know has facts by which nothing is known
+pub flows_of : (given made : List SymBlock) (handler : Option ℕ) (placed : Placed) (at : List ℕ) (g h : Setting) → HasSelects given made handler placed at g h → HasFlow given made handler placed at unknown g h
 flows_of given made handler placed at g h has = record {
   given_code = has.given_code;
   made_code = has.made_code;
