@@ -1,5 +1,5 @@
 -- Code with its selects follows the code without them.
-use Rattle.std.proofs.Common.{◌≡◌, ℕ, suc, ◌+◌, ◌<◌, Bool, true, false, ◌&&◌, List, [], ◌∷◌, length, All, Option, refl, sym, ap, ◌∙◌, subst, arith}
+use Rattle.std.proofs.Common.{◌≡◌, ℕ, suc, Bool, true, false, ◌&&◌, List, [], ◌∷◌, All, Option, refl, sym, ap, ◌∙◌, subst, arith}
 use Rattle.std.proofs.Math.Path.{fun_ext}
 use Rattle.std.proofs.lemmas.List.Elements.{All-nil, All-cons}
 use Rattle.pic_map.specs.declared.Placed.{Placed}
@@ -16,7 +16,7 @@ use Rattle.flow_facts.specs.Facts.{Facts, unknown}
 use Rattle.flow_facts.specs.Links.{HasFlow, FlowsKeep}
 use Rattle.flow_facts.specs.Walk.{all_lead, is_open, is_open_at, Reaches}
 use Rattle.flow_facts.proofs.Along.{right_whole}
-use Rattle.flow_facts.proofs.Plain.{gives_nothing, unknown_consistent}
+use Rattle.flow_facts.proofs.Plain.{unknown_consistent}
 use Rattle.bank_trace.proofs.Holding.{both_first, both_last}
 use Rattle.bank_trace.proofs.Sites.{Site, IsSound, plain_setting, banked_setting}
 use Rattle.bank_trace.proofs.Premises.{page_within, named_at, apart_at, reaches_at, lead_at}

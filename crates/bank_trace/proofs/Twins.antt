@@ -1,5 +1,5 @@
 -- A thread of both machines in one: positions are those with selects, and the registers differ in what is selected.
-use Rattle.std.proofs.Common.{◌≡◌, ℕ, Bool, true, false, List, [], ◌∷◌, map, Option, Some, None, option_map}
+use Rattle.std.proofs.Common.{◌≡◌, ℕ, Bool, true, false, List, map, Option, Some, None, option_map}
 use Rattle.sym_code.specs.Effect.{Loud, Rest, Thread, Write, Effect, Stuck, Quiet, Reads, Writes, Leaves, Ends, Rests}
 use Rattle.sym_code.specs.Programs.{Position}
 use Rattle.sym_code.specs.Registers.{Registers}

@@ -1,19 +1,18 @@
 -- Along a block: by flow facts no less is known than by straight code, and what is needed is found.
-use Rattle.std.proofs.Common.{◌≡◌, ℕ, Bool, true, false, not, ◌&&◌, ◌||◌, if◌then◌else◌, List, [], ◌∷◌, Option, Some, None, refl, sym, ap, ◌∙◌, subst}
+use Rattle.std.proofs.Common.{◌≡◌, Bool, true, false, not, ◌&&◌, if◌then◌else◌, List, [], ◌∷◌, Some, None, refl, sym, ◌∙◌, subst}
 use Rattle.pic_map.specs.declared.Placed.{Placed}
 use Rattle.sym_code.specs.Programs.{block_of}
 use Rattle.sym_code.specs.Selects.{is_select}
-use Rattle.sym_code.specs.declared.code.BankBit.TheVariants.{Rp0, Rp1, Irp}
+use Rattle.sym_code.specs.declared.code.BankBit.TheVariants.{Rp0, Rp1}
 use Rattle.sym_code.specs.declared.code.BlockName.{BlockName}
-use Rattle.sym_code.specs.declared.code.PageBit.TheVariants.{Low, High}
 use Rattle.sym_code.specs.declared.code.Sym.{Sym}
 use Rattle.sym_code.specs.declared.code.Sym.TheVariants as syms
 use Rattle.bank_page.specs.Kinds.{is_label, is_skip}
-use Rattle.bank_page.specs.Known.{nothing, after, ends, is_return, is_retlw, left, learned, knows, seen_after, writes_status, writes_pclath}
+use Rattle.bank_page.specs.Known.{nothing, after, ends, left, learned, seen_after, writes_status, writes_pclath}
 use Rattle.bank_page.specs.Selected.{is_right, seen, all_pass}
 use Rattle.bank_page.specs.declared.known.Known.{Known}
 use Rattle.bank_page.specs.declared.selecting.State.{State}
-use Rattle.flow_facts.specs.Facts.{Fact, Facts, gives, gives_known, at_label}
+use Rattle.flow_facts.specs.Facts.{Fact, Facts, gives, at_label}
 use Rattle.flow_facts.specs.Walk.{called, fact_after, behind_after, holds_of, all_hold}
 use Rattle.flow_facts.specs.Thin.{is_known, thin_from}
 use Rattle.flow_facts.proofs.More.{never, and_first, and_last, and_both, Gives, given_parts, given_whole, left_more, learned_more, knows_more, right_more}

@@ -1,5 +1,5 @@
 -- What thinning keeps, block by block.
-use Rattle.std.proofs.Common.{◌≡◌, ℕ, suc, ◌+◌, ◌<◌, ◌≤◌, Bool, true, false, not, ◌&&◌, if◌then◌else◌, List, [], ◌∷◌, length, All, Option, refl, sym, ap, ◌∙◌, subst, arith}
+use Rattle.std.proofs.Common.{◌≡◌, ℕ, suc, ◌≤◌, Bool, true, false, ◌&&◌, if◌then◌else◌, List, [], ◌∷◌, All, Option, refl, sym, ap, ◌∙◌, subst, arith}
 use Rattle.std.specs.List.{AllZip}
 use Rattle.std.proofs.lemmas.List.Elements.{All-nil, All-cons}
 use Rattle.pic_map.specs.declared.Placed.{Placed}
@@ -16,10 +16,10 @@ use Rattle.bank_page.specs.Selected as plain
 use Rattle.bank_page.specs.Selected.{NoSelectBehindSkip, names_of, bare_lists, IsApart, is_right, front, all_pass}
 use Rattle.flow_facts.specs.Facts.{Facts}
 use Rattle.flow_facts.specs.Walk.{all_hold, leads, all_lead, is_open, is_open_at, is_consistent, Reaches}
-use Rattle.flow_facts.specs.Thin.{thin_from, thin, IsThin, IsThinned}
-use Rattle.flow_facts.specs.Laws.{is_lean, IsLean, IsShorter, Keeps, ThinningKeeps}
-use Rattle.flow_facts.specs.Links.{HasFlow, ThinningHasFlow}
-use Rattle.flow_facts.proofs.More.{never, and_first, and_last, and_both}
+use Rattle.flow_facts.specs.Thin.{thin_from, thin, IsThin}
+use Rattle.flow_facts.specs.Laws.{is_lean, IsLean, IsShorter, ThinningKeeps}
+use Rattle.flow_facts.specs.Links.{ThinningHasFlow}
+use Rattle.flow_facts.proofs.More.{and_first, and_last, and_both}
 use Rattle.flow_facts.proofs.Plain.{gives_nothing}
 use Rattle.flow_facts.proofs.Along.{right_whole, right_thin}
 use Rattle.flow_facts.proofs.Lists.{hold_thin, apart_thin, bare_thin, shorter_thin, lean_thin, price_thin}

@@ -10,12 +10,12 @@ use Rattle.sym_code.specs.declared.code.PageBit.TheVariants.{Low, High}
 use Rattle.sym_code.specs.declared.code.Sym.{Sym}
 use Rattle.sym_code.specs.declared.code.Sym.TheVariants as syms
 use Rattle.bank_page.specs.Kinds.{is_label, is_skip}
-use Rattle.bank_page.specs.Known.{learned, knows, same_bit, is_bit, is_page}
+use Rattle.bank_page.specs.Known.{learned, knows, is_bit, is_page}
 use Rattle.bank_page.specs.Links.{price_from}
 use Rattle.bank_page.specs.Selected.{Place, Free, Behind, Broken, place_after, walk}
 use Rattle.bank_page.specs.declared.known.Known.{Known}
 use Rattle.flow_facts.specs.Facts.{Fact, Facts}
-use Rattle.flow_facts.specs.Walk.{fact_after, behind_after, holds_of, all_hold, leads}
+use Rattle.flow_facts.specs.Walk.{fact_after, behind_after, holds_of, all_hold}
 use Rattle.flow_facts.specs.Thin.{is_known, thin_from}
 use Rattle.flow_facts.specs.Laws.{is_lean}
 use Rattle.flow_facts.proofs.More.{never, and_first, and_last, and_both, same_bits, same_names}

@@ -1,11 +1,10 @@
 -- Where more is known.
-use Rattle.std.proofs.Common.{◌≡◌, ℕ, Bool, true, false, not, ◌&&◌, ◌||◌, if◌then◌else◌, Option, Some, None, refl, sym, ap, ◌∙◌, subst, true≢false}
+use Rattle.std.proofs.Common.{◌≡◌, ℕ, Bool, true, false, ◌&&◌, Option, Some, None, refl, sym, ap, subst, true≢false}
 use Rattle.std.proofs.lemmas.Bool.{eqb-true, eq-eqb}
 use Rattle.core_code.specs.declared.code.Byte.{Byte}
 use Rattle.pic_map.specs.declared.Placed.{Placed}
 use Rattle.sym_code.specs.Programs.{same_name, block_of}
-use Rattle.sym_code.specs.Selects.{is_select}
-use Rattle.sym_code.specs.declared.code.BankBit.TheVariants.{Rp0, Rp1, Irp}
+use Rattle.sym_code.specs.declared.code.BankBit.TheVariants.{Rp0, Rp1}
 use Rattle.sym_code.specs.declared.code.BlockName.{BlockName}
 use Rattle.sym_code.specs.declared.code.BlockName.TheVariants as names
 use Rattle.sym_code.specs.declared.code.PageBit.TheVariants.{Low, High}
@@ -13,7 +12,7 @@ use Rattle.sym_code.specs.declared.code.Sym.{Sym}
 use Rattle.sym_code.specs.declared.code.Sym.TheVariants as syms
 use Rattle.sym_code.specs.declared.code.Target.{Target}
 use Rattle.bank_page.specs.Kinds.{byte_of, target_of}
-use Rattle.bank_page.specs.Known.{nothing, kept, left, learned, knows, same_bit, is_bit, is_page, is_of_bit, writes_status, writes_pclath}
+use Rattle.bank_page.specs.Known.{kept, left, learned, knows, same_bit, is_bit, is_page, is_of_bit, writes_status, writes_pclath}
 use Rattle.bank_page.specs.Selected.{bank_number, has_bank, reaches_byte, reaches_target, is_right}
 use Rattle.bank_page.specs.Step.{rp0_of, rp1_of}
 use Rattle.bank_page.specs.declared.known.Known.{Known}

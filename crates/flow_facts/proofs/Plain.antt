@@ -1,5 +1,5 @@
 -- Facts by which nothing is known are consistent.
-use Rattle.std.proofs.Common.{◌≡◌, ℕ, Bool, true, false, ◌&&◌, if◌then◌else◌, List, [], ◌∷◌, Option, Some, None, slice_get, refl, sym, ap, ◌∙◌}
+use Rattle.std.proofs.Common.{◌≡◌, ℕ, Bool, true, false, ◌&&◌, List, [], ◌∷◌, Option, Some, None, slice_get, refl, ap, ◌∙◌}
 use Rattle.sym_code.specs.declared.code.BlockName.{BlockName}
 use Rattle.sym_code.specs.declared.code.BlockName.TheVariants as names
 use Rattle.sym_code.specs.declared.code.Label.TheVariants as labels
@@ -11,7 +11,7 @@ use Rattle.sym_code.specs.declared.code.Target.TheVariants as targets
 use Rattle.bank_page.specs.Known.{nothing, is_return, is_retlw}
 use Rattle.bank_page.specs.declared.known.Known.{Known}
 use Rattle.flow_facts.specs.Facts.{Fact, Facts, unknown, gives, at_label, at_target}
-use Rattle.flow_facts.specs.Walk.{fact_after, behind_after, holds_of, all_hold, leaves, returns, goes, leads, all_lead, is_open_at, is_consistent}
+use Rattle.flow_facts.specs.Walk.{fact_after, behind_after, all_hold, leaves, returns, leads, all_lead, is_open_at, is_consistent}
 use Rattle.flow_facts.specs.Stored.{front_of, label_of, back_of, of_block, facts_of}
 use Rattle.flow_facts.specs.declared.facts.BlockFacts.{BlockFacts}
 use Rattle.flow_facts.specs.declared.facts.FlowFacts.{FlowFacts}

@@ -1,8 +1,6 @@
 -- What is known of the bits that selects set at places that code comes to from elsewhere: the fronts of blocks, labels, and behind calls.
-use Rattle.std.specs.Prelude.{ℕ, Bool, true, false, ◌&&◌, List, Option, Some, None, slice_get, if◌then◌else◌}
-use Rattle.core_code.specs.declared.code.Byte.{Byte}
+use Rattle.std.specs.Prelude.{ℕ, Bool, true, false, ◌&&◌, Option, Some, None, if◌then◌else◌}
 use Rattle.sym_code.specs.declared.code.BlockName.{BlockName}
-use Rattle.sym_code.specs.declared.code.BlockName.TheVariants as names
 use Rattle.sym_code.specs.declared.code.Label.{Label}
 use Rattle.sym_code.specs.declared.code.Label.TheVariants as labels
 use Rattle.sym_code.specs.declared.code.Target.{Target}

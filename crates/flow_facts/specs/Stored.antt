@@ -1,6 +1,6 @@
 -- Flow facts as the code keeps them: for each copy, by its number, what is known at the front of its block, at its labels and where it returns.
 -- Of the start block, and of what isn't listed, nothing is known.
-use Rattle.std.specs.Prelude.{ℕ, List, Option, Some, None, slice_get}
+use Rattle.std.specs.Prelude.{ℕ, Option, Some, None, slice_get}
 use Rattle.sym_code.specs.declared.code.BlockName.{BlockName}
 use Rattle.sym_code.specs.declared.code.BlockName.TheVariants as names
 use Rattle.bank_page.specs.Known.{nothing}

@@ -1,19 +1,15 @@
 -- Code without the selects that set what is known by flow facts to be so.
-use Rattle.std.specs.Prelude.{◌≡◌, ◌≤◌, ℕ, Bool, true, false, List, [], ◌∷◌, Option, Some, None, if◌then◌else◌}
-use Rattle.std.specs.List.{All, AllZip}
-use Rattle.pic_map.specs.declared.Placed.{Placed}
+use Rattle.std.specs.Prelude.{◌≡◌, ℕ, Bool, true, false, List, [], ◌∷◌, Option, Some, None, if◌then◌else◌}
+use Rattle.std.specs.List.{AllZip}
 use Rattle.sym_code.specs.Programs.{same_name}
-use Rattle.sym_code.specs.Selects.{is_select, bare}
-use Rattle.sym_code.specs.Words.{words_in}
+use Rattle.sym_code.specs.Selects.{is_select}
 use Rattle.sym_code.specs.declared.code.BlockName.{BlockName}
 use Rattle.sym_code.specs.declared.code.BlockName.TheVariants.{Start}
 use Rattle.sym_code.specs.declared.code.Sym.{Sym}
 use Rattle.sym_code.specs.declared.code.SymBlock.{SymBlock}
 use Rattle.bank_page.specs.Known.{knows}
-use Rattle.bank_page.specs.Selected as plain
-use Rattle.bank_page.specs.Selected.{IsApart}
 use Rattle.flow_facts.specs.Facts.{Fact, Facts}
-use Rattle.flow_facts.specs.Walk.{fact_after, behind_after, is_consistent, Reaches}
+use Rattle.flow_facts.specs.Walk.{fact_after, behind_after, is_consistent}
 
 -- a select that sets what is known, or to which nothing comes
 abbrev pub is_known : BlockName → Fact → Sym → Bool

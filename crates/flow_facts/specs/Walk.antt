@@ -1,6 +1,5 @@
 -- What is known along a block by flow facts, and when these are consistent: nothing is expected anywhere that isn't known on each way there.
 use Rattle.std.specs.Prelude.{◌≡◌, ℕ, Bool, true, false, not, ◌&&◌, List, [], ◌∷◌, Option, Some, None, if◌then◌else◌}
-use Rattle.core_code.specs.declared.code.Byte.{Byte}
 use Rattle.pic_map.specs.declared.Placed.{Placed}
 use Rattle.sym_code.specs.Programs.{block_of}
 use Rattle.sym_code.specs.Selects.{is_select}
