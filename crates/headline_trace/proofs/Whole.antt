@@ -37,7 +37,7 @@ use Rattle.lower_stmt.specs.Programs.{core_of}
 use Rattle.lower_trace.specs.Lowering.{Lowers, source_run, held_as}
 use Rattle.bank_page.specs.Links.{price_in}
 use Rattle.value_trace.proofs.Whole.{selection_law}
-use Rattle.bank_trace.proofs.Chosen.{chooses}
+use Rattle.bank_trace.proofs.Chosen.{flows_keep}
 use Rattle.chip_trace.specs.Arriving.{IsStarted, Arrives, one_each}
 use Rattle.chip_trace.proofs.Final.{arriving}
 use Rattle.start_trace.proofs.Final.{starting}
@@ -145,7 +145,7 @@ module _ (lowers : Lowers) (p : Program) (copies : List FnCopy) (bodies : List B
     led : IsLed show (above o) (steps_by (sources.setting_of p o)) (nodes_of p) full_run
     led =
         led_on show (λ event. event) (above o) bare_run full_run (steps_by (sources.setting_of p o)) (nodes_of p) bare_free led_bare
-        (λ k d. chooses given made handler placed at bare full linked.selects o e begins m entries arrived.1 k d)
+        (λ k d. flows_keep given made handler placed at linked.facts bare full linked.selects o e begins m entries arrived.1 k d)
 
   pub headline : Follows source content c
   headline = record {

@@ -24,7 +24,9 @@ use Rattle.src_values.specs.declared.objects.CopyOf.{CopyOf}
 use Rattle.lower_stmt.specs.Programs.{core_of}
 use Rattle.lower_trace.specs.Lowering.{IsLowerable, Lowers, copy_number}
 use Rattle.select_wide.specs.Links.{IsSelected}
-use Rattle.bank_page.specs.Links.{HasSelects, price_in}
+use Rattle.bank_page.specs.Links.{price_in}
+use Rattle.flow_facts.specs.Facts.{Facts}
+use Rattle.flow_facts.specs.Links.{HasFlow}
 use Rattle.chip_trace.specs.Arriving.{IsAssembled}
 use Rattle.start_trace.specs.Starting.{IsBeginning, held_in}
 use Rattle.headline.specs.Headline.{Follows, setting_of}
@@ -47,7 +49,9 @@ pub record IsLinked (p : Program) (copies : List FnCopy) (bodies : List Body) (s
     (handler : Option ℕ) (placed : Placed) (at : List ℕ) (limit : Bool → ℕ) (image : List ℕ) (content : MapContent) : Type 0 where
   pub lowerable : IsLowerable p copies
   pub selected : IsSelected (core_of p copies) copies bodies reaches (bare_setting given made handler placed at limit) (price_in (block_in made))
-  pub selects : HasSelects given made handler placed at (bare_setting given made handler placed at limit) (full_setting made handler placed at limit)
+  -- what is known of the selected bits
+  pub facts : Facts
+  pub selects : HasFlow given made handler placed at facts (bare_setting given made handler placed at limit) (full_setting made handler placed at limit)
   pub assembled : IsAssembled made at placed handler image (watch_of content) (full_setting made handler placed at limit)
   pub beginning : IsBeginning made placed handler statics (full_setting made handler placed at limit)
   pub statics_are : held_in statics ≡ (core_of p copies).first

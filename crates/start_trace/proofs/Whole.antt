@@ -33,7 +33,7 @@ use Rattle.isr_save.specs.Start as source
 use Rattle.isr_save.specs.Start.{object_code, objects_code, start_code}
 use Rattle.code_place.specs.Layouts.{layout_of}
 use Rattle.bank_page.specs.Known.{nothing}
-use Rattle.bank_page.specs.Selected.{is_right, all_pass, seen, front, Reaches}
+use Rattle.bank_page.specs.Selected.{is_right, all_pass, seen, front}
 use Rattle.bank_page.specs.declared.known.Known.{Known}
 use Rattle.bank_page.specs.declared.selecting.State.{State as Selecting}
 use Rattle.chip_trace.specs.Arriving.{IsAssembled, IsStarted}
@@ -149,15 +149,11 @@ module _ (blocks : List SymBlock) (at : List ℕ) (placed : Placed) (handler : O
     abbrev test : Known → Sym → Bool
     test = is_right placed Start
 
-    pass_in : (bs : List SymBlock) → slice_get bs 0 ≡ Some b0 → All (Reaches placed) bs → all_pass test Start front b0.list.items ≡ true
-    pass_in [] e all = absurd (no_some b0 e)
-    pass_in (x ∷ xs) e all =
-        let r = all 0 x (omega arith) in
-        let q = subst (Reaches placed) (some_eq x b0 e) r in
-        ap (λ z. all_pass (is_right placed z) z front b0.list.items) (sym a.start.2) ∙ q
+    pass_in : all_pass test Start front b0.list.items ≡ true
+    pass_in = ap (λ z. all_pass (is_right placed z) z front b0.list.items) (sym a.start.2) ∙ b.selected b0 a.start.1
 
     pass0 : all_pass test Start front LS ≡ true
-    pass0 = ap (all_pass test Start front) (first_list blocks a.start.1) ∙ pass_in blocks a.start.1 b.selected
+    pass0 = ap (all_pass test Start front) (first_list blocks a.start.1) ∙ pass_in
 
     pass1 : (all_pass test Start front s1.pre ≡ true) × (all_pass test Start (state_behind front s1.pre) (first_goto ∷ s1.post) ≡ true)
     pass1 = pass_both test s1.pre (first_goto ∷ s1.post) front (ap (all_pass test Start front) (sym s1.whole) ∙ pass0)

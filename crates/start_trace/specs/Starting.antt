@@ -1,5 +1,5 @@
 -- What the start block keeps: from reset on, whatever power-on leaves, it comes to main with what main is to find.
-use Rattle.std.specs.Prelude.{ℕ, ◌≡◌, ◌≤◌, ◌<◌, List, [], length, map, Option, slice_index_or}
+use Rattle.std.specs.Prelude.{ℕ, ◌≡◌, ◌≤◌, ◌<◌, List, [], length, map, Option, Some, slice_get, slice_index_or}
 use Rattle.std.specs.Global.{Global}
 use Rattle.std.specs.List.{All}
 use Rattle.std.specs.declared.vec.Vec.{Vec}
@@ -27,7 +27,7 @@ held_in statics = map (λ (object : Vec FirstByte Global). map first_held object
 -- the start block with its selects: on every way through it each access finds its bank, and each jump its page
 pub record IsBeginning (blocks : List SymBlock) (placed : Placed) (handler : Option ℕ) (statics : List (Vec FirstByte Global)) (g : Setting) : Type 0 where
   pub code : bare (block_in blocks Start) ≡ start_code handler statics
-  pub selected : All (Reaches placed) blocks
+  pub selected : (block : SymBlock) → slice_get blocks 0 ≡ Some block → Reaches placed block
   pub sizes : (n : ℕ) → n < length statics → length (slice_index_or (held_in statics) n []) ≤ (object g.program.layout n).size
   pub first : All (All (IsFirst (held_in statics))) (held_in statics)
 
