@@ -14,12 +14,13 @@ use Rattle.image_links.specs.Selection.{reaches_in, limit_of}
 use Rattle.image_links.proofs.Apart.{laid_out}
 use Rattle.image_links.proofs.Bare.{selects_had}
 use Rattle.image_links.proofs.Depths.{reach_sound, depth_had}
-use Rattle.image_links.proofs.Fronts.{start_made, start_place}
+use Rattle.image_links.proofs.Fronts.{start_place}
 use Rattle.image_links.proofs.Had.{start_had}
 use Rattle.image_links.proofs.Lowered.{each_given}
 use Rattle.image_links.proofs.Outside.{all_outside, all_small}
 use Rattle.image_links.proofs.Paged.{selects_paged}
 use Rattle.image_links.proofs.Statics.{AllGood, statics_good}
+use Rattle.image_links.proofs.Thinned.{start_kept}
 
 -- the map's lines show the ranges of the layout
 pub ranges_are : (lines : List ObjLine) → map content.range_of (map object_of lines) ≡ map places.range_of lines
@@ -43,7 +44,7 @@ assembly_had p copies core given made placed at image map_content passed has spr
       main = made_image.main;
       halt = made_image.halt;
       start = start.0;
-      starts = start_place placed (start_code (handler_at copies) core.statics.items) made (start_made placed core copies given made passed.blocks.joined passed.blocks.exact) at first;
+      starts = start_place placed (start_code (handler_at copies) core.statics.items) made (start_kept p copies core given made placed at passed) at first;
       vector = start.1;
       halts = start.2;
       ranges = ap (map content.range_of) made_image.objects ∙ ranges_are placed.objects.items;

@@ -2,6 +2,7 @@
 use Rattle.std.proofs.Common.{◌≡◌, ℕ, ◌+◌, inl, inr, Bool, true, false, not, ◌&&◌, nat_eq, if◌then◌else◌, List, [], ◌∷◌, ◌++◌, Option, Some, None, refl, sym, ap, ◌∙◌, subst}
 use Rattle.std.specs.Global.{Global}
 use Rattle.std.specs.declared.vec.Vec.{Vec}
+use Rattle.c_typed.specs.Trees.{Program}
 use Rattle.c_typed.specs.declared.calls.FnId.{FnId}
 use Rattle.c_typed.specs.declared.calls.FnId.TheVariants as callees
 use Rattle.call_graph.specs.Numbers.{handler_at}
@@ -15,8 +16,10 @@ use Rattle.core_code.specs.declared.code.CoreProgram.{CoreProgram}
 use Rattle.core_code.specs.declared.code.FirstByte.{FirstByte}
 use Rattle.core_code.specs.declared.code.FirstByte.TheVariants as firsts
 use Rattle.isr_save.specs.Start.{vector, byte_code, object_code, objects_code, start_code, reset, main, literal}
+use Rattle.pic_map.specs.declared.Placed.{Placed}
 use Rattle.pic_world.specs.declared.Root.{Root}
 use Rattle.program_code.specs.Joined.{IsJoined}
+use Rattle.program_code.specs.Passed.{IsPassed}
 use Rattle.select_wide.specs.Blocks.{body_at, code_by, ending_at}
 use Rattle.select_wide.specs.Selection.{wide_code}
 use Rattle.sym_code.specs.Programs.{block_in, same_name}
@@ -29,6 +32,8 @@ use Rattle.sym_code.specs.declared.code.Sym.{Sym}
 use Rattle.sym_code.specs.declared.code.Sym.TheVariants as syms
 use Rattle.sym_code.specs.declared.code.SymBlock.{SymBlock}
 use Rattle.bank_page.specs.Selected.{names_of, bare_lists}
+use Rattle.flow_facts.proofs.Kept.{thinning_has_flow}
+use Rattle.headline_trace.specs.Linked.{bare_setting, full_setting}
 use Rattle.src_rules.proofs.Starts.{sound_runs}
 use Rattle.image_links.specs.Passed.{code_of, SelectsAreHad}
 use Rattle.image_links.specs.Plain.{all_plain, all_given}
@@ -150,20 +155,15 @@ module _ (copies : List FnCopy) (core : CoreProgram) (blocks : List SymBlock) (j
   own_words name = in_blocks (λ list. all_are is_word list ≡ true) blocks name refl (λ b h. block_words b (subst (λ bs. Has bs b) joined.whole h))
 
 -- ---- the record
-pub selects_had : SelectsAreHad
-selects_had p copies core given made placed at limit passed =
+-- taken out, the selects of the whole blocks leave the given ones
+pub whole_same : (p : Program) (copies : List FnCopy) (core : CoreProgram) (given made : List SymBlock) (placed : Placed) (at : List ℕ) (passed : IsPassed p copies core given made placed at) (name : BlockName)
+    → bare (block_in passed.whole name) ≡ block_in given name
+whole_same p copies core given made placed at passed name =
     let runs = sound_runs p passed.blocks.sound passed.blocks.roots passed.blocks.numbers in
     let words = own_words copies core given passed.blocks.joined (each_given p copies runs core.bodies.items passed.blocks.bodies) in
-    record {
-      given_code = refl;
-      made_code = refl;
-      without = refl;
-      with = refl;
-      pages = refl;
-      fit = passed.fit;
-      named = passed.named;
-      limits = refl;
-      same = λ name. bare_same made given passed.blocks.names passed.blocks.bare name ∙ bare_itself (block_in given name) (words name);
-      apart = passed.blocks.apart;
-      reaches = passed.blocks.reaches;
-    }
+    bare_same passed.whole given passed.blocks.names passed.blocks.bare name ∙ bare_itself (block_in given name) (words name)
+
+pub selects_had : SelectsAreHad
+selects_had p copies core given made placed at limit passed =
+    thinning_has_flow given passed.whole made (handler_at copies) placed at (bare_setting given made (handler_at copies) placed at limit) (full_setting made (handler_at copies) placed at limit) passed.thinned
+    passed.blocks.apart passed.blocks.reaches (whole_same p copies core given made placed at passed) refl refl refl refl refl passed.fit passed.named refl

@@ -8,9 +8,10 @@ use Rattle.src_rules.proofs.Starts.{sound_runs}
 use Rattle.sym_code.specs.declared.code.Sym.{Sym}
 use Rattle.image_links.specs.Passed.{BodiesAreHad, StartIsHad, LayoutIsHad, LayoutServes}
 use Rattle.image_links.proofs.Apart.{laid_out}
-use Rattle.image_links.proofs.Fronts.{start_made, start_first, start_code_is, vector_for, halt_there}
+use Rattle.image_links.proofs.Fronts.{start_first, start_code_is, vector_for, halt_there}
 use Rattle.image_links.proofs.Laid.{layout_is}
 use Rattle.image_links.proofs.Lowered.{body_there}
+use Rattle.image_links.proofs.Thinned.{start_kept}
 
 pub bodies_had : BodiesAreHad
 bodies_had p copies core given made placed at passed c copy is user =
@@ -18,7 +19,7 @@ bodies_had p copies core given made placed at passed c copy is user =
 
 pub start_had : StartIsHad
 start_had p copies core given made placed at passed =
-    let start = start_made placed core copies given made passed.blocks.joined passed.blocks.exact in
+    let start = start_kept p copies core given made placed at passed in
     let code = start_code (handler_at copies) core.statics.items in
     let is = sym (start_code_is placed code made start) in (
       start_first placed code made start,

@@ -9,6 +9,7 @@ pub mod Lowered
 pub mod Bare
 pub mod Fronts
 pub mod Statics
+pub mod Thinned
 pub mod Outside
 pub mod Chosen
 pub mod Entered

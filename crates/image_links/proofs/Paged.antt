@@ -46,6 +46,7 @@ use Rattle.image_links.proofs.Members.{Has, has_map, map_has}
 use Rattle.image_links.proofs.Named.{tally, named_once, own_place}
 use Rattle.image_links.proofs.Outside.{behind_plain, plain_own, selected_own}
 use Rattle.image_links.proofs.Statics.{some_is}
+use Rattle.image_links.proofs.Thinned.{names_kept, lists_kept}
 
 -- ---- lists
 has_at : {A : Type 0} (xs : List A) (k : ℕ) (x : A) → slice_get xs k ≡ Some x → Has xs x
@@ -156,7 +157,7 @@ module _ (p : Program) (copies : List FnCopy) (core : CoreProgram) (given made :
 
   made_ends : (b : SymBlock) → Has made b → ends_by_word true b.list.items ≡ true
   made_ends b has =
-      let from = made_of given made passed.blocks.bare b has in
+      let from = made_of given made (lists_kept p copies core given made placed at passed) b has in
       let among : Has (joined.start ∷ joined.order) from.from = subst (λ (bs : List SymBlock). Has bs from.from) joined.whole from.among in
       ends_bare true b.list.items (ap (ends_by_word true) (sym from.code ∙ given_bare from.from among) ∙ given_ends from.from among)
 
@@ -169,7 +170,7 @@ module _ (p : Program) (copies : List FnCopy) (core : CoreProgram) (given made :
       ap (λ (o : Option ℕ). known o / page_words) a.1 ∙ label_paged label start block.list.items a.0 (made_ends block (has_at made k block is)) room.1 a.1
 
   own_at : (k : ℕ) (block : SymBlock) (start : ℕ) → slice_get made k ≡ Some block → slice_get at k ≡ Some start → block_place made at block.name ≡ Some start
-  own_at k block start is there = own_place made at k block start is there (subst (λ (ns : List BlockName). tally block.name ns ≤ 1) (sym passed.blocks.names) (named_once core copies given joined block.name))
+  own_at k block start is there = own_place made at k block start is there (subst (λ (ns : List BlockName). tally block.name ns ≤ 1) (sym (names_kept p copies core given made placed at passed)) (named_once core copies given joined block.name))
 
   own_page : (k : ℕ) (block : SymBlock) (start : ℕ) → slice_get made k ≡ Some block → slice_get at k ≡ Some start → page_of made at block.name ≡ start / page_words
   own_page k block start is there = ap (λ (o : Option ℕ). known o / page_words) (own_at k block start is there)
@@ -177,7 +178,7 @@ module _ (p : Program) (copies : List FnCopy) (core : CoreProgram) (given made :
   -- ---- labels of the start block
   behind_own : (rest : List SymBlock) (first : SymBlock) → made ≡ first ∷ rest → (b : SymBlock) → Has rest b → all_are is_own b.list.items ≡ true
   behind_own rest first whole b has =
-      let lists : bare_lists rest ≡ bare_lists joined.order = ap rest_of (sym (ap bare_lists whole) ∙ passed.blocks.bare ∙ ap bare_lists joined.whole) in
+      let lists : bare_lists rest ≡ bare_lists joined.order = ap rest_of (sym (ap bare_lists whole) ∙ (lists_kept p copies core given made placed at passed) ∙ ap bare_lists joined.whole) in
       let from = made_of joined.order rest lists b has in
       selected_own b.list.items
       (ap (all_are is_own) (sym from.code ∙ given_bare from.from (inr from.among))
@@ -201,7 +202,7 @@ module _ (p : Program) (copies : List FnCopy) (core : CoreProgram) (given made :
       record { first = b; rest = bs; whole = whole; name = ap (first_or b.name) (names ∙ ap names_of joined.whole) ∙ joined.name; start = a; addresses = addresses; places = places }
 
   front : IsFront
-  front = front_of made at refl refl passed.blocks.names
+  front = front_of made at refl refl (names_kept p copies core given made placed at passed)
 
   common_paged : (label : Label) → is_common label ≡ true → IsSome (label_place made at label) → known (label_place made at label) / page_words ≡ page_of made at Start
   common_paged label common some =

@@ -22,7 +22,7 @@ use Rattle.sym_code.specs.Programs.{block_in}
 use Rattle.sym_code.specs.declared.code.BlockName.TheVariants.{Start}
 use Rattle.sym_code.specs.declared.code.Sym.{Sym}
 use Rattle.sym_code.specs.declared.code.SymBlock.{SymBlock}
-use Rattle.bank_page.specs.Links.{HasSelects}
+use Rattle.flow_facts.specs.Links.{HasFlow}
 use Rattle.chip_trace.specs.Arriving.{HasVectorFor, HasHalt}
 use Rattle.code_place.specs.Layouts.{layout_of}
 use Rattle.headline_trace.specs.Linked.{bare_setting, full_setting}
@@ -36,8 +36,8 @@ code_of bodies copies c root (callees.Helper h) = helper_code h root c
 abbrev pub SelectsAreHad : Type 0
 SelectsAreHad =
     (p : Program) (copies : List FnCopy) (core : CoreProgram) (given made : List SymBlock) (placed : Placed) (at : List ℕ) (limit : Bool → ℕ)
-    → IsPassed p copies core given made placed at
-    → HasSelects given made (handler_at copies) placed at (bare_setting given made (handler_at copies) placed at limit) (full_setting made (handler_at copies) placed at limit)
+    (passed : IsPassed p copies core given made placed at)
+    → HasFlow given made (handler_at copies) placed at passed.thinned.facts (bare_setting given made (handler_at copies) placed at limit) (full_setting made (handler_at copies) placed at limit)
 
 -- Each copy of a function has its body.
 abbrev pub BodiesAreHad : Type 0

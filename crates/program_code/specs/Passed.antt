@@ -4,6 +4,7 @@ use Rattle.std.specs.List.{All, AllZip}
 use Rattle.c_typed.specs.Roots.{broken_root}
 use Rattle.c_typed.specs.Sound.{is_sound}
 use Rattle.c_typed.specs.Trees.{Program}
+use Rattle.call_graph.specs.Numbers.{handler_at}
 use Rattle.call_graph.specs.declared.types.FnCopy.{FnCopy}
 use Rattle.core_code.specs.declared.code.CoreProgram.{CoreProgram}
 use Rattle.lower_stmt.specs.Bodies.{body_of, bodies_of}
@@ -12,6 +13,7 @@ use Rattle.src_rules.specs.Numbers.{ProgramHasNumbers}
 use Rattle.sym_code.specs.declared.code.SymBlock.{SymBlock}
 use Rattle.bank_page.specs.Selected as selected
 use Rattle.bank_page.specs.Selected.{names_of, bare_lists, IsApart, IsWithin, IsExact}
+use Rattle.flow_facts.specs.Thin.{IsThinned}
 use Rattle.code_place.specs.Places.{BlocksHaveAddresses}
 use Rattle.code_place.specs.Sizes.{Fit}
 use Rattle.program_code.specs.Joined.{IsJoined}
@@ -33,8 +35,10 @@ pub record AreBlocks (p : Program) (copies : List FnCopy) (core : CoreProgram) (
   pub few : AllZip IsWithin given made
   pub exact : AllZip (IsExact placed) given made
 
--- .. and their addresses
+-- .. and of these what is left without the selects that flow facts make needless, with its addresses
 pub record IsPassed (p : Program) (copies : List FnCopy) (core : CoreProgram) (given made : List SymBlock) (placed : Placed) (at : List ℕ) : Type 0 where
-  pub blocks : AreBlocks p copies core given made placed
+  pub whole : List SymBlock
+  pub blocks : AreBlocks p copies core given whole placed
+  pub thinned : IsThinned (handler_at copies) whole made
   pub fit : Fit made at
   pub named : BlocksHaveAddresses placed made at
