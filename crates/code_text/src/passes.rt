@@ -1,9 +1,8 @@
 //! The code of a program in each language below C.
 
-use bank_page::selects;
 use core_code::CoreProgram;
 use lower_stmt::lower;
-use picc_core::{Front, joined};
+use picc_core::{Front, joined, symbolic};
 use std::alloc::{AllocError, Global};
 use sym_code::SymProgram;
 
@@ -19,7 +18,7 @@ pub struct Codes {
 pub fn compiled(alloc: Global, front: &Front) -> Result<Codes, AllocError> {
     let core = lower(alloc, &front.typed, &front.copies)?;
     let plain = joined(alloc, &core, &front.copies, &front.placed)?;
-    let selected = selects(alloc, &plain, &front.placed)?;
+    let selected = symbolic(alloc, &core, &front.copies, &front.placed)?;
     Ok(Codes {
         core,
         plain,

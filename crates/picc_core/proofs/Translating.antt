@@ -69,6 +69,7 @@ translated typed copies placed at depth words b same objects frames sound number
         spread = spread;
         paged = record { order = blocks.order; same = blocks.same; sorted = blocks.sorted; stand = blocks.placed; pages = blocks.pages; memory = blocks.memory };
         passed = record {
+          whole = code.symbolic.whole;
           blocks = record {
             sound = sound;
             roots = roots;
@@ -82,6 +83,7 @@ translated typed copies placed at depth words b same objects frames sound number
             few = code.symbolic.few;
             exact = code.symbolic.exact;
           };
+          thinned = code.symbolic.thinned;
           fit = code.fit;
           named = code.named;
         };

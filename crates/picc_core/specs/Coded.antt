@@ -2,6 +2,7 @@
 use Rattle.std.specs.Prelude.{ℕ, ◌≡◌, List, map, Some}
 use Rattle.std.specs.List.{All, AllZip}
 use Rattle.c_typed.specs.Trees.{Program}
+use Rattle.call_graph.specs.Numbers.{handler_at}
 use Rattle.call_graph.specs.declared.types.FnCopy.{FnCopy}
 use Rattle.core_code.specs.declared.code.CoreProgram.{CoreProgram}
 use Rattle.lower_stmt.specs.Bodies.{body_of, bodies_of, first_bytes}
@@ -13,18 +14,21 @@ use Rattle.sym_code.specs.declared.code.SymBlock.{SymBlock}
 use Rattle.bank_page.specs.Selected.{names_of, bare_lists, IsApart, IsWithin, Reaches, IsExact}
 use Rattle.code_place.specs.Places.{block_place, label_place, BlocksHaveAddresses, HoldsInstructions, IsErasedElsewhere, TargetsStand}
 use Rattle.code_place.specs.Sizes.{Fit}
+use Rattle.flow_facts.specs.Thin.{IsThinned}
 use Rattle.program_code.specs.Joined.{IsJoined}
 
--- The blocks are those that are joined from byte code, with the selects that they need.
+-- The blocks are those that are joined from byte code, with the selects that they need, but for those that flow facts make needless.
 pub record IsSymbolic (core : CoreProgram) (copies : List FnCopy) (placed : Placed) (made : List SymBlock) : Type 0 where
   pub given : List SymBlock
   pub joined : IsJoined core copies given
-  pub names : names_of made ≡ names_of given
-  pub bare : bare_lists made ≡ bare_lists given
-  pub apart : All IsApart made
-  pub reaches : All (Reaches placed) made
-  pub few : AllZip IsWithin given made
-  pub exact : AllZip (IsExact placed) given made
+  pub whole : List SymBlock
+  pub names : names_of whole ≡ names_of given
+  pub bare : bare_lists whole ≡ bare_lists given
+  pub apart : All IsApart whole
+  pub reaches : All (Reaches placed) whole
+  pub few : AllZip IsWithin given whole
+  pub exact : AllZip (IsExact placed) given whole
+  pub thinned : IsThinned (handler_at copies) whole made
 
 -- The image has the words of such blocks at their addresses, and no others; main begins at the first copy's, and ends at the label for that.
 pub record IsCoded (p : Program) (copies : List FnCopy) (placed : Placed) (at image : List ℕ) (main halt : ℕ) : Type 0 where

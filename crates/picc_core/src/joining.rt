@@ -11,6 +11,7 @@ use crate::code_order::name_rank;
 use bank_page::selects;
 use call_graph::{Copies, FnCopy, FnId};
 use core_code::CoreProgram;
+use flow_facts::thinned;
 use isr_save::start_block;
 use math_helpers::helper;
 use pic_map::Placed;
@@ -86,17 +87,18 @@ pub fn joined(
     Ok(SymProgram { blocks: order })
 }
 
-/// The same with its selects.
+/// The same with its selects, but for those that set what is so on every way to them.
 pub fn symbolic(
     alloc: Global,
     core: &CoreProgram,
     copies: &Copies,
     placed: &Placed,
 ) -> Result<SymProgram, AllocError>
-    // Each select stands for a need.
+    // Each select stands for a need, and by facts that are consistent none sets what is so already.
     ensures { IfOk result (λ made. IsSymbolic core.now copies.now.list.items placed.now made.blocks.items) }
 {
     let program = joined(alloc, core, copies, placed)?;
-    let made = selects(alloc, &program, placed)?;
+    let whole = selects(alloc, &program, placed)?;
+    let made = thinned(alloc, &whole, numbered(handler_at(&copies.list))?)?;
     Ok(made)
 }

@@ -18,7 +18,7 @@ mod stages;
 pub use agreeing::{Agreed, agree};
 pub use c_check::{Kind, RootKind};
 pub use compiling::compile;
-pub use joining::joined;
+pub use joining::{joined, symbolic};
 pub use known::{Built, Front};
 pub use refusal::{CompileError, LimitKind, Refusal};
 pub use src_machine::Undef;

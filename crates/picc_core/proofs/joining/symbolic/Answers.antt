@@ -2,14 +2,16 @@ use Rattle.picc_core.proofs.joining.symbolic.Goals as goal
 
 pub returns : goal.returns
 returns c =
-    let made = c.in_ok-made.ensures in
+    let whole = c.in_ok-whole.ensures in
     record {
       given = c.in_ok-program.program.blocks.items;
       joined = c.in_ok-program.ensures.whole;
-      names = made.names;
-      bare = made.bare;
-      apart = made.apart;
-      reaches = made.reaches;
-      few = made.few;
-      exact = made.exact;
+      whole = c.in_ok-whole.whole.blocks.items;
+      names = whole.names;
+      bare = whole.bare;
+      apart = whole.apart;
+      reaches = whole.reaches;
+      few = whole.few;
+      exact = whole.exact;
+      thinned = c.in_ok-made.ensures;
     }
