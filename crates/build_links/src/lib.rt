@@ -1,13 +1,12 @@
-//! What `picc` makes of a text does on the chip what a typed program says, if lowering keeps what the source does.
+//! What `picc` makes of a text does on the chip what a typed program says.
 //!
 //! In: nothing; the crate has a definition, and a theorem about it. Out: nothing.
-//! The promise: of two files that picc_cli's `picc` leaves with status 0 (`IsCompiled`) the headline holds, given the theorem of lowering.
+//! The promise: of two files that picc_cli's `picc` leaves with status 0 (`IsCompiled`) the headline holds.
 #![tactic(auto)]
 
 ghost use Rattle.build_links.specs.Faithful.{BuildsAreFaithful};
 
-/// Of the two files of a text that is built the headline holds over the program of which they are made, if lowering keeps what the source
-/// does: over every power-on state, input list and arrival list.
+/// Of the two files of a text that is built the headline holds over the program of which they are made: over every power-on state, input list and arrival list.
 pub fn builds_are_faithful()
     ensures { BuildsAreFaithful }
 {}

@@ -34,7 +34,8 @@ use Rattle.src_rules.specs.Laws.{IsProper, IsOfBytes}
 use Rattle.src_rules.specs.Runs.{steps_by}
 use Rattle.src_values.specs.declared.objects.Byte.{Byte}
 use Rattle.lower_stmt.specs.Programs.{core_of}
-use Rattle.lower_trace.specs.Lowering.{Lowers, source_run, held_as}
+use Rattle.lower_trace.specs.Lowering.{source_run, held_as}
+use Rattle.lower_trace.proofs.Lowered.{lowers}
 use Rattle.bank_page.specs.Links.{price_in}
 use Rattle.value_trace.proofs.Whole.{selection_law}
 use Rattle.bank_trace.proofs.Chosen.{flows_keep}
@@ -52,7 +53,7 @@ use Rattle.headline_trace.proofs.Ends.{end_state, frames}
 use Rattle.headline_trace.proofs.Joining.{prefix, pace, no_underflow, no_overflow, start_up}
 use Rattle.headline_trace.proofs.Showing.{seen}
 
-module _ (lowers : Lowers) (p : Program) (copies : List FnCopy) (bodies : List Body) (statics : List (Vec FirstByte Global)) (reaches : ℕ → ℕ → Bool) (given made : List SymBlock)
+module _ (p : Program) (copies : List FnCopy) (bodies : List Body) (statics : List (Vec FirstByte Global)) (reaches : ℕ → ℕ → Bool) (given made : List SymBlock)
     (handler : Option ℕ) (placed : Placed) (at : List ℕ) (limit : Bool → ℕ) (image : List ℕ) (content : MapContent)
     (linked : IsLinked p copies bodies statics reaches given made handler placed at limit image content)
     (start : Start) (inputs : List ℕ) (arrivals : List Arrival) (is_start : IsStart start) (small : All (λ byte. byte < 256) inputs) where
@@ -161,5 +162,5 @@ module _ (lowers : Lowers) (p : Program) (copies : List FnCopy) (bodies : List B
   }
 
 pub makes_headline : MakesHeadline
-makes_headline lowers p copies bodies statics reaches given made handler placed at limit image content linked start inputs arrivals is_start small =
-    headline lowers p copies bodies statics reaches given made handler placed at limit image content linked start inputs arrivals is_start small
+makes_headline p copies bodies statics reaches given made handler placed at limit image content linked start inputs arrivals is_start small =
+    headline p copies bodies statics reaches given made handler placed at limit image content linked start inputs arrivals is_start small

@@ -22,7 +22,7 @@ use Rattle.src_rules.specs.Standing.{IsReached}
 use Rattle.src_values.specs.Objects.{function_at}
 use Rattle.src_values.specs.declared.objects.CopyOf.{CopyOf}
 use Rattle.lower_stmt.specs.Programs.{core_of}
-use Rattle.lower_trace.specs.Lowering.{IsLowerable, Lowers, copy_number}
+use Rattle.lower_trace.specs.Lowering.{IsLowerable, copy_number}
 use Rattle.select_wide.specs.Links.{IsSelected}
 use Rattle.bank_page.specs.Links.{price_in}
 use Rattle.flow_facts.specs.Facts.{Facts}
@@ -60,12 +60,10 @@ pub record IsLinked (p : Program) (copies : List FnCopy) (bodies : List Body) (s
   pub frames : map frame_of content.frames ≡ (layout_of placed).frames
   pub named : IsNamed p copies content (layout_of placed)
 
--- If lowering keeps what the source does, then the image does on the chip what the program says: from anything that power-on leaves,
--- over any input list and any arrivals.
+-- The image does on the chip what the program says: from anything that power-on leaves, over any input list and any arrivals.
 abbrev pub MakesHeadline : Type 0
 MakesHeadline =
-    Lowers
-    → (p : Program) (copies : List FnCopy) (bodies : List Body) (statics : List (Vec FirstByte Global)) (reaches : ℕ → ℕ → Bool) (given made : List SymBlock)
+    (p : Program) (copies : List FnCopy) (bodies : List Body) (statics : List (Vec FirstByte Global)) (reaches : ℕ → ℕ → Bool) (given made : List SymBlock)
     (handler : Option ℕ) (placed : Placed) (at : List ℕ) (limit : Bool → ℕ) (image : List ℕ) (content : MapContent)
     → IsLinked p copies bodies statics reaches given made handler placed at limit image content
     → (start : Start) (inputs : List ℕ) (arrivals : List Arrival) → IsStart start → All (λ byte. byte < 256) inputs

@@ -1,4 +1,4 @@
--- Of what the passes make the headline holds, if lowering keeps what the source does.
+-- Of what the passes make the headline holds.
 use Rattle.std.proofs.Common.{◌≡◌, ℕ, ◌<◌, ◌≤◌, true, List, length, map, Some, sym, ap, ◌∙◌, subst, arith}
 use Rattle.std.specs.Prelude.{slice_get, slice_index, slice_index_or}
 use Rattle.std.specs.List.{All, Contains}
@@ -76,7 +76,7 @@ module _ (p : Program) (copies : List FnCopy) (core : CoreProgram) (given made :
       t.spread.clear in_objects.0 in_frames.0 y x (object_at in_objects.0 y (there content.objects y in_objects)) (frame_at in_frames.0 x (there content.frames x in_frames)) byte of_object of_frame
 
 pub translations_faithful : TranslationsAreFaithful
-translations_faithful lowers p image content made =
+translations_faithful p image content made =
     let copies = made.copies in
     let t = made.is in
     record {
@@ -88,6 +88,6 @@ translations_faithful lowers p image content made =
         halt = t.written.range.halt;
         apart = apart p copies made.core made.given made.made made.placed made.at image content t;
         clear_of_objects = clear p copies made.core made.given made.made made.placed made.at image content t;
-        runs = λ start inputs arrivals is_start bytes. translations_follow lowers p image content made start inputs arrivals is_start (all_bytes inputs bytes);
+        runs = λ start inputs arrivals is_start bytes. translations_follow p image content made start inputs arrivals is_start (all_bytes inputs bytes);
       };
     }

@@ -43,8 +43,8 @@ translations_linked p copies core given made placed at image map_content t =
     }
 
 pub translations_follow : TranslationsFollow
-translations_follow lowers p image map_content made start inputs arrivals is_start bytes =
+translations_follow p image map_content made start inputs arrivals is_start bytes =
     let copies = made.copies in
     let core = made.core in
-    makes_headline lowers p copies core.bodies.items core.statics.items (reaches_in p copies) made.given made.made (handler_at copies) made.placed made.at (limit_of copies) image map_content
+    makes_headline p copies core.bodies.items core.statics.items (reaches_in p copies) made.given made.made (handler_at copies) made.placed made.at (limit_of copies) image map_content
     (translations_linked p copies core made.given made.made made.placed made.at image map_content made.is) start inputs arrivals is_start bytes

@@ -12,7 +12,7 @@ use Rattle.pic_map.specs.declared.Placed.{Placed}
 use Rattle.pic_world.specs.declared.Arrival.{Arrival}
 use Rattle.program_code.specs.Translated.{IsTranslation, IsTranslated}
 use Rattle.sym_code.specs.declared.code.SymBlock.{SymBlock}
-use Rattle.lower_trace.specs.Lowering.{IsLowerable, Lowers}
+use Rattle.lower_trace.specs.Lowering.{IsLowerable}
 use Rattle.headline.specs.Headline.{Follows, setting_of}
 use Rattle.headline.specs.SourceOf.{source_of}
 use Rattle.headline_trace.specs.Linked.{IsLinked}
@@ -32,11 +32,9 @@ TranslationsAreLinked =
     → IsTranslation p copies core given made placed at image content
     → IsLinked p copies core.bodies.items core.statics.items (reaches_in p copies) given made (handler_at copies) placed at (limit_of copies) image content
 
--- So, if lowering keeps what the source does, the image does on the chip what the program says: from anything that power-on leaves,
--- over any input list and any arrivals.
+-- So the image does on the chip what the program says: from anything that power-on leaves, over any input list and any arrivals.
 abbrev pub TranslationsFollow : Type 0
 TranslationsFollow =
-    Lowers
-    → (p : Program) (image : List ℕ) (content : MapContent) → (made : IsTranslated p image content)
+    (p : Program) (image : List ℕ) (content : MapContent) → (made : IsTranslated p image content)
     → (start : Start) (inputs : List ℕ) (arrivals : List Arrival) → IsStart start → All (λ byte. byte < 256) inputs
     → Follows (source_of p made.copies content) content (setting_of content image start inputs arrivals)

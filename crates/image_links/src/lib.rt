@@ -72,15 +72,14 @@ pub fn beginning_is_had()
 
 /// What all passes make of a typed program is what the links ask for: the program is one that lowering keeps, since its objects and frames
 /// fit a region of memory and its blocks a page; and with its code in every language, its image and its map it is linked. By the root and
-/// the name of a function's copy the map tells its frame. So the image does on the chip what the program says, if lowering keeps what
-/// the source does.
+/// the name of a function's copy the map tells its frame. So the image does on the chip what the program says.
 pub fn translations_are_linked()
     ensures lowerable { TranslationsAreLowerable }
     ensures linked { TranslationsAreLinked }
     ensures follow { TranslationsFollow }
 {}
 
-/// Of what all passes make of a typed program the headline holds, if lowering keeps what the source does: each word of the image is one of
+/// Of what all passes make of a typed program the headline holds: each word of the image is one of
 /// an instruction of the model, the map has exactly the program's objects and copies where they are to stand, frames that may be live
 /// together are apart and clear of objects, and every run of the chip follows the source.
 pub fn translations_are_faithful()
