@@ -1,5 +1,5 @@
 -- The block of a helper's copy, with its selects, has at most the words that are stated of the routine.
-use Rattle.std.proofs.Common.{◌≡◌, ℕ, ◌+◌, ◌≤◌, Bool, true, false, not, ◌&&◌, ◌||◌, if◌then◌else◌, List, [], ◌∷◌, ◌++◌, Option, Some, None, refl, sym, ap, ◌∙◌, subst, append-nil, arith}
+use Rattle.std.proofs.Common.{◌≡◌, ℕ, ◌≤◌, Bool, true, false, not, ◌&&◌, ◌||◌, if◌then◌else◌, List, [], ◌∷◌, ◌++◌, Option, Some, None, refl, sym, ap, ◌∙◌, subst, append-nil, arith}
 use Rattle.bank_prices.proofs.Whole.{leaves_blocks, routines_are_priced}
 use Rattle.bank_prices.specs.Prices.{AreSelected}
 use Rattle.c_typed.specs.declared.calls.Helper.{Helper}
