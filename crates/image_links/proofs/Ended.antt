@@ -102,7 +102,7 @@ some_nat a b e = ap or_a e where
   or_a None = a
   or_a (Some c) = c
 
-label_inside : (label : Label) (last : Bool) (at : ℕ) (list : List Sym) (address : ℕ) → ends_by_word last list ≡ true → label_at label at list ≡ Some address
+pub label_inside : (label : Label) (last : Bool) (at : ℕ) (list : List Sym) (address : ℕ) → ends_by_word last list ≡ true → label_at label at list ≡ Some address
     → (at ≤ address) × (address < at + words_in list)
 label_inside label last at [] address e is = absurd (cc)
 label_inside label last at (s ∷ list) address e is =

@@ -40,3 +40,4 @@ pub mod Standing
 pub mod FewCopies
 pub mod Worded
 pub mod Faithful
+pub mod Written

@@ -155,7 +155,7 @@ module _ (p : Program) (copies : List FnCopy) (core : CoreProgram) (given made :
   given_bare : (b : SymBlock) → Has (joined.start ∷ joined.order) b → bare b.list.items ≡ b.list.items
   given_bare b has = bare_itself b.list.items (block_words copies core given joined (each_given p copies (sound_runs p passed.blocks.sound passed.blocks.roots passed.blocks.numbers) core.bodies.items passed.blocks.bodies) b has)
 
-  made_ends : (b : SymBlock) → Has made b → ends_by_word true b.list.items ≡ true
+  pub made_ends : (b : SymBlock) → Has made b → ends_by_word true b.list.items ≡ true
   made_ends b has =
       let from = made_of given made (lists_kept p copies core given made placed at passed) b has in
       let among : Has (joined.start ∷ joined.order) from.from = subst (λ (bs : List SymBlock). Has bs from.from) joined.whole from.among in

@@ -5,3 +5,4 @@ pub mod Assembly
 pub mod Translations
 pub mod Bounded
 pub mod Faithful
+pub mod Written

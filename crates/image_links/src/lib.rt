@@ -11,6 +11,7 @@ ghost use Rattle.image_links.specs.Faithful.{TranslationsAreFaithful};
 ghost use Rattle.image_links.specs.Passed.{BodiesAreHad, LayoutIsHad, LayoutServes, SelectsAreHad, StartIsHad};
 ghost use Rattle.image_links.specs.Translations.{TranslationsAreLinked, TranslationsAreLowerable, TranslationsFollow};
 ghost use Rattle.image_links.specs.Selection.{DepthIsHad, LevelsAreHad, PricesAreHad, ReachIsHad, RoutinesHavePrices, SelectionIsHad};
+ghost use Rattle.image_links.specs.Written.{MapsAreWritten};
 
 /// Of a sound program, byte code of its copies, the blocks that are joined from it and what `selects` answers for them have the selects
 /// that the link between symbolic code without and with selects asks for.
@@ -96,4 +97,10 @@ pub fn blocks_have_room()
     ensures in_order { BlocksAreInOrder }
     ensures all_fit { TranslationsFit }
     ensures few { CopiesAreFew }
+{}
+
+/// A map file can tell the map of what the passes make, if its names are such as a map file has: main and its end are in program memory,
+/// and objects and frames in data memory.
+pub fn maps_are_written()
+    ensures { MapsAreWritten }
 {}
