@@ -60,7 +60,7 @@ use Rattle.image_links.proofs.Routines.{routine_words}
 use Rattle.image_links.proofs.Statics.{some_is}
 
 -- ---- lists
-zip_at : {A B : Type 0} (R : A → B → Type 0) (xs : List A) (ys : List B) → AllZip R xs ys → (k : ℕ) (y : B) → slice_get ys k ≡ Some y → (x : A) × (slice_get xs k ≡ Some x) × R x y
+pub zip_at : {A B : Type 0} (R : A → B → Type 0) (xs : List A) (ys : List B) → AllZip R xs ys → (k : ℕ) (y : B) → slice_get ys k ≡ Some y → (x : A) × (slice_get xs k ≡ Some x) × R x y
 zip_at R [] [] h k y is = absurd (cc)
 zip_at R [] (z ∷ ys) h k y is = absurd h
 zip_at R (x ∷ xs) [] h k y is = absurd h

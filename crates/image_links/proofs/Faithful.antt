@@ -26,6 +26,7 @@ use Rattle.image_links.proofs.Linking.{translations_follow}
 use Rattle.image_links.proofs.Lowerable.{first_at}
 use Rattle.image_links.proofs.Named.{tally, named_once, own_list}
 use Rattle.image_links.proofs.Statics.{some_is}
+use Rattle.image_links.proofs.Thinned.{names_kept}
 use Rattle.image_links.proofs.Worded.{all_modelled}
 
 -- bytes by their places are bytes
@@ -43,7 +44,7 @@ module _ (p : Program) (copies : List FnCopy) (core : CoreProgram) (given made :
   once : (name : BlockName) → tally name (names_of made) ≤ 1
   once name =
       let one = named_once core copies given t.passed.blocks.joined name in
-      let same = ap (tally name) t.passed.blocks.names in
+      let same = ap (tally name) (names_kept p copies core given made placed at t.passed) in
       omega (arith, one, same)
 
   small : (k : ℕ) (block : SymBlock) → slice_get made k ≡ Some block → (i : ℕ) (s : Sym) → slice_get block.list.items i ≡ Some s → is_small s ≡ true

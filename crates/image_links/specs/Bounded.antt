@@ -5,6 +5,7 @@ use Rattle.c_typed.specs.Views.{program_of}
 use Rattle.c_typed.specs.Words.{start_size}
 use Rattle.c_typed.specs.declared.program.Typed.{Typed}
 use Rattle.call_graph.specs.Copies.{AreCopies}
+use Rattle.call_graph.specs.Numbers.{handler_at}
 use Rattle.call_graph.specs.declared.types.FnCopy.{FnCopy}
 use Rattle.core_code.specs.declared.code.CoreProgram.{CoreProgram}
 use Rattle.lower_stmt.specs.Bodies.{first_bytes}
@@ -21,6 +22,7 @@ use Rattle.sym_code.specs.declared.code.BlockName.{BlockName}
 use Rattle.sym_code.specs.declared.code.BlockName.TheVariants.{Start, Copy}
 use Rattle.sym_code.specs.declared.code.SymBlock.{SymBlock}
 use Rattle.code_place.specs.Sizes.{Fit}
+use Rattle.flow_facts.specs.Thin.{IsThinned}
 
 -- ---- stated words
 -- those of the block of a name
@@ -70,11 +72,11 @@ BlocksAreInOrder =
     → AreBlocks (program_of typed) copies core given made placed → HasCalls (program_of typed) copies → (paged : IsPaged (program_of typed) copies at)
     → AreInOrder copies paged.order made
 
--- so each of its blocks has room at its address, whether that is tested or not.
+-- so each of its blocks, without the selects that flow facts make needless, has room at its address, whether that is tested or not.
 abbrev pub TranslationsFit : Type 0
 TranslationsFit =
-    (typed : Typed) (copies : List FnCopy) (core : CoreProgram) (given made : List SymBlock) (placed : Placed) (at : List ℕ)
-    → AreBlocks (program_of typed) copies core given made placed → HasCalls (program_of typed) copies
+    (typed : Typed) (copies : List FnCopy) (core : CoreProgram) (given whole made : List SymBlock) (placed : Placed) (at : List ℕ)
+    → AreBlocks (program_of typed) copies core given whole placed → IsThinned (handler_at copies) whole made → HasCalls (program_of typed) copies
     → IsPlacing (program_of typed) copies (map object_of placed.objects.items) (map frame_of placed.frames.items)
     → map items_of core.statics.items ≡ first_bytes (program_of typed) → IsPaged (program_of typed) copies at → Fit made at
 
