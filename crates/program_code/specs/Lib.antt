@@ -1,5 +1,6 @@
 pub mod Joined
 pub mod Order
 pub mod Passed
+pub mod Sized
 pub mod Stated
 pub mod Translated
