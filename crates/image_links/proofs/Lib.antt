@@ -41,3 +41,4 @@ pub mod FewCopies
 pub mod Worded
 pub mod Faithful
 pub mod Written
+pub mod Sized
