@@ -1,8 +1,11 @@
 -- What is known of a front, of the program that is built of it.
-use Rattle.std.proofs.Common.{◌≡◌, ℕ, ◌≤◌, map, IfOk, Result, Ok, Err, sym, ap, subst}
+use Rattle.std.proofs.Common.{◌≡◌, ℕ, ◌≤◌, map, Option, IfOk, Result, Ok, Err, sym, ap, ◌∙◌, subst}
 use Rattle.c_typed.specs.Trees.{Program}
 use Rattle.call_graph.specs.Copies.{AreCopies, HasDepth}
+use Rattle.call_graph.specs.Numbers.{handler_at}
 use Rattle.call_graph.specs.declared.types.FnCopy.{FnCopy}
+use Rattle.flow_facts.specs.Thin.{IsThinned}
+use Rattle.sym_code.specs.declared.code.SymBlock.{SymBlock}
 use Rattle.pic_map.specs.MapContent.{ObjectLine, FrameLine}
 use Rattle.picc_core.specs.Blocks.{HasBlocks, HasWords}
 use Rattle.picc_core.specs.Compiled.{IsPlaced, IsWithinDepth}
@@ -25,3 +28,7 @@ words_handed p q w v copies at a b known blocks =
 
 pub placed : (p q : Program) (os ps : List ObjectLine) (fs gs : List FrameLine) → q ≡ p → ps ≡ os → gs ≡ fs → IsPlaced p os fs → IsPlaced q ps gs
 placed p q os ps fs gs a b c is = subst (λ x. IsPlaced x ps gs) (sym a) (subst (λ x. IsPlaced p x gs) (sym b) (subst (λ x. IsPlaced p os x) (sym c) is))
+
+-- the handler is that of the list that was lent
+pub thinned_by : (copies given : List FnCopy) (handler found : Option ℕ) (whole made : List SymBlock) → given ≡ copies → handler ≡ found → found ≡ handler_at given → IsThinned handler whole made → IsThinned (handler_at copies) whole made
+thinned_by copies given handler found whole made first kept is thin = subst (λ (h : Option ℕ). IsThinned h whole made) (kept ∙ is ∙ ap handler_at first) thin

@@ -99,6 +99,7 @@ pub fn symbolic(
 {
     let program = joined(alloc, core, copies, placed)?;
     let whole = selects(alloc, &program, placed)?;
-    let made = thinned(alloc, &whole, numbered(handler_at(&copies.list))?)?;
+    let handler = numbered(handler_at(&copies.list))?;
+    let made = thinned(alloc, &whole, handler)?;
     Ok(made)
 }

@@ -1,3 +1,4 @@
+use Rattle.picc_core.proofs.Handed.{thinned_by}
 use Rattle.picc_core.proofs.joining.symbolic.Goals as goal
 
 pub returns : goal.returns
@@ -13,5 +14,5 @@ returns c =
       reaches = whole.reaches;
       few = whole.few;
       exact = whole.exact;
-      thinned = c.in_ok-made.ensures;
+      thinned = thinned_by c.args.copies.now.list.items _ _ _ c.in_ok-whole.whole.blocks.items c.in_ok-made.made.blocks.items c.deref.ensures.value c.in_ok-handler.ensures c.handler_at.ensures c.in_ok-made.ensures;
     }
