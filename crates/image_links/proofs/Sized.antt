@@ -9,7 +9,6 @@ use Rattle.c_typed.specs.Trees.{FunctionTree, MemberTree, Program, StaticTree, S
 use Rattle.c_typed.specs.Types.{type_bytes}
 use Rattle.c_typed.specs.Views.{program_of}
 use Rattle.c_typed.specs.declared.Typed.{Typed}
-use Rattle.c_typed.specs.declared.types.Qualified.{Qualified}
 use Rattle.c_typed.specs.declared.types.Ty.{Ty}
 use Rattle.c_typed.specs.declared.types.Ty.TheVariants as types
 use Rattle.program_code.specs.Sized.{array_has_bytes, target_has_bytes, member_has_bytes, members_have_room, structure_has_bytes, static_has_bytes, local_has_bytes, locals_have_bytes, types_have_bytes}
