@@ -1,7 +1,8 @@
 //! What `picc` makes of a text does on the chip what a typed program says.
 //!
 //! In: nothing; the crate has a definition, and a theorem about it. Out: nothing.
-//! The promise: of two files that picc_cli's `picc` leaves with status 0 (`IsCompiled`) the headline holds.
+//! The promise: of the two files that picc_cli's `picc` leaves with status 0 of a text that isn't of constants to ports (`IsCompiled`) the headline
+//! holds over a typed program of which all passes made them. That it is the text's is not proved. Of constants to ports `picc` itself says it.
 #![tactic(auto)]
 
 ghost use Rattle.build_links.specs.Faithful.{BuildsAreFaithful};

@@ -85,7 +85,7 @@ all_words p copies = sum_by (λ (copy : FnCopy). block_words p copy.function) co
 
 -- A typed program with its copies, whose constants, labels, first bytes and characters are numbers of their types, whose calls fit the
 -- return stack, whose objects and frames fit a region of memory each, whose blocks fit a page each and program memory together, and whose types have
--- bytes. Each accepted program is one.
+-- bytes. Each program of which all passes answered is one.
 pub record IsLowerable (p : Program) (copies : List FnCopy) : Type 0 where
   pub typed : Typed
   pub same : p ≡ program_of typed

@@ -5,7 +5,7 @@ use Rattle.c_typed.specs.Trees.{FunctionTree, MemberTree, Program, StaticTree, S
 use Rattle.c_typed.specs.Types.{type_bytes}
 use Rattle.c_typed.specs.declared.types.Qualified.{Qualified}
 
--- Soundness alone doesn't say it: a structure that holds itself and an array of void have no bytes there. No text makes such types.
+-- Soundness alone doesn't say it: a structure that holds itself and an array of void have no bytes there. No text of any test makes such types.
 pub record IsSized (p : Program) : Type 0 where
   -- what pointers point to, where it can be counted in
   pub targets : (n : ℕ) (t : Qualified) → slice_get p.targets n ≡ Some t → is_complete p t.ty ≡ true → 1 ≤ type_bytes p.sizes t.ty
