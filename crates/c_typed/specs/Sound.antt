@@ -2,7 +2,7 @@
 use Rattle.std.specs.Prelude.{ℕ, suc, ◌+◌, ◌-◌, ◌*◌, ◌^◌, ◌%◌, nat_eq, nat_lt, nat_le, ℤ, int_le, Bool, true, false, not, ◌&&◌, ◌||◌, if◌then◌else◌, List, [], ◌∷◌, length, Option, Some, None, is_some, slice_get}
 use Rattle.std.specs.List.{list_all}
 use Rattle.c_typed.specs.Fits.{source_of, goes_to, fits, place_fits}
-use Rattle.c_typed.specs.Sameness.{same_type, is_void, is_array, is_struct, is_scalar, is_promoted, is_complete}
+use Rattle.c_typed.specs.Sameness.{same_type, is_void, is_array, is_struct, is_scalar, is_promoted, is_some_member, is_complete}
 use Rattle.c_typed.specs.Trees as tree
 use Rattle.c_typed.specs.Trees.{Expression, Place, Item, Statement, Statements, Arm, Arms, LastArm, VariableTree, StaticTree, FunctionTree, MemberTree, StructureTree, Program}
 use Rattle.c_typed.specs.Types.{type_bytes, type_of, place_type}
@@ -156,10 +156,10 @@ unfoldable mutual
 abbrev pub kept : ℕ → ℕ
 kept size = if nat_lt size (2 ^ 40) then size else size % 65536 + 2 ^ 40
 
--- An array's elements have a row without qualifiers, and its size is that of its elements together.
+-- An array's elements have a row without qualifiers and a byte at least, and its size is that of its elements together.
 abbrev pub array_is_there : Program → Option Qualified → ℕ → ℕ → Bool
 array_is_there p None count size = false
-array_is_there p (Some element) count size = not element.constant && (not element.volatile && nat_eq size (kept (count * type_bytes p.sizes element.ty)))
+array_is_there p (Some element) count size = not element.constant && (not element.volatile && (nat_lt 0 (type_bytes p.sizes element.ty) && nat_eq size (kept (count * type_bytes p.sizes element.ty))))
 
 -- What a type is made of is there.
 abbrev pub type_is_there : Program → Ty → Bool
@@ -181,8 +181,12 @@ abbrev pub members_fit : Program → ℕ → ℕ → List MemberTree → Bool
 members_fit p size before [] = nat_eq before size
 members_fit p size before (m ∷ ms) = nat_eq m.offset before && (type_is_there p m.ty.ty && (is_complete p m.ty.ty && members_fit p size (kept (before + type_bytes p.sizes m.ty.ty)) ms))
 
+-- A structure that has members has bytes: so none is a member of itself.
+abbrev pub has_bytes : List MemberTree → ℕ → Bool
+has_bytes members size = not (is_some_member members) || nat_lt 0 size
+
 abbrev pub structure_fits : Program → StructureTree → Bool
-structure_fits p s = members_fit p s.size 0 s.members
+structure_fits p s = has_bytes s.members s.size && members_fit p s.size 0 s.members
 
 -- a static object that is there and isn't const: no pointer leads to a const one
 abbrev pub is_changeable : Option StaticTree → Bool

@@ -210,7 +210,7 @@ pub(crate) fn is_the(found: Option<Qualified>, ty: Qualified) -> bool
     }
 }
 
-fn is_some_member(members: &[Member]) -> bool
+pub(crate) fn is_some_member(members: &[Member]) -> bool
     ensures { result ≡ stated.is_some_member (map member_of members.now) }
 {
     match members {

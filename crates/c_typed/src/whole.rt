@@ -8,7 +8,7 @@ ghost use Rattle.c_typed.specs.Views.{tables_of, member_of, structure_of, static
 
 use crate::nodes::size_of_program;
 use crate::program::{Function, Initial, InitialByte, Static, Typed, Variable};
-use crate::sameness::{bytes, is_complete, is_scalar, is_void, target};
+use crate::sameness::{bytes, is_complete, is_scalar, is_some_member, is_void, target};
 use crate::sound::statements_fit;
 use crate::tables::Tables;
 use crate::types::{Member, Qualified, Structure, Ty};
@@ -38,6 +38,7 @@ fn array_is_there(p: &Tables, element: Option<Qualified>, count: u32, size: u64)
         Some(element) => {
             !element.constant
                 && !element.volatile
+                && 0 < bytes(p, element.ty)
                 && size == kept(product(count, bytes(p, element.ty)))
         }
         None => false,
@@ -115,10 +116,17 @@ fn members_fit(p: &Tables, size: u64, members: &[Member]) -> bool
     before == size
 }
 
+fn has_bytes(members: &[Member], size: u64) -> bool
+    ensures { result ≡ stated.has_bytes (map member_of members.now) size }
+{
+    !is_some_member(members) || 0 < size
+}
+
 fn structure_fits(p: &Tables, structure: &Structure) -> bool
     ensures { result ≡ stated.structure_fits (tables_of p.now) (structure_of structure.now) }
 {
-    members_fit(p, structure.size, &structure.members)
+    has_bytes(&structure.members, structure.size)
+        && members_fit(p, structure.size, &structure.members)
 }
 
 fn byte_fits(p: &Tables, byte: InitialByte) -> bool
