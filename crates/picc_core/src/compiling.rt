@@ -86,7 +86,7 @@ fn built(alloc: Global, front: Front) -> Result<Built, AllocError>
 }
 
 /// The same, if its map is one that a map file can tell, and tells each frame by a root and a name of its own, and its types have
-/// bytes. Names are those of the text, addresses and sizes those of memory, and types those of declarations, so it always is.
+/// bytes. Otherwise the answer is out of memory; that it never comes to that isn't proved.
 fn checked(built: Built) -> Result<Built, CompileError>
     ensures same { IfOk result (λ checked. checked ≡ built) }
     ensures written { IfOk result (λ checked. AreInRange (content_of checked.map)) }

@@ -87,14 +87,14 @@ pub fn joined(
     Ok(SymProgram { blocks: order })
 }
 
-/// The same with its selects, but for those that set what is so on every way to them.
+/// The same with its selects, but for those that set what is so already by the facts that were found.
 pub fn symbolic(
     alloc: Global,
     core: &CoreProgram,
     copies: &Copies,
     placed: &Placed,
 ) -> Result<SymProgram, AllocError>
-    // Each select stands for a need, and by facts that are consistent none sets what is so already.
+    // The selects are those of `selects`, each for a need, but for those that flow facts which are consistent make needless.
     ensures { IfOk result (λ made. IsSymbolic core.now copies.now.list.items placed.now made.blocks.items) }
 {
     let program = joined(alloc, core, copies, placed)?;

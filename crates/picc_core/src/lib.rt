@@ -1,8 +1,12 @@
 //! All passes of the compiler, one after the other.
 //!
 //! In: the bytes of a C text. Out: its typed tree, the copies of its functions, where objects, frames and blocks of code
-//! stand, and how many words they are stated to have; or the first of all refusals that hold of the text. And of a built program
+//! stand, and how many words they are stated to have; its image and its map; or why the text is refused. And of a built program
 //! and a script: how many events its run on the chip has, or the undefined step that its source meets beside it.
+//! The promise: a refusal tells what it says of the text, and the first one of the text's tokens is told unless memory runs out. What is
+//! accepted has a tree, and the typed program of the answer breaks no rule on main and the handler, has no function that reaches itself,
+//! and fits the return stack; its objects, frames and blocks stand where they are to stand, and image and map are what the passes make
+//! of it. That it is the typed program of the text isn't proved.
 #![tactic(auto)]
 
 mod agreeing;
