@@ -4,11 +4,9 @@ ghost use Rattle.std.specs.Prelude.{◌≡◌, ◌&&◌};
 ghost use Rattle.bank_page.specs.Known as stated;
 ghost use Rattle.sym_code.specs.Programs.{same_name, block_of};
 
+use crate::kinds::ends;
 use core_code::Byte;
-use sym_code::{
-    BankBit, BlockName, Label, LiteralOperation, Operand, PageBit, PlainOperation, Register, Sym,
-    Target, touches,
-};
+use sym_code::{BankBit, BlockName, Label, Operand, PageBit, Register, Sym, Target, touches};
 
 /// RP0 and RP1, where they are known, and the blocks whose page bits 3 and 4 of PCLATH name.
 #[derive(Clone, Copy, PartialEq, Eq, Debug)]
@@ -19,8 +17,8 @@ pub struct Known {
     pub high: Option<BlockName>,
 }
 
-// The block in which a target lies that a block names.
-fn block_of(own: BlockName, target: Target) -> BlockName
+/// The block in which a target lies that a block names.
+pub fn block_of(own: BlockName, target: Target) -> BlockName
     ensures { result ≡ block_of own target }
 {
     match target {
@@ -121,38 +119,6 @@ fn kept_page(changed: bool, known: Option<BlockName>) -> Option<BlockName>
     if changed { None } else { known }
 }
 
-fn is_return(op: PlainOperation) -> bool
-    ensures { result ≡ stated.is_return op }
-{
-    match op {
-        PlainOperation::Return => true,
-        PlainOperation::Retfie => true,
-        PlainOperation::Clrw => false,
-        PlainOperation::Nop => false,
-    }
-}
-
-fn is_retlw(op: LiteralOperation) -> bool
-    ensures { result ≡ stated.is_retlw op }
-{
-    match op {
-        LiteralOperation::Retlw => true,
-        _ => false,
-    }
-}
-
-// Whether nothing runs behind the instruction but what is reached by a label.
-fn ends(sym: Sym) -> bool
-    ensures { result ≡ stated.ends sym }
-{
-    match sym {
-        Sym::Goto(_) => true,
-        Sym::Plain(op) => is_return(op),
-        Sym::Literal { op, .. } => is_retlw(op),
-        _ => false,
-    }
-}
-
 // Whether anything may be selected behind the instruction: a label is reached from elsewhere, and a call comes back with what
 // it left.
 fn forgets(sym: Sym) -> bool
@@ -171,7 +137,8 @@ fn same_bit(a: bool, b: bool) -> bool
     if b { a } else { !a }
 }
 
-fn is_bit(known: Option<bool>, on: bool) -> bool
+/// Whether a bit is known to be so.
+pub fn is_bit(known: Option<bool>, on: bool) -> bool
     ensures { result ≡ stated.is_bit known on }
 {
     match known {
@@ -180,7 +147,8 @@ fn is_bit(known: Option<bool>, on: bool) -> bool
     }
 }
 
-fn same_block(a: BlockName, b: BlockName) -> bool
+/// Whether two names are one.
+pub fn same_block(a: BlockName, b: BlockName) -> bool
     ensures { result ≡ same_name a b }
 {
     match a {
@@ -195,7 +163,8 @@ fn same_block(a: BlockName, b: BlockName) -> bool
     }
 }
 
-fn is_page(known: Option<BlockName>, block: BlockName) -> bool
+/// Whether a bit is known to be that of the page of this block.
+pub fn is_page(known: Option<BlockName>, block: BlockName) -> bool
     ensures { result ≡ stated.is_page known block }
 {
     match known {
@@ -205,7 +174,7 @@ fn is_page(known: Option<BlockName>, block: BlockName) -> bool
 }
 
 impl Known {
-    /// At the front of a block and at a label.
+    /// Where anything may be selected: at the front of a block and at a label.
     pub fn nothing() -> Known
         ensures { result ≡ stated.nothing }
     {
@@ -217,13 +186,10 @@ impl Known {
         }
     }
 
-    /// What is known after an instruction; it may be one that is skipped.
-    pub fn after(self, sym: Sym, may_be_skipped: bool) -> Known
-        ensures { result ≡ stated.after self sym may_be_skipped }
+    /// What is left of it after an instruction that is no select.
+    pub fn left(self, sym: Sym) -> Known
+        ensures { result ≡ stated.left self sym (stated.writes_status sym) (stated.writes_pclath sym) }
     {
-        if forgets(sym) || (ends(sym) && !may_be_skipped) {
-            return Known::nothing();
-        }
         let status = writes_status(sym);
         let pclath = writes_pclath(sym);
         Known {
@@ -232,6 +198,16 @@ impl Known {
             low: kept_page(changes(pclath, sym, 3), self.low),
             high: kept_page(changes(pclath, sym, 4), self.high),
         }
+    }
+
+    /// What is known after an instruction; it may be one that is skipped.
+    pub fn after(self, sym: Sym, may_be_skipped: bool) -> Known
+        ensures { result ≡ stated.after self sym may_be_skipped }
+    {
+        if forgets(sym) || (ends(sym) && !may_be_skipped) {
+            return Known::nothing();
+        }
+        self.left(sym)
     }
 
     /// Whether what a select in a block sets is known to be so already.

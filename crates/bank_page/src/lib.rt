@@ -2,14 +2,15 @@
 //!
 //! In: symbolic code without selects, and where objects and frames stand. Out: the same code with the selects that it needs.
 //! The promise: taken out, the selects leave the code as it was; every access, jump and call finds what it needs; and no select
-//! sets what is known to be so.
+//! sets what is known to be so. What is known, and kinds of instructions, serve the passes behind it too.
 #![tactic(auto)]
 
-mod known;
+pub mod kinds;
+pub mod known;
 mod needs;
 mod selecting;
 
-pub use selecting::selects;
+pub use selecting::{put_made, selects};
 
 #[cfg(test)]
 mod tests;

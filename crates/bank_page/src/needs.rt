@@ -1,85 +1,22 @@
 //! What instructions need to be selected.
 
 ghost use Rattle.std.specs.Prelude.{◌≡◌, IsTrue};
-ghost use Rattle.sym_code.specs.Selects.{is_rp, is_select};
 ghost use Rattle.bank_page.specs.Kinds as kinds;
 ghost use Rattle.bank_page.specs.Needs as stated;
 ghost use Rattle.sym_code.specs.Words.{is_common};
 
+use crate::kinds::{is_label, is_select, is_skip};
 use crate::known::{writes_pclath, writes_status};
 use code_place::address_of;
 use core_code::Byte;
 use pic_map::Placed;
-use sym_code::{BankBit, BitOperation, FileOperation, Operand, Sym, Target, touches};
+use sym_code::{Operand, Sym, Target, touches};
 
 /// What must be selected before an instruction: a bank, and the page of a target.
 #[derive(Clone, Copy, PartialEq, Eq, Debug)]
 pub struct Needs {
     pub bank: Option<u16>,
     pub page: Option<Target>,
-}
-
-fn is_rp(bit: BankBit) -> bool
-    ensures { result ≡ is_rp bit }
-{
-    match bit {
-        BankBit::Rp0 => true,
-        BankBit::Rp1 => true,
-        BankBit::Irp => false,
-    }
-}
-
-/// Whether the instruction selects a bank or a page. One that sets IRP is an instruction like any other.
-pub fn is_select(sym: Sym) -> bool
-    ensures { result ≡ is_select sym }
-{
-    match sym {
-        Sym::SelectBank(bit, _) => is_rp(bit),
-        Sym::SelectPage(_, _) => true,
-        _ => false,
-    }
-}
-
-/// Whether it is a label, which takes no word of program memory.
-pub fn is_label(sym: Sym) -> bool
-    ensures { result ≡ kinds.is_label sym }
-{
-    match sym {
-        Sym::Label(_) => true,
-        _ => false,
-    }
-}
-
-fn skips_by_file(op: FileOperation) -> bool
-    ensures { result ≡ kinds.skips_by_file op }
-{
-    match op {
-        FileOperation::Decfsz => true,
-        FileOperation::Incfsz => true,
-        _ => false,
-    }
-}
-
-fn skips_by_bit(op: BitOperation) -> bool
-    ensures { result ≡ kinds.skips_by_bit op }
-{
-    match op {
-        BitOperation::Btfsc => true,
-        BitOperation::Btfss => true,
-        BitOperation::Bcf => false,
-        BitOperation::Bsf => false,
-    }
-}
-
-/// Whether the instruction may skip the one after it.
-pub fn is_skip(sym: Sym) -> bool
-    ensures { result ≡ kinds.is_skip sym }
-{
-    match sym {
-        Sym::File { op, .. } => skips_by_file(op),
-        Sym::Bit { op, .. } => skips_by_bit(op),
-        _ => false,
-    }
 }
 
 // Whether the byte is in every bank (Microchip data sheet DS39582, register file map): the results, INTCON, and the registers

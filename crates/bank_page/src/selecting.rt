@@ -9,8 +9,9 @@ ghost use Rattle.sym_code.specs.Words.{words_in, most_words};
 ghost use Rattle.bank_page.specs.Step as stated;
 ghost use Rattle.sym_code.specs.WellFormed.{is_well_formed, are_well_formed};
 
+use crate::kinds::{is_label, is_select, is_skip};
 use crate::known::Known;
-use crate::needs::{Needs, is_label, is_select, is_skip, needs_in};
+use crate::needs::{Needs, needs_in};
 use pic_map::Placed;
 use std::alloc::{AllocError, Global};
 use sym_code::{BankBit, PageBit, Sym, SymBlock, SymProgram, Target};
@@ -142,7 +143,8 @@ fn selected(alloc: Global, block: &SymBlock, placed: &Placed) -> Result<SymBlock
     Ok(out)
 }
 
-fn put_made(blocks: &mut Vec<SymBlock>, block: SymBlock) -> Result<(), AllocError>
+/// Puts a block behind those that were made before it.
+pub fn put_made(blocks: &mut Vec<SymBlock>, block: SymBlock) -> Result<(), AllocError>
     ensures { IfOk result (λ _. blocks.new.items ≡ blocks.old.items ++ (block ∷ [])) }
 {
     blocks.push(block)?;

@@ -5,8 +5,9 @@ ghost use Rattle.flow_facts.specs.Stored.{facts_of};
 ghost use Rattle.flow_facts.specs.Walk as stated;
 
 use crate::facts::FlowFacts;
-use crate::known::{Known, gives};
+use crate::sharing::gives;
 use crate::walk::{Place, first_of, leads_on, place_after};
+use bank_page::known::Known;
 use sym_code::{BlockName, Sym, SymBlock};
 
 // Whether a block expects no more anywhere than what is known where it leads there.

@@ -4,7 +4,7 @@ ghost use Rattle.std.specs.Prelude.{◌≡◌, None, Some, MatchOption, slice_ge
 ghost use Rattle.flow_facts.specs.Facts as stated;
 ghost use Rattle.flow_facts.specs.Stored as stored;
 
-use crate::known::Known;
+use bank_page::known::Known;
 use sym_code::{BlockName, Label, Target};
 
 /// What is known at the front of a block, where it returns, and at its inner labels, by their numbers. `None` stands where nothing

@@ -4,9 +4,10 @@
 ghost use Rattle.std.specs.Prelude.{◌≡◌, replicate, None, IfOk};
 
 use crate::facts::{BlockFacts, FlowFacts};
-use crate::kinds::{is_retlw, is_return};
-use crate::known::{Known, shared};
+use crate::sharing::shared;
 use crate::walk::{Place, place_after};
+use bank_page::kinds::{is_retlw, is_return};
+use bank_page::known::Known;
 use std::alloc::{AllocError, Global};
 use sym_code::{BlockName, Label, Sym, SymBlock, Target};
 

@@ -1,4 +1,4 @@
-//! Code without the selects that need not be.
+//! Code without the selects that flow facts make needless.
 
 ghost use Rattle.std.specs.Prelude.{ℕ, ◌≡◌, ◌∷◌, ◌++◌, [], true, false, List, IfOk};
 ghost use Rattle.std.specs.List.{AllZip};
@@ -10,10 +10,11 @@ ghost use Rattle.flow_facts.specs.Walk.{is_consistent as are_consistent};
 
 use crate::checking::is_consistent;
 use crate::facts::FlowFacts;
-use crate::kinds::{is_select, same_block};
-use crate::known::Known;
 use crate::search::search;
 use crate::walk::{Place, first_of, place_after};
+use bank_page::kinds::is_select;
+use bank_page::known::{Known, same_block};
+use bank_page::put_made;
 use std::alloc::{AllocError, Global};
 use sym_code::{BlockName, Sym, SymBlock, SymProgram};
 
@@ -95,13 +96,6 @@ fn thin_block(alloc: Global, facts: &FlowFacts, block: &SymBlock) -> Result<SymB
     Ok(out)
 }
 
-fn put_made(blocks: &mut Vec<SymBlock>, block: SymBlock) -> Result<(), AllocError>
-    ensures { IfOk result (λ _. blocks.new.items ≡ blocks.old.items ++ (block ∷ [])) }
-{
-    blocks.push(block)?;
-    Ok(())
-}
-
 #[tactic(auto, using(crate::proofs::Turns::zip_none, crate::proofs::Turns::zip_more, crate::proofs::Turns::zip_all))]
 fn thin_blocks(
     alloc: Global,
@@ -143,14 +137,14 @@ fn facts_for(
     Ok(none_known(alloc, handler, blocks))
 }
 
-/// The program without those selects that set what is so on every way to them. Main is copy 0, and the handler the copy with this
-/// number. The start block stays whole.
+/// The program without those selects that set what is so already by the facts that were found, or to which by these nothing comes. Main
+/// is copy 0, and the handler the copy with this number. The start block stays whole.
 pub fn thinned(
     alloc: Global,
     program: &SymProgram,
     handler: Option<u16>,
 ) -> Result<SymProgram, AllocError>
-    // By facts that are consistent, the selects that set what is known are left out, and nothing else is.
+    // By facts that are consistent, the selects that set what is known or to which nothing comes are left out, and nothing else is.
     ensures { IfOk result (λ made. stated.IsThinned handler program.now.blocks.items made.blocks.items) }
 {
     let facts = facts_for(alloc, handler, &program.blocks)?;

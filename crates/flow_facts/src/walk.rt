@@ -6,8 +6,9 @@ ghost use Rattle.flow_facts.specs.Stored.{facts_of};
 ghost use Rattle.flow_facts.specs.Walk as stated;
 
 use crate::facts::FlowFacts;
-use crate::kinds::{block_of, ends, is_label, is_retlw, is_return, is_select, is_skip};
-use crate::known::{Known, gives, shared};
+use crate::sharing::{gives, shared};
+use bank_page::kinds::{ends, is_label, is_retlw, is_return, is_select, is_skip};
+use bank_page::known::{Known, block_of};
 use sym_code::{BlockName, Sym, Target};
 
 /// What is known at a place of a block, and whether it stands after a skip.
