@@ -59,7 +59,7 @@ use Rattle.lower_trace.proofs.Operating.{IsPlain}
 
 -- a structure with a body has a byte
 sized_bytes : (z : Scene) → IsLowerable z.program z.copies → HaveBytes z.program
-sized_bytes z given = λ number complete. let some = structure_some z.program given.typed given.same given.sound given.sized number complete in omega arith
+sized_bytes z given = λ number complete. let some = structure_some z.program given.typed given.same given.sound number complete in omega arith
 
 plain_or : (op : BinOp) → IsPlain op ⊎ (IsPlain op → ⊥)
 plain_or ops.Add = inl tt
@@ -107,7 +107,7 @@ module _ (z : Scene) (given : IsLowerable z.program z.copies) (input : All (λ b
       (λ plain. plain_binaries z given input op left right ty line x y k plain cp l w c known due h)
       (λ other. helped_binaries z given input op left right ty line x y k other cp l w c known due h)
       (plain_or op)
-  binaries_by op left right ty line (datum.Pointer x) (datum.Pointer y) k cp l w c known due h = pointer_binaries z given input given.sized op left right ty line x y k cp l w c known due h
+  binaries_by op left right ty line (datum.Pointer x) (datum.Pointer y) k cp l w c known due h = pointer_binaries z given input op left right ty line x y k cp l w c known due h
   binaries_by op left right ty line (datum.Number x) (datum.Pointer y) k cp l w c known due h = apart_binaries z op left right ty line (datum.Number x) (datum.Pointer y) k tt cp l w c known due h
   binaries_by op left right ty line (datum.Pointer x) (datum.Number y) k cp l w c known due h = apart_binaries z op left right ty line (datum.Pointer x) (datum.Number y) k tt cp l w c known due h
   binaries_by op left right ty line (datum.Number x) datum.Missing k cp l w c known due h = apart_binaries z op left right ty line (datum.Number x) datum.Missing k tt cp l w c known due h
@@ -115,8 +115,8 @@ module _ (z : Scene) (given : IsLowerable z.program z.copies) (input : All (λ b
   binaries_by op left right ty line datum.Missing v k cp l w c known due h = apart_binaries z op left right ty line datum.Missing v k tt cp l w c known due h
 
   offsets_by : (op : BinOp) (left right : Expression) (size : ℕ) (ty : Ty) (line : ℕ) (u v : Datum) (k : List Pending) → Law z (Holds v) (In (tree.Offset op left right size ty line) (One u) ∷ k)
-  offsets_by op left right size ty line (datum.Pointer x) (datum.Number q) k cp l w c known due h = pointer_offsets z given input given.sized op left right size ty line x q k cp l w c known due h
-  offsets_by op left right size ty line (datum.Number q) (datum.Pointer x) k cp l w c known due h = turned_offsets z given input given.sized op left right size ty line q x k cp l w c known due h
+  offsets_by op left right size ty line (datum.Pointer x) (datum.Number q) k cp l w c known due h = pointer_offsets z given input op left right size ty line x q k cp l w c known due h
+  offsets_by op left right size ty line (datum.Number q) (datum.Pointer x) k cp l w c known due h = turned_offsets z given input op left right size ty line q x k cp l w c known due h
   offsets_by op left right size ty line (datum.Number q) (datum.Number y) k cp l w c known due h = apart_offsets z op left right size ty line (datum.Number q) (datum.Number y) k tt cp l w c known due h
   offsets_by op left right size ty line (datum.Number q) datum.Missing k cp l w c known due h = apart_offsets z op left right size ty line (datum.Number q) datum.Missing k tt cp l w c known due h
   offsets_by op left right size ty line (datum.Pointer x) (datum.Pointer y) k cp l w c known due h = apart_offsets z op left right size ty line (datum.Pointer x) (datum.Pointer y) k tt cp l w c known due h
@@ -128,7 +128,7 @@ module _ (z : Scene) (given : IsLowerable z.program z.copies) (input : All (λ b
   differences_divide left right size line u v k cp l w known many = difference_helped z given cp known.stands.reached left right size line many known.parts.1.0.0
 
   differences_by : (left right : Expression) (size line : ℕ) (u v : Datum) (k : List Pending) → Law z (Holds v) (In (tree.Difference left right size line) (One u) ∷ k)
-  differences_by left right size line (datum.Pointer x) (datum.Pointer y) k cp l w c known due h = pointer_differences z given input given.sized differences_divide left right size line x y k cp l w c known due h
+  differences_by left right size line (datum.Pointer x) (datum.Pointer y) k cp l w c known due h = pointer_differences z given input differences_divide left right size line x y k cp l w c known due h
   differences_by left right size line (datum.Pointer x) (datum.Number q) k cp l w c known due h = apart_differences z left right size line (datum.Pointer x) (datum.Number q) k tt cp l w c known due h
   differences_by left right size line (datum.Pointer x) datum.Missing k cp l w c known due h = apart_differences z left right size line (datum.Pointer x) datum.Missing k tt cp l w c known due h
   differences_by left right size line (datum.Number q) v k cp l w c known due h = apart_differences z left right size line (datum.Number q) v k tt cp l w c known due h
@@ -158,16 +158,16 @@ module _ (z : Scene) (given : IsLowerable z.program z.copies) (input : All (λ b
       (λ no. helped_updates z given input op place value operation size ty line spot y x k other cp l w c known due h)
       (bool_cases (shifts_by_constant op value)))
       (sum_or op)
-  updates_by op place value operation size ty line spot (datum.Number y) (datum.Pointer x) k cp l w c known due h = pointer_updates z given input given.sized op place value operation size ty line spot y x k cp l w c known due h
-  updates_by op place value operation size ty line spot (datum.Pointer y) (datum.Number x) k cp l w c known due h = updates_apart z given input given.sized op place value operation size ty line spot y (datum.Number x) k cp l w c known due h
-  updates_by op place value operation size ty line spot (datum.Pointer y) (datum.Pointer x) k cp l w c known due h = updates_apart z given input given.sized op place value operation size ty line spot y (datum.Pointer x) k cp l w c known due h
+  updates_by op place value operation size ty line spot (datum.Number y) (datum.Pointer x) k cp l w c known due h = pointer_updates z given input op place value operation size ty line spot y x k cp l w c known due h
+  updates_by op place value operation size ty line spot (datum.Pointer y) (datum.Number x) k cp l w c known due h = updates_apart z given input op place value operation size ty line spot y (datum.Number x) k cp l w c known due h
+  updates_by op place value operation size ty line spot (datum.Pointer y) (datum.Pointer x) k cp l w c known due h = updates_apart z given input op place value operation size ty line spot y (datum.Pointer x) k cp l w c known due h
   updates_by op place value operation size ty line spot (datum.Number y) datum.Missing k cp l w c known due h = missing_updates z op place value operation size ty line spot (datum.Number y) k cp l w c known due h
   updates_by op place value operation size ty line spot (datum.Pointer y) datum.Missing k cp l w c known due h = missing_updates z op place value operation size ty line spot (datum.Pointer y) k cp l w c known due h
   updates_by op place value operation size ty line spot datum.Missing v k cp l w c known due h = updates_missing z op place value operation size ty line spot v k cp l w c known due h
 
   steps_by : (op : StepOp) (place : Place) (operation : Ty) (size : ℕ) (ty : Ty) (line : ℕ) (spot : Spot) (v : Datum) (k : List Pending) → Law z (Holds v) (In (tree.Step op place operation size ty line) (At spot) ∷ k)
   steps_by op place operation size ty line spot (datum.Number x) k cp l w c known due h = number_steps z given input op place operation size ty line spot x k cp l w c known due h
-  steps_by op place operation size ty line spot (datum.Pointer x) k cp l w c known due h = pointer_steps z given input given.sized op place operation size ty line spot x k cp l w c known due h
+  steps_by op place operation size ty line spot (datum.Pointer x) k cp l w c known due h = pointer_steps z given input op place operation size ty line spot x k cp l w c known due h
   steps_by op place operation size ty line spot datum.Missing k cp l w c known due h = missing_steps z op place operation size ty line spot k cp l w c known due h
 
   skims_by : (place : Place) (ty : Ty) (line : ℕ) (spot : Spot) (k : List Pending) → is_scalar ty ≡ false → Law z (Found spot) (In (tree.Read place ty line) Nothing ∷ k)
@@ -230,7 +230,7 @@ module _ (z : Scene) (given : IsLowerable z.program z.copies) (input : All (λ b
   }
 
   pub place_laws : PlaceLaws z
-  place_laws = record { skims = skims_by; addresses = place_addresses z given input given.sized; known_counts = known_updates z given input }
+  place_laws = record { skims = skims_by; addresses = place_addresses z given input; known_counts = known_updates z given input }
 
   pub node_laws : NodeLaws z
   node_laws = record {

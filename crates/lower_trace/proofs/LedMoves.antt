@@ -43,7 +43,6 @@ use Rattle.src_values.specs.declared.objects.Pointer.{Pointer}
 use Rattle.src_values.specs.declared.objects.Pointer.TheVariants.{Into, Null}
 use Rattle.src_values.specs.declared.objects.Spot.{Spot}
 use Rattle.src_values.specs.declared.objects.Spot.TheVariants as spots
-use Rattle.lower_trace.specs.Sizes.{IsSized}
 use Rattle.lower_trace.specs.Lowering.{IsLowerable}
 use Rattle.lower_trace.proofs.CodeLeft.{Scene, base, core_in, ground_in, number}
 use Rattle.lower_trace.proofs.Fitting.{pointer_at, value_at, width_is}
@@ -129,7 +128,7 @@ address_room (Fixed byte) l n sought e = subst (λ f. 8 ≤ address_words f) (sy
 address_room (Bit register bit) l n sought e = omega arith
 address_room Computed l n sought e = omega arith
 
-module _ (z : Scene) (given : IsLowerable z.program z.copies) (input : All (λ byte. byte < 256) z.outside.input) (sized : IsSized z.program) where
+module _ (z : Scene) (given : IsLowerable z.program z.copies) (input : All (λ byte. byte < 256) z.outside.input) where
   abbrev p : Program
   p = z.program
 
@@ -145,7 +144,7 @@ module _ (z : Scene) (given : IsLowerable z.program z.copies) (input : All (λ b
       let g = ground_in z cp in
       let here = byte_is_so (core_byte z o f) byte (subst (λ y. IsAt z g.copy (base g k) y (spots.Memory (Into o f)) m) fixed is) in
       let own = own_spot z cp g.layout g.copy sought byte (spots.Memory (Into o f)) fixed around.reached place at in
-      let inside = fixed_inside p given.typed given.same given.sound sized (any_small p (proper z given input)) cp sought (spots.Memory (Into o f)) around.reached place (fixed_form g.layout g.copy sought byte fixed) at in
+      let inside = fixed_inside p given.typed given.same given.sound (any_small p (proper z given input)) cp sought (spots.Memory (Into o f)) around.reached place (fixed_form g.layout g.copy sought byte fixed) at in
       let lowest = low z given input cp around.reached in
       let frame = frame_is z given cp around.reached in
       ap (is_valid (core_in z).program (number z cp)) (sym here) ∙ (own_byte z (scene_laws z given) cp k o f around own (omega (arith, inside)) (omega (arith, lowest, frame))).valid
@@ -177,7 +176,7 @@ module _ (z : Scene) (given : IsLowerable z.program z.copies) (input : All (λ b
       let g = ground_in z cp in
       let b = base g k in
       let r = step_rule p op place ty size ty line s.stack.0.0 in
-      let counted = element z given input sized ty size counts in
+      let counted = element z given input ty size counts in
       let less = small z given input cp s.reached in
       let f = frame_is z given cp s.reached in
       let fits = known.stack.0 in
@@ -228,7 +227,7 @@ module _ (z : Scene) (given : IsLowerable z.program z.copies) (input : All (λ b
       let b = base g k in
       let r = update_rule p (mover minus) place right ty size ty line s.stack.0.0 in
       let a = and_parts (is_index (type_of right)) (counts_in p (pointed p ty) size && same_type ty ty) rule in
-      let counted = element z given input sized ty size (and_parts (counts_in p (pointed p ty) size) (same_type ty ty) a.1).0 in
+      let counted = element z given input ty size (and_parts (counts_in p (pointed p ty) size) (same_type ty ty) a.1).0 in
       let u = s.stack.2.1 in
       let two = index_two q.ty (subst (λ y. is_index y ≡ true) u.0 a.0) in
       let less = small z given input cp s.reached in

@@ -35,7 +35,6 @@ use Rattle.src_values.specs.declared.objects.Object.{Object}
 use Rattle.src_values.specs.declared.objects.Object.TheVariants as objects
 use Rattle.src_values.specs.declared.objects.Pointer.{Pointer}
 use Rattle.src_values.specs.declared.objects.Pointer.TheVariants.{Into, Null}
-use Rattle.lower_trace.specs.Sizes.{IsSized}
 use Rattle.lower_trace.specs.Lowering.{IsLowerable}
 use Rattle.lower_trace.proofs.CodeLeft.{Scene, core_in, number}
 use Rattle.lower_trace.proofs.Known.{Known, around, resumables}
@@ -121,7 +120,7 @@ DifferencesDivide z =
     (left right : Expression) (size line : ℕ) (u v : Datum) (k : List Pending) (cp : CopyOf) (l : source.Memory) (w : World Byte) → Known z (state cp (Holds v) (In (tree.Difference left right size line) (One u) ∷ k) l w) → nat_eq size 1 ≡ false
     → (core_in z).program.helped (number z cp) ops.Div int.Int ≡ true
 
-module _ (z : Scene) (given : IsLowerable z.program z.copies) (input : All (λ byte. byte < 256) z.outside.input) (sized : IsSized z.program) where
+module _ (z : Scene) (given : IsLowerable z.program z.copies) (input : All (λ byte. byte < 256) z.outside.input) where
   abbrev p : Program
   p = z.program
 
@@ -129,10 +128,10 @@ module _ (z : Scene) (given : IsLowerable z.program z.copies) (input : All (λ b
   sizes = z.program.sizes
 
   pub element : (ty : Ty) (size : ℕ) → counts_in p (pointed p ty) size ≡ true → (1 ≤ size) × (size < 2199023255552)
-  element ty size e = element_size p given.typed given.same given.sound sized ty size e
+  element ty size e = element_size p given.typed given.same given.sound ty size e
 
   pub some : (o : Object) → IsThere p o → 0 < object_bytes p o
-  some o there = object_some p given.typed given.same given.sound sized o there
+  some o there = object_some p given.typed given.same given.sound o there
 
   -- no object has more bytes than a region
   bounded : (o : Object) → IsThere p o → object_bytes p o ≤ 32767

@@ -36,8 +36,7 @@ use Rattle.src_values.specs.declared.objects.Pointer.{Pointer}
 use Rattle.src_values.specs.declared.objects.Pointer.TheVariants.{Into, Null}
 use Rattle.src_values.specs.declared.objects.Spot.{Spot}
 use Rattle.src_values.specs.declared.objects.Spot.TheVariants as spots
-use Rattle.lower_trace.specs.Sizes.{IsSized}
-use Rattle.lower_trace.proofs.TypeSizes.{member_within, object_some, param_has, size_is, structure_there}
+use Rattle.lower_trace.proofs.TypeSizes.{local_has, member_has, member_within, object_some, param_has, size_is, static_has, structure_there, target_has}
 use Rattle.lower_trace.proofs.Written.{same_nat}
 
 -- ---- names
@@ -137,7 +136,7 @@ moved_bytes p (Into o f) y offset whole b small h part e =
     let le = part (omega (arith, h, most)) in
     range_bytes p o (f + offset) b (int_lt (pos f +ℤ pos offset) (pos 0) || int_lt (pos (object_bytes p o)) (pos f +ℤ pos offset)) y (omega (arith, h, le)) e
 
-module _ (p : Program) (typed : Typed) (same : p ≡ program_of typed) (sound : is_sound p ≡ true) (sized : IsSized p) where
+module _ (p : Program) (typed : Typed) (same : p ≡ program_of typed) (sound : is_sound p ≡ true) where
   -- ---- members
   -- a member has a byte, and lies within its structure
   abbrev IsPart : Ty → ℕ → Qualified → Type 0
@@ -149,7 +148,7 @@ module _ (p : Program) (typed : Typed) (same : p ≡ program_of typed) (sound : 
       let a = and_parts (nat_eq m.offset offset) _ e in
       let at = same_nat m.offset offset a.0 in
       let q = ap (type_bytes p.sizes) (same_type_is m.ty.ty ty.ty (and_parts (same_type m.ty.ty ty.ty) _ a.1).0) in
-      let some = sized.members n member s m is there in
+      let some = member_has p typed same sound n member s m is there in
       let all = size_is p typed same sound n s is in
       (omega (arith, some, q), λ le. let within = member_within p s.size 0 s.members member m (structure_there p typed same sound n s is) (omega (arith, le, all)) there in omega (arith, within, at, q, all))
 
@@ -169,7 +168,7 @@ module _ (p : Program) (typed : Typed) (same : p ≡ program_of typed) (sound : 
   static_some n None is ty e plain = absurd (false≢true e)
   static_some n (Some s) is ty e plain =
       let q = named_same p.sizes false (Some s.ty) ty e plain in
-      let some = sized.statics n s is in
+      let some = static_has p typed same sound n s is in
       omega (arith, q, some)
 
   param_some : (f n : ℕ) (o : Option VariableTree) → f < length p.functions → slice_get (function_at p f).params n ≡ o → (ty : Qualified) → is_named false (option_map variable_type o) ty ≡ true → is_array ty.ty ≡ false → 1 ≤ type_bytes p.sizes ty.ty
@@ -183,7 +182,7 @@ module _ (p : Program) (typed : Typed) (same : p ≡ program_of typed) (sound : 
   local_some f n None there is ty e plain = absurd (false≢true e)
   local_some f n (Some v) there is ty e plain =
       let q = named_same p.sizes true (Some v.ty) ty e plain in
-      let some = sized.locals f n (function_at p f) v (function_there p f there) is in
+      let some = local_has p typed same sound f n (function_at p f) v (function_there p f there) is in
       omega (arith, q, some)
 
   device_some : (b : Bool) (ty : Qualified) → is_named false (if b then Some register_type else None) ty ≡ true → is_array ty.ty ≡ false → 1 ≤ type_bytes p.sizes ty.ty
@@ -194,7 +193,7 @@ module _ (p : Program) (typed : Typed) (same : p ≡ program_of typed) (sound : 
   target_some row None ty is e whole = absurd (false≢true e)
   target_some row (Some t) ty is e whole =
       let alike = same_type_is t.ty ty.ty (and_parts (same_type t.ty ty.ty) _ e).0 in
-      let some = sized.targets row t is (subst (λ y. is_complete p y ≡ true) (sym alike) whole) in
+      let some = target_has p typed same sound row t is (subst (λ y. is_complete p y ≡ true) (sym alike) whole) in
       let q = ap (type_bytes p.sizes) alike in
       omega (arith, some, q)
 
@@ -257,9 +256,9 @@ module _ (p : Program) (typed : Typed) (same : p ≡ program_of typed) (sound : 
     fixed_within c (tree.Deref pointer ty line) spot h fixed s = absurd (cc)
 
     name_first : (c : CopyOf) (object : Name) (ty : Qualified) → IsReached p c → is_named (names_local object) (declared_type p (function_at p c.function) object) ty ≡ true → HasBytes p (spot_of p c object) 1
-    name_first c (names.Static n) ty r e = let some = object_some p typed same sound sized (objects.Fixed n) (name_placed p c (names.Static n) ty r e).0 in omega (arith, some)
-    name_first c (names.Param n) ty r e = let some = object_some p typed same sound sized (objects.Variable c n) (name_placed p c (names.Param n) ty r e).0 in omega (arith, some)
-    name_first c (names.Local n) ty r e = let some = object_some p typed same sound sized (objects.Variable c (length (function_at p c.function).params + n)) (name_placed p c (names.Local n) ty r e).0 in omega (arith, some)
+    name_first c (names.Static n) ty r e = let some = object_some p typed same sound (objects.Fixed n) (name_placed p c (names.Static n) ty r e).0 in omega (arith, some)
+    name_first c (names.Param n) ty r e = let some = object_some p typed same sound (objects.Variable c n) (name_placed p c (names.Param n) ty r e).0 in omega (arith, some)
+    name_first c (names.Local n) ty r e = let some = object_some p typed same sound (objects.Variable c (length (function_at p c.function).params + n)) (name_placed p c (names.Local n) ty r e).0 in omega (arith, some)
     name_first c (names.Register a) ty r e = tt
 
     -- A byte stands where a fixed place is.

@@ -7,7 +7,7 @@ use Rattle.c_typed.proofs.Facts.{function_of_sound, static_of_sound}
 use Rattle.c_typed.specs.Fits.{is_device, is_named, is_open, member_at, place_rule_holds, register_type, static_type, variable_type}
 use Rattle.c_typed.specs.Rules.{member_fits}
 use Rattle.c_typed.specs.Sameness.{is_array, is_complete, is_scalar, is_struct, is_the, members_in, pointed, same_flag, same_qualified, same_type}
-use Rattle.c_typed.specs.Sound.{function_fits, initial_fits, is_sound, kept, local_fits, members_fit, object_fits, param_fits, result_fits, static_fits, statements_fit, structure_fits, target_fits, type_is_there}
+use Rattle.c_typed.specs.Sound.{function_fits, has_bytes, initial_fits, is_sound, kept, local_fits, members_fit, object_fits, param_fits, result_fits, static_fits, statements_fit, structure_fits, target_fits, type_is_there}
 use Rattle.c_typed.specs.Trees as tree
 use Rattle.c_typed.specs.Trees.{FunctionTree, MemberTree, Place, Program, StaticTree, StructureTree, VariableTree}
 use Rattle.c_typed.specs.Types.{place_type, type_bytes, type_of}
@@ -118,7 +118,7 @@ module _ (p : Program) (sound : is_sound p ≡ true) where
 
   structure_member : (number : ℕ) (o : Option StructureTree) (n : ℕ) (m : MemberTree) → slice_get p.structures number ≡ o → slice_get (members_in o) n ≡ Some m → is_complete p m.ty.ty ≡ true
   structure_member number None n m there is = member_complete 0 0 [] n m refl is
-  structure_member number (Some s) n m there is = member_complete s.size 0 s.members n m (all_at (structure_fits p) p.structures number s structures there) is
+  structure_member number (Some s) n m there is = member_complete s.size 0 s.members n m (and_parts (has_bytes s.members s.size) (members_fit p s.size 0 s.members) (all_at (structure_fits p) p.structures number s structures there)).1 is
 
   type_member : (whole : Ty) (n : ℕ) (m : MemberTree) → member_at p whole n ≡ Some m → is_complete p m.ty.ty ≡ true
   type_member (types.Struct number) n m is = structure_member number (slice_get p.structures number) n m refl is

@@ -1,2 +1,1 @@
 pub mod Lowering
-pub mod Sizes

@@ -31,7 +31,6 @@ use Rattle.src_rules.specs.Step.{step}
 use Rattle.core_code.specs.Bytes.{Object, Fixed, FrameOf, Held, Unset, Number, Part}
 use Rattle.core_code.specs.Runs as core
 use Rattle.lower_stmt.specs.Programs.{core_of}
-use Rattle.lower_trace.specs.Sizes.{IsSized}
 
 -- ---- the source as a run
 -- the most instructions of the chip that a step of the language may take
@@ -84,8 +83,8 @@ abbrev pub all_words : Program → List FnCopy → ℕ
 all_words p copies = sum_by (λ (copy : FnCopy). block_words p copy.function) copies
 
 -- A typed program with its copies, whose constants, labels, first bytes and characters are numbers of their types, whose calls fit the
--- return stack, whose objects and frames fit a region of memory each, whose blocks fit a page each and program memory together, and whose types have
--- bytes. Each program of which all passes answered is one.
+-- return stack, whose objects and frames fit a region of memory each, and whose blocks fit a page each and program memory together. Each
+-- program of which all passes answered is one.
 pub record IsLowerable (p : Program) (copies : List FnCopy) : Type 0 where
   pub typed : Typed
   pub same : p ≡ program_of typed
@@ -101,7 +100,6 @@ pub record IsLowerable (p : Program) (copies : List FnCopy) : Type 0 where
   pub small_statics : All (IsSmallStatic p) p.statics
   pub small_copies : All (IsSmallCopy p) copies
   pub few_words : all_words p copies ≤ 8192
-  pub sized : IsSized p
 
 -- ---- what is kept
 -- byte code follows the first n micro-steps; and code without cost stands for no more steps than the program has nodes

@@ -9,7 +9,7 @@ use Rattle.c_typed.specs.Fits.{source_of, goes_to, keeps_from, is_memory, is_rea
 use Rattle.c_typed.specs.Room.{room, unary_room}
 use Rattle.c_typed.specs.Rules.{is_start, unary_fits, choice_fits, assign_fits, is_writable, integer_update_fits, moves_by, moves, integer_step_fits, counts_in, member_fits}
 use Rattle.c_typed.specs.Sameness.{same_type, same_flag, is_scalar, is_plain_int, is_promoted, is_pointer, is_void, is_complete, is_the, pointed, element_of, members_in}
-use Rattle.c_typed.specs.Sound.{type_is_there, kept, members_fit, structure_fits, static_fits, local_fits, param_fits}
+use Rattle.c_typed.specs.Sound.{type_is_there, kept, has_bytes, members_fit, structure_fits, static_fits, local_fits, param_fits}
 use Rattle.c_typed.specs.Trees as tree
 use Rattle.c_typed.specs.Trees.{Expression, Place, MemberTree, StructureTree, VariableTree, StaticTree, FunctionTree, Program}
 use Rattle.c_typed.specs.Types.{type_bytes, value_bytes, type_of, place_type}
@@ -191,7 +191,8 @@ module _ (p : Program) (f : FunctionTree) (has : Keeps p f) where
           let at = eqb-true m.offset offset (and_first (nat_eq m.offset offset) (same_type m.ty.ty ty.ty && (same_flag (m.ty.constant || whole.constant) ty.constant && same_flag (m.ty.volatile || whole.volatile) ty.volatile)) h) in
           let same = same_type_bytes p.sizes m.ty.ty ty.ty (and_first (same_type m.ty.ty ty.ty) (same_flag (m.ty.constant || whole.constant) ty.constant && same_flag (m.ty.volatile || whole.volatile) ty.volatile) (and_last (nat_eq m.offset offset) (same_type m.ty.ty ty.ty && (same_flag (m.ty.constant || whole.constant) ty.constant && same_flag (m.ty.volatile || whole.volatile) ty.volatile)) h)) in
           let is = size in
-          let inside = member_within p s.size 0 s.members member m (omega (arith, l, is)) (list_there (structure_fits p) p.structures n s has.structures there) e in
+          let fits = and_last (has_bytes s.members s.size) (members_fit p s.size 0 s.members) (list_there (structure_fits p) p.structures n s has.structures there) in
+          let inside = member_within p s.size 0 s.members member m (omega (arith, l, is)) fits e in
           omega (arith, at, same, is, inside)
 
   pub in_whole : (whole ty : Qualified) (member offset : ℕ) → type_bytes p.sizes whole.ty ≤ 65535 → member_fits (member_at p whole.ty member) whole offset ty ≡ true → offset + type_bytes p.sizes ty.ty ≤ type_bytes p.sizes whole.ty
