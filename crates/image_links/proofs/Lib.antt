@@ -41,4 +41,3 @@ pub mod FewCopies
 pub mod Worded
 pub mod Faithful
 pub mod Written
-pub mod Sized

@@ -21,7 +21,6 @@ use Rattle.lower_trace.specs.Lowering.{IsSmallStatic, IsSmallCopy, IsLowerable}
 use Rattle.image_links.proofs.AllWords.{all_words}
 use Rattle.image_links.proofs.Entered.{at_is}
 use Rattle.image_links.proofs.Laid.{is_there, object_few, frame_few}
-use Rattle.image_links.proofs.Sized.{sized}
 
 -- ---- stated words
 -- a count that is small as far as a number holds it is small
@@ -74,5 +73,4 @@ lowerable p copies core given made placed at image content t = record {
       subst (IsSmallCopy p) (sym (get_or_from_slice_get copies k copy.0 d copy.1))
       (record { frame = frame_few p copies placed t.spread.placing k copy.0 copy.1; block = block_few p copies at t.paged k copy.0 copy.1 });
   few_words = all_words p copies at t.paged;
-  sized = sized p t.typed t.same t.passed.blocks.sound t.sized;
 }

@@ -72,7 +72,7 @@ pub fn beginning_is_had()
 {}
 
 /// What all passes make of a typed program is what the links ask for: the program is one that lowering keeps, since its objects and frames
-/// fit a region of memory, its blocks a page, and its types have bytes, which is tested; and with its code in every language, its image and its map it is linked. By the root and
+/// fit a region of memory and its blocks a page; and with its code in every language, its image and its map it is linked. By the root and
 /// the name of a function's copy the map tells its frame. So the image does on the chip what the program says.
 pub fn translations_are_linked()
     ensures lowerable { TranslationsAreLowerable }

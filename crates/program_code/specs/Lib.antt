@@ -1,6 +1,5 @@
 pub mod Joined
 pub mod Order
 pub mod Passed
-pub mod Sized
 pub mod Stated
 pub mod Translated

@@ -1,6 +1,6 @@
 -- What all passes together make of a typed program: its copies, byte code, blocks without and with selects, places, addresses, image and
 -- map, by what each pass promises of its part.
-use Rattle.std.specs.Prelude.{ℕ, ◌≡◌, ◌≤◌, true, List, length, map, Some}
+use Rattle.std.specs.Prelude.{ℕ, ◌≡◌, ◌≤◌, List, length, map, Some}
 use Rattle.std.specs.List.{AllPairs}
 use Rattle.c_typed.specs.Chains.{graph_of}
 use Rattle.c_typed.specs.Trees.{Program}
@@ -22,7 +22,6 @@ use Rattle.sym_code.specs.declared.code.Label.TheVariants.{Halt}
 use Rattle.sym_code.specs.declared.code.SymBlock.{SymBlock}
 use Rattle.code_place.specs.Places.{block_place, label_place, HoldsInstructions, IsErasedElsewhere, TargetsStand}
 use Rattle.program_code.specs.Passed.{IsPassed}
-use Rattle.program_code.specs.Sized.{types_have_bytes}
 use Rattle.program_code.specs.Stated.{IsPaged}
 
 -- The copies are those of a program that doesn't call itself, and its calls and the interrupt fit the return stack.
@@ -69,7 +68,6 @@ pub record IsTranslation (p : Program) (copies : List FnCopy) (core : CoreProgra
   pub paged : IsPaged p copies at
   pub passed : IsPassed p copies core given made placed at
   pub written : IsImage p core made placed at image content
-  pub sized : types_have_bytes p ≡ true
 
 -- The image and the map are what the passes made of the program.
 pub record IsTranslated (p : Program) (image : List ℕ) (content : MapContent) : Type 0 where

@@ -2,8 +2,8 @@
 //!
 //! In: nothing; the crate has definitions alone. Out: nothing. They are of blocks: the start block, and after it one for each copy of a
 //! function or helper, in the order of code, as they are joined without selects (`IsJoined`), and with selects and addresses (`IsPassed`);
-//! of the words that are stated of them and where blocks of so many words stand (`IsPaged`); of types that have bytes
-//! (`types_have_bytes`); and of the whole, from a typed program to its image and its map (`IsTranslation`, `IsTranslated`).
+//! of the words that are stated of them and where blocks of so many words stand (`IsPaged`); and of the whole, from a typed program to its
+//! image and its map (`IsTranslation`, `IsTranslated`).
 //! The promise: none by itself. picc_core's `joined` promises such blocks and its `compile` such an image and map, and what links ask for
 //! is shown of them (image_links).
 #![tactic(auto)]
