@@ -18,7 +18,6 @@ use Rattle.pic_map.specs.MapView.{content_of, object_of, frame_of}
 use Rattle.pic_map.specs.declared.FrameLine.{FrameLine}
 use Rattle.pic_map.specs.declared.ObjLine.{ObjLine}
 use Rattle.pic_map.specs.declared.Placed.{Placed}
-use Rattle.program_code.specs.Sized.{types_have_bytes}
 use Rattle.program_code.specs.Translated.{HasCalls, IsSpread, IsTranslated, AreOthers}
 use Rattle.src_rules.specs.Numbers.{ProgramHasNumbers}
 use Rattle.picc_core.specs.Blocks.{HasBlocks}
@@ -31,18 +30,17 @@ pub coded_at : (p : Program) (copies : List FnCopy) (placed : Placed) (lent at i
     → IsCoded p copies placed at image main halt
 coded_at p copies placed lent at image main halt same code = subst (λ (l : List ℕ). IsCoded p copies placed l image main halt) same code
 
--- a map file can tell the map of what is handed on, which has few objects, frames that differ, and types that have bytes
+-- a map file can tell the map of what is handed on, which has few objects, and frames that differ
 pub record IsChecked (b : Built) : Type 0 where
   pub range : AreInRange (content_of b.map)
   pub few : length b.map.objects.items ≤ 65535
   pub apart : AllPairs AreOthers (map frame_of b.map.frames.items)
-  pub sized : types_have_bytes (program_of b.typed) ≡ true
 
 -- it holds of what is handed on, as that was checked
 pub on_checked : (P : Built → Type 0) (r : Result Built CompileError) (b : Built) → IfOk r (λ x. x ≡ b) → IfOk r (λ x. AreInRange (content_of x.map)) → IfOk r (λ x. length x.map.objects.items ≤ 65535)
-    → IfOk r (λ x. AllPairs AreOthers (map frame_of x.map.frames.items)) → IfOk r (λ x. types_have_bytes (program_of x.typed) ≡ true) → (IsChecked b → P b) → IfOk r P
-on_checked P (Ok x) b same range few apart sized of = subst P (sym same) (of (subst IsChecked same (record { range = range; few = few; apart = apart; sized = sized })))
-on_checked P (Err e) b same range few apart sized of = tt
+    → IfOk r (λ x. AllPairs AreOthers (map frame_of x.map.frames.items)) → (IsChecked b → P b) → IfOk r P
+on_checked P (Ok x) b same range few apart of = subst P (sym same) (of (subst IsChecked same (record { range = range; few = few; apart = apart })))
+on_checked P (Err e) b same range few apart of = tt
 
 -- a count of lines is one of static objects
 few_statics : (p : Program) (lines : List ObjLine) → length (map object_of lines) ≡ length p.statics → length lines ≤ 65535 → length p.statics ≤ 65535
@@ -101,7 +99,6 @@ translated typed copies placed at depth words b same objects frames sound number
           range = checked.range;
           apart = checked.apart;
         };
-        sized = subst (λ (t : Typed). types_have_bytes (program_of t) ≡ true) same checked.sized;
       };
     } in
     subst (λ (q : Program). IsTranslated q b.image (content_of b.map)) (ap program_of (sym same)) made

@@ -9,7 +9,6 @@ ghost use Rattle.c_typed.specs.Views.{program_of};
 ghost use Rattle.call_graph.specs.Levels.{IsAcyclic};
 ghost use Rattle.pic_map.specs.MapText.{AreInRange};
 ghost use Rattle.pic_map.specs.MapView.{content_of, object_of, frame_of};
-ghost use Rattle.program_code.specs.Sized as sizes;
 ghost use Rattle.program_code.specs.Translated.{AreOthers, IsTranslated};
 ghost use Rattle.ram_place.specs.Placement.{addresses_covered};
 ghost use Rattle.src_rules.specs.Numbers.{ProgramHasNumbers};
@@ -28,7 +27,6 @@ use crate::known::{Built, Front};
 use crate::map_range::{can_be_written, have_own_names};
 use crate::refusal::CompileError;
 use crate::stages::front;
-use crate::types_sized::types_have_bytes;
 use c_check::Typed;
 use call_graph::Copies;
 use code_place::{Assembled, assemble};
@@ -85,20 +83,16 @@ fn built(alloc: Global, front: Front) -> Result<Built, AllocError>
     })
 }
 
-/// The same, if its map is one that a map file can tell, and tells each frame by a root and a name of its own, and its types have
-/// bytes. Otherwise the answer is out of memory; that it never comes to that isn't proved.
+/// The same, if its map is one that a map file can tell, and tells each frame by a root and a name of its own. Otherwise the answer
+/// is out of memory; that it never comes to that isn't proved.
 fn checked(built: Built) -> Result<Built, CompileError>
     ensures same { IfOk result (λ checked. checked ≡ built) }
     ensures written { IfOk result (λ checked. AreInRange (content_of checked.map)) }
     ensures few { IfOk result (λ checked. length checked.map.objects.items ≤ 65535) }
     ensures apart { IfOk result (λ checked. AllPairs AreOthers (map frame_of checked.map.frames.items)) }
-    ensures sized { IfOk result (λ checked. sizes.types_have_bytes (program_of checked.typed) ≡ true) }
     ensures told { IfErr result (λ error. error ≡ NoMemory) }
 {
-    if can_be_written(&built.map)
-        && have_own_names(&built.map.frames)
-        && types_have_bytes(&built.typed)
-    {
+    if can_be_written(&built.map) && have_own_names(&built.map.frames) {
         Ok(built)
     } else {
         Err(CompileError::NoMemory)

@@ -18,7 +18,6 @@ mod map_range;
 mod refusal;
 mod source_run;
 mod stages;
-mod types_sized;
 
 pub use agreeing::{Agreed, agree};
 pub use c_check::{Kind, RootKind};

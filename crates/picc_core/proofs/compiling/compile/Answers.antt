@@ -49,12 +49,12 @@ returns-clause-translated c =
     let b = c.in_ok-built.field-0 in
     let front = c.in_ok-front.ensures in
     let made = c.in_ok-built.ensures in
-    on_checked (λ b. IsTranslated (program_of b.typed) b.image (content_of b.map)) c.checked.result b c.checked.ensures.same c.checked.ensures.written c.checked.ensures.few c.checked.ensures.apart c.checked.ensures.sized
+    on_checked (λ b. IsTranslated (program_of b.typed) b.image (content_of b.map)) c.checked.result b c.checked.ensures.same c.checked.ensures.written c.checked.ensures.few c.checked.ensures.apart
     (translated c.in_ok-front.front.typed c.in_ok-front.front.copies.list.items c.in_ok-front.front.placed c.in_ok-front.front.at.items _ _ b made.typed made.objects made.frames
     c.see_typed.ensures.sound c.see_typed.ensures.numbers front.roots front.recursion front.depth front.list
     (record { placing = front.exact; objects = front.objects; clear = front.clear; frames = front.apart }) front.blocks made.code)
 
 pub returns-clause-few : goal.returns-clause-few
 returns-clause-few c =
-    on_checked (λ b. length b.map.objects.items ≤ 65536) c.checked.result c.in_ok-built.field-0 c.checked.ensures.same c.checked.ensures.written c.checked.ensures.few c.checked.ensures.apart c.checked.ensures.sized
+    on_checked (λ b. length b.map.objects.items ≤ 65536) c.checked.result c.in_ok-built.field-0 c.checked.ensures.same c.checked.ensures.written c.checked.ensures.few c.checked.ensures.apart
     (λ h. let few = h.few in omega (arith, few))
