@@ -192,7 +192,7 @@ fn block_object(
     statements: &mut Vec<TStmt>,
 ) -> Result<(), CheckError> {
     let ty = object_type(&checker.types, specified, outline, init.is_some(), line)?;
-    let declarator = checker.body.next_declarator();
+    let declarator = checker.body.next_declarator()?;
     if specified.storage == Storage::Static {
         block_static(init, checker, declarator, name, ty, line)
     } else {

@@ -109,7 +109,7 @@ fn put_static(
 ) -> Result<(), CheckError> {
     match slot.ty.ty {
         Ty::Int(ty) => {
-            let value = folded(&operand.value)?;
+            let value = folded(operand)?;
             put_number(sink, slot.offset, convert(value, ty))
         }
         Ty::Pointer(_) => put_pointer(types, slot, operand, sink, line),

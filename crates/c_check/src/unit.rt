@@ -1,5 +1,9 @@
 //! Functions, and the whole unit (ISO/IEC 9899:1990, 6.7).
 
+ghost use Rattle.c_tree.specs.ProgramViews.{unit_of};
+ghost use Rattle.type_rules.specs.Units as rule;
+ghost use Rattle.c_check.specs.Checks.{Checks};
+
 use crate::declaration::{FILE, declare_function, file_declaration};
 use crate::flow::Flow;
 use crate::statement::block;
@@ -14,6 +18,7 @@ use check_expr::outline::{Declared, ParamShape, line_of};
 use check_expr::specifiers;
 use indexmap::IndexSet;
 use std::alloc::Global;
+use std::mem;
 
 // The names of the functions that a unit defines, in order.
 fn definitions(alloc: Global, unit: &Unit) -> Result<IndexSet<Vec<u8>>, CheckError> {
@@ -73,7 +78,8 @@ fn body_of(
     let params = bind_params(checker, params)?;
     let statements = block(&function.body, checker, Flow::outside())?;
     checker.scopes.leave();
-    let locals = checker.body.take_locals();
+    let body = mem::replace(&mut checker.body, Body::outside(checker.alloc));
+    let locals = body.into_locals();
     Ok(Checked {
         params,
         locals,
@@ -118,7 +124,9 @@ fn typed(checker: Checker, functions: Vec<c_typed::Function>) -> Result<Typed, C
 /// The typed tree of a unit (ISO/IEC 9899:1990, 6.1 to 6.7, in the subset), or the first node that breaks a
 /// rule on names and types: from left to right, operands before their operator, and at one node the first
 /// kind.
-pub fn check(alloc: Global, unit: &Unit) -> Result<Typed, CheckError> {
+pub fn check(alloc: Global, unit: &Unit) -> Result<Typed, CheckError>
+    ensures { Checks result (rule.judged_unit (unit_of unit.now)) }
+{
     let mut checker = Checker::new(alloc, definitions(alloc, unit)?)?;
     let mut functions = Vec::new(alloc);
     for item in &unit.items {

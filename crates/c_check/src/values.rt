@@ -31,7 +31,7 @@ pub(crate) fn switched(expr: &Expr, checker: &mut Checker) -> Result<(TExpr, Int
     match operand.value.ty() {
         Ty::Int(ty) => {
             let ty = promote(ty);
-            let value = converted(checker.alloc, operand.value, Ty::Int(ty))?;
+            let value = converted(checker.alloc, operand, Ty::Int(ty))?;
             Ok((value, ty))
         }
         _ => refused(Kind::Operand, operand.line),

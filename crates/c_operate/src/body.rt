@@ -1,9 +1,15 @@
 //! The body of a function while it is checked (ISO/IEC 9899:1990, 6.7.1).
 
+ghost use Rattle.std.specs.Prelude.{◌≡◌, [], map, Ok, IfOk};
+ghost use Rattle.c_typed.specs.Views.{variable_of};
+ghost use Rattle.type_rules.specs.Known.{Known, no_body};
+ghost use Rattle.type_rules.specs.Objects as objects;
+ghost use Rattle.c_operate.specs.Answers.{Answers};
+ghost use Rattle.c_operate.specs.Tables.{body_of, body_in};
+
 use crate::error::{CheckError, number};
 use c_typed::{Qualified, Ty, Variable};
 use std::alloc::Global;
-use std::mem;
 
 /// The body of a function: the function's name, the type of its result, its locals so far, and how many
 /// declarators of the body came already.
@@ -18,7 +24,9 @@ pub struct Body {
 
 impl Body {
     /// What stands for a body outside functions.
-    pub fn outside(alloc: Global) -> Body {
+    pub fn outside(alloc: Global) -> Body
+        ensures { body_of result ≡ no_body }
+    {
         Body {
             alloc,
             name: Vec::new(alloc),
@@ -29,7 +37,9 @@ impl Body {
     }
 
     /// The body of a function, before its first declaration.
-    pub fn begin(alloc: Global, name: &[u8], returns: Ty) -> Result<Body, CheckError> {
+    pub fn begin(alloc: Global, name: &[u8], returns: Ty) -> Result<Body, CheckError>
+        ensures { IfOk result (λ b. body_of b ≡ record { name = name.now; result = returns; locals = []; declarators = 0 }) }
+    {
         Ok(Body {
             alloc,
             name: name.to_vec(alloc)?,
@@ -40,24 +50,35 @@ impl Body {
     }
 
     /// The name of the function.
-    pub fn name(&self) -> &[u8] {
+    pub fn name(&self) -> &[u8]
+        ensures { result.now ≡ (body_of self.now).name }
+    {
         &self.name
     }
 
     /// The type of the function's result.
-    pub fn result(&self) -> Ty {
+    pub fn result(&self) -> Ty
+        ensures { result ≡ (body_of self.now).result }
+    {
         self.result
     }
 
     /// The number of the next declarator among those of the body, from 0.
-    pub fn next_declarator(&mut self) -> u32 {
+    pub fn next_declarator(&mut self) -> Result<u32, CheckError>
+        ensures { (known : Known) → Answers (λ number. number) result (body_in self.new known) (objects.next_declarator (body_in self.old known)) }
+    {
         let declarator = self.declarators;
-        self.declarators = declarator.saturating_add(1);
-        declarator
+        let Some(next) = declarator.checked_add(1) else {
+            return Err(CheckError::NoMemory);
+        };
+        self.declarators = next;
+        Ok(declarator)
     }
 
     /// Puts a local after those that the body has, and gives its number.
-    pub fn add_local(&mut self, name: &[u8], ty: Qualified, line: u32) -> Result<u32, CheckError> {
+    pub fn add_local(&mut self, name: &[u8], ty: Qualified, line: u32) -> Result<u32, CheckError>
+        ensures { (known : Known) → Answers (λ number. number) result (body_in self.new known) (objects.add_local name.now ty line (body_in self.old known)) }
+    {
         let local = number(self.locals.len())?;
         self.locals.push(Variable {
             name: name.to_vec(self.alloc)?,
@@ -68,14 +89,18 @@ impl Body {
     }
 
     /// Gives a local the type that its initializer completed.
-    pub fn complete_local(&mut self, local: u32, ty: Qualified) {
+    pub fn complete_local(&mut self, local: u32, ty: Qualified)
+        ensures { (known : Known) → objects.complete_local local ty (body_in self.old known) ≡ Ok (body_in self.new known, body_in self.new known) }
+    {
         if let Some(entry) = self.locals.get_mut(local as usize) {
             entry.ty = ty;
         }
     }
 
-    /// Takes the locals out of the body.
-    pub fn take_locals(&mut self) -> Vec<Variable> {
-        mem::replace(&mut self.locals, Vec::new(self.alloc))
+    /// The locals of the body.
+    pub fn into_locals(self) -> Vec<Variable>
+        ensures { map variable_of result.items ≡ (body_of self).locals }
+    {
+        self.locals
     }
 }

@@ -1,5 +1,13 @@
 //! Conversions between types (ISO/IEC 9899:1990, 6.2 and 6.3.16.1).
 
+ghost use Rattle.std.specs.Prelude.{◌≡◌};
+ghost use Rattle.c_typed.specs.Views.{expression_of};
+ghost use Rattle.type_rules.specs.Conversions as rule;
+ghost use Rattle.type_rules.specs.Known.{Known, given};
+ghost use Rattle.c_operate.specs.Answers.{Answers};
+ghost use Rattle.c_operate.specs.Tables.{types_in};
+ghost use Rattle.c_operate.specs.Terms.{operand_of, side_of};
+
 use crate::error::{CheckError, Kind, refused};
 use crate::term::{Operand, Side};
 use crate::types::Types;
@@ -7,11 +15,14 @@ use c_typed::{Qualified, TExpr, Ty};
 use std::alloc::Global;
 
 /// The value in this type, by a Convert node where it has another one.
-pub fn converted(alloc: Global, value: TExpr, ty: Ty) -> Result<TExpr, CheckError> {
+pub fn converted(alloc: Global, operand: Operand, ty: Ty) -> Result<TExpr, CheckError>
+    ensures { (known : Known) → Answers expression_of result known (given (rule.converted (operand_of operand) ty) known) }
+{
+    let line = operand.line;
+    let value = operand.value;
     if value.ty() == ty {
         return Ok(value);
     }
-    let line = value.line();
     Ok(TExpr::Convert {
         operand: Box::new(alloc, value)?,
         ty,
@@ -21,13 +32,17 @@ pub fn converted(alloc: Global, value: TExpr, ty: Ty) -> Result<TExpr, CheckErro
 
 // Whether a pointer to the one may become a pointer to the other: they are of one type, or one of them
 // is void, and no qualifier is dropped.
-fn may_point(from: Qualified, to: Qualified) -> bool {
+fn may_point(from: Qualified, to: Qualified) -> bool
+    ensures { result ≡ rule.may_become from to }
+{
     let same = from.ty == to.ty || from.ty == Ty::Void || to.ty == Ty::Void;
     same && (!from.constant || to.constant) && (!from.volatile || to.volatile)
 }
 
 /// Whether a value may be assigned to an integer or a pointer of the type.
-pub fn is_assignable(types: &Types, from: Side, to: Ty) -> bool {
+pub fn is_assignable(types: &Types, from: Side, to: Ty) -> bool
+    ensures { (known : Known) → result ≡ rule.may_be_assigned (types_in types.now known) (side_of from) to }
+{
     match to {
         Ty::Int(_) => from.ty.int().is_some(),
         Ty::Pointer(target) => match from.ty {
@@ -47,16 +62,20 @@ pub fn assigned(
     operand: Operand,
     ty: Ty,
     line: u32,
-) -> Result<TExpr, CheckError> {
+) -> Result<TExpr, CheckError>
+    ensures { (known : Known) → Answers expression_of result (types_in types.now known) (rule.assigned (operand_of operand) ty line (types_in types.now known)) }
+{
     if is_assignable(types, operand.side(), ty) {
-        converted(alloc, operand.value, ty)
+        converted(alloc, operand, ty)
     } else {
         refused(Kind::Convert, line)
     }
 }
 
 /// Whether a cast may turn a value into the type.
-pub(crate) fn is_castable(from: Side, to: Ty) -> bool {
+pub(crate) fn is_castable(from: Side, to: Ty) -> bool
+    ensures { result ≡ rule.may_be_cast (side_of from) to }
+{
     match to {
         Ty::Void => true,
         Ty::Int(_) => from.ty.int().is_some(),

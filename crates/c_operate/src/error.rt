@@ -1,7 +1,8 @@
 //! Why a program has no typed tree.
 
-ghost use Rattle.std.specs.Prelude.{◌≡◌};
+ghost use Rattle.std.specs.Prelude.{◌≡◌, Err, IfErr, IfOk};
 ghost use Rattle.c_operate.specs.declared.error.CheckError.TheVariants.{NoMemory};
+ghost use Rattle.c_operate.specs.declared.error.CheckError.TheVariants as errors;
 
 use std::alloc::{AllocError, AllocFailed};
 
@@ -71,12 +72,17 @@ impl<T: Drop> From<AllocFailed<T>> for CheckError {
 }
 
 /// The refusal of a kind on a line.
-pub fn refused<T>(kind: Kind, line: u32) -> Result<T, CheckError> {
+pub fn refused<T>(kind: Kind, line: u32) -> Result<T, CheckError>
+    ensures { result ≡ Err (errors.Kind kind line) }
+{
     Err(CheckError::Kind { kind, line })
 }
 
 /// A table's next number. There is no memory for a table that is too long for its numbers.
-pub fn number(length: usize) -> Result<u32, CheckError> {
+pub fn number(length: usize) -> Result<u32, CheckError>
+    ensures ok { IfOk result (λ n. n ≡ length) }
+    ensures err { IfErr result (λ e. e ≡ NoMemory) }
+{
     match u32::try_from(length) {
         Ok(number) => Ok(number),
         Err(_) => Err(CheckError::NoMemory),

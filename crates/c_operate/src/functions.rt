@@ -1,5 +1,14 @@
 //! The functions of a unit (ISO/IEC 9899:1990, 6.5.4.3 and 6.7.1).
 
+ghost use Rattle.std.specs.Prelude.{◌≡◌, true, ◌∷◌, [], not, map, slice_get, Ok, IfOk, IfErr};
+ghost use Rattle.std.specs.Option.{option_map};
+ghost use Rattle.type_rules.specs.Declarations as declarations;
+ghost use Rattle.type_rules.specs.Faults as kind;
+ghost use Rattle.type_rules.specs.Known.{Known, tried};
+ghost use Rattle.c_operate.specs.Answers.{Answers, Learns};
+ghost use Rattle.c_operate.specs.Tables.{functions_in, signature_of};
+ghost use Rattle.c_operate.specs.declared.error.CheckError.TheVariants.{NoMemory};
+
 use crate::error::{CheckError, Kind, number, refused};
 use c_typed::{Qualified, Ty};
 use indexmap::IndexSet;
@@ -31,7 +40,9 @@ pub struct Functions {
 
 impl Functions {
     /// No functions so far, of a unit that defines those of these names.
-    pub fn new(alloc: Global, definitions: IndexSet<Vec<u8>>) -> Functions {
+    pub fn new(alloc: Global, definitions: IndexSet<Vec<u8>>) -> Functions
+        ensures { (known : Known) → functions_in result known ≡ record known { signatures = []; definitions = map (λ name. name.items) definitions.keys } }
+    {
         Functions {
             declared: Vec::new(alloc),
             definitions,
@@ -39,11 +50,16 @@ impl Functions {
     }
 
     /// The function of a number among those declared.
-    pub fn signature(&self, function: u32) -> Option<&Signature> {
+    pub fn signature(&self, function: u32) -> Option<&Signature>
+        ensures { option_map (λ s. signature_of s.now) result ≡ slice_get (map signature_of self.now.declared.items) function }
+    {
         self.declared.get(function as usize)
     }
 
-    fn definition_of(&self, name: &[u8]) -> Result<Option<u32>, CheckError> {
+    fn definition_of(&self, name: &[u8]) -> Result<Option<u32>, CheckError>
+        ensures ok { IfOk result (λ n. n ≡ declarations.definition_from (map (λ name. name.items) self.now.definitions.keys) name.now 0) }
+        ensures err { IfErr result (λ e. e ≡ NoMemory) }
+    {
         match self.definitions.get_index_of(name) {
             Some(index) => Ok(Some(number(index)?)),
             None => Ok(None),
@@ -56,7 +72,9 @@ impl Functions {
         name: &[u8],
         returns: Qualified,
         params: Vec<Ty>,
-    ) -> Result<u32, CheckError> {
+    ) -> Result<u32, CheckError>
+        ensures { (known : Known) → Answers (λ number. number) result (functions_in self.new known) (declarations.new_function name.now returns params.items (functions_in self.old known)) }
+    {
         let function = number(self.declared.len())?;
         let definition = self.definition_of(name)?;
         self.declared.push(Signature {
@@ -77,7 +95,9 @@ impl Functions {
         params: &[Ty],
         defines: bool,
         line: u32,
-    ) -> Result<(), CheckError> {
+    ) -> Result<(), CheckError>
+        ensures { (known : Known) → Learns result known (tried ((not (declarations.is_same (slice_get (map signature_of self.now.declared.items) function) returns params.now defines), kind.Again) ∷ []) line known) }
+    {
         match self.signature(function) {
             Some(signature) => {
                 if signature.is_same(returns, params) && !(defines && signature.defined) {
@@ -91,7 +111,9 @@ impl Functions {
     }
 
     /// Notes that the body of a function comes.
-    pub fn set_defined(&mut self, function: u32) {
+    pub fn set_defined(&mut self, function: u32)
+        ensures { (known : Known) → declarations.set_defined true function (functions_in self.old known) ≡ Ok (functions_in self.new known, functions_in self.new known) }
+    {
         if let Some(signature) = self.declared.get_mut(function as usize) {
             signature.defined = true;
         }

@@ -1,5 +1,12 @@
 //! The types of binary operators (ISO/IEC 9899:1990, 6.3.5 to 6.3.12).
 
+ghost use Rattle.std.specs.Prelude.{◌≡◌, if◌then◌else◌, Some, None};
+ghost use Rattle.std.specs.Option.{option_map};
+ghost use Rattle.type_rules.specs.Known.{Known};
+ghost use Rattle.type_rules.specs.Operations as rule;
+ghost use Rattle.c_operate.specs.Tables.{types_in};
+ghost use Rattle.c_operate.specs.Terms.{operation_of, side_of};
+
 use crate::term::Side;
 use crate::types::Types;
 use c_ints::{BinOp, IntTy, promote, usual};
@@ -30,7 +37,9 @@ pub(crate) struct Operation {
 
 const INT: Ty = Ty::Int(IntTy::Int);
 
-fn plain(left: Ty, right: Ty, ty: Ty) -> Operation {
+fn plain(left: Ty, right: Ty, ty: Ty) -> Operation
+    ensures { operation_of result ≡ rule.on_one left right ty }
+{
     Operation {
         node: Node::Binary,
         left,
@@ -40,7 +49,9 @@ fn plain(left: Ty, right: Ty, ty: Ty) -> Operation {
     }
 }
 
-fn on_integers(op: BinOp, a: IntTy, b: IntTy) -> Operation {
+fn on_integers(op: BinOp, a: IntTy, b: IntTy) -> Operation
+    ensures { operation_of result ≡ rule.on_integers op a b }
+{
     match op {
         BinOp::Shl | BinOp::Shr => {
             let left = Ty::Int(promote(a));
@@ -58,7 +69,9 @@ fn on_integers(op: BinOp, a: IntTy, b: IntTy) -> Operation {
 }
 
 // The type that an index has: a long one becomes an int.
-fn index_type(ty: IntTy) -> Ty {
+fn index_type(ty: IntTy) -> Ty
+    ensures { result ≡ rule.index_type ty }
+{
     match promote(ty) {
         IntTy::Long => INT,
         IntTy::ULong => Ty::Int(IntTy::UInt),
@@ -68,7 +81,9 @@ fn index_type(ty: IntTy) -> Ty {
 
 // How many bytes what a pointer points to has, where it may be moved: void and a structure without a
 // body have none.
-fn element_size(types: &Types, target: u32) -> Option<u64> {
+fn element_size(types: &Types, target: u32) -> Option<u64>
+    ensures { (known : Known) → result ≡ (if rule.counts_in (types_in types.now known) target then Some (rule.element_bytes (types_in types.now known) target) else None) }
+{
     let ty = types.target(target).ty;
     if types.is_complete(ty) {
         Some(types.bytes_of(ty))
@@ -77,7 +92,9 @@ fn element_size(types: &Types, target: u32) -> Option<u64> {
     }
 }
 
-fn pointer_and_integer(types: &Types, op: BinOp, target: u32, b: IntTy) -> Option<Operation> {
+fn pointer_and_integer(types: &Types, op: BinOp, target: u32, b: IntTy) -> Option<Operation>
+    ensures { (known : Known) → option_map operation_of result ≡ rule.pointer_and_integer (types_in types.now known) op target b }
+{
     if op != BinOp::Add && op != BinOp::Sub {
         return None;
     }
@@ -91,7 +108,9 @@ fn pointer_and_integer(types: &Types, op: BinOp, target: u32, b: IntTy) -> Optio
     })
 }
 
-fn integer_and_pointer(types: &Types, op: BinOp, a: IntTy, target: u32) -> Option<Operation> {
+fn integer_and_pointer(types: &Types, op: BinOp, a: IntTy, target: u32) -> Option<Operation>
+    ensures { (known : Known) → option_map operation_of result ≡ rule.integer_and_pointer (types_in types.now known) op a target }
+{
     if op != BinOp::Add {
         return None;
     }
@@ -105,7 +124,9 @@ fn integer_and_pointer(types: &Types, op: BinOp, a: IntTy, target: u32) -> Optio
     })
 }
 
-fn difference(types: &Types, a: u32, b: u32) -> Option<Operation> {
+fn difference(types: &Types, a: u32, b: u32) -> Option<Operation>
+    ensures { (known : Known) → option_map operation_of result ≡ rule.difference (types_in types.now known) a b }
+{
     if types.target(a).ty != types.target(b).ty {
         return None;
     }
@@ -120,7 +141,9 @@ fn difference(types: &Types, a: u32, b: u32) -> Option<Operation> {
 }
 
 // Two pointers that are compared. A side that isn't void, or a null constant, takes the other's type.
-fn equality(types: &Types, a: u32, a_null: bool, b: u32, b_null: bool) -> Option<Operation> {
+fn equality(types: &Types, a: u32, a_null: bool, b: u32, b_null: bool) -> Option<Operation>
+    ensures { (known : Known) → option_map operation_of result ≡ rule.equality (types_in types.now known) a a_null b b_null }
+{
     let left = types.target(a).ty;
     let right = types.target(b).ty;
     if left == right {
@@ -134,11 +157,15 @@ fn equality(types: &Types, a: u32, a_null: bool, b: u32, b_null: bool) -> Option
     }
 }
 
-fn is_equality(op: BinOp) -> bool {
+fn is_equality(op: BinOp) -> bool
+    ensures { result ≡ rule.equates op }
+{
     op == BinOp::Eq || op == BinOp::Ne
 }
 
-fn on_pointers(types: &Types, op: BinOp, a: u32, b: u32) -> Option<Operation> {
+fn on_pointers(types: &Types, op: BinOp, a: u32, b: u32) -> Option<Operation>
+    ensures { (known : Known) → option_map operation_of result ≡ rule.on_pointers (types_in types.now known) op a b }
+{
     match op {
         BinOp::Sub => difference(types, a, b),
         BinOp::Lt | BinOp::Gt | BinOp::Le | BinOp::Ge => {
@@ -153,7 +180,9 @@ fn on_pointers(types: &Types, op: BinOp, a: u32, b: u32) -> Option<Operation> {
 }
 
 /// What a binary operator does with operands of these types, or `None` where they don't fit it.
-pub(crate) fn operation_of(types: &Types, op: BinOp, left: Side, right: Side) -> Option<Operation> {
+pub(crate) fn operation_of(types: &Types, op: BinOp, left: Side, right: Side) -> Option<Operation>
+    ensures { (known : Known) → option_map operation_of result ≡ rule.operation_of (types_in types.now known) op (side_of left) (side_of right) }
+{
     match left.ty {
         Ty::Int(a) => match right.ty {
             Ty::Int(b) => Some(on_integers(op, a, b)),
@@ -188,7 +217,9 @@ pub(crate) fn operation_of(types: &Types, op: BinOp, left: Side, right: Side) ->
 }
 
 /// The binary operator that a sign is, if it is one whose operands are both evaluated.
-pub(crate) fn binary_operator(punct: Punct) -> Option<BinOp> {
+pub(crate) fn binary_operator(punct: Punct) -> Option<BinOp>
+    ensures { result ≡ rule.binary_of punct }
+{
     match punct {
         Punct::Star => Some(BinOp::Mul),
         Punct::Slash => Some(BinOp::Div),
@@ -211,7 +242,9 @@ pub(crate) fn binary_operator(punct: Punct) -> Option<BinOp> {
 }
 
 /// The operator of a compound assignment, if the sign is that of one.
-pub(crate) fn compound_operator(punct: Punct) -> Option<BinOp> {
+pub(crate) fn compound_operator(punct: Punct) -> Option<BinOp>
+    ensures { result ≡ rule.compound_of punct }
+{
     match punct {
         Punct::StarAssign => Some(BinOp::Mul),
         Punct::SlashAssign => Some(BinOp::Div),

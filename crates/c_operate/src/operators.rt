@@ -1,5 +1,16 @@
 //! Operators whose operands are checked already (ISO/IEC 9899:1990, 6.3.3 to 6.3.17).
 
+ghost use Rattle.std.specs.Prelude.{◌≡◌};
+ghost use Rattle.std.specs.Option.{option_map};
+ghost use Rattle.c_token.specs.declared.token.TokKind.TheVariants as kinds;
+ghost use Rattle.type_rules.specs.Known.{Known};
+ghost use Rattle.type_rules.specs.Operators as rule;
+ghost use Rattle.type_rules.specs.Terms.{first_into, side_of};
+ghost use Rattle.c_typed.specs.Types.{type_of};
+ghost use Rattle.c_operate.specs.Answers.{Answers};
+ghost use Rattle.c_operate.specs.Tables.{types_in};
+ghost use Rattle.c_operate.specs.Terms.{node_of, operand_of, reach_moved, reach_of, term_of};
+
 use crate::conversion::{converted, is_assignable, is_castable};
 use crate::error::{CheckError, Kind, refused};
 use crate::operation::{Node, binary_operator, operation_of};
@@ -16,14 +27,16 @@ fn binary(
     op: BinOp,
     left: Operand,
     right: Operand,
-) -> Result<Term, CheckError> {
+) -> Result<Term, CheckError>
+    ensures { (known : Known) → Answers term_of result (types_in types.now known) (rule.binary op (operand_of left) (operand_of right) (types_in types.now known)) }
+{
     let line = left.start;
     let Some(found) = operation_of(types, op, left.side(), right.side()) else {
         return refused(Kind::Operand, line);
     };
     let reach = first_reach(left.reach, right.reach);
-    let left = Box::new(alloc, converted(alloc, left.value, found.left)?)?;
-    let right = Box::new(alloc, converted(alloc, right.value, found.right)?)?;
+    let left = Box::new(alloc, converted(alloc, left, found.left)?)?;
+    let right = Box::new(alloc, converted(alloc, right, found.right)?)?;
     let size = found.size;
     let ty = found.ty;
     let value = match found.node {
@@ -55,7 +68,9 @@ fn binary(
 }
 
 // A pointer into an array that is moved still points into that array.
-fn reach_behind(node: Node, reach: Option<Reach>) -> Option<Reach> {
+fn reach_behind(node: Node, reach: Option<Reach>) -> Option<Reach>
+    ensures { option_map reach_of result ≡ reach_moved (node_of node) (option_map reach_of reach) }
+{
     match node {
         Node::Offset => reach,
         _ => None,
@@ -67,7 +82,9 @@ fn logical(
     op: LogicalOp,
     left: Operand,
     right: Operand,
-) -> Result<Term, CheckError> {
+) -> Result<Term, CheckError>
+    ensures { (known : Known) → Answers term_of result known (rule.logical op (operand_of left) (operand_of right) known) }
+{
     let line = left.start;
     if !left.value.ty().is_scalar() || !right.value.ty().is_scalar() {
         return refused(Kind::Operand, line);
@@ -88,10 +105,13 @@ pub fn combined(
     sign: Punct,
     left: Operand,
     right: Operand,
-) -> Result<Term, CheckError> {
+) -> Result<Term, CheckError>
+    ensures { (known : Known) → Answers term_of result (types_in types.now known) (rule.between (kinds.Punct sign) (operand_of left) (operand_of right) (types_in types.now known)) }
+{
     match sign {
         Punct::And => logical(alloc, LogicalOp::And, left, right),
         Punct::Or => logical(alloc, LogicalOp::Or, left, right),
+        Punct::Comma => sequenced(alloc, left, right),
         _ => match binary_operator(sign) {
             Some(op) => binary(alloc, types, op, left, right),
             None => refused(Kind::Operand, left.start),
@@ -100,7 +120,9 @@ pub fn combined(
 }
 
 /// Two operands with a comma between them.
-pub fn sequenced(alloc: Global, left: Operand, right: Operand) -> Result<Term, CheckError> {
+pub fn sequenced(alloc: Global, left: Operand, right: Operand) -> Result<Term, CheckError>
+    ensures { (known : Known) → Answers term_of result known (rule.comma (operand_of left) (operand_of right) known) }
+{
     let line = left.start;
     let ty = right.value.ty();
     let value = TExpr::Comma {
@@ -113,7 +135,9 @@ pub fn sequenced(alloc: Global, left: Operand, right: Operand) -> Result<Term, C
 }
 
 // The type of a choice between two operands.
-fn chosen_type(types: &Types, then: &Operand, otherwise: &Operand) -> Option<Ty> {
+fn chosen_type(types: &Types, then: &Operand, otherwise: &Operand) -> Option<Ty>
+    ensures { (known : Known) → result ≡ rule.choice_type (types_in types.now known) (side_of (operand_of then.now)) (side_of (operand_of otherwise.now)) (type_of (operand_of then.now).value) (type_of (operand_of otherwise.now).value) }
+{
     let a = then.value.ty();
     let b = otherwise.value.ty();
     match a {
@@ -143,7 +167,9 @@ pub fn chosen(
     condition: Operand,
     then: Operand,
     otherwise: Operand,
-) -> Result<Term, CheckError> {
+) -> Result<Term, CheckError>
+    ensures { (known : Known) → Answers term_of result (types_in types.now known) (rule.choice (operand_of condition) (operand_of then) (operand_of otherwise) (types_in types.now known)) }
+{
     let line = condition.start;
     if !condition.value.ty().is_scalar() {
         return refused(Kind::Operand, line);
@@ -151,8 +177,8 @@ pub fn chosen(
     let Some(ty) = chosen_type(types, &then, &otherwise) else {
         return refused(Kind::Operand, line);
     };
-    let then = converted(alloc, then.value, ty)?;
-    let otherwise = converted(alloc, otherwise.value, ty)?;
+    let then = converted(alloc, then, ty)?;
+    let otherwise = converted(alloc, otherwise, ty)?;
     let value = TExpr::Conditional {
         condition: Box::new(alloc, condition.value)?,
         then: Box::new(alloc, then)?,
@@ -169,7 +195,9 @@ pub fn cast_to(
     ty: Qualified,
     operand: Operand,
     line: u32,
-) -> Result<Term, CheckError> {
+) -> Result<Term, CheckError>
+    ensures { (known : Known) → Answers term_of result known (rule.cast ty.ty (operand_of operand) line known) }
+{
     let ty = ty.ty;
     if !is_castable(operand.side(), ty) {
         return refused(Kind::Operand, line);
@@ -191,12 +219,14 @@ pub fn arithmetic(
     op: UnOp,
     operand: Operand,
     line: u32,
-) -> Result<Term, CheckError> {
+) -> Result<Term, CheckError>
+    ensures { (known : Known) → Answers term_of result known (rule.arithmetic op (operand_of operand) line known) }
+{
     let Ty::Int(ty) = operand.value.ty() else {
         return refused(Kind::Operand, line);
     };
     let ty = Ty::Int(promote(ty));
-    let value = converted(alloc, operand.value, ty)?;
+    let value = converted(alloc, operand, ty)?;
     let value = TExpr::Unary {
         op,
         operand: Box::new(alloc, value)?,
@@ -207,7 +237,9 @@ pub fn arithmetic(
 }
 
 /// `!` of an integer or a pointer.
-pub fn negation(alloc: Global, operand: Operand, line: u32) -> Result<Term, CheckError> {
+pub fn negation(alloc: Global, operand: Operand, line: u32) -> Result<Term, CheckError>
+    ensures { (known : Known) → Answers term_of result known (rule.negation (operand_of operand) line known) }
+{
     if !operand.value.ty().is_scalar() {
         return refused(Kind::Operand, line);
     }

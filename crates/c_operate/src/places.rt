@@ -1,11 +1,20 @@
 //! Operators on places: `& * [] . ->` and `sizeof` (ISO/IEC 9899:1990, 6.3.2 and 6.3.3).
 
+ghost use Rattle.std.specs.Prelude.{◌≡◌, ◌%◌};
+ghost use Rattle.std.specs.Option.{option_map};
+ghost use Rattle.c_typed.specs.Views.{place_of};
+ghost use Rattle.type_rules.specs.Known.{Known};
+ghost use Rattle.type_rules.specs.Places as rule;
+ghost use Rattle.c_operate.specs.Answers.{Answers};
+ghost use Rattle.c_operate.specs.Tables.{types_in};
+ghost use Rattle.c_operate.specs.Terms.{lvalue_reach, operand_of, reach_of, term_of};
+
 use crate::conversion::converted;
 use crate::error::{CheckError, Kind, number, refused};
 use crate::operation::operation_of;
 use crate::term::{
-    Form, Lvalue, Operand, Reach, Term, array_start, constant, first_reach, into_lvalue,
-    lvalue_term, reach_of, refuse_table, used_value, value_term,
+    Form, Lvalue, Operand, Reach, Term, constant, first_reach, indexed, into_lvalue, lvalue_term,
+    refuse_table, used_value, value_term,
 };
 use crate::types::Types;
 use c_ints::{BinOp, IntTy};
@@ -18,7 +27,9 @@ pub fn pointed(
     types: &Types,
     operand: Operand,
     line: u32,
-) -> Result<Term, CheckError> {
+) -> Result<Term, CheckError>
+    ensures { (known : Known) → Answers term_of result (types_in types.now known) (rule.dereference (operand_of operand) line (types_in types.now known)) }
+{
     let Some(row) = operand.value.ty().target() else {
         return refused(Kind::Operand, line);
     };
@@ -41,7 +52,9 @@ pub fn address(
     types: &mut Types,
     term: Term,
     line: u32,
-) -> Result<Term, CheckError> {
+) -> Result<Term, CheckError>
+    ensures { (known : Known) → Answers term_of result (types_in types.new known) (rule.address (term_of term) line (types_in types.old known)) }
+{
     refuse_table(&term)?;
     let Some(place) = into_lvalue(term) else {
         return refused(Kind::Address, line);
@@ -59,12 +72,16 @@ pub fn address(
 }
 
 // The rest of a number modulo that of the unsigned ints.
-fn as_unsigned_int(size: u64) -> u32 {
-    (size & 0xffff) as u32
+fn as_unsigned_int(size: u64) -> u32
+    ensures { result ≡ size % 65536 }
+{
+    (size % 65536) as u32
 }
 
 /// The size of a type as a constant.
-pub fn size_of_type(types: &Types, ty: Ty, line: u32) -> Result<Term, CheckError> {
+pub fn size_of_type(types: &Types, ty: Ty, line: u32) -> Result<Term, CheckError>
+    ensures { (known : Known) → Answers term_of result (types_in types.now known) (rule.size_of_type ty line (types_in types.now known)) }
+{
     if !types.is_complete(ty) {
         return refused(Kind::Incomplete, line);
     }
@@ -73,7 +90,9 @@ pub fn size_of_type(types: &Types, ty: Ty, line: u32) -> Result<Term, CheckError
 }
 
 /// `sizeof` of a term, which is no bit and no function.
-pub fn size_of_term(types: &Types, term: Term, line: u32) -> Result<Term, CheckError> {
+pub fn size_of_term(types: &Types, term: Term, line: u32) -> Result<Term, CheckError>
+    ensures { (known : Known) → Answers term_of result (types_in types.now known) (rule.size_of_term (term_of term) line (types_in types.now known)) }
+{
     let ty = match &term.form {
         Form::Value(value) => value.ty(),
         Form::Lvalue(place) => match &place.place {
@@ -86,7 +105,9 @@ pub fn size_of_term(types: &Types, term: Term, line: u32) -> Result<Term, CheckE
 }
 
 /// What stands before `[`: an array stays a place, so that its elements count as parts of it.
-pub fn indexable(alloc: Global, types: &mut Types, term: Term) -> Result<Term, CheckError> {
+pub fn indexable(alloc: Global, types: &mut Types, term: Term) -> Result<Term, CheckError>
+    ensures { (known : Known) → Answers term_of result (types_in types.new known) (rule.before_index (term_of term) (types_in types.old known)) }
+{
     let is_array = match &term.form {
         Form::Lvalue(place) => place.ty().ty.is_array(),
         _ => false,
@@ -104,43 +125,6 @@ pub fn indexable(alloc: Global, types: &mut Types, term: Term) -> Result<Term, C
     })
 }
 
-// The pointer or integer that a term is in `e[i]`, where an array may be const.
-fn side(alloc: Global, types: &mut Types, term: Term) -> Result<Operand, CheckError> {
-    let Term {
-        form,
-        null,
-        line,
-        start,
-        reach,
-    } = term;
-    let (value, reach) = match form {
-        Form::Value(value) => (value, reach),
-        Form::Lvalue(place) => {
-            let reach = reach_of(&place);
-            (in_array(alloc, types, place)?, reach)
-        }
-        Form::Function { .. } => return refused(Kind::Operand, line),
-    };
-    Ok(Operand {
-        value,
-        null,
-        line,
-        start,
-        reach,
-    })
-}
-
-fn in_array(alloc: Global, types: &mut Types, place: Lvalue) -> Result<TExpr, CheckError> {
-    let line = place.place.line();
-    match place.ty().ty {
-        Ty::Array { element, .. } => array_start(alloc, types, place.place, element),
-        ty => {
-            let place = Box::new(alloc, place.place)?;
-            Ok(TExpr::Read { place, ty, line })
-        }
-    }
-}
-
 /// `e[i]`, which is `*(e + i)`. An element of an array that isn't reached through a pointer is a part of
 /// that array, in either form.
 pub fn element(
@@ -148,10 +132,12 @@ pub fn element(
     types: &mut Types,
     whole: Term,
     index: Term,
-) -> Result<Term, CheckError> {
+) -> Result<Term, CheckError>
+    ensures { (known : Known) → Answers term_of result (types_in types.new known) (rule.element (term_of whole) (term_of index) (types_in types.old known)) }
+{
     let line = whole.start;
-    let left = side(alloc, types, whole)?;
-    let right = side(alloc, types, index)?;
+    let left = indexed(alloc, types, whole)?;
+    let right = indexed(alloc, types, index)?;
     let reach = first_reach(left.reach, right.reach);
     let Some(found) = operation_of(types, BinOp::Add, left.side(), right.side()) else {
         return refused(Kind::Operand, line);
@@ -159,8 +145,8 @@ pub fn element(
     let Ty::Pointer(row) = found.ty else {
         return refused(Kind::Operand, line);
     };
-    let left = converted(alloc, left.value, found.left)?;
-    let right = converted(alloc, right.value, found.right)?;
+    let left = converted(alloc, left, found.left)?;
+    let right = converted(alloc, right, found.right)?;
     let pointer = TExpr::Offset {
         op: BinOp::Add,
         left: Box::new(alloc, left)?,
@@ -178,7 +164,10 @@ pub fn element(
 }
 
 // What a pointer points to: a part of the array that the pointer names, or reached through the pointer.
-fn behind_pointer(place: TPlace, reach: Option<Reach>) -> Lvalue {
+fn behind_pointer(place: TPlace, reach: Option<Reach>) -> Lvalue
+    ensures place { place_of result.place ≡ place_of place }
+    ensures reach { lvalue_reach result ≡ rule.reach_behind (option_map reach_of reach) }
+{
     let reach = match reach {
         Some(reach) => reach,
         None => Reach {
@@ -200,7 +189,9 @@ pub fn member(
     whole: Term,
     name: &[u8],
     line: u32,
-) -> Result<Term, CheckError> {
+) -> Result<Term, CheckError>
+    ensures { (known : Known) → Answers term_of result (types_in types.now known) (rule.member (term_of whole) name.now line (types_in types.now known)) }
+{
     refuse_table(&whole)?;
     let Some(whole) = into_lvalue(whole) else {
         return refused(Kind::Member, line);
@@ -234,7 +225,9 @@ pub fn pointed_member(
     pointer: Operand,
     name: &[u8],
     line: u32,
-) -> Result<Term, CheckError> {
+) -> Result<Term, CheckError>
+    ensures { (known : Known) → Answers term_of result (types_in types.now known) (rule.pointed_member (operand_of pointer) name.now line (types_in types.now known)) }
+{
     let Some(row) = pointer.value.ty().target() else {
         return refused(Kind::Member, line);
     };

@@ -1,5 +1,13 @@
 //! Names, constants and brackets (ISO/IEC 9899:1990, 6.3.1).
 
+ghost use Rattle.std.specs.Prelude.{◌≡◌, Ok};
+ghost use Rattle.c_tree.specs.Words.{spell_constant};
+ghost use Rattle.type_rules.specs.Expressions as rule;
+ghost use Rattle.type_rules.specs.Known.{Known};
+ghost use Rattle.c_operate.specs.Answers.{Answers};
+ghost use Rattle.c_operate.specs.Tables.{scopes_in};
+ghost use Rattle.c_operate.specs.Terms.{term_of};
+
 use crate::error::{CheckError, Kind, refused};
 use crate::scope::{Binding, Scopes};
 use crate::term::{Form, Lvalue, Term, constant, lvalue_term, value_term};
@@ -8,7 +16,9 @@ use c_tree::word::{Constant, Name};
 use c_typed::TPlace;
 
 /// A name as an expression.
-pub fn named(scopes: &Scopes, name: &Name) -> Result<Term, CheckError> {
+pub fn named(scopes: &Scopes, name: &Name) -> Result<Term, CheckError>
+    ensures { (known : Known) → Answers term_of result (scopes_in scopes.now known) (rule.name_rule name.now.bytes.items name.now.line (scopes_in scopes.now known)) }
+{
     let line = name.line;
     let Some(binding) = scopes.find(&name.bytes) else {
         return refused(Kind::Name, line);
@@ -46,7 +56,9 @@ pub fn named(scopes: &Scopes, name: &Name) -> Result<Term, CheckError> {
 }
 
 /// A constant as an expression.
-pub fn constant_term(token: Constant) -> Term {
+pub fn constant_term(token: Constant) -> Term
+    ensures { (known : Known) → rule.leaf (spell_constant token).kind (spell_constant token).bytes (spell_constant token).line known ≡ Ok (term_of result, known) }
+{
     match token {
         Constant::Int {
             value,
@@ -69,7 +81,9 @@ pub fn constant_term(token: Constant) -> Term {
 }
 
 /// An expression with brackets round it, the opening one on this line.
-pub fn grouped(term: Term, opening: u32) -> Term {
+pub fn grouped(term: Term, opening: u32) -> Term
+    ensures { term_of result ≡ rule.bracketed (term_of term) opening }
+{
     let Term {
         form,
         null,

@@ -1,5 +1,12 @@
 //! Names and what they stand for (ISO/IEC 9899:1990, 6.1.2.1).
 
+ghost use Rattle.std.specs.Prelude.{◌≡◌, Ok, []};
+ghost use Rattle.std.specs.Option.{option_map};
+ghost use Rattle.type_rules.specs.Known.{Known};
+ghost use Rattle.type_rules.specs.Names as names;
+ghost use Rattle.c_operate.specs.Answers.{Learns};
+ghost use Rattle.c_operate.specs.Tables.{binding_of, scopes_of, scopes_in};
+
 use crate::error::{CheckError, Kind, number, refused};
 use c_ints::IntTy;
 use c_typed::{Object, Qualified, Ty};
@@ -35,7 +42,9 @@ pub struct Scopes {
     lists: usize,
 }
 
-fn builtin(name: &[u8]) -> Option<Binding> {
+fn builtin(name: &[u8]) -> Option<Binding>
+    ensures { option_map binding_of result ≡ names.found_in [] name.now }
+{
     if let Some(address) = pic_world::register(name) {
         let ty = Qualified {
             ty: Ty::Int(IntTy::UChar),
@@ -54,7 +63,9 @@ fn builtin(name: &[u8]) -> Option<Binding> {
 
 impl Scopes {
     /// Scopes of which none is open.
-    pub fn new(alloc: Global) -> Scopes {
+    pub fn new(alloc: Global) -> Scopes
+        ensures { (known : Known) → scopes_in result known ≡ record known { scopes = []; lists = 0 } }
+    {
         Scopes {
             alloc,
             open: Vec::new(alloc),
@@ -63,35 +74,50 @@ impl Scopes {
     }
 
     /// Opens a scope inside those that are open.
-    pub fn enter(&mut self) -> Result<(), CheckError> {
+    pub fn enter(&mut self) -> Result<(), CheckError>
+        ensures { (known : Known) → Learns result (scopes_in self.new known) (names.enter (scopes_in self.old known)) }
+    {
         self.open.push(IndexMap::new(self.alloc))?;
         Ok(())
     }
 
     /// Closes the innermost scope.
-    pub fn leave(&mut self) {
+    pub fn leave(&mut self)
+        ensures { (known : Known) → names.leave (scopes_in self.old known) ≡ Ok (scopes_in self.new known, scopes_in self.new known) }
+    {
         let _scope = self.open.pop();
     }
 
     /// Opens the scope of a list of parameters.
-    pub fn enter_list(&mut self) -> Result<(), CheckError> {
-        self.lists = self.lists.saturating_add(1);
+    pub fn enter_list(&mut self) -> Result<(), CheckError>
+        ensures { (known : Known) → Learns result (scopes_in self.new known) (names.enter_list (scopes_in self.old known)) }
+    {
+        let Some(lists) = self.lists.checked_add(1) else {
+            return Err(CheckError::NoMemory);
+        };
+        self.lists = lists;
         self.enter()
     }
 
     /// Closes the scope of a list of parameters.
-    pub fn leave_list(&mut self) {
+    pub fn leave_list(&mut self)
+        ensures { (known : Known) → names.leave_list (scopes_in self.old known) ≡ Ok (scopes_in self.new known, scopes_in self.new known) }
+    {
         self.lists = self.lists.saturating_sub(1);
         self.leave();
     }
 
     /// Whether no block is open.
-    pub fn is_file(&self) -> bool {
+    pub fn is_file(&self) -> bool
+        ensures { (known : Known) → result ≡ names.in_file (scopes_in self.now known) }
+    {
         self.open.len() <= self.lists.saturating_add(1)
     }
 
     /// What a name stands for.
-    pub fn find(&self, name: &[u8]) -> Option<Binding> {
+    pub fn find(&self, name: &[u8]) -> Option<Binding>
+        ensures { option_map binding_of result ≡ names.found_in (scopes_of self.now) name.now }
+    {
         for scope in self.open.iter().rev() {
             if let Some(binding) = scope.get(name) {
                 return Some(*binding);
@@ -101,13 +127,17 @@ impl Scopes {
     }
 
     /// What a name is declared as in the innermost scope.
-    pub fn innermost(&self, name: &[u8]) -> Option<Binding> {
+    pub fn innermost(&self, name: &[u8]) -> Option<Binding>
+        ensures { option_map binding_of result ≡ names.innermost_in (scopes_of self.now) name.now }
+    {
         let scope = self.open.last()?;
         scope.get(name).copied()
     }
 
     /// Refuses a name that is declared in the innermost scope.
-    pub fn refuse_again(&self, name: &[u8], line: u32) -> Result<(), CheckError> {
+    pub fn refuse_again(&self, name: &[u8], line: u32) -> Result<(), CheckError>
+        ensures { (known : Known) → Learns result (scopes_in self.now known) (names.tests_of_new (scopes_in self.now known) name.now line (scopes_in self.now known)) }
+    {
         match self.innermost(name) {
             Some(_) => refused(Kind::Again, line),
             None => Ok(()),
@@ -115,7 +145,9 @@ impl Scopes {
     }
 
     /// Says what a name stands for in the innermost scope.
-    pub fn bind(&mut self, name: &[u8], binding: Binding) -> Result<(), CheckError> {
+    pub fn bind(&mut self, name: &[u8], binding: Binding) -> Result<(), CheckError>
+        ensures { (known : Known) → Learns result (scopes_in self.new known) (names.bind name.now (binding_of binding) (scopes_in self.old known)) }
+    {
         let name = name.to_vec(self.alloc)?;
         if let Some(scope) = self.open.last_mut() {
             scope.insert(name, binding)?;

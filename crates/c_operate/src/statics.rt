@@ -1,5 +1,11 @@
 //! The objects of a unit that last as long as the program (ISO/IEC 9899:1990, 6.1.2.4).
 
+ghost use Rattle.std.specs.Prelude.{◌≡◌, [], Ok};
+ghost use Rattle.type_rules.specs.Known.{Known};
+ghost use Rattle.type_rules.specs.Objects as objects;
+ghost use Rattle.c_operate.specs.Answers.{Answers};
+ghost use Rattle.c_operate.specs.Tables.{statics_in};
+
 use crate::error::{CheckError, number};
 use c_typed::{Initial, Qualified, Static};
 use std::alloc::Global;
@@ -13,7 +19,9 @@ pub struct Statics {
 
 impl Statics {
     /// No objects.
-    pub fn new(alloc: Global) -> Statics {
+    pub fn new(alloc: Global) -> Statics
+        ensures { (known : Known) → statics_in result known ≡ record known { statics = [] } }
+    {
         Statics {
             alloc,
             entries: Vec::new(alloc),
@@ -21,7 +29,9 @@ impl Statics {
     }
 
     /// Puts an object that begins as 0 after the others, and gives its number.
-    pub fn add(&mut self, name: Vec<u8>, ty: Qualified, line: u32) -> Result<u32, CheckError> {
+    pub fn add(&mut self, name: Vec<u8>, ty: Qualified, line: u32) -> Result<u32, CheckError>
+        ensures { (known : Known) → Answers (λ number. number) result (statics_in self.new known) (objects.add_static name.items ty line (statics_in self.old known)) }
+    {
         let object = number(self.entries.len())?;
         self.entries.push(Static {
             name,
@@ -33,7 +43,9 @@ impl Statics {
     }
 
     /// Gives an object the type that its initializer completed, and the bytes that it begins with.
-    pub fn complete(&mut self, object: u32, ty: Qualified, initial: Vec<Initial>) {
+    pub fn complete(&mut self, object: u32, ty: Qualified, initial: Vec<Initial>)
+        ensures { (known : Known) → objects.complete_static object ty initial.items (statics_in self.old known) ≡ Ok (statics_in self.new known, statics_in self.new known) }
+    {
         if let Some(entry) = self.entries.get_mut(object as usize) {
             entry.ty = ty;
             entry.initial = initial;
@@ -41,7 +53,9 @@ impl Statics {
     }
 
     /// The objects in order.
-    pub fn into_entries(self) -> Vec<Static> {
+    pub fn into_entries(self) -> Vec<Static>
+        ensures { result ≡ self.entries }
+    {
         self.entries
     }
 }

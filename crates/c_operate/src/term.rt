@@ -1,5 +1,17 @@
 //! Expressions that are checked already, and their values.
 
+ghost use Rattle.std.specs.Prelude.{◌≡◌};
+ghost use Rattle.std.specs.Option.{option_map};
+ghost use Rattle.c_typed.specs.Types.{place_type};
+ghost use Rattle.c_typed.specs.Views.{expression_of, place_of};
+ghost use Rattle.type_rules.specs.Faults as kind;
+ghost use Rattle.type_rules.specs.Known.{Known, wanted};
+ghost use Rattle.type_rules.specs.Terms as rule;
+ghost use Rattle.type_rules.specs.Writes.{structure_read, written_place};
+ghost use Rattle.c_operate.specs.Answers.{Answers, Learns};
+ghost use Rattle.c_operate.specs.Tables.{known_of, types_in};
+ghost use Rattle.c_operate.specs.Terms.{form_of, lvalue_reach, operand_of, place_in, reach_of, side_of, term_of};
+
 use crate::checker::Checker;
 use crate::error::{CheckError, Kind, refused};
 use crate::types::Types;
@@ -19,18 +31,24 @@ pub(crate) struct Lvalue {
 
 impl Lvalue {
     /// Its type, and whether it is const or volatile.
-    pub fn ty(&self) -> Qualified {
+    pub fn ty(&self) -> Qualified
+        ensures { result ≡ place_type (place_of self.now.place) }
+    {
         self.place.ty()
     }
 
     /// Whether `&` may stand before it: it is reached through a pointer, or is part of an object that is
     /// neither const nor declared `register`.
-    pub fn is_addressable(&self) -> bool {
+    pub fn is_addressable(&self) -> bool
+        ensures { result ≡ rule.is_addressable (place_of self.now.place) (lvalue_reach self.now) }
+    {
         self.through || !(self.fixed || self.ty().constant)
     }
 
     /// Whether it is a const array, which may only be indexed or measured.
-    pub fn is_table(&self) -> bool {
+    pub fn is_table(&self) -> bool
+        ensures { result ≡ rule.is_table (place_of self.now.place) (lvalue_reach self.now) }
+    {
         let ty = self.ty();
         ty.ty.is_array() && ty.constant && !self.through
     }
@@ -77,7 +95,9 @@ pub struct Operand {
 
 impl Operand {
     /// The type of the value, and whether it is a null constant.
-    pub fn side(&self) -> Side {
+    pub fn side(&self) -> Side
+        ensures { side_of result ≡ rule.side_of (operand_of self.now) }
+    {
         Side {
             ty: self.value.ty(),
             null: self.null,
@@ -93,7 +113,9 @@ pub struct Side {
 }
 
 /// A value at this line.
-pub(crate) fn value_term(value: TExpr, line: u32) -> Term {
+pub(crate) fn value_term(value: TExpr, line: u32) -> Term
+    ensures { term_of result ≡ rule.value_term (expression_of value) line }
+{
     Term {
         form: Form::Value(value),
         null: false,
@@ -104,7 +126,9 @@ pub(crate) fn value_term(value: TExpr, line: u32) -> Term {
 }
 
 /// An lvalue at this line.
-pub(crate) fn lvalue_term(place: Lvalue, line: u32) -> Term {
+pub(crate) fn lvalue_term(place: Lvalue, line: u32) -> Term
+    ensures { term_of result ≡ rule.place_term (place_of place.place) (lvalue_reach place) line }
+{
     Term {
         form: Form::Lvalue(place),
         null: false,
@@ -115,21 +139,25 @@ pub(crate) fn lvalue_term(place: Lvalue, line: u32) -> Term {
 }
 
 /// The value of the constant 0 or 1, or of a size.
-pub(crate) fn constant(ty: IntTy, bits: u32, line: u32) -> TExpr {
+pub(crate) fn constant(ty: IntTy, bits: u32, line: u32) -> TExpr
+    ensures { expression_of result ≡ rule.number_of_type ty bits line }
+{
     TExpr::Constant {
         value: Value::new(ty, bits),
         line,
     }
 }
 
-/// The pointer to the first element of an array.
+/// The pointer to the first element of an array, at this line.
 pub(crate) fn array_start(
     alloc: Global,
     types: &mut Types,
     place: TPlace,
     element: u32,
-) -> Result<TExpr, CheckError> {
-    let line = place.line();
+    line: u32,
+) -> Result<TExpr, CheckError>
+    ensures { (known : Known) → Answers expression_of result (types_in types.new known) (rule.array_start (place_of place) element line (types_in types.old known)) }
+{
     let target = place.ty().of(types.target(element).ty);
     let ty = types.pointer_to(target)?;
     Ok(TExpr::Address {
@@ -139,16 +167,19 @@ pub(crate) fn array_start(
     })
 }
 
-// The value of an lvalue: an array is the pointer to its first element, which a const array can't be.
-fn lvalue_value(alloc: Global, types: &mut Types, place: Lvalue) -> Result<TExpr, CheckError> {
-    let line = place.place.line();
-    if place.is_table() {
-        return refused(Kind::Address, line);
-    }
+/// The value of a place at this line: an array is the pointer to its first element.
+pub(crate) fn value_at(
+    alloc: Global,
+    types: &mut Types,
+    place: TPlace,
+    line: u32,
+) -> Result<TExpr, CheckError>
+    ensures { (known : Known) → Answers expression_of result (types_in types.new known) (rule.value_at (place_of place) (place_type (place_of place)).ty line (types_in types.old known)) }
+{
     match place.ty().ty {
-        Ty::Array { element, .. } => array_start(alloc, types, place.place, element),
+        Ty::Array { element, .. } => array_start(alloc, types, place, element, line),
         ty => Ok(TExpr::Read {
-            place: Box::new(alloc, place.place)?,
+            place: Box::new(alloc, place)?,
             ty,
             line,
         }),
@@ -156,7 +187,9 @@ fn lvalue_value(alloc: Global, types: &mut Types, place: Lvalue) -> Result<TExpr
 }
 
 /// How the elements of an lvalue are reached, if it is an array.
-pub(crate) fn reach_of(place: &Lvalue) -> Option<Reach> {
+pub(crate) fn reach_of(place: &Lvalue) -> Option<Reach>
+    ensures { option_map reach_of result ≡ rule.in_place (place_of place.now.place) (lvalue_reach place.now) }
+{
     if place.ty().ty.is_array() {
         Some(Reach {
             through: place.through,
@@ -168,19 +201,23 @@ pub(crate) fn reach_of(place: &Lvalue) -> Option<Reach> {
 }
 
 /// The array that a sum of a pointer and an integer points into, if one of them names it.
-pub(crate) fn first_reach(left: Option<Reach>, right: Option<Reach>) -> Option<Reach> {
+pub(crate) fn first_reach(left: Option<Reach>, right: Option<Reach>) -> Option<Reach>
+    ensures { option_map reach_of result ≡ rule.first_into (option_map reach_of left) (option_map reach_of right) }
+{
     match left {
         Some(reach) => Some(reach),
         None => right,
     }
 }
 
-// The value of an expression. A function has none.
-pub(crate) fn used_value(
+/// The value of an expression, where a const array may stand too: as what is indexed. A function has none.
+pub(crate) fn indexed(
     alloc: Global,
     types: &mut Types,
     term: Term,
-) -> Result<Operand, CheckError> {
+) -> Result<Operand, CheckError>
+    ensures { (known : Known) → Answers operand_of result (types_in types.new known) (rule.indexed (term_of term) (types_in types.old known)) }
+{
     let Term {
         form,
         null,
@@ -192,7 +229,7 @@ pub(crate) fn used_value(
         Form::Value(value) => (value, reach),
         Form::Lvalue(place) => {
             let reach = reach_of(&place);
-            (lvalue_value(alloc, types, place)?, reach)
+            (value_at(alloc, types, place.place, line)?, reach)
         }
         Form::Function { .. } => return refused(Kind::Operand, line),
     };
@@ -205,13 +242,29 @@ pub(crate) fn used_value(
     })
 }
 
-/// The value of an expression. A function has none.
-pub fn used(term: Term, checker: &mut Checker) -> Result<Operand, CheckError> {
+/// The value of an expression that is neither a function nor a const array, over the types alone.
+pub(crate) fn used_value(
+    alloc: Global,
+    types: &mut Types,
+    term: Term,
+) -> Result<Operand, CheckError>
+    ensures { (known : Known) → Answers operand_of result (types_in types.new known) (rule.used (term_of term) (types_in types.old known)) }
+{
+    refuse_table(&term)?;
+    indexed(alloc, types, term)
+}
+
+/// The value of an expression. A function has none, nor has a const array.
+pub fn used(term: Term, checker: &mut Checker) -> Result<Operand, CheckError>
+    ensures { Answers operand_of result (known_of checker.new) (rule.used (term_of term) (known_of checker.old)) }
+{
     used_value(checker.alloc, &mut checker.types, term)
 }
 
 /// Refuses a const array that is neither indexed nor measured.
-pub fn refuse_table(term: &Term) -> Result<(), CheckError> {
+pub fn refuse_table(term: &Term) -> Result<(), CheckError>
+    ensures { (known : Known) → Learns result known (rule.no_table (term_of term.now) known) }
+{
     match &term.form {
         Form::Lvalue(place) => {
             if place.is_table() {
@@ -225,7 +278,9 @@ pub fn refuse_table(term: &Term) -> Result<(), CheckError> {
 }
 
 /// The lvalue that a term is, if it is one.
-pub(crate) fn into_lvalue(term: Term) -> Option<Lvalue> {
+pub(crate) fn into_lvalue(term: Term) -> Option<Lvalue>
+    ensures { option_map (λ l. (place_of l.place, lvalue_reach l)) result ≡ place_in (form_of term.form) }
+{
     match term.form {
         Form::Lvalue(place) => Some(place),
         _ => None,
@@ -233,7 +288,9 @@ pub(crate) fn into_lvalue(term: Term) -> Option<Lvalue> {
 }
 
 /// The place whose structure a value is read from.
-pub fn read_from(value: TExpr) -> Option<TPlace> {
+pub fn read_from(value: TExpr) -> Option<TPlace>
+    ensures { option_map place_of result ≡ structure_read (expression_of value) }
+{
     match value {
         TExpr::Read { place, .. } => Some(Box::into_inner(place)),
         _ => None,
@@ -241,7 +298,9 @@ pub fn read_from(value: TExpr) -> Option<TPlace> {
 }
 
 /// The place that is written by an assignment, `++` or `--` at this line.
-pub(crate) fn written(term: Term, line: u32) -> Result<TPlace, CheckError> {
+pub(crate) fn written(term: Term, line: u32) -> Result<TPlace, CheckError>
+    ensures { (known : Known) → Answers place_of result known (wanted kind.Assign line (written_place (form_of term.form)) known) }
+{
     let Some(place) = into_lvalue(term) else {
         return refused(Kind::Assign, line);
     };

@@ -1,5 +1,18 @@
 //! The types that a unit has so far.
 
+ghost use Rattle.std.specs.Prelude.{◌≡◌, Ok, [], map, is_some, if◌then◌else◌, slice_get, IfOk};
+ghost use Rattle.std.specs.Option.{option_map};
+ghost use Rattle.c_typed.specs.Sound as stated;
+ghost use Rattle.c_typed.specs.Views.{structure_of};
+ghost use Rattle.type_rules.specs.Faults as kind;
+ghost use Rattle.type_rules.specs.Known.{Known};
+ghost use Rattle.type_rules.specs.Names.{entry_of};
+ghost use Rattle.type_rules.specs.Places.{member_from};
+ghost use Rattle.type_rules.specs.Rows as rows;
+ghost use Rattle.type_rules.specs.Units.{structure_tree};
+ghost use Rattle.c_operate.specs.Answers.{Answers, Learns, kind_of};
+ghost use Rattle.c_operate.specs.Tables.{field_of, progress_of, types_in};
+
 use crate::error::{CheckError, Kind, number};
 use c_typed::{Member, Qualified, Structure, Ty};
 use indexmap::{IndexMap, IndexSet};
@@ -41,20 +54,24 @@ pub struct Types {
 /// The greatest number of bytes that an object has.
 pub const MOST_BYTES: u64 = 65_535;
 
-// A number of bytes is exact up to 2 ^ 40. Beyond it only its rest modulo 65,536 is kept, which is what
+// A number of bytes is exact below 2 to the 40. Beyond that only its rest modulo 65,536 is kept, which is what
 // `sizeof` shows of it.
-fn kept(size: u64) -> u64 {
-    const EXACT: u64 = 0x100_0000_0000;
+fn kept(size: u128) -> u64
+    ensures { result ≡ stated.kept size }
+{
+    const EXACT: u128 = 0x100_0000_0000;
     if size < EXACT {
-        size
+        size as u64
     } else {
-        (size & 0xffff) | EXACT
+        (size % 65536 + EXACT) as u64
     }
 }
 
 impl Types {
     /// Tables without a type: no row, no structure, no tag.
-    pub fn new(alloc: Global) -> Types {
+    pub fn new(alloc: Global) -> Types
+        ensures { (known : Known) → types_in result known ≡ record known { targets = []; shapes = []; tags = [] } }
+    {
         Types {
             alloc,
             targets: IndexSet::new(alloc),
@@ -64,13 +81,17 @@ impl Types {
     }
 
     /// The row of a type that is pointed to.
-    fn row(&mut self, target: Qualified) -> Result<u32, CheckError> {
+    fn row(&mut self, target: Qualified) -> Result<u32, CheckError>
+        ensures { (known : Known) → Answers (λ row. row) result (types_in self.new known) (rows.row_of target (types_in self.old known)) }
+    {
         let (index, _) = self.targets.insert_full(target)?;
         number(index)
     }
 
     /// The type of a row.
-    pub fn target(&self, row: u32) -> Qualified {
+    pub fn target(&self, row: u32) -> Qualified
+        ensures { (known : Known) → result ≡ rows.target_of (types_in self.now known) row }
+    {
         match self.targets.get_index(row as usize) {
             Some(target) => *target,
             None => Qualified::plain(Ty::Void),
@@ -78,13 +99,17 @@ impl Types {
     }
 
     /// The pointer to a type.
-    pub fn pointer_to(&mut self, target: Qualified) -> Result<Ty, CheckError> {
+    pub fn pointer_to(&mut self, target: Qualified) -> Result<Ty, CheckError>
+        ensures { (known : Known) → Answers (λ ty. ty) result (types_in self.new known) (rows.pointer_to target (types_in self.old known)) }
+    {
         Ok(Ty::Pointer(self.row(target)?))
     }
 
     /// The array of this many elements, or of a number not known yet, which is 0.
-    pub fn array_of(&mut self, element: Qualified, length: u32) -> Result<Qualified, CheckError> {
-        let size = kept(self.bytes_of(element.ty).wrapping_mul(length as u64));
+    pub fn array_of(&mut self, element: Qualified, length: u32) -> Result<Qualified, CheckError>
+        ensures { (known : Known) → Answers (λ ty. ty) result (types_in self.new known) (rows.array_of element length (types_in self.old known)) }
+    {
+        let size = kept(self.bytes_of(element.ty) as u128 * length as u128);
         let row = self.row(Qualified::plain(element.ty))?;
         Ok(element.of(Ty::Array {
             element: row,
@@ -94,7 +119,9 @@ impl Types {
     }
 
     /// How many bytes a value or an object of the type has so far.
-    pub fn bytes_of(&self, ty: Ty) -> u64 {
+    pub fn bytes_of(&self, ty: Ty) -> u64
+        ensures { (known : Known) → result ≡ rows.bytes_of (types_in self.now known) ty }
+    {
         match ty {
             Ty::Struct(number) => match self.shapes.get(number as usize) {
                 Some(shape) => shape.size,
@@ -106,7 +133,9 @@ impl Types {
 
     /// Whether an object can have the type: it is no void, no structure without a whole body, and no
     /// array without a length.
-    pub fn is_complete(&self, ty: Ty) -> bool {
+    pub fn is_complete(&self, ty: Ty) -> bool
+        ensures { (known : Known) → result ≡ rows.is_complete (types_in self.now known) ty }
+    {
         match ty {
             Ty::Void => false,
             Ty::Int(_) | Ty::Pointer(_) => true,
@@ -116,7 +145,9 @@ impl Types {
     }
 
     /// How far the body of a structure is.
-    pub fn progress(&self, number: u32) -> Progress {
+    pub fn progress(&self, number: u32) -> Progress
+        ensures { (known : Known) → progress_of result ≡ rows.progress_of (types_in self.now known) number }
+    {
         match self.shapes.get(number as usize) {
             Some(shape) => shape.body,
             None => Progress::Absent,
@@ -124,7 +155,9 @@ impl Types {
     }
 
     /// Why a body of a structure can't stand where no body may: it is a second one, or one too many.
-    pub fn second_body(&self, number: u32) -> Kind {
+    pub fn second_body(&self, number: u32) -> Kind
+        ensures { (known : Known) → kind_of result ≡ (if rows.is_absent (rows.progress_of (types_in self.now known) number) then kind.Declare else kind.Again) }
+    {
         if self.progress(number) == Progress::Absent {
             Kind::Declare
         } else {
@@ -133,7 +166,9 @@ impl Types {
     }
 
     /// A structure without a body so far.
-    fn add_structure(&mut self) -> Result<u32, CheckError> {
+    fn add_structure(&mut self) -> Result<u32, CheckError>
+        ensures { (known : Known) → Answers (λ number. number) result (types_in self.new known) (rows.new_structure (types_in self.old known)) }
+    {
         let index = number(self.shapes.len())?;
         let shape = Shape {
             fields: IndexMap::new(self.alloc),
@@ -145,31 +180,41 @@ impl Types {
     }
 
     /// The structure of a tag.
-    pub fn tagged(&self, tag: &[u8]) -> Option<u32> {
+    pub fn tagged(&self, tag: &[u8]) -> Option<u32>
+        ensures { (known : Known) → result ≡ rows.tagged (types_in self.now known) tag.now }
+    {
         self.tags.get(tag).copied()
     }
 
     /// A structure without a tag.
-    pub fn untagged(&mut self) -> Result<u32, CheckError> {
+    pub fn untagged(&mut self) -> Result<u32, CheckError>
+        ensures { (known : Known) → Answers (λ number. number) result (types_in self.new known) (rows.new_structure (types_in self.old known)) }
+    {
         self.add_structure()
     }
 
     /// The structure of a tag that isn't declared yet.
-    pub fn declare_tag(&mut self, tag: &[u8]) -> Result<u32, CheckError> {
+    pub fn declare_tag(&mut self, tag: &[u8]) -> Result<u32, CheckError>
+        ensures { (known : Known) → Answers (λ number. number) result (types_in self.new known) (rows.new_tag tag.now (types_in self.old known)) }
+    {
         let structure = self.add_structure()?;
         self.tags.insert(tag.to_vec(self.alloc)?, structure)?;
         Ok(structure)
     }
 
     /// Says how far the body of a structure is.
-    pub fn set_progress(&mut self, number: u32, body: Progress) {
+    pub fn set_progress(&mut self, number: u32, body: Progress)
+        ensures { (known : Known) → rows.set_progress number (progress_of body) (types_in self.old known) ≡ Ok (types_in self.new known, types_in self.new known) }
+    {
         if let Some(shape) = self.shapes.get_mut(number as usize) {
             shape.body = body;
         }
     }
 
     /// Whether a structure has a member of the name.
-    pub fn has_member(&self, number: u32, name: &[u8]) -> bool {
+    pub fn has_member(&self, number: u32, name: &[u8]) -> bool
+        ensures { (known : Known) → result ≡ is_some (entry_of (rows.fields_of (types_in self.now known) number) name.now) }
+    {
         match self.shapes.get(number as usize) {
             Some(shape) => shape.fields.contains_key(name),
             None => false,
@@ -182,26 +227,32 @@ impl Types {
         number: u32,
         name: &[u8],
         ty: Qualified,
-    ) -> Result<(), CheckError> {
+    ) -> Result<(), CheckError>
+        ensures { (known : Known) → Learns result (types_in self.new known) (rows.add_member number name.now ty (types_in self.old known)) }
+    {
         let bytes = self.bytes_of(ty.ty);
         let name = name.to_vec(self.alloc)?;
         if let Some(shape) = self.shapes.get_mut(number as usize) {
             let offset = shape.size;
             shape.fields.insert(name, Field { ty, offset })?;
-            shape.size = kept(offset.wrapping_add(bytes));
+            shape.size = kept(offset as u128 + bytes as u128);
         }
         Ok(())
     }
 
     /// The member of a name, and its number.
-    pub fn member(&self, number: u32, name: &[u8]) -> Option<(usize, Field)> {
+    pub fn member(&self, number: u32, name: &[u8]) -> Option<(usize, Field)>
+        ensures { (known : Known) → option_map (λ m. (m.0, field_of m.1)) result ≡ member_from (rows.fields_of (types_in self.now known) number) name.now 0 }
+    {
         let shape = self.shapes.get(number as usize)?;
         let (index, _, field) = shape.fields.get_full(name)?;
         Some((index, *field))
     }
 
     /// The member of a number.
-    pub fn member_at(&self, number: u32, index: usize) -> Option<Field> {
+    pub fn member_at(&self, number: u32, index: usize) -> Option<Field>
+        ensures { (known : Known) → option_map field_of result ≡ option_map (λ m. m.1) (slice_get (rows.fields_of (types_in self.now known) number) index) }
+    {
         let shape = self.shapes.get(number as usize)?;
         let (_, field) = shape.fields.get_index(index)?;
         Some(*field)
@@ -225,7 +276,10 @@ fn structure_of(alloc: Global, shape: Shape) -> Result<Structure, CheckError> {
 
 impl Types {
     /// The rows of what is pointed to, and the structures.
-    pub fn into_tables(self) -> Result<(Vec<Qualified>, Vec<Structure>), CheckError> {
+    pub fn into_tables(self) -> Result<(Vec<Qualified>, Vec<Structure>), CheckError>
+        ensures targets { (known : Known) → IfOk result (λ r. r.0.items ≡ (types_in self known).targets) }
+        ensures structures { (known : Known) → IfOk result (λ r. map structure_of r.1.items ≡ map structure_tree (types_in self known).shapes) }
+    {
         let mut targets = Vec::new(self.alloc);
         for target in self.targets {
             targets.push(target)?;

@@ -1,5 +1,17 @@
 //! Assignments, `++` and `--` (ISO/IEC 9899:1990, 6.3.2.4, 6.3.3.1 and 6.3.16).
 
+ghost use Rattle.std.specs.Prelude.{◌≡◌};
+ghost use Rattle.std.specs.Option.{option_map};
+ghost use Rattle.c_token.specs.declared.token.TokKind.TheVariants as kinds;
+ghost use Rattle.c_typed.specs.Types.{place_type};
+ghost use Rattle.c_typed.specs.Views.{expression_of, place_of};
+ghost use Rattle.type_rules.specs.Known.{Known};
+ghost use Rattle.type_rules.specs.Terms as terms;
+ghost use Rattle.type_rules.specs.Writes as rule;
+ghost use Rattle.c_operate.specs.Answers.{Answers};
+ghost use Rattle.c_operate.specs.Tables.{types_in};
+ghost use Rattle.c_operate.specs.Terms.{operand_of, term_of, valued};
+
 use crate::conversion::{assigned, converted};
 use crate::error::{CheckError, Kind, refused};
 use crate::operation::{Node, compound_operator, operation_of};
@@ -17,7 +29,9 @@ fn copied(
     place: TPlace,
     from: Operand,
     line: u32,
-) -> Result<TExpr, CheckError> {
+) -> Result<TExpr, CheckError>
+    ensures { (known : Known) → Answers (valued line) result (types_in types.now known) (rule.copy (place_of place) (operand_of from) line (types_in types.now known)) }
+{
     let ty = place.ty().ty;
     if from.value.ty() != ty {
         return refused(Kind::Convert, line);
@@ -39,7 +53,9 @@ fn simple(
     place: TPlace,
     from: Operand,
     line: u32,
-) -> Result<TExpr, CheckError> {
+) -> Result<TExpr, CheckError>
+    ensures { (known : Known) → Answers (valued line) result (types_in types.now known) (rule.simple_assignment (place_type (place_of place)).ty (place_of place) (operand_of from) line (types_in types.now known)) }
+{
     let ty = place.ty().ty;
     match ty {
         Ty::Struct(_) => copied(alloc, types, place, from, line),
@@ -62,7 +78,9 @@ fn compound(
     place: TPlace,
     from: Operand,
     line: u32,
-) -> Result<TExpr, CheckError> {
+) -> Result<TExpr, CheckError>
+    ensures { (known : Known) → Answers (valued line) result (types_in types.now known) (rule.compound_assignment op (place_of place) (operand_of from) line (types_in types.now known)) }
+{
     let ty = place.ty().ty;
     let left = Side { ty, null: false };
     let Some(found) = operation_of(types, op, left, from.side()) else {
@@ -76,7 +94,7 @@ fn compound(
     if !keeps {
         return refused(Kind::Convert, line);
     }
-    let value = converted(alloc, from.value, found.right)?;
+    let value = converted(alloc, from, found.right)?;
     Ok(TExpr::Update {
         op,
         place: Box::new(alloc, place)?,
@@ -95,7 +113,9 @@ pub fn assignment(
     sign: Punct,
     target: Term,
     from: Operand,
-) -> Result<Term, CheckError> {
+) -> Result<Term, CheckError>
+    ensures { (known : Known) → Answers term_of result (types_in types.now known) (rule.assignment (kinds.Punct sign) (term_of target) (operand_of from) (types_in types.now known)) }
+{
     let line = target.start;
     let place = written(target, line)?;
     let value = match compound_operator(sign) {
@@ -106,7 +126,9 @@ pub fn assignment(
 }
 
 // The type in which `++` and `--` count, and the bytes of an element.
-fn counted(types: &Types, ty: Ty) -> Option<(Ty, u64)> {
+fn counted(types: &Types, ty: Ty) -> Option<(Ty, u64)>
+    ensures { (known : Known) → option_map (λ c. (c.0, c.1)) result ≡ rule.counted (types_in types.now known) ty }
+{
     match ty {
         Ty::Int(int) => Some((Ty::Int(usual(int, IntTy::Int)), 0)),
         Ty::Pointer(row) => {
@@ -128,7 +150,9 @@ pub fn stepped(
     op: StepOp,
     target: Term,
     line: u32,
-) -> Result<Term, CheckError> {
+) -> Result<Term, CheckError>
+    ensures { (known : Known) → Answers term_of result (types_in types.now known) (rule.stepped op (term_of target) line (types_in types.now known)) }
+{
     refuse_table(&target)?;
     let place = written(target, line)?;
     let ty = place.ty().ty;

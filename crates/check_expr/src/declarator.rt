@@ -1,5 +1,11 @@
 //! Specifiers, structures, declarators and parameters, from the tree's root down (ISO/IEC 9899:1990, 6.5).
 
+ghost use Rattle.c_tree.specs.Views.{declarator_of, specs_of};
+ghost use Rattle.type_rules.specs.Declarators as rule;
+ghost use Rattle.c_operate.specs.Answers.{Answers};
+ghost use Rattle.c_operate.specs.Tables.{known_of};
+ghost use Rattle.check_expr.specs.Views.{context_of, outline_of, specified_of};
+
 use crate::constants::array_length;
 use crate::outline::{
     Made, Outline, ParamList, add_field, add_param, line_of, outlined, param_outlined,
@@ -70,7 +76,9 @@ pub fn specified(
     specs: &Specs,
     checker: &mut Checker,
     context: Context,
-) -> Result<Specified, CheckError> {
+) -> Result<Specified, CheckError>
+    ensures { Answers specified_of result (known_of checker.new) (rule.specified (specs_of specs.now) (context_of context) (known_of checker.old)) }
+{
     let mut words = specifier(&specs.first, checker, context, Words::none())?;
     for spec in &specs.others {
         words = specifier(spec, checker, context, words)?;
@@ -145,7 +153,9 @@ pub fn outline(
     checker: &mut Checker,
     specified: Specified,
     bodies: bool,
-) -> Result<Outline, CheckError> {
+) -> Result<Outline, CheckError>
+    ensures { Answers outline_of result (known_of checker.new) (rule.outline_of (declarator_of declarator.now) (specified_of specified) bodies (known_of checker.old)) }
+{
     let base = type_name::pointers(&declarator.pointers, checker, specified.ty)?;
     let made = suffixes(&declarator.suffixes, checker, bodies)?;
     outlined(&mut checker.types, base, made)

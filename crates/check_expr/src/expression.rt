@@ -3,6 +3,13 @@
 //! Each function of the recursion has a frame of its own, hence `inline(never)`: a frame holds
 //! what one function needs, and a tree of thousands of levels stays within the call stack.
 
+ghost use Rattle.c_tree.specs.Views.{assign_of, cond_of, expr_of};
+ghost use Rattle.type_rules.specs.Expressions as rule;
+ghost use Rattle.c_operate.specs.Answers.{Answers};
+ghost use Rattle.c_operate.specs.Tables.{known_of};
+ghost use Rattle.c_operate.specs.Terms.{term_of};
+ghost use Rattle.check_expr.specs.Views.{unlisted};
+
 use crate::prefixes::{Applied, apply_prefix, listed};
 use crate::type_name::size_of_name;
 use c_operate::calls::{call, refuse_undefined};
@@ -23,7 +30,9 @@ use c_typed::StepOp;
 
 /// Assignments between commas.
 #[cycle(expression)]
-pub fn expression(expr: &Expr, checker: &mut Checker) -> Result<Term, CheckError> {
+pub fn expression(expr: &Expr, checker: &mut Checker) -> Result<Term, CheckError>
+    ensures { Answers term_of result (known_of checker.new) (unlisted (rule.judged (expr_of expr.now) (known_of checker.old))) }
+{
     let first = assign(&expr.first, checker)?;
     sequence(&expr.others, checker, first)
 }
@@ -50,7 +59,9 @@ struct Target {
 
 /// A value, and what it is assigned to.
 #[cycle(expression)]
-pub fn assign(assign: &Assign, checker: &mut Checker) -> Result<Term, CheckError> {
+pub fn assign(assign: &Assign, checker: &mut Checker) -> Result<Term, CheckError>
+    ensures { Answers term_of result (known_of checker.new) (unlisted (rule.judged (assign_of assign.now) (known_of checker.old))) }
+{
     let targets = places(&assign.targets, checker)?;
     let value = conditional(&assign.value, checker)?;
     assign_all(checker, targets, value)
@@ -95,7 +106,9 @@ struct Chosen {
 
 /// Choices, and what is left where no condition holds.
 #[cycle(expression)]
-pub(crate) fn conditional(cond: &Cond, checker: &mut Checker) -> Result<Term, CheckError> {
+pub(crate) fn conditional(cond: &Cond, checker: &mut Checker) -> Result<Term, CheckError>
+    ensures { Answers term_of result (known_of checker.new) (unlisted (rule.judged (cond_of cond.now) (known_of checker.old))) }
+{
     let mut choices = Vec::new(checker.alloc);
     for choice in &cond.choices {
         choices.push(self::choice(choice, checker)?)?;

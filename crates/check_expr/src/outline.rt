@@ -1,5 +1,9 @@
 //! What a declarator makes of a type (ISO/IEC 9899:1990, 6.5.4).
 
+ghost use Rattle.std.specs.Prelude.{◌≡◌};
+ghost use Rattle.c_tree.specs.Views.{declarator_of};
+ghost use Rattle.type_rules.specs.Declarators.{line_in};
+
 use crate::specifiers::{Specified, Storage};
 use c_operate::checker::Checker;
 use c_operate::error::{CheckError, Kind, number, refused};
@@ -255,7 +259,9 @@ pub(crate) fn add_field(
 }
 
 /// The line of the first token of a declarator.
-pub fn line_of(declarator: &Declarator) -> u32 {
+pub fn line_of(declarator: &Declarator) -> u32
+    ensures { result ≡ line_in (declarator_of declarator.now) }
+{
     match declarator.pointers.first() {
         Some(pointer) => pointer.star,
         None => declarator.name.line,

@@ -1,5 +1,9 @@
 //! Specifiers of declarations (ISO/IEC 9899:1990, 6.5.1 to 6.5.3).
 
+ghost use Rattle.std.specs.Prelude.{◌≡◌};
+ghost use Rattle.c_tree.specs.Views.{specs_of};
+ghost use Rattle.type_rules.specs.Specifiers.{specs_line};
+
 use c_ints::IntTy;
 use c_operate::error::{CheckError, Kind, refused};
 use c_token::Keyword;
@@ -224,7 +228,9 @@ impl Words {
 }
 
 /// The line of the first token of specifiers.
-pub fn line_of(specs: &Specs) -> u32 {
+pub fn line_of(specs: &Specs) -> u32
+    ensures { result ≡ specs_line (specs_of specs.now) }
+{
     match &specs.first {
         Spec::Word(word) => word.line,
         Spec::Reference { keyword, .. } => *keyword,

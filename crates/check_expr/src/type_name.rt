@@ -1,5 +1,12 @@
 //! The names of types (ISO/IEC 9899:1990, 6.5.5).
 
+ghost use Rattle.c_tree.specs.Views.{type_name_of};
+ghost use Rattle.c_tree.specs.Words.{spell_pointers};
+ghost use Rattle.type_rules.specs.TypeNames as rule;
+ghost use Rattle.c_operate.specs.Answers.{Answers};
+ghost use Rattle.c_operate.specs.Tables.{known_of};
+ghost use Rattle.c_operate.specs.Terms.{term_of};
+
 use crate::specifiers::{Site, Words, line_of};
 use c_operate::checker::Checker;
 use c_operate::error::{CheckError, Kind, refused};
@@ -50,7 +57,9 @@ pub(crate) fn pointers(
     pointers: &[Pointer],
     checker: &mut Checker,
     base: Qualified,
-) -> Result<Qualified, CheckError> {
+) -> Result<Qualified, CheckError>
+    ensures { Answers (λ ty. ty) result (known_of checker.new) (rule.with_pointers (spell_pointers pointers.now) base (known_of checker.old)) }
+{
     let mut ty = base;
     for pointer in pointers {
         let to = Qualified::plain(checker.types.pointer_to(ty)?);
@@ -60,7 +69,9 @@ pub(crate) fn pointers(
 }
 
 /// The type of a name of a type.
-pub(crate) fn type_named(name: &TypeName, checker: &mut Checker) -> Result<Qualified, CheckError> {
+pub(crate) fn type_named(name: &TypeName, checker: &mut Checker) -> Result<Qualified, CheckError>
+    ensures { Answers (λ ty. ty) result (known_of checker.new) (rule.type_named (type_name_of name.now) (known_of checker.old)) }
+{
     let mut words = type_word(&name.specs.first, checker, Words::none())?;
     for spec in &name.specs.others {
         words = type_word(spec, checker, words)?;

@@ -9,7 +9,7 @@ use Rattle.c_typed.specs.Trees.{VariableTree, FunctionTree, StructureTree, Membe
 use Rattle.c_typed.specs.declared.types.Ty.{Ty}
 use Rattle.type_rules.specs.Faults as kind
 use Rattle.type_rules.specs.Faults.{Fault}
-use Rattle.type_rules.specs.Known.{Shape, Field, Known, known_first, Rule, given, broken, known_here, learn, tried, ◌>>=◌}
+use Rattle.type_rules.specs.Known.{Shape, Field, Known, known_first, no_body, Rule, given, broken, known_here, learn, tried, ◌>>=◌}
 use Rattle.type_rules.specs.Names.{is_declared, enter, leave}
 use Rattle.type_rules.specs.Specifiers.{Specified}
 use Rattle.type_rules.specs.Outlines.{Param, Declared, ObjectDeclared, FunctionDeclared, Outline, bind_param}
@@ -41,6 +41,9 @@ bind_params (p ∷ ps) n = do
 abbrev pub body_begun : List ℕ → Ty → Rule Known
 body_begun name result = learn (λ known. record known { body = record { name = name; result = result; locals = []; declarators = 0 } })
 
+abbrev pub body_ended : Rule Known
+body_ended = learn (λ known. record known { body = no_body })
+
 abbrev pub variable_of : Param → VariableTree
 variable_of p = record { name = p.name; ty = p.ty; line = p.line }
 
@@ -52,6 +55,7 @@ function_body b said name result params = do
   statements ← body_statements b
   _ ← leave
   known ← known_here
+  _ ← body_ended
   given (record { name = name; result = result; params = map variable_of params; locals = (known.body).locals; body = statements; interrupt = said.interrupt; line = said.line })
 
 abbrev pub function_declared : Declared → BlockTree → Specified → Outline → List ℕ → ℕ → Rule FunctionTree

@@ -1,0 +1,71 @@
+-- The tables of the checker, as the rules speak of them: what is known at a place.
+use Rattle.std.specs.Prelude.{ℕ, List, [], ◌∷◌, map, reverse, Option}
+use Rattle.c_typed.specs.Views.{static_of, variable_of}
+use Rattle.type_rules.specs.Known as rule
+use Rattle.type_rules.specs.Known.{Known, Scope}
+use Rattle.c_operate.specs.declared.body.Body.{Body}
+use Rattle.c_operate.specs.declared.checker.Checker.{Checker}
+use Rattle.c_operate.specs.declared.functions.Functions.{Functions}
+use Rattle.c_operate.specs.declared.functions.Signature.{Signature}
+use Rattle.c_operate.specs.declared.scope.Binding.{Binding}
+use Rattle.c_operate.specs.declared.scope.Binding.TheVariants as bindings
+use Rattle.c_operate.specs.declared.scope.Scopes.{Scopes}
+use Rattle.c_operate.specs.declared.statics.Statics.{Statics}
+use Rattle.c_operate.specs.declared.types.Field.{Field}
+use Rattle.c_operate.specs.declared.types.Progress.{Progress}
+use Rattle.c_operate.specs.declared.types.Progress.TheVariants as progress
+use Rattle.c_operate.specs.declared.types.Shape.{Shape}
+use Rattle.c_operate.specs.declared.types.Types.{Types}
+
+-- ---- types
+
+abbrev pub progress_of : Progress → rule.Progress
+progress_of progress.Absent = rule.Absent
+progress_of progress.Open = rule.Open
+progress_of progress.Closed = rule.Closed
+
+abbrev pub field_of : Field → rule.Field
+field_of f = record { ty = f.ty; offset = f.offset }
+
+abbrev pub shape_of : Shape → rule.Shape
+shape_of s = record { fields = map (λ e. (e.0.items, field_of e.1)) s.fields.entries; size = s.size; body = progress_of s.body }
+
+-- what is known, with these tables of types
+abbrev pub types_in : Types → Known → Known
+types_in t known = record known { targets = t.targets.keys; shapes = map shape_of t.shapes.items; tags = map (λ e. (e.0.items, e.1)) t.tags.entries }
+
+-- ---- names
+
+abbrev pub binding_of : Binding → rule.Binding
+binding_of (bindings.Object object ty fixed) = rule.ObjectName object ty fixed
+binding_of (bindings.Bit register bit) = rule.BitName register bit
+binding_of (bindings.Function number) = rule.FunctionName number
+
+-- the open scopes, the innermost first
+abbrev pub scopes_of : Scopes → List Scope
+scopes_of s = reverse (map (λ m. map (λ e. (e.0.items, binding_of e.1)) m.entries) s.open.items)
+
+abbrev pub scopes_in : Scopes → Known → Known
+scopes_in s known = record known { scopes = scopes_of s; lists = s.lists }
+
+-- ---- functions, static objects, the body
+
+abbrev pub signature_of : Signature → rule.Signature
+signature_of s = record { result = s.result; params = s.params.items; definition = s.definition; defined = s.defined }
+
+abbrev pub functions_in : Functions → Known → Known
+functions_in f known = record known { signatures = map signature_of f.declared.items; definitions = map (λ name. name.items) f.definitions.keys }
+
+abbrev pub statics_in : Statics → Known → Known
+statics_in s known = record known { statics = map static_of s.entries.items }
+
+abbrev pub body_of : Body → rule.Body
+body_of b = record { name = b.name.items; result = b.result; locals = map variable_of b.locals.items; declarators = b.declarators }
+
+abbrev pub body_in : Body → Known → Known
+body_in b known = record known { body = body_of b }
+
+-- ---- all of them
+
+abbrev pub known_of : Checker → Known
+known_of c = types_in c.types (scopes_in c.scopes (functions_in c.functions (statics_in c.statics (body_in c.body (rule.known_first [])))))
