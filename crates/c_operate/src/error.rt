@@ -4,7 +4,7 @@ ghost use Rattle.std.specs.Prelude.{◌≡◌, Err, IfErr, IfOk};
 ghost use Rattle.c_operate.specs.declared.error.CheckError.TheVariants.{NoMemory};
 ghost use Rattle.c_operate.specs.declared.error.CheckError.TheVariants as errors;
 
-use std::alloc::{AllocError, AllocFailed};
+use std::alloc::{AllocError, AllocFailed, Global};
 
 /// The kinds of rules on types, in the order in which they are tried at one node (ISO/IEC 9899:1990,
 /// 6.3 to 6.7, in the subset).
@@ -87,4 +87,12 @@ pub fn number(length: usize) -> Result<u32, CheckError>
         Ok(number) => Ok(number),
         Err(_) => Err(CheckError::NoMemory),
     }
+}
+
+/// A text of its own.
+pub fn copied(alloc: Global, text: &[u8]) -> Result<Vec<u8>, CheckError>
+    ensures ok { IfOk result (λ copy. copy.items ≡ text.now) }
+    ensures err { IfErr result (λ e. e ≡ NoMemory) }
+{
+    Ok(text.to_vec(alloc)?)
 }

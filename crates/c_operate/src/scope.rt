@@ -1,13 +1,13 @@
 //! Names and what they stand for (ISO/IEC 9899:1990, 6.1.2.1).
 
-ghost use Rattle.std.specs.Prelude.{◌≡◌, Ok, []};
+ghost use Rattle.std.specs.Prelude.{◌≡◌, Ok, [], map};
 ghost use Rattle.std.specs.Option.{option_map};
 ghost use Rattle.type_rules.specs.Known.{Known};
 ghost use Rattle.type_rules.specs.Names as names;
 ghost use Rattle.c_operate.specs.Answers.{Learns};
 ghost use Rattle.c_operate.specs.Tables.{binding_of, scopes_of, scopes_in};
 
-use crate::error::{CheckError, Kind, number, refused};
+use crate::error::{CheckError, Kind, copied, refused};
 use c_ints::IntTy;
 use c_typed::{Object, Qualified, Ty};
 use indexmap::IndexMap;
@@ -59,6 +59,16 @@ fn builtin(name: &[u8]) -> Option<Binding>
     }
     let (register, bit) = pic_world::bit(name)?;
     Some(Binding::Bit { register, bit })
+}
+
+// What a name stands for in a scope.
+fn meaning(scope: &IndexMap<Vec<u8>, Binding>, name: &[u8]) -> Option<Binding>
+    ensures { option_map binding_of result ≡ names.entry_of (map (λ e. (e.0.items, binding_of e.1)) scope.now.entries) name.now }
+{
+    match scope.get(name) {
+        Some(binding) => Some(*binding),
+        None => None,
+    }
 }
 
 impl Scopes {
@@ -118,9 +128,11 @@ impl Scopes {
     pub fn find(&self, name: &[u8]) -> Option<Binding>
         ensures { option_map binding_of result ≡ names.found_in (scopes_of self.now) name.now }
     {
-        for scope in self.open.iter().rev() {
-            if let Some(binding) = scope.get(name) {
-                return Some(*binding);
+        let mut left = self.open.len();
+        while left > 0 {
+            left -= 1;
+            if let Some(binding) = meaning(&self.open[left], name) {
+                return Some(binding);
             }
         }
         builtin(name)
@@ -130,8 +142,10 @@ impl Scopes {
     pub fn innermost(&self, name: &[u8]) -> Option<Binding>
         ensures { option_map binding_of result ≡ names.innermost_in (scopes_of self.now) name.now }
     {
-        let scope = self.open.last()?;
-        scope.get(name).copied()
+        match self.open.last() {
+            Some(scope) => meaning(scope, name),
+            None => None,
+        }
     }
 
     /// Refuses a name that is declared in the innermost scope.
@@ -148,7 +162,7 @@ impl Scopes {
     pub fn bind(&mut self, name: &[u8], binding: Binding) -> Result<(), CheckError>
         ensures { (known : Known) → Learns result (scopes_in self.new known) (names.bind name.now (binding_of binding) (scopes_in self.old known)) }
     {
-        let name = name.to_vec(self.alloc)?;
+        let name = copied(self.alloc, name)?;
         if let Some(scope) = self.open.last_mut() {
             scope.insert(name, binding)?;
         }

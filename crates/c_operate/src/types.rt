@@ -1,6 +1,6 @@
 //! The types that a unit has so far.
 
-ghost use Rattle.std.specs.Prelude.{◌≡◌, Ok, [], map, is_some, if◌then◌else◌, slice_get, IfOk};
+ghost use Rattle.std.specs.Prelude.{◌≡◌, Ok, [], map, is_some, if◌then◌else◌, slice_get, IfOk, IfErr, OnOk};
 ghost use Rattle.std.specs.Option.{option_map};
 ghost use Rattle.c_typed.specs.Sound as stated;
 ghost use Rattle.c_typed.specs.Views.{structure_of};
@@ -11,9 +11,10 @@ ghost use Rattle.type_rules.specs.Places.{member_from};
 ghost use Rattle.type_rules.specs.Rows as rows;
 ghost use Rattle.type_rules.specs.Units.{structure_tree};
 ghost use Rattle.c_operate.specs.Answers.{Answers, Learns, kind_of};
-ghost use Rattle.c_operate.specs.Tables.{field_of, progress_of, types_in};
+ghost use Rattle.c_operate.specs.Tables.{field_of, progress_of, shape_of, types_in};
+ghost use Rattle.c_operate.specs.declared.error.CheckError.TheVariants.{NoMemory};
 
-use crate::error::{CheckError, Kind, number};
+use crate::error::{CheckError, Kind, copied, number};
 use c_typed::{Member, Qualified, Structure, Ty};
 use indexmap::{IndexMap, IndexSet};
 use std::alloc::Global;
@@ -41,6 +42,36 @@ pub enum Progress {
     Closed,
 }
 
+fn is_closed(body: Progress) -> bool
+    ensures { result ≡ rows.is_closed (progress_of body) }
+{
+    match body {
+        Progress::Closed => true,
+        Progress::Absent | Progress::Open => false,
+    }
+}
+
+impl Shape {
+    fn add(&mut self, name: Vec<u8>, ty: Qualified, bytes: u64) -> Result<(), CheckError>
+        ensures added { OnOk result (shape_of self.new ≡ rows.with_member name.items ty bytes (shape_of self.old)) }
+        ensures err { IfErr result (λ e. e ≡ NoMemory) }
+    {
+        let offset = self.size;
+        self.fields.insert(name, Field { ty, offset })?;
+        self.size = kept(offset as u128 + bytes as u128);
+        Ok(())
+    }
+}
+
+fn found(fields: &IndexMap<Vec<u8>, Field>, name: &[u8]) -> Option<(usize, Field)>
+    ensures { option_map (λ m. (m.0, field_of m.1)) result ≡ member_from (map (λ e. (e.0.items, field_of e.1)) fields.now.entries) name.now 0 }
+{
+    match fields.get_full(name) {
+        Some((index, _, field)) => Some((index, *field)),
+        None => None,
+    }
+}
+
 /// The types of a unit: what pointers point to and arrays are made of, the structures, and their
 /// tags.
 #[derive(Drop)]
@@ -53,6 +84,28 @@ pub struct Types {
 
 /// The greatest number of bytes that an object has.
 pub const MOST_BYTES: u64 = 65_535;
+
+/// A type without qualifiers.
+pub fn plain(ty: Ty) -> Qualified
+    ensures { result ≡ rows.plain ty }
+{
+    Qualified {
+        ty,
+        constant: false,
+        volatile: false,
+    }
+}
+
+/// A type with the qualifiers of another one.
+pub fn like(whole: Qualified, ty: Ty) -> Qualified
+    ensures { result ≡ rows.like whole ty }
+{
+    Qualified {
+        ty,
+        constant: whole.constant,
+        volatile: whole.volatile,
+    }
+}
 
 // A number of bytes is exact below 2 to the 40. Beyond that only its rest modulo 65,536 is kept, which is what
 // `sizeof` shows of it.
@@ -82,7 +135,8 @@ impl Types {
 
     /// The row of a type that is pointed to.
     fn row(&mut self, target: Qualified) -> Result<u32, CheckError>
-        ensures { (known : Known) → Answers (λ row. row) result (types_in self.new known) (rows.row_of target (types_in self.old known)) }
+        ensures err { IfErr result (λ e. e ≡ NoMemory) }
+        ensures said { (known : Known) → Answers (λ row. row) result (types_in self.new known) (rows.row_of target (types_in self.old known)) }
     {
         let (index, _) = self.targets.insert_full(target)?;
         number(index)
@@ -94,7 +148,7 @@ impl Types {
     {
         match self.targets.get_index(row as usize) {
             Some(target) => *target,
-            None => Qualified::plain(Ty::Void),
+            None => plain(Ty::Void),
         }
     }
 
@@ -102,7 +156,8 @@ impl Types {
     pub fn pointer_to(&mut self, target: Qualified) -> Result<Ty, CheckError>
         ensures { (known : Known) → Answers (λ ty. ty) result (types_in self.new known) (rows.pointer_to target (types_in self.old known)) }
     {
-        Ok(Ty::Pointer(self.row(target)?))
+        let row = self.row(target)?;
+        Ok(Ty::Pointer(row))
     }
 
     /// The array of this many elements, or of a number not known yet, which is 0.
@@ -110,12 +165,15 @@ impl Types {
         ensures { (known : Known) → Answers (λ ty. ty) result (types_in self.new known) (rows.array_of element length (types_in self.old known)) }
     {
         let size = kept(self.bytes_of(element.ty) as u128 * length as u128);
-        let row = self.row(Qualified::plain(element.ty))?;
-        Ok(element.of(Ty::Array {
-            element: row,
-            length,
-            size,
-        }))
+        let row = self.row(plain(element.ty))?;
+        Ok(like(
+            element,
+            Ty::Array {
+                element: row,
+                length,
+                size,
+            },
+        ))
     }
 
     /// How many bytes a value or an object of the type has so far.
@@ -140,7 +198,7 @@ impl Types {
             Ty::Void => false,
             Ty::Int(_) | Ty::Pointer(_) => true,
             Ty::Array { length, .. } => length != 0,
-            Ty::Struct(number) => self.progress(number) == Progress::Closed,
+            Ty::Struct(number) => is_closed(self.progress(number)),
         }
     }
 
@@ -158,16 +216,17 @@ impl Types {
     pub fn second_body(&self, number: u32) -> Kind
         ensures { (known : Known) → kind_of result ≡ (if rows.is_absent (rows.progress_of (types_in self.now known) number) then kind.Declare else kind.Again) }
     {
-        if self.progress(number) == Progress::Absent {
-            Kind::Declare
-        } else {
-            Kind::Again
+        match self.progress(number) {
+            Progress::Absent => Kind::Declare,
+            Progress::Open => Kind::Again,
+            Progress::Closed => Kind::Again,
         }
     }
 
     /// A structure without a body so far.
     fn add_structure(&mut self) -> Result<u32, CheckError>
-        ensures { (known : Known) → Answers (λ number. number) result (types_in self.new known) (rows.new_structure (types_in self.old known)) }
+        ensures err { IfErr result (λ e. e ≡ NoMemory) }
+        ensures said { (known : Known) → Answers (λ number. number) result (types_in self.new known) (rows.new_structure (types_in self.old known)) }
     {
         let index = number(self.shapes.len())?;
         let shape = Shape {
@@ -183,7 +242,10 @@ impl Types {
     pub fn tagged(&self, tag: &[u8]) -> Option<u32>
         ensures { (known : Known) → result ≡ rows.tagged (types_in self.now known) tag.now }
     {
-        self.tags.get(tag).copied()
+        match self.tags.get(tag) {
+            Some(number) => Some(*number),
+            None => None,
+        }
     }
 
     /// A structure without a tag.
@@ -198,7 +260,8 @@ impl Types {
         ensures { (known : Known) → Answers (λ number. number) result (types_in self.new known) (rows.new_tag tag.now (types_in self.old known)) }
     {
         let structure = self.add_structure()?;
-        self.tags.insert(tag.to_vec(self.alloc)?, structure)?;
+        let name = copied(self.alloc, tag)?;
+        self.tags.insert(name, structure)?;
         Ok(structure)
     }
 
@@ -231,11 +294,9 @@ impl Types {
         ensures { (known : Known) → Learns result (types_in self.new known) (rows.add_member number name.now ty (types_in self.old known)) }
     {
         let bytes = self.bytes_of(ty.ty);
-        let name = name.to_vec(self.alloc)?;
+        let name = copied(self.alloc, name)?;
         if let Some(shape) = self.shapes.get_mut(number as usize) {
-            let offset = shape.size;
-            shape.fields.insert(name, Field { ty, offset })?;
-            shape.size = kept(offset as u128 + bytes as u128);
+            shape.add(name, ty, bytes)?;
         }
         Ok(())
     }
@@ -244,9 +305,10 @@ impl Types {
     pub fn member(&self, number: u32, name: &[u8]) -> Option<(usize, Field)>
         ensures { (known : Known) → option_map (λ m. (m.0, field_of m.1)) result ≡ member_from (rows.fields_of (types_in self.now known) number) name.now 0 }
     {
-        let shape = self.shapes.get(number as usize)?;
-        let (index, _, field) = shape.fields.get_full(name)?;
-        Some((index, *field))
+        match self.shapes.get(number as usize) {
+            Some(shape) => found(&shape.fields, name),
+            None => None,
+        }
     }
 
     /// The member of a number.
@@ -259,7 +321,9 @@ impl Types {
     }
 }
 
-fn structure_of(alloc: Global, shape: Shape) -> Result<Structure, CheckError> {
+fn structure_of(alloc: Global, shape: Shape) -> Result<Structure, CheckError>
+    ensures { IfOk result (λ s. structure_of s ≡ structure_tree (shape_of shape)) }
+{
     let mut members = Vec::new(alloc);
     for (name, field) in shape.fields {
         members.push(Member {
