@@ -2,3 +2,4 @@ pub mod Names
 pub mod Rows
 pub mod Scopes
 pub mod Sights
+pub mod Steps
