@@ -3,3 +3,4 @@ pub mod Rows
 pub mod Scopes
 pub mod Sights
 pub mod Steps
+pub mod Operating

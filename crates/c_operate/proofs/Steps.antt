@@ -1,5 +1,5 @@
 -- Rules one behind the other and the calls that answer them: each path of `?`, tests of a node, and what has to be there.
-use Rattle.std.proofs.Common.{◌≡◌, ℕ, Bool, true, false, [], ◌∷◌, Option, Some, None, Result, Ok, Err, refl, sym, ap, subst, ◌∙◌}
+use Rattle.std.proofs.Common.{◌≡◌, ◌×◌, ℕ, Bool, true, false, [], ◌∷◌, Option, Some, None, Result, Ok, Err, refl, sym, ap, subst, ◌∙◌}
 use Rattle.type_rules.specs.Faults as rule
 use Rattle.type_rules.specs.Faults.{Fault, Tests}
 use Rattle.type_rules.specs.Known.{Known, Rule, tried, wanted, go_on, ◌>>=◌}
@@ -89,3 +89,10 @@ then_wanted_some kind line found x second known h = ap (λ o. (wanted kind line 
 
 pub then_wanted_none : {A B : Type 0} (kind : rule.Kind) (line : ℕ) (found : Option A) (second : A → Rule B) (known : Known) → found ≡ None → (wanted kind line found >>= second) known ≡ Err (record { kind = kind; line = line })
 then_wanted_none kind line found second known h = ap (λ o. (wanted kind line o >>= second) known) h
+
+-- ---- memory that ran out
+
+-- Where a rule can't be broken, a call that answers it and is refused ran out of memory.
+pub out_of_memory : {A B : Type 0} (e : CheckError) (x : A × Known) (said : Result (B × Known) Fault) → Refuses e (Ok x) → Refuses e said
+out_of_memory errors.NoMemory x said h = h
+out_of_memory (errors.Kind kind line) x said h = cc

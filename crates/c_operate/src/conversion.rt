@@ -8,7 +8,9 @@ ghost use Rattle.c_operate.specs.Answers.{Answers};
 ghost use Rattle.c_operate.specs.Tables.{types_in};
 ghost use Rattle.c_operate.specs.Terms.{operand_of, side_of};
 
+use crate::build::convert_node;
 use crate::error::{CheckError, Kind, refused};
+use crate::sameness::{is_int, is_pointer, is_void, same_type};
 use crate::term::{Operand, Side};
 use crate::types::Types;
 use c_typed::{Qualified, TExpr, Ty};
@@ -18,16 +20,10 @@ use std::alloc::Global;
 pub fn converted(alloc: Global, operand: Operand, ty: Ty) -> Result<TExpr, CheckError>
     ensures { (known : Known) → Answers expression_of result known (given (rule.converted (operand_of operand) ty) known) }
 {
-    let line = operand.line;
-    let value = operand.value;
-    if value.ty() == ty {
-        return Ok(value);
+    if same_type(operand.value.ty(), ty) {
+        return Ok(operand.value);
     }
-    Ok(TExpr::Convert {
-        operand: Box::new(alloc, value)?,
-        ty,
-        line,
-    })
+    Ok(convert_node(alloc, operand.value, ty, operand.line)?)
 }
 
 // Whether a pointer to the one may become a pointer to the other: they are of one type, or one of them
@@ -35,8 +31,18 @@ pub fn converted(alloc: Global, operand: Operand, ty: Ty) -> Result<TExpr, Check
 fn may_point(from: Qualified, to: Qualified) -> bool
     ensures { result ≡ rule.may_become from to }
 {
-    let same = from.ty == to.ty || from.ty == Ty::Void || to.ty == Ty::Void;
-    same && (!from.constant || to.constant) && (!from.volatile || to.volatile)
+    let same = same_type(from.ty, to.ty) || (is_void(from.ty) || is_void(to.ty));
+    same && ((!from.constant || to.constant) && (!from.volatile || to.volatile))
+}
+
+// Whether a value becomes a pointer to this without a cast.
+fn becomes_pointer(types: &Types, from: Side, to: Qualified) -> bool
+    ensures { (known : Known) → result ≡ rule.becomes_pointer (types_in types.now known) (side_of from) from.ty to }
+{
+    match from.ty {
+        Ty::Pointer(source) => from.null || may_point(types.target(source), to),
+        Ty::Void | Ty::Int(_) | Ty::Array { .. } | Ty::Struct(_) => from.null,
+    }
 }
 
 /// Whether a value may be assigned to an integer or a pointer of the type.
@@ -44,14 +50,9 @@ pub fn is_assignable(types: &Types, from: Side, to: Ty) -> bool
     ensures { (known : Known) → result ≡ rule.may_be_assigned (types_in types.now known) (side_of from) to }
 {
     match to {
-        Ty::Int(_) => from.ty.int().is_some(),
-        Ty::Pointer(target) => match from.ty {
-            Ty::Pointer(source) => {
-                from.null || may_point(types.target(source), types.target(target))
-            }
-            _ => from.null,
-        },
-        _ => false,
+        Ty::Int(_) => is_int(from.ty),
+        Ty::Pointer(target) => becomes_pointer(types, from, types.target(target)),
+        Ty::Void | Ty::Array { .. } | Ty::Struct(_) => false,
     }
 }
 
@@ -78,8 +79,8 @@ pub(crate) fn is_castable(from: Side, to: Ty) -> bool
 {
     match to {
         Ty::Void => true,
-        Ty::Int(_) => from.ty.int().is_some(),
-        Ty::Pointer(_) => from.null || from.ty.target().is_some(),
-        _ => false,
+        Ty::Int(_) => is_int(from.ty),
+        Ty::Pointer(_) => from.null || is_pointer(from.ty),
+        Ty::Array { .. } | Ty::Struct(_) => false,
     }
 }

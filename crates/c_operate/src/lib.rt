@@ -8,6 +8,7 @@
 #![tactic(auto)]
 
 pub mod body;
+mod build;
 pub mod calls;
 pub mod checker;
 pub mod conversion;
@@ -17,6 +18,7 @@ mod operation;
 pub mod operators;
 pub mod places;
 pub mod primary;
+mod sameness;
 pub mod scope;
 pub mod statics;
 pub mod term;

@@ -1,12 +1,14 @@
 //! The types of binary operators (ISO/IEC 9899:1990, 6.3.5 to 6.3.12).
 
-ghost use Rattle.std.specs.Prelude.{◌≡◌, if◌then◌else◌, Some, None};
+ghost use Rattle.std.specs.Prelude.{◌≡◌, ◌&&◌, ◌||◌, not, if◌then◌else◌, Some, None};
 ghost use Rattle.std.specs.Option.{option_map};
+ghost use Rattle.c_typed.specs.declared.types.Ty.TheVariants.{Int, Pointer};
 ghost use Rattle.type_rules.specs.Known.{Known};
 ghost use Rattle.type_rules.specs.Operations as rule;
 ghost use Rattle.c_operate.specs.Tables.{types_in};
 ghost use Rattle.c_operate.specs.Terms.{operation_of, side_of};
 
+use crate::sameness::{is_void, same_type};
 use crate::term::Side;
 use crate::types::Types;
 use c_ints::{BinOp, IntTy, promote, usual};
@@ -14,7 +16,7 @@ use c_token::Punct;
 use c_typed::Ty;
 
 /// Which kind of node an operator becomes.
-#[derive(Clone, Copy, PartialEq, Eq)]
+#[derive(Clone, Copy)]
 pub(crate) enum Node {
     /// On integers, or a comparison.
     Binary,
@@ -61,32 +63,70 @@ fn on_integers(op: BinOp, a: IntTy, b: IntTy) -> Operation
             let both = Ty::Int(usual(a, b));
             plain(both, both, INT)
         }
-        _ => {
+        BinOp::Mul
+        | BinOp::Div
+        | BinOp::Rem
+        | BinOp::Add
+        | BinOp::Sub
+        | BinOp::And
+        | BinOp::Xor
+        | BinOp::Or => {
             let both = Ty::Int(usual(a, b));
             plain(both, both, both)
         }
     }
 }
 
-// The type that an index has: a long one becomes an int.
-fn index_type(ty: IntTy) -> Ty
-    ensures { result ≡ rule.index_type ty }
+// A long index becomes an int, an unsigned long one an unsigned int.
+fn shortened(ty: IntTy) -> IntTy
+    ensures { result ≡ rule.shortened ty }
 {
-    match promote(ty) {
-        IntTy::Long => INT,
-        IntTy::ULong => Ty::Int(IntTy::UInt),
-        other => Ty::Int(other),
+    match ty {
+        IntTy::Long => IntTy::Int,
+        IntTy::ULong => IntTy::UInt,
+        IntTy::Char
+        | IntTy::SChar
+        | IntTy::UChar
+        | IntTy::Short
+        | IntTy::UShort
+        | IntTy::Int
+        | IntTy::UInt => ty,
     }
 }
 
-// How many bytes what a pointer points to has, where it may be moved: void and a structure without a
-// body have none.
-fn element_size(types: &Types, target: u32) -> Option<u64>
-    ensures { (known : Known) → result ≡ (if rule.counts_in (types_in types.now known) target then Some (rule.element_bytes (types_in types.now known) target) else None) }
+// The type that an index has.
+fn index_type(ty: IntTy) -> Ty
+    ensures { result ≡ rule.index_type ty }
 {
-    let ty = types.target(target).ty;
-    if types.is_complete(ty) {
-        Some(types.bytes_of(ty))
+    Ty::Int(shortened(promote(ty)))
+}
+
+/// Whether a pointer may be moved: what it points to is no void and no structure without a body.
+pub(crate) fn counts_in(types: &Types, target: u32) -> bool
+    ensures { (known : Known) → result ≡ rule.counts_in (types_in types.now known) target }
+{
+    types.is_complete(types.target(target).ty)
+}
+
+/// How many bytes what a pointer points to has.
+pub(crate) fn element_bytes(types: &Types, target: u32) -> u64
+    ensures { (known : Known) → result ≡ rule.element_bytes (types_in types.now known) target }
+{
+    types.bytes_of(types.target(target).ty)
+}
+
+// The operation that moves a pointer to this by one of the two sides.
+fn moved(types: &Types, target: u32, left: Ty, right: Ty) -> Option<Operation>
+    ensures { (known : Known) → option_map operation_of result ≡ rule.moved (types_in types.now known) target left right }
+{
+    if counts_in(types, target) {
+        Some(Operation {
+            node: Node::Offset,
+            left,
+            right,
+            ty: Ty::Pointer(target),
+            size: element_bytes(types, target),
+        })
     } else {
         None
     }
@@ -95,72 +135,136 @@ fn element_size(types: &Types, target: u32) -> Option<u64>
 fn pointer_and_integer(types: &Types, op: BinOp, target: u32, b: IntTy) -> Option<Operation>
     ensures { (known : Known) → option_map operation_of result ≡ rule.pointer_and_integer (types_in types.now known) op target b }
 {
-    if op != BinOp::Add && op != BinOp::Sub {
-        return None;
+    match op {
+        BinOp::Add | BinOp::Sub => moved(types, target, Ty::Pointer(target), index_type(b)),
+        BinOp::Mul
+        | BinOp::Div
+        | BinOp::Rem
+        | BinOp::Shl
+        | BinOp::Shr
+        | BinOp::Lt
+        | BinOp::Gt
+        | BinOp::Le
+        | BinOp::Ge
+        | BinOp::Eq
+        | BinOp::Ne
+        | BinOp::And
+        | BinOp::Xor
+        | BinOp::Or => None,
     }
-    let size = element_size(types, target)?;
-    Some(Operation {
-        node: Node::Offset,
-        left: Ty::Pointer(target),
-        right: index_type(b),
-        ty: Ty::Pointer(target),
-        size,
-    })
 }
 
 fn integer_and_pointer(types: &Types, op: BinOp, a: IntTy, target: u32) -> Option<Operation>
     ensures { (known : Known) → option_map operation_of result ≡ rule.integer_and_pointer (types_in types.now known) op a target }
 {
-    if op != BinOp::Add {
-        return None;
+    match op {
+        BinOp::Add => moved(types, target, index_type(a), Ty::Pointer(target)),
+        BinOp::Mul
+        | BinOp::Div
+        | BinOp::Rem
+        | BinOp::Sub
+        | BinOp::Shl
+        | BinOp::Shr
+        | BinOp::Lt
+        | BinOp::Gt
+        | BinOp::Le
+        | BinOp::Ge
+        | BinOp::Eq
+        | BinOp::Ne
+        | BinOp::And
+        | BinOp::Xor
+        | BinOp::Or => None,
     }
-    let size = element_size(types, target)?;
-    Some(Operation {
-        node: Node::Offset,
-        left: index_type(a),
-        right: Ty::Pointer(target),
-        ty: Ty::Pointer(target),
-        size,
-    })
+}
+
+// Whether two pointers point to one type, qualifiers aside.
+fn point_alike(types: &Types, a: u32, b: u32) -> bool
+    ensures { (known : Known) → result ≡ rule.point_alike (types_in types.now known) a b }
+{
+    same_type(types.target(a).ty, types.target(b).ty)
 }
 
 fn difference(types: &Types, a: u32, b: u32) -> Option<Operation>
     ensures { (known : Known) → option_map operation_of result ≡ rule.difference (types_in types.now known) a b }
 {
-    if types.target(a).ty != types.target(b).ty {
+    if !point_alike(types, a, b) {
         return None;
     }
-    let size = element_size(types, a)?;
+    if !counts_in(types, a) {
+        return None;
+    }
     Some(Operation {
         node: Node::Difference,
         left: Ty::Pointer(a),
         right: Ty::Pointer(b),
         ty: INT,
-        size,
+        size: element_bytes(types, a),
     })
 }
 
-// Two pointers that are compared. A side that isn't void, or a null constant, takes the other's type.
-fn equality(types: &Types, a: u32, a_null: bool, b: u32, b_null: bool) -> Option<Operation>
-    ensures { (known : Known) → option_map operation_of result ≡ rule.equality (types_in types.now known) a a_null b b_null }
+fn points_to_void(types: &Types, target: u32) -> bool
+    ensures { (known : Known) → result ≡ rule.points_to_void (types_in types.now known) target }
 {
-    let left = types.target(a).ty;
-    let right = types.target(b).ty;
-    if left == right {
-        Some(plain(Ty::Pointer(a), Ty::Pointer(b), INT))
-    } else if left == Ty::Void || (b_null && right != Ty::Void) {
-        Some(plain(Ty::Pointer(a), Ty::Pointer(a), INT))
-    } else if right == Ty::Void || a_null {
-        Some(plain(Ty::Pointer(b), Ty::Pointer(b), INT))
+    is_void(types.target(target).ty)
+}
+
+// Two pointers that are compared, by whether they point to one type and which of them points to void. A side that isn't
+// void, or a null constant, takes the other's type.
+fn equality_by(alike: bool, a: (u32, bool, bool), b: (u32, bool, bool)) -> Option<Operation>
+    ensures { option_map operation_of result ≡ (if alike then Some (rule.on_one (Pointer a.0) (Pointer b.0) rule.plain_int) else if a.2 || (b.1 && not b.2) then Some (rule.on_one (Pointer a.0) (Pointer a.0) rule.plain_int) else if b.2 || a.1 then Some (rule.on_one (Pointer b.0) (Pointer b.0) rule.plain_int) else None) }
+{
+    if alike {
+        Some(plain(Ty::Pointer(a.0), Ty::Pointer(b.0), INT))
+    } else if a.2 || (b.1 && !b.2) {
+        Some(plain(Ty::Pointer(a.0), Ty::Pointer(a.0), INT))
+    } else if b.2 || a.1 {
+        Some(plain(Ty::Pointer(b.0), Ty::Pointer(b.0), INT))
     } else {
         None
     }
 }
 
+// Two pointers that are compared: their rows, and whether they are null constants.
+fn equality(types: &Types, a: u32, a_null: bool, b: u32, b_null: bool) -> Option<Operation>
+    ensures { (known : Known) → option_map operation_of result ≡ rule.equality (types_in types.now known) a a_null b b_null }
+{
+    let alike = point_alike(types, a, b);
+    let left_void = points_to_void(types, a);
+    let right_void = points_to_void(types, b);
+    equality_by(alike, (a, a_null, left_void), (b, b_null, right_void))
+}
+
 fn is_equality(op: BinOp) -> bool
     ensures { result ≡ rule.equates op }
 {
-    op == BinOp::Eq || op == BinOp::Ne
+    match op {
+        BinOp::Eq | BinOp::Ne => true,
+        BinOp::Mul
+        | BinOp::Div
+        | BinOp::Rem
+        | BinOp::Add
+        | BinOp::Sub
+        | BinOp::Shl
+        | BinOp::Shr
+        | BinOp::Lt
+        | BinOp::Gt
+        | BinOp::Le
+        | BinOp::Ge
+        | BinOp::And
+        | BinOp::Xor
+        | BinOp::Or => false,
+    }
+}
+
+// Two pointers that are compared, and that have to point to one type.
+fn ordered(types: &Types, a: u32, b: u32) -> Option<Operation>
+    ensures { (known : Known) → option_map operation_of result ≡ (if rule.point_alike (types_in types.now known) a b then Some (rule.on_one (Pointer a) (Pointer b) rule.plain_int) else None) }
+{
+    if point_alike(types, a, b) {
+        Some(plain(Ty::Pointer(a), Ty::Pointer(b), INT))
+    } else {
+        None
+    }
 }
 
 fn on_pointers(types: &Types, op: BinOp, a: u32, b: u32) -> Option<Operation>
@@ -168,14 +272,56 @@ fn on_pointers(types: &Types, op: BinOp, a: u32, b: u32) -> Option<Operation>
 {
     match op {
         BinOp::Sub => difference(types, a, b),
-        BinOp::Lt | BinOp::Gt | BinOp::Le | BinOp::Ge => {
-            if types.target(a).ty == types.target(b).ty {
-                Some(plain(Ty::Pointer(a), Ty::Pointer(b), INT))
+        BinOp::Lt | BinOp::Gt | BinOp::Le | BinOp::Ge | BinOp::Eq | BinOp::Ne => {
+            ordered(types, a, b)
+        }
+        BinOp::Mul
+        | BinOp::Div
+        | BinOp::Rem
+        | BinOp::Add
+        | BinOp::Shl
+        | BinOp::Shr
+        | BinOp::And
+        | BinOp::Xor
+        | BinOp::Or => None,
+    }
+}
+
+fn beside_integer(types: &Types, op: BinOp, a: IntTy, a_null: bool, right: Side) -> Option<Operation>
+    ensures { (known : Known) → option_map operation_of result ≡ rule.operation_on (types_in types.now known) op a_null right.null (Int a) right.ty }
+{
+    match right.ty {
+        Ty::Int(b) => Some(on_integers(op, a, b)),
+        Ty::Pointer(b) => {
+            if is_equality(op) && a_null {
+                Some(plain(Ty::Pointer(b), Ty::Pointer(b), INT))
             } else {
-                None
+                integer_and_pointer(types, op, a, b)
             }
         }
-        _ => None,
+        Ty::Void | Ty::Array { .. } | Ty::Struct(_) => None,
+    }
+}
+
+fn beside_pointer(types: &Types, op: BinOp, a: u32, a_null: bool, right: Side) -> Option<Operation>
+    ensures { (known : Known) → option_map operation_of result ≡ rule.operation_on (types_in types.now known) op a_null right.null (Pointer a) right.ty }
+{
+    match right.ty {
+        Ty::Int(b) => {
+            if is_equality(op) && right.null {
+                Some(plain(Ty::Pointer(a), Ty::Pointer(a), INT))
+            } else {
+                pointer_and_integer(types, op, a, b)
+            }
+        }
+        Ty::Pointer(b) => {
+            if is_equality(op) {
+                equality(types, a, a_null, b, right.null)
+            } else {
+                on_pointers(types, op, a, b)
+            }
+        }
+        Ty::Void | Ty::Array { .. } | Ty::Struct(_) => None,
     }
 }
 
@@ -184,35 +330,9 @@ pub(crate) fn operation_of(types: &Types, op: BinOp, left: Side, right: Side) ->
     ensures { (known : Known) → option_map operation_of result ≡ rule.operation_of (types_in types.now known) op (side_of left) (side_of right) }
 {
     match left.ty {
-        Ty::Int(a) => match right.ty {
-            Ty::Int(b) => Some(on_integers(op, a, b)),
-            Ty::Pointer(b) => {
-                if is_equality(op) && left.null {
-                    Some(plain(right.ty, right.ty, INT))
-                } else {
-                    integer_and_pointer(types, op, a, b)
-                }
-            }
-            _ => None,
-        },
-        Ty::Pointer(a) => match right.ty {
-            Ty::Int(b) => {
-                if is_equality(op) && right.null {
-                    Some(plain(left.ty, left.ty, INT))
-                } else {
-                    pointer_and_integer(types, op, a, b)
-                }
-            }
-            Ty::Pointer(b) => {
-                if is_equality(op) {
-                    equality(types, a, left.null, b, right.null)
-                } else {
-                    on_pointers(types, op, a, b)
-                }
-            }
-            _ => None,
-        },
-        _ => None,
+        Ty::Int(a) => beside_integer(types, op, a, left.null, right),
+        Ty::Pointer(a) => beside_pointer(types, op, a, left.null, right),
+        Ty::Void | Ty::Array { .. } | Ty::Struct(_) => None,
     }
 }
 
@@ -237,7 +357,36 @@ pub(crate) fn binary_operator(punct: Punct) -> Option<BinOp>
         Punct::Ampersand => Some(BinOp::And),
         Punct::Caret => Some(BinOp::Xor),
         Punct::Bar => Some(BinOp::Or),
-        _ => None,
+        Punct::LeftBracket
+        | Punct::RightBracket
+        | Punct::LeftParenthesis
+        | Punct::RightParenthesis
+        | Punct::LeftBrace
+        | Punct::RightBrace
+        | Punct::Dot
+        | Punct::Arrow
+        | Punct::Increment
+        | Punct::Decrement
+        | Punct::Tilde
+        | Punct::Not
+        | Punct::And
+        | Punct::Or
+        | Punct::Question
+        | Punct::Colon
+        | Punct::Semicolon
+        | Punct::Assign
+        | Punct::StarAssign
+        | Punct::SlashAssign
+        | Punct::PercentAssign
+        | Punct::PlusAssign
+        | Punct::MinusAssign
+        | Punct::ShiftLeftAssign
+        | Punct::ShiftRightAssign
+        | Punct::AmpersandAssign
+        | Punct::CaretAssign
+        | Punct::BarAssign
+        | Punct::Comma
+        | Punct::Hash => None,
     }
 }
 
@@ -256,6 +405,41 @@ pub(crate) fn compound_operator(punct: Punct) -> Option<BinOp>
         Punct::AmpersandAssign => Some(BinOp::And),
         Punct::CaretAssign => Some(BinOp::Xor),
         Punct::BarAssign => Some(BinOp::Or),
-        _ => None,
+        Punct::LeftBracket
+        | Punct::RightBracket
+        | Punct::LeftParenthesis
+        | Punct::RightParenthesis
+        | Punct::LeftBrace
+        | Punct::RightBrace
+        | Punct::Dot
+        | Punct::Arrow
+        | Punct::Increment
+        | Punct::Decrement
+        | Punct::Ampersand
+        | Punct::Star
+        | Punct::Plus
+        | Punct::Minus
+        | Punct::Tilde
+        | Punct::Not
+        | Punct::Slash
+        | Punct::Percent
+        | Punct::ShiftLeft
+        | Punct::ShiftRight
+        | Punct::Less
+        | Punct::Greater
+        | Punct::LessEqual
+        | Punct::GreaterEqual
+        | Punct::Equal
+        | Punct::NotEqual
+        | Punct::Caret
+        | Punct::Bar
+        | Punct::And
+        | Punct::Or
+        | Punct::Question
+        | Punct::Colon
+        | Punct::Semicolon
+        | Punct::Assign
+        | Punct::Comma
+        | Punct::Hash => None,
     }
 }

@@ -1,25 +1,50 @@
 //! Operators whose operands are checked already (ISO/IEC 9899:1990, 6.3.3 to 6.3.17).
 
-ghost use Rattle.std.specs.Prelude.{◌≡◌};
+ghost use Rattle.std.specs.Prelude.{◌≡◌, IfOk};
 ghost use Rattle.std.specs.Option.{option_map};
 ghost use Rattle.c_token.specs.declared.token.TokKind.TheVariants as kinds;
-ghost use Rattle.type_rules.specs.Known.{Known};
+ghost use Rattle.c_typed.specs.Trees as typed;
+ghost use Rattle.c_typed.specs.Views.{expression_of};
+ghost use Rattle.type_rules.specs.Conversions.{converted as rule_converted};
+ghost use Rattle.type_rules.specs.Known.{Known, given};
 ghost use Rattle.type_rules.specs.Operators as rule;
-ghost use Rattle.type_rules.specs.Terms.{first_into, side_of};
-ghost use Rattle.c_typed.specs.Types.{type_of};
+ghost use Rattle.type_rules.specs.Terms.{value_term};
 ghost use Rattle.c_operate.specs.Answers.{Answers};
 ghost use Rattle.c_operate.specs.Tables.{types_in};
-ghost use Rattle.c_operate.specs.Terms.{node_of, operand_of, reach_moved, reach_of, term_of};
+ghost use Rattle.c_operate.specs.Terms.{node_of, operation_of, operand_of, reach_moved, reach_of, side_of as shown_side, term_of};
 
+use crate::build::{
+    binary_node, cast_node, comma_node, conditional_node, difference_node, logical_node,
+    offset_node, unary_node,
+};
 use crate::conversion::{converted, is_assignable, is_castable};
 use crate::error::{CheckError, Kind, refused};
-use crate::operation::{Node, binary_operator, operation_of};
-use crate::term::{Operand, Reach, Term, first_reach, value_term};
+use crate::operation::{Node, Operation, binary_operator, operation_of};
+use crate::sameness::{is_pointer, is_scalar, same_type};
+use crate::term::{Form, Operand, Reach, Side, Term, first_reach, value_term};
 use crate::types::Types;
 use c_ints::{BinOp, IntTy, UnOp, promote, usual};
 use c_token::Punct;
 use c_typed::{LogicalOp, Qualified, TExpr, Ty};
-use std::alloc::Global;
+use std::alloc::{AllocError, Global};
+
+// The node of an operator on these two values.
+fn binary_value(
+    alloc: Global,
+    op: BinOp,
+    left: TExpr,
+    right: TExpr,
+    found: Operation,
+    line: u32,
+) -> Result<TExpr, AllocError>
+    ensures { IfOk result (λ e. expression_of e ≡ rule.binary_value (node_of found.node) op (expression_of left) (expression_of right) (operation_of found) line) }
+{
+    match found.node {
+        Node::Binary => binary_node(alloc, op, left, right, found.ty, line),
+        Node::Offset => offset_node(alloc, op, left, right, found.size, found.ty, line),
+        Node::Difference => difference_node(alloc, left, right, found.size, line),
+    }
+}
 
 fn binary(
     alloc: Global,
@@ -34,37 +59,17 @@ fn binary(
     let Some(found) = operation_of(types, op, left.side(), right.side()) else {
         return refused(Kind::Operand, line);
     };
-    let reach = first_reach(left.reach, right.reach);
-    let left = Box::new(alloc, converted(alloc, left, found.left)?)?;
-    let right = Box::new(alloc, converted(alloc, right, found.right)?)?;
-    let size = found.size;
-    let ty = found.ty;
-    let value = match found.node {
-        Node::Binary => TExpr::Binary {
-            op,
-            left,
-            right,
-            ty,
-            line,
-        },
-        Node::Offset => TExpr::Offset {
-            op,
-            left,
-            right,
-            size,
-            ty,
-            line,
-        },
-        Node::Difference => TExpr::Difference {
-            left,
-            right,
-            size,
-            line,
-        },
-    };
-    let mut term = value_term(value, line);
-    term.reach = reach_behind(found.node, reach);
-    Ok(term)
+    let reach = reach_behind(found.node, first_reach(left.reach, right.reach));
+    let left = converted(alloc, left, found.left)?;
+    let right = converted(alloc, right, found.right)?;
+    let value = binary_value(alloc, op, left, right, found, line)?;
+    Ok(Term {
+        form: Form::Value(value),
+        null: false,
+        line,
+        start: line,
+        reach,
+    })
 }
 
 // A pointer into an array that is moved still points into that array.
@@ -73,28 +78,18 @@ fn reach_behind(node: Node, reach: Option<Reach>) -> Option<Reach>
 {
     match node {
         Node::Offset => reach,
-        _ => None,
+        Node::Binary | Node::Difference => None,
     }
 }
 
-fn logical(
-    alloc: Global,
-    op: LogicalOp,
-    left: Operand,
-    right: Operand,
-) -> Result<Term, CheckError>
+fn logical(alloc: Global, op: LogicalOp, left: Operand, right: Operand) -> Result<Term, CheckError>
     ensures { (known : Known) → Answers term_of result known (rule.logical op (operand_of left) (operand_of right) known) }
 {
     let line = left.start;
-    if !left.value.ty().is_scalar() || !right.value.ty().is_scalar() {
+    if !(is_scalar(left.value.ty()) && is_scalar(right.value.ty())) {
         return refused(Kind::Operand, line);
     }
-    let value = TExpr::Logical {
-        op,
-        left: Box::new(alloc, left.value)?,
-        right: Box::new(alloc, right.value)?,
-        line,
-    };
+    let value = logical_node(alloc, op, left.value, right.value, line)?;
     Ok(value_term(value, line))
 }
 
@@ -125,38 +120,54 @@ pub fn sequenced(alloc: Global, left: Operand, right: Operand) -> Result<Term, C
 {
     let line = left.start;
     let ty = right.value.ty();
-    let value = TExpr::Comma {
-        left: Box::new(alloc, left.value)?,
-        right: Box::new(alloc, right.value)?,
-        ty,
-        line,
-    };
+    let value = comma_node(alloc, left.value, right.value, ty, line)?;
     Ok(value_term(value, line))
 }
 
-// The type of a choice between two operands.
-fn chosen_type(types: &Types, then: &Operand, otherwise: &Operand) -> Option<Ty>
-    ensures { (known : Known) → result ≡ rule.choice_type (types_in types.now known) (side_of (operand_of then.now)) (side_of (operand_of otherwise.now)) (type_of (operand_of then.now).value) (type_of (operand_of otherwise.now).value) }
+// The type of a choice between a pointer and something else behind the colon.
+fn pointer_choice(types: &Types, ty: Ty, first: Side, second: Side) -> Option<Ty>
+    ensures { (known : Known) → result ≡ rule.pointer_choice (types_in types.now known) ty (shown_side first) (shown_side second) }
 {
-    let a = then.value.ty();
-    let b = otherwise.value.ty();
-    match a {
-        Ty::Int(x) => match b {
+    if same_type(ty, second.ty) || (second.null && is_assignable(types, second, ty)) {
+        Some(ty)
+    } else if first.null {
+        if_pointer(second.ty)
+    } else {
+        None
+    }
+}
+
+fn if_pointer(ty: Ty) -> Option<Ty>
+    ensures { result ≡ rule.if_pointer ty }
+{
+    match ty {
+        Ty::Pointer(target) => Some(Ty::Pointer(target)),
+        Ty::Void | Ty::Int(_) | Ty::Array { .. } | Ty::Struct(_) => None,
+    }
+}
+
+// The type of a choice between two operands.
+fn chosen_type(types: &Types, first: Side, second: Side) -> Option<Ty>
+    ensures { (known : Known) → result ≡ rule.choice_type (types_in types.now known) (shown_side first) (shown_side second) first.ty second.ty }
+{
+    match first.ty {
+        Ty::Int(x) => match second.ty {
             Ty::Int(y) => Some(Ty::Int(usual(x, y))),
-            Ty::Pointer(_) if then.null => Some(b),
-            _ => None,
-        },
-        Ty::Pointer(_) => {
-            if a == b || (otherwise.null && is_assignable(types, otherwise.side(), a)) {
-                Some(a)
-            } else if then.null && b.target().is_some() {
-                Some(b)
-            } else {
-                None
+            Ty::Pointer(target) => {
+                if first.null {
+                    Some(Ty::Pointer(target))
+                } else {
+                    None
+                }
             }
-        }
-        Ty::Void if b == Ty::Void => Some(a),
-        _ => None,
+            Ty::Void | Ty::Array { .. } | Ty::Struct(_) => None,
+        },
+        Ty::Pointer(target) => pointer_choice(types, Ty::Pointer(target), first, second),
+        Ty::Void => match second.ty {
+            Ty::Void => Some(Ty::Void),
+            Ty::Int(_) | Ty::Pointer(_) | Ty::Array { .. } | Ty::Struct(_) => None,
+        },
+        Ty::Array { .. } | Ty::Struct(_) => None,
     }
 }
 
@@ -165,27 +176,21 @@ pub fn chosen(
     alloc: Global,
     types: &Types,
     condition: Operand,
-    then: Operand,
-    otherwise: Operand,
+    first: Operand,
+    second: Operand,
 ) -> Result<Term, CheckError>
-    ensures { (known : Known) → Answers term_of result (types_in types.now known) (rule.choice (operand_of condition) (operand_of then) (operand_of otherwise) (types_in types.now known)) }
+    ensures { (known : Known) → Answers term_of result (types_in types.now known) (rule.choice (operand_of condition) (operand_of first) (operand_of second) (types_in types.now known)) }
 {
     let line = condition.start;
-    if !condition.value.ty().is_scalar() {
+    if !is_scalar(condition.value.ty()) {
         return refused(Kind::Operand, line);
     }
-    let Some(ty) = chosen_type(types, &then, &otherwise) else {
+    let Some(ty) = chosen_type(types, first.side(), second.side()) else {
         return refused(Kind::Operand, line);
     };
-    let then = converted(alloc, then, ty)?;
-    let otherwise = converted(alloc, otherwise, ty)?;
-    let value = TExpr::Conditional {
-        condition: Box::new(alloc, condition.value)?,
-        then: Box::new(alloc, then)?,
-        otherwise: Box::new(alloc, otherwise)?,
-        ty,
-        line,
-    };
+    let first = converted(alloc, first, ty)?;
+    let second = converted(alloc, second, ty)?;
+    let value = conditional_node(alloc, condition.value, first, second, ty, line)?;
     Ok(value_term(value, line))
 }
 
@@ -202,37 +207,41 @@ pub fn cast_to(
     if !is_castable(operand.side(), ty) {
         return refused(Kind::Operand, line);
     }
-    let null = operand.null && ty.target().is_some();
-    let value = TExpr::Cast {
-        operand: Box::new(alloc, operand.value)?,
-        ty,
+    let null = operand.null && is_pointer(ty);
+    let value = cast_node(alloc, operand.value, ty, line)?;
+    Ok(Term {
+        form: Form::Value(value),
+        null,
         line,
-    };
-    let mut term = value_term(value, line);
-    term.null = null;
-    Ok(term)
+        start: line,
+        reach: None,
+    })
 }
 
 /// `+ - ~` of an integer.
-pub fn arithmetic(
+pub fn arithmetic(alloc: Global, op: UnOp, operand: Operand, line: u32) -> Result<Term, CheckError>
+    ensures { (known : Known) → Answers term_of result known (rule.arithmetic op (operand_of operand) line known) }
+{
+    match operand.value.ty() {
+        Ty::Int(ty) => promoted_unary(alloc, op, operand, Ty::Int(promote(ty)), line),
+        Ty::Void | Ty::Pointer(_) | Ty::Array { .. } | Ty::Struct(_) => {
+            refused(Kind::Operand, line)
+        }
+    }
+}
+
+// An operator on the value in this type.
+fn promoted_unary(
     alloc: Global,
     op: UnOp,
     operand: Operand,
+    ty: Ty,
     line: u32,
 ) -> Result<Term, CheckError>
-    ensures { (known : Known) → Answers term_of result known (rule.arithmetic op (operand_of operand) line known) }
+    ensures { (known : Known) → Answers term_of result known (given (value_term (typed.Unary op (rule_converted (operand_of operand) ty) ty line) line) known) }
 {
-    let Ty::Int(ty) = operand.value.ty() else {
-        return refused(Kind::Operand, line);
-    };
-    let ty = Ty::Int(promote(ty));
     let value = converted(alloc, operand, ty)?;
-    let value = TExpr::Unary {
-        op,
-        operand: Box::new(alloc, value)?,
-        ty,
-        line,
-    };
+    let value = unary_node(alloc, op, value, ty, line)?;
     Ok(value_term(value, line))
 }
 
@@ -240,14 +249,9 @@ pub fn arithmetic(
 pub fn negation(alloc: Global, operand: Operand, line: u32) -> Result<Term, CheckError>
     ensures { (known : Known) → Answers term_of result known (rule.negation (operand_of operand) line known) }
 {
-    if !operand.value.ty().is_scalar() {
+    if !is_scalar(operand.value.ty()) {
         return refused(Kind::Operand, line);
     }
-    let value = TExpr::Unary {
-        op: UnOp::Bang,
-        operand: Box::new(alloc, operand.value)?,
-        ty: Ty::Int(IntTy::Int),
-        line,
-    };
+    let value = unary_node(alloc, UnOp::Bang, operand.value, Ty::Int(IntTy::Int), line)?;
     Ok(value_term(value, line))
 }

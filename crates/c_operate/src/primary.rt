@@ -4,26 +4,24 @@ ghost use Rattle.std.specs.Prelude.{◌≡◌, Ok};
 ghost use Rattle.c_tree.specs.Words.{spell_constant};
 ghost use Rattle.type_rules.specs.Expressions as rule;
 ghost use Rattle.type_rules.specs.Known.{Known};
+ghost use Rattle.type_rules.specs.Terms.{number_of_type};
 ghost use Rattle.c_operate.specs.Answers.{Answers};
-ghost use Rattle.c_operate.specs.Tables.{scopes_in};
-ghost use Rattle.c_operate.specs.Terms.{term_of};
+ghost use Rattle.c_operate.specs.Tables.{binding_of, scopes_in};
+ghost use Rattle.c_operate.specs.Terms.{form_of, term_of};
 
 use crate::error::{CheckError, Kind, refused};
 use crate::scope::{Binding, Scopes};
-use crate::term::{Form, Lvalue, Term, constant, lvalue_term, value_term};
+use crate::term::{Form, Lvalue, Term, constant, lvalue_term};
 use c_ints::IntTy;
 use c_tree::word::{Constant, Name};
 use c_typed::TPlace;
 
-/// A name as an expression.
-pub fn named(scopes: &Scopes, name: &Name) -> Result<Term, CheckError>
-    ensures { (known : Known) → Answers term_of result (scopes_in scopes.now known) (rule.name_rule name.now.bytes.items name.now.line (scopes_in scopes.now known)) }
+// What a name that stands for this is at this line.
+#[tactic(auto, using(c_typed::proofs::Shapes::show_place_name, c_typed::proofs::Shapes::show_place_bit))]
+fn bound(binding: Binding, line: u32) -> Term
+    ensures { term_of result ≡ rule.named_term (binding_of binding) line }
 {
-    let line = name.line;
-    let Some(binding) = scopes.find(&name.bytes) else {
-        return refused(Kind::Name, line);
-    };
-    let term = match binding {
+    match binding {
         Binding::Object { object, ty, fixed } => {
             let place = Lvalue {
                 place: TPlace::Name { object, ty, line },
@@ -51,8 +49,17 @@ pub fn named(scopes: &Scopes, name: &Name) -> Result<Term, CheckError>
             start: line,
             reach: None,
         },
-    };
-    Ok(term)
+    }
+}
+
+/// A name as an expression.
+pub fn named(scopes: &Scopes, name: &Name) -> Result<Term, CheckError>
+    ensures { (known : Known) → Answers term_of result (scopes_in scopes.now known) (rule.name_rule name.now.bytes.items name.now.line (scopes_in scopes.now known)) }
+{
+    match scopes.find(&name.bytes) {
+        Some(binding) => Ok(bound(binding, name.line)),
+        None => refused(Kind::Name, name.line),
+    }
 }
 
 /// A constant as an expression.
@@ -68,15 +75,35 @@ pub fn constant_term(token: Constant) -> Term
             line,
         } => {
             let ty = c_ints::constant(value, base, unsigned_suffix, long_suffix);
-            let mut term = value_term(constant(ty, value, line), line);
-            term.null = value == 0;
-            term
+            number_term(ty, value, line)
         }
-        Constant::Char { value, line } => {
-            let mut term = value_term(constant(IntTy::Int, value as u32, line), line);
-            term.null = value == 0;
-            term
-        }
+        Constant::Char { value, line } => number_term(IntTy::Int, value as u32, line),
+    }
+}
+
+// A number of a type. The constant 0 is a null constant.
+fn number_term(ty: IntTy, value: u32, line: u32) -> Term
+    ensures { term_of result ≡ rule.constant_term (number_of_type ty value line) value line }
+{
+    Term {
+        form: Form::Value(constant(ty, value, line)),
+        null: value == 0,
+        line,
+        start: line,
+        reach: None,
+    }
+}
+
+fn bracketed_form(form: Form) -> Form
+    ensures { form_of result ≡ rule.bracketed_form (form_of form) }
+{
+    match form {
+        Form::Value(value) => Form::Value(value),
+        Form::Lvalue(place) => Form::Lvalue(place),
+        Form::Function { number, .. } => Form::Function {
+            number,
+            bare: false,
+        },
     }
 }
 
@@ -84,25 +111,11 @@ pub fn constant_term(token: Constant) -> Term
 pub fn grouped(term: Term, opening: u32) -> Term
     ensures { term_of result ≡ rule.bracketed (term_of term) opening }
 {
-    let Term {
-        form,
-        null,
-        line,
-        reach,
-        ..
-    } = term;
-    let form = match form {
-        Form::Function { number, .. } => Form::Function {
-            number,
-            bare: false,
-        },
-        other => other,
-    };
     Term {
-        form,
-        null,
-        line,
+        form: bracketed_form(term.form),
+        null: term.null,
+        line: term.line,
         start: opening,
-        reach,
+        reach: term.reach,
     }
 }

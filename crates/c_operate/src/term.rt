@@ -6,14 +6,17 @@ ghost use Rattle.c_typed.specs.Types.{place_type};
 ghost use Rattle.c_typed.specs.Views.{expression_of, place_of};
 ghost use Rattle.type_rules.specs.Faults as kind;
 ghost use Rattle.type_rules.specs.Known.{Known, wanted};
+ghost use Rattle.type_rules.specs.Rows as rows;
 ghost use Rattle.type_rules.specs.Terms as rule;
 ghost use Rattle.type_rules.specs.Writes.{structure_read, written_place};
 ghost use Rattle.c_operate.specs.Answers.{Answers, Learns};
 ghost use Rattle.c_operate.specs.Tables.{known_of, types_in};
 ghost use Rattle.c_operate.specs.Terms.{form_of, lvalue_reach, operand_of, place_in, reach_of, side_of, term_of};
 
+use crate::build::{address_node, read_node};
 use crate::checker::Checker;
 use crate::error::{CheckError, Kind, refused};
+use crate::sameness::is_array;
 use crate::types::Types;
 use c_ints::{IntTy, Value};
 use c_typed::{Qualified, TExpr, TPlace, Ty};
@@ -50,7 +53,7 @@ impl Lvalue {
         ensures { result ≡ rule.is_table (place_of self.now.place) (lvalue_reach self.now) }
     {
         let ty = self.ty();
-        ty.ty.is_array() && ty.constant && !self.through
+        is_array(ty.ty) && (ty.constant && !self.through)
     }
 }
 
@@ -139,12 +142,24 @@ pub(crate) fn lvalue_term(place: Lvalue, line: u32) -> Term
 }
 
 /// The value of the constant 0 or 1, or of a size.
+#[tactic(auto, using(c_typed::proofs::Shapes::show_expression_constant))]
 pub(crate) fn constant(ty: IntTy, bits: u32, line: u32) -> TExpr
     ensures { expression_of result ≡ rule.number_of_type ty bits line }
 {
     TExpr::Constant {
         value: Value::new(ty, bits),
         line,
+    }
+}
+
+/// The type with the qualifiers of another one.
+pub(crate) fn like(whole: Qualified, ty: Ty) -> Qualified
+    ensures { result ≡ rows.like whole ty }
+{
+    Qualified {
+        ty,
+        constant: whole.constant,
+        volatile: whole.volatile,
     }
 }
 
@@ -158,13 +173,9 @@ pub(crate) fn array_start(
 ) -> Result<TExpr, CheckError>
     ensures { (known : Known) → Answers expression_of result (types_in types.new known) (rule.array_start (place_of place) element line (types_in types.old known)) }
 {
-    let target = place.ty().of(types.target(element).ty);
+    let target = like(place.ty(), types.target(element).ty);
     let ty = types.pointer_to(target)?;
-    Ok(TExpr::Address {
-        place: Box::new(alloc, place)?,
-        ty,
-        line,
-    })
+    Ok(address_node(alloc, place, ty, line)?)
 }
 
 /// The value of a place at this line: an array is the pointer to its first element.
@@ -176,13 +187,12 @@ pub(crate) fn value_at(
 ) -> Result<TExpr, CheckError>
     ensures { (known : Known) → Answers expression_of result (types_in types.new known) (rule.value_at (place_of place) (place_type (place_of place)).ty line (types_in types.old known)) }
 {
-    match place.ty().ty {
+    let ty = place.ty().ty;
+    match ty {
         Ty::Array { element, .. } => array_start(alloc, types, place, element, line),
-        ty => Ok(TExpr::Read {
-            place: Box::new(alloc, place)?,
-            ty,
-            line,
-        }),
+        Ty::Void | Ty::Int(_) | Ty::Pointer(_) | Ty::Struct(_) => {
+            Ok(read_node(alloc, place, ty, line)?)
+        }
     }
 }
 
@@ -190,13 +200,12 @@ pub(crate) fn value_at(
 pub(crate) fn reach_of(place: &Lvalue) -> Option<Reach>
     ensures { option_map reach_of result ≡ rule.in_place (place_of place.now.place) (lvalue_reach place.now) }
 {
-    if place.ty().ty.is_array() {
-        Some(Reach {
+    match place.ty().ty {
+        Ty::Array { .. } => Some(Reach {
             through: place.through,
             fixed: place.fixed,
-        })
-    } else {
-        None
+        }),
+        Ty::Void | Ty::Int(_) | Ty::Pointer(_) | Ty::Struct(_) => None,
     }
 }
 
@@ -211,11 +220,7 @@ pub(crate) fn first_reach(left: Option<Reach>, right: Option<Reach>) -> Option<R
 }
 
 /// The value of an expression, where a const array may stand too: as what is indexed. A function has none.
-pub(crate) fn indexed(
-    alloc: Global,
-    types: &mut Types,
-    term: Term,
-) -> Result<Operand, CheckError>
+pub(crate) fn indexed(alloc: Global, types: &mut Types, term: Term) -> Result<Operand, CheckError>
     ensures { (known : Known) → Answers operand_of result (types_in types.new known) (rule.indexed (term_of term) (types_in types.old known)) }
 {
     let Term {
@@ -273,7 +278,7 @@ pub fn refuse_table(term: &Term) -> Result<(), CheckError>
                 Ok(())
             }
         }
-        _ => Ok(()),
+        Form::Value(_) | Form::Function { .. } => Ok(()),
     }
 }
 
@@ -283,7 +288,7 @@ pub(crate) fn into_lvalue(term: Term) -> Option<Lvalue>
 {
     match term.form {
         Form::Lvalue(place) => Some(place),
-        _ => None,
+        Form::Value(_) | Form::Function { .. } => None,
     }
 }
 
@@ -305,7 +310,7 @@ pub(crate) fn written(term: Term, line: u32) -> Result<TPlace, CheckError>
         return refused(Kind::Assign, line);
     };
     let ty = place.ty();
-    if ty.constant || ty.ty.is_array() {
+    if ty.constant || is_array(ty.ty) {
         refused(Kind::Assign, line)
     } else {
         Ok(place.place)

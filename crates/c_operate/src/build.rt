@@ -1,0 +1,220 @@
+//! Nodes of the typed tree from their parts. The one error is that memory for a part ran out.
+
+ghost use Rattle.std.specs.Prelude.{◌≡◌, IfOk};
+ghost use Rattle.c_typed.specs.Trees as tree;
+ghost use Rattle.c_typed.specs.Views.{expression_of, place_of};
+
+use c_ints::{BinOp, UnOp};
+use c_typed::{LogicalOp, TExpr, TPlace, Ty};
+use std::alloc::{AllocError, Global};
+
+/// An address (ISO/IEC 9899:1990, 6.3.3.2).
+#[tactic(auto, using(c_typed::proofs::Shapes::show_expression_address))]
+pub(crate) fn address_node(
+    alloc: Global,
+    place: TPlace,
+    ty: Ty,
+    line: u32,
+) -> Result<TExpr, AllocError>
+    ensures { IfOk result (λ e. expression_of e ≡ tree.Address (place_of place) ty line) }
+{
+    let place = Box::new(alloc, place)?;
+    Ok(TExpr::Address { place, ty, line })
+}
+
+/// The value of a place (ISO/IEC 9899:1990, 6.2.2.1).
+#[tactic(auto, using(c_typed::proofs::Shapes::show_expression_read))]
+pub(crate) fn read_node(
+    alloc: Global,
+    place: TPlace,
+    ty: Ty,
+    line: u32,
+) -> Result<TExpr, AllocError>
+    ensures { IfOk result (λ e. expression_of e ≡ tree.Read (place_of place) ty line) }
+{
+    let place = Box::new(alloc, place)?;
+    Ok(TExpr::Read { place, ty, line })
+}
+
+/// A value in another type (ISO/IEC 9899:1990, 6.2).
+#[tactic(auto, using(c_typed::proofs::Shapes::show_expression_convert))]
+pub(crate) fn convert_node(
+    alloc: Global,
+    operand: TExpr,
+    ty: Ty,
+    line: u32,
+) -> Result<TExpr, AllocError>
+    ensures { IfOk result (λ e. expression_of e ≡ tree.Convert (expression_of operand) ty line) }
+{
+    let operand = Box::new(alloc, operand)?;
+    Ok(TExpr::Convert { operand, ty, line })
+}
+
+/// A cast (ISO/IEC 9899:1990, 6.3.4).
+#[tactic(auto, using(c_typed::proofs::Shapes::show_expression_cast))]
+pub(crate) fn cast_node(
+    alloc: Global,
+    operand: TExpr,
+    ty: Ty,
+    line: u32,
+) -> Result<TExpr, AllocError>
+    ensures { IfOk result (λ e. expression_of e ≡ tree.Cast (expression_of operand) ty line) }
+{
+    let operand = Box::new(alloc, operand)?;
+    Ok(TExpr::Cast { operand, ty, line })
+}
+
+/// `+ - ~ !` (ISO/IEC 9899:1990, 6.3.3.3).
+#[tactic(auto, using(c_typed::proofs::Shapes::show_expression_unary))]
+pub(crate) fn unary_node(
+    alloc: Global,
+    op: UnOp,
+    operand: TExpr,
+    ty: Ty,
+    line: u32,
+) -> Result<TExpr, AllocError>
+    ensures { IfOk result (λ e. expression_of e ≡ tree.Unary op (expression_of operand) ty line) }
+{
+    let operand = Box::new(alloc, operand)?;
+    Ok(TExpr::Unary {
+        op,
+        operand,
+        ty,
+        line,
+    })
+}
+
+/// An operator on integers, or a comparison (ISO/IEC 9899:1990, 6.3.5 to 6.3.12).
+#[tactic(auto, using(c_typed::proofs::Shapes::show_expression_binary))]
+pub(crate) fn binary_node(
+    alloc: Global,
+    op: BinOp,
+    left: TExpr,
+    right: TExpr,
+    ty: Ty,
+    line: u32,
+) -> Result<TExpr, AllocError>
+    ensures { IfOk result (λ e. expression_of e ≡ tree.Binary op (expression_of left) (expression_of right) ty line) }
+{
+    let left = Box::new(alloc, left)?;
+    let right = Box::new(alloc, right)?;
+    Ok(TExpr::Binary {
+        op,
+        left,
+        right,
+        ty,
+        line,
+    })
+}
+
+/// A pointer that is moved (ISO/IEC 9899:1990, 6.3.6).
+#[tactic(auto, using(c_typed::proofs::Shapes::show_expression_offset))]
+pub(crate) fn offset_node(
+    alloc: Global,
+    op: BinOp,
+    left: TExpr,
+    right: TExpr,
+    size: u64,
+    ty: Ty,
+    line: u32,
+) -> Result<TExpr, AllocError>
+    ensures { IfOk result (λ e. expression_of e ≡ tree.Offset op (expression_of left) (expression_of right) size ty line) }
+{
+    let left = Box::new(alloc, left)?;
+    let right = Box::new(alloc, right)?;
+    Ok(TExpr::Offset {
+        op,
+        left,
+        right,
+        size,
+        ty,
+        line,
+    })
+}
+
+/// The difference of two pointers (ISO/IEC 9899:1990, 6.3.6).
+#[tactic(auto, using(c_typed::proofs::Shapes::show_expression_difference))]
+pub(crate) fn difference_node(
+    alloc: Global,
+    left: TExpr,
+    right: TExpr,
+    size: u64,
+    line: u32,
+) -> Result<TExpr, AllocError>
+    ensures { IfOk result (λ e. expression_of e ≡ tree.Difference (expression_of left) (expression_of right) size line) }
+{
+    let left = Box::new(alloc, left)?;
+    let right = Box::new(alloc, right)?;
+    Ok(TExpr::Difference {
+        left,
+        right,
+        size,
+        line,
+    })
+}
+
+/// `&&` and `||` (ISO/IEC 9899:1990, 6.3.13 and 6.3.14).
+#[tactic(auto, using(c_typed::proofs::Shapes::show_expression_logical))]
+pub(crate) fn logical_node(
+    alloc: Global,
+    op: LogicalOp,
+    left: TExpr,
+    right: TExpr,
+    line: u32,
+) -> Result<TExpr, AllocError>
+    ensures { IfOk result (λ e. expression_of e ≡ tree.Logical op (expression_of left) (expression_of right) line) }
+{
+    let left = Box::new(alloc, left)?;
+    let right = Box::new(alloc, right)?;
+    Ok(TExpr::Logical {
+        op,
+        left,
+        right,
+        line,
+    })
+}
+
+/// `?:` (ISO/IEC 9899:1990, 6.3.15).
+#[tactic(auto, using(c_typed::proofs::Shapes::show_expression_conditional))]
+pub(crate) fn conditional_node(
+    alloc: Global,
+    condition: TExpr,
+    first: TExpr,
+    second: TExpr,
+    ty: Ty,
+    line: u32,
+) -> Result<TExpr, AllocError>
+    ensures { IfOk result (λ e. expression_of e ≡ tree.Conditional (expression_of condition) (expression_of first) (expression_of second) ty line) }
+{
+    let condition = Box::new(alloc, condition)?;
+    let first = Box::new(alloc, first)?;
+    let second = Box::new(alloc, second)?;
+    Ok(TExpr::Conditional {
+        condition,
+        then: first,
+        otherwise: second,
+        ty,
+        line,
+    })
+}
+
+/// A comma (ISO/IEC 9899:1990, 6.3.17).
+#[tactic(auto, using(c_typed::proofs::Shapes::show_expression_comma))]
+pub(crate) fn comma_node(
+    alloc: Global,
+    left: TExpr,
+    right: TExpr,
+    ty: Ty,
+    line: u32,
+) -> Result<TExpr, AllocError>
+    ensures { IfOk result (λ e. expression_of e ≡ tree.Comma (expression_of left) (expression_of right) ty line) }
+{
+    let left = Box::new(alloc, left)?;
+    let right = Box::new(alloc, right)?;
+    Ok(TExpr::Comma {
+        left,
+        right,
+        ty,
+        line,
+    })
+}

@@ -1,0 +1,129 @@
+//! When types are the same, and what a type is.
+
+ghost use Rattle.std.specs.Prelude.{◌≡◌};
+ghost use Rattle.c_typed.specs.Sameness as stated;
+ghost use Rattle.c_typed.specs.declared.types.Ty.TheVariants.{Array};
+
+use c_ints::IntTy;
+use c_typed::{Qualified, Ty};
+
+fn int_number(ty: IntTy) -> u8
+    ensures { result ≡ stated.int_number ty }
+{
+    match ty {
+        IntTy::Char => 0,
+        IntTy::SChar => 1,
+        IntTy::UChar => 2,
+        IntTy::Short => 3,
+        IntTy::UShort => 4,
+        IntTy::Int => 5,
+        IntTy::UInt => 6,
+        IntTy::Long => 7,
+        IntTy::ULong => 8,
+    }
+}
+
+fn same_int(a: IntTy, b: IntTy) -> bool
+    ensures { result ≡ stated.same_int a b }
+{
+    int_number(a) == int_number(b)
+}
+
+/// Whether two types are the same.
+pub(crate) fn same_type(a: Ty, b: Ty) -> bool
+    ensures { result ≡ stated.same_type a b }
+{
+    match a {
+        Ty::Void => is_void(b),
+        Ty::Int(a) => match b {
+            Ty::Int(b) => same_int(a, b),
+            Ty::Void | Ty::Pointer(_) | Ty::Array { .. } | Ty::Struct(_) => false,
+        },
+        Ty::Pointer(a) => match b {
+            Ty::Pointer(b) => a == b,
+            Ty::Void | Ty::Int(_) | Ty::Array { .. } | Ty::Struct(_) => false,
+        },
+        Ty::Array {
+            element,
+            length,
+            size,
+        } => same_array(element, length, size, b),
+        Ty::Struct(a) => match b {
+            Ty::Struct(b) => a == b,
+            Ty::Void | Ty::Int(_) | Ty::Pointer(_) | Ty::Array { .. } => false,
+        },
+    }
+}
+
+fn same_array(first: u32, count: u32, bytes: u64, other: Ty) -> bool
+    ensures { result ≡ stated.same_type (Array first count bytes) other }
+{
+    match other {
+        Ty::Array {
+            element,
+            length,
+            size,
+        } => first == element && count == length && bytes == size,
+        Ty::Void | Ty::Int(_) | Ty::Pointer(_) | Ty::Struct(_) => false,
+    }
+}
+
+fn same_flag(a: bool, b: bool) -> bool
+    ensures { result ≡ stated.same_flag a b }
+{
+    if a { b } else { !b }
+}
+
+/// Whether two types with their qualifiers are the same.
+pub(crate) fn same_qualified(a: Qualified, b: Qualified) -> bool
+    ensures { result ≡ stated.same_qualified a b }
+{
+    same_type(a.ty, b.ty) && same_flag(a.constant, b.constant) && same_flag(a.volatile, b.volatile)
+}
+
+/// Whether the type is void.
+pub(crate) fn is_void(ty: Ty) -> bool
+    ensures { result ≡ stated.is_void ty }
+{
+    match ty {
+        Ty::Void => true,
+        Ty::Int(_) | Ty::Pointer(_) | Ty::Array { .. } | Ty::Struct(_) => false,
+    }
+}
+
+/// Whether the type is an integer type.
+pub(crate) fn is_int(ty: Ty) -> bool
+    ensures { result ≡ stated.is_int ty }
+{
+    match ty {
+        Ty::Int(_) => true,
+        Ty::Void | Ty::Pointer(_) | Ty::Array { .. } | Ty::Struct(_) => false,
+    }
+}
+
+/// Whether the type is a pointer.
+pub(crate) fn is_pointer(ty: Ty) -> bool
+    ensures { result ≡ stated.is_pointer ty }
+{
+    match ty {
+        Ty::Pointer(_) => true,
+        Ty::Void | Ty::Int(_) | Ty::Array { .. } | Ty::Struct(_) => false,
+    }
+}
+
+/// Whether the type is an array.
+pub(crate) fn is_array(ty: Ty) -> bool
+    ensures { result ≡ stated.is_array ty }
+{
+    match ty {
+        Ty::Array { .. } => true,
+        Ty::Void | Ty::Int(_) | Ty::Pointer(_) | Ty::Struct(_) => false,
+    }
+}
+
+/// Whether the type is an integer or a pointer.
+pub(crate) fn is_scalar(ty: Ty) -> bool
+    ensures { result ≡ stated.is_scalar ty }
+{
+    is_int(ty) || is_pointer(ty)
+}
