@@ -1,3 +1,4 @@
+pub mod Alike
 pub mod Names
 pub mod Rows
 pub mod Scopes

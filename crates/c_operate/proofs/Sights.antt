@@ -1,8 +1,9 @@
 -- Tables as the rules see them: what a function finds there, and what is known behind it.
-use Rattle.std.proofs.Common.{◌≡◌, ℕ, zero, suc, ◌+◌, ◌*◌, ◌<◌, ◌≤◌, bytes_eq, is_some, position, List, [], ◌∷◌, map, length, get_or, slice_index, Option, Some, None, option_map, Result, Ok, Err, Vec, Global, refl, sym, ap, ◌∙◌, arith, mul_comm}
+use Rattle.std.proofs.Common.{◌≡◌, ℕ, zero, suc, ◌+◌, ◌*◌, ◌<◌, ◌≤◌, bytes_eq, is_some, position, List, [], ◌∷◌, map, length, get_or, slice_index, slice_get, Option, Some, None, option_map, Result, Ok, Err, Vec, Global, IfOk, IfErr, refl, sym, ap, subst, ◌∙◌, arith, mul_comm}
 use Rattle.std.specs.Map.{lookup, keys_of}
 use Rattle.indexmap.specs.IndexMap.{insert_entry}
 use Rattle.c_typed.specs.Sound.{kept}
+use Rattle.c_typed.specs.Trees.{MemberTree}
 use Rattle.c_typed.specs.declared.types.Qualified.{Qualified}
 use Rattle.c_typed.specs.declared.types.Ty.{Ty}
 use Rattle.c_typed.specs.declared.types.Ty.TheVariants.{Pointer, Array}
@@ -12,11 +13,22 @@ use Rattle.type_rules.specs.Known.{Known, Rule, Scope, Body, given, go_on, no_bo
 use Rattle.type_rules.specs.Names.{entry_of, with_entry, enter}
 use Rattle.type_rules.specs.Places.{member_from}
 use Rattle.type_rules.specs.Rows as rows
+use Rattle.type_rules.specs.Units.{member_tree}
+use Rattle.c_operate.specs.Answers.{Answers, Refuses}
+use Rattle.c_operate.specs.declared.error.CheckError.{CheckError}
+use Rattle.c_operate.specs.declared.error.CheckError.TheVariants.{NoMemory}
 use Rattle.c_operate.specs.Tables.{shape_of, field_of, binding_of}
 use Rattle.c_operate.specs.declared.scope.Binding.{Binding}
 use Rattle.c_operate.specs.declared.types.Field.{Field}
 use Rattle.c_operate.specs.declared.types.Shape.{Shape}
 use Rattle.c_operate.proofs.Names.{entry_found, entry_put, entry_there, member_found}
+
+-- ---- numbers of tables
+
+-- A number that fits is the answer; where it doesn't, memory has run out.
+pub numbered : (r : Result ℕ CheckError) (n : ℕ) (after : Known) (said : Result (ℕ × Known) Fault) → IfOk r (λ m. m ≡ n) → IfErr r (λ e. e ≡ NoMemory) → said ≡ Ok (n, after) → Answers (λ m. m) r after said
+numbered (Ok m) n after said is fails h = h ∙ ap (λ (k : ℕ). Ok (k, after)) (sym is)
+numbered (Err e) n after said is fails h = subst (λ x. Refuses x said) (sym fails) tt
 
 -- ---- types
 
@@ -45,6 +57,16 @@ shape_missing [] k past = refl
 shape_missing (y ∷ ys) zero past = absurd (omega arith)
 shape_missing (y ∷ ys) (suc k) past = shape_missing ys k (omega arith)
 
+-- the same, of the slice that a vector lends
+pub size_read : (ys xs : List Shape) (k : ℕ) (x : Shape) → ys ≡ xs → k < length ys → x ≡ get_or ys k x → x.size ≡ slice_index (map (λ s. s.size) (map shape_of xs)) k
+size_read ys xs k x same lt is = size_seen ys k x lt is ∙ ap (λ l. slice_index (map (λ s. s.size) (map shape_of l)) k) same
+
+pub shape_read : (ys xs : List Shape) (k : ℕ) (x : Shape) → ys ≡ xs → k < length ys → x ≡ get_or ys k x → Some (shape_of x) ≡ slice_get (map shape_of xs) k
+shape_read ys xs k x same lt is = sym (shape_seen ys k x lt is) ∙ ap (λ l. slice_get (map shape_of l) k) same
+
+pub shape_past : (ys xs : List Shape) (k : ℕ) → ys ≡ xs → length ys ≤ k → None ≡ slice_get (map shape_of xs) k
+shape_past ys xs k same past = sym (shape_missing ys k past) ∙ ap (λ l. slice_get (map shape_of l) k) same
+
 -- ---- members
 
 abbrev pub Fields : Type 0
@@ -52,6 +74,10 @@ Fields = List (Vec ℕ Global × Field)
 
 abbrev pub fields_of : Fields → List (List ℕ × rule.Field)
 fields_of es = map (λ e. (e.0.items, field_of e.1)) es
+
+-- as the typed tree has them
+abbrev pub member_trees : Fields → List MemberTree
+member_trees es = map (λ e. member_tree (e.0.items, field_of e.1)) es
 
 pub member_added : (fields fresh : Fields) (name : Vec ℕ Global) (ty : Qualified) (size bytes all : ℕ) (body : rule.Progress) → fresh ≡ insert_entry (λ a b. bytes_eq a.items b.items) fields name (record { ty = ty; offset = size })
     → all ≡ kept (size + bytes) → ◌≡◌ {A = rule.Shape} (record { fields = fields_of fresh; size = all; body = body }) (rows.with_member name.items ty bytes (record { fields = fields_of fields; size = size; body = body }))

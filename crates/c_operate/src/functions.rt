@@ -1,7 +1,8 @@
 //! The functions of a unit (ISO/IEC 9899:1990, 6.5.4.3 and 6.7.1).
 
-ghost use Rattle.std.specs.Prelude.{◌≡◌, true, ◌∷◌, [], not, map, slice_get, Ok, IfOk, IfErr};
+ghost use Rattle.std.specs.Prelude.{◌≡◌, true, Some, ◌∷◌, [], not, map, slice_get, Ok, IfOk, IfErr};
 ghost use Rattle.std.specs.Option.{option_map};
+ghost use Rattle.c_typed.specs.Sameness.{same_qualified};
 ghost use Rattle.type_rules.specs.Declarations as declarations;
 ghost use Rattle.type_rules.specs.Faults as kind;
 ghost use Rattle.type_rules.specs.Known.{Known, tried};
@@ -25,8 +26,22 @@ pub struct Signature {
 }
 
 impl Signature {
-    fn is_same(&self, returns: Qualified, params: &[Ty]) -> bool {
-        self.result == returns && self.params.as_slice() == params
+    fn same_result(&self, returns: Qualified) -> bool
+        ensures { result ≡ same_qualified self.now.result returns }
+    {
+        self.result == returns
+    }
+
+    fn same_params(&self, params: &[Ty]) -> bool
+        ensures { result ≡ declarations.same_types self.now.params.items params.now }
+    {
+        self.params.as_slice() == params
+    }
+
+    fn is_same(&self, returns: Qualified, params: &[Ty], defines: bool) -> bool
+        ensures { result ≡ declarations.is_same (Some (signature_of self.now)) returns params.now defines }
+    {
+        self.same_result(returns) && (self.same_params(params) && !(defines && self.defined))
     }
 }
 
@@ -86,6 +101,15 @@ impl Functions {
         Ok(function)
     }
 
+    fn is_same(&self, function: u32, returns: Qualified, params: &[Ty], defines: bool) -> bool
+        ensures { result ≡ declarations.is_same (slice_get (map signature_of self.now.declared.items) function) returns params.now defines }
+    {
+        match self.signature(function) {
+            Some(signature) => signature.is_same(returns, params, defines),
+            None => false,
+        }
+    }
+
     /// Refuses a further declaration of a function with other types. `defines` says that a body follows,
     /// which may come once.
     pub fn refuse_other(
@@ -98,15 +122,10 @@ impl Functions {
     ) -> Result<(), CheckError>
         ensures { (known : Known) → Learns result known (tried ((not (declarations.is_same (slice_get (map signature_of self.now.declared.items) function) returns params.now defines), kind.Again) ∷ []) line known) }
     {
-        match self.signature(function) {
-            Some(signature) => {
-                if signature.is_same(returns, params) && !(defines && signature.defined) {
-                    Ok(())
-                } else {
-                    refused(Kind::Again, line)
-                }
-            }
-            None => refused(Kind::Again, line),
+        if self.is_same(function, returns, params, defines) {
+            Ok(())
+        } else {
+            refused(Kind::Again, line)
         }
     }
 
