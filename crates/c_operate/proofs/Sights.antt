@@ -1,5 +1,5 @@
 -- Tables as the rules see them: what a function finds there, and what is known behind it.
-use Rattle.std.proofs.Common.{◌≡◌, ℕ, zero, suc, ◌+◌, ◌*◌, ◌<◌, ◌≤◌, bytes_eq, is_some, position, List, [], ◌∷◌, map, length, get_or, slice_index, slice_get, Option, Some, None, option_map, Result, Ok, Err, Vec, Global, IfOk, IfErr, refl, sym, ap, subst, ◌∙◌, arith, mul_comm}
+use Rattle.std.proofs.Common.{◌≡◌, ℕ, zero, suc, ◌+◌, ◌*◌, ◌<◌, ◌≤◌, Bool, false, not, bytes_eq, is_some, position, List, [], ◌∷◌, ◌++◌, map, length, get_or, slice_index, slice_get, Option, Some, None, option_map, Result, Ok, Err, Vec, Global, IfOk, IfErr, refl, sym, ap, subst, ◌∙◌, arith, mul_comm, append-nil}
 use Rattle.std.specs.Map.{lookup, keys_of}
 use Rattle.indexmap.specs.IndexMap.{insert_entry}
 use Rattle.c_typed.specs.Sound.{kept}
@@ -7,6 +7,7 @@ use Rattle.c_typed.specs.Trees.{MemberTree}
 use Rattle.c_typed.specs.declared.types.Qualified.{Qualified}
 use Rattle.c_typed.specs.declared.types.Ty.{Ty}
 use Rattle.c_typed.specs.declared.types.Ty.TheVariants.{Pointer, Array}
+use Rattle.type_rules.specs.Faults as faults
 use Rattle.type_rules.specs.Faults.{Fault}
 use Rattle.type_rules.specs.Known as rule
 use Rattle.type_rules.specs.Known.{Known, Rule, Scope, Body, given, go_on, no_body, known_first}
@@ -14,9 +15,11 @@ use Rattle.type_rules.specs.Names.{entry_of, with_entry, enter}
 use Rattle.type_rules.specs.Places.{member_from}
 use Rattle.type_rules.specs.Rows as rows
 use Rattle.type_rules.specs.Units.{member_tree}
-use Rattle.c_operate.specs.Answers.{Answers, Refuses}
+use Rattle.c_operate.specs.Answers.{Answers, Learns, Refuses}
 use Rattle.c_operate.specs.declared.error.CheckError.{CheckError}
 use Rattle.c_operate.specs.declared.error.CheckError.TheVariants.{NoMemory}
+use Rattle.c_operate.specs.declared.error.CheckError.TheVariants as errors
+use Rattle.c_operate.specs.declared.error.Kind.TheVariants as kinds
 use Rattle.c_operate.specs.Tables.{shape_of, field_of, binding_of}
 use Rattle.c_operate.specs.declared.scope.Binding.{Binding}
 use Rattle.c_operate.specs.declared.types.Field.{Field}
@@ -77,7 +80,7 @@ fields_of es = map (λ e. (e.0.items, field_of e.1)) es
 
 -- as the typed tree has them
 abbrev pub member_trees : Fields → List MemberTree
-member_trees es = map (λ e. member_tree (e.0.items, field_of e.1)) es
+member_trees es = map member_tree (fields_of es)
 
 pub member_added : (fields fresh : Fields) (name : Vec ℕ Global) (ty : Qualified) (size bytes all : ℕ) (body : rule.Progress) → fresh ≡ insert_entry (λ a b. bytes_eq a.items b.items) fields name (record { ty = ty; offset = size })
     → all ≡ kept (size + bytes) → ◌≡◌ {A = rule.Shape} (record { fields = fields_of fresh; size = all; body = body }) (rows.with_member name.items ty bytes (record { fields = fields_of fields; size = size; body = body }))
@@ -138,6 +141,21 @@ tag_declared old known targets shapes tags fresh k n name made is put =
     let now : with_entry (tags_of tags) name n ≡ tags_of fresh =
         sym (ap tags_of put ∙ entry_put (λ (v : Vec ℕ Global). v.items) (λ (m : ℕ). m) tags k n ∙ ap (λ t. with_entry (tags_of tags) t n) is) in
     ap (put_tag name) made ∙ ap (λ l. Ok (n, record known { targets = targets; shapes = map shape_of shapes; tags = l })) now
+
+-- ---- functions
+
+-- a further declaration with other types
+pub refused_once : (r : Result Unit CheckError) (line : ℕ) (same : Bool) (known : Known) → r ≡ Err (errors.Kind kinds.Again line) → same ≡ false → Learns r known (rule.tried ((not same, faults.Again) ∷ []) line known)
+refused_once r line same known is other = subst (λ x. Learns x known (rule.tried ((not same, faults.Again) ∷ []) line known)) (sym is) (ap (λ (b : Bool). rule.tried ((not b, faults.Again) ∷ []) line known) other)
+
+-- ---- loops that move what they read
+
+pub all_read : {A : Type 0} (made rest whole : List A) → rest ≡ [] → made ++ rest ≡ whole → made ≡ whole
+all_read made rest whole none so_far = sym (append-nil made) ∙ ap (λ l. made ++ l) (sym none) ∙ so_far
+
+pub none_left : {A : Type 0} (xs : List A) (n : ℕ) → n ≡ length xs → n ≡ 0 → xs ≡ []
+none_left [] n many none = refl
+none_left (x ∷ xs) n many none = absurd (omega (arith, many, none))
 
 -- ---- all tables at the beginning
 

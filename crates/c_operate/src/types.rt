@@ -338,20 +338,34 @@ fn structure_of(alloc: Global, shape: Shape) -> Result<Structure, CheckError>
     })
 }
 
+fn rows_of(alloc: Global, targets: IndexSet<Qualified>) -> Result<Vec<Qualified>, CheckError>
+    ensures { IfOk result (λ r. r.items ≡ targets.keys) }
+{
+    let mut listed = Vec::new(alloc);
+    for target in targets {
+        listed.push(target)?;
+    }
+    Ok(listed)
+}
+
+fn structures_of(alloc: Global, shapes: Vec<Shape>) -> Result<Vec<Structure>, CheckError>
+    ensures { IfOk result (λ r. map structure_of r.items ≡ map structure_tree (map shape_of shapes.items)) }
+{
+    let mut structures = Vec::new(alloc);
+    for shape in shapes {
+        structures.push(structure_of(alloc, shape)?)?;
+    }
+    Ok(structures)
+}
+
 impl Types {
     /// The rows of what is pointed to, and the structures.
     pub fn into_tables(self) -> Result<(Vec<Qualified>, Vec<Structure>), CheckError>
         ensures targets { (known : Known) → IfOk result (λ r. r.0.items ≡ (types_in self known).targets) }
         ensures structures { (known : Known) → IfOk result (λ r. map structure_of r.1.items ≡ map structure_tree (types_in self known).shapes) }
     {
-        let mut targets = Vec::new(self.alloc);
-        for target in self.targets {
-            targets.push(target)?;
-        }
-        let mut structures = Vec::new(self.alloc);
-        for shape in self.shapes {
-            structures.push(structure_of(self.alloc, shape)?)?;
-        }
-        Ok((targets, structures))
+        let rows = rows_of(self.alloc, self.targets)?;
+        let structures = structures_of(self.alloc, self.shapes)?;
+        Ok((rows, structures))
     }
 }
