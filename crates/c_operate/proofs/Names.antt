@@ -49,7 +49,7 @@ module _ {K V B : Type 0} (text : K → List ℕ) (view : V → B) where
   entry_put [] k v = refl
   entry_put (e ∷ es) k v =
       put (bytes_eq (text k) (text e.0)) (bytes_eq (text e.0) (text k)) e k v es (insert_entry (λ a b. bytes_eq (text a) (text b)) es k v) (with_entry (named es) (text k) (view v))
-          (turned (text k) (text e.0)) (λ t. (bytes_decides (text e.0) (text k)).0 t) (entry_put es k v)
+      (turned (text k) (text e.0)) (λ t. (bytes_decides (text e.0) (text k)).0 t) (entry_put es k v)
 
 module _ {K : Type 0} (text : K → List ℕ) where
   -- what `get_index_of` of a set finds
@@ -82,7 +82,7 @@ module _ {K V : Type 0} (text : K → List ℕ) (view : V → Field) where
   member_at (e ∷ es) name n =
       let next : n + 1 ≡ suc n = omega arith in
       chosen_member (bytes_eq name (text e.0)) (bytes_eq (text e.0) name) n e.1 (position_from (λ k. bytes_eq name (text k)) (n + 1) (keys_of es)) (lookup (λ k. bytes_eq name (text k)) es) (member_from (named text view es) name (suc n))
-          (turned name (text e.0)) (ap (λ m. both_of view (position_from (λ k. bytes_eq name (text k)) m (keys_of es)) (lookup (λ k. bytes_eq name (text k)) es)) next ∙ member_at es name (suc n))
+      (turned name (text e.0)) (ap (λ m. both_of view (position_from (λ k. bytes_eq name (text k)) m (keys_of es)) (lookup (λ k. bytes_eq name (text k)) es)) next ∙ member_at es name (suc n))
 
   -- what `get_full` finds
   pub member_found : (es : List (K × V)) (name : List ℕ) (i : Option ℕ) (v : Option V) → i ≡ position (λ k. bytes_eq name (text k)) (keys_of es) → v ≡ lookup (λ k. bytes_eq name (text k)) es

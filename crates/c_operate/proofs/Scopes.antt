@@ -1,8 +1,8 @@
 -- Scopes that are open: the last in the table is the innermost of the rules.
-use Rattle.std.proofs.Common.{◌≡◌, ℕ, zero, suc, ◌+◌, ◌-◌, ◌<◌, ◌≤◌, List, [], ◌∷◌, ◌++◌, map, reverse, length, get_or, set, take, Option, Some, None, refl, sym, ap, ◌∙◌, arith, take-suc, length-set, get_or-set_same, take_all}
+use Rattle.std.proofs.Common.{◌≡◌, ℕ, zero, suc, ◌-◌, ◌<◌, ◌≤◌, List, [], ◌∷◌, ◌++◌, map, reverse, length, get_or, set, take, Option, Some, None, refl, sym, ap, ◌∙◌, arith, take-suc, length-set, get_or-set_same, take_all}
 use Rattle.std.proofs.lemmas.List.{reverse-append}
 use Rattle.type_rules.specs.Known.{Scope, Binding}
-use Rattle.type_rules.specs.Names.{entry_of, with_entry, without_first, bound_in, found_in, innermost_in, or_else}
+use Rattle.type_rules.specs.Names.{entry_of, with_entry, bound_in, found_in, innermost_in, or_else}
 use Rattle.c_operate.proofs.Rows.{seen_more}
 
 module _ {A : Type 0} (view : A → Scope) where
@@ -32,9 +32,9 @@ module _ {A : Type 0} (view : A → Scope) where
       let length_after : length (set xs m x) ≡ suc m = length-set xs m x ∙ length_is in
       let own : get_or (set xs m x) m x ≡ x = get_or-set_same xs m x x (omega (arith, length_is)) in
       let after : reverse (map view (set xs m x)) ≡ view x ∷ reverse (map view (take m xs)) =
-          all_outwards (set xs m x) m x length_after ∙ (λ j. view (own j) ∷ reverse (map view (before xs m x j))) in
+      all_outwards (set xs m x) m x length_after ∙ (λ j. view (own j) ∷ reverse (map view (before xs m x j))) in
       ap (λ l. bound_in l name binding) (all_outwards xs m old length_is ∙ (λ j. view (sym is j) ∷ reverse (map view (take m xs))))
-          ∙ (λ j. sym put j ∷ reverse (map view (take m xs))) ∙ sym after
+      ∙ (λ j. sym put j ∷ reverse (map view (take m xs))) ∙ sym after
 
   -- what the innermost scope has
   pub last_has : (xs : List A) (name : List ℕ) (x : A) → 0 < length xs → x ≡ get_or xs (length xs - 1) x → entry_of (view x) name ≡ innermost_in (reverse (map view xs)) name
@@ -51,10 +51,10 @@ module _ {A : Type 0} (view : A → Scope) where
       → found_in (reverse (map view (take (suc m) xs))) name ≡ whole → Some b ≡ whole
   found_here xs m x name b whole lt is has so_far =
       ap (λ o. or_else o (found_in (reverse (map view (take m xs))) name)) (has ∙ ap (λ y. entry_of (view y) name) is)
-          ∙ sym (ap (λ l. found_in l name) (outwards xs m x lt)) ∙ so_far
+      ∙ sym (ap (λ l. found_in l name) (outwards xs m x lt)) ∙ so_far
 
   pub found_outwards : (xs : List A) (m : ℕ) (x : A) (name : List ℕ) (whole : Option Binding) → m < length xs → x ≡ get_or xs m x → None ≡ entry_of (view x) name
       → found_in (reverse (map view (take (suc m) xs))) name ≡ whole → found_in (reverse (map view (take m xs))) name ≡ whole
   found_outwards xs m x name whole lt is has so_far =
       ap (λ o. or_else o (found_in (reverse (map view (take m xs))) name)) (has ∙ ap (λ y. entry_of (view y) name) is)
-          ∙ sym (ap (λ l. found_in l name) (outwards xs m x lt)) ∙ so_far
+      ∙ sym (ap (λ l. found_in l name) (outwards xs m x lt)) ∙ so_far

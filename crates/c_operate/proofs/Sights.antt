@@ -5,7 +5,6 @@ use Rattle.indexmap.specs.IndexMap.{insert_entry}
 use Rattle.c_typed.specs.Sound.{kept}
 use Rattle.c_typed.specs.Trees.{MemberTree}
 use Rattle.c_typed.specs.declared.types.Qualified.{Qualified}
-use Rattle.c_typed.specs.declared.types.Ty.{Ty}
 use Rattle.c_typed.specs.declared.types.Ty.TheVariants.{Pointer, Array}
 use Rattle.type_rules.specs.Faults as faults
 use Rattle.type_rules.specs.Faults.{Fault}
@@ -139,7 +138,7 @@ pub tag_declared : (old known : Known) (targets : List Qualified) (shapes : List
     → rows.new_tag name old ≡ Ok (n, record known { targets = targets; shapes = map shape_of shapes; tags = tags_of fresh })
 tag_declared old known targets shapes tags fresh k n name made is put =
     let now : with_entry (tags_of tags) name n ≡ tags_of fresh =
-        sym (ap tags_of put ∙ entry_put (λ (v : Vec ℕ Global). v.items) (λ (m : ℕ). m) tags k n ∙ ap (λ t. with_entry (tags_of tags) t n) is) in
+    sym (ap tags_of put ∙ entry_put (λ (v : Vec ℕ Global). v.items) (λ (m : ℕ). m) tags k n ∙ ap (λ t. with_entry (tags_of tags) t n) is) in
     ap (put_tag name) made ∙ ap (λ l. Ok (n, record known { targets = targets; shapes = map shape_of shapes; tags = l })) now
 
 -- ---- functions
@@ -173,7 +172,7 @@ pub all_begins : (types scopes_first scopes functions statics : Known → Known)
     → types (scopes (functions (statics (record (known_first []) { body = body })))) ≡ known_first names
 all_begins types scopes_first scopes functions statics body names of_types of_first entered of_functions of_statics of_body =
     let opened : (known : Known) → scopes known ≡ record known { scopes = [] ∷ []; lists = 0 } =
-        λ known. sym (ap (known_in known) (sym (ap enter (of_first known)) ∙ entered known)) in
+    λ known. sym (ap (known_in known) (sym (ap enter (of_first known)) ∙ entered known)) in
     let first : record (known_first []) { body = body } ≡ known_first [] = ap (λ b. record (known_first []) { body = b }) of_body in
     let second : statics (record (known_first []) { body = body }) ≡ known_first [] = ap statics first ∙ of_statics (known_first []) in
     let third : functions (statics (record (known_first []) { body = body })) ≡ record (known_first []) { definitions = names } = ap functions second ∙ of_functions (known_first []) in

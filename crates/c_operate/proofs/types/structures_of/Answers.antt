@@ -9,4 +9,4 @@ pub returns : goal.returns
 returns c =
     let rest = c.loop-shape.shape-iterator.rest in
     all_read (map structure_of c.loop-shape.structures.items) (map structure_tree (map shape_of rest.items)) (map structure_tree (map shape_of c.args.shapes.items))
-        (ap (λ xs. map structure_tree (map shape_of xs)) (none_left rest.items rest.len rest.ok.0 c.in-None.ensures.steps.0)) c.loop-shape.invariant
+    (ap (λ xs. map structure_tree (map shape_of xs)) (none_left rest.items rest.len rest.ok.0 c.in-None.ensures.steps.0)) c.loop-shape.invariant

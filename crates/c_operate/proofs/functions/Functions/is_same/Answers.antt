@@ -1,4 +1,4 @@
-use Rattle.std.proofs.Common.{sym, ap, ◌∙◌}
+use Rattle.std.proofs.Common.{ap, ◌∙◌}
 use Rattle.type_rules.specs.Declarations.{is_same}
 use Rattle.c_operate.proofs.functions.Functions.is_same.Goals as goal
 

@@ -12,4 +12,4 @@ returns-then-is_same c = λ known. ap (λ (b : Bool). tried ((not b, kind.Again)
 pub returns-else-is_same : goal.returns-else-is_same
 returns-else-is_same c = λ known.
     refused_once c.refused.result c.args.line (is_same (slice_get (map signature_of c.args.self.now.declared.items) c.args.function) c.args.returns c.args.params.now c.args.defines) known
-        c.refused.ensures (sym c.is_same.ensures ∙ c.if-is_same.false)
+    c.refused.ensures (sym c.is_same.ensures ∙ c.if-is_same.false)

@@ -12,7 +12,7 @@ returns-in-Some c = λ known.
     let with_signatures : List rule.Signature → Known = λ l. record (functions_in c.args.self.now known) { signatures = l } in
     ap (λ l. Ok (with_signatures l, with_signatures l))
     (sym (seen_changed signature_of c.args.self.now.declared.items c.args.function (record { result = s.result; params = s.params; definition = s.definition; defined = true }) s (λ r. record r { defined = true }) c.in-Some.ensures.item.3.0
-        (ap (λ (e : Signature). signature_of (record { result = e.result; params = e.params; definition = e.definition; defined = true })) c.in-Some.ensures.item.1)))
+    (ap (λ (e : Signature). signature_of (record { result = e.result; params = e.params; definition = e.definition; defined = true })) c.in-Some.ensures.item.1)))
 
 pub returns-in_default : goal.returns-in_default
 returns-in_default c = λ known.

@@ -11,4 +11,4 @@ returns-in_ok-insert c = λ known.
     let xs = c.args.self.now.«open» in
     ap (λ l. Ok (with_scopes l, with_scopes l))
     (bound_last (λ m. bindings_of m.entries) xs.items xs.len c.insert.new.self c.args.name.now (binding_of c.args.binding) c.in-Some.scope.now xs.ok.0 c.in-Some.ensures.item.3.0 c.in-Some.ensures.item.1
-        (binding_put c.in-Some.scope.now.entries c.insert.new.self.entries c.in_ok-name.name c.args.binding c.args.name.now c.in_ok-name.ensures.ok c.in_ok-insert.ensures.entries))
+    (binding_put c.in-Some.scope.now.entries c.insert.new.self.entries c.in_ok-name.name c.args.binding c.args.name.now c.in_ok-name.ensures.ok c.in_ok-insert.ensures.entries))

@@ -12,7 +12,7 @@ returns-in_ok-add c = λ known.
     let with_shapes : List rule.Shape → Known = λ l. record old { shapes = l } in
     ap (λ l. Ok (with_shapes l, with_shapes l))
     (sym (seen_changed shape_of c.args.self.now.shapes.items c.args.number c.add.new.self c.in-Some.shape.now (rows.with_member c.args.name.now c.args.ty (rows.bytes_of old c.args.ty.ty)) c.in-Some.ensures.item.3.0
-        (c.in_ok-add.ensures.added ∙ (λ j. rows.with_member (c.in_ok-name.ensures.ok j) c.args.ty (c.bytes_of-bytes.ensures known j) (shape_of (c.in-Some.ensures.item.1 j))))))
+    (c.in_ok-add.ensures.added ∙ (λ j. rows.with_member (c.in_ok-name.ensures.ok j) c.args.ty (c.bytes_of-bytes.ensures known j) (shape_of (c.in-Some.ensures.item.1 j))))))
 
 pub returns-in_default : goal.returns-in_default
 returns-in_default c = λ known.

@@ -11,4 +11,4 @@ returns-clause-said c = λ known.
     let at = c.in_ok-index.ensures.index ∙ row_found c.args.self.now.targets.keys c.args.target in
     let put = c.in_ok-index.ensures.keys ∙ row_put c.args.self.now.targets.keys c.args.target in
     numbered c.number.result c.in_ok-index.index (record old { targets = c.insert_full.new.self.keys }) (rows.row_of c.args.target old) c.number.ensures.ok c.number.ensures.err
-        (λ j. Ok (sym at j, record old { targets = sym put j }))
+    (λ j. Ok (sym at j, record old { targets = sym put j }))
