@@ -1,26 +1,39 @@
 //! Calls of functions (ISO/IEC 9899:1990, 6.3.2.2).
 
-ghost use Rattle.std.specs.Prelude.{◌≡◌, map};
+ghost use Rattle.std.specs.Prelude.{◌≡◌, length, map, nat_eq, slice_get};
 ghost use Rattle.c_typed.specs.Views.{arguments_of, expression_of};
 ghost use Rattle.type_rules.specs.Known.{Known};
 ghost use Rattle.type_rules.specs.Writes as rule;
 ghost use Rattle.c_operate.specs.Answers.{Answers, Learns};
-ghost use Rattle.c_operate.specs.Tables.{known_of};
+ghost use Rattle.c_operate.specs.Tables.{known_of, signature_of, types_in};
 ghost use Rattle.c_operate.specs.Terms.{form_of, operand_of, term_of};
 
 use crate::checker::Checker;
 use crate::conversion::assigned;
 use crate::error::{CheckError, Kind, refused};
+use crate::functions::Functions;
 use crate::term::{Form, Operand, Term, refuse_table, value_term};
-use c_typed::TExpr;
+use crate::types::Types;
+use c_typed::{TExpr, Ty};
+use std::alloc::Global;
 
 // The number of the function that a term names without brackets.
 fn function_of(term: &Term) -> Option<u32>
     ensures { result ≡ rule.function_named (form_of term.now.form) }
 {
     match &term.form {
-        Form::Function { number, bare } if *bare => Some(*number),
-        _ => None,
+        Form::Function { number, bare } => { if *bare { Some(*number) } else { None } }
+        Form::Value(_) | Form::Lvalue(_) => None,
+    }
+}
+
+// The number of a function among those that the unit defines, if it defines it.
+fn definition_of(functions: &Functions, function: u32) -> Option<u32>
+    ensures { result ≡ rule.definition_in (slice_get (map signature_of functions.now.declared.items) function) }
+{
+    match functions.signature(function) {
+        Some(signature) => signature.definition,
+        None => None,
     }
 }
 
@@ -32,10 +45,39 @@ pub fn refuse_undefined(checker: &Checker, term: &Term) -> Result<(), CheckError
     let Some(number) = function_of(term) else {
         return Ok(());
     };
-    match checker.functions.signature(number) {
-        Some(signature) if signature.definition.is_some() => Ok(()),
-        _ => refused(Kind::Name, term.line),
+    match definition_of(&checker.functions, number) {
+        Some(_) => Ok(()),
+        None => refused(Kind::Name, term.line),
     }
+}
+
+fn same_length(params: &[Ty], arguments: &[Operand]) -> bool
+    ensures { result ≡ nat_eq (length params.now) (length (map operand_of arguments.now)) }
+{
+    params.len() == arguments.len()
+}
+
+// The arguments, each as the type of its parameter.
+fn passed(
+    alloc: Global,
+    types: &Types,
+    arguments: Vec<Operand>,
+    params: &[Ty],
+    line: u32,
+) -> Result<Vec<TExpr>, CheckError>
+    ensures { (known : Known) → Answers (λ made. arguments_of (map expression_of made.items)) result (types_in types.now known) (rule.passed (map operand_of arguments.items) params.now line (types_in types.now known)) }
+{
+    let mut made = Vec::new(alloc);
+    let mut left = arguments.into_iter();
+    let mut rest = params;
+    while let [ty, behind @ ..] = rest {
+        let Some(argument) = left.next() else {
+            return Ok(made);
+        };
+        made.push(assigned(alloc, types, argument, *ty, line)?)?;
+        rest = behind;
+    }
+    Ok(made)
 }
 
 /// The call of what a term names, with arguments.
@@ -52,16 +94,19 @@ pub fn call(checker: &Checker, term: Term, arguments: Vec<Operand>) -> Result<Te
     let Some(function) = signature.definition else {
         return refused(Kind::Name, line);
     };
-    if signature.params.len() != arguments.len() {
+    if !same_length(signature.params.as_slice(), arguments.as_slice()) {
         return refused(Kind::Call, line);
     }
-    let mut passed = Vec::new(checker.alloc);
-    for (argument, ty) in arguments.into_iter().zip(signature.params.iter()) {
-        passed.push(assigned(checker.alloc, &checker.types, argument, *ty, line)?)?;
-    }
+    let arguments = passed(
+        checker.alloc,
+        &checker.types,
+        arguments,
+        signature.params.as_slice(),
+        line,
+    )?;
     let value = TExpr::Call {
         function,
-        arguments: passed,
+        arguments,
         ty: signature.result.ty,
         line,
     };

@@ -3,23 +3,50 @@
 ghost use Rattle.std.specs.Prelude.{◌≡◌, ◌%◌};
 ghost use Rattle.std.specs.Option.{option_map};
 ghost use Rattle.c_typed.specs.Views.{place_of};
-ghost use Rattle.type_rules.specs.Known.{Known};
+ghost use Rattle.type_rules.specs.Known.{Known, given};
 ghost use Rattle.type_rules.specs.Places as rule;
 ghost use Rattle.c_operate.specs.Answers.{Answers};
-ghost use Rattle.c_operate.specs.Tables.{types_in};
-ghost use Rattle.c_operate.specs.Terms.{lvalue_reach, operand_of, reach_of, term_of};
+ghost use Rattle.c_operate.specs.Tables.{field_of, types_in};
+ghost use Rattle.c_operate.specs.Terms.{form_of, lvalue_reach, operand_of, operation_of, reach_of, term_of};
 
 use crate::conversion::converted;
 use crate::error::{CheckError, Kind, number, refused};
-use crate::operation::operation_of;
+use crate::operation::{Operation, operation_of};
+use crate::sameness::is_array;
 use crate::term::{
     Form, Lvalue, Operand, Reach, Term, constant, first_reach, indexed, into_lvalue, lvalue_term,
     refuse_table, used_value, value_term,
 };
-use crate::types::Types;
+use crate::types::{Field, Types};
 use c_ints::{BinOp, IntTy};
-use c_typed::{TExpr, TPlace, Ty};
+use c_typed::{Qualified, TExpr, TPlace, Ty};
 use std::alloc::Global;
+
+// What a pointer of this type points to.
+fn pointed_type(types: &Types, ty: Ty) -> Option<Qualified>
+    ensures { (known : Known) → result ≡ rule.pointed_type (types_in types.now known) ty }
+{
+    match ty {
+        Ty::Pointer(row) => Some(types.target(row)),
+        Ty::Void | Ty::Int(_) | Ty::Array { .. } | Ty::Struct(_) => None,
+    }
+}
+
+// The same, if an object can have the type that is pointed to.
+fn object_pointed(types: &Types, ty: Ty) -> Option<Qualified>
+    ensures { (known : Known) → result ≡ rule.object_pointed (types_in types.now known) ty }
+{
+    match pointed_type(types, ty) {
+        Some(target) => {
+            if types.is_complete(target.ty) {
+                Some(target)
+            } else {
+                None
+            }
+        }
+        None => None,
+    }
+}
 
 /// What a pointer points to; `line` is that of the node's first token.
 pub fn pointed(
@@ -30,13 +57,9 @@ pub fn pointed(
 ) -> Result<Term, CheckError>
     ensures { (known : Known) → Answers term_of result (types_in types.now known) (rule.dereference (operand_of operand) line (types_in types.now known)) }
 {
-    let Some(row) = operand.value.ty().target() else {
+    let Some(ty) = object_pointed(types, operand.value.ty()) else {
         return refused(Kind::Operand, line);
     };
-    let ty = types.target(row);
-    if !types.is_complete(ty.ty) {
-        return refused(Kind::Operand, line);
-    }
     let reach = operand.reach;
     let place = TPlace::Deref {
         pointer: Box::new(alloc, operand.value)?,
@@ -47,12 +70,7 @@ pub fn pointed(
 }
 
 /// `&` of a term.
-pub fn address(
-    alloc: Global,
-    types: &mut Types,
-    term: Term,
-    line: u32,
-) -> Result<Term, CheckError>
+pub fn address(alloc: Global, types: &mut Types, term: Term, line: u32) -> Result<Term, CheckError>
     ensures { (known : Known) → Answers term_of result (types_in types.new known) (rule.address (term_of term) line (types_in types.old known)) }
 {
     refuse_table(&term)?;
@@ -89,30 +107,57 @@ pub fn size_of_type(types: &Types, ty: Ty, line: u32) -> Result<Term, CheckError
     Ok(value_term(value, line))
 }
 
+fn is_bit(place: &TPlace) -> bool
+    ensures { result ≡ rule.is_bit (place_of place.now) }
+{
+    match place {
+        TPlace::Bit { .. } => true,
+        TPlace::Name { .. } | TPlace::Member { .. } | TPlace::Deref { .. } => false,
+    }
+}
+
+// The type of what is measured, which is no bit and no function.
+fn measured(form: &Form) -> Option<Ty>
+    ensures { result ≡ rule.measured (form_of form.now) }
+{
+    match form {
+        Form::Value(value) => Some(value.ty()),
+        Form::Lvalue(place) => {
+            if is_bit(&place.place) {
+                None
+            } else {
+                Some(place.ty().ty)
+            }
+        }
+        Form::Function { .. } => None,
+    }
+}
+
 /// `sizeof` of a term, which is no bit and no function.
 pub fn size_of_term(types: &Types, term: Term, line: u32) -> Result<Term, CheckError>
     ensures { (known : Known) → Answers term_of result (types_in types.now known) (rule.size_of_term (term_of term) line (types_in types.now known)) }
 {
-    let ty = match &term.form {
-        Form::Value(value) => value.ty(),
-        Form::Lvalue(place) => match &place.place {
-            TPlace::Bit { .. } => return refused(Kind::Operand, line),
-            _ => place.ty().ty,
-        },
-        Form::Function { .. } => return refused(Kind::Operand, line),
+    let Some(ty) = measured(&term.form) else {
+        return refused(Kind::Operand, line);
     };
     size_of_type(types, ty, line)
+}
+
+// Whether what stands before `[` stays a place.
+fn keeps_place(form: &Form) -> bool
+    ensures { result ≡ rule.keeps_place (form_of form.now) }
+{
+    match form {
+        Form::Lvalue(place) => is_array(place.ty().ty),
+        Form::Value(_) | Form::Function { .. } => false,
+    }
 }
 
 /// What stands before `[`: an array stays a place, so that its elements count as parts of it.
 pub fn indexable(alloc: Global, types: &mut Types, term: Term) -> Result<Term, CheckError>
     ensures { (known : Known) → Answers term_of result (types_in types.new known) (rule.before_index (term_of term) (types_in types.old known)) }
 {
-    let is_array = match &term.form {
-        Form::Lvalue(place) => place.ty().ty.is_array(),
-        _ => false,
-    };
-    if is_array {
+    if keeps_place(&term.form) {
         return Ok(term);
     }
     let found = used_value(alloc, types, term)?;
@@ -123,6 +168,36 @@ pub fn indexable(alloc: Global, types: &mut Types, term: Term) -> Result<Term, C
         start: found.start,
         reach: found.reach,
     })
+}
+
+// What a sum of a pointer and an integer leads to.
+fn element_at(
+    alloc: Global,
+    left: Operand,
+    right: Operand,
+    found: Operation,
+    ty: Qualified,
+    line: u32,
+) -> Result<Term, CheckError>
+    ensures { (known : Known) → Answers term_of result known (given (rule.element_at (operand_of left) (operand_of right) (operation_of found) ty line) known) }
+{
+    let reach = first_reach(left.reach, right.reach);
+    let left = converted(alloc, left, found.left)?;
+    let right = converted(alloc, right, found.right)?;
+    let pointer = TExpr::Offset {
+        op: BinOp::Add,
+        left: Box::new(alloc, left)?,
+        right: Box::new(alloc, right)?,
+        size: found.size,
+        ty: found.ty,
+        line,
+    };
+    let place = TPlace::Deref {
+        pointer: Box::new(alloc, pointer)?,
+        ty,
+        line,
+    };
+    Ok(lvalue_term(behind_pointer(place, reach), line))
 }
 
 /// `e[i]`, which is `*(e + i)`. An element of an array that isn't reached through a pointer is a part of
@@ -138,29 +213,26 @@ pub fn element(
     let line = whole.start;
     let left = indexed(alloc, types, whole)?;
     let right = indexed(alloc, types, index)?;
-    let reach = first_reach(left.reach, right.reach);
     let Some(found) = operation_of(types, BinOp::Add, left.side(), right.side()) else {
         return refused(Kind::Operand, line);
     };
-    let Ty::Pointer(row) = found.ty else {
+    let Some(ty) = pointed_type(types, found.ty) else {
         return refused(Kind::Operand, line);
     };
-    let left = converted(alloc, left, found.left)?;
-    let right = converted(alloc, right, found.right)?;
-    let pointer = TExpr::Offset {
-        op: BinOp::Add,
-        left: Box::new(alloc, left)?,
-        right: Box::new(alloc, right)?,
-        size: found.size,
-        ty: found.ty,
-        line,
-    };
-    let place = TPlace::Deref {
-        pointer: Box::new(alloc, pointer)?,
-        ty: types.target(row),
-        line,
-    };
-    Ok(lvalue_term(behind_pointer(place, reach), line))
+    element_at(alloc, left, right, found, ty, line)
+}
+
+// How what a pointer points to is reached: as the array that the pointer names, or through the pointer.
+fn reach_behind(reach: Option<Reach>) -> Reach
+    ensures { reach_of result ≡ rule.reach_behind (option_map reach_of reach) }
+{
+    match reach {
+        Some(reach) => reach,
+        None => Reach {
+            through: true,
+            fixed: false,
+        },
+    }
 }
 
 // What a pointer points to: a part of the array that the pointer names, or reached through the pointer.
@@ -168,17 +240,32 @@ fn behind_pointer(place: TPlace, reach: Option<Reach>) -> Lvalue
     ensures place { place_of result.place ≡ place_of place }
     ensures reach { lvalue_reach result ≡ rule.reach_behind (option_map reach_of reach) }
 {
-    let reach = match reach {
-        Some(reach) => reach,
-        None => Reach {
-            through: true,
-            fixed: false,
-        },
-    };
+    let reach = reach_behind(reach);
     Lvalue {
         place,
         through: reach.through,
         fixed: reach.fixed,
+    }
+}
+
+// The member of a name, if the type is that of a structure that has one, and its number.
+fn member_in(types: &Types, ty: Ty, name: &[u8]) -> Option<(usize, Field)>
+    ensures { (known : Known) → option_map (λ m. (m.0, field_of m.1)) result ≡ rule.member_in (types_in types.now known) ty name.now }
+{
+    match ty {
+        Ty::Struct(structure) => types.member(structure, name),
+        Ty::Void | Ty::Int(_) | Ty::Pointer(_) | Ty::Array { .. } => None,
+    }
+}
+
+// The type of a member: it has its own qualifiers and those of the whole.
+fn part_type(whole: Qualified, part: Qualified) -> Qualified
+    ensures { result ≡ rule.part_type whole part }
+{
+    Qualified {
+        ty: part.ty,
+        constant: part.constant || whole.constant,
+        volatile: part.volatile || whole.volatile,
     }
 }
 
@@ -196,13 +283,11 @@ pub fn member(
     let Some(whole) = into_lvalue(whole) else {
         return refused(Kind::Member, line);
     };
-    let Ty::Struct(structure) = whole.ty().ty else {
+    let ty = whole.ty();
+    let Some((index, field)) = member_in(types, ty.ty, name) else {
         return refused(Kind::Member, line);
     };
-    let Some((index, field)) = types.member(structure, name) else {
-        return refused(Kind::Member, line);
-    };
-    let ty = field.ty.qualified_as(whole.ty());
+    let ty = part_type(ty, field.ty);
     let place = TPlace::Member {
         whole: Box::new(alloc, whole.place)?,
         member: number(index)?,
@@ -228,12 +313,9 @@ pub fn pointed_member(
 ) -> Result<Term, CheckError>
     ensures { (known : Known) → Answers term_of result (types_in types.now known) (rule.pointed_member (operand_of pointer) name.now line (types_in types.now known)) }
 {
-    let Some(row) = pointer.value.ty().target() else {
+    let Some(_) = object_pointed(types, pointer.value.ty()) else {
         return refused(Kind::Member, line);
     };
-    if !types.is_complete(types.target(row).ty) {
-        return refused(Kind::Member, line);
-    }
     let whole = pointed(alloc, types, pointer, line)?;
     member(alloc, types, whole, name, line)
 }

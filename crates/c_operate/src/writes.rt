@@ -3,6 +3,7 @@
 ghost use Rattle.std.specs.Prelude.{◌≡◌};
 ghost use Rattle.std.specs.Option.{option_map};
 ghost use Rattle.c_token.specs.declared.token.TokKind.TheVariants as kinds;
+ghost use Rattle.c_typed.specs.Sameness as stated;
 ghost use Rattle.c_typed.specs.Types.{place_type};
 ghost use Rattle.c_typed.specs.Views.{expression_of, place_of};
 ghost use Rattle.type_rules.specs.Known.{Known};
@@ -10,11 +11,12 @@ ghost use Rattle.type_rules.specs.Terms as terms;
 ghost use Rattle.type_rules.specs.Writes as rule;
 ghost use Rattle.c_operate.specs.Answers.{Answers};
 ghost use Rattle.c_operate.specs.Tables.{types_in};
-ghost use Rattle.c_operate.specs.Terms.{operand_of, term_of, valued};
+ghost use Rattle.c_operate.specs.Terms.{node_of, operand_of, term_of, valued};
 
 use crate::conversion::{assigned, converted};
 use crate::error::{CheckError, Kind, refused};
 use crate::operation::{Node, compound_operator, operation_of};
+use crate::sameness::{is_int, same_type};
 use crate::term::{Operand, Side, Term, read_from, refuse_table, value_term, written};
 use crate::types::Types;
 use c_ints::{BinOp, IntTy, usual};
@@ -33,7 +35,7 @@ fn copied(
     ensures { (known : Known) → Answers (valued line) result (types_in types.now known) (rule.copy (place_of place) (operand_of from) line (types_in types.now known)) }
 {
     let ty = place.ty().ty;
-    if from.value.ty() != ty {
+    if !same_type(from.value.ty(), ty) {
         return refused(Kind::Convert, line);
     }
     let Some(source) = read_from(from.value) else {
@@ -47,6 +49,15 @@ fn copied(
     })
 }
 
+fn is_struct(ty: Ty) -> bool
+    ensures { result ≡ stated.is_struct ty }
+{
+    match ty {
+        Ty::Struct(_) => true,
+        Ty::Void | Ty::Int(_) | Ty::Pointer(_) | Ty::Array { .. } => false,
+    }
+}
+
 fn simple(
     alloc: Global,
     types: &Types,
@@ -57,17 +68,26 @@ fn simple(
     ensures { (known : Known) → Answers (valued line) result (types_in types.now known) (rule.simple_assignment (place_type (place_of place)).ty (place_of place) (operand_of from) line (types_in types.now known)) }
 {
     let ty = place.ty().ty;
-    match ty {
-        Ty::Struct(_) => copied(alloc, types, place, from, line),
-        _ => {
-            let value = assigned(alloc, types, from, ty, line)?;
-            Ok(TExpr::Assign {
-                place: Box::new(alloc, place)?,
-                value: Box::new(alloc, value)?,
-                ty,
-                line,
-            })
-        }
+    if is_struct(ty) {
+        return copied(alloc, types, place, from, line);
+    }
+    let value = assigned(alloc, types, from, ty, line)?;
+    Ok(TExpr::Assign {
+        place: Box::new(alloc, place)?,
+        value: Box::new(alloc, value)?,
+        ty,
+        line,
+    })
+}
+
+// Whether an operator's result may become the place's type.
+fn keeps_type(node: Node, place: Ty, result_type: Ty) -> bool
+    ensures { result ≡ rule.keeps_type (node_of node) place result_type }
+{
+    match node {
+        Node::Binary => is_int(place),
+        Node::Offset => same_type(result_type, place),
+        Node::Difference => false,
     }
 }
 
@@ -86,12 +106,7 @@ fn compound(
     let Some(found) = operation_of(types, op, left, from.side()) else {
         return refused(Kind::Operand, line);
     };
-    let keeps = match found.node {
-        Node::Binary => ty.int().is_some(),
-        Node::Offset => found.ty == ty,
-        Node::Difference => false,
-    };
-    if !keeps {
+    if !keeps_type(found.node, ty, found.ty) {
         return refused(Kind::Convert, line);
     }
     let value = converted(alloc, from, found.right)?;
@@ -106,6 +121,22 @@ fn compound(
     })
 }
 
+fn assigned_by(
+    alloc: Global,
+    types: &Types,
+    op: Option<BinOp>,
+    place: TPlace,
+    from: Operand,
+    line: u32,
+) -> Result<TExpr, CheckError>
+    ensures { (known : Known) → Answers (valued line) result (types_in types.now known) (rule.assignment_by op (place_of place) (operand_of from) line (types_in types.now known)) }
+{
+    match op {
+        Some(op) => compound(alloc, types, op, place, from, line),
+        None => simple(alloc, types, place, from, line),
+    }
+}
+
 /// An assignment to a target, by `=` or an operator with `=`.
 pub fn assignment(
     alloc: Global,
@@ -118,10 +149,7 @@ pub fn assignment(
 {
     let line = target.start;
     let place = written(target, line)?;
-    let value = match compound_operator(sign) {
-        Some(op) => compound(alloc, types, op, place, from, line)?,
-        None => simple(alloc, types, place, from, line)?,
-    };
+    let value = assigned_by(alloc, types, compound_operator(sign), place, from, line)?;
     Ok(value_term(value, line))
 }
 
@@ -139,7 +167,7 @@ fn counted(types: &Types, ty: Ty) -> Option<(Ty, u64)>
                 None
             }
         }
-        _ => None,
+        Ty::Void | Ty::Array { .. } | Ty::Struct(_) => None,
     }
 }
 
