@@ -12,6 +12,7 @@ use crate::checker::Checker;
 use crate::conversion::assigned;
 use crate::error::{CheckError, Kind, refused};
 use crate::functions::Functions;
+use crate::made::call_node;
 use crate::term::{Form, Operand, Term, refuse_table, value_term};
 use crate::types::Types;
 use c_typed::{TExpr, Ty};
@@ -94,21 +95,11 @@ pub fn call(checker: &Checker, term: Term, arguments: Vec<Operand>) -> Result<Te
     let Some(function) = signature.definition else {
         return refused(Kind::Name, line);
     };
-    if !same_length(signature.params.as_slice(), arguments.as_slice()) {
+    let params = signature.params.as_slice();
+    if !same_length(params, arguments.as_slice()) {
         return refused(Kind::Call, line);
     }
-    let arguments = passed(
-        checker.alloc,
-        &checker.types,
-        arguments,
-        signature.params.as_slice(),
-        line,
-    )?;
-    let value = TExpr::Call {
-        function,
-        arguments,
-        ty: signature.result.ty,
-        line,
-    };
+    let values = passed(checker.alloc, &checker.types, arguments, params, line)?;
+    let value = call_node(function, values, signature.result.ty, line);
     Ok(value_term(value, line))
 }

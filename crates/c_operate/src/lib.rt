@@ -14,6 +14,7 @@ pub mod checker;
 pub mod conversion;
 pub mod error;
 pub mod functions;
+mod made;
 mod operation;
 pub mod operators;
 pub mod places;

@@ -9,8 +9,10 @@ ghost use Rattle.c_operate.specs.Answers.{Answers};
 ghost use Rattle.c_operate.specs.Tables.{field_of, types_in};
 ghost use Rattle.c_operate.specs.Terms.{form_of, lvalue_reach, operand_of, operation_of, reach_of, term_of};
 
+use crate::build::{address_node, offset_node};
 use crate::conversion::converted;
 use crate::error::{CheckError, Kind, number, refused};
+use crate::made::{deref_place, member_place};
 use crate::operation::{Operation, operation_of};
 use crate::sameness::is_array;
 use crate::term::{
@@ -19,7 +21,7 @@ use crate::term::{
 };
 use crate::types::{Field, Types};
 use c_ints::{BinOp, IntTy};
-use c_typed::{Qualified, TExpr, TPlace, Ty};
+use c_typed::{Qualified, TPlace, Ty};
 use std::alloc::Global;
 
 // What a pointer of this type points to.
@@ -61,11 +63,7 @@ pub fn pointed(
         return refused(Kind::Operand, line);
     };
     let reach = operand.reach;
-    let place = TPlace::Deref {
-        pointer: Box::new(alloc, operand.value)?,
-        ty,
-        line,
-    };
+    let place = deref_place(alloc, operand.value, ty, line)?;
     Ok(lvalue_term(behind_pointer(place, reach), line))
 }
 
@@ -81,11 +79,7 @@ pub fn address(alloc: Global, types: &mut Types, term: Term, line: u32) -> Resul
         return refused(Kind::Address, line);
     }
     let ty = types.pointer_to(place.ty())?;
-    let value = TExpr::Address {
-        place: Box::new(alloc, place.place)?,
-        ty,
-        line,
-    };
+    let value = address_node(alloc, place.place, ty, line)?;
     Ok(value_term(value, line))
 }
 
@@ -107,6 +101,7 @@ pub fn size_of_type(types: &Types, ty: Ty, line: u32) -> Result<Term, CheckError
     Ok(value_term(value, line))
 }
 
+#[tactic(auto, using(c_typed::proofs::Shapes::show_place_bit, c_typed::proofs::Shapes::show_place_name, c_typed::proofs::Shapes::show_place_member, c_typed::proofs::Shapes::show_place_deref))]
 fn is_bit(place: &TPlace) -> bool
     ensures { result ≡ rule.is_bit (place_of place.now) }
 {
@@ -184,19 +179,8 @@ fn element_at(
     let reach = first_reach(left.reach, right.reach);
     let left = converted(alloc, left, found.left)?;
     let right = converted(alloc, right, found.right)?;
-    let pointer = TExpr::Offset {
-        op: BinOp::Add,
-        left: Box::new(alloc, left)?,
-        right: Box::new(alloc, right)?,
-        size: found.size,
-        ty: found.ty,
-        line,
-    };
-    let place = TPlace::Deref {
-        pointer: Box::new(alloc, pointer)?,
-        ty,
-        line,
-    };
+    let pointer = offset_node(alloc, BinOp::Add, left, right, found.size, found.ty, line)?;
+    let place = deref_place(alloc, pointer, ty, line)?;
     Ok(lvalue_term(behind_pointer(place, reach), line))
 }
 
@@ -288,13 +272,7 @@ pub fn member(
         return refused(Kind::Member, line);
     };
     let ty = part_type(ty, field.ty);
-    let place = TPlace::Member {
-        whole: Box::new(alloc, whole.place)?,
-        member: number(index)?,
-        offset: field.offset,
-        ty,
-        line,
-    };
+    let place = member_place(alloc, whole.place, number(index)?, field.offset, ty, line)?;
     let place = Lvalue {
         place,
         through: whole.through,

@@ -15,6 +15,7 @@ ghost use Rattle.c_operate.specs.Terms.{node_of, operand_of, term_of, valued};
 
 use crate::conversion::{assigned, converted};
 use crate::error::{CheckError, Kind, refused};
+use crate::made::{assign_node, copy_node, step_node, update_node};
 use crate::operation::{Node, compound_operator, operation_of};
 use crate::sameness::{is_int, same_type};
 use crate::term::{Operand, Side, Term, read_from, refuse_table, value_term, written};
@@ -41,12 +42,8 @@ fn copied(
     let Some(source) = read_from(from.value) else {
         return refused(Kind::Convert, line);
     };
-    Ok(TExpr::StructAssign {
-        place: Box::new(alloc, place)?,
-        from: Box::new(alloc, source)?,
-        size: types.bytes_of(ty),
-        line,
-    })
+    let size = types.bytes_of(ty);
+    Ok(copy_node(alloc, place, source, size, line)?)
 }
 
 fn is_struct(ty: Ty) -> bool
@@ -72,12 +69,7 @@ fn simple(
         return copied(alloc, types, place, from, line);
     }
     let value = assigned(alloc, types, from, ty, line)?;
-    Ok(TExpr::Assign {
-        place: Box::new(alloc, place)?,
-        value: Box::new(alloc, value)?,
-        ty,
-        line,
-    })
+    Ok(assign_node(alloc, place, value, ty, line)?)
 }
 
 // Whether an operator's result may become the place's type.
@@ -110,15 +102,7 @@ fn compound(
         return refused(Kind::Convert, line);
     }
     let value = converted(alloc, from, found.right)?;
-    Ok(TExpr::Update {
-        op,
-        place: Box::new(alloc, place)?,
-        value: Box::new(alloc, value)?,
-        operation: found.left,
-        size: found.size,
-        ty,
-        line,
-    })
+    Ok(update_node(alloc, op, place, value, found.left, found.size, ty, line)?)
 }
 
 fn assigned_by(
@@ -187,13 +171,6 @@ pub fn stepped(
     let Some((operation, size)) = counted(types, ty) else {
         return refused(Kind::Operand, line);
     };
-    let value = TExpr::Step {
-        op,
-        place: Box::new(alloc, place)?,
-        operation,
-        size,
-        ty,
-        line,
-    };
+    let value = step_node(alloc, op, place, operation, size, ty, line)?;
     Ok(value_term(value, line))
 }
