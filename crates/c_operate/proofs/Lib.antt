@@ -5,3 +5,4 @@ pub mod Scopes
 pub mod Sights
 pub mod Steps
 pub mod Operating
+pub mod PlacesRead

@@ -1,13 +1,17 @@
 -- What operators do with operands, by the tests that the code makes.
-use Rattle.std.proofs.Common.{◌≡◌, ℕ, Bool, true, false, ◌&&◌, if◌then◌else◌, Option, Some, None, ◌⊎◌, inl, inr, refl, sym, ap, ◌∙◌}
+use Rattle.std.proofs.Common.{◌≡◌, ℕ, Bool, true, false, ◌&&◌, ◌||◌, if◌then◌else◌, Option, Some, None, ◌⊎◌, inl, inr, refl, sym, ap, ◌∙◌}
 use Rattle.c_ints.specs.Operators.{compares}
 use Rattle.c_ints.specs.declared.operators.BinOp.{BinOp}
 use Rattle.c_ints.specs.declared.operators.BinOp.TheVariants as binop
 use Rattle.c_typed.specs.declared.types.Ty.{Ty}
 use Rattle.c_typed.specs.declared.types.Ty.TheVariants.{Pointer}
+use Rattle.c_typed.specs.declared.types.Qualified.{Qualified}
+use Rattle.type_rules.specs.Conversions as conversions
 use Rattle.type_rules.specs.Known.{Known}
 use Rattle.type_rules.specs.Operations as rule
 use Rattle.type_rules.specs.Operations.{Operation, Moved, Difference}
+use Rattle.type_rules.specs.Rows.{target_of}
+use Rattle.type_rules.specs.Terms.{Side}
 
 pub if_true : {A : Type 0} (b : Bool) (x y : A) → b ≡ true → (if b then x else y) ≡ x
 if_true true x y h = refl
@@ -68,3 +72,7 @@ ordered_is known _ a b h = cc
 pub operation_equal : (known : Known) (op : BinOp) (a_null b_null : Bool) (a b : ℕ) (ty : Ty) → ty ≡ Pointer b → rule.equates op ≡ true → rule.equality known a a_null b b_null ≡ rule.operation_on known op a_null b_null (Pointer a) ty
 operation_equal known op a_null b_null a b ty e h =
     sym (if_true (rule.equates op) (rule.equality known a a_null b b_null) (rule.on_pointers known op a b) h) ∙ ap (rule.operation_on known op a_null b_null (Pointer a)) (sym e)
+
+pub becomes_is : (known : Known) (from : Side) (row : ℕ) (ty : Ty) (to : Qualified) → ty ≡ Pointer row → from.null ≡ false → conversions.may_become (target_of known row) to ≡ conversions.becomes_pointer known from ty to
+becomes_is known from row ty to e null =
+    sym (ap (λ b. b || conversions.may_become (target_of known row) to) null) ∙ ap (λ t. conversions.becomes_pointer known from t to) (sym e)
