@@ -6,3 +6,4 @@ pub mod Sights
 pub mod Steps
 pub mod Operating
 pub mod PlacesRead
+pub mod Starts

@@ -1,5 +1,5 @@
 -- What operators do with operands, by the tests that the code makes.
-use Rattle.std.proofs.Common.{◌≡◌, ℕ, Bool, true, false, ◌&&◌, ◌||◌, if◌then◌else◌, Option, Some, None, ◌⊎◌, inl, inr, refl, sym, ap, ◌∙◌}
+use Rattle.std.proofs.Common.{◌≡◌, ℕ, Bool, true, false, ◌&&◌, ◌||◌, if◌then◌else◌, Option, Some, None, Ok, ◌⊎◌, inl, inr, refl, sym, ap, ◌∙◌}
 use Rattle.c_ints.specs.Operators.{compares}
 use Rattle.c_ints.specs.declared.operators.BinOp.{BinOp}
 use Rattle.c_ints.specs.declared.operators.BinOp.TheVariants as binop
@@ -7,11 +7,16 @@ use Rattle.c_typed.specs.declared.types.Ty.{Ty}
 use Rattle.c_typed.specs.declared.types.Ty.TheVariants.{Pointer}
 use Rattle.c_typed.specs.declared.types.Qualified.{Qualified}
 use Rattle.type_rules.specs.Conversions as conversions
-use Rattle.type_rules.specs.Known.{Known}
+use Rattle.type_rules.specs.Known.{Known, given}
 use Rattle.type_rules.specs.Operations as rule
-use Rattle.type_rules.specs.Operations.{Operation, Moved, Difference}
+use Rattle.type_rules.specs.Operations.{Operation, Node, Plain, Moved, Difference}
+use Rattle.type_rules.specs.Faults as kind
 use Rattle.type_rules.specs.Rows.{target_of}
-use Rattle.type_rules.specs.Terms.{Side}
+use Rattle.type_rules.specs.Operators as operators
+use Rattle.type_rules.specs.Terms.{Side, Operand, Reach, side_of, first_into, value_term}
+use Rattle.c_typed.specs.Trees.{Expression}
+use Rattle.c_operate.specs.Terms.{reach_moved}
+use Rattle.c_operate.proofs.Steps.{then_wanted_some}
 
 pub if_true : {A : Type 0} (b : Bool) (x y : A) → b ≡ true → (if b then x else y) ≡ x
 if_true true x y h = refl
@@ -76,3 +81,20 @@ operation_equal known op a_null b_null a b ty e h =
 pub becomes_is : (known : Known) (from : Side) (row : ℕ) (ty : Ty) (to : Qualified) → ty ≡ Pointer row → from.null ≡ false → conversions.may_become (target_of known row) to ≡ conversions.becomes_pointer known from ty to
 becomes_is known from row ty to e null =
     sym (ap (λ b. b || conversions.may_become (target_of known row) to) null) ∙ ap (λ t. conversions.becomes_pointer known from t to) (sym e)
+
+-- ---- the term of an operator
+
+moved_into : (node : Node) (x y : Operand) (into reach : Option Reach) → into ≡ first_into x.into y.into → reach ≡ reach_moved node into → operators.into_behind node x y ≡ reach
+moved_into Plain x y into reach e h = sym h
+moved_into Moved x y into reach e h = sym (h ∙ e)
+moved_into Difference x y into reach e h = sym h
+
+value_is : (op : BinOp) (x y : Operand) (found : Operation) (left right value : Expression) → left ≡ conversions.converted x found.left → right ≡ conversions.converted y found.right → value ≡ operators.binary_value found.node op left right found x.start → operators.binary_value found.node op (conversions.converted x found.left) (conversions.converted y found.right) found x.start ≡ value
+value_is op x y found left right value l r v =
+    sym (v ∙ (ap (λ e. operators.binary_value found.node op e right found x.start) l ∙ ap (λ e. operators.binary_value found.node op (conversions.converted x found.left) e found x.start) r))
+
+pub binary_is : (known : Known) (op : BinOp) (x y : Operand) (found : Operation) (left right value : Expression) (into reach : Option Reach) → rule.operation_of known op (side_of x) (side_of y) ≡ Some found → left ≡ conversions.converted x found.left → right ≡ conversions.converted y found.right → value ≡ operators.binary_value found.node op left right found x.start → into ≡ first_into x.into y.into → reach ≡ reach_moved found.node into → operators.binary op x y known ≡ Ok (record (value_term value x.start) { into = reach }, known)
+binary_is known op x y found left right value into reach asked l r v i m =
+    then_wanted_some kind.Operand x.start (rule.operation_of known op (side_of x) (side_of y)) found (λ o. given (operators.binary_term op x y o)) known asked
+    ∙ (ap (λ e. Ok (record (value_term e x.start) { into = operators.into_behind found.node x y }, known)) (value_is op x y found left right value l r v)
+    ∙ ap (λ b. Ok (record (value_term value x.start) { into = b }, known)) (moved_into found.node x y into reach i m))

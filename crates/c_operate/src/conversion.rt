@@ -1,6 +1,6 @@
 //! Conversions between types (ISO/IEC 9899:1990, 6.2 and 6.3.16.1).
 
-ghost use Rattle.std.specs.Prelude.{◌≡◌};
+ghost use Rattle.std.specs.Prelude.{◌≡◌, IfOk};
 ghost use Rattle.c_typed.specs.Views.{expression_of};
 ghost use Rattle.type_rules.specs.Conversions as rule;
 ghost use Rattle.type_rules.specs.Known.{Known, given};
@@ -14,16 +14,23 @@ use crate::sameness::{is_int, is_pointer, is_void, same_type};
 use crate::term::{Operand, Side};
 use crate::types::Types;
 use c_typed::{Qualified, TExpr, Ty};
-use std::alloc::Global;
+use std::alloc::{AllocError, Global};
+
+/// The value in this type, by a Convert node where it has another one. The one error is that memory ran out.
+pub(crate) fn in_type(alloc: Global, operand: Operand, ty: Ty) -> Result<TExpr, AllocError>
+    ensures { IfOk result (λ e. expression_of e ≡ rule.converted (operand_of operand) ty) }
+{
+    if same_type(operand.value.ty(), ty) {
+        return Ok(operand.value);
+    }
+    convert_node(alloc, operand.value, ty, operand.line)
+}
 
 /// The value in this type, by a Convert node where it has another one.
 pub fn converted(alloc: Global, operand: Operand, ty: Ty) -> Result<TExpr, CheckError>
     ensures { (known : Known) → Answers expression_of result known (given (rule.converted (operand_of operand) ty) known) }
 {
-    if same_type(operand.value.ty(), ty) {
-        return Ok(operand.value);
-    }
-    Ok(convert_node(alloc, operand.value, ty, operand.line)?)
+    Ok(in_type(alloc, operand, ty)?)
 }
 
 // Whether a pointer to the one may become a pointer to the other: they are of one type, or one of them

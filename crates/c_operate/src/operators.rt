@@ -17,7 +17,7 @@ use crate::build::{
     binary_node, cast_node, comma_node, conditional_node, difference_node, logical_node,
     offset_node, unary_node,
 };
-use crate::conversion::{converted, is_assignable, is_castable};
+use crate::conversion::{in_type, is_assignable, is_castable};
 use crate::error::{CheckError, Kind, refused};
 use crate::operation::{Node, Operation, binary_operator, operation_of};
 use crate::sameness::{is_pointer, is_scalar, same_type};
@@ -60,8 +60,8 @@ fn binary(
         return refused(Kind::Operand, line);
     };
     let reach = reach_behind(found.node, first_reach(left.reach, right.reach));
-    let left = converted(alloc, left, found.left)?;
-    let right = converted(alloc, right, found.right)?;
+    let left = in_type(alloc, left, found.left)?;
+    let right = in_type(alloc, right, found.right)?;
     let value = binary_value(alloc, op, left, right, found, line)?;
     Ok(Term {
         form: Form::Value(value),
@@ -188,8 +188,8 @@ pub fn chosen(
     let Some(ty) = chosen_type(types, first.side(), second.side()) else {
         return refused(Kind::Operand, line);
     };
-    let first = converted(alloc, first, ty)?;
-    let second = converted(alloc, second, ty)?;
+    let first = in_type(alloc, first, ty)?;
+    let second = in_type(alloc, second, ty)?;
     let value = conditional_node(alloc, condition.value, first, second, ty, line)?;
     Ok(value_term(value, line))
 }
@@ -240,7 +240,7 @@ fn promoted_unary(
 ) -> Result<Term, CheckError>
     ensures { (known : Known) → Answers term_of result known (given (value_term (typed.Unary op (rule_converted (operand_of operand) ty) ty line) line) known) }
 {
-    let value = converted(alloc, operand, ty)?;
+    let value = in_type(alloc, operand, ty)?;
     let value = unary_node(alloc, op, value, ty, line)?;
     Ok(value_term(value, line))
 }
