@@ -4,10 +4,9 @@ use Rattle.std.specs.Result.{IsErrAnd}
 use Rattle.type_rules.specs.Faults as rule
 use Rattle.type_rules.specs.Faults.{Fault, Tests}
 use Rattle.type_rules.specs.Known.{Known, Rule, tried, wanted, go_on, ◌>>=◌}
-use Rattle.c_operate.specs.Answers.{kind_of, fault_of, Refuses, Answers, Learns}
+use Rattle.c_operate.specs.Answers.{Refuses, Answers, Learns}
 use Rattle.c_operate.specs.declared.error.CheckError.{CheckError}
 use Rattle.c_operate.specs.declared.error.CheckError.TheVariants as errors
-use Rattle.c_operate.specs.declared.error.Kind.{Kind}
 
 -- ---- one rule behind another
 

@@ -287,7 +287,14 @@ fn on_pointers(types: &Types, op: BinOp, a: u32, b: u32) -> Option<Operation>
     }
 }
 
-fn beside_integer(types: &Types, op: BinOp, a: IntTy, a_null: bool, right: Side) -> Option<Operation>
+// An operator whose left operand is an integer.
+fn beside_integer(
+    types: &Types,
+    op: BinOp,
+    a: IntTy,
+    a_null: bool,
+    right: Side,
+) -> Option<Operation>
     ensures { (known : Known) → option_map operation_of result ≡ rule.operation_on (types_in types.now known) op a_null right.null (Int a) right.ty }
 {
     match right.ty {
@@ -303,6 +310,7 @@ fn beside_integer(types: &Types, op: BinOp, a: IntTy, a_null: bool, right: Side)
     }
 }
 
+// An operator whose left operand is a pointer.
 fn beside_pointer(types: &Types, op: BinOp, a: u32, a_null: bool, right: Side) -> Option<Operation>
     ensures { (known : Known) → option_map operation_of result ≡ rule.operation_on (types_in types.now known) op a_null right.null (Pointer a) right.ty }
 {

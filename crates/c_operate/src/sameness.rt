@@ -5,7 +5,7 @@ ghost use Rattle.c_typed.specs.Sameness as stated;
 ghost use Rattle.c_typed.specs.declared.types.Ty.TheVariants.{Array};
 
 use c_ints::IntTy;
-use c_typed::{Qualified, Ty};
+use c_typed::Ty;
 
 fn int_number(ty: IntTy) -> u8
     ensures { result ≡ stated.int_number ty }
@@ -66,19 +66,6 @@ fn same_array(first: u32, count: u32, bytes: u64, other: Ty) -> bool
         } => first == element && count == length && bytes == size,
         Ty::Void | Ty::Int(_) | Ty::Pointer(_) | Ty::Struct(_) => false,
     }
-}
-
-fn same_flag(a: bool, b: bool) -> bool
-    ensures { result ≡ stated.same_flag a b }
-{
-    if a { b } else { !b }
-}
-
-/// Whether two types with their qualifiers are the same.
-pub(crate) fn same_qualified(a: Qualified, b: Qualified) -> bool
-    ensures { result ≡ stated.same_qualified a b }
-{
-    same_type(a.ty, b.ty) && same_flag(a.constant, b.constant) && same_flag(a.volatile, b.volatile)
 }
 
 /// Whether the type is void.

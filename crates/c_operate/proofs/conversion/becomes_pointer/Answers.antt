@@ -1,4 +1,4 @@
-use Rattle.std.proofs.Common.{sym, ap, ◌∙◌}
+use Rattle.std.proofs.Common.{ap, ◌∙◌}
 use Rattle.type_rules.specs.Conversions as rule
 use Rattle.c_operate.specs.Tables.{types_in}
 use Rattle.c_operate.specs.Terms.{side_of}
