@@ -1,6 +1,6 @@
 //! Calls of functions (ISO/IEC 9899:1990, 6.3.2.2).
 
-ghost use Rattle.std.specs.Prelude.{◌≡◌, length, map, nat_eq, slice_get};
+ghost use Rattle.std.specs.Prelude.{◌≡◌, ◌∷◌, [], MatchOption, length, map, nat_eq, slice_get};
 ghost use Rattle.c_typed.specs.Views.{arguments_of, expression_of};
 ghost use Rattle.type_rules.specs.Known.{Known};
 ghost use Rattle.type_rules.specs.Writes as rule;
@@ -58,6 +58,16 @@ fn same_length(params: &[Ty], arguments: &[Operand]) -> bool
     params.len() == arguments.len()
 }
 
+// The first type of a list, and the others.
+fn front(types: &[Ty]) -> Option<(Ty, &[Ty])>
+    ensures { MatchOption result (types.now ≡ []) (λ x. types.now ≡ x.0 ∷ x.1.now) }
+{
+    match types {
+        [] => None,
+        [ty, rest @ ..] => Some((*ty, rest)),
+    }
+}
+
 // The arguments, each as the type of its parameter.
 fn passed(
     alloc: Global,
@@ -71,11 +81,11 @@ fn passed(
     let mut made = Vec::new(alloc);
     let mut left = arguments.into_iter();
     let mut rest = params;
-    while let [ty, behind @ ..] = rest {
+    while let Some((ty, behind)) = front(rest) {
         let Some(argument) = left.next() else {
             return Ok(made);
         };
-        made.push(assigned(alloc, types, argument, *ty, line)?)?;
+        made.push(assigned(alloc, types, argument, ty, line)?)?;
         rest = behind;
     }
     Ok(made)
