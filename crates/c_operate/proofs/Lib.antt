@@ -7,3 +7,7 @@ pub mod Steps
 pub mod Operating
 pub mod PlacesRead
 pub mod Starts
+pub mod Refusing
+pub mod PlaceSteps
+pub mod WriteSteps
+pub mod CallSteps
