@@ -3,11 +3,16 @@
 //! Each function of the recursion has a frame of its own, hence `inline(never)`: a frame holds
 //! what one function needs, and a tree of thousands of levels stays within the call stack.
 
-ghost use Rattle.c_tree.specs.Views.{assign_of, cond_of, expr_of};
+ghost use Rattle.std.specs.Prelude.{◌≡◌, ◌∷◌, [], map, IfErr, IfOk};
+ghost use Rattle.c_token.specs.declared.token.TokKind.TheVariants as kinds;
+ghost use Rattle.c_tree.specs.Views.{assign_of, binary_of, cast_of, choice_of, cond_of, expr_of, next_assign_of, next_operand_of, operand_of as tree_operand_of, postfix_of, postfix_suffix_of, primary_of, target_of};
 ghost use Rattle.type_rules.specs.Expressions as rule;
 ghost use Rattle.c_operate.specs.Answers.{Answers};
+ghost use Rattle.c_operate.specs.declared.error.CheckError.TheVariants.{NoMemory};
 ghost use Rattle.c_operate.specs.Tables.{known_of};
-ghost use Rattle.c_operate.specs.Terms.{term_of};
+ghost use Rattle.c_operate.specs.Terms.{operand_of, term_of};
+ghost use Rattle.check_expr.specs.Folds as fold;
+ghost use Rattle.check_expr.specs.Kept.{applied_list, choices_in, operands_in, sides_in};
 ghost use Rattle.check_expr.specs.Views.{unlisted};
 
 use crate::prefixes::{Applied, apply_prefix, listed};
@@ -33,17 +38,19 @@ use c_typed::StepOp;
 pub fn expression(expr: &Expr, checker: &mut Checker) -> Result<Term, CheckError>
     ensures { Answers term_of result (known_of checker.new) (unlisted (rule.judged (expr_of expr.now) (known_of checker.old))) }
 {
-    let first = assign(&expr.first, checker)?;
+    let first = assigned(&expr.first, checker)?;
     sequence(&expr.others, checker, first)
 }
 
 #[cycle(expression)]
 #[inline(never)]
-fn sequence(others: &[NextAssign], checker: &mut Checker, first: Term) -> Result<Term, CheckError> {
+fn sequence(others: &[NextAssign], checker: &mut Checker, first: Term) -> Result<Term, CheckError>
+    ensures { Answers term_of result (known_of checker.new) (fold.sequenced_from (term_of first) (map next_assign_of others.now) (known_of checker.old)) }
+{
     let mut left = first;
     for next in others {
         let dropped = used(left, checker)?;
-        let right = assign(&next.assign, checker)?;
+        let right = assigned(&next.assign, checker)?;
         let right = used(right, checker)?;
         left = sequenced(checker.alloc, dropped, right)?;
     }
@@ -58,9 +65,16 @@ struct Target {
 }
 
 /// A value, and what it is assigned to.
-#[cycle(expression)]
 pub fn assign(assign: &Assign, checker: &mut Checker) -> Result<Term, CheckError>
     ensures { Answers term_of result (known_of checker.new) (unlisted (rule.judged (assign_of assign.now) (known_of checker.old))) }
+{
+    assigned(assign, checker)
+}
+
+#[cycle(expression)]
+#[inline(never)]
+fn assigned(assign: &Assign, checker: &mut Checker) -> Result<Term, CheckError>
+    ensures { Answers term_of result (known_of checker.new) (rule.judged (assign_of assign.now) (known_of checker.old)) }
 {
     let targets = places(&assign.targets, checker)?;
     let value = conditional(&assign.value, checker)?;
@@ -69,7 +83,9 @@ pub fn assign(assign: &Assign, checker: &mut Checker) -> Result<Term, CheckError
 
 #[cycle(expression)]
 #[inline(never)]
-fn places(targets: &[TreeTarget], checker: &mut Checker) -> Result<Vec<Target>, CheckError> {
+fn places(targets: &[TreeTarget], checker: &mut Checker) -> Result<Vec<Target>, CheckError>
+    ensures { Answers sides_in result (known_of checker.new) (fold.sides_from [] (map target_of targets.now) (known_of checker.old)) }
+{
     let mut places = Vec::new(checker.alloc);
     for target in targets {
         let term = cast(&target.place, checker)?;
@@ -83,13 +99,12 @@ fn places(targets: &[TreeTarget], checker: &mut Checker) -> Result<Vec<Target>, 
 }
 
 #[inline(never)]
-fn assign_all(
-    checker: &mut Checker,
-    targets: Vec<Target>,
-    value: Term,
-) -> Result<Term, CheckError> {
+fn assign_all(checker: &mut Checker, targets: Vec<Target>, value: Term) -> Result<Term, CheckError>
+    ensures { Answers term_of result (known_of checker.new) (fold.assigned_back (sides_in targets) (term_of value) (known_of checker.old)) }
+{
+    let mut targets = targets;
     let mut value = value;
-    for target in targets.into_iter().rev() {
+    while let Some(target) = targets.pop() {
         let from = used(value, checker)?;
         let Target { term, sign } = target;
         value = assignment(checker.alloc, &checker.types, sign.punct, term, from)?;
@@ -107,30 +122,36 @@ struct Chosen {
 /// Choices, and what is left where no condition holds.
 #[cycle(expression)]
 pub(crate) fn conditional(cond: &Cond, checker: &mut Checker) -> Result<Term, CheckError>
-    ensures { Answers term_of result (known_of checker.new) (unlisted (rule.judged (cond_of cond.now) (known_of checker.old))) }
+    ensures { Answers term_of result (known_of checker.new) (rule.judged (cond_of cond.now) (known_of checker.old)) }
 {
-    let mut choices = Vec::new(checker.alloc);
-    for choice in &cond.choices {
-        choices.push(self::choice(choice, checker)?)?;
-    }
+    let choices = choices(&cond.choices, checker)?;
     let last = operands(&cond.last, checker)?;
     choose_all(checker, choices, last)
 }
 
 #[cycle(expression)]
 #[inline(never)]
-fn choice(choice: &Choice, checker: &mut Checker) -> Result<Chosen, CheckError> {
-    let condition = operands(&choice.condition, checker)?;
-    let condition = used(condition, checker)?;
-    let then = expression(&choice.then, checker)?;
-    let then = used(then, checker)?;
-    Ok(Chosen { condition, then })
+fn choices(choices: &[Choice], checker: &mut Checker) -> Result<Vec<Chosen>, CheckError>
+    ensures { Answers choices_in result (known_of checker.new) (fold.choices_from [] (map choice_of choices.now) (known_of checker.old)) }
+{
+    let mut chosen = Vec::new(checker.alloc);
+    for choice in choices {
+        let condition = operands(&choice.condition, checker)?;
+        let condition = used(condition, checker)?;
+        let then = expression(&choice.then, checker)?;
+        let then = used(then, checker)?;
+        chosen.push(Chosen { condition, then })?;
+    }
+    Ok(chosen)
 }
 
 #[inline(never)]
-fn choose_all(checker: &mut Checker, choices: Vec<Chosen>, last: Term) -> Result<Term, CheckError> {
+fn choose_all(checker: &mut Checker, choices: Vec<Chosen>, last: Term) -> Result<Term, CheckError>
+    ensures { Answers term_of result (known_of checker.new) (fold.chosen_back (choices_in choices) (term_of last) (known_of checker.old)) }
+{
+    let mut choices = choices;
     let mut value = last;
-    for choice in choices.into_iter().rev() {
+    while let Some(choice) = choices.pop() {
         let otherwise = used(value, checker)?;
         let Chosen { condition, then } = choice;
         value = chosen(checker.alloc, &checker.types, condition, then, otherwise)?;
@@ -140,7 +161,9 @@ fn choose_all(checker: &mut Checker, choices: Vec<Chosen>, last: Term) -> Result
 
 #[cycle(expression)]
 #[inline(never)]
-fn operands(binary: &Binary, checker: &mut Checker) -> Result<Term, CheckError> {
+fn operands(binary: &Binary, checker: &mut Checker) -> Result<Term, CheckError>
+    ensures { Answers term_of result (known_of checker.new) (rule.judged (binary_of binary.now) (known_of checker.old)) }
+{
     match binary {
         Binary::Operand(operand) => cast(operand, checker),
         Binary::Chain { first, others } => {
@@ -150,11 +173,26 @@ fn operands(binary: &Binary, checker: &mut Checker) -> Result<Term, CheckError> 
     }
 }
 
+// A comma stands in a list of its own, and is no operator of a chain: no text has such a tree, which would be one
+// argument here and two by the rules.
+fn refuse_comma(sign: Punct) -> Result<(), CheckError>
+    ensures operator { IfOk result (λ _. fold.IsOperator sign) }
+    ensures refused { IfErr result (λ e. e ≡ NoMemory) }
+{
+    match sign {
+        Punct::Comma => Err(CheckError::NoMemory),
+        _ => Ok(()),
+    }
+}
+
 #[cycle(expression)]
 #[inline(never)]
-fn chain(others: &[NextOperand], checker: &mut Checker, first: Term) -> Result<Term, CheckError> {
+fn chain(others: &[NextOperand], checker: &mut Checker, first: Term) -> Result<Term, CheckError>
+    ensures { Answers term_of result (known_of checker.new) (fold.combined_from (term_of first) (map next_operand_of others.now) (known_of checker.old)) }
+{
     let mut left = first;
     for next in others {
+        refuse_comma(next.operator.punct)?;
         let a = used(left, checker)?;
         let b = operands(&next.operand, checker)?;
         let b = used(b, checker)?;
@@ -165,17 +203,27 @@ fn chain(others: &[NextOperand], checker: &mut Checker, first: Term) -> Result<T
 
 #[cycle(expression)]
 #[inline(never)]
-fn cast(cast: &Cast, checker: &mut Checker) -> Result<Term, CheckError> {
+fn cast(cast: &Cast, checker: &mut Checker) -> Result<Term, CheckError>
+    ensures { Answers term_of result (known_of checker.new) (rule.judged (cast_of cast.now) (known_of checker.old)) }
+{
     let prefixes = listed(&cast.prefixes, checker)?;
-    let term = match &cast.operand {
-        TreeOperand::Postfix(postfix) => self::postfix(postfix, checker)?,
+    let term = operand(&cast.operand, checker)?;
+    apply_all(checker, prefixes, term)
+}
+
+#[cycle(expression)]
+#[inline(never)]
+fn operand(operand: &TreeOperand, checker: &mut Checker) -> Result<Term, CheckError>
+    ensures { Answers term_of result (known_of checker.new) (rule.judged (tree_operand_of operand.now) (known_of checker.old)) }
+{
+    match operand {
+        TreeOperand::Postfix(postfix) => self::postfix(postfix, checker),
         TreeOperand::SizeofType {
             keyword,
             type_name,
             ..
-        } => size_of_name(type_name, checker, *keyword)?,
-    };
-    apply_all(checker, prefixes, term)
+        } => size_of_name(type_name, checker, *keyword),
+    }
 }
 
 #[inline(never)]
@@ -183,9 +231,12 @@ fn apply_all(
     checker: &mut Checker,
     prefixes: Vec<Applied>,
     operand: Term,
-) -> Result<Term, CheckError> {
+) -> Result<Term, CheckError>
+    ensures { Answers term_of result (known_of checker.new) (fold.applied_back (applied_list prefixes) (term_of operand) (known_of checker.old)) }
+{
+    let mut prefixes = prefixes;
     let mut term = operand;
-    for prefix in prefixes.into_iter().rev() {
+    while let Some(prefix) = prefixes.pop() {
         term = apply_prefix(checker, prefix, term)?;
     }
     Ok(term)
@@ -193,9 +244,24 @@ fn apply_all(
 
 #[cycle(expression)]
 #[inline(never)]
-fn postfix(postfix: &Postfix, checker: &mut Checker) -> Result<Term, CheckError> {
-    let mut term = primary(&postfix.primary, checker)?;
-    for suffix in &postfix.suffixes {
+fn postfix(postfix: &Postfix, checker: &mut Checker) -> Result<Term, CheckError>
+    ensures { Answers term_of result (known_of checker.new) (rule.judged (postfix_of postfix.now) (known_of checker.old)) }
+{
+    let first = primary(&postfix.primary, checker)?;
+    suffixes(&postfix.suffixes, checker, first)
+}
+
+#[cycle(expression)]
+#[inline(never)]
+fn suffixes(
+    suffixes: &[PostfixSuffix],
+    checker: &mut Checker,
+    first: Term,
+) -> Result<Term, CheckError>
+    ensures { Answers term_of result (known_of checker.new) (fold.posted_from (term_of first) (map postfix_suffix_of suffixes.now) (known_of checker.old)) }
+{
+    let mut term = first;
+    for suffix in suffixes {
         term = self::suffix(suffix, checker, term)?;
     }
     Ok(term)
@@ -203,20 +269,29 @@ fn postfix(postfix: &Postfix, checker: &mut Checker) -> Result<Term, CheckError>
 
 #[cycle(expression)]
 #[inline(never)]
-fn suffix(suffix: &PostfixSuffix, checker: &mut Checker, term: Term) -> Result<Term, CheckError> {
+fn suffix(suffix: &PostfixSuffix, checker: &mut Checker, term: Term) -> Result<Term, CheckError>
+    ensures { Answers term_of result (known_of checker.new) (rule.judged_behind (postfix_suffix_of suffix.now) (term_of term) (known_of checker.old)) }
+{
     match suffix {
         PostfixSuffix::Index { index, .. } => {
             let whole = indexable(checker.alloc, &mut checker.types, term)?;
             let index = expression(index, checker)?;
             element(checker.alloc, &mut checker.types, whole, index)
         }
-        PostfixSuffix::Call { arguments, .. } => {
+        PostfixSuffix::Call {
+            arguments: Some(list),
+            ..
+        } => {
             refuse_undefined(checker, &term)?;
-            let list = match arguments {
-                Some(list) => self::arguments(list, checker)?,
-                None => Vec::new(checker.alloc),
-            };
+            let list = arguments(list, checker)?;
             call(checker, term, list)
+        }
+        PostfixSuffix::Call {
+            arguments: None,
+            ..
+        } => {
+            refuse_undefined(checker, &term)?;
+            call(checker, term, Vec::new(checker.alloc))
         }
         PostfixSuffix::Member { operator, name } => {
             selected(checker, operator.punct, term, &name.bytes)
@@ -234,7 +309,9 @@ fn suffix(suffix: &PostfixSuffix, checker: &mut Checker, term: Term) -> Result<T
     }
 }
 
-fn step_behind(punct: Punct) -> StepOp {
+fn step_behind(punct: Punct) -> StepOp
+    ensures { result ≡ rule.step_behind (kinds.Punct punct) }
+{
     match punct {
         Punct::Increment => StepOp::PostIncrement,
         _ => StepOp::PostDecrement,
@@ -247,7 +324,9 @@ fn selected(
     punct: Punct,
     term: Term,
     name: &[u8],
-) -> Result<Term, CheckError> {
+) -> Result<Term, CheckError>
+    ensures { Answers term_of result (known_of checker.new) (rule.selected (kinds.Punct punct) (term_of term) name.now (known_of checker.old)) }
+{
     let line = term.start;
     match punct {
         Punct::Arrow => {
@@ -260,12 +339,27 @@ fn selected(
 
 #[cycle(expression)]
 #[inline(never)]
-fn arguments(list: &Expr, checker: &mut Checker) -> Result<Vec<Operand>, CheckError> {
+fn arguments(list: &Expr, checker: &mut Checker) -> Result<Vec<Operand>, CheckError>
+    ensures { Answers operands_in result (known_of checker.new) (fold.arguments_read (expr_of list.now) (known_of checker.old)) }
+{
+    let first = assigned(&list.first, checker)?;
+    let first = used(first, checker)?;
+    further_arguments(&list.others, checker, first)
+}
+
+#[cycle(expression)]
+#[inline(never)]
+fn further_arguments(
+    others: &[NextAssign],
+    checker: &mut Checker,
+    first: Operand,
+) -> Result<Vec<Operand>, CheckError>
+    ensures { Answers operands_in result (known_of checker.new) (fold.arguments_from (operand_of first ∷ []) (map next_assign_of others.now) (known_of checker.old)) }
+{
     let mut arguments = Vec::new(checker.alloc);
-    let first = assign(&list.first, checker)?;
-    arguments.push(used(first, checker)?)?;
-    for next in &list.others {
-        let argument = assign(&next.assign, checker)?;
+    arguments.push(first)?;
+    for next in others {
+        let argument = assigned(&next.assign, checker)?;
         arguments.push(used(argument, checker)?)?;
     }
     Ok(arguments)
@@ -273,7 +367,9 @@ fn arguments(list: &Expr, checker: &mut Checker) -> Result<Vec<Operand>, CheckEr
 
 #[cycle(expression)]
 #[inline(never)]
-fn primary(primary: &Primary, checker: &mut Checker) -> Result<Term, CheckError> {
+fn primary(primary: &Primary, checker: &mut Checker) -> Result<Term, CheckError>
+    ensures { Answers term_of result (known_of checker.new) (rule.judged (primary_of primary.now) (known_of checker.old)) }
+{
     match primary {
         Primary::Name(name) => named(&checker.scopes, name),
         Primary::Constant(constant) => Ok(constant_term(*constant)),

@@ -1,5 +1,15 @@
 //! Prefixes of operands (ISO/IEC 9899:1990, 6.3.3 and 6.3.4).
 
+ghost use Rattle.std.specs.Prelude.{[], map};
+ghost use Rattle.c_token.specs.declared.token.TokKind.TheVariants as kinds;
+ghost use Rattle.c_tree.specs.Views.{prefix_of};
+ghost use Rattle.type_rules.specs.Expressions as rule;
+ghost use Rattle.c_operate.specs.Answers.{Answers};
+ghost use Rattle.c_operate.specs.Tables.{known_of};
+ghost use Rattle.c_operate.specs.Terms.{operand_of, term_of};
+ghost use Rattle.check_expr.specs.Folds as fold;
+ghost use Rattle.check_expr.specs.Kept.{applied_list, applied_of};
+
 use crate::type_name::type_named;
 use c_ints::UnOp;
 use c_operate::checker::Checker;
@@ -22,27 +32,31 @@ pub(crate) enum Applied {
 }
 
 /// The prefixes of a list, with their types.
-pub(crate) fn listed(
-    prefixes: &[Prefix],
-    checker: &mut Checker,
-) -> Result<Vec<Applied>, CheckError> {
+pub(crate) fn listed(prefixes: &[Prefix], checker: &mut Checker) -> Result<Vec<Applied>, CheckError>
+    ensures { Answers applied_list result (known_of checker.new) (fold.applied_from [] (map prefix_of prefixes.now) (known_of checker.old)) }
+{
     let mut applied = Vec::new(checker.alloc);
     for prefix in prefixes {
-        let next = match prefix {
-            Prefix::Operator(sign) => Applied::Operator(*sign),
-            Prefix::Sizeof { keyword } => Applied::Sizeof { line: *keyword },
-            Prefix::Cast {
-                opening,
-                type_name,
-                ..
-            } => Applied::Cast {
-                ty: type_named(type_name, checker)?,
-                line: *opening,
-            },
-        };
-        applied.push(next)?;
+        applied.push(with_type(prefix, checker)?)?;
     }
     Ok(applied)
+}
+
+fn with_type(prefix: &Prefix, checker: &mut Checker) -> Result<Applied, CheckError>
+    ensures { Answers applied_of result (known_of checker.new) (fold.type_before (prefix_of prefix.now) (known_of checker.old)) }
+{
+    match prefix {
+        Prefix::Operator(sign) => Ok(Applied::Operator(*sign)),
+        Prefix::Sizeof { keyword } => Ok(Applied::Sizeof { line: *keyword }),
+        Prefix::Cast {
+            opening,
+            type_name,
+            ..
+        } => {
+            let ty = type_named(type_name, checker)?;
+            Ok(Applied::Cast { ty, line: *opening })
+        }
+    }
 }
 
 /// An operand with a prefix before it.
@@ -50,7 +64,9 @@ pub(crate) fn apply_prefix(
     checker: &mut Checker,
     prefix: Applied,
     term: Term,
-) -> Result<Term, CheckError> {
+) -> Result<Term, CheckError>
+    ensures { Answers term_of result (known_of checker.new) (fold.applied_by (applied_of prefix) (term_of term) (known_of checker.old)) }
+{
     match prefix {
         Applied::Operator(sign) => prefixed(checker, sign, term),
         Applied::Sizeof { line } => size_of_term(&checker.types, term, line),
@@ -61,7 +77,9 @@ pub(crate) fn apply_prefix(
     }
 }
 
-fn prefixed(checker: &mut Checker, sign: Sign, term: Term) -> Result<Term, CheckError> {
+fn prefixed(checker: &mut Checker, sign: Sign, term: Term) -> Result<Term, CheckError>
+    ensures { Answers term_of result (known_of checker.new) (rule.signed (kinds.Punct sign.punct) (term_of term) sign.line (known_of checker.old)) }
+{
     let alloc = checker.alloc;
     let line = sign.line;
     match sign.punct {
@@ -80,7 +98,9 @@ fn computed(
     punct: Punct,
     operand: Operand,
     line: u32,
-) -> Result<Term, CheckError> {
+) -> Result<Term, CheckError>
+    ensures { Answers term_of result (known_of checker.now) (fold.computed punct (operand_of operand) line (known_of checker.now)) }
+{
     let alloc = checker.alloc;
     match punct {
         Punct::Star => pointed(alloc, &checker.types, operand, line),

@@ -1,7 +1,10 @@
 //! The names of types (ISO/IEC 9899:1990, 6.5.5).
 
+ghost use Rattle.std.specs.Prelude.{ℕ};
+ghost use Rattle.c_tree.specs.Trees.{Measure};
 ghost use Rattle.c_tree.specs.Views.{type_name_of};
 ghost use Rattle.c_tree.specs.Words.{spell_pointers};
+ghost use Rattle.type_rules.specs.Expressions.{judged};
 ghost use Rattle.type_rules.specs.TypeNames as rule;
 ghost use Rattle.c_operate.specs.Answers.{Answers};
 ghost use Rattle.c_operate.specs.Tables.{known_of};
@@ -86,7 +89,9 @@ pub(crate) fn size_of_name(
     name: &TypeName,
     checker: &mut Checker,
     line: u32,
-) -> Result<Term, CheckError> {
+) -> Result<Term, CheckError>
+    ensures { (opening closing : ℕ) → Answers term_of result (known_of checker.new) (judged (Measure line opening (type_name_of name.now) closing) (known_of checker.old)) }
+{
     let ty = type_named(name, checker)?;
     size_of_type(&checker.types, ty.ty, line)
 }

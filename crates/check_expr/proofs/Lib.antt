@@ -1,0 +1,5 @@
+mod Runs
+mod Clauses
+mod Folded
+mod Signs
+mod Answering

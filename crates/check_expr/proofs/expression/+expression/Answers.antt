@@ -1,0 +1,230 @@
+use Rattle.std.proofs.Common.{◌≡◌, ℕ, [], ◌∷◌, ◌++◌, map, Ok, refl, sym, ap, ◌∙◌}
+use Rattle.std.proofs.lemmas.Result.{err_from_is_err_and}
+use Rattle.c_token.specs.declared.token.TokKind.TheVariants as kinds
+use Rattle.c_tree.specs.Words.{signed, named, spell_constant}
+use Rattle.c_tree.specs.Views.{assign_of, binary_of, cast_of, choice_of, cond_of, expr_of, next_assign_of, next_operand_of, operand_of as tree_operand_of, postfix_of, postfix_suffix_of, prefix_of, primary_of, target_of, type_name_of}
+use Rattle.c_tree.proofs.Shapes.{show_assign, show_binary_operand, show_binary_chain, show_cast, show_choice, show_cond, show_expr, show_next_assign, show_next_operand, show_operand_postfix, show_operand_sizeof_type, show_postfix, show_postfix_suffix_index, show_postfix_suffix_call_bare, show_postfix_suffix_call, show_postfix_suffix_member, show_postfix_suffix_step, show_primary_name, show_primary_constant, show_primary_group, show_target}
+use Rattle.c_operate.specs.Tables.{known_of}
+use Rattle.c_operate.specs.Terms.{operand_of, term_of}
+use Rattle.check_expr.specs.Folds.{barely, sequenced_from, combined_from, posted_from, arguments_from, arguments_read, sides_from, choices_from}
+use Rattle.check_expr.specs.Kept.{side_in, choice_in, operands_in}
+use Rattle.check_expr.proofs.Answering.{goes, stops, ends, refuses_as, refuses_bare, answers_bare, no_memory, next_of, pushed}
+use Rattle.check_expr.proofs.Clauses.{judged_leaf, judged_group, behind_index, behind_field, behind_step, bracketed_bare, unseen_index}
+use Rattle.check_expr.proofs.Folded.{judged_listed, judged_arguments, spread, spread_whole, judged_joined, judged_posted, judged_assigned, judged_chosen, judged_prefixed}
+use Rattle.check_expr.proofs.Runs.{unseen}
+use Rattle.check_expr.proofs.Signs.{alone}
+use Rattle.c_tree.specs.Lists.{posted, prefixed, joined, listed, chosen, assigned}
+use Rattle.c_tree.specs.Trees as tree
+use Rattle.type_rules.specs.Expressions.{judged, judged_behind, bracketed, selected}
+use Rattle.type_rules.specs.Known.{given}
+use Rattle.type_rules.specs.Writes.{stepped}
+use Rattle.c_tree.specs.declared.expression.Binary.TheViews.{out-Assign, out-Cast, out-Cond, out-Expr, out-Postfix}
+use Rattle.check_expr.proofs.expression.+expression.Goals as goal
+
+pub assigned-returns-in_err-targets : goal.assigned-returns-in_err-targets
+assigned-returns-in_err-targets t c =
+    let p = err_from_is_err_and c.from_residual.result c.from_residual.ensures.1 in
+    rw (p.1, p.2) (stops _ _ _ _ c.in_err-targets.ensures (sym (ap (λ e. judged e (known_of c.args.checker.now)) (show_assign c.args.assign.now ∙ ap (λ l. assigned (map target_of l) (cond_of (out-Assign c.args.assign.now).value)) (sym c.deref.ensures.value)) ∙ judged_assigned (map target_of c.deref.result.now) (cond_of (out-Assign c.args.assign.now).value) (known_of c.args.checker.now))))
+
+pub assigned-returns-in_err-value : goal.assigned-returns-in_err-value
+assigned-returns-in_err-value t c =
+    let p = err_from_is_err_and c.from_residual-in_err-value.result c.from_residual-in_err-value.ensures.1 in
+    rw (p.1, p.2) (stops _ _ _ _ c.in_err-value.ensures (goes _ _ _ _ _ c.in_ok-targets.ensures (sym (ap (λ e. judged e (known_of c.args.checker.now)) (show_assign c.args.assign.now ∙ ap (λ l. assigned (map target_of l) (cond_of (out-Assign c.args.assign.now).value)) (sym c.deref.ensures.value)) ∙ judged_assigned (map target_of c.deref.result.now) (cond_of (out-Assign c.args.assign.now).value) (known_of c.args.checker.now)))))
+
+pub assigned-returns : goal.assigned-returns
+assigned-returns t c = ends term_of _ _ _ _ c.assign_all.ensures (goes _ _ _ _ _ c.in_ok-value.ensures (goes _ _ _ _ _ c.in_ok-targets.ensures (sym (ap (λ e. judged e (known_of c.args.checker.now)) (show_assign c.args.assign.now ∙ ap (λ l. assigned (map target_of l) (cond_of (out-Assign c.args.assign.now).value)) (sym c.deref.ensures.value)) ∙ judged_assigned (map target_of c.deref.result.now) (cond_of (out-Assign c.args.assign.now).value) (known_of c.args.checker.now)))))
+
+pub conditional-returns-in_err-choices : goal.conditional-returns-in_err-choices
+conditional-returns-in_err-choices t c =
+    let p = err_from_is_err_and c.from_residual.result c.from_residual.ensures.1 in
+    rw (p.1, p.2) (stops _ _ _ _ c.in_err-choices.ensures (sym (ap (λ e. judged e (known_of c.args.checker.now)) (show_cond c.args.cond.now ∙ ap (λ l. chosen (map choice_of l) (binary_of (out-Cond c.args.cond.now).last)) (sym c.deref.ensures.value)) ∙ judged_chosen (map choice_of c.deref.result.now) (binary_of (out-Cond c.args.cond.now).last) (known_of c.args.checker.now))))
+
+pub conditional-returns-in_err-last : goal.conditional-returns-in_err-last
+conditional-returns-in_err-last t c =
+    let p = err_from_is_err_and c.from_residual-in_err-last.result c.from_residual-in_err-last.ensures.1 in
+    rw (p.1, p.2) (stops _ _ _ _ c.in_err-last.ensures (goes _ _ _ _ _ c.in_ok-choices.ensures (sym (ap (λ e. judged e (known_of c.args.checker.now)) (show_cond c.args.cond.now ∙ ap (λ l. chosen (map choice_of l) (binary_of (out-Cond c.args.cond.now).last)) (sym c.deref.ensures.value)) ∙ judged_chosen (map choice_of c.deref.result.now) (binary_of (out-Cond c.args.cond.now).last) (known_of c.args.checker.now)))))
+
+pub conditional-returns : goal.conditional-returns
+conditional-returns t c = ends term_of _ _ _ _ c.choose_all.ensures (goes _ _ _ _ _ c.in_ok-last.ensures (goes _ _ _ _ _ c.in_ok-choices.ensures (sym (ap (λ e. judged e (known_of c.args.checker.now)) (show_cond c.args.cond.now ∙ ap (λ l. chosen (map choice_of l) (binary_of (out-Cond c.args.cond.now).last)) (sym c.deref.ensures.value)) ∙ judged_chosen (map choice_of c.deref.result.now) (binary_of (out-Cond c.args.cond.now).last) (known_of c.args.checker.now)))))
+
+pub cast-returns-in_err-prefixes : goal.cast-returns-in_err-prefixes
+cast-returns-in_err-prefixes t c =
+    let p = err_from_is_err_and c.from_residual.result c.from_residual.ensures.1 in
+    rw (p.1, p.2) (stops _ _ _ _ c.in_err-prefixes.ensures (sym (ap (λ e. judged e (known_of c.args.checker.now)) (show_cast c.args.cast.now ∙ ap (λ l. prefixed (map prefix_of l) (tree_operand_of (out-Cast c.args.cast.now).operand)) (sym c.deref.ensures.value)) ∙ judged_prefixed (map prefix_of c.deref.result.now) (tree_operand_of (out-Cast c.args.cast.now).operand) (known_of c.args.checker.now))))
+
+pub cast-returns-in_err-term : goal.cast-returns-in_err-term
+cast-returns-in_err-term t c =
+    let p = err_from_is_err_and c.from_residual-in_err-term.result c.from_residual-in_err-term.ensures.1 in
+    rw (p.1, p.2) (stops _ _ _ _ c.in_err-term.ensures (goes _ _ _ _ _ c.in_ok-prefixes.ensures (sym (ap (λ e. judged e (known_of c.args.checker.now)) (show_cast c.args.cast.now ∙ ap (λ l. prefixed (map prefix_of l) (tree_operand_of (out-Cast c.args.cast.now).operand)) (sym c.deref.ensures.value)) ∙ judged_prefixed (map prefix_of c.deref.result.now) (tree_operand_of (out-Cast c.args.cast.now).operand) (known_of c.args.checker.now)))))
+
+pub cast-returns : goal.cast-returns
+cast-returns t c = ends term_of _ _ _ _ c.apply_all.ensures (goes _ _ _ _ _ c.in_ok-term.ensures (goes _ _ _ _ _ c.in_ok-prefixes.ensures (sym (ap (λ e. judged e (known_of c.args.checker.now)) (show_cast c.args.cast.now ∙ ap (λ l. prefixed (map prefix_of l) (tree_operand_of (out-Cast c.args.cast.now).operand)) (sym c.deref.ensures.value)) ∙ judged_prefixed (map prefix_of c.deref.result.now) (tree_operand_of (out-Cast c.args.cast.now).operand) (known_of c.args.checker.now)))))
+
+pub postfix-returns-in_err-first : goal.postfix-returns-in_err-first
+postfix-returns-in_err-first t c =
+    let p = err_from_is_err_and c.from_residual.result c.from_residual.ensures.1 in
+    rw (p.1, p.2) (stops _ _ _ _ c.in_err-first.ensures (sym (ap (λ e. judged e (known_of c.args.checker.now)) (show_postfix c.args.postfix.now) ∙ judged_posted (map postfix_suffix_of (out-Postfix c.args.postfix.now).suffixes.items) (primary_of (out-Postfix c.args.postfix.now).primary) (known_of c.args.checker.now))))
+
+pub postfix-returns : goal.postfix-returns
+postfix-returns t c = ends term_of _ _ _ _ c.suffixes.ensures (goes _ _ _ _ _ c.in_ok-first.ensures (sym (ap (λ e. judged e (known_of c.args.checker.now)) (show_postfix c.args.postfix.now ∙ ap (λ l. posted (primary_of (out-Postfix c.args.postfix.now).primary) (map postfix_suffix_of l)) (sym c.deref.ensures.value)) ∙ judged_posted (map postfix_suffix_of c.deref.result.now) (primary_of (out-Postfix c.args.postfix.now).primary) (known_of c.args.checker.now))))
+
+pub expression-returns-in_err-first : goal.expression-returns-in_err-first
+expression-returns-in_err-first t c =
+    let p = err_from_is_err_and c.from_residual.result c.from_residual.ensures.1 in
+    rw (p.1, p.2) (refuses_as _ _ _ (refuses_bare _ _ (stops (λ t. sequenced_from t (map next_assign_of (out-Expr c.args.expr.now).others.items)) (judged (assign_of (out-Expr c.args.expr.now).first) (known_of c.args.checker.now)) _ _ c.in_err-first.ensures refl)) (sym (ap (λ e. barely e (known_of c.args.checker.now)) (show_expr c.args.expr.now) ∙ judged_listed (map next_assign_of (out-Expr c.args.expr.now).others.items) (assign_of (out-Expr c.args.expr.now).first) (known_of c.args.checker.now))))
+
+pub expression-returns : goal.expression-returns
+expression-returns t c = ends term_of _ _ _ _ (answers_bare _ _ _ (ends term_of _ _ _ _ c.sequence.ensures (goes (λ t. sequenced_from t (map next_assign_of c.deref.result.now)) (judged (assign_of (out-Expr c.args.expr.now).first) (known_of c.args.checker.now)) _ _ _ c.in_ok-first.ensures refl))) (sym (ap (λ e. barely e (known_of c.args.checker.now)) (show_expr c.args.expr.now ∙ ap (λ l. listed (assign_of (out-Expr c.args.expr.now).first) (map next_assign_of l)) (sym c.deref.ensures.value)) ∙ judged_listed (map next_assign_of c.deref.result.now) (assign_of (out-Expr c.args.expr.now).first) (known_of c.args.checker.now)))
+
+pub arguments-returns-in_err-first : goal.arguments-returns-in_err-first
+arguments-returns-in_err-first t c =
+    let p = err_from_is_err_and c.from_residual.result c.from_residual.ensures.1 in
+    rw (p.1, p.2) (refuses_as _ _ _ (stops (λ t. spread t (map next_assign_of (out-Expr c.args.list.now).others.items)) (judged (assign_of (out-Expr c.args.list.now).first) (known_of c.args.checker.now)) _ _ c.in_err-first.ensures refl) (sym (ap (λ e. arguments_read e (known_of c.args.checker.now)) (show_expr c.args.list.now) ∙ spread_whole (map next_assign_of (out-Expr c.args.list.now).others.items) (assign_of (out-Expr c.args.list.now).first) (known_of c.args.checker.now))))
+
+pub arguments-returns-in_err-first-2 : goal.arguments-returns-in_err-first-2
+arguments-returns-in_err-first-2 t c =
+    let p = err_from_is_err_and c.from_residual-in_err-first-2.result c.from_residual-in_err-first-2.ensures.1 in
+    rw (p.1, p.2) (stops _ _ _ _ c.in_err-first-2.ensures (sym (ap (λ e. arguments_read e (known_of c.args.checker.now)) (show_expr c.args.list.now) ∙ judged_arguments (map next_assign_of (out-Expr c.args.list.now).others.items) (assign_of (out-Expr c.args.list.now).first) (known_of c.args.checker.now) _ (term_of c.in_ok-first.first) c.in_ok-first.ensures)))
+
+pub arguments-returns : goal.arguments-returns
+arguments-returns t c = ends operands_in _ _ _ _ c.further_arguments.ensures (goes _ _ _ _ _ c.in_ok-first-2.ensures (sym (ap (λ e. arguments_read e (known_of c.args.checker.now)) (show_expr c.args.list.now ∙ ap (λ l. listed (assign_of (out-Expr c.args.list.now).first) (map next_assign_of l)) (sym c.deref.ensures.value)) ∙ judged_arguments (map next_assign_of c.deref.result.now) (assign_of (out-Expr c.args.list.now).first) (known_of c.args.checker.now) _ (term_of c.in_ok-first.first) c.in_ok-first.ensures)))
+
+pub operands-returns-in-Operand : goal.operands-returns-in-Operand
+operands-returns-in-Operand t c = ends term_of _ _ _ _ c.cast.ensures (sym (ap (λ e. judged e (known_of c.args.checker.now)) (ap binary_of c.in-Operand.is ∙ show_binary_operand c.in-Operand.operand)))
+
+pub operands-returns-in_err-left-in-Chain : goal.operands-returns-in_err-left-in-Chain
+operands-returns-in_err-left-in-Chain t c =
+    let p = err_from_is_err_and c.from_residual.result c.from_residual.ensures.1 in
+    rw (p.1, p.2) (stops _ _ _ _ c.in_err-left-in-Chain.ensures (sym (ap (λ e. judged e (known_of c.args.checker.now)) (ap binary_of c.in-Chain.is ∙ show_binary_chain c.in-Chain.first c.in-Chain.others ∙ ap (λ b. joined (binary_of b) (map next_operand_of c.in-Chain.others.items)) (sym c.deref.ensures)) ∙ judged_joined (map next_operand_of c.in-Chain.others.items) (binary_of c.deref.result.now) (known_of c.args.checker.now))))
+
+pub operands-returns-in_ok-left-in-Chain : goal.operands-returns-in_ok-left-in-Chain
+operands-returns-in_ok-left-in-Chain t c = ends term_of _ _ _ _ c.chain.ensures (goes _ _ _ _ _ c.in_ok-left-in-Chain.ensures (sym (ap (λ e. judged e (known_of c.args.checker.now)) ((ap binary_of c.in-Chain.is ∙ show_binary_chain c.in-Chain.first c.in-Chain.others ∙ ap (λ b. joined (binary_of b) (map next_operand_of c.in-Chain.others.items)) (sym c.deref.ensures)) ∙ ap (λ l. joined (binary_of c.deref.result.now) (map next_operand_of l)) (sym c.deref-in_ok-left-in-Chain.ensures.value)) ∙ judged_joined (map next_operand_of c.deref-in_ok-left-in-Chain.result.now) (binary_of c.deref.result.now) (known_of c.args.checker.now))))
+
+pub operand-returns-in-Postfix : goal.operand-returns-in-Postfix
+operand-returns-in-Postfix t c = ends term_of _ _ _ _ c.postfix.ensures (sym (ap (λ e. judged e (known_of c.args.checker.now)) (ap tree_operand_of c.in-Postfix.is ∙ show_operand_postfix c.in-Postfix.postfix)))
+
+pub operand-returns-in-SizeofType : goal.operand-returns-in-SizeofType
+operand-returns-in-SizeofType t c = ends term_of _ _ _ _ (c.size_of_name.ensures c.in-SizeofType.opening c.in-SizeofType.closing) (sym (ap (λ e. judged e (known_of c.args.checker.now)) (ap tree_operand_of c.in-SizeofType.is ∙ show_operand_sizeof_type c.in-SizeofType.keyword c.in-SizeofType.opening c.in-SizeofType.type_name c.in-SizeofType.closing ∙ ap (λ n. tree.Measure c.in-SizeofType.keyword c.in-SizeofType.opening (type_name_of n) c.in-SizeofType.closing) (sym c.deref.ensures))))
+
+pub primary-returns-in-Name : goal.primary-returns-in-Name
+primary-returns-in-Name t c = ends term_of _ _ _ _ (c.named.ensures (known_of c.args.checker.now)) (sym (ap (λ e. judged e (known_of c.args.checker.now)) (ap primary_of c.in-Name.is ∙ show_primary_name c.in-Name.name) ∙ ap (λ r. r (known_of c.args.checker.now)) (judged_leaf (named c.in-Name.name))))
+
+pub primary-returns-in-Constant : goal.primary-returns-in-Constant
+primary-returns-in-Constant t c = ap (λ e. judged e (known_of c.args.checker.now)) (ap primary_of c.in-Constant.is ∙ show_primary_constant c.in-Constant.constant) ∙ ap (λ r. r (known_of c.args.checker.now)) (judged_leaf (spell_constant c.in-Constant.constant)) ∙ c.constant_term.ensures (known_of c.args.checker.now)
+
+pub primary-returns-in_err-term-in-Group : goal.primary-returns-in_err-term-in-Group
+primary-returns-in_err-term-in-Group t c =
+    let p = err_from_is_err_and c.from_residual.result c.from_residual.ensures.1 in
+    rw (p.1, p.2) (stops _ _ _ _ c.in_err-term-in-Group.ensures (sym (ap (λ e. judged e (known_of c.args.checker.now)) (ap primary_of c.in-Group.is ∙ show_primary_group c.in-Group.opening c.in-Group.inner c.in-Group.closing ∙ ap (λ i. tree.Group c.in-Group.opening (expr_of i) c.in-Group.closing) (sym c.deref.ensures)) ∙ judged_group c.in-Group.opening (expr_of c.deref.result.now) c.in-Group.closing (known_of c.args.checker.now) ∙ sym (unseen (λ u. given (bracketed u c.in-Group.opening)) (λ u k. bracketed_bare u c.in-Group.opening k) (judged (expr_of c.deref.result.now) (known_of c.args.checker.now))))))
+
+pub primary-returns-in_ok-term-in-Group : goal.primary-returns-in_ok-term-in-Group
+primary-returns-in_ok-term-in-Group t c = sym (goes _ _ _ _ _ c.in_ok-term-in-Group.ensures (sym (ap (λ e. judged e (known_of c.args.checker.now)) (ap primary_of c.in-Group.is ∙ show_primary_group c.in-Group.opening c.in-Group.inner c.in-Group.closing ∙ ap (λ i. tree.Group c.in-Group.opening (expr_of i) c.in-Group.closing) (sym c.deref.ensures)) ∙ judged_group c.in-Group.opening (expr_of c.deref.result.now) c.in-Group.closing (known_of c.args.checker.now) ∙ sym (unseen (λ u. given (bracketed u c.in-Group.opening)) (λ u k. bracketed_bare u c.in-Group.opening k) (judged (expr_of c.deref.result.now) (known_of c.args.checker.now)))))) ∙ ap (λ u. Ok (u, known_of c.expression.new.checker)) (sym c.grouped.ensures)
+
+pub sequence-returns-in_err-right : goal.sequence-returns-in_err-right
+sequence-returns-in_err-right t c =
+    let p = err_from_is_err_and c.from_residual-in_err-right.result c.from_residual-in_err-right.ensures.1 in
+    rw (p.1, p.2) (stops _ _ _ _ c.in_err-right.ensures (goes _ _ _ _ _ c.in_ok-dropped.ensures (next_of (λ bs. sequenced_from (term_of c.loop-next.left) bs (known_of c.loop-next.checker)) next_assign_of _ _ c.next-item.result _ _ c.loop-next-test.true c.next-item.is (show_next_assign c.next-item.result) c.loop-next.invariant)))
+
+pub sequence-returns-in_err-right-2 : goal.sequence-returns-in_err-right-2
+sequence-returns-in_err-right-2 t c =
+    let p = err_from_is_err_and c.from_residual-in_err-right-2.result c.from_residual-in_err-right-2.ensures.1 in
+    rw (p.1, p.2) (stops _ _ _ _ c.in_err-right-2.ensures (goes _ _ _ _ _ c.in_ok-right.ensures (goes _ _ _ _ _ c.in_ok-dropped.ensures (next_of (λ bs. sequenced_from (term_of c.loop-next.left) bs (known_of c.loop-next.checker)) next_assign_of _ _ c.next-item.result _ _ c.loop-next-test.true c.next-item.is (show_next_assign c.next-item.result) c.loop-next.invariant))))
+
+pub sequence-returns-in_err-left : goal.sequence-returns-in_err-left
+sequence-returns-in_err-left t c =
+    let p = err_from_is_err_and c.from_residual-in_err-left.result c.from_residual-in_err-left.ensures.1 in
+    rw (p.1, p.2) (stops _ _ _ _ (c.in_err-left.ensures (known_of c.used-2.new.checker)) (goes _ _ _ _ _ c.in_ok-right-2.ensures (goes _ _ _ _ _ c.in_ok-right.ensures (goes _ _ _ _ _ c.in_ok-dropped.ensures (next_of (λ bs. sequenced_from (term_of c.loop-next.left) bs (known_of c.loop-next.checker)) next_assign_of _ _ c.next-item.result _ _ c.loop-next-test.true c.next-item.is (show_next_assign c.next-item.result) c.loop-next.invariant)))))
+
+pub sequence-loop-next-preserved : goal.sequence-loop-next-preserved
+sequence-loop-next-preserved t c = goes _ _ _ _ _ (c.in_ok-left.ensures (known_of c.used-2.new.checker)) (goes _ _ _ _ _ c.in_ok-right-2.ensures (goes _ _ _ _ _ c.in_ok-right.ensures (goes _ _ _ _ _ c.in_ok-dropped.ensures (next_of (λ bs. sequenced_from (term_of c.loop-next.left) bs (known_of c.loop-next.checker)) next_assign_of _ _ c.next-item.result _ _ c.loop-next-test.true c.next-item.is (show_next_assign c.next-item.result) c.loop-next.invariant))))
+
+pub places-returns-in_err-term : goal.places-returns-in_err-term
+places-returns-in_err-term t c =
+    let p = err_from_is_err_and c.from_residual.result c.from_residual.ensures.1 in
+    rw (p.1, p.2) (stops _ _ _ _ c.in_err-term.ensures (next_of (λ bs. sides_from (map side_in c.loop-target.places.items) bs (known_of c.loop-target.checker)) target_of _ _ c.target-item.result _ _ c.loop-target-test.true c.target-item.is (show_target c.target-item.result) c.loop-target.invariant))
+
+pub places-returns-in_err-refuse_table : goal.places-returns-in_err-refuse_table
+places-returns-in_err-refuse_table t c =
+    let p = err_from_is_err_and c.from_residual-in_err-refuse_table.result c.from_residual-in_err-refuse_table.ensures.1 in
+    rw (p.1, p.2) (stops _ _ _ _ (c.in_err-refuse_table.ensures (known_of c.cast.new.checker)) (goes _ _ _ _ _ c.in_ok-term.ensures (next_of (λ bs. sides_from (map side_in c.loop-target.places.items) bs (known_of c.loop-target.checker)) target_of _ _ c.target-item.result _ _ c.loop-target-test.true c.target-item.is (show_target c.target-item.result) c.loop-target.invariant)))
+
+pub places-loop-target-preserved : goal.places-loop-target-preserved
+places-loop-target-preserved t c = pushed (λ bs. sides_from bs (map target_of _) (known_of c.cast.new.checker)) side_in c.loop-target.places.items _ _ _ c.in_ok-push.ensures.items (goes _ _ _ _ _ (c.in_ok-refuse_table.ensures (known_of c.cast.new.checker)) (goes _ _ _ _ _ c.in_ok-term.ensures (next_of (λ bs. sides_from (map side_in c.loop-target.places.items) bs (known_of c.loop-target.checker)) target_of _ _ c.target-item.result _ _ c.loop-target-test.true c.target-item.is (show_target c.target-item.result) c.loop-target.invariant)))
+
+pub choices-returns-in_err-condition : goal.choices-returns-in_err-condition
+choices-returns-in_err-condition t c =
+    let p = err_from_is_err_and c.from_residual.result c.from_residual.ensures.1 in
+    rw (p.1, p.2) (stops _ _ _ _ c.in_err-condition.ensures (next_of (λ bs. choices_from (map choice_in c.loop-choice.chosen.items) bs (known_of c.loop-choice.checker)) choice_of _ _ c.choice-item.result _ _ c.loop-choice-test.true c.choice-item.is (show_choice c.choice-item.result) c.loop-choice.invariant))
+
+pub choices-returns-in_err-condition-2 : goal.choices-returns-in_err-condition-2
+choices-returns-in_err-condition-2 t c =
+    let p = err_from_is_err_and c.from_residual-in_err-condition-2.result c.from_residual-in_err-condition-2.ensures.1 in
+    rw (p.1, p.2) (stops _ _ _ _ c.in_err-condition-2.ensures (goes _ _ _ _ _ c.in_ok-condition.ensures (next_of (λ bs. choices_from (map choice_in c.loop-choice.chosen.items) bs (known_of c.loop-choice.checker)) choice_of _ _ c.choice-item.result _ _ c.loop-choice-test.true c.choice-item.is (show_choice c.choice-item.result) c.loop-choice.invariant)))
+
+pub choices-returns-in_err-then : goal.choices-returns-in_err-then
+choices-returns-in_err-then t c =
+    let p = err_from_is_err_and c.from_residual-in_err-then.result c.from_residual-in_err-then.ensures.1 in
+    rw (p.1, p.2) (stops _ _ _ _ c.in_err-then.ensures (goes _ _ _ _ _ c.in_ok-condition-2.ensures (goes _ _ _ _ _ c.in_ok-condition.ensures (next_of (λ bs. choices_from (map choice_in c.loop-choice.chosen.items) bs (known_of c.loop-choice.checker)) choice_of _ _ c.choice-item.result _ _ c.loop-choice-test.true c.choice-item.is (show_choice c.choice-item.result) c.loop-choice.invariant))))
+
+pub choices-returns-in_err-then-2 : goal.choices-returns-in_err-then-2
+choices-returns-in_err-then-2 t c =
+    let p = err_from_is_err_and c.from_residual-in_err-then-2.result c.from_residual-in_err-then-2.ensures.1 in
+    rw (p.1, p.2) (stops _ _ _ _ c.in_err-then-2.ensures (goes _ _ _ _ _ c.in_ok-then.ensures (goes _ _ _ _ _ c.in_ok-condition-2.ensures (goes _ _ _ _ _ c.in_ok-condition.ensures (next_of (λ bs. choices_from (map choice_in c.loop-choice.chosen.items) bs (known_of c.loop-choice.checker)) choice_of _ _ c.choice-item.result _ _ c.loop-choice-test.true c.choice-item.is (show_choice c.choice-item.result) c.loop-choice.invariant)))))
+
+pub choices-loop-choice-preserved : goal.choices-loop-choice-preserved
+choices-loop-choice-preserved t c = pushed (λ bs. choices_from bs (map choice_of _) (known_of c.used-2.new.checker)) choice_in c.loop-choice.chosen.items _ _ _ c.in_ok-push.ensures.items (goes _ _ _ _ _ c.in_ok-then-2.ensures (goes _ _ _ _ _ c.in_ok-then.ensures (goes _ _ _ _ _ c.in_ok-condition-2.ensures (goes _ _ _ _ _ c.in_ok-condition.ensures (next_of (λ bs. choices_from (map choice_in c.loop-choice.chosen.items) bs (known_of c.loop-choice.checker)) choice_of _ _ c.choice-item.result _ _ c.loop-choice-test.true c.choice-item.is (show_choice c.choice-item.result) c.loop-choice.invariant)))))
+
+pub chain-returns-in_err-b : goal.chain-returns-in_err-b
+chain-returns-in_err-b t c =
+    let p = err_from_is_err_and c.from_residual-in_err-b.result c.from_residual-in_err-b.ensures.1 in
+    rw (p.1, p.2) (stops _ _ _ _ c.in_err-b.ensures (goes _ _ _ _ _ c.in_ok-a.ensures (next_of (λ bs. combined_from (term_of c.loop-next.left) bs (known_of c.loop-next.checker)) next_operand_of _ _ c.next-item.result _ _ c.loop-next-test.true c.next-item.is (show_next_operand c.next-item.result) c.loop-next.invariant)))
+
+pub chain-returns-in_err-b-2 : goal.chain-returns-in_err-b-2
+chain-returns-in_err-b-2 t c =
+    let p = err_from_is_err_and c.from_residual-in_err-b-2.result c.from_residual-in_err-b-2.ensures.1 in
+    rw (p.1, p.2) (stops _ _ _ _ c.in_err-b-2.ensures (goes _ _ _ _ _ c.in_ok-b.ensures (goes _ _ _ _ _ c.in_ok-a.ensures (next_of (λ bs. combined_from (term_of c.loop-next.left) bs (known_of c.loop-next.checker)) next_operand_of _ _ c.next-item.result _ _ c.loop-next-test.true c.next-item.is (show_next_operand c.next-item.result) c.loop-next.invariant))))
+
+pub chain-returns-in_err-left : goal.chain-returns-in_err-left
+chain-returns-in_err-left t c =
+    let p = err_from_is_err_and c.from_residual-in_err-left.result c.from_residual-in_err-left.ensures.1 in
+    rw (p.1, p.2) (stops _ _ _ _ (c.in_err-left.ensures (known_of c.used-2.new.checker)) (goes _ _ _ _ _ c.in_ok-b-2.ensures (goes _ _ _ _ _ c.in_ok-b.ensures (goes _ _ _ _ _ c.in_ok-a.ensures (next_of (λ bs. combined_from (term_of c.loop-next.left) bs (known_of c.loop-next.checker)) next_operand_of _ _ c.next-item.result _ _ c.loop-next-test.true c.next-item.is (show_next_operand c.next-item.result) c.loop-next.invariant)))))
+
+pub chain-loop-next-preserved : goal.chain-loop-next-preserved
+chain-loop-next-preserved t c = alone _ c.in_ok-refuse_comma.ensures.operator _ _ _ _ _ _ _ (goes _ _ _ _ _ (c.in_ok-left.ensures (known_of c.used-2.new.checker)) (goes _ _ _ _ _ c.in_ok-b-2.ensures (goes _ _ _ _ _ c.in_ok-b.ensures (goes _ _ _ _ _ c.in_ok-a.ensures (next_of (λ bs. combined_from (term_of c.loop-next.left) bs (known_of c.loop-next.checker)) next_operand_of _ _ c.next-item.result _ _ c.loop-next-test.true c.next-item.is (show_next_operand c.next-item.result) c.loop-next.invariant)))))
+
+pub chain-returns-in_err-refuse_comma : goal.chain-returns-in_err-refuse_comma
+chain-returns-in_err-refuse_comma t c =
+    let p = err_from_is_err_and c.from_residual.result c.from_residual.ensures.1 in
+    rw (p.1, p.2) (no_memory _ _ c.in_err-refuse_comma.ensures.refused)
+
+pub further_arguments-returns-in_err-argument : goal.further_arguments-returns-in_err-argument
+further_arguments-returns-in_err-argument t c =
+    let p = err_from_is_err_and c.from_residual-in_err-argument.result c.from_residual-in_err-argument.ensures.1 in
+    rw (p.1, p.2) (stops _ _ _ _ c.in_err-argument.ensures (next_of (λ bs. arguments_from (map operand_of c.loop-next.arguments.items) bs (known_of c.loop-next.checker)) next_assign_of _ _ c.next-item.result _ _ c.loop-next-test.true c.next-item.is (show_next_assign c.next-item.result) c.loop-next.invariant))
+
+pub further_arguments-returns-in_err-used : goal.further_arguments-returns-in_err-used
+further_arguments-returns-in_err-used t c =
+    let p = err_from_is_err_and c.from_residual-in_err-used.result c.from_residual-in_err-used.ensures.1 in
+    rw (p.1, p.2) (stops _ _ _ _ c.in_err-used.ensures (goes _ _ _ _ _ c.in_ok-argument.ensures (next_of (λ bs. arguments_from (map operand_of c.loop-next.arguments.items) bs (known_of c.loop-next.checker)) next_assign_of _ _ c.next-item.result _ _ c.loop-next-test.true c.next-item.is (show_next_assign c.next-item.result) c.loop-next.invariant)))
+
+pub further_arguments-loop-next-preserved : goal.further_arguments-loop-next-preserved
+further_arguments-loop-next-preserved t c = pushed (λ bs. arguments_from bs (map next_assign_of _) (known_of c.used.new.checker)) operand_of c.loop-next.arguments.items _ _ _ c.in_ok-push-2.ensures.items (goes _ _ _ _ _ c.in_ok-used.ensures (goes _ _ _ _ _ c.in_ok-argument.ensures (next_of (λ bs. arguments_from (map operand_of c.loop-next.arguments.items) bs (known_of c.loop-next.checker)) next_assign_of _ _ c.next-item.result _ _ c.loop-next-test.true c.next-item.is (show_next_assign c.next-item.result) c.loop-next.invariant)))
+
+pub suffix-returns-in_err-whole-in-Index : goal.suffix-returns-in_err-whole-in-Index
+suffix-returns-in_err-whole-in-Index t c =
+    let p = err_from_is_err_and c.from_residual.result c.from_residual.ensures.1 in
+    rw (p.1, p.2) (stops _ _ _ _ (c.in_err-whole-in-Index.ensures (known_of c.args.checker.now)) (sym (ap (λ e. judged_behind e (term_of c.args.term) (known_of c.args.checker.now)) (ap postfix_suffix_of c.in-Index.is ∙ show_postfix_suffix_index c.in-Index.opening c.in-Index.index c.in-Index.closing) ∙ behind_index c.in-Index.opening (expr_of c.in-Index.index.value) c.in-Index.closing (term_of c.args.term) (known_of c.args.checker.now))))
+
+pub suffix-returns-in_err-index-in-Index : goal.suffix-returns-in_err-index-in-Index
+suffix-returns-in_err-index-in-Index t c =
+    let p = err_from_is_err_and c.from_residual-in_err-index-in-Index.result c.from_residual-in_err-index-in-Index.ensures.1 in
+    rw (p.1, p.2) (stops _ _ _ _ c.in_err-index-in-Index.ensures (unseen_index (term_of c.in_ok-whole-in-Index.whole) (judged (expr_of c.deref.result.now) (known_of (record c.args.checker.now { types = c.indexable.new.types }))) (goes _ _ _ _ _ (c.in_ok-whole-in-Index.ensures (known_of c.args.checker.now)) (sym (ap (λ e. judged_behind e (term_of c.args.term) (known_of c.args.checker.now)) (ap postfix_suffix_of c.in-Index.is ∙ show_postfix_suffix_index c.in-Index.opening c.in-Index.index c.in-Index.closing ∙ ap (λ i. tree.Index c.in-Index.opening (expr_of i) c.in-Index.closing) (sym c.deref.ensures)) ∙ behind_index c.in-Index.opening (expr_of c.deref.result.now) c.in-Index.closing (term_of c.args.term) (known_of c.args.checker.now))))))
+
+pub suffix-returns-in_ok-index-in-Index : goal.suffix-returns-in_ok-index-in-Index
+suffix-returns-in_ok-index-in-Index t c = ends term_of _ _ _ _ (c.element.ensures (known_of c.expression.new.checker)) (goes _ _ _ _ _ c.in_ok-index-in-Index.ensures (unseen_index (term_of c.in_ok-whole-in-Index.whole) (judged (expr_of c.deref.result.now) (known_of (record c.args.checker.now { types = c.indexable.new.types }))) (goes _ _ _ _ _ (c.in_ok-whole-in-Index.ensures (known_of c.args.checker.now)) (sym (ap (λ e. judged_behind e (term_of c.args.term) (known_of c.args.checker.now)) (ap postfix_suffix_of c.in-Index.is ∙ show_postfix_suffix_index c.in-Index.opening c.in-Index.index c.in-Index.closing ∙ ap (λ i. tree.Index c.in-Index.opening (expr_of i) c.in-Index.closing) (sym c.deref.ensures)) ∙ behind_index c.in-Index.opening (expr_of c.deref.result.now) c.in-Index.closing (term_of c.args.term) (known_of c.args.checker.now))))))
+
+pub suffix-returns-in-Member : goal.suffix-returns-in-Member
+suffix-returns-in-Member t c = ends term_of _ _ _ _ c.selected.ensures (ap (λ l. selected (kinds.Punct c.in-Member.operator.punct) (term_of c.args.term) l (known_of c.args.checker.now)) c.deref.ensures.value ∙ sym (ap (λ e. judged_behind e (term_of c.args.term) (known_of c.args.checker.now)) (ap postfix_suffix_of c.in-Member.is ∙ show_postfix_suffix_member c.in-Member.operator c.in-Member.name) ∙ ap (λ r. r (known_of c.args.checker.now)) (behind_field (signed c.in-Member.operator) (named c.in-Member.name) (term_of c.args.term))))
+
+pub suffix-returns-in-Step : goal.suffix-returns-in-Step
+suffix-returns-in-Step t c = ends term_of _ _ _ _ (c.stepped.ensures (known_of c.args.checker.now)) (ap (λ o. stepped o (term_of c.args.term) c.args.term.start (known_of c.args.checker.now)) c.step_behind.ensures ∙ sym (ap (λ e. judged_behind e (term_of c.args.term) (known_of c.args.checker.now)) (ap postfix_suffix_of c.in-Step.is ∙ show_postfix_suffix_step c.in-Step.sign) ∙ ap (λ r. r (known_of c.args.checker.now)) (behind_step (signed c.in-Step.sign) (term_of c.args.term))))
