@@ -54,8 +54,8 @@ none_left F f xs i said le p = sym (ap (λ l. F (map f l)) (drop_all i xs le)) �
 pub last_of : {A B C : Type 0} (F : List B → C) (f : A → B) (xs ys : List A) (y : A) (said : C) → xs ≡ ys ++ y ∷ [] → F (map f xs) ≡ said → F (map f ys ++ f y ∷ []) ≡ said
 last_of F f xs ys y said e p = sym (ap (λ l. F (map f l)) e ∙ ap F (map-append f ys (y ∷ []))) ∙ p
 
-pub pushed : {A B C : Type 0} (F : List B → C) (f : A → B) (xs ys : List A) (y : A) (said : C) → ys ≡ xs ++ y ∷ [] → F (map f xs ++ f y ∷ []) ≡ said → F (map f ys) ≡ said
-pushed F f xs ys y said e p = ap (λ l. F (map f l)) e ∙ ap F (map-append f xs (y ∷ [])) ∙ p
+pub pushed : {A B R C : Type 0} (F : List B → R → Known → C) (f : A → B) (xs ys : List A) (y : A) (rest : R) (k : Known) (said : C) → ys ≡ xs ++ y ∷ [] → F (map f xs ++ f y ∷ []) rest k ≡ said → F (map f ys) rest k ≡ said
+pushed F f xs ys y rest k said e p = ap (λ l. F (map f l) rest k) e ∙ ap (λ l. F l rest k) (map-append f xs (y ∷ [])) ∙ p
 
 -- two rules and a third, taken together the other way round
 pub in_parts : {A B C : Type 0} (f : A → Rule B) (g : B → Rule C) (r : Result (A × Known) Fault) {said : Result (C × Known) Fault} → go_on g (go_on f r) ≡ said → go_on (λ a. f a >>= g) r ≡ said

@@ -18,7 +18,7 @@ use Rattle.c_tree.specs.Trees as tree
 use Rattle.type_rules.specs.Expressions.{judged, judged_behind, bracketed, selected}
 use Rattle.type_rules.specs.Known.{given}
 use Rattle.type_rules.specs.Writes.{stepped}
-use Rattle.c_tree.specs.declared.expression.Binary.TheViews.{out-Assign, out-Cast, out-Cond, out-Expr, out-Postfix}
+use Rattle.c_tree.specs.declared.expression.Binary.TheViews.{out-Assign, out-Cast, out-Choice, out-Cond, out-Expr, out-Postfix}
 use Rattle.check_expr.proofs.expression.+expression.Goals as goal
 
 pub assigned-returns-in_err-targets : goal.assigned-returns-in_err-targets
@@ -98,7 +98,7 @@ operands-returns-in_err-left-in-Chain t c =
     rw (p.1, p.2) (stops _ _ _ _ c.in_err-left-in-Chain.ensures (sym (ap (λ e. judged e (known_of c.args.checker.now)) (ap binary_of c.in-Chain.is ∙ show_binary_chain c.in-Chain.first c.in-Chain.others ∙ ap (λ b. joined (binary_of b) (map next_operand_of c.in-Chain.others.items)) (sym c.deref.ensures)) ∙ judged_joined (map next_operand_of c.in-Chain.others.items) (binary_of c.deref.result.now) (known_of c.args.checker.now))))
 
 pub operands-returns-in_ok-left-in-Chain : goal.operands-returns-in_ok-left-in-Chain
-operands-returns-in_ok-left-in-Chain t c = ends term_of _ _ _ _ c.chain.ensures (goes _ _ _ _ _ c.in_ok-left-in-Chain.ensures (sym (ap (λ e. judged e (known_of c.args.checker.now)) ((ap binary_of c.in-Chain.is ∙ show_binary_chain c.in-Chain.first c.in-Chain.others ∙ ap (λ b. joined (binary_of b) (map next_operand_of c.in-Chain.others.items)) (sym c.deref.ensures)) ∙ ap (λ l. joined (binary_of c.deref.result.now) (map next_operand_of l)) (sym c.deref-in_ok-left-in-Chain.ensures.value)) ∙ judged_joined (map next_operand_of c.deref-in_ok-left-in-Chain.result.now) (binary_of c.deref.result.now) (known_of c.args.checker.now))))
+operands-returns-in_ok-left-in-Chain t c = ends term_of _ _ _ _ c.chain.ensures (goes _ _ _ _ _ c.in_ok-left-in-Chain.ensures (sym (ap (λ e. judged e (known_of c.args.checker.now)) ((ap binary_of c.in-Chain.is ∙ show_binary_chain c.in-Chain.first c.in-Chain.others ∙ ap (λ b. joined (binary_of b) (map next_operand_of c.in-Chain.others.items)) (sym c.deref.ensures)) ∙ ap (λ l. joined (binary_of c.deref.result.now) (map next_operand_of l)) (sym c.deref-in-Chain.ensures.value)) ∙ judged_joined (map next_operand_of c.deref-in-Chain.result.now) (binary_of c.deref.result.now) (known_of c.args.checker.now))))
 
 pub operand-returns-in-Postfix : goal.operand-returns-in-Postfix
 operand-returns-in-Postfix t c = ends term_of _ _ _ _ c.postfix.ensures (sym (ap (λ e. judged e (known_of c.args.checker.now)) (ap tree_operand_of c.in-Postfix.is ∙ show_operand_postfix c.in-Postfix.postfix)))
@@ -133,10 +133,10 @@ sequence-returns-in_err-right-2 t c =
 pub sequence-returns-in_err-left : goal.sequence-returns-in_err-left
 sequence-returns-in_err-left t c =
     let p = err_from_is_err_and c.from_residual-in_err-left.result c.from_residual-in_err-left.ensures.1 in
-    rw (p.1, p.2) (stops _ _ _ _ (c.in_err-left.ensures (known_of c.used-2.new.checker)) (goes _ _ _ _ _ c.in_ok-right-2.ensures (goes _ _ _ _ _ c.in_ok-right.ensures (goes _ _ _ _ _ c.in_ok-dropped.ensures (next_of (λ bs. sequenced_from (term_of c.loop-next.left) bs (known_of c.loop-next.checker)) next_assign_of _ _ c.next-item.result _ _ c.loop-next-test.true c.next-item.is (show_next_assign c.next-item.result) c.loop-next.invariant)))))
+    rw (p.1, p.2) (stops _ _ _ _ (c.in_err-left.ensures (known_of c.used-in-loop-next.new.checker)) (goes _ _ _ _ _ c.in_ok-right-2.ensures (goes _ _ _ _ _ c.in_ok-right.ensures (goes _ _ _ _ _ c.in_ok-dropped.ensures (next_of (λ bs. sequenced_from (term_of c.loop-next.left) bs (known_of c.loop-next.checker)) next_assign_of _ _ c.next-item.result _ _ c.loop-next-test.true c.next-item.is (show_next_assign c.next-item.result) c.loop-next.invariant)))))
 
 pub sequence-loop-next-preserved : goal.sequence-loop-next-preserved
-sequence-loop-next-preserved t c = goes _ _ _ _ _ (c.in_ok-left.ensures (known_of c.used-2.new.checker)) (goes _ _ _ _ _ c.in_ok-right-2.ensures (goes _ _ _ _ _ c.in_ok-right.ensures (goes _ _ _ _ _ c.in_ok-dropped.ensures (next_of (λ bs. sequenced_from (term_of c.loop-next.left) bs (known_of c.loop-next.checker)) next_assign_of _ _ c.next-item.result _ _ c.loop-next-test.true c.next-item.is (show_next_assign c.next-item.result) c.loop-next.invariant))))
+sequence-loop-next-preserved t c = goes _ _ _ _ _ (c.in_ok-left.ensures (known_of c.used-in-loop-next.new.checker)) (goes _ _ _ _ _ c.in_ok-right-2.ensures (goes _ _ _ _ _ c.in_ok-right.ensures (goes _ _ _ _ _ c.in_ok-dropped.ensures (next_of (λ bs. sequenced_from (term_of c.loop-next.left) bs (known_of c.loop-next.checker)) next_assign_of _ _ c.next-item.result _ _ c.loop-next-test.true c.next-item.is (show_next_assign c.next-item.result) c.loop-next.invariant))))
 
 pub places-returns-in_err-term : goal.places-returns-in_err-term
 places-returns-in_err-term t c =
@@ -149,7 +149,7 @@ places-returns-in_err-refuse_table t c =
     rw (p.1, p.2) (stops _ _ _ _ (c.in_err-refuse_table.ensures (known_of c.cast.new.checker)) (goes _ _ _ _ _ c.in_ok-term.ensures (next_of (λ bs. sides_from (map side_in c.loop-target.places.items) bs (known_of c.loop-target.checker)) target_of _ _ c.target-item.result _ _ c.loop-target-test.true c.target-item.is (show_target c.target-item.result) c.loop-target.invariant)))
 
 pub places-loop-target-preserved : goal.places-loop-target-preserved
-places-loop-target-preserved t c = pushed (λ bs. sides_from bs (map target_of _) (known_of c.cast.new.checker)) side_in c.loop-target.places.items _ _ _ c.in_ok-push.ensures.items (goes _ _ _ _ _ (c.in_ok-refuse_table.ensures (known_of c.cast.new.checker)) (goes _ _ _ _ _ c.in_ok-term.ensures (next_of (λ bs. sides_from (map side_in c.loop-target.places.items) bs (known_of c.loop-target.checker)) target_of _ _ c.target-item.result _ _ c.loop-target-test.true c.target-item.is (show_target c.target-item.result) c.loop-target.invariant)))
+places-loop-target-preserved t c = pushed sides_from side_in c.loop-target.places.items _ _ _ _ _ c.in_ok-push.ensures.items (goes _ _ _ _ _ (c.in_ok-refuse_table.ensures (known_of c.cast.new.checker)) (goes _ _ _ _ _ c.in_ok-term.ensures (next_of (λ bs. sides_from (map side_in c.loop-target.places.items) bs (known_of c.loop-target.checker)) target_of _ _ c.target-item.result _ _ c.loop-target-test.true c.target-item.is (show_target c.target-item.result) c.loop-target.invariant)))
 
 pub choices-returns-in_err-condition : goal.choices-returns-in_err-condition
 choices-returns-in_err-condition t c =
@@ -164,15 +164,15 @@ choices-returns-in_err-condition-2 t c =
 pub choices-returns-in_err-then : goal.choices-returns-in_err-then
 choices-returns-in_err-then t c =
     let p = err_from_is_err_and c.from_residual-in_err-then.result c.from_residual-in_err-then.ensures.1 in
-    rw (p.1, p.2) (stops _ _ _ _ c.in_err-then.ensures (goes _ _ _ _ _ c.in_ok-condition-2.ensures (goes _ _ _ _ _ c.in_ok-condition.ensures (next_of (λ bs. choices_from (map choice_in c.loop-choice.chosen.items) bs (known_of c.loop-choice.checker)) choice_of _ _ c.choice-item.result _ _ c.loop-choice-test.true c.choice-item.is (show_choice c.choice-item.result) c.loop-choice.invariant))))
+    rw (p.1, p.2) (stops _ _ _ _ c.in_err-then.ensures (goes _ _ _ _ _ c.in_ok-condition-2.ensures (goes _ _ _ _ _ c.in_ok-condition.ensures (next_of (λ bs. choices_from (map choice_in c.loop-choice.chosen.items) bs (known_of c.loop-choice.checker)) choice_of _ _ c.choice-item.result _ _ c.loop-choice-test.true c.choice-item.is (show_choice c.choice-item.result ∙ ap (λ b. (binary_of (out-Choice c.choice-item.result).condition, (out-Choice c.choice-item.result).question, expr_of b, (out-Choice c.choice-item.result).colon)) (sym c.deref.ensures)) c.loop-choice.invariant))))
 
 pub choices-returns-in_err-then-2 : goal.choices-returns-in_err-then-2
 choices-returns-in_err-then-2 t c =
     let p = err_from_is_err_and c.from_residual-in_err-then-2.result c.from_residual-in_err-then-2.ensures.1 in
-    rw (p.1, p.2) (stops _ _ _ _ c.in_err-then-2.ensures (goes _ _ _ _ _ c.in_ok-then.ensures (goes _ _ _ _ _ c.in_ok-condition-2.ensures (goes _ _ _ _ _ c.in_ok-condition.ensures (next_of (λ bs. choices_from (map choice_in c.loop-choice.chosen.items) bs (known_of c.loop-choice.checker)) choice_of _ _ c.choice-item.result _ _ c.loop-choice-test.true c.choice-item.is (show_choice c.choice-item.result) c.loop-choice.invariant)))))
+    rw (p.1, p.2) (stops _ _ _ _ c.in_err-then-2.ensures (goes _ _ _ _ _ c.in_ok-then.ensures (goes _ _ _ _ _ c.in_ok-condition-2.ensures (goes _ _ _ _ _ c.in_ok-condition.ensures (next_of (λ bs. choices_from (map choice_in c.loop-choice.chosen.items) bs (known_of c.loop-choice.checker)) choice_of _ _ c.choice-item.result _ _ c.loop-choice-test.true c.choice-item.is (show_choice c.choice-item.result ∙ ap (λ b. (binary_of (out-Choice c.choice-item.result).condition, (out-Choice c.choice-item.result).question, expr_of b, (out-Choice c.choice-item.result).colon)) (sym c.deref.ensures)) c.loop-choice.invariant)))))
 
 pub choices-loop-choice-preserved : goal.choices-loop-choice-preserved
-choices-loop-choice-preserved t c = pushed (λ bs. choices_from bs (map choice_of _) (known_of c.used-2.new.checker)) choice_in c.loop-choice.chosen.items _ _ _ c.in_ok-push.ensures.items (goes _ _ _ _ _ c.in_ok-then-2.ensures (goes _ _ _ _ _ c.in_ok-then.ensures (goes _ _ _ _ _ c.in_ok-condition-2.ensures (goes _ _ _ _ _ c.in_ok-condition.ensures (next_of (λ bs. choices_from (map choice_in c.loop-choice.chosen.items) bs (known_of c.loop-choice.checker)) choice_of _ _ c.choice-item.result _ _ c.loop-choice-test.true c.choice-item.is (show_choice c.choice-item.result) c.loop-choice.invariant)))))
+choices-loop-choice-preserved t c = pushed choices_from choice_in c.loop-choice.chosen.items _ _ _ _ _ c.in_ok-push.ensures.items (goes _ _ _ _ _ c.in_ok-then-2.ensures (goes _ _ _ _ _ c.in_ok-then.ensures (goes _ _ _ _ _ c.in_ok-condition-2.ensures (goes _ _ _ _ _ c.in_ok-condition.ensures (next_of (λ bs. choices_from (map choice_in c.loop-choice.chosen.items) bs (known_of c.loop-choice.checker)) choice_of _ _ c.choice-item.result _ _ c.loop-choice-test.true c.choice-item.is (show_choice c.choice-item.result ∙ ap (λ b. (binary_of (out-Choice c.choice-item.result).condition, (out-Choice c.choice-item.result).question, expr_of b, (out-Choice c.choice-item.result).colon)) (sym c.deref.ensures)) c.loop-choice.invariant)))))
 
 pub chain-returns-in_err-b : goal.chain-returns-in_err-b
 chain-returns-in_err-b t c =
@@ -187,10 +187,10 @@ chain-returns-in_err-b-2 t c =
 pub chain-returns-in_err-left : goal.chain-returns-in_err-left
 chain-returns-in_err-left t c =
     let p = err_from_is_err_and c.from_residual-in_err-left.result c.from_residual-in_err-left.ensures.1 in
-    rw (p.1, p.2) (stops _ _ _ _ (c.in_err-left.ensures (known_of c.used-2.new.checker)) (goes _ _ _ _ _ c.in_ok-b-2.ensures (goes _ _ _ _ _ c.in_ok-b.ensures (goes _ _ _ _ _ c.in_ok-a.ensures (next_of (λ bs. combined_from (term_of c.loop-next.left) bs (known_of c.loop-next.checker)) next_operand_of _ _ c.next-item.result _ _ c.loop-next-test.true c.next-item.is (show_next_operand c.next-item.result) c.loop-next.invariant)))))
+    rw (p.1, p.2) (stops _ _ _ _ (c.in_err-left.ensures (known_of c.used-in-loop-next.new.checker)) (goes _ _ _ _ _ c.in_ok-b-2.ensures (goes _ _ _ _ _ c.in_ok-b.ensures (goes _ _ _ _ _ c.in_ok-a.ensures (next_of (λ bs. combined_from (term_of c.loop-next.left) bs (known_of c.loop-next.checker)) next_operand_of _ _ c.next-item.result _ _ c.loop-next-test.true c.next-item.is (show_next_operand c.next-item.result) c.loop-next.invariant)))))
 
 pub chain-loop-next-preserved : goal.chain-loop-next-preserved
-chain-loop-next-preserved t c = alone _ c.in_ok-refuse_comma.ensures.operator _ _ _ _ _ _ _ (goes _ _ _ _ _ (c.in_ok-left.ensures (known_of c.used-2.new.checker)) (goes _ _ _ _ _ c.in_ok-b-2.ensures (goes _ _ _ _ _ c.in_ok-b.ensures (goes _ _ _ _ _ c.in_ok-a.ensures (next_of (λ bs. combined_from (term_of c.loop-next.left) bs (known_of c.loop-next.checker)) next_operand_of _ _ c.next-item.result _ _ c.loop-next-test.true c.next-item.is (show_next_operand c.next-item.result) c.loop-next.invariant)))))
+chain-loop-next-preserved t c = alone _ c.in_ok-refuse_comma.ensures.operator _ _ _ _ _ _ _ (goes _ _ _ _ _ (c.in_ok-left.ensures (known_of c.used-in-loop-next.new.checker)) (goes _ _ _ _ _ c.in_ok-b-2.ensures (goes _ _ _ _ _ c.in_ok-b.ensures (goes _ _ _ _ _ c.in_ok-a.ensures (next_of (λ bs. combined_from (term_of c.loop-next.left) bs (known_of c.loop-next.checker)) next_operand_of _ _ c.next-item.result _ _ c.loop-next-test.true c.next-item.is (show_next_operand c.next-item.result) c.loop-next.invariant)))))
 
 pub chain-returns-in_err-refuse_comma : goal.chain-returns-in_err-refuse_comma
 chain-returns-in_err-refuse_comma t c =
@@ -208,7 +208,7 @@ further_arguments-returns-in_err-used t c =
     rw (p.1, p.2) (stops _ _ _ _ c.in_err-used.ensures (goes _ _ _ _ _ c.in_ok-argument.ensures (next_of (λ bs. arguments_from (map operand_of c.loop-next.arguments.items) bs (known_of c.loop-next.checker)) next_assign_of _ _ c.next-item.result _ _ c.loop-next-test.true c.next-item.is (show_next_assign c.next-item.result) c.loop-next.invariant)))
 
 pub further_arguments-loop-next-preserved : goal.further_arguments-loop-next-preserved
-further_arguments-loop-next-preserved t c = pushed (λ bs. arguments_from bs (map next_assign_of _) (known_of c.used.new.checker)) operand_of c.loop-next.arguments.items _ _ _ c.in_ok-push-2.ensures.items (goes _ _ _ _ _ c.in_ok-used.ensures (goes _ _ _ _ _ c.in_ok-argument.ensures (next_of (λ bs. arguments_from (map operand_of c.loop-next.arguments.items) bs (known_of c.loop-next.checker)) next_assign_of _ _ c.next-item.result _ _ c.loop-next-test.true c.next-item.is (show_next_assign c.next-item.result) c.loop-next.invariant)))
+further_arguments-loop-next-preserved t c = pushed arguments_from operand_of c.loop-next.arguments.items _ _ _ _ _ c.in_ok-push-2.ensures.items (goes _ _ _ _ _ c.in_ok-used.ensures (goes _ _ _ _ _ c.in_ok-argument.ensures (next_of (λ bs. arguments_from (map operand_of c.loop-next.arguments.items) bs (known_of c.loop-next.checker)) next_assign_of _ _ c.next-item.result _ _ c.loop-next-test.true c.next-item.is (show_next_assign c.next-item.result) c.loop-next.invariant)))
 
 pub suffix-returns-in_err-whole-in-Index : goal.suffix-returns-in_err-whole-in-Index
 suffix-returns-in_err-whole-in-Index t c =
@@ -224,7 +224,7 @@ pub suffix-returns-in_ok-index-in-Index : goal.suffix-returns-in_ok-index-in-Ind
 suffix-returns-in_ok-index-in-Index t c = ends term_of _ _ _ _ (c.element.ensures (known_of c.expression.new.checker)) (goes _ _ _ _ _ c.in_ok-index-in-Index.ensures (unseen_index (term_of c.in_ok-whole-in-Index.whole) (judged (expr_of c.deref.result.now) (known_of (record c.args.checker.now { types = c.indexable.new.types }))) (goes _ _ _ _ _ (c.in_ok-whole-in-Index.ensures (known_of c.args.checker.now)) (sym (ap (λ e. judged_behind e (term_of c.args.term) (known_of c.args.checker.now)) (ap postfix_suffix_of c.in-Index.is ∙ show_postfix_suffix_index c.in-Index.opening c.in-Index.index c.in-Index.closing ∙ ap (λ i. tree.Index c.in-Index.opening (expr_of i) c.in-Index.closing) (sym c.deref.ensures)) ∙ behind_index c.in-Index.opening (expr_of c.deref.result.now) c.in-Index.closing (term_of c.args.term) (known_of c.args.checker.now))))))
 
 pub suffix-returns-in-Member : goal.suffix-returns-in-Member
-suffix-returns-in-Member t c = ends term_of _ _ _ _ c.selected.ensures (ap (λ l. selected (kinds.Punct c.in-Member.operator.punct) (term_of c.args.term) l (known_of c.args.checker.now)) c.deref.ensures.value ∙ sym (ap (λ e. judged_behind e (term_of c.args.term) (known_of c.args.checker.now)) (ap postfix_suffix_of c.in-Member.is ∙ show_postfix_suffix_member c.in-Member.operator c.in-Member.name) ∙ ap (λ r. r (known_of c.args.checker.now)) (behind_field (signed c.in-Member.operator) (named c.in-Member.name) (term_of c.args.term))))
+suffix-returns-in-Member t c = ends term_of _ _ _ _ c.selected.ensures (ap (λ l. selected (kinds.Punct c.in-Member.operator.punct) (term_of c.args.term) l (known_of c.args.checker.now)) c.deref-in-Member.ensures.value ∙ sym (ap (λ e. judged_behind e (term_of c.args.term) (known_of c.args.checker.now)) (ap postfix_suffix_of c.in-Member.is ∙ show_postfix_suffix_member c.in-Member.operator c.in-Member.name) ∙ ap (λ r. r (known_of c.args.checker.now)) (behind_field (signed c.in-Member.operator) (named c.in-Member.name) (term_of c.args.term))))
 
 pub suffix-returns-in-Step : goal.suffix-returns-in-Step
 suffix-returns-in-Step t c = ends term_of _ _ _ _ (c.stepped.ensures (known_of c.args.checker.now)) (ap (λ o. stepped o (term_of c.args.term) c.args.term.start (known_of c.args.checker.now)) c.step_behind.ensures ∙ sym (ap (λ e. judged_behind e (term_of c.args.term) (known_of c.args.checker.now)) (ap postfix_suffix_of c.in-Step.is ∙ show_postfix_suffix_step c.in-Step.sign) ∙ ap (λ r. r (known_of c.args.checker.now)) (behind_step (signed c.in-Step.sign) (term_of c.args.term))))
