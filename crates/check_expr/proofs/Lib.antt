@@ -3,3 +3,4 @@ mod Clauses
 mod Folded
 mod Signs
 mod Answering
+pub mod Gathering

@@ -1,15 +1,21 @@
 //! Specifiers of declarations (ISO/IEC 9899:1990, 6.5.1 to 6.5.3).
 
-ghost use Rattle.std.specs.Prelude.{◌≡◌};
+ghost use Rattle.std.specs.Prelude.{◌≡◌, ◌&&◌, ◌||◌, not, []};
+ghost use Rattle.c_operate.specs.Answers.{Answers};
 ghost use Rattle.c_tree.specs.Views.{specs_of};
-ghost use Rattle.type_rules.specs.Specifiers.{specs_line};
+ghost use Rattle.type_rules.specs.Known.{Known};
+ghost use Rattle.type_rules.specs.Names as names;
+ghost use Rattle.type_rules.specs.Specifiers as rule;
+ghost use Rattle.type_rules.specs.Specifiers.{Gathered, specs_line};
+ghost use Rattle.check_expr.specs.Gathering as gathering;
+ghost use Rattle.check_expr.specs.Gathering.{kept_of};
+ghost use Rattle.check_expr.specs.Views as views;
 
 use c_ints::IntTy;
 use c_operate::error::{CheckError, Kind, refused};
 use c_token::Keyword;
 use c_tree::expression::{Spec, Specs};
 use c_typed::{Qualified, Ty};
-use std::mem;
 
 /// Where specifiers stand.
 #[derive(Clone, Copy, PartialEq, Eq)]
@@ -58,9 +64,56 @@ pub struct Specified {
     pub line: u32,
 }
 
+fn is_plain(storage: Storage) -> bool
+    ensures { result ≡ gathering.is_plain storage }
+{
+    match storage {
+        Storage::Plain => true,
+        Storage::Static | Storage::Auto | Storage::Register => false,
+    }
+}
+
+fn is_static(storage: Storage) -> bool
+    ensures { result ≡ views.is_static storage }
+{
+    match storage {
+        Storage::Static => true,
+        Storage::Plain | Storage::Auto | Storage::Register => false,
+    }
+}
+
+pub(crate) fn is_register(storage: Storage) -> bool
+    ensures { result ≡ views.is_register storage }
+{
+    match storage {
+        Storage::Register => true,
+        Storage::Plain | Storage::Static | Storage::Auto => false,
+    }
+}
+
+fn is_automatic(storage: Storage) -> bool
+    ensures { result ≡ (gathering.is_auto storage || views.is_register storage) }
+{
+    match storage {
+        Storage::Auto | Storage::Register => true,
+        Storage::Plain | Storage::Static => false,
+    }
+}
+
+fn of_int(ty: Option<IntTy>) -> Option<Ty>
+    ensures { result ≡ rule.of_int ty }
+{
+    match ty {
+        Some(ty) => Some(Ty::Int(ty)),
+        None => None,
+    }
+}
+
 impl Words {
     /// No specifiers.
-    pub fn none() -> Words {
+    pub fn none() -> Words
+        ensures { result ≡ kept_of rule.nothing_gathered }
+    {
         Words {
             void: false,
             char: false,
@@ -78,58 +131,76 @@ impl Words {
         }
     }
 
-    // Whether there was a word on storage before.
-    fn stores(&mut self, storage: Storage) -> bool {
-        mem::replace(&mut self.storage, storage) != Storage::Plain
+    // Whether a word was said before, or another one on storage.
+    fn has_said(&self, keyword: Keyword) -> bool
+        ensures { result ≡ gathering.is_said keyword self.now }
+    {
+        match keyword {
+            Keyword::Void => self.void,
+            Keyword::Char => self.char,
+            Keyword::Short => self.short,
+            Keyword::Int => self.int,
+            Keyword::Long => self.long,
+            Keyword::Signed => self.signed,
+            Keyword::Unsigned => self.unsigned,
+            Keyword::Const => self.constant,
+            Keyword::Volatile => self.volatile,
+            Keyword::Static | Keyword::Auto | Keyword::Register => !is_plain(self.storage),
+            _ => false,
+        }
     }
 
-    // Sets what a word says, and tells whether it was said before.
-    fn says(&mut self, keyword: Keyword) -> bool {
+    // Sets what a word says. A keyword that is no specifier says nothing.
+    fn say(&mut self, keyword: Keyword)
+        ensures { self.new ≡ gathering.with_flag keyword self.old }
+    {
         match keyword {
-            Keyword::Void => mem::replace(&mut self.void, true),
-            Keyword::Char => mem::replace(&mut self.char, true),
-            Keyword::Short => mem::replace(&mut self.short, true),
-            Keyword::Int => mem::replace(&mut self.int, true),
-            Keyword::Long => mem::replace(&mut self.long, true),
-            Keyword::Signed => mem::replace(&mut self.signed, true),
-            Keyword::Unsigned => mem::replace(&mut self.unsigned, true),
-            Keyword::Const => mem::replace(&mut self.constant, true),
-            Keyword::Volatile => mem::replace(&mut self.volatile, true),
-            Keyword::Static => self.stores(Storage::Static),
-            Keyword::Auto => self.stores(Storage::Auto),
-            Keyword::Register => self.stores(Storage::Register),
-            Keyword::Interrupt => {
-                self.interrupt = true;
-                false
-            }
-            _ => true,
+            Keyword::Void => self.void = true,
+            Keyword::Char => self.char = true,
+            Keyword::Short => self.short = true,
+            Keyword::Int => self.int = true,
+            Keyword::Long => self.long = true,
+            Keyword::Signed => self.signed = true,
+            Keyword::Unsigned => self.unsigned = true,
+            Keyword::Const => self.constant = true,
+            Keyword::Volatile => self.volatile = true,
+            Keyword::Static => self.storage = Storage::Static,
+            Keyword::Auto => self.storage = Storage::Auto,
+            Keyword::Register => self.storage = Storage::Register,
+            Keyword::Interrupt => self.interrupt = true,
+            _ => {}
         }
     }
 
     /// These specifiers with a word more.
-    pub fn with_word(self, keyword: Keyword) -> Words {
+    pub fn with_word(self, keyword: Keyword) -> Words
+        ensures { result ≡ gathering.worded keyword self }
+    {
         let mut words = self;
-        if words.says(keyword) {
-            words.bad = true;
-        }
+        words.bad = self.bad || self.has_said(keyword);
+        words.say(keyword);
         words
     }
 
     /// These specifiers with a structure more.
-    pub fn with_structure(self, structure: u32) -> Words {
+    pub fn with_structure(self, structure: u32) -> Words
+        ensures { result ≡ gathering.structured structure self }
+    {
         let mut words = self;
-        if words.structure.is_some() {
-            words.bad = true;
-        }
+        words.bad = self.bad || self.structure.is_some();
         words.structure = Some(structure);
         words
     }
 
-    fn has_int_word(&self) -> bool {
+    fn has_int_word(&self) -> bool
+        ensures { result ≡ gathering.has_int_word self.now }
+    {
         self.short || self.int || self.long || self.signed || self.unsigned
     }
 
-    fn char_type(&self) -> Option<IntTy> {
+    fn char_type(&self) -> Option<IntTy>
+        ensures { result ≡ gathering.char_type self.now }
+    {
         if self.short || self.int || self.long || (self.signed && self.unsigned) {
             None
         } else if self.signed {
@@ -141,11 +212,11 @@ impl Words {
         }
     }
 
-    fn int_type(&self) -> Option<IntTy> {
-        if (self.signed && self.unsigned) || (self.short && self.long) {
-            return None;
-        }
-        let ty = if self.short {
+    // `short`, `int`, `long`, each with `signed` or `unsigned` or neither.
+    fn wide_type(&self) -> IntTy
+        ensures { result ≡ gathering.wide_type self.now }
+    {
+        if self.short {
             if self.unsigned {
                 IntTy::UShort
             } else {
@@ -161,57 +232,89 @@ impl Words {
             IntTy::UInt
         } else {
             IntTy::Int
-        };
-        Some(ty)
+        }
     }
 
-    // The type that the words name together (ISO/IEC 9899:1990, 6.5.2).
-    fn base(&self) -> Option<Ty> {
-        if let Some(structure) = self.structure {
-            if self.void || self.char || self.has_int_word() {
-                None
-            } else {
-                Some(Ty::Struct(structure))
-            }
-        } else if self.void {
+    fn int_type(&self) -> Option<IntTy>
+        ensures { result ≡ gathering.int_type self.now }
+    {
+        if (self.signed && self.unsigned) || (self.short && self.long) {
+            None
+        } else {
+            Some(self.wide_type())
+        }
+    }
+
+    // The type that the words name where no structure is among them.
+    fn word_type(&self) -> Option<Ty>
+        ensures { result ≡ gathering.word_type self.now }
+    {
+        if self.void {
             if self.char || self.has_int_word() {
                 None
             } else {
                 Some(Ty::Void)
             }
         } else if self.char {
-            self.char_type().map(Ty::Int)
+            of_int(self.char_type())
         } else if self.has_int_word() {
-            self.int_type().map(Ty::Int)
+            of_int(self.int_type())
         } else {
             None
         }
     }
 
+    // The type that the specifiers name together (ISO/IEC 9899:1990, 6.5.2).
+    fn base(&self) -> Option<Ty>
+        ensures { result ≡ gathering.base_type self.now self.now.structure }
+    {
+        match self.structure {
+            Some(structure) => {
+                if self.void || self.char || self.has_int_word() {
+                    None
+                } else {
+                    Some(Ty::Struct(structure))
+                }
+            }
+            None => self.word_type(),
+        }
+    }
+
     // Whether the words on storage, and `interrupt`, may stand at a site.
-    fn fit(&self, site: Site, in_file: bool) -> bool {
-        let automatic = self.storage == Storage::Auto || self.storage == Storage::Register;
+    fn fits(&self, site: Site, in_file: bool) -> bool
+        ensures { result ≡ gathering.fits self.now site in_file }
+    {
         match site {
-            Site::File => !automatic,
+            Site::File => !is_automatic(self.storage),
             Site::Block => true,
-            Site::Member => self.storage == Storage::Plain && !self.interrupt,
+            Site::Member => is_plain(self.storage) && !self.interrupt,
             Site::Param => {
-                let kept = self.storage == Storage::Plain || self.storage == Storage::Register;
-                kept && !self.interrupt
+                (is_plain(self.storage) || is_register(self.storage)) && !self.interrupt
             }
             Site::TypeName => {
-                self.storage != Storage::Static && !self.interrupt && !(automatic && in_file)
+                !is_static(self.storage)
+                    && !self.interrupt
+                    && !(is_automatic(self.storage) && in_file)
             }
         }
     }
 
+    // Whether no declaration has them together, or they may not stand at a site.
+    fn is_refused(&self, site: Site, in_file: bool) -> bool
+        ensures { result ≡ (self.now.bad || not (gathering.fits self.now site in_file)) }
+    {
+        self.bad || !self.fits(site, in_file)
+    }
+
     /// What the specifiers say at a site. `line` is that of the first of them, and `in_file` says that no
     /// block is open.
-    pub fn finished(self, site: Site, in_file: bool, line: u32) -> Result<Specified, CheckError> {
+    pub fn finished(self, site: Site, in_file: bool, line: u32) -> Result<Specified, CheckError>
+        ensures { (g : Gathered) (known : Known) → self ≡ kept_of g → in_file ≡ names.in_file known → Answers views.specified_of result known (rule.specifiers (views.site_of site) g line known) }
+    {
         let Some(ty) = self.base() else {
             return refused(Kind::Declare, line);
         };
-        if self.bad || !self.fit(site, in_file) {
+        if self.is_refused(site, in_file) {
             return refused(Kind::Declare, line);
         }
         Ok(Specified {

@@ -1,0 +1,9 @@
+use Rattle.std.proofs.Common.{sym}
+use Rattle.check_expr.proofs.Gathering.{ends_badly, ends_well}
+use Rattle.check_expr.proofs.specifiers.Words.finished.Goals as goal
+
+pub returns-then-is_refused : goal.returns-then-is_refused
+returns-then-is_refused c g known e i = rw c.refused-then-is_refused.ensures (ends_badly c.args.site g c.args.line known c.args.self c.args.in_file c.in-Some.ty e i (sym c.in-Some.ensures) (sym c.if-is_refused.ensures))
+
+pub returns : goal.returns
+returns c g known e i = ends_well c.args.site g c.args.line known c.args.self c.args.in_file c.in-Some.ty e i (sym c.in-Some.ensures) (sym c.if-is_refused.ensures)
