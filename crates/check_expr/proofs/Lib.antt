@@ -4,3 +4,5 @@ mod Folded
 mod Signs
 mod Answering
 pub mod Gathering
+pub mod Outlining
+pub mod Declaring

@@ -1,3 +1,5 @@
 pub mod Views
 pub mod Folds
 pub mod Kept
+pub mod Gathering
+pub mod Lists

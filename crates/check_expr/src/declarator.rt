@@ -1,10 +1,20 @@
 //! Specifiers, structures, declarators and parameters, from the tree's root down (ISO/IEC 9899:1990, 6.5).
 
-ghost use Rattle.c_tree.specs.Views.{declarator_of, specs_of};
+ghost use Rattle.std.specs.Prelude.{◌≡◌, Ok, map};
+ghost use Rattle.c_tree.specs.Lists.{more_params, suffixes_of};
+ghost use Rattle.c_tree.specs.Views.{declarator_of, member_of, next_param_of, param_of, spec_of, specs_of, struct_body_of, suffix_of};
+ghost use Rattle.c_tree.specs.Words.{spell_tag};
 ghost use Rattle.type_rules.specs.Declarators as rule;
-ghost use Rattle.c_operate.specs.Answers.{Answers};
-ghost use Rattle.c_operate.specs.Tables.{known_of};
-ghost use Rattle.check_expr.specs.Views.{context_of, outline_of, specified_of};
+ghost use Rattle.type_rules.specs.Known.{Known};
+ghost use Rattle.type_rules.specs.Rows as rows;
+ghost use Rattle.type_rules.specs.Specifiers.{Gathered};
+ghost use Rattle.c_operate.specs.Answers.{Answers, Learns};
+ghost use Rattle.c_operate.specs.Tables as tables;
+ghost use Rattle.c_operate.specs.Tables.{known_of, types_in};
+ghost use Rattle.check_expr.specs.Gathering.{Gathers, kept_of};
+ghost use Rattle.check_expr.specs.Lists.{Lists, body_rule};
+ghost use Rattle.check_expr.specs.Views as views;
+ghost use Rattle.check_expr.specs.Views.{context_of, made_of, outline_of, specified_of};
 
 use crate::constants::array_length;
 use crate::outline::{
@@ -37,30 +47,71 @@ fn param_context(bodies: bool) -> Context {
     }
 }
 
+fn declares_tags(site: Site) -> bool
+    ensures { result ≡ rule.declares_tags (views.site_of site) }
+{
+    match site {
+        Site::File | Site::Member => true,
+        Site::Block | Site::Param | Site::TypeName => false,
+    }
+}
+
 // The structure of a tag, which is declared here where the place may do so.
 fn structure_of(
-    tag: &Name,
+    tag: &[u8],
     types: &mut Types,
     context: Context,
     line: u32,
-) -> Result<u32, CheckError> {
-    match types.tagged(&tag.bytes) {
+) -> Result<u32, CheckError>
+    ensures { (known : Known) → Answers (λ number. number) result (types_in types.new known) (rule.structure_of (context_of context) tag.now line (types_in types.old known)) }
+{
+    match types.tagged(tag) {
         Some(structure) => Ok(structure),
-        None => match context.site {
-            Site::File | Site::Member => types.declare_tag(&tag.bytes),
-            _ => refused(Kind::Name, line),
-        },
+        None => {
+            if declares_tags(context.site) {
+                types.declare_tag(tag)
+            } else {
+                refused(Kind::Name, line)
+            }
+        }
+    }
+}
+
+// The structure of a body, with its tag or without one.
+fn structure_in(
+    tag: &Option<Name>,
+    types: &mut Types,
+    context: Context,
+    line: u32,
+) -> Result<u32, CheckError>
+    ensures { (known : Known) → Answers (λ number. number) result (types_in types.new known) (rule.structure_in (context_of context) (spell_tag tag.now) line (types_in types.old known)) }
+{
+    match tag {
+        Some(tag) => structure_of(&tag.bytes, types, context, line),
+        None => types.untagged(),
+    }
+}
+
+fn is_absent(progress: Progress) -> bool
+    ensures { result ≡ rows.is_absent (tables.progress_of progress) }
+{
+    match progress {
+        Progress::Absent => true,
+        Progress::Open | Progress::Closed => false,
     }
 }
 
 // The structure whose body begins here.
-fn opened(body: &StructBody, types: &mut Types, context: Context) -> Result<u32, CheckError> {
-    let line = body.keyword;
-    let structure = match &body.tag {
-        Some(tag) => structure_of(tag, types, context, line)?,
-        None => types.untagged()?,
-    };
-    if types.progress(structure) != Progress::Absent {
+fn opened(
+    tag: &Option<Name>,
+    types: &mut Types,
+    context: Context,
+    line: u32,
+) -> Result<u32, CheckError>
+    ensures { (known : Known) → Answers (λ number. number) result (types_in types.new known) (rule.body_opened (context_of context) (spell_tag tag.now) line (types_in types.old known)) }
+{
+    let structure = structure_in(tag, types, context, line)?;
+    if !is_absent(types.progress(structure)) {
         return refused(Kind::Again, line);
     }
     if !context.bodies {
@@ -93,15 +144,17 @@ fn specifier(
     checker: &mut Checker,
     context: Context,
     words: Words,
-) -> Result<Words, CheckError> {
+) -> Result<Words, CheckError>
+    ensures { (g : Gathered) → words ≡ kept_of g → Gathers result (known_of checker.new) (rule.spec_rule (spec_of spec.now) (context_of context) g (known_of checker.old)) }
+{
     match spec {
         Spec::Word(word) => Ok(words.with_word(word.keyword)),
         Spec::Reference { keyword, tag } => {
-            let structure = structure_of(tag, &mut checker.types, context, *keyword)?;
+            let structure = structure_of(&tag.bytes, &mut checker.types, context, *keyword)?;
             Ok(words.with_structure(structure))
         }
         Spec::Body(body) => {
-            let structure = opened(body, &mut checker.types, context)?;
+            let structure = opened(&body.tag, &mut checker.types, context, body.keyword)?;
             structure_body(body, checker, structure)?;
             Ok(words.with_structure(structure))
         }
@@ -113,7 +166,9 @@ fn structure_body(
     body: &StructBody,
     checker: &mut Checker,
     structure: u32,
-) -> Result<(), CheckError> {
+) -> Result<(), CheckError>
+    ensures { Learns result (known_of checker.new) (body_rule (struct_body_of body.now) structure (known_of checker.old)) }
+{
     members(&body.first, checker, structure)?;
     for member in &body.others {
         members(member, checker, structure)?;
@@ -123,7 +178,9 @@ fn structure_body(
 }
 
 #[cycle(declarator)]
-fn members(member: &Member, checker: &mut Checker, structure: u32) -> Result<(), CheckError> {
+fn members(member: &Member, checker: &mut Checker, structure: u32) -> Result<(), CheckError>
+    ensures { Learns result (known_of checker.new) (rule.members (member_of member.now) structure (known_of checker.old)) }
+{
     let specified = specified(&member.specs, checker, MEMBER)?;
     field(&member.first, checker, structure, specified)?;
     for next in &member.others {
@@ -138,7 +195,9 @@ fn field(
     checker: &mut Checker,
     structure: u32,
     specified: Specified,
-) -> Result<(), CheckError> {
+) -> Result<(), CheckError>
+    ensures { Learns result (known_of checker.new) (rule.field (declarator_of declarator.now) (specified_of specified) structure (known_of checker.old)) }
+{
     let outline = outline(declarator, checker, specified, false)?;
     let line = line_of(declarator);
     let name = &declarator.name.bytes;
@@ -166,7 +225,9 @@ fn suffixes(
     suffixes: &[Suffix],
     checker: &mut Checker,
     bodies: bool,
-) -> Result<Vec<Made>, CheckError> {
+) -> Result<Vec<Made>, CheckError>
+    ensures { Answers (λ made. map made_of made.items) result (known_of checker.new) (rule.suffixes (suffixes_of (map suffix_of suffixes.now)) bodies (known_of checker.old)) }
+{
     let mut made = Vec::new(checker.alloc);
     for suffix in suffixes {
         made.push(self::suffix(suffix, checker, bodies)?)?;
@@ -175,7 +236,9 @@ fn suffixes(
 }
 
 #[cycle(declarator)]
-fn suffix(suffix: &Suffix, checker: &mut Checker, bodies: bool) -> Result<Made, CheckError> {
+fn suffix(suffix: &Suffix, checker: &mut Checker, bodies: bool) -> Result<Made, CheckError>
+    ensures { Answers made_of result (known_of checker.new) (rule.suffix (suffix_of suffix.now) bodies (known_of checker.old)) }
+{
     match suffix {
         Suffix::Array { length, .. } => match length {
             Some(length) => Ok(Made::Array(array_length(length, checker)?)),
@@ -201,7 +264,9 @@ fn params(
     checker: &mut Checker,
     bodies: bool,
     list: &mut ParamList,
-) -> Result<(), CheckError> {
+) -> Result<(), CheckError>
+    ensures { Lists result (map views.param_of list.new.params.items) (known_of checker.new) (rule.more_params (more_params (map next_param_of others.now)) bodies (map views.param_of list.old.params.items) (known_of checker.old)) }
+{
     for next in others {
         param(&next.param, checker, bodies, list)?;
     }
@@ -214,7 +279,9 @@ fn param(
     checker: &mut Checker,
     bodies: bool,
     list: &mut ParamList,
-) -> Result<(), CheckError> {
+) -> Result<(), CheckError>
+    ensures { Lists result (map views.param_of list.new.params.items) (known_of checker.new) (rule.param (param_of param.now) bodies (map views.param_of list.old.params.items) (known_of checker.old)) }
+{
     match param {
         Param::Named { specs, declarator } => {
             let specified = specified(specs, checker, param_context(bodies))?;
@@ -222,14 +289,8 @@ fn param(
             let made = self::suffixes(&declarator.suffixes, checker, bodies)?;
             let outline = param_outlined(&mut checker.types, base, made)?;
             let line = line_of(declarator);
-            add_param(
-                checker,
-                list,
-                specified,
-                outline,
-                Some(&declarator.name),
-                line,
-            )
+            let name = &declarator.name.bytes;
+            add_param(checker, list, specified, outline, name, line)
         }
         Param::Unnamed {
             specs,
@@ -240,7 +301,7 @@ fn param(
             let base = type_name::pointers(pointers, checker, specified.ty)?;
             let made = self::suffixes(suffixes, checker, bodies)?;
             let outline = param_outlined(&mut checker.types, base, made)?;
-            add_param(checker, list, specified, outline, None, specified.line)
+            add_param(checker, list, specified, outline, &[], specified.line)
         }
     }
 }

@@ -1,16 +1,24 @@
 //! What a declarator makes of a type (ISO/IEC 9899:1990, 6.5.4).
 
-ghost use Rattle.std.specs.Prelude.{◌≡◌};
+ghost use Rattle.std.specs.Prelude.{◌≡◌, ◌||◌, true, [], map, IfErr, IfOk};
+ghost use Rattle.c_operate.specs.Answers.{Answers, Learns};
+ghost use Rattle.c_operate.specs.Tables.{known_of, scopes_in, types_in};
+ghost use Rattle.c_operate.specs.declared.error.CheckError.TheVariants.{NoMemory};
 ghost use Rattle.c_tree.specs.Views.{declarator_of};
+ghost use Rattle.c_typed.specs.Sameness as sameness;
 ghost use Rattle.type_rules.specs.Declarators.{line_in};
+ghost use Rattle.type_rules.specs.Known.{Known, tried};
+ghost use Rattle.type_rules.specs.Outlines as rule;
+ghost use Rattle.check_expr.specs.Lists.{Lists, outermost};
+ghost use Rattle.check_expr.specs.Views.{declared_of, made_of, outline_of, param_of, specified_of};
 
-use crate::specifiers::{Specified, Storage};
+use crate::specifiers::{Specified, is_register};
+use crate::type_name::plain;
 use c_operate::checker::Checker;
 use c_operate::error::{CheckError, Kind, number, refused};
-use c_operate::scope::Binding;
+use c_operate::scope::{Binding, Scopes};
 use c_operate::types::Types;
 use c_tree::expression::Declarator;
-use c_tree::word::Name;
 use c_typed::{Object, Qualified, Ty};
 use std::alloc::Global;
 
@@ -57,67 +65,112 @@ pub struct Outline {
 
 impl ParamList {
     /// A list without parameters.
-    pub fn new(alloc: Global) -> ParamList {
+    pub fn new(alloc: Global) -> ParamList
+        ensures { result.params.items ≡ [] }
+    {
         ParamList {
             params: Vec::new(alloc),
         }
     }
 }
 
-fn array_outline(types: &mut Types, length: u32, outline: Outline) -> Result<Outline, CheckError> {
-    let Outline {
-        declared,
-        bad,
-        incomplete,
-    } = outline;
-    match declared {
-        Declared::Object(element) => Ok(Outline {
-            declared: Declared::Object(types.array_of(element, length)?),
-            bad: bad || element.ty == Ty::Void,
-            incomplete: incomplete || !types.is_complete(element.ty),
-        }),
-        Declared::Function { result, .. } => Ok(Outline {
-            declared: Declared::Object(result),
-            bad: true,
-            incomplete,
-        }),
+fn is_void(ty: Ty) -> bool
+    ensures { result ≡ sameness.is_void ty }
+{
+    match ty {
+        Ty::Void => true,
+        Ty::Int(_) | Ty::Pointer(_) | Ty::Array { .. } | Ty::Struct(_) => false,
     }
 }
 
-fn has_no_result(ty: Ty) -> bool {
+fn is_structure(ty: Ty) -> bool
+    ensures { result ≡ sameness.is_struct ty }
+{
+    match ty {
+        Ty::Struct(_) => true,
+        Ty::Void | Ty::Int(_) | Ty::Pointer(_) | Ty::Array { .. } => false,
+    }
+}
+
+fn has_no_result(ty: Ty) -> bool
+    ensures { result ≡ (sameness.is_array ty || sameness.is_struct ty) }
+{
     match ty {
         Ty::Array { .. } | Ty::Struct(_) => true,
-        _ => false,
+        Ty::Void | Ty::Int(_) | Ty::Pointer(_) => false,
     }
 }
 
-fn function_outline(list: ParamList, outline: Outline) -> Outline {
-    let Outline {
-        declared,
-        bad,
-        incomplete,
-    } = outline;
-    let ParamList { params } = list;
-    let (result, nested) = match declared {
-        Declared::Object(result) => (result, has_no_result(result.ty)),
-        Declared::Function { result, .. } => (result, true),
-    };
+fn either(a: bool, b: bool) -> bool
+    ensures { result ≡ (a || b) }
+{
+    a || b
+}
+
+// An object in the place of a function, of which nothing can be made.
+fn no_object(ty: Qualified, outline: &Outline) -> Outline
+    ensures { outline_of result ≡ record (outline_of outline.now) { declared = rule.ObjectDeclared ty; bad = true } }
+{
     Outline {
-        declared: Declared::Function { result, params },
-        bad: bad || nested,
-        incomplete,
+        declared: Declared::Object(ty),
+        bad: true,
+        incomplete: outline.incomplete,
+    }
+}
+
+fn array_outline(types: &mut Types, length: u32, outline: &Outline) -> Result<Outline, CheckError>
+    ensures { (known : Known) → Answers outline_of result (types_in types.new known) (rule.array_behind length (outline_of outline.now) (declared_of outline.now.declared) (types_in types.old known)) }
+{
+    match &outline.declared {
+        Declared::Object(element) => {
+            let ty = types.array_of(*element, length)?;
+            Ok(Outline {
+                declared: Declared::Object(ty),
+                bad: either(outline.bad, is_void(element.ty)),
+                incomplete: either(outline.incomplete, !types.is_complete(element.ty)),
+            })
+        }
+        Declared::Function { result, .. } => Ok(no_object(*result, outline)),
+    }
+}
+
+fn function_outline(list: ParamList, outline: &Outline) -> Outline
+    ensures { outline_of result ≡ rule.function_behind (map param_of list.params.items) (outline_of outline.now) (declared_of outline.now.declared) }
+{
+    let ParamList { params } = list;
+    match &outline.declared {
+        Declared::Object(result) => Outline {
+            declared: Declared::Function {
+                result: *result,
+                params,
+            },
+            bad: either(outline.bad, has_no_result(result.ty)),
+            incomplete: outline.incomplete,
+        },
+        Declared::Function { result, .. } => Outline {
+            declared: Declared::Function {
+                result: *result,
+                params,
+            },
+            bad: true,
+            incomplete: outline.incomplete,
+        },
     }
 }
 
 // What is declared with a suffix behind it.
-fn behind(types: &mut Types, suffix: Made, outline: Outline) -> Result<Outline, CheckError> {
+fn behind(types: &mut Types, suffix: Made, outline: &Outline) -> Result<Outline, CheckError>
+    ensures { (known : Known) → Answers outline_of result (types_in types.new known) (rule.behind (made_of suffix) (outline_of outline.now) (types_in types.old known)) }
+{
     match suffix {
         Made::Array(length) => array_outline(types, length, outline),
         Made::Function(list) => Ok(function_outline(list, outline)),
     }
 }
 
-fn object(ty: Qualified) -> Outline {
+fn object(ty: Qualified) -> Outline
+    ensures { outline_of result ≡ rule.object_outline ty }
+{
     Outline {
         declared: Declared::Object(ty),
         bad: false,
@@ -130,32 +183,45 @@ pub(crate) fn outlined(
     types: &mut Types,
     base: Qualified,
     made: Vec<Made>,
-) -> Result<Outline, CheckError> {
+) -> Result<Outline, CheckError>
+    ensures { (known : Known) → Answers outline_of result (types_in types.new known) (rule.outlined (map made_of made.items) (rule.object_outline base) (types_in types.old known)) }
+{
+    let mut left = made;
     let mut outline = object(base);
-    for suffix in made.into_iter().rev() {
-        outline = behind(types, suffix, outline)?;
+    while let Some(suffix) = left.pop() {
+        outline = behind(types, suffix, &outline)?;
     }
     Ok(outline)
 }
 
 // A parameter that is written as an array of this.
-fn pointer_outline(types: &mut Types, element: Outline) -> Result<Outline, CheckError> {
-    let Outline {
-        declared,
-        bad,
-        incomplete,
-    } = element;
-    match declared {
-        Declared::Object(ty) => Ok(Outline {
-            declared: Declared::Object(Qualified::plain(types.pointer_to(ty)?)),
-            bad,
-            incomplete,
-        }),
-        Declared::Function { result, .. } => Ok(Outline {
-            declared: Declared::Object(result),
-            bad: true,
-            incomplete,
-        }),
+fn pointer_outline(types: &mut Types, element: &Outline) -> Result<Outline, CheckError>
+    ensures { (known : Known) → Answers outline_of result (types_in types.new known) (rule.pointer_outline (outline_of element.now) (declared_of element.now.declared) (types_in types.old known)) }
+{
+    match &element.declared {
+        Declared::Object(ty) => {
+            let to = types.pointer_to(*ty)?;
+            Ok(Outline {
+                declared: Declared::Object(plain(to)),
+                bad: element.bad,
+                incomplete: element.incomplete,
+            })
+        }
+        Declared::Function { result, .. } => Ok(no_object(*result, element)),
+    }
+}
+
+// What the outermost suffix makes of a parameter.
+fn outermost_outline(
+    types: &mut Types,
+    suffix: Made,
+    outline: &Outline,
+) -> Result<Outline, CheckError>
+    ensures { (known : Known) → Answers outline_of result (types_in types.new known) (outermost (made_of suffix) (outline_of outline.now) (types_in types.old known)) }
+{
+    match suffix {
+        Made::Array(_) => pointer_outline(types, outline),
+        Made::Function(list) => Ok(function_outline(list, outline)),
     }
 }
 
@@ -164,73 +230,127 @@ pub(crate) fn param_outlined(
     types: &mut Types,
     base: Qualified,
     made: Vec<Made>,
-) -> Result<Outline, CheckError> {
-    let mut suffixes = made.into_iter();
-    let Some(outermost) = suffixes.next() else {
-        return Ok(object(base));
-    };
+) -> Result<Outline, CheckError>
+    ensures { (known : Known) → Answers outline_of result (types_in types.new known) (rule.param_outlined (map made_of made.items) (rule.object_outline base) (types_in types.old known)) }
+{
+    let mut left = made;
     let mut outline = object(base);
-    for suffix in suffixes.rev() {
-        outline = behind(types, suffix, outline)?;
-    }
-    match outermost {
-        Made::Array(_) => pointer_outline(types, outline),
-        Made::Function(list) => Ok(function_outline(list, outline)),
-    }
-}
-
-fn is_structure(ty: Ty) -> bool {
-    match ty {
-        Ty::Struct(_) => true,
-        _ => false,
-    }
-}
-
-// The name of a parameter, which no other parameter of the list may have.
-fn param_name(checker: &Checker, name: Option<&Name>, line: u32) -> Result<Vec<u8>, CheckError> {
-    match name {
-        Some(name) => {
-            checker.scopes.refuse_again(&name.bytes, line)?;
-            Ok(name.bytes.as_slice().to_vec(checker.alloc)?)
+    while let Some(suffix) = left.pop() {
+        if left.is_empty() {
+            return outermost_outline(types, suffix, &outline);
         }
-        None => Ok(Vec::new(checker.alloc)),
+        outline = behind(types, suffix, &outline)?;
     }
+    Ok(outline)
 }
 
-/// Puts a parameter after a list, whose scope is open: it is declared in what follows it.
+// Whether a parameter's name is that of another one of its list. An empty name is none.
+fn is_again(scopes: &Scopes, name: &[u8]) -> bool
+    ensures { (known : Known) → result ≡ rule.is_again (scopes_in scopes.now known) name.now }
+{
+    !name.is_empty() && scopes.innermost(name).is_some()
+}
+
+// The type of a parameter, if it may have it.
+fn param_type(
+    checker: &Checker,
+    outline: &Outline,
+    name: &[u8],
+    line: u32,
+) -> Result<Qualified, CheckError>
+    ensures tests { Answers (λ _. known_of checker.now) result (known_of checker.now) (tried (rule.param_tests (known_of checker.now) name.now (outline_of outline.now)) line (known_of checker.now)) }
+    ensures ty { IfOk result (λ ty. ty ≡ rule.object_type (declared_of outline.now.declared)) }
+{
+    if is_again(&checker.scopes, name) {
+        return refused(Kind::Again, line);
+    }
+    let Declared::Object(ty) = &outline.declared else {
+        return refused(Kind::Declare, line);
+    };
+    if either(outline.bad, is_structure(ty.ty)) {
+        return refused(Kind::Declare, line);
+    }
+    if either(outline.incomplete, !checker.types.is_complete(ty.ty)) {
+        return refused(Kind::Incomplete, line);
+    }
+    Ok(*ty)
+}
+
+// The parameter of a number is in scope from here on, if it has a name.
+fn bind_param(
+    scopes: &mut Scopes,
+    name: &[u8],
+    number: u32,
+    ty: Qualified,
+    fixed: bool,
+) -> Result<(), CheckError>
+    ensures { (known : Known) → Learns result (scopes_in scopes.new known) (rule.bind_param name.now number ty fixed (scopes_in scopes.old known)) }
+{
+    if name.is_empty() {
+        return Ok(());
+    }
+    let object = Object::Param(number);
+    scopes.bind(name, Binding::Object { object, ty, fixed })
+}
+
+// A name of its own.
+fn copied(alloc: Global, name: &[u8]) -> Result<Vec<u8>, CheckError>
+    ensures ok { IfOk result (λ copy. copy.items ≡ name.now) }
+    ensures err { IfErr result (λ e. e ≡ NoMemory) }
+{
+    Ok(name.to_vec(alloc)?)
+}
+
+/// Puts a parameter after a list, whose scope is open: it is declared in what follows it. The name is
+/// empty where there is none.
 pub(crate) fn add_param(
     checker: &mut Checker,
     list: &mut ParamList,
     specified: Specified,
     outline: Outline,
-    name: Option<&Name>,
+    name: &[u8],
     line: u32,
-) -> Result<(), CheckError> {
-    let bytes = param_name(checker, name, line)?;
-    let bad = outline.bad;
-    let incomplete = outline.incomplete;
-    let Declared::Object(ty) = outline.declared else {
-        return refused(Kind::Declare, line);
-    };
-    if bad || is_structure(ty.ty) {
-        return refused(Kind::Declare, line);
-    }
-    if incomplete || !checker.types.is_complete(ty.ty) {
-        return refused(Kind::Incomplete, line);
-    }
-    let fixed = specified.storage == Storage::Register;
-    if !bytes.is_empty() {
-        let object = Object::Param(number(list.params.len())?);
-        let binding = Binding::Object { object, ty, fixed };
-        checker.scopes.bind(&bytes, binding)?;
-    }
+) -> Result<(), CheckError>
+    ensures { Lists result (map param_of list.new.params.items) (known_of checker.new) (rule.param_rule (map param_of list.old.params.items) (specified_of specified) (outline_of outline) name.now line (known_of checker.old)) }
+{
+    let ty = param_type(checker, &outline, name, line)?;
+    let fixed = is_register(specified.storage);
+    let index = number(list.params.len())?;
+    bind_param(&mut checker.scopes, name, index, ty, fixed)?;
+    let name = copied(checker.alloc, name)?;
     list.params.push(ParamShape {
-        name: bytes,
+        name,
         ty,
         fixed,
         line,
     })?;
     Ok(())
+}
+
+// The type of a member, if it may have it.
+fn member_type(
+    types: &Types,
+    structure: u32,
+    outline: &Outline,
+    name: &[u8],
+    line: u32,
+) -> Result<Qualified, CheckError>
+    ensures tests { (known : Known) → Answers (λ _. types_in types.now known) result (types_in types.now known) (tried (rule.member_tests (types_in types.now known) structure name.now (outline_of outline.now)) line (types_in types.now known)) }
+    ensures ty { IfOk result (λ ty. ty ≡ rule.object_type (declared_of outline.now.declared)) }
+{
+    if types.has_member(structure, name) {
+        return refused(Kind::Again, line);
+    }
+    let Declared::Object(ty) = &outline.declared else {
+        return refused(Kind::Declare, line);
+    };
+    if either(outline.bad, ty.constant) {
+        return refused(Kind::Declare, line);
+    }
+    if either(outline.incomplete, !types.is_complete(ty.ty)) {
+        return refused(Kind::Incomplete, line);
+    }
+    Ok(*ty)
 }
 
 /// Puts a member after those of a structure.
@@ -240,21 +360,10 @@ pub(crate) fn add_field(
     outline: Outline,
     name: &[u8],
     line: u32,
-) -> Result<(), CheckError> {
-    if types.has_member(structure, name) {
-        return refused(Kind::Again, line);
-    }
-    let incomplete = outline.incomplete;
-    let bad = outline.bad;
-    let Declared::Object(ty) = outline.declared else {
-        return refused(Kind::Declare, line);
-    };
-    if bad || ty.constant {
-        return refused(Kind::Declare, line);
-    }
-    if incomplete || !types.is_complete(ty.ty) {
-        return refused(Kind::Incomplete, line);
-    }
+) -> Result<(), CheckError>
+    ensures { (known : Known) → Learns result (types_in types.new known) (rule.member_rule structure (outline_of outline) name.now line (types_in types.old known)) }
+{
+    let ty = member_type(types, structure, &outline, name, line)?;
     types.add_member(structure, name, ty)
 }
 

@@ -1,14 +1,21 @@
 //! The names of types (ISO/IEC 9899:1990, 6.5.5).
 
-ghost use Rattle.std.specs.Prelude.{ℕ};
-ghost use Rattle.c_tree.specs.Trees.{Measure};
-ghost use Rattle.c_tree.specs.Views.{type_name_of};
-ghost use Rattle.c_tree.specs.Words.{spell_pointers};
-ghost use Rattle.type_rules.specs.Expressions.{judged};
+ghost use Rattle.std.specs.Prelude.{◌≡◌, ◌++◌, map};
+ghost use Rattle.c_token.specs.declared.token.Keyword.TheVariants as words;
+ghost use Rattle.c_token.specs.declared.token.TokKind.TheVariants as kinds;
+ghost use Rattle.c_tree.specs.Kinds.{is_key};
+ghost use Rattle.c_tree.specs.Views.{spec_of, type_name_of};
+ghost use Rattle.c_tree.specs.Words.{Symbols, keyed, named, spell_pointers, spell_tag};
+ghost use Rattle.type_rules.specs.Known.{Known};
+ghost use Rattle.type_rules.specs.Rows as rows;
+ghost use Rattle.type_rules.specs.Specifiers.{Gathered};
 ghost use Rattle.type_rules.specs.TypeNames as rule;
-ghost use Rattle.c_operate.specs.Answers.{Answers};
-ghost use Rattle.c_operate.specs.Tables.{known_of};
+ghost use Rattle.c_operate.specs.Answers.{Answers, kind_of};
+ghost use Rattle.c_operate.specs.Tables.{known_of, types_in};
 ghost use Rattle.c_operate.specs.Terms.{term_of};
+ghost use Rattle.check_expr.specs.Gathering.{Gathers, kept_of};
+ghost use Rattle.check_expr.specs.Lists as lists;
+ghost use Rattle.check_expr.specs.Lists.{sized_name};
 
 use crate::specifiers::{Site, Words, line_of};
 use c_operate::checker::Checker;
@@ -17,25 +24,62 @@ use c_operate::places::size_of_type;
 use c_operate::term::Term;
 use c_operate::types::Types;
 use c_token::Keyword;
-use c_tree::expression::{Spec, StructBody, TypeName};
-use c_tree::word::{Pointer, Word};
-use c_typed::Qualified;
+use c_tree::expression::{Spec, TypeName};
+use c_tree::word::{Name, Pointer, Word};
+use c_typed::{Qualified, Ty};
+
+// A type without qualifiers.
+pub(crate) fn plain(ty: Ty) -> Qualified
+    ensures { result ≡ rows.plain ty }
+{
+    Qualified {
+        ty,
+        constant: false,
+        volatile: false,
+    }
+}
+
+fn is_const(keyword: Keyword) -> bool
+    ensures { result ≡ is_key words.Const (kinds.Keyword keyword) }
+{
+    keyword as u8 == Keyword::Const as u8
+}
+
+// A pointer with a word more behind its star.
+fn with_qualifier(ty: Qualified, keyword: Keyword) -> Qualified
+    ensures { result ≡ lists.with_qualifier keyword ty }
+{
+    if is_const(keyword) {
+        Qualified {
+            ty: ty.ty,
+            constant: true,
+            volatile: ty.volatile,
+        }
+    } else {
+        Qualified {
+            ty: ty.ty,
+            constant: ty.constant,
+            volatile: true,
+        }
+    }
+}
 
 // A pointer with the words behind its star.
-fn with_qualifiers(ty: Qualified, words: &[Word]) -> Qualified {
+fn with_qualifiers(ty: Qualified, words: &[Word]) -> Qualified
+    ensures { (rest : Symbols) (known : Known) → rule.with_pointers (map keyed words.now ++ rest) ty known ≡ rule.with_pointers rest result known }
+{
     let mut ty = ty;
     for word in words {
-        match word.keyword {
-            Keyword::Const => ty.constant = true,
-            _ => ty.volatile = true,
-        }
+        ty = with_qualifier(ty, word.keyword);
     }
     ty
 }
 
 // Why the body of a structure can't stand in the name of a type.
-fn refused_body(body: &StructBody, types: &Types) -> Kind {
-    let Some(tag) = &body.tag else {
+fn refused_body(tag: &Option<Name>, types: &Types) -> Kind
+    ensures { (known : Known) → kind_of result ≡ rule.body_kind (types_in types.now known) (spell_tag tag.now) }
+{
+    let Some(tag) = tag else {
         return Kind::Declare;
     };
     match types.tagged(&tag.bytes) {
@@ -44,14 +88,23 @@ fn refused_body(body: &StructBody, types: &Types) -> Kind {
     }
 }
 
-fn type_word(spec: &Spec, checker: &Checker, words: Words) -> Result<Words, CheckError> {
+// Why a structure of a tag can't stand in the name of a type.
+fn refused_tag(tag: &Name, types: &Types) -> Kind
+    ensures { (known : Known) → kind_of result ≡ rule.tag_kind (types_in types.now known) (named tag.now) }
+{
+    match types.tagged(&tag.bytes) {
+        Some(_) => Kind::Declare,
+        None => Kind::Name,
+    }
+}
+
+fn type_word(spec: &Spec, checker: &Checker, words: Words) -> Result<Words, CheckError>
+    ensures { (g : Gathered) → words ≡ kept_of g → Gathers result (known_of checker.now) (rule.named_spec (spec_of spec.now) g (known_of checker.now)) }
+{
     match spec {
         Spec::Word(word) => Ok(words.with_word(word.keyword)),
-        Spec::Reference { keyword, tag } => match checker.types.tagged(&tag.bytes) {
-            Some(_) => refused(Kind::Declare, *keyword),
-            None => refused(Kind::Name, *keyword),
-        },
-        Spec::Body(body) => refused(refused_body(body, &checker.types), body.keyword),
+        Spec::Reference { keyword, tag } => refused(refused_tag(tag, &checker.types), *keyword),
+        Spec::Body(body) => refused(refused_body(&body.tag, &checker.types), body.keyword),
     }
 }
 
@@ -65,7 +118,7 @@ pub(crate) fn pointers(
 {
     let mut ty = base;
     for pointer in pointers {
-        let to = Qualified::plain(checker.types.pointer_to(ty)?);
+        let to = plain(checker.types.pointer_to(ty)?);
         ty = with_qualifiers(to, &pointer.qualifiers);
     }
     Ok(ty)
@@ -90,7 +143,7 @@ pub(crate) fn size_of_name(
     checker: &mut Checker,
     line: u32,
 ) -> Result<Term, CheckError>
-    ensures { (opening closing : ℕ) → Answers term_of result (known_of checker.new) (judged (Measure line opening (type_name_of name.now) closing) (known_of checker.old)) }
+    ensures { Answers term_of result (known_of checker.new) (sized_name (type_name_of name.now) line (known_of checker.old)) }
 {
     let ty = type_named(name, checker)?;
     size_of_type(&checker.types, ty.ty, line)

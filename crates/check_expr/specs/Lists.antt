@@ -1,0 +1,47 @@
+-- What a call answers that puts a parameter after a list, and the parts of declarators between the rules' own.
+use Rattle.std.specs.Prelude.{◌≡◌, ℕ, true, if◌then◌else◌, List, Result, Ok, Err}
+use Rattle.c_token.specs.declared.token.Keyword.{Keyword}
+use Rattle.c_token.specs.declared.token.Keyword.TheVariants as words
+use Rattle.c_token.specs.declared.token.TokKind.TheVariants as kinds
+use Rattle.c_tree.specs.Kinds.{is_key}
+use Rattle.c_tree.specs.Trees.{SpecTree, TypeTree}
+use Rattle.c_tree.specs.Trees as tree
+use Rattle.c_operate.specs.Answers.{Refuses}
+use Rattle.c_operate.specs.declared.error.CheckError.{CheckError}
+use Rattle.c_typed.specs.declared.types.Qualified.{Qualified}
+use Rattle.type_rules.specs.Declarators.{members, more_members}
+use Rattle.type_rules.specs.Faults.{Fault}
+use Rattle.type_rules.specs.Known.{Closed, Known, Rule, known_here, ◌>>=◌}
+use Rattle.type_rules.specs.Outlines.{Param, Made, ArrayMade, FunctionMade, Outline, behind, pointer_outline}
+use Rattle.type_rules.specs.Places.{size_of_type}
+use Rattle.type_rules.specs.Rows.{set_progress}
+use Rattle.type_rules.specs.Terms.{Term}
+use Rattle.type_rules.specs.TypeNames.{type_named}
+
+-- The list behind the call, and what is known there.
+abbrev pub Lists : Result Unit CheckError → List Param → Known → Result (List Param × Known) Fault → Type 0
+Lists (Ok x) list after said = said ≡ Ok (list, after)
+Lists (Err e) list after said = Refuses e said
+
+-- what the outermost suffix makes of a parameter
+abbrev pub outermost : Made → Outline → Rule Outline
+outermost (ArrayMade count) o = pointer_outline o o.declared
+outermost (FunctionMade params) o = behind (FunctionMade params) o
+
+-- the members of a structure, which is whole behind them
+abbrev pub body_rule : SpecTree → ℕ → Rule Known
+body_rule (tree.Body line tag opening m ms closing) number = do
+  _ ← members m number
+  _ ← more_members ms number
+  set_progress number Closed
+body_rule _ number = known_here
+
+-- `sizeof` of the name of a type
+abbrev pub sized_name : TypeTree → ℕ → Rule Term
+sized_name name line = do
+  of ← type_named name
+  size_of_type of.ty line
+
+-- a pointer with a word more behind its star
+abbrev pub with_qualifier : Keyword → Qualified → Qualified
+with_qualifier keyword ty = if is_key words.Const (kinds.Keyword keyword) then record ty { constant = true } else record ty { volatile = true }
