@@ -1,5 +1,5 @@
 -- What the rule on expressions says of each kind of node.
-use Rattle.std.proofs.Common.{◌≡◌, ℕ, [], Result, refl, sym, ap, ◌∙◌}
+use Rattle.std.proofs.Common.{◌≡◌, ℕ, [], Result, refl, sym, ap, subst, ◌∙◌}
 use Rattle.c_tree.specs.Trees as tree
 use Rattle.c_tree.specs.Trees.{Tree, Post, TypeTree}
 use Rattle.c_tree.specs.Words.{Symbol}
@@ -14,6 +14,11 @@ use Rattle.c_ints.specs.declared.operators.BinOp.TheVariants as binop
 use Rattle.type_rules.specs.Operators.{between, choice, cast}
 use Rattle.type_rules.specs.Places.{before_index, element, element_at, pointed_type, size_of_type, size_of_term}
 use Rattle.type_rules.specs.Writes.{assignment, stepped, called, call}
+use Rattle.c_operate.specs.Answers.{Answers}
+use Rattle.c_operate.specs.Terms.{term_of}
+use Rattle.c_operate.specs.declared.error.CheckError.{CheckError}
+use Rattle.c_operate.specs.declared.term.Term as checked
+use Rattle.check_expr.specs.Lists.{sized_name}
 use Rattle.check_expr.specs.Folds.{bare, arguments_read}
 use Rattle.check_expr.specs.Views.{unlisted}
 use Rattle.check_expr.proofs.Runs.{same_behind, grouped, indexed_bare, unseen}
@@ -45,6 +50,10 @@ judged_cast line ty c e k = refl
 pub judged_measure : (line o : ℕ) (ty : TypeTree) (c : ℕ) (k : Known) → judged (tree.Measure line o ty c) k ≡ go_on (λ of. size_of_type of.ty line) (type_named ty k)
 unfolding judged judged_behind
 judged_measure line o ty c k = refl
+
+-- a call that measures the name of a type
+pub measured_as : (result : Result checked.Term CheckError) (after : Known) (line o : ℕ) (ty : TypeTree) (c : ℕ) (k : Known) → Answers term_of result after (sized_name ty line k) → Answers term_of result after (judged (tree.Measure line o ty c) k)
+measured_as result after line o ty c k h = subst (Answers term_of result after) (sym (judged_measure line o ty c k)) h
 
 pub judged_join : (s : Symbol) (a b : Tree) (k : Known) → judged (tree.Join s a b) k ≡ go_on (λ left. used left >>= (λ x. judged b >>= (λ right. used right >>= (λ y. between s.kind x y >>= (λ t. given (listed_by s.kind left.listed x y t)))))) (judged a k)
 unfolding judged judged_behind

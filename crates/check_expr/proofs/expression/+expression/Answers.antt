@@ -9,7 +9,7 @@ use Rattle.c_operate.specs.Terms.{operand_of, term_of}
 use Rattle.check_expr.specs.Folds.{barely, sequenced_from, combined_from, posted_from, arguments_from, arguments_read, sides_from, choices_from}
 use Rattle.check_expr.specs.Kept.{side_in, choice_in, operands_in}
 use Rattle.check_expr.proofs.Answering.{goes, stops, ends, refuses_as, refuses_bare, answers_bare, no_memory, next_of, pushed}
-use Rattle.check_expr.proofs.Clauses.{judged_leaf, judged_group, behind_index, behind_field, behind_step, bracketed_bare, unseen_index}
+use Rattle.check_expr.proofs.Clauses.{judged_leaf, judged_group, behind_index, behind_field, behind_step, bracketed_bare, unseen_index, measured_as}
 use Rattle.check_expr.proofs.Folded.{judged_listed, judged_arguments, spread, spread_whole, judged_joined, judged_posted, judged_assigned, judged_chosen, judged_prefixed}
 use Rattle.check_expr.proofs.Runs.{unseen}
 use Rattle.check_expr.proofs.Signs.{alone}
@@ -104,7 +104,7 @@ pub operand-returns-in-Postfix : goal.operand-returns-in-Postfix
 operand-returns-in-Postfix t c = ends term_of _ _ _ _ c.postfix.ensures (sym (ap (λ e. judged e (known_of c.args.checker.now)) (ap tree_operand_of c.in-Postfix.is ∙ show_operand_postfix c.in-Postfix.postfix)))
 
 pub operand-returns-in-SizeofType : goal.operand-returns-in-SizeofType
-operand-returns-in-SizeofType t c = ends term_of _ _ _ _ (c.size_of_name.ensures c.in-SizeofType.opening c.in-SizeofType.closing) (sym (ap (λ e. judged e (known_of c.args.checker.now)) (ap tree_operand_of c.in-SizeofType.is ∙ show_operand_sizeof_type c.in-SizeofType.keyword c.in-SizeofType.opening c.in-SizeofType.type_name c.in-SizeofType.closing ∙ ap (λ n. tree.Measure c.in-SizeofType.keyword c.in-SizeofType.opening (type_name_of n) c.in-SizeofType.closing) (sym c.deref.ensures))))
+operand-returns-in-SizeofType t c = ends term_of _ _ _ _ (measured_as _ _ _ c.in-SizeofType.opening _ c.in-SizeofType.closing _ c.size_of_name.ensures) (sym (ap (λ e. judged e (known_of c.args.checker.now)) (ap tree_operand_of c.in-SizeofType.is ∙ show_operand_sizeof_type c.in-SizeofType.keyword c.in-SizeofType.opening c.in-SizeofType.type_name c.in-SizeofType.closing ∙ ap (λ n. tree.Measure c.in-SizeofType.keyword c.in-SizeofType.opening (type_name_of n) c.in-SizeofType.closing) (sym c.deref.ensures))))
 
 pub primary-returns-in-Name : goal.primary-returns-in-Name
 primary-returns-in-Name t c = ends term_of _ _ _ _ (c.named.ensures (known_of c.args.checker.now)) (sym (ap (λ e. judged e (known_of c.args.checker.now)) (ap primary_of c.in-Name.is ∙ show_primary_name c.in-Name.name) ∙ ap (λ r. r (known_of c.args.checker.now)) (judged_leaf (named c.in-Name.name))))
