@@ -40,7 +40,9 @@ const MEMBER: Context = Context {
     bodies: false,
 };
 
-fn param_context(bodies: bool) -> Context {
+fn param_context(bodies: bool) -> Context
+    ensures { context_of result ≡ rule.of_param bodies }
+{
     Context {
         site: Site::Param,
         bodies,
@@ -244,9 +246,8 @@ fn suffix(suffix: &Suffix, checker: &mut Checker, bodies: bool) -> Result<Made, 
             Some(length) => Ok(Made::Array(array_length(length, checker)?)),
             None => Ok(Made::Array(0)),
         },
-        Suffix::Empty { .. } | Suffix::Void { .. } => {
-            Ok(Made::Function(ParamList::new(checker.alloc)))
-        }
+        Suffix::Empty { .. } => Ok(Made::Function(ParamList::new(checker.alloc))),
+        Suffix::Void { .. } => Ok(Made::Function(ParamList::new(checker.alloc))),
         Suffix::Params { first, others, .. } => {
             let mut list = ParamList::new(checker.alloc);
             checker.scopes.enter_list()?;
