@@ -278,21 +278,17 @@ fn suffix(suffix: &PostfixSuffix, checker: &mut Checker, term: Term) -> Result<T
             let index = expression(index, checker)?;
             element(checker.alloc, &mut checker.types, whole, index)
         }
-        PostfixSuffix::Call {
-            arguments: Some(list),
-            ..
-        } => {
-            refuse_undefined(checker, &term)?;
-            let list = arguments(list, checker)?;
-            call(checker, term, list)
-        }
-        PostfixSuffix::Call {
-            arguments: None,
-            ..
-        } => {
-            refuse_undefined(checker, &term)?;
-            call(checker, term, Vec::new(checker.alloc))
-        }
+        PostfixSuffix::Call { arguments, .. } => match arguments {
+            Some(list) => {
+                refuse_undefined(checker, &term)?;
+                let list = self::arguments(list, checker)?;
+                call(checker, term, list)
+            }
+            None => {
+                refuse_undefined(checker, &term)?;
+                call(checker, term, Vec::new(checker.alloc))
+            }
+        },
         PostfixSuffix::Member { operator, name } => {
             selected(checker, operator.punct, term, &name.bytes)
         }

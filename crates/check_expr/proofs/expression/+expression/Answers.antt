@@ -1,4 +1,4 @@
-use Rattle.std.proofs.Common.{◌≡◌, ℕ, [], ◌∷◌, ◌++◌, map, Ok, refl, sym, ap, ◌∙◌}
+use Rattle.std.proofs.Common.{◌≡◌, ℕ, [], ◌∷◌, ◌++◌, ◌+◌, drop, map, Ok, refl, sym, ap, ◌∙◌}
 use Rattle.std.proofs.lemmas.Result.{err_from_is_err_and}
 use Rattle.c_token.specs.declared.token.TokKind.TheVariants as kinds
 use Rattle.c_tree.specs.Words.{signed, named, spell_constant}
@@ -9,7 +9,7 @@ use Rattle.c_operate.specs.Terms.{operand_of, term_of}
 use Rattle.check_expr.specs.Folds.{barely, sequenced_from, combined_from, posted_from, arguments_from, arguments_read, sides_from, choices_from}
 use Rattle.check_expr.specs.Kept.{side_in, choice_in, operands_in}
 use Rattle.check_expr.proofs.Answering.{goes, stops, ends, refuses_as, refuses_bare, answers_bare, no_memory, next_of, pushed}
-use Rattle.check_expr.proofs.Clauses.{judged_leaf, judged_group, behind_index, behind_field, behind_step, bracketed_bare, unseen_index, measured_as}
+use Rattle.check_expr.proofs.Clauses.{judged_leaf, judged_group, behind_index, behind_call, behind_bare_call, behind_field, behind_step, bracketed_bare, unseen_index, measured_as}
 use Rattle.check_expr.proofs.Folded.{judged_listed, judged_arguments, spread, spread_whole, judged_joined, judged_posted, judged_assigned, judged_chosen, judged_prefixed}
 use Rattle.check_expr.proofs.Runs.{unseen}
 use Rattle.check_expr.proofs.Signs.{alone}
@@ -17,7 +17,8 @@ use Rattle.c_tree.specs.Lists.{posted, prefixed, joined, listed, chosen, assigne
 use Rattle.c_tree.specs.Trees as tree
 use Rattle.type_rules.specs.Expressions.{judged, judged_behind, bracketed, selected}
 use Rattle.type_rules.specs.Known.{given}
-use Rattle.type_rules.specs.Writes.{stepped}
+use Rattle.type_rules.specs.Writes.{stepped, call}
+use Rattle.c_tree.specs.declared.expression.PostfixSuffix.TheVariants as PostfixSuffix
 use Rattle.c_tree.specs.declared.expression.Binary.TheViews.{out-Assign, out-Cast, out-Choice, out-Cond, out-Expr, out-Postfix}
 use Rattle.check_expr.proofs.expression.+expression.Goals as goal
 
@@ -133,10 +134,10 @@ sequence-returns-in_err-right-2 t c =
 pub sequence-returns-in_err-left : goal.sequence-returns-in_err-left
 sequence-returns-in_err-left t c =
     let p = err_from_is_err_and c.from_residual-in_err-left.result c.from_residual-in_err-left.ensures.1 in
-    rw (p.1, p.2) (stops _ _ _ _ (c.in_err-left.ensures (known_of c.used-in-loop-next.new.checker)) (goes _ _ _ _ _ c.in_ok-right-2.ensures (goes _ _ _ _ _ c.in_ok-right.ensures (goes _ _ _ _ _ c.in_ok-dropped.ensures (next_of (λ bs. sequenced_from (term_of c.loop-next.left) bs (known_of c.loop-next.checker)) next_assign_of _ _ c.next-item.result _ _ c.loop-next-test.true c.next-item.is (show_next_assign c.next-item.result) c.loop-next.invariant)))))
+    rw (p.1, p.2) (stops (λ u. sequenced_from u (map next_assign_of (drop (c.loop-next.next-index + 1) c.args.others.now))) _ _ _ (c.in_err-left.ensures (known_of c.used-in-loop-next.new.checker)) (goes _ _ _ _ _ c.in_ok-right-2.ensures (goes _ _ _ _ _ c.in_ok-right.ensures (goes _ _ _ _ _ c.in_ok-dropped.ensures (next_of (λ bs. sequenced_from (term_of c.loop-next.left) bs (known_of c.loop-next.checker)) next_assign_of _ _ c.next-item.result _ _ c.loop-next-test.true c.next-item.is (show_next_assign c.next-item.result) c.loop-next.invariant)))))
 
 pub sequence-loop-next-preserved : goal.sequence-loop-next-preserved
-sequence-loop-next-preserved t c = goes _ _ _ _ _ (c.in_ok-left.ensures (known_of c.used-in-loop-next.new.checker)) (goes _ _ _ _ _ c.in_ok-right-2.ensures (goes _ _ _ _ _ c.in_ok-right.ensures (goes _ _ _ _ _ c.in_ok-dropped.ensures (next_of (λ bs. sequenced_from (term_of c.loop-next.left) bs (known_of c.loop-next.checker)) next_assign_of _ _ c.next-item.result _ _ c.loop-next-test.true c.next-item.is (show_next_assign c.next-item.result) c.loop-next.invariant))))
+sequence-loop-next-preserved t c = goes (λ u. sequenced_from u (map next_assign_of (drop (c.loop-next.next-index + 1) c.args.others.now))) _ _ _ _ (c.in_ok-left.ensures (known_of c.used-in-loop-next.new.checker)) (goes _ _ _ _ _ c.in_ok-right-2.ensures (goes _ _ _ _ _ c.in_ok-right.ensures (goes _ _ _ _ _ c.in_ok-dropped.ensures (next_of (λ bs. sequenced_from (term_of c.loop-next.left) bs (known_of c.loop-next.checker)) next_assign_of _ _ c.next-item.result _ _ c.loop-next-test.true c.next-item.is (show_next_assign c.next-item.result) c.loop-next.invariant))))
 
 pub places-returns-in_err-term : goal.places-returns-in_err-term
 places-returns-in_err-term t c =
@@ -228,3 +229,24 @@ suffix-returns-in-Member t c = ends term_of _ _ _ _ c.selected.ensures (ap (λ l
 
 pub suffix-returns-in-Step : goal.suffix-returns-in-Step
 suffix-returns-in-Step t c = ends term_of _ _ _ _ (c.stepped.ensures (known_of c.args.checker.now)) (ap (λ o. stepped o (term_of c.args.term) c.args.term.start (known_of c.args.checker.now)) c.step_behind.ensures ∙ sym (ap (λ e. judged_behind e (term_of c.args.term) (known_of c.args.checker.now)) (ap postfix_suffix_of c.in-Step.is ∙ show_postfix_suffix_step c.in-Step.sign) ∙ ap (λ r. r (known_of c.args.checker.now)) (behind_step (signed c.in-Step.sign) (term_of c.args.term))))
+
+pub suffix-returns-in_err-refuse_undefined-in-Some : goal.suffix-returns-in_err-refuse_undefined-in-Some
+suffix-returns-in_err-refuse_undefined-in-Some t c =
+    let p = err_from_is_err_and c.from_residual-in_err-refuse_undefined-in-Some.result c.from_residual-in_err-refuse_undefined-in-Some.ensures.1 in
+    rw (p.1, p.2) (stops _ _ _ _ c.in_err-refuse_undefined-in-Some.ensures (sym (ap (λ e. judged_behind e (term_of c.args.term) (known_of c.args.checker.now)) (ap postfix_suffix_of (c.in-Call.is ∙ ap (λ a. PostfixSuffix.Call c.in-Call.opening a c.in-Call.closing) c.in-Some.is) ∙ show_postfix_suffix_call c.in-Call.opening c.in-Some.list c.in-Call.closing) ∙ behind_call c.in-Call.opening (expr_of c.in-Some.list.value) c.in-Call.closing (term_of c.args.term) (known_of c.args.checker.now))))
+
+pub suffix-returns-in_err-list-in-Some : goal.suffix-returns-in_err-list-in-Some
+suffix-returns-in_err-list-in-Some t c =
+    let p = err_from_is_err_and c.from_residual-in_err-list-in-Some.result c.from_residual-in_err-list-in-Some.ensures.1 in
+    rw (p.1, p.2) (stops _ _ _ _ c.in_err-list-in-Some.ensures (goes _ _ _ _ _ c.in_ok-refuse_undefined-in-Some.ensures (sym (ap (λ e. judged_behind e (term_of c.args.term) (known_of c.args.checker.now)) (ap postfix_suffix_of (c.in-Call.is ∙ ap (λ a. PostfixSuffix.Call c.in-Call.opening a c.in-Call.closing) c.in-Some.is) ∙ show_postfix_suffix_call c.in-Call.opening c.in-Some.list c.in-Call.closing ∙ ap (λ i. tree.Call c.in-Call.opening (expr_of i) c.in-Call.closing) (sym c.deref-in-Some.ensures)) ∙ behind_call c.in-Call.opening (expr_of c.deref-in-Some.result.now) c.in-Call.closing (term_of c.args.term) (known_of c.args.checker.now)))))
+
+pub suffix-returns-in_ok-list-in-Some : goal.suffix-returns-in_ok-list-in-Some
+suffix-returns-in_ok-list-in-Some t c = ends term_of _ _ _ _ c.call.ensures (goes _ _ _ _ _ c.in_ok-list-in-Some.ensures (goes _ _ _ _ _ c.in_ok-refuse_undefined-in-Some.ensures (sym (ap (λ e. judged_behind e (term_of c.args.term) (known_of c.args.checker.now)) (ap postfix_suffix_of (c.in-Call.is ∙ ap (λ a. PostfixSuffix.Call c.in-Call.opening a c.in-Call.closing) c.in-Some.is) ∙ show_postfix_suffix_call c.in-Call.opening c.in-Some.list c.in-Call.closing ∙ ap (λ i. tree.Call c.in-Call.opening (expr_of i) c.in-Call.closing) (sym c.deref-in-Some.ensures)) ∙ behind_call c.in-Call.opening (expr_of c.deref-in-Some.result.now) c.in-Call.closing (term_of c.args.term) (known_of c.args.checker.now)))))
+
+pub suffix-returns-in_err-refuse_undefined-in-None : goal.suffix-returns-in_err-refuse_undefined-in-None
+suffix-returns-in_err-refuse_undefined-in-None t c =
+    let p = err_from_is_err_and c.from_residual-in_err-refuse_undefined-in-None.result c.from_residual-in_err-refuse_undefined-in-None.ensures.1 in
+    rw (p.1, p.2) (stops _ _ _ _ c.in_err-refuse_undefined-in-None.ensures (sym (ap (λ e. judged_behind e (term_of c.args.term) (known_of c.args.checker.now)) (ap postfix_suffix_of (c.in-Call.is ∙ ap (λ a. PostfixSuffix.Call c.in-Call.opening a c.in-Call.closing) c.in-None.is) ∙ show_postfix_suffix_call_bare c.in-Call.opening c.in-Call.closing) ∙ behind_bare_call c.in-Call.opening c.in-Call.closing (term_of c.args.term) (known_of c.args.checker.now))))
+
+pub suffix-returns-in_ok-refuse_undefined-in-None : goal.suffix-returns-in_ok-refuse_undefined-in-None
+suffix-returns-in_ok-refuse_undefined-in-None t c = ends term_of _ _ _ _ c.call-in-None.ensures (ap (λ l. call (term_of c.args.term) (map operand_of l) (known_of c.args.checker.now)) c.new.ensures.items ∙ goes _ _ _ _ _ c.in_ok-refuse_undefined-in-None.ensures (sym (ap (λ e. judged_behind e (term_of c.args.term) (known_of c.args.checker.now)) (ap postfix_suffix_of (c.in-Call.is ∙ ap (λ a. PostfixSuffix.Call c.in-Call.opening a c.in-Call.closing) c.in-None.is) ∙ show_postfix_suffix_call_bare c.in-Call.opening c.in-Call.closing) ∙ behind_bare_call c.in-Call.opening c.in-Call.closing (term_of c.args.term) (known_of c.args.checker.now))))

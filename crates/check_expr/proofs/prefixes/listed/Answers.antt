@@ -1,4 +1,4 @@
-use Rattle.std.proofs.Common.{map, refl}
+use Rattle.std.proofs.Common.{◌+◌, drop, map, refl}
 use Rattle.std.proofs.lemmas.Result.{err_from_is_err_and}
 use Rattle.c_tree.specs.Views.{prefix_of}
 use Rattle.c_operate.specs.Tables.{known_of}
@@ -13,4 +13,4 @@ returns-in_err-with_type c =
     rw (p.1, p.2) (stops _ _ _ _ c.in_err-with_type.ensures (next_of (λ bs. applied_from (map applied_of c.loop-prefix.applied.items) bs (known_of c.loop-prefix.checker)) prefix_of _ _ c.prefix-item.result _ _ c.loop-prefix-test.true c.prefix-item.is refl c.loop-prefix.invariant))
 
 pub loop-prefix-preserved : goal.loop-prefix-preserved
-loop-prefix-preserved c = pushed applied_from applied_of c.loop-prefix.applied.items _ _ _ _ _ c.in_ok-push.ensures.items (goes _ _ _ _ _ c.in_ok-with_type.ensures (next_of (λ bs. applied_from (map applied_of c.loop-prefix.applied.items) bs (known_of c.loop-prefix.checker)) prefix_of _ _ c.prefix-item.result _ _ c.loop-prefix-test.true c.prefix-item.is refl c.loop-prefix.invariant))
+loop-prefix-preserved c = pushed applied_from applied_of c.loop-prefix.applied.items _ _ (map prefix_of (drop (c.loop-prefix.prefix-index + 1) c.args.prefixes.now)) (known_of c.with_type.new.checker) _ c.in_ok-push.ensures.items (goes _ _ _ _ _ c.in_ok-with_type.ensures (next_of (λ bs. applied_from (map applied_of c.loop-prefix.applied.items) bs (known_of c.loop-prefix.checker)) prefix_of _ _ c.prefix-item.result _ _ c.loop-prefix-test.true c.prefix-item.is refl c.loop-prefix.invariant))
