@@ -1,26 +1,68 @@
 //! Initializers, from the tree's root down (ISO/IEC 9899:1990, 6.5.7).
 
+ghost use Rattle.std.specs.Prelude.{◌≡◌, ◌+◌, false, map, IfErr, IfOk};
+ghost use Rattle.c_tree.specs.ProgramViews.{init_of, more_inits, next_init_of};
+ghost use Rattle.c_tree.specs.Views.{assign_of};
+ghost use Rattle.type_rules.specs.Expressions.{value_of};
+ghost use Rattle.type_rules.specs.Initializers as rule;
+ghost use Rattle.type_rules.specs.Known.{Known};
+ghost use Rattle.type_rules.specs.Slots.{nothing_begun};
+ghost use Rattle.c_operate.specs.Answers.{Answers};
+ghost use Rattle.c_operate.specs.Tables.{known_of, types_in};
+ghost use Rattle.c_operate.specs.Terms.{operand_of};
+ghost use Rattle.c_operate.specs.declared.error.CheckError.TheVariants.{NoMemory};
+ghost use Rattle.c_check.specs.Views.{any_slot, begun_of, list_closed};
+
 use crate::parts::{put_text, put_value};
-use crate::slots::{Cursor, Sink, Slot};
+use crate::slots::{Sink, Slot, count_items, has_more, part};
 use c_operate::checker::Checker;
-use c_operate::error::CheckError;
-use c_operate::term::used;
+use c_operate::error::{CheckError, Kind, refused};
+use c_operate::term::{Operand, used};
+use c_operate::types::Types;
+use c_tree::expression::Assign;
 use c_tree::statement::{Init, NextInit};
 use check_expr::expression::assign;
 
-/// Gives a part of an object what an initializer says. `inside` says that it stands in a list.
-#[cycle(initializer)]
-pub(crate) fn initialize(
+/// What an initializer gives to an object, or to nothing, where its expressions are checked all the same.
+pub(crate) fn begun(
     init: &Init,
     checker: &mut Checker,
-    slot: Slot,
+    slot: Option<Slot>,
+    fixed: bool,
+    line: u32,
+) -> Result<Sink, CheckError>
+    ensures { Answers begun_of result (known_of checker.new) (rule.begins (init_of init.now) (any_slot slot) false (nothing_begun fixed line) (known_of checker.old)) }
+{
+    let mut sink = Sink::new(checker.alloc, fixed, line);
+    initialize(init, checker, slot, false, &mut sink)?;
+    Ok(sink)
+}
+
+// The value of an expression.
+#[tactic(auto, using(crate::proofs::Evaluated::value_is, crate::proofs::Evaluated::judged_wrong))]
+fn evaluated(value: &Assign, checker: &mut Checker) -> Result<Operand, CheckError>
+    ensures { Answers operand_of result (known_of checker.new) (value_of (assign_of value.now) (known_of checker.old)) }
+{
+    let term = assign(value, checker)?;
+    used(term, checker)
+}
+
+// Gives a part of an object what an initializer says, or nothing where no part takes it. `inside` says that it stands in
+// a list.
+#[cycle(initializer)]
+#[tactic(auto, using(crate::proofs::Listing::value_answered, crate::proofs::Listing::value_wrong, crate::proofs::Listing::text_answered, crate::proofs::Listing::list_answered, crate::proofs::Listing::first_wrong, crate::proofs::Listing::more_wrong))]
+fn initialize(
+    init: &Init,
+    checker: &mut Checker,
+    slot: Option<Slot>,
     inside: bool,
     sink: &mut Sink,
-) -> Result<(), CheckError> {
+) -> Result<(), CheckError>
+    ensures { Answers (λ _. begun_of sink.new) result (known_of checker.new) (rule.begins (init_of init.now) (any_slot slot) inside (begun_of sink.old) (known_of checker.old)) }
+{
     match init {
         Init::Assign(value) => {
-            let term = assign(value, checker)?;
-            let operand = used(term, checker)?;
+            let operand = evaluated(value, checker)?;
             put_value(checker, slot, operand, inside, sink)
         }
         Init::Text(text) => put_text(checker, slot, text, inside, sink),
@@ -30,70 +72,58 @@ pub(crate) fn initialize(
             others,
             ..
         } => {
-            let mut cursor = Cursor::new(slot);
-            match cursor.step(&checker.types) {
-                Some(part) => initialize(first, checker, part, true, sink)?,
-                None => {
-                    cursor.extra = true;
-                    visit(first, checker)?;
-                }
-            }
-            items(others, checker, &mut cursor, sink)?;
-            cursor.finish(sink, *opening)
+            let part = part(&checker.types, slot, 0)?;
+            initialize(first, checker, part, true, sink)?;
+            let count = items(others, checker, slot, sink)?;
+            close_list(&checker.types, slot, count, sink, *opening)
         }
     }
 }
 
+// The items behind the first: how many the list has.
 #[cycle(initializer)]
+#[tactic(auto, using(crate::proofs::Listing::item_wrong))]
 fn items(
     others: &[NextInit],
     checker: &mut Checker,
-    cursor: &mut Cursor,
+    slot: Option<Slot>,
     sink: &mut Sink,
-) -> Result<(), CheckError> {
+) -> Result<u32, CheckError>
+    ensures begun { Answers (λ _. begun_of sink.new) result (known_of checker.new) (rule.more_begins (more_inits (map next_init_of others.now)) (any_slot slot) 1 (begun_of sink.old) (known_of checker.old)) }
+    ensures count { IfOk result (λ n. n ≡ 1 + rule.items_in (more_inits (map next_init_of others.now))) }
+{
+    let mut count: u32 = 1;
     for next in others {
-        next_item(next, checker, cursor, sink)?;
+        let part = part(&checker.types, slot, count)?;
+        initialize(&next.init, checker, part, true, sink)?;
+        count = one_more(count)?;
     }
-    Ok(())
+    Ok(count)
 }
 
-#[cycle(initializer)]
-fn next_item(
-    next: &NextInit,
-    checker: &mut Checker,
-    cursor: &mut Cursor,
+fn one_more(count: u32) -> Result<u32, CheckError>
+    ensures ok { IfOk result (λ n. n ≡ count + 1) }
+    ensures err { IfErr result (λ e. e ≡ NoMemory) }
+{
+    match count.checked_add(1) {
+        Some(next) => Ok(next),
+        None => Err(CheckError::NoMemory),
+    }
+}
+
+// Ends a list of so many items, whose opening bracket stands on this line.
+fn close_list(
+    types: &Types,
+    slot: Option<Slot>,
+    count: u32,
     sink: &mut Sink,
-) -> Result<(), CheckError> {
-    match cursor.step(&checker.types) {
-        Some(slot) => initialize(&next.init, checker, slot, true, sink),
-        None => {
-            cursor.extra = true;
-            visit(&next.init, checker)
-        }
+    line: u32,
+) -> Result<(), CheckError>
+    ensures { (known : Known) → Answers (λ _. begun_of sink.new) result (types_in types.now known) (list_closed (any_slot slot) count line (begun_of sink.old) (types_in types.now known)) }
+{
+    if has_more(types, slot, count)? {
+        return refused(Kind::Initializer, line);
     }
-}
-
-/// Checks the expressions of an initializer that nothing can take.
-#[cycle(visit)]
-pub(crate) fn visit(init: &Init, checker: &mut Checker) -> Result<(), CheckError> {
-    match init {
-        Init::Assign(value) => {
-            let term = assign(value, checker)?;
-            let _operand = used(term, checker)?;
-            Ok(())
-        }
-        Init::Text(_) => Ok(()),
-        Init::List { first, others, .. } => {
-            visit(first, checker)?;
-            visit_all(others, checker)
-        }
-    }
-}
-
-#[cycle(visit)]
-fn visit_all(others: &[NextInit], checker: &mut Checker) -> Result<(), CheckError> {
-    for next in others {
-        visit(&next.init, checker)?;
-    }
+    count_items(slot, count, sink);
     Ok(())
 }

@@ -16,6 +16,7 @@ mod slots;
 mod statement;
 mod switch;
 mod text;
+mod types;
 mod unit;
 mod values;
 

@@ -1,16 +1,37 @@
 //! Objects: static ones and locals (ISO/IEC 9899:1990, 6.1.2.4, 6.5.7 and 6.7.2).
 
-use crate::initializer::initialize;
-use crate::slots::{Sink, Slot};
+ghost use Rattle.std.specs.Prelude.{◌≡◌, ◌||◌, map, [], ◌∷◌, Some, IfOk};
+ghost use Rattle.std.specs.Option.{option_map};
+ghost use Rattle.c_tree.specs.ProgramViews.{init_of};
+ghost use Rattle.c_typed.specs.Sameness.{is_scalar};
+ghost use Rattle.c_typed.specs.Trees as typed;
+ghost use Rattle.c_typed.specs.Views.{expression_of, item_of, place_of, statement_of};
+ghost use Rattle.c_typed.specs.declared.expression.Object.TheVariants as objects;
+ghost use Rattle.c_typed.specs.declared.types.Qualified.{Qualified};
+ghost use Rattle.type_rules.specs.Known.{ObjectName, Known, given};
+ghost use Rattle.type_rules.specs.Names as names;
+ghost use Rattle.type_rules.specs.Objects as rule;
+ghost use Rattle.c_operate.specs.Answers.{Answers, Learns};
+ghost use Rattle.c_operate.specs.Tables.{known_of, scopes_in, types_in};
+ghost use Rattle.check_expr.specs.Views.{is_register, outline_of, specified_of};
+ghost use Rattle.c_check.specs.Views.{any_init, only_one, slot_of};
+
+use crate::initializer::begun;
+use crate::slots::Slot;
+use crate::types::{is_array, is_scalar, like};
 use c_operate::checker::Checker;
 use c_operate::error::{CheckError, Kind, refused};
 use c_operate::scope::{Binding, Scopes};
-use c_operate::types::{MOST_BYTES, Types};
+use c_operate::types::Types;
 use c_tree::statement::Init;
 use c_typed::{Object, Qualified, TExpr, TItem, TPlace, TStmt, Ty};
 use check_expr::outline::{Declared, Outline};
 use check_expr::specifiers::{Specified, Storage};
+use itoa::Buffer;
 use std::alloc::{AllocError, Global};
+
+// The greatest number of bytes that an object has, and of elements that an array has.
+const MOST: u64 = 65_535;
 
 /// The type that an object is declared with; `given` says that an initializer may give its length.
 pub(crate) fn object_type(
@@ -19,7 +40,9 @@ pub(crate) fn object_type(
     outline: Outline,
     given: bool,
     line: u32,
-) -> Result<Qualified, CheckError> {
+) -> Result<Qualified, CheckError>
+    ensures { (known : Known) → Answers (λ ty. ty) result (types_in types.now known) (rule.object_rule (specified_of specified) (outline_of outline) given line (types_in types.now known)) }
+{
     let Outline {
         declared,
         bad,
@@ -31,14 +54,42 @@ pub(crate) fn object_type(
     if bad || specified.interrupt {
         return refused(Kind::Declare, line);
     }
-    if types.bytes_of(ty.ty) > MOST_BYTES {
+    if types.bytes_of(ty.ty) > MOST {
         return refused(Kind::Size, line);
     }
-    let open = given && ty.ty.is_array();
+    let open = given && is_array(ty.ty);
     if incomplete || !(open || types.is_complete(ty.ty)) {
         return refused(Kind::Incomplete, line);
     }
     Ok(ty)
+}
+
+fn is_sized(types: &Types, whole: Ty, length: u32) -> bool
+    ensures { (known : Known) (q : Qualified) → q.ty ≡ whole → result ≡ rule.sized (types_in types.now known) q length }
+{
+    length as u64 <= MOST && types.bytes_of(whole) <= MOST
+}
+
+// The type of an array whose initializer gives its length.
+fn closed_array(
+    types: &mut Types,
+    ty: Qualified,
+    row: u32,
+    length: Option<u32>,
+    line: u32,
+) -> Result<Qualified, CheckError>
+    ensures { (known : Known) → Answers (λ ty. ty) result (types_in types.new known) (rule.closed_array ty row length line (types_in types.old known)) }
+{
+    let Some(length) = length else {
+        return refused(Kind::Initializer, line);
+    };
+    let element = like(ty, types.target(row).ty);
+    let whole = types.array_of(element, length)?;
+    if is_sized(types, whole.ty, length) {
+        Ok(whole)
+    } else {
+        refused(Kind::Size, line)
+    }
 }
 
 // The type of an object whose initializer may have given its length.
@@ -47,24 +98,22 @@ fn closed(
     ty: Qualified,
     length: Option<u32>,
     line: u32,
-) -> Result<Qualified, CheckError> {
+) -> Result<Qualified, CheckError>
+    ensures { (known : Known) → Answers (λ ty. ty) result (types_in types.new known) (rule.closed ty length line (types_in types.old known)) }
+{
     match ty.ty {
         Ty::Array {
             element,
-            length: 0,
+            length: count,
             ..
         } => {
-            let Some(length) = length else {
-                return refused(Kind::Initializer, line);
-            };
-            let element = ty.of(types.target(element).ty);
-            let whole = types.array_of(element, length)?;
-            if length as u64 > MOST_BYTES || types.bytes_of(whole.ty) > MOST_BYTES {
-                return refused(Kind::Size, line);
+            if count == 0 {
+                closed_array(types, ty, element, length, line)
+            } else {
+                Ok(ty)
             }
-            Ok(whole)
         }
-        _ => Ok(ty),
+        Ty::Void | Ty::Int(_) | Ty::Pointer(_) | Ty::Struct(_) => Ok(ty),
     }
 }
 
@@ -74,15 +123,21 @@ fn map_name(
     function: &[u8],
     declarator: u32,
     name: &[u8],
-) -> Result<Vec<u8>, AllocError> {
-    let number = format!(in alloc; ".{declarator}.")?;
+) -> Result<Vec<u8>, AllocError>
+    ensures { IfOk result (λ whole. whole.items ≡ rule.block_name function.now declarator name.now) }
+{
+    let mut buffer = Buffer::new();
     let mut whole = function.to_vec(alloc)?;
-    whole.extend_from_slice(number.as_bytes())?;
+    whole.push(b'.')?;
+    whole.extend_from_slice(buffer.format(declarator).as_bytes())?;
+    whole.push(b'.')?;
     whole.extend_from_slice(name)?;
     Ok(whole)
 }
 
-fn whole_of(ty: Qualified) -> Slot {
+fn whole_of(ty: Qualified) -> Slot
+    ensures { slot_of result ≡ rule.whole_slot ty }
+{
     Slot { ty, offset: 0 }
 }
 
@@ -93,8 +148,28 @@ fn bind_object(
     object: Object,
     ty: Qualified,
     fixed: bool,
-) -> Result<(), CheckError> {
+) -> Result<(), CheckError>
+    ensures { (known : Known) → Learns result (scopes_in scopes.new known) (names.bind name.now (ObjectName object ty fixed) (scopes_in scopes.old known)) }
+{
     scopes.bind(name, Binding::Object { object, ty, fixed })
+}
+
+// The initializer of a static object that has this number and name.
+fn begin_static(
+    init: &Init,
+    checker: &mut Checker,
+    number: u32,
+    name: &[u8],
+    ty: Qualified,
+    line: u32,
+) -> Result<(), CheckError>
+    ensures { Learns result (known_of checker.new) (rule.static_begun (Some (init_of init.now)) number name.now ty line (known_of checker.old)) }
+{
+    let sink = begun(init, checker, Some(whole_of(ty)), true, line)?;
+    let whole = closed(&mut checker.types, ty, sink.length, line)?;
+    bind_object(&mut checker.scopes, name, Object::Static(number), whole, false)?;
+    checker.statics.complete(number, whole, sink.initial);
+    Ok(())
 }
 
 /// A static object: its initializer, its name in the map, its name in the text, and its type.
@@ -105,19 +180,15 @@ pub(crate) fn static_object(
     name: &[u8],
     ty: Qualified,
     line: u32,
-) -> Result<(), CheckError> {
+) -> Result<(), CheckError>
+    ensures { Learns result (known_of checker.new) (rule.static_rule (any_init init.entry) map_name.items name.now ty line (known_of checker.old)) }
+{
     let number = checker.statics.add(map_name, ty, line)?;
-    let object = Object::Static(number);
-    bind_object(&mut checker.scopes, name, object, ty, false)?;
-    let Some(init) = init else {
-        return Ok(());
-    };
-    let mut sink = Sink::new(checker.alloc, true, line);
-    initialize(init, checker, whole_of(ty), false, &mut sink)?;
-    let ty = closed(&mut checker.types, ty, sink.length, line)?;
-    bind_object(&mut checker.scopes, name, object, ty, false)?;
-    checker.statics.complete(number, ty, sink.initial);
-    Ok(())
+    bind_object(&mut checker.scopes, name, Object::Static(number), ty, false)?;
+    match init {
+        Some(init) => begin_static(init, checker, number, name, ty, line),
+        None => Ok(()),
+    }
 }
 
 /// A static object of a block, whose declarator has this number among those of the function's body.
@@ -128,12 +199,23 @@ pub(crate) fn block_static(
     name: &[u8],
     ty: Qualified,
     line: u32,
-) -> Result<(), CheckError> {
+) -> Result<(), CheckError>
+    ensures { Learns result (known_of checker.new) (rule.static_rule (any_init init.entry) (rule.block_name ((known_of checker.old).body).name declarator name.now) name.now ty line (known_of checker.old)) }
+{
     let map_name = map_name(checker.alloc, checker.body.name(), declarator, name)?;
     static_object(init, checker, map_name, name, ty, line)
 }
 
-/// A local: what its declarator does comes after the statements.
+fn is_register(storage: Storage) -> bool
+    ensures { result ≡ is_register storage }
+{
+    match storage {
+        Storage::Register => true,
+        _ => false,
+    }
+}
+
+/// What the declarator of a local does.
 pub(crate) fn local_object(
     init: Option<&Init>,
     checker: &mut Checker,
@@ -141,69 +223,138 @@ pub(crate) fn local_object(
     name: &[u8],
     ty: Qualified,
     line: u32,
-    statements: &mut Vec<TStmt>,
-) -> Result<(), CheckError> {
-    let fixed = specified.storage == Storage::Register;
+) -> Result<Vec<TStmt>, CheckError>
+    ensures { Answers (λ made. map statement_of made.items) result (known_of checker.new) (rule.local_rule (any_init init.entry) name.now ty (is_register specified.storage) line (known_of checker.old)) }
+{
+    let fixed = is_register(specified.storage);
     let local = checker.body.add_local(name, ty, line)?;
-    let object = Object::Local(local);
-    bind_object(&mut checker.scopes, name, object, ty, fixed)?;
-    let Some(init) = init else {
-        statements.push(TStmt::Declare { local, line })?;
-        return Ok(());
-    };
-    let mut sink = Sink::new(checker.alloc, false, line);
-    initialize(init, checker, whole_of(ty), false, &mut sink)?;
-    let ty = closed(&mut checker.types, ty, sink.length, line)?;
-    bind_object(&mut checker.scopes, name, object, ty, fixed)?;
-    checker.body.complete_local(local, ty);
-    if is_expression(init) || ty.ty.is_scalar() {
-        first_item(checker.alloc, local, ty, sink, line, statements)
-    } else {
-        let items = sink.items;
-        statements.push(TStmt::InitList { local, items, line })?;
-        Ok(())
+    bind_object(&mut checker.scopes, name, Object::Local(local), ty, fixed)?;
+    match init {
+        Some(init) => begin_local(init, checker, local, name, ty, fixed, line),
+        None => one_statement(checker.alloc, TStmt::Declare { local, line }),
     }
 }
 
-fn is_expression(init: &Init) -> bool {
+fn one_statement(alloc: Global, statement: TStmt) -> Result<Vec<TStmt>, CheckError>
+    ensures { (known : Known) → Answers (λ made. map statement_of made.items) result known (given (statement_of statement ∷ []) known) }
+{
+    let mut statements = Vec::new(alloc);
+    statements.push(statement)?;
+    Ok(statements)
+}
+
+// The initializer of a local that has this number and name.
+fn begin_local(
+    init: &Init,
+    checker: &mut Checker,
+    local: u32,
+    name: &[u8],
+    ty: Qualified,
+    fixed: bool,
+    line: u32,
+) -> Result<Vec<TStmt>, CheckError>
+    ensures { Answers (λ made. map statement_of made.items) result (known_of checker.new) (rule.local_begun (Some (init_of init.now)) local name.now ty fixed line (known_of checker.old)) }
+{
+    let sink = begun(init, checker, Some(whole_of(ty)), false, line)?;
+    let whole = closed(&mut checker.types, ty, sink.length, line)?;
+    bind_object(&mut checker.scopes, name, Object::Local(local), whole, fixed)?;
+    checker.body.complete_local(local, whole);
+    local_statements(init, checker.alloc, local, whole, sink.items, line)
+}
+
+#[tactic(auto, using(crate::proofs::Locals::expressions))]
+fn is_expression(init: &Init) -> bool
+    ensures { result ≡ rule.is_expression (init_of init.now) }
+{
     match init {
         Init::Assign(_) => true,
-        _ => false,
+        Init::Text(_) | Init::List { .. } => false,
     }
+}
+
+// Whether a local begins as one value.
+fn is_one_value(init: &Init, ty: Ty) -> bool
+    ensures { result ≡ (rule.is_expression (init_of init.now) || is_scalar ty) }
+{
+    is_expression(init) || is_scalar(ty)
+}
+
+#[tactic(auto, using(crate::proofs::Locals::one_begun, crate::proofs::Locals::list_begun))]
+fn local_statements(
+    init: &Init,
+    alloc: Global,
+    local: u32,
+    ty: Qualified,
+    items: Vec<TItem>,
+    line: u32,
+) -> Result<Vec<TStmt>, CheckError>
+    ensures { (known : Known) → Answers (λ made. map statement_of made.items) result known (rule.local_statements (init_of init.now) local ty (map item_of items.items) line known) }
+{
+    if is_one_value(init, ty.ty) {
+        begun_as_one(alloc, local, ty, items, line)
+    } else {
+        one_statement(alloc, TStmt::InitList { local, items, line })
+    }
+}
+
+// The only item of a list, if it has one alone.
+#[tactic(auto, using(crate::proofs::Locals::not_alone, crate::proofs::Locals::popped_alone))]
+fn only(items: Vec<TItem>) -> Option<TItem>
+    ensures { option_map item_of result ≡ only_one (map item_of items.items) }
+{
+    let mut items = items;
+    if items.len() != 1 {
+        return None;
+    }
+    items.pop()
 }
 
 // What the declarator of a local does that begins as one value: an integer or a pointer, or a structure, which is assigned
 // once the local is unset.
-fn first_item(
+fn begun_as_one(
     alloc: Global,
     local: u32,
     ty: Qualified,
-    sink: Sink,
+    items: Vec<TItem>,
     line: u32,
-    statements: &mut Vec<TStmt>,
-) -> Result<(), CheckError> {
-    let mut items = sink.items;
-    match items.pop() {
+) -> Result<Vec<TStmt>, CheckError>
+    ensures { (known : Known) → Answers (λ made. map statement_of made.items) result known (rule.begun_as_one local ty (map item_of items.items) line known) }
+{
+    match only(items) {
         Some(TItem::Scalar { value, .. }) => {
-            statements.push(TStmt::InitScalar { local, value, line })?;
-            Ok(())
+            one_statement(alloc, TStmt::InitScalar { local, value, line })
         }
         Some(TItem::Struct { from, size, .. }) => {
-            let place = TPlace::Name {
-                object: Object::Local(local),
-                ty,
-                line,
-            };
-            let value = TExpr::StructAssign {
-                place: Box::new(alloc, place)?,
-                from: Box::new(alloc, from)?,
-                size,
-                line,
-            };
+            let value = structure_assigned(alloc, local, ty, from, size, line)?;
+            let mut statements = Vec::new(alloc);
             statements.push(TStmt::Declare { local, line })?;
             statements.push(TStmt::Expr { value, line })?;
-            Ok(())
+            Ok(statements)
         }
-        _ => refused(Kind::Initializer, line),
+        Some(TItem::Text { .. }) | None => refused(Kind::Initializer, line),
     }
+}
+
+#[tactic(auto, using(crate::proofs::Locals::struct_assigned))]
+fn structure_assigned(
+    alloc: Global,
+    local: u32,
+    ty: Qualified,
+    from: TPlace,
+    size: u64,
+    line: u32,
+) -> Result<TExpr, AllocError>
+    ensures { IfOk result (λ e. expression_of e ≡ typed.StructAssign (typed.Name (objects.Local local) ty line) (place_of from) size line) }
+{
+    let place = TPlace::Name {
+        object: Object::Local(local),
+        ty,
+        line,
+    };
+    Ok(TExpr::StructAssign {
+        place: Box::new(alloc, place)?,
+        from: Box::new(alloc, from)?,
+        size,
+        line,
+    })
 }

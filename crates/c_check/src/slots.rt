@@ -1,6 +1,16 @@
 //! What an initializer initializes, part by part (ISO/IEC 9899:1990, 6.5.7).
 
-use c_operate::error::{CheckError, Kind, refused};
+ghost use Rattle.std.specs.Prelude.{◌≡◌, ◌+◌, ◌*◌, if◌then◌else◌, nat_eq, slice_get, Some, None, IfErr, IfOk};
+ghost use Rattle.type_rules.specs.Initializers as lists;
+ghost use Rattle.type_rules.specs.Known.{Known};
+ghost use Rattle.type_rules.specs.Rows.{fields_of, like, target_of};
+ghost use Rattle.type_rules.specs.Slots as rule;
+ghost use Rattle.c_operate.specs.Tables.{types_in};
+ghost use Rattle.c_operate.specs.declared.error.CheckError.TheVariants.{NoMemory};
+ghost use Rattle.c_check.specs.Views.{any_slot, begun_of, slot_of};
+
+use crate::types::like;
+use c_operate::error::CheckError;
 use c_operate::types::Types;
 use c_typed::{Initial, Qualified, TItem, Ty};
 use std::alloc::Global;
@@ -25,7 +35,9 @@ pub(crate) struct Sink {
 
 impl Sink {
     /// A sink to which nothing has been given; `line` is that of the declarator.
-    pub fn new(alloc: Global, fixed: bool, line: u32) -> Sink {
+    pub fn new(alloc: Global, fixed: bool, line: u32) -> Sink
+        ensures { begun_of result ≡ rule.nothing_begun fixed line }
+    {
         Sink {
             fixed,
             initial: Vec::new(alloc),
@@ -36,76 +48,119 @@ impl Sink {
     }
 }
 
-/// The next part of an object that a list goes on with. `extra` says that the list has an item more than
-/// the object has parts.
-#[derive(Clone, Copy)]
-pub(crate) struct Cursor {
-    slot: Slot,
-    next: u32,
-    pub extra: bool,
+// How many bytes stand before what has so many elements of this size before it. No memory has an object that is too
+// long for such a number.
+fn behind(start: u64, bytes: u64, count: u32) -> Result<u64, CheckError>
+    ensures ok { IfOk result (λ offset. offset ≡ start + bytes * count) }
+    ensures err { IfErr result (λ e. e ≡ NoMemory) }
+{
+    match u64::try_from(start as u128 + bytes as u128 * count as u128) {
+        Ok(offset) => Ok(offset),
+        Err(_) => Err(CheckError::NoMemory),
+    }
 }
 
-impl Cursor {
-    /// The cursor in front of the first part of an object.
-    pub fn new(slot: Slot) -> Cursor {
-        Cursor {
-            slot,
-            next: 0,
-            extra: false,
-        }
-    }
+fn element(types: &Types, slot: Slot, row: u32, number: u32) -> Result<Slot, CheckError>
+    ensures ok { (known : Known) → IfOk result (λ s. slot_of s ≡ rule.element_slot (types_in types.now known) (slot_of slot) (like slot.ty (target_of (types_in types.now known) row).ty) number) }
+    ensures err { IfErr result (λ e. e ≡ NoMemory) }
+{
+    let ty = like(slot.ty, types.target(row).ty);
+    Ok(Slot {
+        ty,
+        offset: behind(slot.offset, types.bytes_of(ty.ty), number)?,
+    })
+}
 
-    fn part(&self, types: &Types) -> Option<Slot> {
-        match self.slot.ty.ty {
-            Ty::Array {
-                element,
-                length,
-                ..
-            } => {
-                if length != 0 && length <= self.next {
-                    return None;
-                }
-                let ty = self.slot.ty.of(types.target(element).ty);
-                let before = types.bytes_of(ty.ty).wrapping_mul(self.next as u64);
-                Some(Slot {
-                    ty,
-                    offset: self.slot.offset.wrapping_add(before),
-                })
-            }
-            Ty::Struct(structure) => {
-                let field = types.member_at(structure, self.next as usize)?;
-                Some(Slot {
-                    ty: field.ty,
-                    offset: self.slot.offset.wrapping_add(field.offset),
-                })
-            }
-            _ => {
-                if self.next == 0 {
-                    Some(self.slot)
-                } else {
-                    None
-                }
-            }
-        }
+fn member(
+    types: &Types,
+    slot: Slot,
+    structure: u32,
+    number: u32,
+) -> Result<Option<Slot>, CheckError>
+    ensures ok { (known : Known) → IfOk result (λ s. any_slot s ≡ rule.member_slot slot.offset (slice_get (fields_of (types_in types.now known) structure) number)) }
+    ensures err { IfErr result (λ e. e ≡ NoMemory) }
+{
+    match types.member_at(structure, number as usize) {
+        Some(field) => Ok(Some(Slot {
+            ty: field.ty,
+            offset: behind(slot.offset, field.offset, 1)?,
+        })),
+        None => Ok(None),
     }
+}
 
-    /// The next part, if there is one.
-    pub fn step(&mut self, types: &Types) -> Option<Slot> {
-        let part = self.part(types)?;
-        self.next = self.next.saturating_add(1);
-        Some(part)
-    }
-
-    /// Ends the list whose opening bracket stands on this line.
-    pub fn finish(&self, sink: &mut Sink, line: u32) -> Result<(), CheckError> {
-        if self.extra {
-            return refused(Kind::Initializer, line);
-        }
-        if let Ty::Array { length, .. } = self.slot.ty.ty {
-            if length == 0 {
-                sink.length = Some(self.next);
+fn part_of(types: &Types, slot: Slot, number: u32) -> Result<Option<Slot>, CheckError>
+    ensures ok { (known : Known) → IfOk result (λ s. any_slot s ≡ rule.part_by (types_in types.now known) (slot_of slot) slot.ty.ty number) }
+    ensures err { IfErr result (λ e. e ≡ NoMemory) }
+{
+    match slot.ty.ty {
+        Ty::Array {
+            element: row,
+            length,
+            ..
+        } => {
+            if length != 0 && length <= number {
+                Ok(None)
+            } else {
+                Ok(Some(element(types, slot, row, number)?))
             }
         }
-        Ok(())
+        Ty::Struct(structure) => member(types, slot, structure, number),
+        Ty::Void | Ty::Int(_) | Ty::Pointer(_) => Ok(scalar_part(slot, number)),
+    }
+}
+
+// A scalar is its own first part.
+fn scalar_part(slot: Slot, number: u32) -> Option<Slot>
+    ensures { any_slot result ≡ (if nat_eq number 0 then Some (slot_of slot) else None) }
+{
+    if number == 0 { Some(slot) } else { None }
+}
+
+/// The part of this number, from 0. An array without a length has any.
+pub(crate) fn part(
+    types: &Types,
+    slot: Option<Slot>,
+    number: u32,
+) -> Result<Option<Slot>, CheckError>
+    ensures ok { (known : Known) → IfOk result (λ s. any_slot s ≡ rule.part (types_in types.now known) (any_slot slot) number) }
+    ensures err { IfErr result (λ e. e ≡ NoMemory) }
+{
+    match slot {
+        Some(slot) => part_of(types, slot, number),
+        None => Ok(None),
+    }
+}
+
+/// Whether a list of so many items has one more than there are parts.
+pub(crate) fn has_more(
+    types: &Types,
+    slot: Option<Slot>,
+    count: u32,
+) -> Result<bool, CheckError>
+    ensures ok { (known : Known) → IfOk result (λ more. more ≡ lists.has_more (types_in types.now known) (any_slot slot) count) }
+    ensures err { IfErr result (λ e. e ≡ NoMemory) }
+{
+    let last = part(types, slot, count.saturating_sub(1))?;
+    Ok(slot.is_some() && !last.is_some())
+}
+
+fn is_unsized(ty: Ty) -> bool
+    ensures { result ≡ lists.is_unsized ty }
+{
+    match ty {
+        Ty::Array { length, .. } => length == 0,
+        Ty::Void | Ty::Int(_) | Ty::Pointer(_) | Ty::Struct(_) => false,
+    }
+}
+
+/// An array without a length takes it from the number of items.
+pub(crate) fn count_items(slot: Option<Slot>, count: u32, sink: &mut Sink)
+    ensures { begun_of sink.new ≡ lists.with_items (any_slot slot) count (begun_of sink.old) }
+{
+    if let Some(slot) = slot {
+        if is_unsized(slot.ty.ty) {
+            sink.length = Some(count);
+        }
     }
 }
