@@ -6,3 +6,8 @@ pub mod Locals
 pub mod Puts
 pub mod Steps
 pub mod Texts
+pub mod Declared
+pub mod Items
+pub mod Lists
+pub mod Statements
+pub mod Units

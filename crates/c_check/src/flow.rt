@@ -1,5 +1,12 @@
 //! What `break` and `continue` leave and repeat (ISO/IEC 9899:1990, 6.6.6).
 
+ghost use Rattle.std.specs.Prelude.{◌≡◌};
+ghost use Rattle.c_typed.specs.Views.{statement_of};
+ghost use Rattle.type_rules.specs.Known.{Known};
+ghost use Rattle.type_rules.specs.Statements as rule;
+ghost use Rattle.c_operate.specs.Answers.{Answers};
+ghost use Rattle.c_check.specs.StatementViews.{flow_of, break_rule, continue_rule};
+
 use c_operate::error::{CheckError, Kind, refused};
 use c_typed::TStmt;
 
@@ -12,7 +19,9 @@ pub(crate) struct Flow {
 
 impl Flow {
     /// In no loop and no switch.
-    pub fn outside() -> Flow {
+    pub fn outside() -> Flow
+        ensures { flow_of result ≡ rule.outside }
+    {
         Flow {
             breaks: false,
             continues: false,
@@ -20,7 +29,9 @@ impl Flow {
     }
 
     /// In the body of a loop.
-    pub fn in_loop() -> Flow {
+    pub fn in_loop() -> Flow
+        ensures { flow_of result ≡ rule.in_loop }
+    {
         Flow {
             breaks: true,
             continues: true,
@@ -28,7 +39,9 @@ impl Flow {
     }
 
     /// In the body of a switch that stands here.
-    pub fn in_switch(self) -> Flow {
+    pub fn in_switch(self) -> Flow
+        ensures { flow_of result ≡ rule.in_switch (flow_of self) }
+    {
         Flow {
             breaks: true,
             continues: self.continues,
@@ -36,7 +49,10 @@ impl Flow {
     }
 
     /// A `break` that stands here.
-    pub fn break_at(self, line: u32) -> Result<TStmt, CheckError> {
+    #[tactic(auto, using(c_typed::proofs::Shapes::show_statement_break))]
+    pub fn break_at(self, line: u32) -> Result<TStmt, CheckError>
+        ensures { (known : Known) → Answers statement_of result known (break_rule (flow_of self) line known) }
+    {
         if self.breaks {
             Ok(TStmt::Break { line })
         } else {
@@ -45,7 +61,10 @@ impl Flow {
     }
 
     /// A `continue` that stands here.
-    pub fn continue_at(self, line: u32) -> Result<TStmt, CheckError> {
+    #[tactic(auto, using(c_typed::proofs::Shapes::show_statement_continue))]
+    pub fn continue_at(self, line: u32) -> Result<TStmt, CheckError>
+        ensures { (known : Known) → Answers statement_of result known (continue_rule (flow_of self) line known) }
+    {
         if self.continues {
             Ok(TStmt::Continue { line })
         } else {

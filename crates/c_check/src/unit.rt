@@ -1,10 +1,21 @@
 //! Functions, and the whole unit (ISO/IEC 9899:1990, 6.7).
 
-ghost use Rattle.c_tree.specs.ProgramViews.{unit_of};
+ghost use Rattle.std.specs.Prelude.{◌≡◌, [], map, Ok, IfOk, IfErr, IfSome, OnOk};
+ghost use Rattle.c_tree.specs.ProgramViews.{block_of, unit_of};
+ghost use Rattle.c_tree.specs.Views.{declarator_of, specs_of};
+ghost use Rattle.c_typed.specs.Views.{function_of, program_of, statement_of, variable_of};
+ghost use Rattle.type_rules.specs.Declarators.{line_in, name_in};
+ghost use Rattle.type_rules.specs.Known.{known_first};
+ghost use Rattle.type_rules.specs.Outlines as outlines;
 ghost use Rattle.type_rules.specs.Units as rule;
+ghost use Rattle.c_operate.specs.Answers.{Answers, Learns};
+ghost use Rattle.c_operate.specs.Tables.{known_of};
+ghost use Rattle.c_operate.specs.declared.error.CheckError.TheVariants.{NoMemory};
+ghost use Rattle.check_expr.specs.Views.{outline_of, param_of, specified_of};
 ghost use Rattle.c_check.specs.Checks.{Checks};
+ghost use Rattle.c_check.specs.StatementViews.{bound_behind, inner_rule, no_function};
 
-use crate::declaration::{FILE, declare_function, file_declaration};
+use crate::declaration::{declare_function, file_declaration, in_file, name_of};
 use crate::flow::Flow;
 use crate::statement::block;
 use c_operate::body::Body;
@@ -12,22 +23,35 @@ use c_operate::checker::Checker;
 use c_operate::error::{CheckError, Kind, number, refused};
 use c_operate::scope::Binding;
 use c_tree::statement::{Function, Item, Unit};
-use c_typed::{Object, TStmt, Ty, Typed, Variable};
+use c_typed::{Function as TypedFunction, Object, Qualified, TStmt, Ty, Typed, Variable};
 use check_expr::declarator::{outline, specified};
-use check_expr::outline::{Declared, ParamShape, line_of};
-use check_expr::specifiers;
+use check_expr::outline::{Declared, Outline, ParamShape, line_of};
+use check_expr::specifiers::Specified;
 use indexmap::IndexSet;
 use std::alloc::Global;
 use std::mem;
 
+// Puts a name behind the others, if it isn't among them.
+#[tactic(auto, using(crate::proofs::Units::name_added))]
+fn put_name(alloc: Global, name: &[u8], names: &mut IndexSet<Vec<u8>>) -> Result<(), CheckError>
+    ensures ok { OnOk result (map (λ name. name.items) names.new.keys ≡ rule.with_name name.now (map (λ name. name.items) names.old.keys)) }
+    ensures err { IfErr result (λ e. e ≡ NoMemory) }
+{
+    let name = name.to_vec(alloc)?;
+    let (_, _) = names.insert_full(name)?;
+    Ok(())
+}
+
 // The names of the functions that a unit defines, in order.
-fn definitions(alloc: Global, unit: &Unit) -> Result<IndexSet<Vec<u8>>, CheckError> {
+fn definitions(alloc: Global, unit: &Unit) -> Result<IndexSet<Vec<u8>>, CheckError>
+    ensures ok { IfOk result (λ names. map (λ name. name.items) names.keys ≡ rule.defined_in (unit_of unit.now) []) }
+    ensures err { IfErr result (λ e. e ≡ NoMemory) }
+{
     let mut names = IndexSet::new(alloc);
     for item in &unit.items {
         match item {
             Item::Function(function) => {
-                let name = function.declarator.name.bytes.as_slice().to_vec(alloc)?;
-                let (_, _) = names.insert_full(name)?;
+                put_name(alloc, name_of(&function.declarator), &mut names)?;
             }
             Item::Declaration(_) => {}
         }
@@ -35,11 +59,33 @@ fn definitions(alloc: Global, unit: &Unit) -> Result<IndexSet<Vec<u8>>, CheckErr
     Ok(names)
 }
 
+// Puts a parameter of this number into the innermost scope, if it has a name.
+fn bind_param(
+    checker: &mut Checker,
+    name: &[u8],
+    number: u32,
+    ty: Qualified,
+    fixed: bool,
+) -> Result<(), CheckError>
+    ensures { Learns result (known_of checker.new) (outlines.bind_param name.now number ty fixed (known_of checker.old)) }
+{
+    match name {
+        [] => Ok(()),
+        [_, ..] => {
+            let object = Object::Param(number);
+            let binding = Binding::Object { object, ty, fixed };
+            checker.scopes.bind(name, binding)
+        }
+    }
+}
+
 // Puts the parameters into the innermost scope.
 fn bind_params(
     checker: &mut Checker,
     params: Vec<ParamShape>,
-) -> Result<Vec<Variable>, CheckError> {
+) -> Result<Vec<Variable>, CheckError>
+    ensures { Answers (λ bound. map variable_of bound.items) result (known_of checker.new) (bound_behind [] (map param_of params.items) (known_of checker.old)) }
+{
     let mut variables = Vec::new(checker.alloc);
     for param in params {
         let ParamShape {
@@ -48,76 +94,156 @@ fn bind_params(
             fixed,
             line,
         } = param;
-        let object = Object::Param(number(variables.len())?);
-        if !name.is_empty() {
-            let binding = Binding::Object { object, ty, fixed };
-            checker.scopes.bind(&name, binding)?;
-        }
+        bind_param(checker, &name, number(variables.len())?, ty, fixed)?;
         variables.push(Variable { name, ty, line })?;
     }
     Ok(variables)
 }
 
-// The parameters, the locals and the statements of a function.
+// Begins the body of a function.
+fn begin_body(checker: &mut Checker, name: &[u8], returns: Ty) -> Result<(), CheckError>
+    ensures { Learns result (known_of checker.new) (rule.body_begun name.now returns (known_of checker.old)) }
+{
+    match Body::begin(checker.alloc, name, returns) {
+        Ok(body) => {
+            checker.body = body;
+            Ok(())
+        }
+        Err(_) => Err(CheckError::NoMemory),
+    }
+}
+
+// Ends the body of a function, and gives its locals.
+fn end_body(checker: &mut Checker) -> Vec<Variable>
+    ensures locals { map variable_of result.items ≡ ((known_of checker.old).body).locals }
+    ensures after { rule.body_ended (known_of checker.old) ≡ Ok (known_of checker.new, known_of checker.new) }
+{
+    let body = mem::replace(&mut checker.body, Body::outside(checker.alloc));
+    body.into_locals()
+}
+
+// The parameters and the statements of a function.
 #[derive(Drop)]
 struct Checked {
     params: Vec<Variable>,
-    locals: Vec<Variable>,
     statements: Vec<TStmt>,
 }
 
-fn body_of(
+// The parameters and the outermost block of a function are one scope.
+fn inner(
     function: &Function,
     checker: &mut Checker,
-    returns: Ty,
     params: Vec<ParamShape>,
-) -> Result<Checked, CheckError> {
-    let name = &function.declarator.name.bytes;
-    checker.body = Body::begin(checker.alloc, name, returns)?;
+) -> Result<Checked, CheckError>
+    ensures { Answers (λ made. (map variable_of made.params.items, map statement_of made.statements.items)) result (known_of checker.new) (inner_rule (block_of function.now.body) (map param_of params.items) (known_of checker.old)) }
+{
     checker.scopes.enter()?;
     let params = bind_params(checker, params)?;
     let statements = block(&function.body, checker, Flow::outside())?;
     checker.scopes.leave();
-    let body = mem::replace(&mut checker.body, Body::outside(checker.alloc));
-    let locals = body.into_locals();
-    Ok(Checked {
+    Ok(Checked { params, statements })
+}
+
+fn function_body(
+    function: &Function,
+    checker: &mut Checker,
+    specified: Specified,
+    returns: Ty,
+    params: Vec<ParamShape>,
+) -> Result<TypedFunction, CheckError>
+    ensures { Answers function_of result (known_of checker.new) (rule.function_body (block_of function.now.body) (specified_of specified) (name_in (declarator_of function.now.declarator)) returns (map param_of params.items) (known_of checker.old)) }
+{
+    let name = name_of(&function.declarator);
+    begin_body(checker, name, returns)?;
+    let Checked { params, statements } = inner(function, checker, params)?;
+    let locals = end_body(checker);
+    Ok(TypedFunction {
+        name: name.to_vec(checker.alloc)?,
+        result: returns,
         params,
         locals,
-        statements,
+        body: statements,
+        interrupt: specified.interrupt,
+        line: specified.line,
     })
 }
 
-fn function(function: &Function, checker: &mut Checker) -> Result<c_typed::Function, CheckError> {
-    let specified = specified(&function.specs, checker, FILE)?;
-    let outline = outline(&function.declarator, checker, specified, true)?;
+// Refuses what is written as a function and declares none.
+fn refuse_object(checker: &Checker, name: &[u8], line: u32) -> Result<TypedFunction, CheckError>
+    ensures { Answers function_of result (known_of checker.now) (no_function name.now line (known_of checker.now)) }
+{
+    checker.scopes.refuse_again(name, line)?;
+    refused(Kind::Declare, line)
+}
+
+fn function_declared(
+    function: &Function,
+    checker: &mut Checker,
+    specified: Specified,
+    outline: Outline,
+) -> Result<TypedFunction, CheckError>
+    ensures { Answers function_of result (known_of checker.new) (rule.function_declared (outline_of outline).declared (block_of function.now.body) (specified_of specified) (outline_of outline) (name_in (declarator_of function.now.declarator)) (line_in (declarator_of function.now.declarator)) (known_of checker.old)) }
+{
     let line = line_of(&function.declarator);
-    let name = &function.declarator.name.bytes;
+    let name = name_of(&function.declarator);
     let bad = outline.bad;
-    let Declared::Function { result, params } = outline.declared else {
-        checker.scopes.refuse_again(name, line)?;
-        return refused(Kind::Declare, line);
-    };
-    declare_function(checker, name, result, &params, bad, true, line)?;
-    let body = body_of(function, checker, result.ty, params)?;
-    Ok(c_typed::Function {
-        name: name.as_slice().to_vec(checker.alloc)?,
-        result: result.ty,
-        params: body.params,
-        locals: body.locals,
-        body: body.statements,
-        interrupt: specified.interrupt,
-        line: specifiers::line_of(&function.specs),
-    })
+    match outline.declared {
+        Declared::Function { result, params } => {
+            declare_function(checker, name, result, &params, bad, true, line)?;
+            function_body(function, checker, specified, result.ty, params)
+        }
+        Declared::Object(_) => refuse_object(checker, name, line),
+    }
+}
+
+fn function(function: &Function, checker: &mut Checker) -> Result<TypedFunction, CheckError>
+    ensures { Answers function_of result (known_of checker.new) (rule.function (specs_of function.now.specs) (declarator_of function.now.declarator) (block_of function.now.body) (known_of checker.old)) }
+{
+    let specified = specified(&function.specs, checker, in_file())?;
+    let outline = outline(&function.declarator, checker, specified, true)?;
+    function_declared(function, checker, specified, outline)
+}
+
+// The functions of a unit, in order, whose declarations are checked with them.
+fn functions(unit: &Unit, checker: &mut Checker) -> Result<Vec<TypedFunction>, CheckError>
+    ensures { Answers (λ made. map function_of made.items) result (known_of checker.new) (rule.functions_of (unit_of unit.now) (known_of checker.old)) }
+{
+    let mut functions = Vec::new(checker.alloc);
+    for item in &unit.items {
+        match item {
+            Item::Function(inner) => {
+                let made = function(inner, checker)?;
+                functions.push(made)?;
+            }
+            Item::Declaration(declaration) => file_declaration(declaration, checker)?,
+        }
+    }
+    Ok(functions)
 }
 
 // The typed tree of a unit whose functions and declarations are all checked. A tree in which something
 // doesn't fit would be a fault of the checker's own, for which there is no refusal.
-fn typed(checker: Checker, functions: Vec<c_typed::Function>) -> Result<Typed, CheckError> {
+fn typed(checker: Checker, functions: Vec<TypedFunction>) -> Option<Typed>
+    ensures { IfSome result (λ p. program_of p ≡ rule.program_from (known_of checker) (map function_of functions.items)) }
+{
     let Checker { types, statics, .. } = checker;
-    let (targets, structures) = types.into_tables()?;
-    match Typed::new(targets, structures, statics.into_entries(), functions) {
-        Some(typed) => Ok(typed),
-        None => Err(CheckError::NoMemory),
+    match types.into_tables() {
+        Ok((targets, structures)) => {
+            Typed::new(targets, structures, statics.into_entries(), functions)
+        }
+        Err(_) => None,
+    }
+}
+
+// What is known at the beginning of a unit.
+fn begun(alloc: Global, unit: &Unit) -> Result<Checker, CheckError>
+    ensures ok { IfOk result (λ c. known_of c ≡ known_first (rule.defined_in (unit_of unit.now) [])) }
+    ensures err { IfErr result (λ e. e ≡ NoMemory) }
+{
+    let names = definitions(alloc, unit)?;
+    match Checker::new(alloc, names) {
+        Ok(checker) => Ok(checker),
+        Err(_) => Err(CheckError::NoMemory),
     }
 }
 
@@ -127,13 +253,10 @@ fn typed(checker: Checker, functions: Vec<c_typed::Function>) -> Result<Typed, C
 pub fn check(alloc: Global, unit: &Unit) -> Result<Typed, CheckError>
     ensures { Checks result (rule.judged_unit (unit_of unit.now)) }
 {
-    let mut checker = Checker::new(alloc, definitions(alloc, unit)?)?;
-    let mut functions = Vec::new(alloc);
-    for item in &unit.items {
-        match item {
-            Item::Function(inner) => functions.push(function(inner, &mut checker)?)?,
-            Item::Declaration(declaration) => file_declaration(declaration, &mut checker)?,
-        }
+    let mut checker = begun(alloc, unit)?;
+    let functions = functions(unit, &mut checker)?;
+    match typed(checker, functions) {
+        Some(typed) => Ok(typed),
+        None => Err(CheckError::NoMemory),
     }
-    typed(checker, functions)
 }

@@ -1,47 +1,79 @@
 //! The expressions of statements (ISO/IEC 9899:1990, 6.6.3 to 6.6.6).
 
+ghost use Rattle.std.specs.Prelude.{◌≡◌, not, [], ◌∷◌, Some, None};
+ghost use Rattle.std.specs.Option.{option_map};
+ghost use Rattle.c_tree.specs.Views.{expr_of};
+ghost use Rattle.c_tree.specs.ProgramViews.{any_of};
+ghost use Rattle.c_typed.specs.Sameness.{is_void};
+ghost use Rattle.c_typed.specs.Views.{expression_of, statement_of};
+ghost use Rattle.type_rules.specs.Expressions.{value_of};
+ghost use Rattle.type_rules.specs.Faults as faults;
+ghost use Rattle.type_rules.specs.Known.{Known, tried};
+ghost use Rattle.type_rules.specs.Statements as rule;
+ghost use Rattle.c_operate.specs.Answers.{Answers, Learns};
+ghost use Rattle.c_operate.specs.Tables.{known_of};
+ghost use Rattle.c_operate.specs.Terms.{operand_of};
+ghost use Rattle.c_check.specs.StatementViews.{switched_rule, valued_return};
+
 use c_ints::{IntTy, promote};
 use c_operate::checker::Checker;
 use c_operate::conversion::{assigned, converted};
 use c_operate::error::{CheckError, Kind, refused};
+use c_operate::sameness::{is_scalar, is_void};
 use c_operate::term::{Operand, used};
 use c_tree::expression::Expr;
-use c_tree::statement::ForHead;
 use c_typed::{TExpr, TStmt, Ty};
 use check_expr::expression::expression;
 
-fn evaluated(expr: &Expr, checker: &mut Checker) -> Result<Operand, CheckError> {
+fn evaluated(expr: &Expr, checker: &mut Checker) -> Result<Operand, CheckError>
+    ensures { Answers operand_of result (known_of checker.new) (value_of (expr_of expr.now) (known_of checker.old)) }
+{
     let term = expression(expr, checker)?;
     used(term, checker)
 }
 
 /// A condition: an integer or a pointer.
-pub(crate) fn condition(expr: &Expr, checker: &mut Checker) -> Result<TExpr, CheckError> {
+pub(crate) fn condition(expr: &Expr, checker: &mut Checker) -> Result<TExpr, CheckError>
+    ensures { Answers expression_of result (known_of checker.new) (rule.condition (expr_of expr.now) (known_of checker.old)) }
+{
     let operand = evaluated(expr, checker)?;
-    if operand.value.ty().is_scalar() {
+    if is_scalar(operand.value.ty()) {
         Ok(operand.value)
     } else {
         refused(Kind::Operand, operand.line)
     }
 }
 
-/// What a switch looks at: a promoted integer, and its type.
-pub(crate) fn switched(expr: &Expr, checker: &mut Checker) -> Result<(TExpr, IntTy), CheckError> {
-    let operand = evaluated(expr, checker)?;
-    match operand.value.ty() {
-        Ty::Int(ty) => {
-            let ty = promote(ty);
-            let value = converted(checker.alloc, operand, Ty::Int(ty))?;
-            Ok((value, ty))
-        }
-        _ => refused(Kind::Operand, operand.line),
+// The type of a value, if it is an integer.
+fn int_of(ty: Ty) -> Option<IntTy>
+    ensures { result ≡ rule.int_of ty }
+{
+    match ty {
+        Ty::Int(ty) => Some(ty),
+        Ty::Void | Ty::Pointer(_) | Ty::Array { .. } | Ty::Struct(_) => None,
     }
 }
 
-fn evaluated_if_any(
+/// What a switch looks at: a promoted integer, and its type.
+pub(crate) fn switched(expr: &Expr, checker: &mut Checker) -> Result<(TExpr, IntTy), CheckError>
+    ensures { Answers (λ s. (expression_of s.0, s.1)) result (known_of checker.new) (switched_rule (expr_of expr.now) (known_of checker.old)) }
+{
+    let operand = evaluated(expr, checker)?;
+    let Some(ty) = int_of(operand.value.ty()) else {
+        return refused(Kind::Operand, operand.line);
+    };
+    let ty = promote(ty);
+    let value = converted(checker.alloc, operand, Ty::Int(ty))?;
+    Ok((value, ty))
+}
+
+/// The value of an expression that may be missing.
+pub(crate) fn evaluated_if_any(
     expr: &Option<Expr>,
     checker: &mut Checker,
-) -> Result<Option<TExpr>, CheckError> {
+) -> Result<Option<TExpr>, CheckError>
+    ensures { Answers (option_map expression_of) result (known_of checker.new) (rule.value_if_any (any_of expr.now) (known_of checker.old)) }
+{
     match expr {
         Some(expr) => {
             let operand = evaluated(expr, checker)?;
@@ -51,12 +83,18 @@ fn evaluated_if_any(
     }
 }
 
-fn condition_if_any(
+/// A condition that may be missing.
+pub(crate) fn condition_if_any(
     expr: &Option<Expr>,
     checker: &mut Checker,
-) -> Result<Option<TExpr>, CheckError> {
+) -> Result<Option<TExpr>, CheckError>
+    ensures { Answers (option_map expression_of) result (known_of checker.new) (rule.condition_if_any (any_of expr.now) (known_of checker.old)) }
+{
     match expr {
-        Some(expr) => Ok(Some(condition(expr, checker)?)),
+        Some(expr) => {
+            let value = condition(expr, checker)?;
+            Ok(Some(value))
+        }
         None => Ok(None),
     }
 }
@@ -71,7 +109,11 @@ pub(crate) struct LoopHead {
 
 impl LoopHead {
     /// The head of a `while` or `do`.
-    pub fn only(condition: TExpr) -> LoopHead {
+    pub fn only(condition: TExpr) -> LoopHead
+        ensures begin { option_map expression_of result.begin ≡ None }
+        ensures condition { option_map expression_of result.condition ≡ Some (expression_of condition) }
+        ensures step { option_map expression_of result.step ≡ None }
+    {
         LoopHead {
             begin: None,
             condition: Some(condition),
@@ -80,24 +122,15 @@ impl LoopHead {
     }
 }
 
-/// The expressions in the brackets of a `for`.
-pub(crate) fn for_head(head: &ForHead, checker: &mut Checker) -> Result<LoopHead, CheckError> {
-    let begin = evaluated_if_any(&head.begin, checker)?;
-    let condition = condition_if_any(&head.condition, checker)?;
-    let step = evaluated_if_any(&head.step, checker)?;
-    Ok(LoopHead {
-        begin,
-        condition,
-        step,
-    })
-}
-
 /// A statement that is an expression, or nothing but a semicolon on this line.
+#[tactic(auto, using(c_typed::proofs::Shapes::show_statement_expr, c_typed::proofs::Shapes::show_statement_empty))]
 pub(crate) fn dropped(
     expr: &Option<Expr>,
     checker: &mut Checker,
     semicolon: u32,
-) -> Result<TStmt, CheckError> {
+) -> Result<TStmt, CheckError>
+    ensures { Answers statement_of result (known_of checker.new) (rule.plain_statement (any_of expr.now) semicolon (known_of checker.old)) }
+{
     match expr {
         Some(expr) => {
             let operand = evaluated(expr, checker)?;
@@ -110,31 +143,44 @@ pub(crate) fn dropped(
     }
 }
 
-fn returned_value(
-    expr: &Expr,
-    checker: &mut Checker,
-    returns: Ty,
-    line: u32,
-) -> Result<TExpr, CheckError> {
+fn returned_value(expr: &Expr, checker: &mut Checker, line: u32) -> Result<TExpr, CheckError>
+    ensures { Answers expression_of result (known_of checker.new) (valued_return (expr_of expr.now) line (known_of checker.old)) }
+{
     let operand = evaluated(expr, checker)?;
-    if returns == Ty::Void {
+    let returns = checker.body.result();
+    if is_void(returns) {
         refused(Kind::Return, line)
     } else {
         assigned(checker.alloc, &checker.types, operand, returns, line)
     }
 }
 
+// Refuses a `return` without a value where the function has one.
+fn refuse_without(returns: Ty, line: u32) -> Result<(), CheckError>
+    ensures { (known : Known) → Learns result known (tried ((not (is_void returns), faults.Return) ∷ []) line known) }
+{
+    if is_void(returns) {
+        Ok(())
+    } else {
+        refused(Kind::Return, line)
+    }
+}
+
 /// A `return`, with a value or without one.
+#[tactic(auto, using(c_typed::proofs::Shapes::show_statement_return))]
 pub(crate) fn returned(
     expr: &Option<Expr>,
     checker: &mut Checker,
     line: u32,
-) -> Result<TStmt, CheckError> {
-    let returns = checker.body.result();
+) -> Result<TStmt, CheckError>
+    ensures { Answers statement_of result (known_of checker.new) (rule.return_statement (any_of expr.now) line (known_of checker.old)) }
+{
     let value = match expr {
-        Some(expr) => Some(returned_value(expr, checker, returns, line)?),
-        None if returns == Ty::Void => None,
-        None => return refused(Kind::Return, line),
+        Some(expr) => Some(returned_value(expr, checker, line)?),
+        None => {
+            refuse_without(checker.body.result(), line)?;
+            None
+        }
     };
     Ok(TStmt::Return { value, line })
 }

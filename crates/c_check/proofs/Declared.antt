@@ -1,0 +1,96 @@
+-- Declarations of functions and objects, and the loops over declarators.
+use Rattle.std.proofs.Common.{◌≡◌, ℕ, Bool, true, false, not, ◌&&◌, ◌||◌, if◌then◌else◌, List, [], ◌∷◌, ◌++◌, map, slice_get, Option, Some, None, is_some, Result, Ok, Err, refl, sym, ap, subst, ◌∙◌}
+use Rattle.c_tree.specs.Programs.{BegunTree, DeclarationTree, DeclaredTrees, InitTree}
+use Rattle.c_typed.specs.Trees.{Statement}
+use Rattle.c_typed.specs.declared.types.Qualified.{Qualified}
+use Rattle.c_typed.specs.declared.types.Ty.{Ty}
+use Rattle.type_rules.specs.Declarations as rule
+use Rattle.type_rules.specs.Declarators.{in_block, in_file, specified}
+use Rattle.type_rules.specs.Faults as kind
+use Rattle.type_rules.specs.Faults.{Fault}
+use Rattle.type_rules.specs.Known.{Binding, ObjectName, BitName, FunctionName, Known, Rule, given, tried, go_on, ◌>>=◌}
+use Rattle.type_rules.specs.Names.{innermost_in}
+use Rattle.type_rules.specs.Objects.{static_rule, block_name, local_rule}
+use Rattle.type_rules.specs.Outlines.{Outline, Param}
+use Rattle.type_rules.specs.Specifiers.{Specified}
+use Rattle.c_operate.specs.Answers.{Refuses}
+use Rattle.c_operate.specs.declared.error.CheckError.{CheckError}
+use Rattle.c_operate.specs.declared.error.CheckError.TheVariants as errors
+use Rattle.c_check.specs.StatementViews.{behind, function_known}
+use Rattle.c_check.proofs.Lists.{passes_on}
+
+-- ---- functions
+
+function_from : (set : ℕ → Rule Known) (added : Rule ℕ) (said : Result (Known × Known) Fault) → go_on (λ _. added >>= set) said ≡ go_on set (go_on (λ _. added) said)
+function_from set added (Ok x) = refl
+function_from set added (Err fault) = refl
+
+pub function_is : (name : List ℕ) (result : Qualified) (params : List Param) (bad defines : Bool) (line : ℕ) (known : Known) →
+    rule.function_rule name result params bad defines line known ≡ (function_known (innermost_in known.scopes name) name result (rule.param_types params) bad defines line >>= rule.set_defined defines) known
+function_is name result params bad defines line known =
+    function_from (rule.set_defined defines) (rule.function_added (rule.function_number (innermost_in known.scopes name)) name result (rule.param_types params)) (tried (rule.function_tests known name result (rule.param_types params) bad defines) line known)
+
+module _ (name : List ℕ) (result : Qualified) (params : List Ty) (defines : Bool) (line : ℕ) (known : Known) where
+  abbrev number_known : Option Binding → Bool → Result (ℕ × Known) Fault
+  number_known found bad = function_known found name result params bad defines line known
+
+  abbrev again : {A : Type 0} → Result A Fault
+  again = Err (record { kind = kind.Again; line = line })
+
+  -- a function of a type that no function has
+  pub bad_again : (found : Option Binding) (n : ℕ) (bad : Bool) → Some (FunctionName n) ≡ found → bad ≡ true → number_known found bad ≡ again
+  bad_again found n bad is wrong = ap (λ f. number_known f bad) (sym is) ∙ ap (λ b. number_known (Some (FunctionName n)) b) wrong
+
+  -- it is declared as an object or a register's bit
+  other_at : (same bad : Bool) → same ≡ false → go_on (λ _. rule.function_added None name result params) (tried ((bad || not same, kind.Again) ∷ (bad, kind.Declare) ∷ []) line known) ≡ again
+  other_at true bad e = cc
+  other_at false true e = refl
+  other_at false false e = refl
+
+  pub object_again : (found : Option Binding) (bad : Bool) (o : _) (ty : _) (fixed : _) → Some (ObjectName o ty fixed) ≡ found → number_known found bad ≡ again
+  object_again found bad o ty fixed is = ap (λ f. number_known f bad) (sym is) ∙ other_at false bad refl
+
+  pub bit_again : (found : Option Binding) (bad : Bool) (r b : ℕ) → Some (BitName r b) ≡ found → number_known found bad ≡ again
+  bit_again found bad r b is = ap (λ f. number_known f bad) (sym is) ∙ other_at false bad refl
+
+  -- it is declared as a function
+  abbrev same_at : ℕ → Bool
+  same_at n = rule.is_same (slice_get known.signatures n) result params defines
+
+  same_by : (n : ℕ) (same : Bool) → tried ((not same, kind.Again) ∷ []) line known ≡ Ok (known, known) → go_on (λ _. rule.function_added (Some n) name result params) (tried ((not same, kind.Again) ∷ (false, kind.Declare) ∷ []) line known) ≡ Ok (n, known)
+  same_by n true h = refl
+  same_by n false h = cc
+
+  pub same_again : (found : Option Binding) (n : ℕ) (bad : Bool) → Some (FunctionName n) ≡ found → bad ≡ false → tried ((not (same_at n), kind.Again) ∷ []) line known ≡ Ok (known, known) → number_known found bad ≡ Ok (n, known)
+  same_again found n bad is good h = ap (λ f. number_known f bad) (sym is) ∙ ap (λ b. number_known (Some (FunctionName n)) b) good ∙ same_by n (same_at n) h
+
+  differs_by : (n : ℕ) (same : Bool) (e : CheckError) → Refuses e (tried ((not same, kind.Again) ∷ []) line known) → Refuses e (go_on (λ _. rule.function_added (Some n) name result params) (tried ((not same, kind.Again) ∷ (false, kind.Declare) ∷ []) line known))
+  differs_by n same errors.NoMemory h = h
+  differs_by n true (errors.Kind kind line) h = cc
+  differs_by n false (errors.Kind kind line) h = ap (go_on (λ _. rule.function_added (Some n) name result params)) h
+
+  pub differs : (found : Option Binding) (n : ℕ) (bad : Bool) (e : CheckError) → Some (FunctionName n) ≡ found → bad ≡ false → Refuses e (tried ((not (same_at n), kind.Again) ∷ []) line known) → Refuses e (number_known found bad)
+  differs found n bad e is good h = subst (Refuses e) (sym (ap (λ f. number_known f bad) (sym is) ∙ ap (λ b. number_known (Some (FunctionName n)) b) good)) (differs_by n (same_at n) e h)
+
+  -- it isn't declared yet
+  pub new_is : (found : Option Binding) (bad : Bool) → None ≡ found → number_known found bad ≡ go_on (λ _. rule.function_added None name result params) (tried ((bad, kind.Declare) ∷ []) line known)
+  new_is found bad is = ap (λ f. number_known f bad) (sym is)
+
+-- ---- objects of blocks
+
+pub static_in_block : (said : Specified) (ty : Qualified) (init : Option InitTree) (name : List ℕ) (k line : ℕ) (known : Known) → said.fixed ≡ true → rule.block_object said ty init name k line known ≡ go_on (λ _. given []) (static_rule init (block_name (known.body).name k name) name ty line known)
+static_in_block said ty init name k line known h = ap (λ b. rule.block_object (record said { fixed = b }) ty init name k line known) h
+
+pub local_in_block : (said : Specified) (ty : Qualified) (init : Option InitTree) (name : List ℕ) (k line : ℕ) (known : Known) → said.fixed ≡ false → rule.block_object said ty init name k line known ≡ local_rule init name ty said.register line known
+local_in_block said ty init name k line known h = ap (λ b. rule.block_object (record said { fixed = b }) ty init name k line known) h
+
+-- ---- declarators
+
+pub in_file_more : (n : ℕ) (b : BegunTree) (bs : List (ℕ × BegunTree)) (said : Specified) (known mid seen : Known) → rule.file_declarator b said known ≡ Ok (seen, mid) → rule.more_in_file ((n, b) ∷ bs) said known ≡ rule.more_in_file bs said mid
+in_file_more n b bs said known mid seen e = ap (go_on (λ _. rule.more_in_file bs said)) e
+
+pub in_block_more : (n : ℕ) (b : BegunTree) (bs : List (ℕ × BegunTree)) (said : Specified) (known mid : Known) (made : List Statement) → rule.block_declarator b said known ≡ Ok (made, mid) → rule.more_in_block ((n, b) ∷ bs) said known ≡ behind made (rule.more_in_block bs said) mid
+in_block_more n b bs said known mid made e = ap (go_on (λ first. rule.more_in_block bs said >>= (λ others. given (first ++ others)))) e
+
+pub declaration_more : (d : DeclarationTree) (ds : List DeclarationTree) (known mid : Known) (made : List Statement) → rule.block_declaration d known ≡ Ok (made, mid) → rule.block_declarations (d ∷ ds) known ≡ behind made (rule.block_declarations ds) mid
+declaration_more d ds known mid made e = ap (go_on (λ first. rule.block_declarations ds >>= (λ others. given (first ++ others)))) e
