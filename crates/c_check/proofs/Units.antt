@@ -11,10 +11,10 @@ use Rattle.c_typed.specs.Views as shown
 use Rattle.c_typed.specs.declared.types.Structure.{Structure}
 use Rattle.c_typed.specs.declared.types.Qualified.{Qualified}
 use Rattle.c_typed.specs.declared.types.Ty.{Ty}
-use Rattle.type_rules.specs.Declarations.{block_declarations}
+use Rattle.type_rules.specs.Declarations.{block_declarations, file_declaration}
 use Rattle.type_rules.specs.Declarators.{name_in}
 use Rattle.type_rules.specs.Faults.{Fault}
-use Rattle.type_rules.specs.Known.{Shape, Known, Rule, given, known_first, go_on, ◌>>=◌}
+use Rattle.type_rules.specs.Known.{Shape, Known, Rule, given, known_first, known_here, go_on, ◌>>=◌}
 use Rattle.type_rules.specs.Names.{leave}
 use Rattle.type_rules.specs.Outlines.{Param, bind_param}
 use Rattle.type_rules.specs.Specifiers.{Specified}
@@ -88,6 +88,46 @@ body_from ss second (Err fault) = refl
 pub body_is : {A : Type 0} (b : BlockTree) (second : typed.Statements → Rule A) (known : Known) → go_on second (statements.body_statements b known) ≡ go_on (λ made. second (statements.statements_of made)) (block_list b statements.outside known)
 body_is (tree.Block opening ds ss closing) second known = body_from ss second (block_declarations ds known)
 
+module _ (said : Specified) (name : List ℕ) (result : Ty) (params : List Param) where
+  abbrev made_of : List VariableTree → typed.Statements → List VariableTree → FunctionTree
+  made_of bound body locals = record { name = name; result = result; params = bound; locals = locals; body = body; interrupt = said.interrupt; line = said.line }
+
+  abbrev closing : List VariableTree → typed.Statements → Rule FunctionTree
+  closing bound body = leave >>= (λ _. known_here >>= (λ here. rule.body_ended >>= (λ _. given (made_of bound body (here.body).locals))))
+
+  abbrev ended : List VariableTree × List Statement → Rule FunctionTree
+  ended made = known_here >>= (λ here. rule.body_ended >>= (λ _. given (made_of made.0 (statements.statements_of made.1) (here.body).locals)))
+
+  ended_behind : (said : Result (List Statement × Known) Fault) → go_on (λ made. closing (map rule.variable_of params) (statements.statements_of made)) said ≡ go_on ended (go_on (λ made. leave >>= (λ _. given (map rule.variable_of params, made))) said)
+  ended_behind (Ok x) = refl
+  ended_behind (Err fault) = refl
+
+  from_inner : (b : BlockTree) (said : Result (Known × Known) Fault) → go_on (λ _. statements.body_statements b >>= closing (map rule.variable_of params)) said
+      ≡ go_on ended (go_on (λ bound. block_list b statements.outside >>= (λ made. leave >>= (λ _. given (bound, made)))) (go_on (λ _. given ([] ++ map rule.variable_of params)) said))
+  from_inner b (Ok x) = body_is b (closing (map rule.variable_of params)) x.1 ∙ ended_behind (block_list b statements.outside x.1)
+  from_inner b (Err fault) = refl
+
+  abbrev begun : Known → Known
+  begun known = record known { body = record { name = name; result = result; locals = []; declarators = 0 } }
+
+  body_as : (b : BlockTree) (known : Known) → rule.function_body b said name result params known ≡ go_on ended (inner_rule b params (begun known))
+  body_as b known = from_inner b (rule.bind_params params 0 (record (begun known) { scopes = [] ∷ known.scopes }))
+
+  abbrev known_behind : Known → Result (Known × Known) Fault → Known
+  known_behind other (Ok x) = x.1
+  known_behind other (Err fault) = other
+
+  at_mid : (b : BlockTree) (known mid : Known) → rule.body_begun name result known ≡ Ok (mid, mid) → rule.function_body b said name result params known ≡ go_on ended (inner_rule b params mid)
+  at_mid b known mid e = let same : begun known ≡ mid = ap (known_behind mid) e in body_as b known ∙ ap (λ k. go_on ended (inner_rule b params k)) same
+
+  pub function_made : (b : BlockTree) (known mid mid2 after : Known) (bound locals : List VariableTree) (made : List Statement) → rule.body_begun name result known ≡ Ok (mid, mid) → inner_rule b params mid ≡ Ok ((bound, made), mid2) → locals ≡ (mid2.body).locals → rule.body_ended mid2 ≡ Ok (after, after)
+      → rule.function_body b said name result params known ≡ Ok (made_of bound (statements.statements_of made) locals, after)
+  function_made b known mid mid2 after bound locals made e inner are over =
+      at_mid b known mid e ∙ ap (go_on ended) inner ∙ ap (go_on (λ _. given (made_of bound (statements.statements_of made) (mid2.body).locals))) over ∙ ap (λ l. Ok (made_of bound (statements.statements_of made) l, after)) (sym are)
+
+  pub function_refuses : (b : BlockTree) (known mid : Known) (e : CheckError) → rule.body_begun name result known ≡ Ok (mid, mid) → Refuses e (inner_rule b params mid) → Refuses e (rule.function_body b said name result params known)
+  function_refuses b known mid e begins h = subst (Refuses e) (sym (at_mid b known mid begins)) (passes_on ended (inner_rule b params mid) e h)
+
 -- ---- the functions of a unit
 
 pub function_more : (s : SpecTrees) (d : DeclaratorTree) (b : BlockTree) (is : List ItemTree) (known mid : Known) (made : FunctionTree) → rule.function s d b known ≡ Ok (made, mid) → rule.functions_of (tree.Function s d b ∷ is) known ≡ behind (made ∷ []) (rule.functions_of is) mid
@@ -97,7 +137,7 @@ with_none : {A : Type 0} (said : Result (List A × Known) Fault) → said ≡ go
 with_none (Ok x) = refl
 with_none (Err fault) = refl
 
-pub declaration_more : (d : DeclarationTree) (is : List ItemTree) (known mid seen : Known) → rule.file_declaration d known ≡ Ok (seen, mid) → rule.functions_of (tree.Declaration d ∷ is) known ≡ behind [] (rule.functions_of is) mid
+pub declaration_more : (d : DeclarationTree) (is : List ItemTree) (known mid seen : Known) → file_declaration d known ≡ Ok (seen, mid) → rule.functions_of (tree.Declaration d ∷ is) known ≡ behind [] (rule.functions_of is) mid
 declaration_more d is known mid seen e = ap (go_on (λ _. rule.functions_of is)) e ∙ with_none (rule.functions_of is mid)
 
 -- ---- the typed program

@@ -32,7 +32,6 @@ use std::alloc::Global;
 use std::mem;
 
 // Puts a name behind the others, if it isn't among them.
-#[tactic(auto, using(crate::proofs::Units::name_added))]
 fn put_name(alloc: Global, name: &[u8], names: &mut IndexSet<Vec<u8>>) -> Result<(), CheckError>
     ensures ok { OnOk result (map (λ name. name.items) names.new.keys ≡ rule.with_name name.now (map (λ name. name.items) names.old.keys)) }
     ensures err { IfErr result (λ e. e ≡ NoMemory) }
@@ -144,6 +143,7 @@ fn inner(
     Ok(Checked { params, statements })
 }
 
+#[tactic(auto, using(crate::proofs::Statements::same_statements, crate::proofs::Units::function_made, crate::proofs::Units::function_refuses))]
 fn function_body(
     function: &Function,
     checker: &mut Checker,
@@ -250,6 +250,7 @@ fn begun(alloc: Global, unit: &Unit) -> Result<Checker, CheckError>
 /// The typed tree of a unit (ISO/IEC 9899:1990, 6.1 to 6.7, in the subset), or the first node that breaks a
 /// rule on names and types: from left to right, operands before their operator, and at one node the first
 /// kind.
+#[tactic(auto, using(crate::proofs::Units::judged, crate::proofs::Units::misjudged))]
 pub fn check(alloc: Global, unit: &Unit) -> Result<Typed, CheckError>
     ensures { Checks result (rule.judged_unit (unit_of unit.now)) }
 {

@@ -14,4 +14,4 @@ abbrev pub invariant-if_chain-loop-other : goal.invariant-if_chain-loop-other
 invariant-if_chain-loop-other l = arms_behind (map arm_of l.arms.items) (views.arms_of (map views.else_arm_of (drop l.other-index l.other-items)) (views.otherwise_in (out-IfChain l.chain).last)) (flow_of l.flow) (known_of l.checker) ≡ chain_arms (views.arm_of ((out-IfChain l.chain).first).value) (views.arms_of (map views.else_arm_of (out-IfChain l.chain).others.items) (views.otherwise_in (out-IfChain l.chain).last)) (flow_of l.flow) (known_of l.fn.checker)
 
 abbrev pub invariant-switch_body-loop-item : goal.invariant-switch_body-loop-item
-invariant-switch_body-loop-item l = (rule.items (views.items_of (map views.switch_item_of (drop l.item-index l.items))) (flow_of l.flow) l.ty (body_of l.body) (known_of l.checker) ≡ rule.items (views.items_of (map views.switch_item_of l.items)) (flow_of l.flow) l.ty rule.no_items (known_of l.fn.checker)) × (l.body.ty ≡ l.ty) × Sees l.body
+invariant-switch_body-loop-item l = (rule.items (views.items_of (map views.switch_item_of (drop l.item-index l.items))) (flow_of l.flow) l.fn.ty (body_of l.body) (known_of l.checker) ≡ rule.items (views.items_of (map views.switch_item_of l.items)) (flow_of l.flow) l.fn.ty rule.no_items (known_of l.fn.checker)) × (l.body.ty ≡ l.fn.ty) × Sees l.body
