@@ -19,7 +19,7 @@ use c_ints::{IntTy, promote};
 use c_operate::checker::Checker;
 use c_operate::conversion::{assigned, converted};
 use c_operate::error::{CheckError, Kind, refused};
-use c_operate::sameness::{is_scalar, is_void};
+use crate::types::{is_scalar, is_void};
 use c_operate::term::{Operand, used};
 use c_tree::expression::Expr;
 use c_typed::{TExpr, TStmt, Ty};
