@@ -1,8 +1,11 @@
 pub mod Addresses
+pub mod Beginning
 pub mod Codes
 pub mod Evaluated
 pub mod Listing
 pub mod Locals
+pub mod Making
+pub mod Parting
 pub mod Puts
 pub mod Steps
 pub mod Texts

@@ -1,12 +1,12 @@
 -- Rules one behind the other and the calls that answer them: each path of `?`, tests of a node, and what has to be there.
 use Rattle.std.proofs.Common.{◌≡◌, ℕ, Bool, true, false, [], ◌∷◌, Option, Some, None, Result, Ok, Err, refl, sym, ap, subst, ◌∙◌}
+use Rattle.std.specs.Result.{IsErrAnd}
 use Rattle.type_rules.specs.Faults as rule
 use Rattle.type_rules.specs.Faults.{Fault, Tests}
 use Rattle.type_rules.specs.Known.{Known, Rule, tried, wanted, go_on, ◌>>=◌}
-use Rattle.c_operate.specs.Answers.{kind_of, fault_of, Refuses, Answers, Learns}
+use Rattle.c_operate.specs.Answers.{Refuses, Answers, Learns}
 use Rattle.c_operate.specs.declared.error.CheckError.{CheckError}
 use Rattle.c_operate.specs.declared.error.CheckError.TheVariants as errors
-use Rattle.c_operate.specs.declared.error.Kind.{Kind}
 
 -- ---- one rule behind another
 
@@ -96,3 +96,13 @@ then_wanted_none kind line found second known h = ap (λ o. (wanted kind line o 
 pub out_of_memory : {A B : Type 0} (e : CheckError) (x : A × Known) (said : Result (B × Known) Fault) → Refuses e (Ok x) → Refuses e said
 out_of_memory errors.NoMemory x said h = h
 out_of_memory (errors.Kind kind line) x said h = cc
+
+-- ---- `?` where the errors are of one type
+
+pub passed_on : {B X : Type 0} (view : X → B) (result : Result X CheckError) (after : Known) (said : Result (B × Known) Fault) (e : CheckError) → IsErrAnd result (λ y. y ≡ e) → Refuses e said → Answers view result after said
+passed_on view (Ok x) after said e h refuses = absurd h
+passed_on view (Err y) after said e h refuses = subst (λ z. Refuses z said) (sym h) refuses
+
+pub passed_on_test : (result : Result Unit CheckError) (after : Known) (said : Result (Known × Known) Fault) (e : CheckError) → IsErrAnd result (λ y. y ≡ e) → Refuses e said → Learns result after said
+passed_on_test (Ok x) after said e h refuses = absurd h
+passed_on_test (Err y) after said e h refuses = subst (λ z. Refuses z said) (sym h) refuses

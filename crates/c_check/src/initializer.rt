@@ -50,7 +50,6 @@ fn evaluated(value: &Assign, checker: &mut Checker) -> Result<Operand, CheckErro
 // Gives a part of an object what an initializer says, or nothing where no part takes it. `inside` says that it stands in
 // a list.
 #[cycle(initializer)]
-#[tactic(auto, using(crate::proofs::Listing::value_answered, crate::proofs::Listing::value_wrong, crate::proofs::Listing::text_answered, crate::proofs::Listing::list_answered, crate::proofs::Listing::first_wrong, crate::proofs::Listing::more_wrong))]
 fn initialize(
     init: &Init,
     checker: &mut Checker,
@@ -82,7 +81,6 @@ fn initialize(
 
 // The items behind the first: how many the list has.
 #[cycle(initializer)]
-#[tactic(auto, using(crate::proofs::Listing::item_wrong))]
 fn items(
     others: &[NextInit],
     checker: &mut Checker,

@@ -1,9 +1,9 @@
 //! Objects: static ones and locals (ISO/IEC 9899:1990, 6.1.2.4, 6.5.7 and 6.7.2).
 
-ghost use Rattle.std.specs.Prelude.{◌≡◌, ◌||◌, map, [], ◌∷◌, Some, IfOk};
+ghost use Rattle.std.specs.Prelude.{◌≡◌, ◌&&◌, ◌||◌, not, nat_le, nat_lt, map, [], ◌∷◌, Some, IfOk};
 ghost use Rattle.std.specs.Option.{option_map};
 ghost use Rattle.c_tree.specs.ProgramViews.{init_of};
-ghost use Rattle.c_typed.specs.Sameness.{is_scalar};
+ghost use Rattle.c_typed.specs.Sameness.{is_array, is_scalar};
 ghost use Rattle.c_typed.specs.Trees as typed;
 ghost use Rattle.c_typed.specs.Views.{expression_of, item_of, place_of, statement_of};
 ghost use Rattle.c_typed.specs.declared.expression.Object.TheVariants as objects;
@@ -11,6 +11,7 @@ ghost use Rattle.c_typed.specs.declared.types.Qualified.{Qualified};
 ghost use Rattle.type_rules.specs.Known.{ObjectName, Known, given};
 ghost use Rattle.type_rules.specs.Names as names;
 ghost use Rattle.type_rules.specs.Objects as rule;
+ghost use Rattle.type_rules.specs.Rows.{bytes_of, is_complete};
 ghost use Rattle.c_operate.specs.Answers.{Answers, Learns};
 ghost use Rattle.c_operate.specs.Tables.{known_of, scopes_in, types_in};
 ghost use Rattle.check_expr.specs.Views.{is_register, outline_of, specified_of};
@@ -18,7 +19,7 @@ ghost use Rattle.c_check.specs.Views.{any_init, only_one, slot_of};
 
 use crate::initializer::begun;
 use crate::slots::Slot;
-use crate::types::{is_array, is_scalar, like};
+use crate::types::{both, either, is_array, is_scalar, like};
 use c_operate::checker::Checker;
 use c_operate::error::{CheckError, Kind, refused};
 use c_operate::scope::{Binding, Scopes};
@@ -32,6 +33,28 @@ use std::alloc::{AllocError, Global};
 
 // The greatest number of bytes that an object has, and of elements that an array has.
 const MOST: u64 = 65_535;
+
+fn is_within(count: u64) -> bool
+    ensures { result ≡ nat_le count 65535 }
+{
+    count <= MOST
+}
+
+fn is_large(types: &Types, ty: Ty) -> bool
+    ensures { (known : Known) → result ≡ nat_lt 65535 (bytes_of (types_in types.now known) ty) }
+{
+    MOST < types.bytes_of(ty)
+}
+
+// Whether a type isn't one that an object can have; an initializer may give the length of an array.
+fn is_missing(types: &Types, ty: Ty, incomplete: bool, given: bool) -> bool
+    ensures { (known : Known) → result ≡ (incomplete || not ((given && is_array ty) || is_complete (types_in types.now known) ty)) }
+{
+    let open = both(given, is_array(ty));
+    let complete = types.is_complete(ty);
+    let usable = either(open, complete);
+    either(incomplete, !usable)
+}
 
 /// The type that an object is declared with; `given` says that an initializer may give its length.
 pub(crate) fn object_type(
@@ -54,20 +77,20 @@ pub(crate) fn object_type(
     if bad || specified.interrupt {
         return refused(Kind::Declare, line);
     }
-    if types.bytes_of(ty.ty) > MOST {
+    if is_large(types, ty.ty) {
         return refused(Kind::Size, line);
     }
-    let open = given && is_array(ty.ty);
-    if incomplete || !(open || types.is_complete(ty.ty)) {
+    if is_missing(types, ty.ty, incomplete, given) {
         return refused(Kind::Incomplete, line);
     }
     Ok(ty)
 }
 
-fn is_sized(types: &Types, whole: Ty, length: u32) -> bool
-    ensures { (known : Known) (q : Qualified) → q.ty ≡ whole → result ≡ rule.sized (types_in types.now known) q length }
+fn is_sized(types: &Types, whole: Qualified, length: u32) -> bool
+    ensures { (known : Known) → result ≡ rule.sized (types_in types.now known) whole length }
 {
-    length as u64 <= MOST && types.bytes_of(whole) <= MOST
+    let bytes = types.bytes_of(whole.ty);
+    both(is_within(length as u64), is_within(bytes))
 }
 
 // The type of an array whose initializer gives its length.
@@ -85,7 +108,7 @@ fn closed_array(
     };
     let element = like(ty, types.target(row).ty);
     let whole = types.array_of(element, length)?;
-    if is_sized(types, whole.ty, length) {
+    if is_sized(types, whole, length) {
         Ok(whole)
     } else {
         refused(Kind::Size, line)

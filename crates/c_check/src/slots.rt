@@ -1,6 +1,6 @@
 //! What an initializer initializes, part by part (ISO/IEC 9899:1990, 6.5.7).
 
-ghost use Rattle.std.specs.Prelude.{◌≡◌, ◌+◌, ◌*◌, if◌then◌else◌, nat_eq, slice_get, Some, None, IfErr, IfOk};
+ghost use Rattle.std.specs.Prelude.{◌≡◌, ◌+◌, ◌*◌, ◌&&◌, not, nat_le, if◌then◌else◌, nat_eq, slice_get, Some, None, IfErr, IfOk};
 ghost use Rattle.type_rules.specs.Initializers as lists;
 ghost use Rattle.type_rules.specs.Known.{Known};
 ghost use Rattle.type_rules.specs.Rows.{fields_of, like, target_of};
@@ -99,7 +99,7 @@ fn part_of(types: &Types, slot: Slot, number: u32) -> Result<Option<Slot>, Check
             length,
             ..
         } => {
-            if length != 0 && length <= number {
+            if is_past(length, number) {
                 Ok(None)
             } else {
                 Ok(Some(element(types, slot, row, number)?))
@@ -108,6 +108,13 @@ fn part_of(types: &Types, slot: Slot, number: u32) -> Result<Option<Slot>, Check
         Ty::Struct(structure) => member(types, slot, structure, number),
         Ty::Void | Ty::Int(_) | Ty::Pointer(_) => Ok(scalar_part(slot, number)),
     }
+}
+
+// Whether an array of this length, 0 where it isn't known, has no element of the number.
+fn is_past(length: u32, number: u32) -> bool
+    ensures { result ≡ (not (nat_eq length 0) && nat_le length number) }
+{
+    length != 0 && length <= number
 }
 
 // A scalar is its own first part.

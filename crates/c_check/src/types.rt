@@ -1,6 +1,6 @@
 //! Questions on types that the rules of objects ask.
 
-ghost use Rattle.std.specs.Prelude.{◌≡◌};
+ghost use Rattle.std.specs.Prelude.{◌≡◌, ◌&&◌, ◌||◌};
 ghost use Rattle.c_typed.specs.Sameness as stated;
 ghost use Rattle.c_typed.specs.declared.types.Ty.TheVariants.{Array};
 ghost use Rattle.type_rules.specs.Rows.{like};
@@ -111,4 +111,18 @@ pub(crate) fn like(whole: Qualified, ty: Ty) -> Qualified
         constant: whole.constant,
         volatile: whole.volatile,
     }
+}
+
+/// Whether both hold.
+pub(crate) fn both(a: bool, b: bool) -> bool
+    ensures { result ≡ (a && b) }
+{
+    a && b
+}
+
+/// Whether one of them holds.
+pub(crate) fn either(a: bool, b: bool) -> bool
+    ensures { result ≡ (a || b) }
+{
+    a || b
 }
