@@ -9,11 +9,11 @@ use Rattle.type_rules.specs.Declarators.{in_block, in_file, specified}
 use Rattle.type_rules.specs.Faults as kind
 use Rattle.type_rules.specs.Faults.{Fault}
 use Rattle.type_rules.specs.Known.{Binding, ObjectName, BitName, FunctionName, Known, Rule, given, tried, go_on, ◌>>=◌}
-use Rattle.type_rules.specs.Names.{innermost_in}
-use Rattle.type_rules.specs.Objects.{static_rule, block_name, local_rule}
+use Rattle.type_rules.specs.Names.{innermost_in, tests_of_new}
+use Rattle.type_rules.specs.Objects.{object_rule, static_rule, block_name, local_rule}
 use Rattle.type_rules.specs.Outlines.{Outline, Param}
 use Rattle.type_rules.specs.Specifiers.{Specified}
-use Rattle.c_operate.specs.Answers.{Refuses}
+use Rattle.c_operate.specs.Answers.{Learns, Refuses}
 use Rattle.c_operate.specs.declared.error.CheckError.{CheckError}
 use Rattle.c_operate.specs.declared.error.CheckError.TheVariants as errors
 use Rattle.c_check.specs.StatementViews.{behind, function_known}
@@ -94,3 +94,24 @@ in_block_more n b bs said known mid made e = ap (go_on (λ first. rule.more_in_b
 
 pub declaration_more : (d : DeclarationTree) (ds : List DeclarationTree) (known mid : Known) (made : List Statement) → rule.block_declaration d known ≡ Ok (made, mid) → rule.block_declarations (d ∷ ds) known ≡ behind made (rule.block_declarations ds) mid
 declaration_more d ds known mid made e = ap (go_on (λ first. rule.block_declarations ds >>= (λ others. given (first ++ others)))) e
+
+-- ---- objects of the file
+
+module _ (said : Specified) (o : Outline) (init : Option InitTree) (name : List ℕ) (line : ℕ) (known : Known) where
+  abbrev behind_again : Rule Known
+  behind_again = object_rule said o (is_some init) line >>= (λ ty. static_rule init name name ty line)
+
+  pub object_first : (e : CheckError) → Refuses e (tests_of_new known name line known) → Refuses e (rule.file_object said o init name line known)
+  object_first e h = passes_on (λ _. behind_again) (tests_of_new known name line known) e h
+
+  at_type : tests_of_new known name line known ≡ Ok (known, known) → rule.file_object said o init name line known ≡ behind_again known
+  at_type h = ap (go_on (λ _. behind_again)) h
+
+  at_given : (given : Bool) → given ≡ is_some init → go_on (λ ty. static_rule init name name ty line) (object_rule said o given line known) ≡ behind_again known
+  at_given given is = ap (λ b. go_on (λ ty. static_rule init name name ty line) (object_rule said o b line known)) is
+
+  pub object_next : (given : Bool) (e : CheckError) → given ≡ is_some init → tests_of_new known name line known ≡ Ok (known, known) → Refuses e (object_rule said o given line known) → Refuses e (rule.file_object said o init name line known)
+  object_next given e is new h = subst (Refuses e) (at_given given is ∙ sym (at_type new)) (passes_on (λ ty. static_rule init name name ty line) (object_rule said o given line known) e h)
+
+  pub object_last : (given : Bool) (ty : Qualified) (result : Result Unit CheckError) (after : Known) → given ≡ is_some init → tests_of_new known name line known ≡ Ok (known, known) → object_rule said o given line known ≡ Ok (ty, known) → Learns result after (static_rule init name name ty line known) → Learns result after (rule.file_object said o init name line known)
+  object_last given ty result after is new typed h = subst (Learns result after) (sym (ap (go_on (λ t. static_rule init name name t line)) typed) ∙ at_given given is ∙ sym (at_type new)) h

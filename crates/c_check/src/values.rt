@@ -25,6 +25,7 @@ use c_tree::expression::Expr;
 use c_typed::{TExpr, TStmt, Ty};
 use check_expr::expression::expression;
 
+#[tactic(auto, using(crate::proofs::Evaluated::value_is, crate::proofs::Evaluated::judged_wrong))]
 fn evaluated(expr: &Expr, checker: &mut Checker) -> Result<Operand, CheckError>
     ensures { Answers operand_of result (known_of checker.new) (value_of (expr_of expr.now) (known_of checker.old)) }
 {

@@ -1,0 +1,30 @@
+use Rattle.std.proofs.Common.{Bool, ap, sym, subst, ◌∙◌}
+use Rattle.std.proofs.lemmas.Result.{err_from_is_err_and}
+use Rattle.c_tree.specs.ProgramViews.{equals_of}
+use Rattle.type_rules.specs.Declarations.{init_in}
+use Rattle.type_rules.specs.Known.{go_on, ◌>>=◌}
+use Rattle.type_rules.specs.Names.{tests_of_new}
+use Rattle.type_rules.specs.Objects.{object_rule, static_rule}
+use Rattle.c_operate.specs.Answers.{Refuses, Learns}
+use Rattle.c_operate.specs.Tables.{known_of}
+use Rattle.check_expr.specs.Views.{outline_of, specified_of}
+use Rattle.c_operate.proofs.Steps.{then_refuses}
+use Rattle.c_check.proofs.Declared.{object_first, object_next, object_last}
+use Rattle.c_check.proofs.declaration.file_object.Goals as goal
+
+pub returns-in_err-refuse_again : goal.returns-in_err-refuse_again
+returns-in_err-refuse_again c =
+    let p = err_from_is_err_and c.from_residual.result c.from_residual.ensures.1 in
+    let known = known_of c.args.checker.now in
+    rw (p.1, p.2) (object_first (specified_of c.args.specified) (outline_of c.args.outline) (init_in (equals_of c.args.init.now)) c.args.name.now c.args.line known _ (c.in_err-refuse_again.ensures known))
+
+pub returns-in_err-ty : goal.returns-in_err-ty
+returns-in_err-ty c =
+    let p = err_from_is_err_and c.from_residual-in_err-ty.result c.from_residual-in_err-ty.ensures.1 in
+    let known = known_of c.args.checker.now in
+    rw (p.1, p.2) (object_next (specified_of c.args.specified) (outline_of c.args.outline) (init_in (equals_of c.args.init.now)) c.args.name.now c.args.line known c.is_given.result _ c.is_given.ensures.value (c.in_ok-refuse_again.ensures known) (c.in_err-ty.ensures known))
+
+pub returns : goal.returns
+returns c =
+    let known = known_of c.args.checker.now in
+    object_last (specified_of c.args.specified) (outline_of c.args.outline) (init_in (equals_of c.args.init.now)) c.args.name.now c.args.line known c.is_given.result c.in_ok-ty.ty c.static_object.result (known_of c.static_object.new.checker) c.is_given.ensures.value (c.in_ok-refuse_again.ensures known) (c.in_ok-ty.ensures known) ?
