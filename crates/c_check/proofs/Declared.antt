@@ -10,13 +10,13 @@ use Rattle.type_rules.specs.Faults as kind
 use Rattle.type_rules.specs.Faults.{Fault}
 use Rattle.type_rules.specs.Known.{Binding, ObjectName, BitName, FunctionName, Known, Rule, given, tried, go_on, ◌>>=◌}
 use Rattle.type_rules.specs.Names.{innermost_in, tests_of_new}
-use Rattle.type_rules.specs.Objects.{object_rule, static_rule, block_name, local_rule}
+use Rattle.type_rules.specs.Objects.{next_declarator, object_rule, static_rule, block_name, local_rule}
 use Rattle.type_rules.specs.Outlines.{Outline, Param}
 use Rattle.type_rules.specs.Specifiers.{Specified}
-use Rattle.c_operate.specs.Answers.{Learns, Refuses}
+use Rattle.c_operate.specs.Answers.{Answers, Learns, Refuses}
 use Rattle.c_operate.specs.declared.error.CheckError.{CheckError}
 use Rattle.c_operate.specs.declared.error.CheckError.TheVariants as errors
-use Rattle.c_check.specs.StatementViews.{behind, function_known}
+use Rattle.c_check.specs.StatementViews.{behind, function_known, object_in_block}
 use Rattle.c_check.proofs.Lists.{passes_on}
 
 -- ---- functions
@@ -115,3 +115,21 @@ module _ (said : Specified) (o : Outline) (init : Option InitTree) (name : List 
 
   pub object_last : (given : Bool) (ty : Qualified) (result : Result Unit CheckError) (after : Known) → given ≡ is_some init → tests_of_new known name line known ≡ Ok (known, known) → object_rule said o given line known ≡ Ok (ty, known) → Learns result after (static_rule init name name ty line known) → Learns result after (rule.file_object said o init name line known)
   object_last given ty result after is new typed h = subst (Learns result after) (sym (ap (go_on (λ t. static_rule init name name t line)) typed) ∙ at_given given is ∙ sym (at_type new)) h
+
+-- ---- objects of blocks behind their type
+
+module _ (said : Specified) (o : Outline) (init : Option (ℕ × InitTree)) (name : List ℕ) (line : ℕ) (known : Known) (given_value : Bool) (is : given_value ≡ is_some init) where
+  abbrev numbered : Qualified → Rule (List Statement)
+  numbered ty = next_declarator >>= (λ k. rule.block_object said ty (rule.init_in init) name k line)
+
+  typed_at : go_on numbered (object_rule said o given_value line known) ≡ object_in_block said o init name line known
+  typed_at = ap (λ b. go_on numbered (object_rule said o b line known)) is
+
+  pub block_first : (e : CheckError) → Refuses e (object_rule said o given_value line known) → Refuses e (object_in_block said o init name line known)
+  block_first e h = subst (Refuses e) typed_at (passes_on numbered (object_rule said o given_value line known) e h)
+
+  pub block_next : (ty : Qualified) (e : CheckError) → object_rule said o given_value line known ≡ Ok (ty, known) → Refuses e (next_declarator known) → Refuses e (object_in_block said o init name line known)
+  block_next ty e typed h = subst (Refuses e) (sym (ap (go_on numbered) typed) ∙ typed_at) (passes_on (λ k. rule.block_object said ty (rule.init_in init) name k line) (next_declarator known) e h)
+
+  pub block_last : {X : Type 0} (view : X → List Statement) (ty : Qualified) (k : ℕ) (mid after : Known) (result : Result X CheckError) → object_rule said o given_value line known ≡ Ok (ty, known) → next_declarator known ≡ Ok (k, mid) → Answers view result after (rule.block_object said ty (rule.init_in init) name k line mid) → Answers view result after (object_in_block said o init name line known)
+  block_last view ty k mid after result typed number h = subst (Answers view result after) (sym (ap (go_on (λ n. rule.block_object said ty (rule.init_in init) name n line)) number) ∙ sym (ap (go_on numbered) typed) ∙ typed_at) h
