@@ -1,5 +1,5 @@
 -- What a value or a string gives to a part, path by path.
-use Rattle.std.proofs.Common.{◌≡◌, ℕ, Bool, true, false, not, if◌then◌else◌, List, Option, Some, None, Result, Ok, Err, sym, ap, subst, ◌∙◌}
+use Rattle.std.proofs.Common.{◌≡◌, ℕ, Bool, true, not, if◌then◌else◌, List, Option, Some, None, Result, Ok, Err, sym, ap, subst, ◌∙◌}
 use Rattle.std.specs.Prelude.{IfErr, OnOk}
 use Rattle.c_tree.specs.Words.{Symbol}
 use Rattle.c_typed.specs.Sameness.{same_type}
@@ -10,7 +10,7 @@ use Rattle.c_typed.specs.declared.types.Ty.{Ty}
 use Rattle.type_rules.specs.Conversions.{assigned}
 use Rattle.type_rules.specs.Faults as kind
 use Rattle.type_rules.specs.Faults.{Fault}
-use Rattle.type_rules.specs.Known.{Known, Rule, go_on, given, wanted, ◌>>=◌}
+use Rattle.type_rules.specs.Known.{Known, go_on, given, wanted, ◌>>=◌}
 use Rattle.type_rules.specs.Rows.{bytes_of}
 use Rattle.type_rules.specs.Slots as rule
 use Rattle.type_rules.specs.Slots.{Slot, Begun, with_item, value_line, text_of}
@@ -20,7 +20,7 @@ use Rattle.c_operate.specs.Answers.{Answers, Refuses}
 use Rattle.c_operate.specs.declared.error.CheckError.{CheckError}
 use Rattle.c_operate.specs.declared.error.CheckError.TheVariants.{NoMemory}
 use Rattle.c_check.specs.Views.{begin_scalar}
-use Rattle.c_check.proofs.Steps.{then_refuses, then_tried_false, then_wanted_some}
+use Rattle.c_operate.proofs.Steps.{then_refuses, then_tried_false}
 
 -- a call that only puts something
 pub put_answers : (result : Result Unit CheckError) (now made : Begun) (known : Known) (said : Result (Begun × Known) Fault) → OnOk result (now ≡ made) → IfErr result (λ e. e ≡ NoMemory) → said ≡ Ok (made, known) → Answers (λ _. now) result known said
@@ -47,12 +47,12 @@ module _ (view : Unit → Begun) (result : Result Unit CheckError) (known : Know
   pub static_value : (slot : Slot) (inside : Bool) (x : Operand) (b : Begun) (line : ℕ) → b.static_object ≡ true → line ≡ value_line inside x.line b → Answers view result known (rule.begin_static slot.ty.ty slot x line b known) → Answers view result known (rule.begin_value slot inside x b known)
   static_value slot inside x b line fixed at answer =
       subst (λ (f : Bool). Answers view result known ((if f then rule.begin_static slot.ty.ty slot x (value_line inside x.line b) b else rule.begin_local slot.ty.ty slot x (value_line inside x.line b) b) known)) (sym fixed)
-          (subst (λ l. Answers view result known (rule.begin_static slot.ty.ty slot x l b known)) at answer)
+      (subst (λ l. Answers view result known (rule.begin_static slot.ty.ty slot x l b known)) at answer)
 
   pub text_some : (slot : Slot) (inside : Bool) (s : Symbol) (b : Begun) (found : Option ℕ) (count : ℕ) (bytes literal : List ℕ) → found ≡ rule.char_array known slot.ty.ty → found ≡ Some count → bytes ≡ text_of literal → literal ≡ s.bytes → Answers view result known (rule.begin_characters slot count bytes s.line b known) → Answers view result known (rule.begin_text slot inside s b known)
   text_some slot inside s b found count bytes literal tested is read whole answer =
       subst (λ o. Answers view result known (rule.begin_text_by o slot inside s b known)) (sym is ∙ tested)
-          (subst (λ t. Answers view result known (rule.begin_characters slot count t s.line b known)) (read ∙ ap text_of whole) answer)
+      (subst (λ t. Answers view result known (rule.begin_characters slot count t s.line b known)) (read ∙ ap text_of whole) answer)
 
   pub text_none : (slot : Slot) (inside : Bool) (s : Symbol) (b : Begun) (found : Option ℕ) → found ≡ rule.char_array known slot.ty.ty → found ≡ None → Answers view result known (rule.refused_text slot inside s.line b known) → Answers view result known (rule.begin_text slot inside s b known)
   text_none slot inside s b found tested is answer = subst (λ o. Answers view result known (rule.begin_text_by o slot inside s b known)) (sym is ∙ tested) answer

@@ -7,7 +7,6 @@ pub mod Locals
 pub mod Making
 pub mod Parting
 pub mod Puts
-pub mod Steps
 pub mod Texts
 pub mod Declared
 pub mod Items

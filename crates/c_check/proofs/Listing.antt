@@ -1,5 +1,5 @@
 -- Initializers by their forms, and the items of a list in braces, read on from one of them.
-use Rattle.std.proofs.Common.{◌≡◌, ℕ, suc, ◌+◌, ◌<◌, ◌≤◌, Bool, true, List, [], ◌∷◌, map, length, drop, get_or, Option, Some, None, Result, Ok, Err, refl, sym, ap, subst, ◌∙◌, arith, drop-cons, add-one, Vec, Global}
+use Rattle.std.proofs.Common.{◌≡◌, ℕ, suc, ◌+◌, ◌<◌, ◌≤◌, Bool, true, List, ◌∷◌, map, length, drop, get_or, Option, Result, Ok, refl, sym, ap, subst, ◌∙◌, arith, drop-cons, Vec, Global}
 use Rattle.std.specs.Global.{Box}
 use Rattle.std.proofs.lemmas.List.{drop_all}
 use Rattle.c_tree.proofs.ProgramShapes.{show_init_assign, show_init_text, show_init_list, show_next_init}
@@ -136,7 +136,7 @@ module _ {A : Type 0} (view : A → Begun) (result : Result A CheckError) (end :
       → Answers view result end (list_closed slot n opening all after) → Answers view result end (begins (init_of init) slot inside b known)
   list_answered init opening first others comma closing head tail slot p inside n b one all known mid after is top rest taken read more many answer =
       subst (Answers view result end) (sym (list_read (more_inits (map next_init_of tail)) (init_of head) p slot opening n b one all known mid after (begins (init_of init) slot inside b known)
-          (listed_by init opening first others comma closing head tail slot p inside b known is top rest taken) read more many)) answer
+      (listed_by init opening first others comma closing head tail slot p inside b known is top rest taken) read more many)) answer
 
 pub value_wrong : (fault : CheckError) (init : Init) (value : Assign) (slot : Option Slot) (inside : Bool) (b : Begun) (known : Known) → init ≡ Inits.Assign value → Refuses fault (value_of (assign_of value) known) → Refuses fault (begins (init_of init) slot inside b known)
 value_wrong errors.NoMemory init value slot inside b known is h = h
@@ -146,10 +146,10 @@ pub first_wrong : (fault : CheckError) (init : Init) (opening : ℕ) (first : Bo
     → Refuses fault (begins (init_of head) p true b known) → Refuses fault (begins (init_of init) slot inside b known)
 first_wrong fault init opening first others comma closing head slot p inside b known is top taken h =
     subst (Refuses fault) (sym (listed_by init opening first others comma closing head others.items slot p inside b known is top refl taken))
-        (refuses_behind fault (behind_first (more_inits (map next_init_of others.items)) slot opening) (begins (init_of head) p true b known) h)
+    (refuses_behind fault (behind_first (more_inits (map next_init_of others.items)) slot opening) (begins (init_of head) p true b known) h)
 
 pub more_wrong : (fault : CheckError) (init : Init) (opening : ℕ) (first : Box Init) (others : Vec NextInit Global) (comma : Option ℕ) (closing : ℕ) (head : Init) (tail : List NextInit) (slot p : Option Slot) (inside : Bool) (b one : Begun) (known mid : Known) → init ≡ Inits.List opening first others comma closing → head ≡ first.value → tail ≡ others.items → p ≡ part known slot 0
     → begins (init_of head) p true b known ≡ Ok (one, mid) → Refuses fault (more_begins (more_inits (map next_init_of tail)) slot 1 one mid) → Refuses fault (begins (init_of init) slot inside b known)
 more_wrong fault init opening first others comma closing head tail slot p inside b one known mid is top rest taken read h =
     subst (Refuses fault) (sym (listed_by init opening first others comma closing head tail slot p inside b known is top rest taken ∙ ap (go_on (behind_first (more_inits (map next_init_of tail)) slot opening)) read))
-        (refuses_behind fault (λ all. list_closed slot (suc (items_in (more_inits (map next_init_of tail)))) opening all) (more_begins (more_inits (map next_init_of tail)) slot 1 one mid) h)
+    (refuses_behind fault (λ all. list_closed slot (suc (items_in (more_inits (map next_init_of tail)))) opening all) (more_begins (more_inits (map next_init_of tail)) slot 1 one mid) h)

@@ -1,5 +1,5 @@
 -- What the declarator of a local does, by the items that its initializer gave.
-use Rattle.std.proofs.Common.{◌≡◌, ℕ, ◌+◌, ◌-◌, ◌<◌, Bool, true, false, ◌||◌, if◌then◌else◌, List, [], ◌∷◌, ◌++◌, map, length, get_or, Option, Some, None, Result, Ok, refl, sym, ap, subst, ◌∙◌, arith, Vec, Global}
+use Rattle.std.proofs.Common.{◌≡◌, ℕ, ◌-◌, ◌<◌, Bool, true, false, ◌||◌, if◌then◌else◌, List, [], ◌∷◌, ◌++◌, map, length, get_or, Option, Some, None, Result, Ok, refl, sym, ap, subst, ◌∙◌, arith, Vec, Global}
 use Rattle.std.specs.Global.{Box}
 use Rattle.std.specs.Option.{option_map}
 use Rattle.std.specs.Vec.{vec_len}
@@ -22,7 +22,6 @@ use Rattle.c_typed.specs.declared.statement.TItem.TheVariants as TItems
 use Rattle.c_typed.specs.declared.statement.TStmt.{TStmt}
 use Rattle.c_typed.specs.declared.statement.TStmt.TheVariants as TStatements
 use Rattle.c_typed.specs.declared.types.Qualified.{Qualified}
-use Rattle.type_rules.specs.Faults.{Fault}
 use Rattle.type_rules.specs.Known.{Known}
 use Rattle.type_rules.specs.Objects.{is_expression, begun_as_one, local_statements}
 use Rattle.c_operate.specs.Answers.{Answers}
@@ -91,8 +90,8 @@ struct_begun items found item offset from size value local ty line known none fi
     let list : both ≡ TStatements.Declare local line ∷ TStatements.Expr value line ∷ [] = all ∙ ap (λ xs. xs ++ TStatements.Expr value line ∷ []) (put ∙ ap (λ xs. xs ++ TStatements.Declare local line ∷ []) empty) in
     ap (λ xs. begun_as_one local ty xs line known) (from_one items (typed.Struct offset (place_of from) size) e)
     ∙ sym (ap (λ xs. Ok (map statement_of xs, known)) list
-        ∙ ap (λ s. Ok (s ∷ statement_of (TStatements.Expr value line) ∷ [], known)) (show_statement_declare local line)
-        ∙ ap (λ s. Ok (typed.Declare local line ∷ s ∷ [], known)) (show_statement_expr value line ∙ ap (λ v. typed.Expr v line) assigned))
+    ∙ ap (λ s. Ok (s ∷ statement_of (TStatements.Expr value line) ∷ [], known)) (show_statement_declare local line)
+    ∙ ap (λ s. Ok (typed.Declare local line ∷ s ∷ [], known)) (show_statement_expr value line ∙ ap (λ v. typed.Expr v line) assigned))
 
 -- ---- as one value or as a list
 
@@ -105,4 +104,4 @@ pub list_begun : (one : Bool) (init : InitTree) (local : ℕ) (ty : Qualified) (
     → Answers (λ made. map statement_of made.items) result known (Ok (statement_of (TStatements.InitList local items line) ∷ [], known)) → Answers (λ made. map statement_of made.items) result known (local_statements init local ty (map item_of items.items) line known)
 list_begun one init local ty items line known result is e answer =
     subst (λ (t : Bool). Answers (λ made. map statement_of made.items) result known ((if t then begun_as_one local ty (map item_of items.items) line else (λ k. Ok (typed.InitList local (map item_of items.items) line ∷ [], k))) known)) (sym e ∙ is)
-        (subst (λ (s : Statement). Answers (λ made. map statement_of made.items) result known (Ok (s ∷ [], known))) (show_statement_init_list local items line) answer)
+    (subst (λ (s : Statement). Answers (λ made. map statement_of made.items) result known (Ok (s ∷ [], known))) (show_statement_init_list local items line) answer)

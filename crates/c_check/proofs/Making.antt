@@ -1,5 +1,5 @@
 -- The rules of objects, path by path: their types, static objects, locals.
-use Rattle.std.proofs.Common.{◌≡◌, ℕ, Bool, true, false, not, ◌&&◌, ◌||◌, nat_lt, List, [], ◌∷◌, map, Option, Some, None, Result, Ok, Err, refl, sym, ap, subst, ◌∙◌, Vec, Global}
+use Rattle.std.proofs.Common.{◌≡◌, ℕ, Bool, true, false, not, ◌&&◌, ◌||◌, nat_lt, List, [], ◌∷◌, map, Option, Some, None, Result, Ok, Err, sym, ap, subst, ◌∙◌, Vec, Global}
 use Rattle.c_tree.specs.Programs.{InitTree}
 use Rattle.c_typed.specs.Sameness.{is_array}
 use Rattle.c_typed.specs.Trees as typed
@@ -24,7 +24,7 @@ use Rattle.c_operate.specs.Answers.{Answers, Learns, Refuses}
 use Rattle.c_operate.specs.declared.error.CheckError.{CheckError}
 use Rattle.c_operate.specs.declared.error.CheckError.TheVariants as errors
 use Rattle.c_operate.specs.declared.error.Kind.TheVariants as kinds
-use Rattle.c_check.proofs.Steps.{then_ok, then_refuses, then_answers, then_learns, tried_true, tried_false}
+use Rattle.c_operate.proofs.Steps.{then_refuses, tried_true, tried_false}
 
 -- ---- the type of an object
 
@@ -44,7 +44,7 @@ module _ (known : Known) (said : Specified) (o : Outline) (begun : Bool) (line :
   pub object_large : (result : Result Qualified CheckError) (large : Bool) → large ≡ nat_lt 65535 (bytes_of known ty.ty) → large ≡ true → result ≡ Err (errors.Kind kinds.Size line) → Answers (λ t. t) result known (rule.object_rule said o begun line known)
   object_large result large is so answer =
       refused_as (λ t. t) result known (rule.object_rule said o begun line known) (errors.Kind kinds.Size line) answer
-          (ap (go_on (λ _. given (object_type o.declared))) (behind_first ∙ tried_true (nat_lt 65535 (bytes_of known (object_type o.declared).ty)) kind.Size ((o.incomplete || not ((begun && is_array (object_type o.declared).ty) || is_complete known (object_type o.declared).ty), kind.Incomplete) ∷ []) line known (size_of large is ∙ so)))
+      (ap (go_on (λ _. given (object_type o.declared))) (behind_first ∙ tried_true (nat_lt 65535 (bytes_of known (object_type o.declared).ty)) kind.Size ((o.incomplete || not ((begun && is_array (object_type o.declared).ty) || is_complete known (object_type o.declared).ty), kind.Incomplete) ∷ []) line known (size_of large is ∙ so)))
 
   behind_second : (large : Bool) → large ≡ nat_lt 65535 (bytes_of known ty.ty) → large ≡ false → tried (rule.object_tests known said o begun) line known ≡ tried ((o.incomplete || not ((begun && is_array (object_type o.declared).ty) || is_complete known (object_type o.declared).ty), kind.Incomplete) ∷ []) line known
   behind_second large is so = behind_first ∙ tried_false (nat_lt 65535 (bytes_of known (object_type o.declared).ty)) kind.Size ((o.incomplete || not ((begun && is_array (object_type o.declared).ty) || is_complete known (object_type o.declared).ty), kind.Incomplete) ∷ []) line known (size_of large is ∙ so)
@@ -55,7 +55,7 @@ module _ (known : Known) (said : Specified) (o : Outline) (begun : Bool) (line :
   pub object_missing : (result : Result Qualified CheckError) (large missing : Bool) → large ≡ nat_lt 65535 (bytes_of known ty.ty) → large ≡ false → missing ≡ (o.incomplete || not ((begun && is_array ty.ty) || is_complete known ty.ty)) → missing ≡ true → result ≡ Err (errors.Kind kinds.Incomplete line) → Answers (λ t. t) result known (rule.object_rule said o begun line known)
   object_missing result large missing is so tested wrong answer =
       refused_as (λ t. t) result known (rule.object_rule said o begun line known) (errors.Kind kinds.Incomplete line) answer
-          (ap (go_on (λ _. given (object_type o.declared))) (behind_second large is so ∙ tried_true (o.incomplete || not ((begun && is_array (object_type o.declared).ty) || is_complete known (object_type o.declared).ty)) kind.Incomplete [] line known (missing_is missing tested ∙ wrong)))
+      (ap (go_on (λ _. given (object_type o.declared))) (behind_second large is so ∙ tried_true (o.incomplete || not ((begun && is_array (object_type o.declared).ty) || is_complete known (object_type o.declared).ty)) kind.Incomplete [] line known (missing_is missing tested ∙ wrong)))
 
   pub object_whole : (large missing : Bool) → large ≡ nat_lt 65535 (bytes_of known ty.ty) → large ≡ false → missing ≡ (o.incomplete || not ((begun && is_array ty.ty) || is_complete known ty.ty)) → missing ≡ false → rule.object_rule said o begun line known ≡ Ok (ty, known)
   object_whole large missing is so tested there =
@@ -82,8 +82,8 @@ module _ (ty : Qualified) (row n line : ℕ) (count : Option ℕ) (element targe
   pub closed_large : (whole : Qualified) (after : Known) (fits : Bool) (result : Result Qualified CheckError) → array_of element n known ≡ Ok (whole, after) → fits ≡ rule.sized after whole n → fits ≡ false → result ≡ Err (errors.Kind kinds.Size line) → Answers (λ t. t) result after (rule.closed_array ty row count line known)
   closed_large whole after fits result given_whole tested so answer =
       refused_as (λ t. t) result after (rule.closed_array ty row count line known) (errors.Kind kinds.Size line) answer
-          (closed_from ∙ ap (go_on (λ w. behind_whole w n line)) given_whole
-          ∙ ap (go_on (λ _. given whole)) (tried_true (not (rule.sized after whole n)) kind.Size [] line after (ap not (sym tested ∙ so))))
+      (closed_from ∙ ap (go_on (λ w. behind_whole w n line)) given_whole
+      ∙ ap (go_on (λ _. given whole)) (tried_true (not (rule.sized after whole n)) kind.Size [] line after (ap not (sym tested ∙ so))))
 
 -- ---- static objects
 

@@ -1,5 +1,5 @@
 -- The characters of a string, read on from a place inside it.
-use Rattle.std.proofs.Common.{ℕ, zero, suc, ◌+◌, ◌-◌, ◌<◌, ◌≤◌, ◌≡◌, List, [], ◌∷◌, ◌++◌, length, drop, take, get_or, arith, ap, sym, ◌∙◌, refl, add-one, eq-eqb, ne_eqb, cond, length-drop, append-nil, append_assoc, add-zero}
+use Rattle.std.proofs.Common.{ℕ, zero, suc, ◌+◌, ◌-◌, ◌<◌, ◌≤◌, ◌≡◌, List, [], ◌∷◌, ◌++◌, length, drop, take, get_or, arith, ap, sym, ◌∙◌, refl, eq-eqb, ne_eqb, cond, length-drop, append-nil, append_assoc, add-zero}
 use Rattle.std.proofs.lemmas.List.{get_or-drop, drop_all, drop-drop, take_all}
 use Rattle.c_token.specs.Constant.{element_at}
 use Rattle.type_rules.specs.Slots.{characters, or_nothing}

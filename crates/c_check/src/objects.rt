@@ -190,7 +190,13 @@ fn begin_static(
 {
     let sink = begun(init, checker, Some(whole_of(ty)), true, line)?;
     let whole = closed(&mut checker.types, ty, sink.length, line)?;
-    bind_object(&mut checker.scopes, name, Object::Static(number), whole, false)?;
+    bind_object(
+        &mut checker.scopes,
+        name,
+        Object::Static(number),
+        whole,
+        false,
+    )?;
     checker.statics.complete(number, whole, sink.initial);
     Ok(())
 }
@@ -280,7 +286,13 @@ fn begin_local(
 {
     let sink = begun(init, checker, Some(whole_of(ty)), false, line)?;
     let whole = closed(&mut checker.types, ty, sink.length, line)?;
-    bind_object(&mut checker.scopes, name, Object::Local(local), whole, fixed)?;
+    bind_object(
+        &mut checker.scopes,
+        name,
+        Object::Local(local),
+        whole,
+        fixed,
+    )?;
     checker.body.complete_local(local, whole);
     local_statements(init, checker.alloc, local, whole, sink.items, line)
 }

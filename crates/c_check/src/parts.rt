@@ -104,11 +104,7 @@ fn next(offset: u64) -> Result<u64, CheckError>
 }
 
 #[tactic(auto, using(crate::proofs::Puts::one_more, crate::proofs::Puts::all_put))]
-fn push_bytes(
-    begun: &mut Vec<Initial>,
-    offset: u64,
-    bytes: &[u8],
-) -> Result<(), CheckError>
+fn push_bytes(begun: &mut Vec<Initial>, offset: u64, bytes: &[u8]) -> Result<(), CheckError>
     ensures ok { OnOk result (begun.new.items ≡ begun.old.items ++ rule.bytes_at offset bytes.now) }
     ensures err { IfErr result (λ e. e ≡ NoMemory) }
 {
@@ -149,12 +145,7 @@ fn pattern(ty: IntTy, value: Value) -> u32
 }
 
 // The bytes of a number, the lowest first.
-fn put_number(
-    sink: &mut Sink,
-    offset: u64,
-    ty: IntTy,
-    value: Value,
-) -> Result<(), CheckError>
+fn put_number(sink: &mut Sink, offset: u64, ty: IntTy, value: Value) -> Result<(), CheckError>
     ensures ok { OnOk result (begun_of sink.new ≡ rule.with_initial (rule.bytes_at offset (rule.number_bytes ty value)) (begun_of sink.old)) }
     ensures err { IfErr result (λ e. e ≡ NoMemory) }
 {

@@ -140,11 +140,7 @@ pub(crate) fn part(
 }
 
 /// Whether a list of so many items has one more than there are parts.
-pub(crate) fn has_more(
-    types: &Types,
-    slot: Option<Slot>,
-    count: u32,
-) -> Result<bool, CheckError>
+pub(crate) fn has_more(types: &Types, slot: Option<Slot>, count: u32) -> Result<bool, CheckError>
     ensures ok { (known : Known) → IfOk result (λ more. more ≡ lists.has_more (types_in types.now known) (any_slot slot) count) }
     ensures err { IfErr result (λ e. e ≡ NoMemory) }
 {

@@ -1,20 +1,20 @@
-use Rattle.std.proofs.Common.{◌+◌, map, sym, ◌∙◌}
+use Rattle.std.proofs.Common.{◌+◌, map}
 use Rattle.c_tree.specs.ProgramViews.{more_inits, next_init_of}
 use Rattle.type_rules.specs.Initializers.{items_in, more_begins}
 use Rattle.c_operate.specs.Tables.{known_of}
-use Rattle.c_tree.specs.Views.{assign_of}
 use Rattle.c_operate.specs.Terms.{operand_of}
 use Rattle.type_rules.specs.Initializers.{begins}
 use Rattle.c_tree.specs.ProgramViews.{init_of}
 use Rattle.c_check.specs.Views.{any_slot, begun_of}
 use Rattle.c_check.proofs.Listing.{item_read, item_wrong, all_read, one_counted, all_counted, value_answered, value_wrong, text_answered, list_answered, first_wrong, more_wrong}
-use Rattle.c_check.proofs.Steps.{passed_on}
+use Rattle.c_operate.proofs.Steps.{passed_on}
 use Rattle.c_check.proofs.initializer.+initializer.Goals as goal
 
 pub items-loop-next-preserved : goal.items-loop-next-preserved
-items-loop-next-preserved t c =
-    (one_counted c.args.others.now c.loop-next.next-index c.next-item.result c.loop-next.count _ (1 + items_in (more_inits (map next_init_of c.args.others.now))) c.loop-next-test.true c.next-item.is c.in_ok-count.ensures.ok c.loop-next.invariant.0,
-        item_read c.args.others.now c.loop-next.next-index c.next-item.result (any_slot c.args.slot) _ c.loop-next.count _ (begun_of c.loop-next.sink) _ (known_of c.loop-next.checker) _ _ c.loop-next-test.true c.next-item.is (c.in_ok-part.ensures.ok (known_of c.loop-next.checker)) c.in_ok-initialize.ensures c.in_ok-count.ensures.ok c.loop-next.invariant.1)
+items-loop-next-preserved t c = (
+  one_counted c.args.others.now c.loop-next.next-index c.next-item.result c.loop-next.count _ (1 + items_in (more_inits (map next_init_of c.args.others.now))) c.loop-next-test.true c.next-item.is c.in_ok-count.ensures.ok c.loop-next.invariant.0,
+  item_read c.args.others.now c.loop-next.next-index c.next-item.result (any_slot c.args.slot) _ c.loop-next.count _ (begun_of c.loop-next.sink) _ (known_of c.loop-next.checker) _ _ c.loop-next-test.true c.next-item.is (c.in_ok-part.ensures.ok (known_of c.loop-next.checker)) c.in_ok-initialize.ensures c.in_ok-count.ensures.ok c.loop-next.invariant.1,
+)
 
 pub items-returns-clause-begun : goal.items-returns-clause-begun
 items-returns-clause-begun t c = all_read c.args.others.now c.loop-next.next-index (any_slot c.args.slot) c.loop-next.count (begun_of c.loop-next.sink) (known_of c.loop-next.checker) _ c.loop-next-test.false c.loop-next.invariant.1
@@ -61,4 +61,4 @@ pub initialize-returns-in_ok-count-in-List : goal.initialize-returns-in_ok-count
 initialize-returns-in_ok-count-in-List t c =
     let known = known_of c.args.checker.now in
     list_answered _ c.close_list.result _ c.args.init.now c.in-List.opening c.in-List.first c.in-List.others c.in-List.last_comma c.in-List.closing c.deref.result.now c.deref-in-List.result.now (any_slot c.args.slot) (any_slot c.in_ok-part-in-List.part) c.args.inside c.in_ok-count-in-List.count
-        (begun_of c.args.sink.now) (begun_of c.initialize.new.sink) (begun_of c.items.new.sink) known (known_of c.initialize.new.checker) (known_of c.items.new.checker) c.in-List.is c.deref.ensures c.deref-in-List.ensures.value (c.in_ok-part-in-List.ensures.ok known) c.in_ok-initialize-in-List.ensures c.in_ok-count-in-List.ensures.begun c.in_ok-count-in-List.ensures.count (c.close_list.ensures (known_of c.items.new.checker))
+    (begun_of c.args.sink.now) (begun_of c.initialize.new.sink) (begun_of c.items.new.sink) known (known_of c.initialize.new.checker) (known_of c.items.new.checker) c.in-List.is c.deref.ensures c.deref-in-List.ensures.value (c.in_ok-part-in-List.ensures.ok known) c.in_ok-initialize-in-List.ensures c.in_ok-count-in-List.ensures.begun c.in_ok-count-in-List.ensures.count (c.close_list.ensures (known_of c.items.new.checker))

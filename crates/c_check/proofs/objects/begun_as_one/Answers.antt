@@ -10,4 +10,4 @@ returns-in-Some-Scalar c known =
 pub returns-in-Some-Struct : goal.returns-in-Some-Struct
 returns-in-Some-Struct c known =
     struct_begun (map item_of c.args.items.items) c.only.result c.in-Some-Struct.field-0 c.in-Some-Struct.field-0-0 c.in-Some-Struct.from c.in-Some-Struct.size c.in_ok-value-in-Some-Struct.value c.args.local c.args.ty c.args.line known
-        c.new-statements.result.items c.push.new.self.items c.push-in-Some-Struct.new.self.items c.only.ensures c.in-Some-Struct.is c.in-Some-Struct.field-0-is c.in_ok-value-in-Some-Struct.ensures c.new-statements.ensures.items c.in_ok-push-in-Some-Struct.ensures.items c.in_ok-push-in-Some-Struct-2.ensures.items
+    c.new-statements.result.items c.push.new.self.items c.push-in-Some-Struct.new.self.items c.only.ensures c.in-Some-Struct.is c.in-Some-Struct.field-0-is c.in_ok-value-in-Some-Struct.ensures c.new-statements.ensures.items c.in_ok-push-in-Some-Struct.ensures.items c.in_ok-push-in-Some-Struct-2.ensures.items

@@ -7,7 +7,7 @@ use Rattle.type_rules.specs.Objects as rule
 use Rattle.c_operate.specs.Tables.{body_in, known_of, scopes_in}
 use Rattle.c_check.specs.Views.{any_init}
 use Rattle.c_check.proofs.Making.{local_unadded, local_unnamed, local_some, local_none}
-use Rattle.c_check.proofs.Steps.{passed_on}
+use Rattle.c_operate.proofs.Steps.{passed_on}
 use Rattle.c_check.proofs.objects.local_object.Goals as goal
 
 pub returns-in_err-local : goal.returns-in_err-local
@@ -31,7 +31,7 @@ returns-in-Some c =
     let mid = body_in c.add_local.new.self known in
     rw (c.is_register-fixed.ensures) at
     (local_some (any_init c.args.init) c.args.name.now c.args.ty c.is_register-fixed.result c.args.line c.in_ok-local.local known mid (c.in_ok-local.ensures known)
-        (init_of c.in-Some.init.now) (scopes_in c.bind_object.new.scopes mid) (known_of c.begin_local.new.checker) c.begin_local.result (c.in_ok-bind_object.ensures mid) (ap any_init c.in-Some.is) c.begin_local.ensures)
+    (init_of c.in-Some.init.now) (scopes_in c.bind_object.new.scopes mid) (known_of c.begin_local.new.checker) c.begin_local.result (c.in_ok-bind_object.ensures mid) (ap any_init c.in-Some.is) c.begin_local.ensures)
 
 pub returns-in-None : goal.returns-in-None
 returns-in-None c =
@@ -40,4 +40,4 @@ returns-in-None c =
     let bound = scopes_in c.bind_object.new.scopes mid in
     rw (c.is_register-fixed.ensures) at
     (local_none (any_init c.args.init) c.args.name.now c.args.ty c.is_register-fixed.result c.args.line c.in_ok-local.local known mid (c.in_ok-local.ensures known)
-        bound (statement_of (statements.Declare c.in_ok-local.local c.args.line)) c.one_statement.result (c.in_ok-bind_object.ensures mid) (ap any_init c.in-None.is) (show_statement_declare c.in_ok-local.local c.args.line) (c.one_statement.ensures bound))
+    bound (statement_of (statements.Declare c.in_ok-local.local c.args.line)) c.one_statement.result (c.in_ok-bind_object.ensures mid) (ap any_init c.in-None.is) (show_statement_declare c.in_ok-local.local c.args.line) (c.one_statement.ensures bound))

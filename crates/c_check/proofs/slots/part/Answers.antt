@@ -1,5 +1,4 @@
 use Rattle.std.proofs.Common.{◌≡◌, IfOk, sym, subst}
-
 use Rattle.type_rules.specs.Slots as rule
 use Rattle.c_operate.specs.Tables.{types_in}
 use Rattle.c_check.specs.Views.{any_slot}

@@ -1,4 +1,4 @@
-use Rattle.std.proofs.Common.{◌≡◌, ◌≤◌, ◌-◌, length, drop}
+use Rattle.std.proofs.Common.{◌≤◌, ◌-◌, length}
 use Rattle.c_check.proofs.Texts.{Reads}
 use Rattle.c_check.proofs.text.characters.Given as goal
 
