@@ -11,5 +11,6 @@ pub mod Texts
 pub mod Declared
 pub mod Items
 pub mod Lists
+pub mod Returning
 pub mod Statements
 pub mod Units
