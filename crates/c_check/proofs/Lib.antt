@@ -14,3 +14,4 @@ pub mod Lists
 pub mod Returning
 pub mod Statements
 pub mod Units
+pub mod Labels
