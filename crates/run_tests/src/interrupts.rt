@@ -97,7 +97,7 @@ fn wrong_moments(
 fn before_each_instruction(rt: HostRuntime) -> Result<(), Fail> {
     let alloc = rt.alloc();
     let two_copies = built(alloc, TWO_COPIES)?;
-    assert_eq!(rt; wrong_moments(alloc, &two_copies, 401, 1, 2000)?, 0);
+    assert_eq!(rt; wrong_moments(alloc, &two_copies, 1_001, 1, 2000)?, 0);
     let torn = built(alloc, TORN)?;
     assert_eq!(rt; wrong_moments(alloc, &torn, 200, 1, 2000)?, 0);
     let at_once = built(alloc, AT_ONCE)?;
