@@ -1,4 +1,7 @@
+pub mod Trees
 pub mod Telling
+pub mod Typing
+pub mod OverPages
 pub mod Sums
 pub mod Handed
 pub mod BlockViews
