@@ -1,6 +1,7 @@
 pub mod Trees
 pub mod Telling
-pub mod Typing
+pub mod Told
+pub mod OneTyping
 pub mod OverPages
 pub mod Sums
 pub mod Handed

@@ -1,5 +1,5 @@
 -- What is said of a typed program whose blocks have no addresses.
-use Rattle.std.specs.Prelude.{ℕ, ◌≡◌, ◌≤◌, List, Option, Some, None}
+use Rattle.std.specs.Prelude.{ℕ, ◌≡◌, ◌≤◌, nat_lt, if◌then◌else◌, List, Option, Some, None}
 use Rattle.c_typed.specs.Trees.{Program}
 use Rattle.call_graph.specs.declared.types.FnCopy.{FnCopy}
 use Rattle.code_place.specs.declared.PageError.{PageError}
@@ -15,6 +15,12 @@ use Rattle.picc_core.specs.declared.stages.OverPage.{OverPage}
 abbrev pub TellsFirstOver : Program → List FnCopy → Option OverPage → Type 0
 TellsFirstOver p copies None = (number words : ℕ) → IsOverPage p copies number words → ⊥
 TellsFirstOver p copies (Some found) = IsOverPage p copies found.number found.words × ((other more : ℕ) → IsOverPage p copies other more → found.number ≤ other)
+
+-- of two such functions the one that is defined first
+abbrev pub earlier : Option OverPage → Option OverPage → Option OverPage
+earlier None next = next
+earlier (Some first) None = Some first
+earlier (Some first) (Some second) = if nat_lt second.number first.number then Some second else Some first
 
 -- a function's block is over a page, or all blocks pass the last one
 abbrev pub IsOfCode : Program → List FnCopy → Refusal → Type 0

@@ -26,3 +26,9 @@ pub record IsMistyped (text : List ℕ) (fault : Fault) : Type 0 where
   pub tree : List ItemTree
   pub of_text : IsTreeOf text tree
   pub judged : judged_unit tree ≡ Err fault
+
+-- A text has one typed program at most, or breaks one rule first, and not both.
+pub record HasOneTyping (text : List ℕ) : Type 0 where
+  pub program : (p q : Program) → IsTypedAs text p → IsTypedAs text q → p ≡ q
+  pub fault : (f g : Fault) → IsMistyped text f → IsMistyped text g → f ≡ g
+  pub either : (p : Program) (f : Fault) → IsTypedAs text p → IsMistyped text f → ⊥

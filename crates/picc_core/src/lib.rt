@@ -18,6 +18,7 @@ mod map_range;
 mod refusal;
 mod source_run;
 mod stages;
+mod typing;
 
 pub use agreeing::{Agreed, agree};
 pub use c_check::{Kind, RootKind};
@@ -27,3 +28,4 @@ pub use known::{Built, Front};
 pub use refusal::{CompileError, LimitKind, Refusal};
 pub use src_machine::Undef;
 pub use stages::front;
+pub use typing::one_typing;

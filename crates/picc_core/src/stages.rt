@@ -1,19 +1,18 @@
 //! The stages from a text to its sizes and addresses.
 
-ghost use Rattle.std.specs.Prelude.{◌≡◌, ◌<◌, ◌≤◌, ◌^◌, ◌+◌, ◌++◌, ℕ, List, [], ◌∷◌, length, map, sum, None, Ok, Err, IfOk, IfErr, MatchResult};
+ghost use Rattle.std.specs.Prelude.{◌≡◌, ◌<◌, ◌≤◌, ◌^◌, ◌+◌, ℕ, [], ◌∷◌, length, map, sum, None, Ok, Err, IfOk, IfErr, MatchResult};
 ghost use Rattle.c_tree.specs.ProgramViews.{unit_of};
 ghost use Rattle.c_typed.specs.Chains.{graph_of};
 ghost use Rattle.c_typed.specs.Roots.{broken_root};
-ghost use Rattle.c_typed.specs.Trees.{Program};
 ghost use Rattle.c_typed.specs.Views.{program_of};
 ghost use Rattle.call_graph.specs.Copies.{AreCopies, HasDepth, name_at};
 ghost use Rattle.call_graph.specs.Levels.{IsAcyclic};
-ghost use Rattle.call_graph.specs.declared.types.FnCopy.{FnCopy};
 ghost use Rattle.pic_map.specs.MapView.{object_of, frame_of};
 ghost use Rattle.ram_place.specs.Placement as placement;
 ghost use Rattle.picc_core.specs.Accepted.{AreAccepted};
 ghost use Rattle.picc_core.specs.Answers.{IsRefusedUnless, TellsError, TellsProgram};
 ghost use Rattle.picc_core.specs.Blocks.{HasBlocks};
+ghost use Rattle.picc_core.specs.CodeAnswers as stated;
 ghost use Rattle.picc_core.specs.CodeAnswers.{Explains, TellsCode, TellsFirstOver};
 ghost use Rattle.picc_core.specs.Texts.{tokens_left, program_tokens, HasTree};
 ghost use Rattle.picc_core.specs.Typed.{IsTreeOf, IsTypedAs};
@@ -73,7 +72,7 @@ fn parsed(alloc: Global, text: &[u8], toks: &[Tok]) -> Result<Unit, CompileError
     Ok(parse(alloc, text, toks)?)
 }
 
-#[tactic(auto, using(crate::proofs::Typing::typed_told, crate::proofs::Typing::check_told))]
+#[tactic(auto, using(crate::proofs::Told::typed_told, crate::proofs::Told::check_told))]
 fn typed_of(alloc: Global, text: &[u8]) -> Result<Typed, CompileError>
     ensures answer { MatchResult result (λ typed. IsTypedAs text.now (program_of typed)) (TellsError text.now) }
     ensures long { 262144 < length text.now → result ≡ Err (Refused (refusals.Limit kinds.Text 0)) }
@@ -83,7 +82,7 @@ fn typed_of(alloc: Global, text: &[u8]) -> Result<Typed, CompileError>
 }
 
 /// The copies of a typed program, or the first refusal of it up to its return stack.
-#[tactic(auto, using(crate::proofs::Typing::graph_told))]
+#[tactic(auto, using(crate::proofs::Told::graph_told))]
 fn copies_of(alloc: Global, p: &Typed) -> Result<Copies, CompileError>
     ensures refused { IfErr result (TellsProgram (program_of p.now)) }
     ensures roots { IfOk result (λ _. broken_root (program_of p.now) ≡ None) }
@@ -95,7 +94,6 @@ fn copies_of(alloc: Global, p: &Typed) -> Result<Copies, CompileError>
 }
 
 /// The addresses of objects and frames, or the first that has none.
-#[tactic(auto, using(crate::proofs::Typing::place_told))]
 fn placed_of(alloc: Global, p: &Typed, copies: &Copies) -> Result<Placed, CompileError>
     requires roots { broken_root (program_of p.now) ≡ None }
     requires recursion { IsAcyclic (graph_of (program_of p.now)) }
@@ -163,20 +161,19 @@ fn over_page(p: &Typed, copy: FnCopy) -> Option<OverPage>
 }
 
 /// Of two functions the one that is defined first.
-#[tactic(auto, using(crate::proofs::OverPages::none_left, crate::proofs::OverPages::none_right, crate::proofs::OverPages::right_first, crate::proofs::OverPages::left_first))]
 fn earlier(found: Option<OverPage>, next: Option<OverPage>) -> Option<OverPage>
-    ensures { (p : Program) (xs ys : List FnCopy) → TellsFirstOver p xs found → TellsFirstOver p ys next → TellsFirstOver p (xs ++ ys) result }
+    ensures { result ≡ stated.earlier found next }
 {
-    let Some(first) = found else {
-        return next;
-    };
-    let Some(second) = next else {
-        return found;
-    };
-    if second.number < first.number {
-        next
-    } else {
-        found
+    match (found, next) {
+        (None, _) => next,
+        (Some(_), None) => found,
+        (Some(first), Some(second)) => {
+            if second.number < first.number {
+                next
+            } else {
+                found
+            }
+        }
     }
 }
 
@@ -267,7 +264,6 @@ fn sum_of(words: &[u64]) -> u32
 }
 
 /// What is known of a typed program, or its first refusal.
-#[tactic(auto, using(crate::proofs::Typing::code_refused, crate::proofs::Typing::accepted))]
 fn known_of(alloc: Global, typed: Typed) -> Result<Front, CompileError>
     ensures refused { IfErr result (TellsProgram (program_of typed)) }
     ensures same { IfOk result (λ front. front.typed ≡ typed) }
@@ -295,7 +291,7 @@ fn known_of(alloc: Global, typed: Typed) -> Result<Front, CompileError>
     })
 }
 
-#[tactic(auto, using(crate::proofs::Typing::front_told))]
+#[tactic(auto, using(crate::proofs::Told::front_told))]
 fn known(alloc: Global, text: &[u8]) -> Result<Front, CompileError>
     ensures answer { MatchResult result (λ front. IsTypedAs text.now (program_of front.typed)) (TellsError text.now) }
     ensures long { 262144 < length text.now → result ≡ Err (Refused (refusals.Limit kinds.Text 0)) }
@@ -318,7 +314,7 @@ fn known(alloc: Global, text: &[u8]) -> Result<Front, CompileError>
 /// What is known of a text, or the first refusal that holds of it. The order is: the limit on the text; tokens and the
 /// limit on names, whichever stands first; excluded words; directives; the limit on tokens; nesting and runs, whichever
 /// stands first; trees; types; roots; recursion; depth; data memory; a block over a page; all blocks.
-#[tactic(auto, using(crate::proofs::Telling::tokens_first, crate::proofs::Typing::has_tree))]
+#[tactic(auto, using(crate::proofs::Telling::tokens_first, crate::proofs::Told::has_tree))]
 pub fn front(alloc: Global, text: &[u8]) -> Result<Front, CompileError>
     // A text over 262,144 bytes is refused so.
     ensures text_limit { 262144 < length text.now → result ≡ Err (Refused (refusals.Limit kinds.Text 0)) }
