@@ -1,5 +1,5 @@
 -- A text has one tree at most, so one typed program or one rule that it breaks first.
-use Rattle.std.proofs.Common.{◌≡◌, ℕ, List, Some, Result, Ok, Err, sym, ap, ◌∙◌, subst}
+use Rattle.std.proofs.Common.{◌≡◌, ℕ, List, Some, Result, Ok, Err, sym, ap, ◌∙◌}
 use Rattle.c_token.specs.declared.token.Tok.{Tok}
 use Rattle.c_tree.specs.Programs.{ItemTree, spelled_unit}
 use Rattle.c_typed.specs.Trees.{Program}
@@ -9,7 +9,7 @@ use Rattle.c_parse.proofs.AgainUnits.{unit_again}
 use Rattle.type_rules.specs.Faults.{Fault}
 use Rattle.type_rules.specs.Units.{judged_unit}
 use Rattle.picc_core.specs.Texts.{program_tokens}
-use Rattle.picc_core.specs.Typed.{IsTreeOf, IsTypedAs, IsMistyped, HasOneTyping}
+use Rattle.picc_core.specs.Typed.{IsTreeOf, HasOneTyping}
 
 same_list : (a b : List Tok) (text : List ℕ) → program_tokens text ≡ Ok a → program_tokens text ≡ Ok b → a ≡ b
 same_list a b text first second = let both = sym first ∙ second in cc

@@ -1,5 +1,5 @@
 -- The first of the functions whose blocks are over a page, and what the placing of blocks tells by it.
-use Rattle.std.proofs.Common.{◌≡◌, ℕ, zero, suc, ◌+◌, ◌<◌, ◌≤◌, ◌⊎◌, inl, inr, ⊎_elim, List, [], ◌∷◌, ◌++◌, length, take, Option, Some, None, Result, Ok, Err, Bool, refl, sym, ap, ◌∙◌, subst, arith}
+use Rattle.std.proofs.Common.{◌≡◌, ℕ, zero, suc, ◌+◌, ◌<◌, ◌≤◌, ◌⊎◌, inl, inr, ⊎_elim, List, [], ◌∷◌, ◌++◌, length, take, Option, Some, None, Result, Err, Bool, refl, sym, ap, ◌∙◌, subst, arith}
 use Rattle.std.proofs.Math.ListN.{get_or}
 use Rattle.std.specs.Prelude.{sum, if◌then◌else◌}
 use Rattle.std.specs.Global.{Global}
@@ -10,13 +10,12 @@ use Rattle.std.proofs.lemmas.Bool.{cases_lt, lt-ltb, le-ltb}
 use Rattle.std.proofs.lemmas.List.{take_more, take_all}
 use Rattle.std.proofs.lemmas.List.Elements.{Contains-append_left, Contains-append_right, Contains-append_cases}
 use Rattle.c_typed.specs.Trees.{Program}
-use Rattle.c_typed.specs.declared.calls.FnId.{FnId}
 use Rattle.c_typed.specs.declared.calls.FnId.TheVariants as callee
 use Rattle.c_typed.specs.declared.calls.Helper.{Helper}
 use Rattle.call_graph.specs.Copies.{name_at}
 use Rattle.call_graph.specs.declared.types.FnCopy.{FnCopy}
 use Rattle.code_place.specs.Answers.{TellsPages}
-use Rattle.code_place.specs.Pages.{addresses, page_words, AreWithinPages, PassesMemory}
+use Rattle.code_place.specs.Pages.{addresses, AreWithinPages, PassesMemory}
 use Rattle.code_place.specs.declared.PageError.{PageError}
 use Rattle.code_place.specs.declared.PageError.TheVariants as pages
 use Rattle.program_code.specs.Order.{rank}
@@ -24,8 +23,6 @@ use Rattle.program_code.specs.Stated.{copy_words, sizes}
 use Rattle.picc_core.specs.Accepted.{IsOverPage, IsFirstOverPage, PassesPages}
 use Rattle.picc_core.specs.CodeAnswers.{TellsFirstOver, earlier, TellsCode, Explains}
 use Rattle.picc_core.specs.declared.refusal.CompileError.{CompileError}
-use Rattle.picc_core.specs.declared.refusal.CompileError.TheVariants.{NoMemory, Refused}
-use Rattle.picc_core.specs.declared.refusal.Refusal.TheVariants.{Code, Page}
 use Rattle.picc_core.specs.declared.stages.OverPage.{OverPage}
 
 -- ---- one copy
@@ -55,13 +52,12 @@ user_number : (m n : ℕ) → callee.User m ≡ callee.User n → m ≡ n
 user_number m n is = cc
 
 pub one_over : (p : Program) (copy : FnCopy) (found : OverPage) → copy.function ≡ callee.User found.number → found.words ≡ copy_words p copy → 2048 < found.words → TellsFirstOver p (copy ∷ []) (Some found)
-one_over p copy found function stated over =
-    (
-      record { copy = copy; among = alone copy; function = function; stated = stated; over = over },
-      λ other more there.
-        let same = user_number found.number other (sym function ∙ ap (λ (c : FnCopy). c.function) (in_one copy there.copy there.among) ∙ there.function) in
-        omega (arith, same),
-    )
+one_over p copy found function stated over = (
+  record { copy = copy; among = alone copy; function = function; stated = stated; over = over },
+  λ other more there.
+      let same = user_number found.number other (sym function ∙ ap (λ (c : FnCopy). c.function) (in_one copy there.copy there.among) ∙ there.function) in
+      omega (arith, same),
+)
 
 -- ---- two lists
 module _ (p : Program) (xs ys : List FnCopy) where
@@ -80,32 +76,28 @@ module _ (p : Program) (xs ys : List FnCopy) where
 
   none_left : (next : Option OverPage) → TellsFirstOver p xs None → TellsFirstOver p ys next → TellsFirstOver p (xs ++ ys) next
   none_left None left right = λ number words over. ⊎_elim (λ l. left number words l) (λ r. right number words r) (by_side number words over)
-  none_left (Some second) left right =
-      (
-        on_right second.number second.words right.0,
-        λ other more over. ⊎_elim (λ l. absurd (left other more l)) (λ r. right.1 other more r) (by_side other more over),
-      )
+  none_left (Some second) left right = (
+    on_right second.number second.words right.0,
+    λ other more over. ⊎_elim (λ l. absurd (left other more l)) (λ r. right.1 other more r) (by_side other more over),
+  )
 
   none_right : (first : OverPage) → TellsFirstOver p xs (Some first) → TellsFirstOver p ys None → TellsFirstOver p (xs ++ ys) (Some first)
-  none_right first left right =
-      (
-        on_left first.number first.words left.0,
-        λ other more over. ⊎_elim (λ l. left.1 other more l) (λ r. absurd (right other more r)) (by_side other more over),
-      )
+  none_right first left right = (
+    on_left first.number first.words left.0,
+    λ other more over. ⊎_elim (λ l. left.1 other more l) (λ r. absurd (right other more r)) (by_side other more over),
+  )
 
   right_first : (first second : OverPage) → second.number < first.number → TellsFirstOver p xs (Some first) → TellsFirstOver p ys (Some second) → TellsFirstOver p (xs ++ ys) (Some second)
-  right_first first second less left right =
-      (
-        on_right second.number second.words right.0,
-        λ other more over. ⊎_elim (λ l. let low = left.1 other more l in omega (arith, low, less)) (λ r. right.1 other more r) (by_side other more over),
-      )
+  right_first first second less left right = (
+    on_right second.number second.words right.0,
+    λ other more over. ⊎_elim (λ l. let low = left.1 other more l in omega (arith, low, less)) (λ r. right.1 other more r) (by_side other more over),
+  )
 
   left_first : (first second : OverPage) → first.number ≤ second.number → TellsFirstOver p xs (Some first) → TellsFirstOver p ys (Some second) → TellsFirstOver p (xs ++ ys) (Some first)
-  left_first first second less left right =
-      (
-        on_left first.number first.words left.0,
-        λ other more over. ⊎_elim (λ l. left.1 other more l) (λ r. let low = right.1 other more r in omega (arith, low, less)) (by_side other more over),
-      )
+  left_first first second less left right = (
+    on_left first.number first.words left.0,
+    λ other more over. ⊎_elim (λ l. left.1 other more l) (λ r. let low = right.1 other more r in omega (arith, low, less)) (by_side other more over),
+  )
 
   tells_earlier : (found next : Option OverPage) → TellsFirstOver p xs found → TellsFirstOver p ys next → TellsFirstOver p (xs ++ ys) (earlier found next)
   tells_earlier None next left right = none_left next left right

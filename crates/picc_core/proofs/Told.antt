@@ -1,7 +1,7 @@
 -- What the stages behind the tree tell of a text, and of its typed program.
 use Rattle.std.proofs.Common.{◌≡◌, ℕ, ◌<◌, ◌≤◌, List, true, length, None, Result, Ok, Err, IfOk, IfErr, sym, subst}
 use Rattle.std.specs.Prelude.{MatchResult}
-use Rattle.c_operate.specs.Answers.{Refuses, fault_of}
+use Rattle.c_operate.specs.Answers.{Refuses}
 use Rattle.c_operate.specs.declared.error.CheckError.{CheckError}
 use Rattle.c_operate.specs.declared.error.CheckError.TheVariants as check
 use Rattle.c_tree.specs.Programs.{ItemTree}
@@ -25,7 +25,7 @@ use Rattle.ram_place.specs.Placement.{IsPlacing}
 use Rattle.ram_place.specs.declared.placing.PlaceError.{PlaceError}
 use Rattle.ram_place.specs.declared.placing.PlaceError.TheVariants as place
 use Rattle.type_rules.specs.Units.{judged_unit}
-use Rattle.picc_core.specs.Accepted.{FitsMemory, IsPlaceable, IsAccepted, AreAccepted, IsRecursive, IsFirstRefusal}
+use Rattle.picc_core.specs.Accepted.{FitsMemory, IsPlaceable, AreAccepted, IsRecursive, IsFirstRefusal}
 use Rattle.picc_core.specs.Answers.{Tells, TellsError, TellsProgram, IsRefusedAs}
 use Rattle.picc_core.specs.Blocks.{HasBlocks}
 use Rattle.picc_core.specs.CodeAnswers.{TellsCode, IsOfCode}
