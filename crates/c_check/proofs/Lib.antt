@@ -15,3 +15,4 @@ pub mod Returning
 pub mod Statements
 pub mod Units
 pub mod Labels
+pub mod Answering
