@@ -49,13 +49,13 @@ pub arms_else : (line : ℕ) (s : StatementTree) (flow : rule.Flow) (known : Kno
 unfolding rule.other_arms
 arms_else line s flow known = refl
 
-arms_joined : (before : List typed.Arm) (one : typed.Arm) (said : Result (rule.Others × Known) Fault) → go_on (λ made. given (before ++ made.0, made.1)) (go_on (λ others. given (one ∷ others.0, others.1)) said) ≡ go_on (λ made. given ((before ++ one ∷ []) ++ made.0, made.1)) said
+arms_joined : (before : List typed.Arm) (one : typed.Arm) (said : Result (rule.Others × Known) Fault) → go_on {B = rule.Others} (λ (made : rule.Others). given (before ++ made.0, made.1)) (go_on {B = rule.Others} (λ (others : rule.Others). given (one ∷ others.0, others.1)) said) ≡ go_on {B = rule.Others} (λ (made : rule.Others). given ((before ++ one ∷ []) ++ made.0, made.1)) said
 arms_joined before one (Ok x) = ap (λ (l : List typed.Arm). Ok ((l, (x.0).1), x.1)) (sym (append_assoc before (one ∷ []) (x.0).0))
 arms_joined before one (Err fault) = refl
 
 pub arm_more : (before : List typed.Arm) (one : typed.Arm) (line : ℕ) (a : ArmTree) (others : Arms) (flow : rule.Flow) (known mid : Known) → rule.arm a flow known ≡ Ok (one, mid) → arms_behind before (tree.ElseIf line a others) flow known ≡ arms_behind (before ++ one ∷ []) others flow mid
 unfolding rule.other_arms
-arm_more before one line a others flow known mid e = ap (λ said. go_on (λ made. given (before ++ made.0, made.1)) (go_on (λ first. rule.other_arms others flow >>= (λ made. given (first ∷ made.0, made.1))) said)) e ∙ arms_joined before one (rule.other_arms others flow mid)
+arm_more before one line a others flow known mid e = ap (λ (said : Result (typed.Arm × Known) Fault). go_on {B = rule.Others} (λ (made : rule.Others). given (before ++ made.0, made.1)) (go_on {B = rule.Others} (λ first. rule.other_arms others flow >>= (λ (made : rule.Others). given (first ∷ made.0, made.1))) said)) e ∙ arms_joined before one (rule.other_arms others flow mid)
 
 pub arm_refuses : (before : List typed.Arm) (line : ℕ) (a : ArmTree) (others : Arms) (flow : rule.Flow) (known : Known) (fault : CheckError) → Refuses fault (rule.arm a flow known) → Refuses fault (arms_behind before (tree.ElseIf line a others) flow known)
 unfolding rule.other_arms

@@ -16,3 +16,4 @@ pub mod Statements
 pub mod Units
 pub mod Labels
 pub mod Answering
+pub mod Bodies
