@@ -1,8 +1,8 @@
 -- From a rule, one call at a time, to what the whole says: the call goes on, is refused, or is the last.
-use Rattle.std.proofs.Common.{◌≡◌, ℕ, ◌+◌, ◌<◌, ◌≤◌, List, [], ◌∷◌, ◌++◌, length, drop, map, get_or, Result, Ok, Err, refl, sym, ap, subst, ◌∙◌}
+use Rattle.std.proofs.Common.{◌≡◌, ℕ, ◌+◌, ◌<◌, ◌≤◌, List, [], ◌∷◌, length, drop, map, get_or, Result, Ok, sym, ap, subst, ◌∙◌}
 use Rattle.std.proofs.lemmas.List.{drop_more, drop_all}
 use Rattle.type_rules.specs.Faults.{Fault}
-use Rattle.type_rules.specs.Known.{Known, Rule, go_on, ◌>>=◌}
+use Rattle.type_rules.specs.Known.{Known, Rule, go_on}
 use Rattle.c_operate.specs.Answers.{Refuses, Answers}
 use Rattle.c_operate.specs.declared.error.CheckError.{CheckError}
 use Rattle.c_operate.specs.declared.error.CheckError.TheVariants as errors

@@ -1,5 +1,5 @@
 -- What the rules say of blocks, loops, arms and switches, where their parts are those of the code's trees.
-use Rattle.std.proofs.Common.{◌≡◌, ℕ, ◌+◌, ◌<◌, ◌≤◌, List, [], ◌∷◌, ◌++◌, append-nil, drop, get_or, length, map, Option, Some, None, Result, Ok, Err, Vec, Global, refl, sym, ap, ◌∙◌}
+use Rattle.std.proofs.Common.{◌≡◌, ℕ, ◌+◌, ◌<◌, ◌≤◌, List, [], ◌∷◌, ◌++◌, append-nil, drop, get_or, length, map, Option, Some, None, Result, Ok, Vec, Global, refl, sym, ap, ◌∙◌}
 use Rattle.std.proofs.lemmas.List.{map-append}
 use Rattle.std.specs.Global.{Box}
 use Rattle.c_ints.specs.declared.types.IntTy.{IntTy}

@@ -1,5 +1,5 @@
 -- The values that a function returns and a switch looks at, behind those of their expressions.
-use Rattle.std.proofs.Common.{◌≡◌, ℕ, Bool, true, false, [], ◌∷◌, Option, Some, Result, Ok, Err, refl, sym, ap, subst, ◌∙◌}
+use Rattle.std.proofs.Common.{◌≡◌, ℕ, false, [], ◌∷◌, Option, Some, Result, Ok, Err, refl, sym, ap, subst, ◌∙◌}
 use Rattle.c_ints.specs.Conversions.{promoted}
 use Rattle.c_ints.specs.declared.types.IntTy.{IntTy}
 use Rattle.c_tree.specs.Trees.{Tree}
@@ -7,7 +7,6 @@ use Rattle.c_typed.specs.Sameness.{is_void}
 use Rattle.c_typed.specs.Trees as typed
 use Rattle.c_typed.specs.Trees.{Expression, Statement}
 use Rattle.c_typed.specs.Types.{type_of}
-use Rattle.c_typed.specs.declared.types.Ty.{Ty}
 use Rattle.c_typed.specs.declared.types.Ty.TheVariants.{Int}
 use Rattle.type_rules.specs.Conversions.{assigned, converted}
 use Rattle.type_rules.specs.Expressions.{value_of}

@@ -45,11 +45,7 @@ pub(crate) fn block(
 
 #[cycle(statement)]
 #[tactic(auto, using(crate::proofs::Statements::nodes))]
-fn statement(
-    statement: &Statement,
-    checker: &mut Checker,
-    flow: Flow,
-) -> Result<TStmt, CheckError>
+fn statement(statement: &Statement, checker: &mut Checker, flow: Flow) -> Result<TStmt, CheckError>
     ensures { Answers statement_of result (known_of checker.new) (rule.statement (views.statement_of statement.now) (flow_of flow) (known_of checker.old)) }
 {
     match statement {
@@ -133,7 +129,13 @@ fn while_loop(
 {
     let condition = condition(expr, checker)?;
     let body = statement(body, checker, Flow::in_loop())?;
-    looped(checker.alloc, LoopForm::While, LoopHead::only(condition), body, line)
+    looped(
+        checker.alloc,
+        LoopForm::While,
+        LoopHead::only(condition),
+        body,
+        line,
+    )
 }
 
 #[cycle(statement)]
@@ -147,7 +149,13 @@ fn do_loop(
 {
     let body = statement(body, checker, Flow::in_loop())?;
     let condition = condition(expr, checker)?;
-    looped(checker.alloc, LoopForm::Do, LoopHead::only(condition), body, line)
+    looped(
+        checker.alloc,
+        LoopForm::Do,
+        LoopHead::only(condition),
+        body,
+        line,
+    )
 }
 
 #[cycle(statement)]

@@ -1,15 +1,12 @@
-use Rattle.std.proofs.Common.{◌≡◌, ◌+◌, ◌++◌, [], ◌∷◌, Some, None, Ok, drop, map, refl, sym, ap, subst, ◌∙◌}
+use Rattle.std.proofs.Common.{◌+◌, ◌++◌, [], ◌∷◌, Some, Ok, drop, map, refl, sym, ap, subst, ◌∙◌}
 use Rattle.std.proofs.lemmas.Result.{err_from_is_err_and}
 use Rattle.c_tree.proofs.ProgramShapes as shapes
 use Rattle.c_tree.specs.ProgramViews as views
 use Rattle.c_tree.specs.ProgramViews.{declaration_of}
 use Rattle.c_tree.specs.Programs as tree
 use Rattle.c_tree.specs.Views.{expr_of}
-use Rattle.c_tree.specs.declared.statement.Statement.{Statement}
-use Rattle.c_tree.specs.declared.statement.Statement.TheVariants as node
-use Rattle.c_tree.specs.declared.statement.Statement.TheViews.{out-Arm, out-Block, out-ElseArm, out-IfChain, out-Otherwise}
-use Rattle.c_typed.proofs.Shapes as typed_shapes
-use Rattle.c_typed.specs.Views.{arm_of, statement_of, expression_of}
+use Rattle.c_tree.specs.declared.statement.Statement.TheViews.{out-Arm, out-Block}
+use Rattle.c_typed.specs.Views.{statement_of}
 use Rattle.type_rules.specs.Statements as rule
 use Rattle.c_operate.proofs.Steps.{out_of_memory}
 use Rattle.c_operate.specs.Tables.{known_of, scopes_in}
@@ -261,19 +258,19 @@ switch_body-returns-in_err-add-in-Statement t c =
 pub switch_body-loop-item-preserved : goal.switch_body-loop-item-preserved
 switch_body-loop-item-preserved t c = elim c.match-item.branch [
   | switch_body-in-Label+in_ok-labelled-in-Label w ↦ (
-      ap (λ (b : SwitchBody). rule.items (views.items_of (map views.switch_item_of (drop (c.loop-item.item-index + 1) c.args.items.now))) (flow_of c.args.flow) c.args.ty (body_of b) (known_of c.match-item.checker)) w.body-is
-      ∙ ap (λ (k : Checker). rule.items (views.items_of (map views.switch_item_of (drop (c.loop-item.item-index + 1) c.args.items.now))) (flow_of c.args.flow) c.args.ty (body_of w.labelled.new.body) (known_of k)) w.checker-is
-      ∙ label_on (flow_of c.args.flow) c.args.ty c.args.items.now c.loop-item.item-index (body_of c.loop-item.body) (known_of c.loop-item.checker) _ c.loop-item.invariant.0 c.item-item.result w.in-Label.label c.loop-item.body.ty (body_of w.labelled.new.body) (known_of w.labelled.new.checker) c.loop-item-test.true c.item-item.is w.in-Label.is c.loop-item.invariant.1 w.in_ok-labelled-in-Label.ensures.0,
-      ap (λ (b : SwitchBody). b.ty) w.body-is ∙ w.in_ok-labelled-in-Label.ensures.1 ∙ c.loop-item.invariant.1,
-      subst (λ (b : SwitchBody). Sees b) (sym w.body-is) w.in_ok-labelled-in-Label.ensures.2,
-    )
+    ap (λ (b : SwitchBody). rule.items (views.items_of (map views.switch_item_of (drop (c.loop-item.item-index + 1) c.args.items.now))) (flow_of c.args.flow) c.args.ty (body_of b) (known_of c.match-item.checker)) w.body-is
+        ∙ ap (λ (k : Checker). rule.items (views.items_of (map views.switch_item_of (drop (c.loop-item.item-index + 1) c.args.items.now))) (flow_of c.args.flow) c.args.ty (body_of w.labelled.new.body) (known_of k)) w.checker-is
+        ∙ label_on (flow_of c.args.flow) c.args.ty c.args.items.now c.loop-item.item-index (body_of c.loop-item.body) (known_of c.loop-item.checker) _ c.loop-item.invariant.0 c.item-item.result w.in-Label.label c.loop-item.body.ty (body_of w.labelled.new.body) (known_of w.labelled.new.checker) c.loop-item-test.true c.item-item.is w.in-Label.is c.loop-item.invariant.1 w.in_ok-labelled-in-Label.ensures.0,
+    ap (λ (b : SwitchBody). b.ty) w.body-is ∙ w.in_ok-labelled-in-Label.ensures.1 ∙ c.loop-item.invariant.1,
+    subst (λ (b : SwitchBody). Sees b) (sym w.body-is) w.in_ok-labelled-in-Label.ensures.2,
+  )
   | switch_body-in-Statement+in_ok-made-in-Statement+in_ok-add-in-Statement w ↦ (
-      ap (λ (b : SwitchBody). rule.items (views.items_of (map views.switch_item_of (drop (c.loop-item.item-index + 1) c.args.items.now))) (flow_of c.args.flow) c.args.ty (body_of b) (known_of c.match-item.checker)) w.body-is
-      ∙ ap (λ (k : Checker). rule.items (views.items_of (map views.switch_item_of (drop (c.loop-item.item-index + 1) c.args.items.now))) (flow_of c.args.flow) c.args.ty (body_of w.add.new.self) (known_of k)) w.checker-is
-      ∙ inner_on (flow_of c.args.flow) c.args.ty c.args.items.now c.loop-item.item-index (body_of c.loop-item.body) (known_of c.loop-item.checker) _ c.loop-item.invariant.0 c.item-item.result w.in-Statement.inner (statement_of w.in_ok-made-in-Statement.made) (body_of w.add.new.self) (known_of w.statement.new.checker) c.loop-item-test.true c.item-item.is w.in-Statement.is w.in_ok-made-in-Statement.ensures w.in_ok-add-in-Statement.ensures.body,
-      ap (λ (b : SwitchBody). b.ty) w.body-is ∙ w.in_ok-add-in-Statement.ensures.ty ∙ c.loop-item.invariant.1,
-      subst (λ (b : SwitchBody). Sees b) (sym w.body-is) w.in_ok-add-in-Statement.ensures.sees,
-    )
+    ap (λ (b : SwitchBody). rule.items (views.items_of (map views.switch_item_of (drop (c.loop-item.item-index + 1) c.args.items.now))) (flow_of c.args.flow) c.args.ty (body_of b) (known_of c.match-item.checker)) w.body-is
+        ∙ ap (λ (k : Checker). rule.items (views.items_of (map views.switch_item_of (drop (c.loop-item.item-index + 1) c.args.items.now))) (flow_of c.args.flow) c.args.ty (body_of w.add.new.self) (known_of k)) w.checker-is
+        ∙ inner_on (flow_of c.args.flow) c.args.ty c.args.items.now c.loop-item.item-index (body_of c.loop-item.body) (known_of c.loop-item.checker) _ c.loop-item.invariant.0 c.item-item.result w.in-Statement.inner (statement_of w.in_ok-made-in-Statement.made) (body_of w.add.new.self) (known_of w.statement.new.checker) c.loop-item-test.true c.item-item.is w.in-Statement.is w.in_ok-made-in-Statement.ensures w.in_ok-add-in-Statement.ensures.body,
+    ap (λ (b : SwitchBody). b.ty) w.body-is ∙ w.in_ok-add-in-Statement.ensures.ty ∙ c.loop-item.invariant.1,
+    subst (λ (b : SwitchBody). Sees b) (sym w.body-is) w.in_ok-add-in-Statement.ensures.sees,
+  )
 ]
 
 pub switch_body-returns : goal.switch_body-returns
