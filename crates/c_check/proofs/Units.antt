@@ -1,30 +1,47 @@
 -- Functions and units: the names that a unit defines, parameters, bodies and the typed program.
-use Rattle.std.proofs.Common.{◌≡◌, ℕ, suc, ◌+◌, ◌<◌, Bool, true, false, ◌||◌, if◌then◌else◌, List, [], ◌∷◌, ◌++◌, map, length, Option, Some, None, Result, Ok, Err, refl, sym, ap, subst, ◌∙◌, append-nil, append_assoc, bytes_eq, Vec, Global, arith}
+use Rattle.std.proofs.Common.{◌≡◌, ℕ, suc, ◌+◌, ◌<◌, ◌≤◌, Bool, true, false, ◌||◌, if◌then◌else◌, List, [], ◌∷◌, ◌++◌, map, length, drop, get_or, Option, Some, None, Result, Ok, Err, refl, sym, ap, subst, ◌∙◌, append-nil, append_assoc, bytes_eq, Vec, Global, arith}
+use Rattle.std.proofs.lemmas.List.{length-map, map-append}
 use Rattle.std.specs.List.{list_any}
+use Rattle.std.specs.Prelude.{IfSome}
 use Rattle.indexmap.specs.IndexSet.{insert_key}
+use Rattle.c_tree.specs.ProgramViews.{block_of, declaration_of, item_of}
 use Rattle.c_tree.specs.Programs as tree
 use Rattle.c_tree.specs.Programs.{BlockTree, DeclarationTree, ItemTree}
 use Rattle.c_tree.specs.Trees.{DeclaratorTree, SpecTrees}
+use Rattle.c_tree.specs.Views.{declarator_of, specs_of}
+use Rattle.c_tree.specs.declared.statement.Declaration.{Declaration}
+use Rattle.c_tree.specs.declared.statement.Function as code
+use Rattle.c_tree.specs.declared.statement.Item.{Item}
+use Rattle.c_tree.specs.declared.statement.Item.TheVariants as node
 use Rattle.c_typed.specs.Trees as typed
 use Rattle.c_typed.specs.Trees.{FunctionTree, Program, Statement, StaticTree, StructureTree, VariableTree}
 use Rattle.c_typed.specs.Views as shown
+use Rattle.c_typed.specs.declared.expression.Object.TheVariants as object
+use Rattle.c_typed.specs.declared.program.Function.{Function}
+use Rattle.c_typed.specs.declared.program.Static.{Static}
+use Rattle.c_typed.specs.declared.program.Typed.{Typed}
+use Rattle.c_typed.specs.declared.program.Variable.{Variable}
 use Rattle.c_typed.specs.declared.types.Structure.{Structure}
 use Rattle.c_typed.specs.declared.types.Qualified.{Qualified}
 use Rattle.c_typed.specs.declared.types.Ty.{Ty}
 use Rattle.type_rules.specs.Declarations.{block_declarations, file_declaration}
 use Rattle.type_rules.specs.Declarators.{name_in}
 use Rattle.type_rules.specs.Faults.{Fault}
-use Rattle.type_rules.specs.Known.{Shape, Known, Rule, given, known_first, known_here, go_on, ◌>>=◌}
-use Rattle.type_rules.specs.Names.{leave}
+use Rattle.type_rules.specs.Known.{ObjectName, Shape, Known, Rule, given, known_first, known_here, go_on, ◌>>=◌}
+use Rattle.type_rules.specs.Names.{bind, enter, leave}
 use Rattle.type_rules.specs.Outlines.{Param, bind_param}
 use Rattle.type_rules.specs.Specifiers.{Specified}
 use Rattle.type_rules.specs.Statements as statements
 use Rattle.type_rules.specs.Units as rule
-use Rattle.c_operate.specs.Answers.{Refuses}
+use Rattle.c_operate.specs.Answers.{Learns, Refuses}
+use Rattle.c_operate.specs.Tables.{known_of}
+use Rattle.c_operate.specs.declared.checker.Checker.{Checker}
 use Rattle.c_operate.specs.declared.error.CheckError.{CheckError}
 use Rattle.c_operate.specs.declared.error.CheckError.TheVariants as errors
+use Rattle.check_expr.specs.Views.{param_of}
+use Rattle.check_expr.specs.declared.outline.ParamShape.{ParamShape}
 use Rattle.c_check.specs.StatementViews.{behind, bound_behind, block_list, inner_rule}
-use Rattle.c_check.proofs.Lists.{passes_on}
+use Rattle.c_check.proofs.Lists.{next, passes_on}
 
 -- ---- the names that a unit defines
 
@@ -72,6 +89,49 @@ param_refuses before p ps known e h =
 
 pub no_param : (before : List VariableTree) (known : Known) → bound_behind before [] known ≡ Ok (before, known)
 no_param before known = ap (λ (l : List VariableTree). Ok (l, known)) (append-nil before)
+
+-- what a loop over parameters has bound so far, and a parameter more
+pub param_next : (variables pushed : List Variable) (v : Variable) (params rest : List ParamShape) (p : ParamShape) (name : List ℕ) (number n : ℕ) (known mid : Known) (total : Result (List VariableTree × Known) Fault) →
+    params ≡ p ∷ rest → name ≡ p.name.items → number ≡ n → n ≡ length variables → pushed ≡ variables ++ v ∷ [] → shown.variable_of v ≡ rule.variable_of (param_of p) → bind_param name number p.ty p.fixed known ≡ Ok (mid, mid)
+    → bound_behind (map shown.variable_of variables) (map param_of params) known ≡ total → bound_behind (map shown.variable_of pushed) (map param_of rest) mid ≡ total
+param_next variables pushed v params rest p name number n known mid total is named counted long put same bound so_far =
+    let before : List VariableTree = map shown.variable_of variables in
+    let at : number ≡ length before = counted ∙ long ∙ sym (length-map variables shown.variable_of) in
+    let whole : bind_param p.name.items (length before) p.ty p.fixed known ≡ Ok (mid, mid) = ap (λ m. bind_param m (length before) p.ty p.fixed known) (sym named) ∙ ap (λ k. bind_param name k p.ty p.fixed known) (sym at) ∙ bound in
+    ap (λ l. bound_behind l (map param_of rest) mid) (ap (map shown.variable_of) put ∙ map-append shown.variable_of variables (v ∷ []) ∙ ap (λ t. before ++ t ∷ []) same)
+    ∙ sym (param_more before (param_of p) (map param_of rest) known mid mid whole)
+    ∙ ap (λ l. bound_behind before (map param_of l) known) (sym is) ∙ so_far
+
+-- a name that is there is bound
+pub named_bound : (name : List ℕ) (number : ℕ) (ty : Qualified) (fixed : Bool) (result : Result Unit CheckError) (after known : Known) → 1 ≤ length name → Learns result after (bind name (ObjectName (object.Param number) ty fixed) known) → Learns result after (bind_param name number ty fixed known)
+named_bound [] number ty fixed result after known some h = absurd (omega arith)
+named_bound (b ∷ bs) number ty fixed result after known some h = h
+
+-- ---- the scope of parameters and body
+
+module _ (b : BlockTree) (params : List Param) (known mid : Known) (entered : enter known ≡ Ok (mid, mid)) where
+  abbrev made_with : List VariableTree → Rule (List VariableTree × List Statement)
+  made_with bound = block_list b statements.outside >>= (λ made. leave >>= (λ _. given (bound, made)))
+
+  abbrev inside : Rule (List VariableTree × List Statement)
+  inside = bound_behind [] params >>= made_with
+
+  pub params_refuse : (e : CheckError) → Refuses e (bound_behind [] params mid) → Refuses e (inner_rule b params known)
+  params_refuse e h = subst (Refuses e) (sym (ap (go_on (λ _. inside)) entered)) (passes_on made_with (bound_behind [] params mid) e h)
+
+  module _ (bound : List VariableTree) (mid2 : Known) (flow : statements.Flow) (have : bound_behind [] params mid ≡ Ok (bound, mid2)) (out : flow ≡ statements.outside) where
+    bound_first : inner_rule b params known ≡ made_with bound mid2
+    bound_first = ap (go_on (λ _. inside)) entered ∙ ap (go_on made_with) have
+
+    pub body_refuses : (e : CheckError) → Refuses e (block_list b flow mid2) → Refuses e (inner_rule b params known)
+    body_refuses e h = subst (Refuses e) (sym bound_first) (passes_on (λ made. leave >>= (λ _. given (bound, made))) (block_list b statements.outside mid2) e (subst (λ f. Refuses e (block_list b f mid2)) out h))
+
+    pub inner_made : (made : List Statement) (mid3 after : Known) → block_list b flow mid2 ≡ Ok (made, mid3) → leave mid3 ≡ Ok (after, after) → inner_rule b params known ≡ Ok ((bound, made), after)
+    inner_made made mid3 after e left =
+        bound_first ∙ ap (λ f. go_on (λ m. leave >>= (λ _. given (bound, m))) (block_list b f mid2)) (sym out) ∙ ap (go_on (λ m. leave >>= (λ _. given (bound, m)))) e ∙ ap (go_on (λ _. given (bound, made))) left
+
+pub scope_refuses : (b : BlockTree) (params : List Param) (known : Known) (e : CheckError) → Refuses e (enter known) → Refuses e (inner_rule b params known)
+scope_refuses b params known e h = passes_on (λ _. bound_behind [] params >>= (λ bound. block_list b statements.outside >>= (λ made. leave >>= (λ _. given (bound, made))))) (enter known) e h
 
 -- ---- bodies
 
@@ -140,6 +200,28 @@ with_none (Err fault) = refl
 pub declaration_more : (d : DeclarationTree) (is : List ItemTree) (known mid seen : Known) → file_declaration d known ≡ Ok (seen, mid) → rule.functions_of (tree.Declaration d ∷ is) known ≡ behind [] (rule.functions_of is) mid
 declaration_more d is known mid seen e = ap (go_on (λ _. rule.functions_of is)) e ∙ with_none (rule.functions_of is mid)
 
+-- what a loop over items has made so far, and an item more
+module _ (items : List Item) (i : ℕ) (item : Item) (old new : Vec Function Global) (known : Known) (later : Checker) (total : Result (List FunctionTree × Known) Fault) (lt : i < length items) (at : item ≡ get_or items i item) where
+  abbrev whole : List Item → Rule (List FunctionTree)
+  whole is = rule.functions_of (map item_of is)
+
+  abbrev rest : List Item
+  rest = drop (i + 1) items
+
+  pub function_next : (inner : code.Function) (made : Function) (pushed : Vec Function Global) (checker : Checker) → item ≡ node.Function inner → rule.function (specs_of inner.specs) (declarator_of inner.declarator) (block_of inner.body) known ≡ Ok (shown.function_of made, known_of checker)
+      → pushed.items ≡ old.items ++ made ∷ [] → new ≡ pushed → later ≡ checker → behind (map shown.function_of old.items) (whole (drop i items)) known ≡ total → behind (map shown.function_of new.items) (whole rest) (known_of later) ≡ total
+  function_next inner made pushed checker is e put are same so_far =
+      let step : whole (item ∷ rest) known ≡ behind (map shown.function_of (made ∷ [])) (whole rest) (known_of checker) = ap (λ x. whole (x ∷ rest) known) is ∙ function_more (specs_of inner.specs) (declarator_of inner.declarator) (block_of inner.body) (map item_of rest) known (known_of checker) (shown.function_of made) e in
+      ap (λ (c : Checker). behind (map shown.function_of new.items) (whole rest) (known_of c)) same
+      ∙ next shown.function_of whole items i known total old.items (made ∷ []) new.items item (known_of checker) lt at step (ap (λ (v : Vec Function Global). v.items) are ∙ put) so_far
+
+  pub declaration_next : (inner : Declaration) (checker : Checker) → item ≡ node.Declaration inner → file_declaration (declaration_of inner) known ≡ Ok (known_of checker, known_of checker) → new ≡ old → later ≡ checker
+      → behind (map shown.function_of old.items) (whole (drop i items)) known ≡ total → behind (map shown.function_of new.items) (whole rest) (known_of later) ≡ total
+  declaration_next inner checker is e are same so_far =
+      let step : whole (item ∷ rest) known ≡ behind [] (whole rest) (known_of checker) = ap (λ x. whole (x ∷ rest) known) is ∙ declaration_more (declaration_of inner) (map item_of rest) known (known_of checker) (known_of checker) e in
+      ap (λ (c : Checker). behind (map shown.function_of new.items) (whole rest) (known_of c)) same
+      ∙ next shown.function_of whole items i known total old.items [] new.items item (known_of checker) lt at step (ap (λ (v : Vec Function Global). v.items) are ∙ sym (append-nil old.items)) so_far
+
 -- ---- the typed program
 
 sizes_are : (xs : List Structure) (ys : List StructureTree) → map shown.structure_of xs ≡ ys → map shown.size_of xs ≡ map (λ s. s.size) ys
@@ -161,6 +243,19 @@ program_is known targets structures functions same h =
     ap (λ t. program t (map shown.structure_of structures) (map shown.size_of structures) known.statics functions) same
     ∙ ap (λ s. program known.targets s (map shown.size_of structures) known.statics functions) h
     ∙ ap (λ n. program known.targets (map rule.structure_tree known.shapes) n known.statics functions) (sizes_are structures (map rule.structure_tree known.shapes) h ∙ sizes_of known.shapes)
+
+-- what a program that is made of these tables shows
+pub typed_is : (result : Option Typed) (known : Known) (targets : Vec Qualified Global) (structures : Vec Structure Global) (statics : Vec Static Global) (functions : Vec Function Global) →
+    IfSome result (λ p. (p.targets ≡ targets) × (p.structures ≡ structures) × (p.statics ≡ statics) × (p.functions ≡ functions)) → targets.items ≡ known.targets → map shown.structure_of structures.items ≡ map rule.structure_tree known.shapes → map shown.static_of statics.items ≡ known.statics
+    → IfSome result (λ p. shown.program_of p ≡ rule.program_from known (map shown.function_of functions.items))
+typed_is None known targets structures statics functions kept same h held = tt
+typed_is (Some p) known targets structures statics functions kept same h held =
+    ap (λ (t : Vec Qualified Global). shown.program_from t.items p.structures.items p.statics.items p.functions.items) kept.0
+    ∙ ap (λ (t : Vec Structure Global). shown.program_from targets.items t.items p.statics.items p.functions.items) kept.1
+    ∙ ap (λ (t : Vec Static Global). shown.program_from targets.items structures.items t.items p.functions.items) kept.2
+    ∙ ap (λ (t : Vec Function Global). shown.program_from targets.items structures.items statics.items t.items) kept.3
+    ∙ ap (λ l. program targets.items (map shown.structure_of structures.items) (map shown.size_of structures.items) l (map shown.function_of functions.items)) held
+    ∙ program_is known targets.items structures.items (map shown.function_of functions.items) same h
 
 -- ---- the whole unit
 
