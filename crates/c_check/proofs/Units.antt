@@ -25,7 +25,6 @@ use Rattle.c_typed.specs.declared.types.Structure.{Structure}
 use Rattle.c_typed.specs.declared.types.Qualified.{Qualified}
 use Rattle.c_typed.specs.declared.types.Ty.{Ty}
 use Rattle.type_rules.specs.Declarations.{block_declarations, file_declaration}
-use Rattle.type_rules.specs.Declarators.{name_in}
 use Rattle.type_rules.specs.Faults.{Fault}
 use Rattle.type_rules.specs.Known.{ObjectName, Shape, Known, Rule, given, known_first, known_here, go_on, ◌>>=◌}
 use Rattle.type_rules.specs.Names.{bind, enter, leave}

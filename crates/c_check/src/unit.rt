@@ -79,10 +79,7 @@ fn bind_param(
 }
 
 // Puts the parameters into the innermost scope.
-fn bind_params(
-    checker: &mut Checker,
-    params: Vec<ParamShape>,
-) -> Result<Vec<Variable>, CheckError>
+fn bind_params(checker: &mut Checker, params: Vec<ParamShape>) -> Result<Vec<Variable>, CheckError>
     ensures { Answers (λ bound. map variable_of bound.items) result (known_of checker.new) (bound_behind [] (map param_of params.items) (known_of checker.old)) }
 {
     let mut variables = Vec::new(checker.alloc);
