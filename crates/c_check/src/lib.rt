@@ -3,8 +3,8 @@
 //! In: the tree of a text. Out: its typed tree, or the first node that breaks a rule on names and types.
 //! Here stand declarations with their initializers, statements and functions; expressions, specifiers and declarators
 //! stand in the crates below.
-//! The promise so far: it ends on every tree. That the typed tree is the one of the rules is tested, and
-//! not yet proved.
+//! The promise: what `check` answers is the typed program that the rules on names and types (type_rules) give to the unit, or the first
+//! rule that it breaks, with its kind and line, unless memory runs out.
 #![tactic(auto)]
 
 mod declaration;
