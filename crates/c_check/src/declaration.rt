@@ -323,9 +323,7 @@ fn block_declarator(
     declared: &InitDeclarator,
     checker: &mut Checker,
     specified: Specified,
-) -> Result<Vec<TStmt>, CheckError>
-    ensures { Answers (λ made. map statement_of made.items) result (known_of checker.new) (rule.block_declarator (begun_of declared.now) (specified_of specified) (known_of checker.old)) }
-{
+) -> Result<Vec<TStmt>, CheckError> {
     let outline = outline(&declared.declarator, checker, specified, false)?;
     let line = line_of(&declared.declarator);
     let name = name_of(&declared.declarator);
@@ -337,9 +335,7 @@ fn block_declarators(
     list: &DeclaredTree,
     checker: &mut Checker,
     specified: Specified,
-) -> Result<Vec<TStmt>, CheckError>
-    ensures { Answers (λ made. map statement_of made.items) result (known_of checker.new) (rule.declared_in_block (declared_of (Some list.now)) (specified_of specified) (known_of checker.old)) }
-{
+) -> Result<Vec<TStmt>, CheckError> {
     let mut statements = block_declarator(&list.first, checker, specified)?;
     for next in &list.others {
         let mut made = block_declarator(&next.declarator, checker, specified)?;
@@ -352,9 +348,7 @@ fn block_declarators(
 fn block_declaration(
     declaration: &Declaration,
     checker: &mut Checker,
-) -> Result<Vec<TStmt>, CheckError>
-    ensures { Answers (λ made. map statement_of made.items) result (known_of checker.new) (rule.block_declaration (declaration_of declaration.now) (known_of checker.old)) }
-{
+) -> Result<Vec<TStmt>, CheckError> {
     let specified = specified(&declaration.specs, checker, in_block())?;
     match &declaration.declared {
         Some(list) => block_declarators(list, checker, specified),
@@ -369,9 +363,7 @@ fn block_declaration(
 pub(crate) fn block_declarations(
     list: &[Declaration],
     checker: &mut Checker,
-) -> Result<Vec<TStmt>, CheckError>
-    ensures { Answers (λ made. map statement_of made.items) result (known_of checker.new) (rule.block_declarations (map declaration_of list.now) (known_of checker.old)) }
-{
+) -> Result<Vec<TStmt>, CheckError> {
     let mut statements = Vec::new(checker.alloc);
     for declaration in list {
         let mut made = block_declaration(declaration, checker)?;

@@ -1,17 +1,5 @@
 //! Statements, from the tree's root down (ISO/IEC 9899:1990, 6.6).
 
-ghost use Rattle.std.specs.Prelude.{[], map};
-ghost use Rattle.std.specs.Option.{option_map};
-ghost use Rattle.c_tree.specs.ProgramViews as views;
-ghost use Rattle.c_tree.specs.Views.{expr_of};
-ghost use Rattle.c_typed.specs.Trees as typed;
-ghost use Rattle.c_typed.specs.Views.{arm_of, expression_of, statement_of};
-ghost use Rattle.type_rules.specs.Known.{Known, given};
-ghost use Rattle.type_rules.specs.Statements as rule;
-ghost use Rattle.c_operate.specs.Answers.{Answers};
-ghost use Rattle.c_operate.specs.Tables.{known_of};
-ghost use Rattle.c_check.specs.StatementViews.{any_statement, block_list, body_of, do_rule, flow_of, for_rule, scoped_rule, switch_rule, while_rule};
-
 use crate::declaration::block_declarations;
 use crate::flow::Flow;
 use crate::switch::{SwitchBody, labelled};
@@ -32,9 +20,7 @@ pub(crate) fn block(
     block: &Block,
     checker: &mut Checker,
     flow: Flow,
-) -> Result<Vec<TStmt>, CheckError>
-    ensures { Answers (λ made. map statement_of made.items) result (known_of checker.new) (block_list (views.block_of block.now) (flow_of flow) (known_of checker.old)) }
-{
+) -> Result<Vec<TStmt>, CheckError> {
     let mut statements = block_declarations(&block.declarations, checker)?;
     for inner in &block.statements {
         let made = statement(inner, checker, flow)?;
@@ -44,10 +30,11 @@ pub(crate) fn block(
 }
 
 #[cycle(statement)]
-#[tactic(auto, using(crate::proofs::Statements::nodes))]
-fn statement(statement: &Statement, checker: &mut Checker, flow: Flow) -> Result<TStmt, CheckError>
-    ensures { Answers statement_of result (known_of checker.new) (rule.statement (views.statement_of statement.now) (flow_of flow) (known_of checker.old)) }
-{
+fn statement(
+    statement: &Statement,
+    checker: &mut Checker,
+    flow: Flow,
+) -> Result<TStmt, CheckError> {
     match statement {
         Statement::Block(inner) => scoped(inner, checker, flow),
         Statement::Expr { expr, semicolon } => dropped(expr, checker, *semicolon),
@@ -82,9 +69,7 @@ fn statement(statement: &Statement, checker: &mut Checker, flow: Flow) -> Result
 
 // A block that opens a scope.
 #[cycle(statement)]
-fn scoped(inner: &Block, checker: &mut Checker, flow: Flow) -> Result<TStmt, CheckError>
-    ensures { Answers statement_of result (known_of checker.new) (scoped_rule (views.block_of inner.now) (flow_of flow) (known_of checker.old)) }
-{
+fn scoped(inner: &Block, checker: &mut Checker, flow: Flow) -> Result<TStmt, CheckError> {
     let line = inner.opening;
     checker.scopes.enter()?;
     let statements = block(inner, checker, flow)?;
@@ -92,16 +77,13 @@ fn scoped(inner: &Block, checker: &mut Checker, flow: Flow) -> Result<TStmt, Che
     Ok(TStmt::Block { statements, line })
 }
 
-#[tactic(auto, using(c_typed::proofs::Shapes::show_statement_loop))]
 fn looped(
     alloc: Global,
     form: LoopForm,
     head: LoopHead,
     body: TStmt,
     line: u32,
-) -> Result<TStmt, CheckError>
-    ensures { (known : Known) → Answers statement_of result known (given (typed.Loop form (option_map expression_of head.begin) (option_map expression_of head.condition) (option_map expression_of head.step) (statement_of body) line) known) }
-{
+) -> Result<TStmt, CheckError> {
     let LoopHead {
         begin,
         condition,
@@ -124,9 +106,7 @@ fn while_loop(
     checker: &mut Checker,
     expr: &Expr,
     line: u32,
-) -> Result<TStmt, CheckError>
-    ensures { Answers statement_of result (known_of checker.new) (while_rule (expr_of expr.now) (views.statement_of body.now) line (known_of checker.old)) }
-{
+) -> Result<TStmt, CheckError> {
     let condition = condition(expr, checker)?;
     let body = statement(body, checker, Flow::in_loop())?;
     looped(
@@ -144,9 +124,7 @@ fn do_loop(
     checker: &mut Checker,
     expr: &Expr,
     line: u32,
-) -> Result<TStmt, CheckError>
-    ensures { Answers statement_of result (known_of checker.new) (do_rule (expr_of expr.now) (views.statement_of body.now) line (known_of checker.old)) }
-{
+) -> Result<TStmt, CheckError> {
     let body = statement(body, checker, Flow::in_loop())?;
     let condition = condition(expr, checker)?;
     looped(
@@ -164,9 +142,7 @@ fn for_loop(
     checker: &mut Checker,
     head: &ForHead,
     line: u32,
-) -> Result<TStmt, CheckError>
-    ensures { Answers statement_of result (known_of checker.new) (for_rule (views.head_of head.now) (views.statement_of body.now) line (known_of checker.old)) }
-{
+) -> Result<TStmt, CheckError> {
     let begin = evaluated_if_any(&head.begin, checker)?;
     let condition = condition_if_any(&head.condition, checker)?;
     let step = evaluated_if_any(&head.step, checker)?;
@@ -186,9 +162,7 @@ fn switch(
     flow: Flow,
     value: &Expr,
     line: u32,
-) -> Result<TStmt, CheckError>
-    ensures { Answers statement_of result (known_of checker.new) (switch_rule (expr_of value.now) (views.items_of (map views.switch_item_of items.now)) (flow_of flow) line (known_of checker.old)) }
-{
+) -> Result<TStmt, CheckError> {
     let (value, ty) = switched(value, checker)?;
     let body = switch_body(items, checker, flow.in_switch(), ty)?;
     Ok(body.finish(value, line))
@@ -200,9 +174,7 @@ fn switch_body(
     checker: &mut Checker,
     flow: Flow,
     ty: IntTy,
-) -> Result<SwitchBody, CheckError>
-    ensures { Answers body_of result (known_of checker.new) (rule.items (views.items_of (map views.switch_item_of items.now)) (flow_of flow) ty rule.no_items (known_of checker.old)) }
-{
+) -> Result<SwitchBody, CheckError> {
     let mut body = SwitchBody::new(checker.alloc, ty);
     for item in items {
         match item {
@@ -217,9 +189,7 @@ fn switch_body(
 }
 
 #[cycle(statement)]
-fn if_chain(chain: &IfChain, checker: &mut Checker, flow: Flow) -> Result<TStmt, CheckError>
-    ensures { Answers statement_of result (known_of checker.new) (rule.statement (views.if_chain_of chain.now) (flow_of flow) (known_of checker.old)) }
-{
+fn if_chain(chain: &IfChain, checker: &mut Checker, flow: Flow) -> Result<TStmt, CheckError> {
     let line = chain.first.keyword;
     let mut arms = Vec::new(checker.alloc);
     let first = arm(&chain.first, checker, flow)?;
@@ -242,9 +212,7 @@ fn last_arm(
     last: &Option<Box<Otherwise>>,
     checker: &mut Checker,
     flow: Flow,
-) -> Result<Option<Box<TStmt>>, CheckError>
-    ensures { Answers (λ made. ([], any_statement made)) result (known_of checker.new) (rule.other_arms (views.arms_of [] (views.otherwise_in last.now)) (flow_of flow) (known_of checker.old)) }
-{
+) -> Result<Option<Box<TStmt>>, CheckError> {
     match last {
         Some(last) => {
             let made = statement(&last.statement, checker, flow)?;
@@ -255,9 +223,7 @@ fn last_arm(
 }
 
 #[cycle(statement)]
-fn arm(arm: &Arm, checker: &mut Checker, flow: Flow) -> Result<TArm, CheckError>
-    ensures { Answers arm_of result (known_of checker.new) (rule.arm (views.arm_of arm.now) (flow_of flow) (known_of checker.old)) }
-{
+fn arm(arm: &Arm, checker: &mut Checker, flow: Flow) -> Result<TArm, CheckError> {
     let condition = condition(&arm.condition.expr, checker)?;
     let then = statement(&arm.then, checker, flow)?;
     Ok(TArm {
