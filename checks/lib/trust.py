@@ -9,7 +9,7 @@ HEADLINE = ['headline/Headline', 'picc_cli/PortProgram', 'hex_image/HexFile', 'h
 TOTALS = {
     'In all': HEADLINE,
     'contract': ['picc_cli/Command', 'picc_cli/CommandView', 'picc_cli/Finished', 'picc_cli/Simulation', 'picc_cli/Traced', 'host_io/Host'],
-    'source': ['headline/SourceOf'],
+    'source': ['headline/SourceOf', 'picc_core/Typed'],
 }
 ROW = re.compile(r'^\| `(\w+/\w+)` \| (\d+) \|', re.MULTILINE)
 

@@ -5,10 +5,10 @@ use Rattle.c_typed.specs.Trees.{Statement}
 use Rattle.c_typed.specs.declared.types.Qualified.{Qualified}
 use Rattle.c_typed.specs.declared.types.Ty.{Ty}
 use Rattle.type_rules.specs.Declarations as rule
-use Rattle.type_rules.specs.Declarators.{in_block, in_file, specified}
+use Rattle.type_rules.specs.Declarators.{in_block, in_file, line_in, name_in, outline_of, specified}
 use Rattle.type_rules.specs.Faults as kind
 use Rattle.type_rules.specs.Faults.{Fault}
-use Rattle.type_rules.specs.Known.{Binding, ObjectName, BitName, FunctionName, Known, Rule, given, tried, go_on, ◌>>=◌}
+use Rattle.type_rules.specs.Known.{Binding, ObjectName, BitName, FunctionName, Known, Rule, given, known_here, tried, go_on, ◌>>=◌}
 use Rattle.type_rules.specs.Names.{innermost_in, tests_of_new}
 use Rattle.type_rules.specs.Objects.{next_declarator, object_rule, static_rule, block_name, local_rule}
 use Rattle.type_rules.specs.Outlines.{Outline, Param}
@@ -133,3 +133,21 @@ module _ (said : Specified) (o : Outline) (init : Option (ℕ × InitTree)) (nam
 
   pub block_last : {X : Type 0} (view : X → List Statement) (ty : Qualified) (k : ℕ) (mid after : Known) (result : Result X CheckError) → object_rule said o given_value line known ≡ Ok (ty, known) → next_declarator known ≡ Ok (k, mid) → Answers view result after (rule.block_object said ty (rule.init_in init) name k line mid) → Answers view result after (object_in_block said o init name line known)
   block_last view ty k mid after result typed number h = subst (Answers view result after) (sym (ap (go_on (λ n. rule.block_object said ty (rule.init_in init) name n line)) number) ∙ sym (ap (go_on numbered) typed) ∙ typed_at) h
+
+-- ---- declarators of blocks, behind what they declare
+
+module _ (b : BegunTree) (said : Specified) (o : Outline) (name : List ℕ) (line : ℕ) (known mid : Known) (outlined : outline_of b.declarator said false known ≡ Ok (o, mid)) (named : name ≡ name_in b.declarator) (lined : line ≡ line_in b.declarator) where
+  abbrev behind_new : Outline → Rule (List Statement)
+  behind_new o = known_here >>= (λ here. tests_of_new here (name_in b.declarator) (line_in b.declarator) >>= (λ _. object_in_block said o b.init (name_in b.declarator) (line_in b.declarator)))
+
+  behind_outline : go_on (λ _. object_in_block said o b.init name line) (tests_of_new mid name line mid) ≡ rule.block_declarator b said known
+  behind_outline =
+      ap (λ (n : List ℕ). go_on (λ _. object_in_block said o b.init n line) (tests_of_new mid n line mid)) named
+      ∙ ap (λ (l : ℕ). go_on (λ _. object_in_block said o b.init (name_in b.declarator) l) (tests_of_new mid (name_in b.declarator) l mid)) lined
+      ∙ sym (ap (go_on behind_new) outlined)
+
+  pub declarator_again : (e : CheckError) → Refuses e (tests_of_new mid name line mid) → Refuses e (rule.block_declarator b said known)
+  declarator_again e h = subst (Refuses e) behind_outline (passes_on (λ _. object_in_block said o b.init name line) (tests_of_new mid name line mid) e h)
+
+  pub declarator_last : {X : Type 0} (view : X → List Statement) (result : Result X CheckError) (after : Known) → tests_of_new mid name line mid ≡ Ok (mid, mid) → Answers view result after (object_in_block said o b.init name line mid) → Answers view result after (rule.block_declarator b said known)
+  declarator_last view result after new h = subst (Answers view result after) (sym (ap (go_on (λ _. object_in_block said o b.init name line)) new) ∙ behind_outline) h

@@ -9,5 +9,11 @@ pub mod Parting
 pub mod Puts
 pub mod Texts
 pub mod Declared
+pub mod Items
 pub mod Lists
 pub mod Returning
+pub mod Statements
+pub mod Units
+pub mod Labels
+pub mod Answering
+pub mod Bodies

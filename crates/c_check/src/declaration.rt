@@ -323,7 +323,9 @@ fn block_declarator(
     declared: &InitDeclarator,
     checker: &mut Checker,
     specified: Specified,
-) -> Result<Vec<TStmt>, CheckError> {
+) -> Result<Vec<TStmt>, CheckError>
+    ensures { Answers (λ made. map statement_of made.items) result (known_of checker.new) (rule.block_declarator (begun_of declared.now) (specified_of specified) (known_of checker.old)) }
+{
     let outline = outline(&declared.declarator, checker, specified, false)?;
     let line = line_of(&declared.declarator);
     let name = name_of(&declared.declarator);
@@ -335,7 +337,9 @@ fn block_declarators(
     list: &DeclaredTree,
     checker: &mut Checker,
     specified: Specified,
-) -> Result<Vec<TStmt>, CheckError> {
+) -> Result<Vec<TStmt>, CheckError>
+    ensures { Answers (λ made. map statement_of made.items) result (known_of checker.new) (rule.declared_in_block (declared_of (Some list.now)) (specified_of specified) (known_of checker.old)) }
+{
     let mut statements = block_declarator(&list.first, checker, specified)?;
     for next in &list.others {
         let mut made = block_declarator(&next.declarator, checker, specified)?;
@@ -348,7 +352,9 @@ fn block_declarators(
 fn block_declaration(
     declaration: &Declaration,
     checker: &mut Checker,
-) -> Result<Vec<TStmt>, CheckError> {
+) -> Result<Vec<TStmt>, CheckError>
+    ensures { Answers (λ made. map statement_of made.items) result (known_of checker.new) (rule.block_declaration (declaration_of declaration.now) (known_of checker.old)) }
+{
     let specified = specified(&declaration.specs, checker, in_block())?;
     match &declaration.declared {
         Some(list) => block_declarators(list, checker, specified),
@@ -363,7 +369,9 @@ fn block_declaration(
 pub(crate) fn block_declarations(
     list: &[Declaration],
     checker: &mut Checker,
-) -> Result<Vec<TStmt>, CheckError> {
+) -> Result<Vec<TStmt>, CheckError>
+    ensures { Answers (λ made. map statement_of made.items) result (known_of checker.new) (rule.block_declarations (map declaration_of list.now) (known_of checker.old)) }
+{
     let mut statements = Vec::new(checker.alloc);
     for declaration in list {
         let mut made = block_declaration(declaration, checker)?;

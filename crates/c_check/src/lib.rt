@@ -3,9 +3,8 @@
 //! In: the tree of a text. Out: its typed tree, or the first node that breaks a rule on names and types.
 //! Here stand declarations with their initializers, statements and functions; expressions, specifiers and declarators
 //! stand in the crates below.
-//! The promise so far: it ends on every tree. Initializers, objects, declarations outside functions, and the expressions of most
-//! statements are answered as the rules (type_rules) say, unless memory runs out. That this holds of statements and of the whole unit is
-//! tested, and not yet proved.
+//! The promise: what `check` answers is the typed program that the rules on names and types (type_rules) give to the unit, or the first
+//! rule that it breaks, with its kind and line, unless memory runs out.
 #![tactic(auto)]
 
 mod declaration;

@@ -1,5 +1,17 @@
 //! Statements, from the tree's root down (ISO/IEC 9899:1990, 6.6).
 
+ghost use Rattle.std.specs.Prelude.{[], map};
+ghost use Rattle.std.specs.Option.{option_map};
+ghost use Rattle.c_tree.specs.ProgramViews as views;
+ghost use Rattle.c_tree.specs.Views.{expr_of};
+ghost use Rattle.c_typed.specs.Trees as typed;
+ghost use Rattle.c_typed.specs.Views.{arm_of, expression_of, statement_of};
+ghost use Rattle.type_rules.specs.Known.{Known, given};
+ghost use Rattle.type_rules.specs.Statements as rule;
+ghost use Rattle.c_operate.specs.Answers.{Answers};
+ghost use Rattle.c_operate.specs.Tables.{known_of};
+ghost use Rattle.c_check.specs.StatementViews.{any_statement, block_list, body_of, do_rule, flow_of, for_rule, scoped_rule, switch_rule, while_rule};
+
 use crate::declaration::block_declarations;
 use crate::flow::Flow;
 use crate::switch::{SwitchBody, labelled};
@@ -20,7 +32,9 @@ pub(crate) fn block(
     block: &Block,
     checker: &mut Checker,
     flow: Flow,
-) -> Result<Vec<TStmt>, CheckError> {
+) -> Result<Vec<TStmt>, CheckError>
+    ensures { Answers (λ made. map statement_of made.items) result (known_of checker.new) (block_list (views.block_of block.now) (flow_of flow) (known_of checker.old)) }
+{
     let mut statements = block_declarations(&block.declarations, checker)?;
     for inner in &block.statements {
         let made = statement(inner, checker, flow)?;
@@ -30,11 +44,10 @@ pub(crate) fn block(
 }
 
 #[cycle(statement)]
-fn statement(
-    statement: &Statement,
-    checker: &mut Checker,
-    flow: Flow,
-) -> Result<TStmt, CheckError> {
+#[tactic(auto, using(crate::proofs::Statements::nodes))]
+fn statement(statement: &Statement, checker: &mut Checker, flow: Flow) -> Result<TStmt, CheckError>
+    ensures { Answers statement_of result (known_of checker.new) (rule.statement (views.statement_of statement.now) (flow_of flow) (known_of checker.old)) }
+{
     match statement {
         Statement::Block(inner) => scoped(inner, checker, flow),
         Statement::Expr { expr, semicolon } => dropped(expr, checker, *semicolon),
@@ -69,7 +82,9 @@ fn statement(
 
 // A block that opens a scope.
 #[cycle(statement)]
-fn scoped(inner: &Block, checker: &mut Checker, flow: Flow) -> Result<TStmt, CheckError> {
+fn scoped(inner: &Block, checker: &mut Checker, flow: Flow) -> Result<TStmt, CheckError>
+    ensures { Answers statement_of result (known_of checker.new) (scoped_rule (views.block_of inner.now) (flow_of flow) (known_of checker.old)) }
+{
     let line = inner.opening;
     checker.scopes.enter()?;
     let statements = block(inner, checker, flow)?;
@@ -77,13 +92,16 @@ fn scoped(inner: &Block, checker: &mut Checker, flow: Flow) -> Result<TStmt, Che
     Ok(TStmt::Block { statements, line })
 }
 
+#[tactic(auto, using(c_typed::proofs::Shapes::show_statement_loop))]
 fn looped(
     alloc: Global,
     form: LoopForm,
     head: LoopHead,
     body: TStmt,
     line: u32,
-) -> Result<TStmt, CheckError> {
+) -> Result<TStmt, CheckError>
+    ensures { (known : Known) → Answers statement_of result known (given (typed.Loop form (option_map expression_of head.begin) (option_map expression_of head.condition) (option_map expression_of head.step) (statement_of body) line) known) }
+{
     let LoopHead {
         begin,
         condition,
@@ -106,7 +124,9 @@ fn while_loop(
     checker: &mut Checker,
     expr: &Expr,
     line: u32,
-) -> Result<TStmt, CheckError> {
+) -> Result<TStmt, CheckError>
+    ensures { Answers statement_of result (known_of checker.new) (while_rule (expr_of expr.now) (views.statement_of body.now) line (known_of checker.old)) }
+{
     let condition = condition(expr, checker)?;
     let body = statement(body, checker, Flow::in_loop())?;
     looped(
@@ -124,7 +144,9 @@ fn do_loop(
     checker: &mut Checker,
     expr: &Expr,
     line: u32,
-) -> Result<TStmt, CheckError> {
+) -> Result<TStmt, CheckError>
+    ensures { Answers statement_of result (known_of checker.new) (do_rule (expr_of expr.now) (views.statement_of body.now) line (known_of checker.old)) }
+{
     let body = statement(body, checker, Flow::in_loop())?;
     let condition = condition(expr, checker)?;
     looped(
@@ -142,7 +164,9 @@ fn for_loop(
     checker: &mut Checker,
     head: &ForHead,
     line: u32,
-) -> Result<TStmt, CheckError> {
+) -> Result<TStmt, CheckError>
+    ensures { Answers statement_of result (known_of checker.new) (for_rule (views.head_of head.now) (views.statement_of body.now) line (known_of checker.old)) }
+{
     let begin = evaluated_if_any(&head.begin, checker)?;
     let condition = condition_if_any(&head.condition, checker)?;
     let step = evaluated_if_any(&head.step, checker)?;
@@ -162,7 +186,9 @@ fn switch(
     flow: Flow,
     value: &Expr,
     line: u32,
-) -> Result<TStmt, CheckError> {
+) -> Result<TStmt, CheckError>
+    ensures { Answers statement_of result (known_of checker.new) (switch_rule (expr_of value.now) (views.items_of (map views.switch_item_of items.now)) (flow_of flow) line (known_of checker.old)) }
+{
     let (value, ty) = switched(value, checker)?;
     let body = switch_body(items, checker, flow.in_switch(), ty)?;
     Ok(body.finish(value, line))
@@ -174,7 +200,9 @@ fn switch_body(
     checker: &mut Checker,
     flow: Flow,
     ty: IntTy,
-) -> Result<SwitchBody, CheckError> {
+) -> Result<SwitchBody, CheckError>
+    ensures { Answers body_of result (known_of checker.new) (rule.items (views.items_of (map views.switch_item_of items.now)) (flow_of flow) ty rule.no_items (known_of checker.old)) }
+{
     let mut body = SwitchBody::new(checker.alloc, ty);
     for item in items {
         match item {
@@ -189,7 +217,9 @@ fn switch_body(
 }
 
 #[cycle(statement)]
-fn if_chain(chain: &IfChain, checker: &mut Checker, flow: Flow) -> Result<TStmt, CheckError> {
+fn if_chain(chain: &IfChain, checker: &mut Checker, flow: Flow) -> Result<TStmt, CheckError>
+    ensures { Answers statement_of result (known_of checker.new) (rule.statement (views.if_chain_of chain.now) (flow_of flow) (known_of checker.old)) }
+{
     let line = chain.first.keyword;
     let mut arms = Vec::new(checker.alloc);
     let first = arm(&chain.first, checker, flow)?;
@@ -212,7 +242,9 @@ fn last_arm(
     last: &Option<Box<Otherwise>>,
     checker: &mut Checker,
     flow: Flow,
-) -> Result<Option<Box<TStmt>>, CheckError> {
+) -> Result<Option<Box<TStmt>>, CheckError>
+    ensures { Answers (λ made. ([], any_statement made)) result (known_of checker.new) (rule.other_arms (views.arms_of [] (views.otherwise_in last.now)) (flow_of flow) (known_of checker.old)) }
+{
     match last {
         Some(last) => {
             let made = statement(&last.statement, checker, flow)?;
@@ -223,7 +255,9 @@ fn last_arm(
 }
 
 #[cycle(statement)]
-fn arm(arm: &Arm, checker: &mut Checker, flow: Flow) -> Result<TArm, CheckError> {
+fn arm(arm: &Arm, checker: &mut Checker, flow: Flow) -> Result<TArm, CheckError>
+    ensures { Answers arm_of result (known_of checker.new) (rule.arm (views.arm_of arm.now) (flow_of flow) (known_of checker.old)) }
+{
     let condition = condition(&arm.condition.expr, checker)?;
     let then = statement(&arm.then, checker, flow)?;
     Ok(TArm {

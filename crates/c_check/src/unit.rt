@@ -1,5 +1,20 @@
 //! Functions, and the whole unit (ISO/IEC 9899:1990, 6.7).
 
+ghost use Rattle.std.specs.Prelude.{◌≡◌, [], map, Ok, IfOk, IfErr, IfSome, OnOk};
+ghost use Rattle.c_tree.specs.ProgramViews.{block_of, unit_of};
+ghost use Rattle.c_tree.specs.Views.{declarator_of, specs_of};
+ghost use Rattle.c_typed.specs.Views.{function_of, program_of, statement_of, variable_of};
+ghost use Rattle.type_rules.specs.Declarators.{line_in, name_in};
+ghost use Rattle.type_rules.specs.Known.{known_first};
+ghost use Rattle.type_rules.specs.Outlines as outlines;
+ghost use Rattle.type_rules.specs.Units as rule;
+ghost use Rattle.c_operate.specs.Answers.{Answers, Learns};
+ghost use Rattle.c_operate.specs.Tables.{known_of};
+ghost use Rattle.c_operate.specs.declared.error.CheckError.TheVariants.{NoMemory};
+ghost use Rattle.check_expr.specs.Views.{outline_of, param_of, specified_of};
+ghost use Rattle.c_check.specs.Checks.{Checks};
+ghost use Rattle.c_check.specs.StatementViews.{bound_behind, inner_rule, no_function};
+
 use crate::declaration::{declare_function, file_declaration, in_file, name_of};
 use crate::flow::Flow;
 use crate::statement::block;
@@ -17,14 +32,20 @@ use std::alloc::Global;
 use std::mem;
 
 // Puts a name behind the others, if it isn't among them.
-fn put_name(alloc: Global, name: &[u8], names: &mut IndexSet<Vec<u8>>) -> Result<(), CheckError> {
+fn put_name(alloc: Global, name: &[u8], names: &mut IndexSet<Vec<u8>>) -> Result<(), CheckError>
+    ensures ok { OnOk result (map (λ name. name.items) names.new.keys ≡ rule.with_name name.now (map (λ name. name.items) names.old.keys)) }
+    ensures err { IfErr result (λ e. e ≡ NoMemory) }
+{
     let name = name.to_vec(alloc)?;
     let (_, _) = names.insert_full(name)?;
     Ok(())
 }
 
 // The names of the functions that a unit defines, in order.
-fn definitions(alloc: Global, unit: &Unit) -> Result<IndexSet<Vec<u8>>, CheckError> {
+fn definitions(alloc: Global, unit: &Unit) -> Result<IndexSet<Vec<u8>>, CheckError>
+    ensures ok { IfOk result (λ names. map (λ name. name.items) names.keys ≡ rule.defined_in (unit_of unit.now) []) }
+    ensures err { IfErr result (λ e. e ≡ NoMemory) }
+{
     let mut names = IndexSet::new(alloc);
     for item in &unit.items {
         match item {
@@ -44,7 +65,9 @@ fn bind_param(
     number: u32,
     ty: Qualified,
     fixed: bool,
-) -> Result<(), CheckError> {
+) -> Result<(), CheckError>
+    ensures { Learns result (known_of checker.new) (outlines.bind_param name.now number ty fixed (known_of checker.old)) }
+{
     match name {
         [] => Ok(()),
         [_, ..] => {
@@ -56,10 +79,9 @@ fn bind_param(
 }
 
 // Puts the parameters into the innermost scope.
-fn bind_params(
-    checker: &mut Checker,
-    params: Vec<ParamShape>,
-) -> Result<Vec<Variable>, CheckError> {
+fn bind_params(checker: &mut Checker, params: Vec<ParamShape>) -> Result<Vec<Variable>, CheckError>
+    ensures { Answers (λ bound. map variable_of bound.items) result (known_of checker.new) (bound_behind [] (map param_of params.items) (known_of checker.old)) }
+{
     let mut variables = Vec::new(checker.alloc);
     for param in params {
         let ParamShape {
@@ -75,7 +97,9 @@ fn bind_params(
 }
 
 // Begins the body of a function.
-fn begin_body(checker: &mut Checker, name: &[u8], returns: Ty) -> Result<(), CheckError> {
+fn begin_body(checker: &mut Checker, name: &[u8], returns: Ty) -> Result<(), CheckError>
+    ensures { Learns result (known_of checker.new) (rule.body_begun name.now returns (known_of checker.old)) }
+{
     match Body::begin(checker.alloc, name, returns) {
         Ok(body) => {
             checker.body = body;
@@ -86,7 +110,10 @@ fn begin_body(checker: &mut Checker, name: &[u8], returns: Ty) -> Result<(), Che
 }
 
 // Ends the body of a function, and gives its locals.
-fn end_body(checker: &mut Checker) -> Vec<Variable> {
+fn end_body(checker: &mut Checker) -> Vec<Variable>
+    ensures locals { map variable_of result.items ≡ ((known_of checker.old).body).locals }
+    ensures after { rule.body_ended (known_of checker.old) ≡ Ok (known_of checker.new, known_of checker.new) }
+{
     let body = mem::replace(&mut checker.body, Body::outside(checker.alloc));
     body.into_locals()
 }
@@ -103,7 +130,9 @@ fn inner(
     function: &Function,
     checker: &mut Checker,
     params: Vec<ParamShape>,
-) -> Result<Checked, CheckError> {
+) -> Result<Checked, CheckError>
+    ensures { Answers (λ made. (map variable_of made.params.items, map statement_of made.statements.items)) result (known_of checker.new) (inner_rule (block_of function.now.body) (map param_of params.items) (known_of checker.old)) }
+{
     checker.scopes.enter()?;
     let params = bind_params(checker, params)?;
     let statements = block(&function.body, checker, Flow::outside())?;
@@ -111,13 +140,16 @@ fn inner(
     Ok(Checked { params, statements })
 }
 
+#[tactic(auto, using(crate::proofs::Statements::same_statements, crate::proofs::Units::function_made, crate::proofs::Units::function_refuses))]
 fn function_body(
     function: &Function,
     checker: &mut Checker,
     specified: Specified,
     returns: Ty,
     params: Vec<ParamShape>,
-) -> Result<TypedFunction, CheckError> {
+) -> Result<TypedFunction, CheckError>
+    ensures { Answers function_of result (known_of checker.new) (rule.function_body (block_of function.now.body) (specified_of specified) (name_in (declarator_of function.now.declarator)) returns (map param_of params.items) (known_of checker.old)) }
+{
     let name = name_of(&function.declarator);
     begin_body(checker, name, returns)?;
     let Checked { params, statements } = inner(function, checker, params)?;
@@ -134,7 +166,9 @@ fn function_body(
 }
 
 // Refuses what is written as a function and declares none.
-fn refuse_object(checker: &Checker, name: &[u8], line: u32) -> Result<TypedFunction, CheckError> {
+fn refuse_object(checker: &Checker, name: &[u8], line: u32) -> Result<TypedFunction, CheckError>
+    ensures { Answers function_of result (known_of checker.now) (no_function name.now line (known_of checker.now)) }
+{
     checker.scopes.refuse_again(name, line)?;
     refused(Kind::Declare, line)
 }
@@ -144,7 +178,9 @@ fn function_declared(
     checker: &mut Checker,
     specified: Specified,
     outline: Outline,
-) -> Result<TypedFunction, CheckError> {
+) -> Result<TypedFunction, CheckError>
+    ensures { Answers function_of result (known_of checker.new) (rule.function_declared (outline_of outline).declared (block_of function.now.body) (specified_of specified) (outline_of outline) (name_in (declarator_of function.now.declarator)) (line_in (declarator_of function.now.declarator)) (known_of checker.old)) }
+{
     let line = line_of(&function.declarator);
     let name = name_of(&function.declarator);
     let bad = outline.bad;
@@ -157,14 +193,18 @@ fn function_declared(
     }
 }
 
-fn function(function: &Function, checker: &mut Checker) -> Result<TypedFunction, CheckError> {
+fn function(function: &Function, checker: &mut Checker) -> Result<TypedFunction, CheckError>
+    ensures { Answers function_of result (known_of checker.new) (rule.function (specs_of function.now.specs) (declarator_of function.now.declarator) (block_of function.now.body) (known_of checker.old)) }
+{
     let specified = specified(&function.specs, checker, in_file())?;
     let outline = outline(&function.declarator, checker, specified, true)?;
     function_declared(function, checker, specified, outline)
 }
 
 // The functions of a unit, in order, whose declarations are checked with them.
-fn functions(unit: &Unit, checker: &mut Checker) -> Result<Vec<TypedFunction>, CheckError> {
+fn functions(unit: &Unit, checker: &mut Checker) -> Result<Vec<TypedFunction>, CheckError>
+    ensures { Answers (λ made. map function_of made.items) result (known_of checker.new) (rule.functions_of (unit_of unit.now) (known_of checker.old)) }
+{
     let mut functions = Vec::new(checker.alloc);
     for item in &unit.items {
         match item {
@@ -180,7 +220,9 @@ fn functions(unit: &Unit, checker: &mut Checker) -> Result<Vec<TypedFunction>, C
 
 // The typed tree of a unit whose functions and declarations are all checked. A tree in which something
 // doesn't fit would be a fault of the checker's own, for which there is no refusal.
-fn typed(checker: Checker, functions: Vec<TypedFunction>) -> Option<Typed> {
+fn typed(checker: Checker, functions: Vec<TypedFunction>) -> Option<Typed>
+    ensures { IfSome result (λ p. program_of p ≡ rule.program_from (known_of checker) (map function_of functions.items)) }
+{
     let Checker { types, statics, .. } = checker;
     match types.into_tables() {
         Ok((targets, structures)) => {
@@ -191,7 +233,10 @@ fn typed(checker: Checker, functions: Vec<TypedFunction>) -> Option<Typed> {
 }
 
 // What is known at the beginning of a unit.
-fn begun(alloc: Global, unit: &Unit) -> Result<Checker, CheckError> {
+fn begun(alloc: Global, unit: &Unit) -> Result<Checker, CheckError>
+    ensures ok { IfOk result (λ c. known_of c ≡ known_first (rule.defined_in (unit_of unit.now) [])) }
+    ensures err { IfErr result (λ e. e ≡ NoMemory) }
+{
     let names = definitions(alloc, unit)?;
     match Checker::new(alloc, names) {
         Ok(checker) => Ok(checker),
@@ -202,7 +247,10 @@ fn begun(alloc: Global, unit: &Unit) -> Result<Checker, CheckError> {
 /// The typed tree of a unit (ISO/IEC 9899:1990, 6.1 to 6.7, in the subset), or the first node that breaks a
 /// rule on names and types: from left to right, operands before their operator, and at one node the first
 /// kind.
-pub fn check(alloc: Global, unit: &Unit) -> Result<Typed, CheckError> {
+#[tactic(auto, using(crate::proofs::Units::judged, crate::proofs::Units::misjudged))]
+pub fn check(alloc: Global, unit: &Unit) -> Result<Typed, CheckError>
+    ensures { Checks result (rule.judged_unit (unit_of unit.now)) }
+{
     let mut checker = begun(alloc, unit)?;
     let functions = functions(unit, &mut checker)?;
     match typed(checker, functions) {

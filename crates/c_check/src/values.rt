@@ -13,7 +13,7 @@ ghost use Rattle.type_rules.specs.Statements as rule;
 ghost use Rattle.c_operate.specs.Answers.{Answers, Learns};
 ghost use Rattle.c_operate.specs.Tables.{known_of};
 ghost use Rattle.c_operate.specs.Terms.{operand_of};
-ghost use Rattle.c_check.specs.StatementViews.{valued_return};
+ghost use Rattle.c_check.specs.StatementViews.{switched_rule, valued_return};
 
 use crate::types::{is_scalar, is_void};
 use c_ints::{IntTy, promote};
@@ -56,7 +56,9 @@ fn int_of(ty: Ty) -> Option<IntTy>
 }
 
 /// What a switch looks at: a promoted integer, and its type.
-pub(crate) fn switched(expr: &Expr, checker: &mut Checker) -> Result<(TExpr, IntTy), CheckError> {
+pub(crate) fn switched(expr: &Expr, checker: &mut Checker) -> Result<(TExpr, IntTy), CheckError>
+    ensures { Answers (λ s. (expression_of s.0, s.1)) result (known_of checker.new) (switched_rule (expr_of expr.now) (known_of checker.old)) }
+{
     let operand = evaluated(expr, checker)?;
     let Some(ty) = int_of(operand.value.ty()) else {
         return refused(Kind::Operand, operand.line);
@@ -166,11 +168,14 @@ fn refuse_without(returns: Ty, line: u32) -> Result<(), CheckError>
 }
 
 /// A `return`, with a value or without one.
+#[tactic(auto, using(c_typed::proofs::Shapes::show_statement_return))]
 pub(crate) fn returned(
     expr: &Option<Expr>,
     checker: &mut Checker,
     line: u32,
-) -> Result<TStmt, CheckError> {
+) -> Result<TStmt, CheckError>
+    ensures { Answers statement_of result (known_of checker.new) (rule.return_statement (any_of expr.now) line (known_of checker.old)) }
+{
     let value = match expr {
         Some(expr) => Some(returned_value(expr, checker, line)?),
         None => {

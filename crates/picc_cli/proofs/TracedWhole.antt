@@ -33,6 +33,7 @@ use Rattle.picc_cli.proofs.NothingDone.{nothing_of}
 use Rattle.picc_cli.proofs.SimulationEnds.{said_last}
 use Rattle.picc_cli.proofs.Whole.{tree_whole}
 use Rattle.picc_core.specs.Texts.{HasTree}
+use Rattle.picc_core.specs.Typed.{IsTypedAs}
 use Rattle.picc_core.specs.declared.refusal.Refusal.{Refusal}
 use Rattle.ram_place.specs.Placement.{IsPlacing}
 use Rattle.schedule.specs.ScriptFile.{ScriptContent, AreBytes, AreLines, AreScriptLines, Piece, Blank, Input, At, byte_value, inputs_of, paired}
@@ -96,6 +97,7 @@ statics_few p typed is few = let shown = ap (λ (q : Program). length q.statics)
 -- What a run is given: the text's tree, its typed program by the rules and with numbers of their types, its copies and places.
 pub record IsFront (text : List ℕ) (program : Program) (copies : List FnCopy) (objects : List ObjectLine) (frames : List FrameLine) : Type 0 where
   pub tree : HasTree text
+  pub typed : IsTypedAs text program
   pub sound : is_sound program ≡ true
   pub roots : broken_root program ≡ None
   pub numbers : ProgramHasNumbers program
@@ -121,6 +123,7 @@ module _ (asked : Asked) (content : ScriptContent) (bytes text : List ℕ) (prog
         has_text = whole.1;
         script_file = (script, has, is);
         tree = subst HasTree (tree_whole whole.0 bytes whole.2 front.tree) front.tree;
+        typed = subst (λ (t : List ℕ). IsTypedAs t program) (tree_whole whole.0 bytes whole.2 front.tree) front.typed;
         sound = front.sound;
         roots = front.roots;
         acyclic = front.acyclic;

@@ -2,6 +2,8 @@
 use Rattle.std.proofs.Common.{◌≡◌, ℕ, ◌<◌, ◌≤◌, ⊎_elim, List, length, take, refl, sym, ap, ◌∙◌, subst, arith, min, Err}
 use Rattle.std.proofs.lemmas.Bool.{cases_lt, lt-ltb}
 use Rattle.std.proofs.lemmas.List.{length-take, take_all}
+use Rattle.c_operate.specs.Answers.{fault_of}
+use Rattle.picc_core.proofs.Trees.{mistyped_tree, refused_tree}
 use Rattle.picc_core.specs.Answers.{Tells}
 use Rattle.picc_core.specs.Texts.{tokens_left, within_limits, program_tokens, HasTree, HasNoTree}
 use Rattle.picc_core.specs.declared.refusal.CompileError.TheVariants.{Refused}
@@ -36,13 +38,13 @@ module _ (text bytes : List ℕ) (h : 262144 < length text) (k : 262144 < length
   long_tells (Directive line) t = same ∙ t
   long_tells (Limit kind line) t = same ∙ t
   long_tells (Syntax line) t = some_tokens bytes k t
-  long_tells (Typing kind line) t = absurd (no_tree bytes k t)
-  long_tells (Roots kind) t = absurd (no_tree bytes k t)
-  long_tells (Recursion function) t = absurd (no_tree bytes k t)
-  long_tells (Depth depth) t = absurd (no_tree bytes k t)
-  long_tells (Ram object) t = absurd (no_tree bytes k t)
-  long_tells (Page function words) t = absurd (no_tree bytes k t)
-  long_tells (Code words) t = absurd (no_tree bytes k t)
+  long_tells (Typing kind line) t = absurd (no_tree bytes k (mistyped_tree bytes (fault_of kind line) t))
+  long_tells (Roots kind) t = absurd (no_tree bytes k (refused_tree bytes (Roots kind) t))
+  long_tells (Recursion function) t = absurd (no_tree bytes k (refused_tree bytes (Recursion function) t))
+  long_tells (Depth depth) t = absurd (no_tree bytes k (refused_tree bytes (Depth depth) t))
+  long_tells (Ram object) t = absurd (no_tree bytes k (refused_tree bytes (Ram object) t))
+  long_tells (Page function words) t = absurd (no_tree bytes k (refused_tree bytes (Page function words) t))
+  long_tells (Code words) t = absurd (no_tree bytes k (refused_tree bytes (Code words) t))
 
   long_why : (why : Outcome) → TellsWhy bytes why → TellsWhy text why
   long_why (outcomes.Refused refusal) t = long_tells refusal t

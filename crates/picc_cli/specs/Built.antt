@@ -11,6 +11,7 @@ use Rattle.pic_map.specs.MapContent.{MapContent}
 use Rattle.pic_map.specs.MapFile.{IsMapFile}
 use Rattle.picc_core.specs.Compiled.{IsPlaced, IsWithinDepth}
 use Rattle.picc_core.specs.Texts.{HasTree}
+use Rattle.picc_core.specs.Typed.{IsTypedAs}
 use Rattle.program_code.specs.Translated.{IsTranslated}
 use Rattle.headline.specs.Headline.{IsFaithful}
 use Rattle.picc_cli.specs.PortProgram.{IsProgram, source_of}
@@ -33,13 +34,14 @@ pub record IsBuilt (text hex map : List ℕ) : Type 0 where
 abbrev pub IsRefused : List ℕ → Type 0
 IsRefused text = (assignments : List Assignment) → IsProgram text assignments → ⊥
 
--- What is known of any text that is built: it has a tree and a typed program, which breaks no rule on main and the handler, in
--- which no function reaches itself, and whose calls fit the return stack. The two files are a HEX file, in the one form that is
+-- What is known of any text that is built: it has a tree, and by the rules on names and types a typed program, which breaks no rule on
+-- main and the handler, in which no function reaches itself, and whose calls fit the return stack. The two files are a HEX file, in the one form that is
 -- written, and a map file, whose lines are those of the program's objects and copies, where they are to stand; and the image and the map
 -- are what all passes make of the program, each as it promises its part.
 pub record IsCompiled (text hex map : List ℕ) : Type 0 where
   pub tree : HasTree text
   pub program : Program
+  pub typed : IsTypedAs text program
   pub roots : broken_root program ≡ None
   pub acyclic : IsAcyclic (graph_of program)
   pub depth : ℕ

@@ -6,6 +6,7 @@ use Rattle.call_graph.specs.declared.types.FnCopy.{FnCopy}
 use Rattle.pic_map.specs.MapContent.{ObjectLine, FrameLine}
 use Rattle.picc_core.specs.Blocks.{HasBlocks}
 use Rattle.picc_core.specs.Texts.{HasTree}
+use Rattle.picc_core.specs.Typed.{IsTypedAs}
 use Rattle.ram_place.specs.Placement.{IsPlacing, addresses_covered}
 use Rattle.picc_cli.specs.Generated.{generated}
 
@@ -21,11 +22,12 @@ pub record IsSummed (functions : ℕ) (text : List ℕ) : Type 0 where
   pub depth : ℕ
   pub whole : text ≡ generated functions ++ summary_line functions words ram depth
 
--- The text has a tree, and these are the sizes of a program: the stated words of its blocks, how many addresses its objects and
+-- The text has a tree, and these are the sizes of its typed program: the stated words of its blocks, how many addresses its objects and
 -- frames cover, and the words of the return stack that its calls take.
 pub record AreSizes (text : List ℕ) (words ram depth : ℕ) : Type 0 where
   pub tree : HasTree text
   pub program : Program
+  pub typed : IsTypedAs text program
   pub copies : List FnCopy
   pub are_copies : AreCopies program copies
   pub has_depth : HasDepth program depth

@@ -1,4 +1,4 @@
--- What a trace prints is the run of a typed program by the definitions of the source: the lines of the events of so many steps.
+-- What a trace prints is the run of the text's typed program by the definitions of the source: the lines of the events of so many steps.
 use Rattle.std.specs.Prelude.{ℕ, ◌≡◌, ◌+◌, ◌<◌, ◌≤◌, ◌⊎◌, true, List, ◌++◌, map, Option, Some, None, option_map, option_to_list}
 use Rattle.c_typed.specs.Chains.{graph_of}
 use Rattle.c_typed.specs.Roots.{broken_root}
@@ -21,6 +21,7 @@ use Rattle.picc_cli.specs.Said.{IsLast}
 use Rattle.picc_cli.specs.ScriptInput.{IsFile}
 use Rattle.picc_cli.specs.Trace.{last_line, status_of}
 use Rattle.picc_core.specs.Texts.{HasTree}
+use Rattle.picc_core.specs.Typed.{IsTypedAs}
 use Rattle.ram_place.specs.Placement.{IsPlacing}
 use Rattle.schedule.specs.ScriptFile.{ScriptContent}
 use Rattle.src_memory.specs.Shown.{address_of, shown}
@@ -63,9 +64,9 @@ abbrev pub map_of : List ObjectLine → List FrameLine → MapContent
 map_of objects frames = record { main = 0; halt = 0; objects = objects; frames = frames }
 
 -- ---- the whole
--- Both files are such as they are to be: the text has a tree, and there is a typed program, which keeps the rules of typed programs, of
--- roots and of recursion and whose numbers are of their types, with the copies of its functions, and the places of its objects and
--- frames. What is printed is its run under the script.
+-- Both files are such as they are to be: the text has a tree, and by the rules on names and types a typed program, which keeps the rules
+-- of typed programs, of roots and of recursion and whose numbers are of their types, with the copies of its functions, and the places of
+-- its objects and frames. What is printed is its run under the script.
 pub record Traces (asked : Asked) (old : Contents) (ended : Ended) (p q : Option (List ℕ)) : Type 0 where
   pub text : List ℕ
   pub script : ScriptContent
@@ -75,6 +76,7 @@ pub record Traces (asked : Asked) (old : Contents) (ended : Ended) (p q : Option
   pub has_text : old asked.input ≡ Some text
   pub script_file : IsFile old asked.script (IsScriptInput script)
   pub tree : HasTree text
+  pub typed : IsTypedAs text program
   pub sound : is_sound program ≡ true
   pub roots : broken_root program ≡ None
   pub acyclic : IsAcyclic (graph_of program)

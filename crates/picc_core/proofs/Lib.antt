@@ -1,4 +1,8 @@
+pub mod Trees
 pub mod Telling
+pub mod Told
+pub mod OneTyping
+pub mod OverPages
 pub mod Sums
 pub mod Handed
 pub mod BlockViews

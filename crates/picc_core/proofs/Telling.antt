@@ -10,19 +10,18 @@ use Rattle.c_pre.specs.Items.{program_of, IsError}
 use Rattle.c_pre.specs.declared.PreError.{PreError}
 use Rattle.c_pre.specs.declared.PreError.TheVariants as pre
 use Rattle.c_tree.specs.Programs.{ItemTree, IsUnit, spelled_unit}
+use Rattle.c_operate.specs.Answers.{fault_of}
+use Rattle.c_typed.specs.Views.{program_of as view_of}
 use Rattle.parse_expr.specs.Reader.{symbols_in}
 use Rattle.parse_expr.specs.declared.error.ParseError.{ParseError}
 use Rattle.parse_expr.specs.declared.error.ParseError.TheVariants as parse
 use Rattle.c_parse.specs.Limits.{open_after, run_after, judged, first_over, IsLimit}
-use Rattle.c_operate.specs.declared.error.CheckError.{CheckError}
-use Rattle.c_operate.specs.declared.error.CheckError.TheVariants as check
-use Rattle.call_graph.specs.declared.types.GraphError.{GraphError}
-use Rattle.call_graph.specs.declared.types.GraphError.TheVariants as graph
-use Rattle.ram_place.specs.declared.placing.PlaceError.{PlaceError}
-use Rattle.ram_place.specs.declared.placing.PlaceError.TheVariants as place
-use Rattle.picc_core.specs.Errors.{of_lex, of_pre, of_parse, of_check, of_graph, of_place}
+use Rattle.picc_core.specs.Errors.{of_lex, of_pre, of_parse}
 use Rattle.picc_core.specs.Texts.{behind_directives, behind_tokens, tokens_left, limited, within_limits, program_tokens, HasTree, HasNoTree}
+use Rattle.picc_core.specs.Typed.{IsTreeOf, IsTypedAs}
+use Rattle.picc_core.proofs.Trees.{typed_tree, mistyped_tree, refused_tree}
 use Rattle.picc_core.specs.Answers.{Tells, TellsError, IsRefusedUnless}
+use Rattle.picc_core.specs.declared.known.Front.{Front}
 use Rattle.picc_core.specs.declared.refusal.CompileError.{CompileError}
 use Rattle.picc_core.specs.declared.refusal.CompileError.TheVariants.{NoMemory, Refused}
 use Rattle.picc_core.specs.declared.refusal.LimitKind.TheVariants as kinds
@@ -83,10 +82,10 @@ no_limit toks read limit never None is = refl
 no_limit toks read limit never (Some e) is = absurd (never e (limit e is) (over_is_limit 0 0 toks e is))
 
 pub tree_told : {X : Type 0} (text : List ℕ) (toks : List Tok) (tree : List ItemTree) (read : Result X ParseError) (x : X) → read ≡ Ok x → tokens_left text ≡ Ok toks
-    → ((e : ParseError) → first_over 0 0 toks ≡ Some e → read ≡ Err e) → IsUnit tree → symbols_in text toks ≡ spelled_unit tree → HasTree text
+    → ((e : ParseError) → first_over 0 0 toks ≡ Some e → read ≡ Err e) → IsUnit tree → symbols_in text toks ≡ spelled_unit tree → IsTreeOf text tree
 tree_told text toks tree read x ok left limit grammar spelled =
     let none = no_limit toks read limit (λ e is l. let both = sym ok ∙ is in cc) (first_over 0 0 toks) refl in
-    record { toks = toks; tree = tree; tokens = within text toks left None none; grammar = grammar; spelled = spelled }
+    record { toks = toks; tokens = within text toks left None none; grammar = grammar; spelled = spelled }
 
 -- the tokens of a tree are these
 same_tokens : (text : List ℕ) (toks : List Tok) → program_tokens text ≡ Ok toks → (t : HasTree text) → t.toks ≡ toks
@@ -111,21 +110,6 @@ parse_told text toks read (parse.Nesting line) err left limit only none = within
 parse_told text toks read (parse.Run line) err left limit only none = within text toks left (Some (parse.Run line)) (only (parse.Run line) err tt)
 parse_told text toks read (parse.Syntax line) err left limit only none = syntax_told text toks read line err left limit (none line err)
 
--- ---- what comes behind a tree
-pub check_told : (text : List ℕ) (e : CheckError) → HasTree text → TellsError text (of_check e)
-check_told text check.NoMemory tree = tt
-check_told text (check.Kind kind line) tree = tree
-
-pub graph_told : (text : List ℕ) (e : GraphError) → HasTree text → TellsError text (of_graph e)
-graph_told text graph.NoMemory tree = tt
-graph_told text (graph.Roots kind) tree = tree
-graph_told text (graph.Recursion function) tree = tree
-graph_told text (graph.Depth depth) tree = tree
-
-pub place_told : (text : List ℕ) (e : PlaceError) → HasTree text → TellsError text (of_place e)
-place_told text place.NoMemory tree = tt
-place_told text (place.Ram object) tree = tree
-
 -- ---- a refusal of the tokens comes first
 clash : {P : Type 0} (text : List ℕ) (r : Refusal) → program_tokens text ≡ Err (Refused r) → HasTree text → P
 clash text r is tree = let both = sym is ∙ tree.tokens in absurd (cc)
@@ -142,16 +126,16 @@ told_first text r (Word line) is tells = same_error text r (Word line) is tells
 told_first text r (Directive line) is tells = same_error text r (Directive line) is tells
 told_first text r (Limit kind line) is tells = same_error text r (Limit kind line) is tells
 told_first text r (Syntax line) is tells = no_clash text r is tells
-told_first text r (Typing kind line) is tells = clash text r is tells
-told_first text r (Roots kind) is tells = clash text r is tells
-told_first text r (Recursion function) is tells = clash text r is tells
-told_first text r (Depth depth) is tells = clash text r is tells
-told_first text r (Ram object) is tells = clash text r is tells
-told_first text r (Page function words) is tells = clash text r is tells
-told_first text r (Code words) is tells = clash text r is tells
+told_first text r (Typing kind line) is tells = clash text r is (mistyped_tree text (fault_of kind line) tells)
+told_first text r (Roots kind) is tells = clash text r is (refused_tree text (Roots kind) tells)
+told_first text r (Recursion function) is tells = clash text r is (refused_tree text (Recursion function) tells)
+told_first text r (Depth depth) is tells = clash text r is (refused_tree text (Depth depth) tells)
+told_first text r (Ram object) is tells = clash text r is (refused_tree text (Ram object) tells)
+told_first text r (Page function words) is tells = clash text r is (refused_tree text (Page function words) tells)
+told_first text r (Code words) is tells = clash text r is (refused_tree text (Code words) tells)
 
-pub tokens_first : {X : Type 0} (text : List ℕ) (answer : Result X CompileError) → MatchResult answer (λ _. HasTree text) (TellsError text)
+pub tokens_first : (text : List ℕ) (answer : Result Front CompileError) → MatchResult answer (λ front. IsTypedAs text (view_of front.typed)) (TellsError text)
     → (r : Refusal) → program_tokens text ≡ Err (Refused r) → IsRefusedUnless answer r
-tokens_first text (Ok x) tells r is = clash text r is tells
+tokens_first text (Ok front) tells r is = clash text r is (typed_tree text (view_of front.typed) tells)
 tokens_first text (Err NoMemory) tells r is = inr refl
 tokens_first text (Err (Refused s)) tells r is = inl (ap (λ r. Err (Refused r)) (told_first text r s is tells))

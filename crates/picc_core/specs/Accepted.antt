@@ -1,31 +1,29 @@
 -- When a typed program is accepted, and which refusal is its first otherwise. What comes before (tokens, trees, types) is said of
 -- the text; here the order is: main and the handler; recursion; the return stack; data memory; a block over a page; all blocks.
 use Rattle.std.specs.Prelude.{ℕ, ◌≡◌, ◌<◌, ◌≤◌, ◌⊎◌, true, List, length, sum, Some, None}
-use Rattle.std.specs.List.{Contains, AllPairs}
-use Rattle.std.specs.List.Sorted.{IsPermutation}
-use Rattle.c_typed.specs.Chains.{graph_of, number_of}
+use Rattle.std.specs.List.{Contains}
+use Rattle.std.specs.List.Sorted.{IsNonDecreasingBy, IsPermutation}
+use Rattle.c_typed.specs.Chains.{graph_of}
 use Rattle.c_typed.specs.Roots.{broken_root}
 use Rattle.c_typed.specs.Sound.{is_sound}
 use Rattle.c_typed.specs.Trees.{Program}
 use Rattle.c_typed.specs.declared.calls.FnId.TheVariants as callee
-use Rattle.call_graph.specs.Copies.{AreCopies, HasDepth, name_at, root_place}
+use Rattle.call_graph.specs.Copies.{AreCopies, HasDepth, name_at}
 use Rattle.call_graph.specs.Levels.{IsAcyclic, IsFirstRecursive}
 use Rattle.call_graph.specs.declared.types.FnCopy.{FnCopy}
 use Rattle.code_place.specs.Pages.{page_words, addresses, AreWithinPages, AreInMemory, PassesMemory}
 use Rattle.pic_map.specs.MapContent.{ObjectLine, FrameLine}
 use Rattle.ram_place.specs.Placement.{IsPlacing, LacksObject, LacksFrame}
+use Rattle.program_code.specs.Order.{rank}
 use Rattle.program_code.specs.Stated.{copy_words, sizes}
 use Rattle.picc_core.specs.declared.refusal.Refusal.{Refusal}
 use Rattle.picc_core.specs.declared.refusal.Refusal.TheVariants.{Lex, Word, Directive, Syntax, Typing, Recursion, Roots, Depth, Ram, Code, Page, Limit}
 
 -- ---- the order of code
 -- The copies of main's root stand first, within a root the functions in order of definition, and helpers behind them.
-abbrev pub StandsBefore : ℕ → FnCopy → FnCopy → Type 0
-StandsBefore functions a b = (root_place a.root < root_place b.root) ⊎ ((a.root ≡ b.root) × (number_of functions a.function < number_of functions b.function))
-
-pub record IsCodeOrder (p : Program) (copies order : List FnCopy) : Type 0 where
+pub record IsCodeOrder (copies order : List FnCopy) : Type 0 where
   pub same : IsPermutation copies order
-  pub ordered : AllPairs (StandsBefore (length p.functions)) order
+  pub sorted : IsNonDecreasingBy rank order
 
 -- ---- each part
 -- its calls fit the return stack, which has eight words
@@ -71,7 +69,7 @@ pub record IsAccepted (p : Program) (copies order : List FnCopy) : Type 0 where
   pub stack : FitsStack p
   pub known : AreCopies p copies
   pub memory : FitsMemory p copies
-  pub in_order : IsCodeOrder p copies order
+  pub in_order : IsCodeOrder copies order
   pub pages : AreWithinPages (sizes p order)
   pub code : AreInMemory (addresses (sizes p order))
 
@@ -85,10 +83,15 @@ pub record IsPlaceable (p : Program) (copies : List FnCopy) : Type 0 where
 -- all blocks are within pages, but pass the last one
 pub record PassesPages (p : Program) (copies : List FnCopy) (words : ℕ) : Type 0 where
   pub order : List FnCopy
-  pub in_order : IsCodeOrder p copies order
+  pub in_order : IsCodeOrder copies order
   pub pages : AreWithinPages (sizes p order)
   pub passes : PassesMemory (addresses (sizes p order))
   pub total : words ≡ sum (sizes p order)
+
+-- a program is accepted, with these copies
+pub record AreAccepted (p : Program) (copies : List FnCopy) : Type 0 where
+  pub order : List FnCopy
+  pub accepted : IsAccepted p copies order
 
 -- The first refusal of a program with sound types.
 abbrev pub IsFirstRefusal : Program → Refusal → Type 0

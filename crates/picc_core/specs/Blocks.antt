@@ -7,10 +7,6 @@ use Rattle.call_graph.specs.declared.types.FnCopy.{FnCopy}
 use Rattle.code_place.specs.Pages.{addresses, AreWithinPages, AreInMemory}
 use Rattle.program_code.specs.Order.{rank}
 use Rattle.program_code.specs.Stated.{sizes}
-use Rattle.picc_core.specs.declared.refusal.CompileError.{CompileError}
-use Rattle.picc_core.specs.declared.refusal.CompileError.TheVariants.{NoMemory, Refused}
-use Rattle.picc_core.specs.declared.refusal.Refusal.{Refusal}
-use Rattle.picc_core.specs.declared.refusal.Refusal.TheVariants.{Page, Code}
 
 -- The copies stand in the order of code behind the start block, each block at its address in pages 0 to 3 and none over a page, and this
 -- is the sum of all words.
@@ -32,13 +28,3 @@ pub record HasWords (p : Program) (words : ℕ) : Type 0 where
   pub same : IsPermutation copies order
   pub sum : words ≡ sum (sizes p order)
   pub within : words ≤ 8192
-
--- what is said of blocks that have no addresses
-abbrev pub IsCodeRefusal : Refusal → Type 0
-IsCodeRefusal (Page function words) = Unit {0}
-IsCodeRefusal (Code words) = Unit {0}
-IsCodeRefusal _ = ⊥
-
-abbrev pub IsOfCode : CompileError → Type 0
-IsOfCode NoMemory = Unit {0}
-IsOfCode (Refused refusal) = IsCodeRefusal refusal

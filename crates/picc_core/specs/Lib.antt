@@ -1,8 +1,10 @@
 pub mod Errors
 pub mod Texts
+pub mod Typed
 pub mod Answers
 pub mod Blocks
 pub mod Compiled
 pub mod Agreement
 pub mod Accepted
+pub mod CodeAnswers
 pub mod Coded

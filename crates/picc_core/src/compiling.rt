@@ -17,6 +17,7 @@ ghost use Rattle.picc_core.specs.Blocks.{HasWords};
 ghost use Rattle.picc_core.specs.Coded.{IsCoded};
 ghost use Rattle.picc_core.specs.Compiled.{IsPlaced, IsWithinDepth};
 ghost use Rattle.picc_core.specs.Texts.{program_tokens, HasTree};
+ghost use Rattle.picc_core.specs.Typed.{IsTypedAs};
 ghost use Rattle.picc_core.specs.declared.refusal.CompileError.TheVariants.{NoMemory, Refused};
 ghost use Rattle.picc_core.specs.declared.refusal.LimitKind.TheVariants as kinds;
 ghost use Rattle.picc_core.specs.declared.refusal.Refusal.{Refusal};
@@ -111,13 +112,15 @@ fn see_typed(typed: &Typed)
 pub fn compile(alloc: Global, text: &[u8]) -> Result<Built, CompileError>
     // A text over 262,144 bytes is refused so.
     ensures text_limit { 262144 < length text.now → result ≡ Err (Refused (refusals.Limit kinds.Text 0)) }
-    // What is compiled has a tree.
+    // What is compiled has a tree,
     ensures tree { IfOk result (λ _. HasTree text.now) }
+    // and this is the typed program that the rules on names and types give to it.
+    ensures typed { IfOk result (λ built. IsTypedAs text.now (program_of built.typed)) }
     // A refusal tells what it says of the text.
     ensures refused { IfErr result (TellsError text.now) }
     // The first refusal of the text's tokens is told, unless memory runs out.
     ensures tokens { (r : Refusal) → program_tokens text.now ≡ Err (Refused r) → IsRefusedUnless result r }
-    // What is compiled breaks no rule on main and the interrupt handler.
+    // It breaks no rule on main and the interrupt handler.
     ensures roots { IfOk result (λ built. broken_root (program_of built.typed) ≡ None) }
     // No function of it reaches itself.
     ensures recursion { IfOk result (λ built. IsAcyclic (graph_of (program_of built.typed))) }

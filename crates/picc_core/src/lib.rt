@@ -4,9 +4,9 @@
 //! stand, and how many words they are stated to have; its image and its map; or why the text is refused. And of a built program
 //! and a script: how many events its run on the chip has, or the undefined step that its source meets beside it.
 //! The promise: a refusal tells what it says of the text, and the first one of the text's tokens is told unless memory runs out. What is
-//! accepted has a tree, and the typed program of the answer breaks no rule on main and the handler, has no function that reaches itself,
-//! and fits the return stack; its objects, frames and blocks stand where they are to stand, and image and map are what the passes make
-//! of it. That it is the typed program of the text isn't proved.
+//! accepted has a tree, and the typed program of the answer is the one that the rules on names and types give to it. It breaks no rule on
+//! main and the handler, has no function that reaches itself, and fits the return stack; its objects, frames and blocks stand where they
+//! are to stand, and image and map are what the passes make of it.
 #![tactic(auto)]
 
 mod agreeing;
@@ -18,6 +18,7 @@ mod map_range;
 mod refusal;
 mod source_run;
 mod stages;
+mod typing;
 
 pub use agreeing::{Agreed, agree};
 pub use c_check::{Kind, RootKind};
@@ -27,3 +28,4 @@ pub use known::{Built, Front};
 pub use refusal::{CompileError, LimitKind, Refusal};
 pub use src_machine::Undef;
 pub use stages::front;
+pub use typing::one_typing;

@@ -1,16 +1,21 @@
 //! The stages from a text to its sizes and addresses.
 
-ghost use Rattle.std.specs.Prelude.{◌≡◌, ◌<◌, ◌≤◌, ◌^◌, ◌+◌, ℕ, length, map, sum, Some, None, Ok, Err, IfOk, IfErr, MatchResult};
+ghost use Rattle.std.specs.Prelude.{◌≡◌, ◌<◌, ◌≤◌, ◌^◌, ◌+◌, ℕ, [], ◌∷◌, length, map, sum, None, Ok, Err, IfOk, IfErr, MatchResult};
+ghost use Rattle.c_tree.specs.ProgramViews.{unit_of};
 ghost use Rattle.c_typed.specs.Chains.{graph_of};
 ghost use Rattle.c_typed.specs.Roots.{broken_root};
 ghost use Rattle.c_typed.specs.Views.{program_of};
-ghost use Rattle.call_graph.specs.Copies.{AreCopies, HasDepth};
+ghost use Rattle.call_graph.specs.Copies.{AreCopies, HasDepth, name_at};
 ghost use Rattle.call_graph.specs.Levels.{IsAcyclic};
 ghost use Rattle.pic_map.specs.MapView.{object_of, frame_of};
 ghost use Rattle.ram_place.specs.Placement as placement;
-ghost use Rattle.picc_core.specs.Answers.{IsRefusedUnless, TellsError};
-ghost use Rattle.picc_core.specs.Blocks.{HasBlocks, IsCodeRefusal, IsOfCode};
+ghost use Rattle.picc_core.specs.Accepted.{AreAccepted};
+ghost use Rattle.picc_core.specs.Answers.{IsRefusedUnless, TellsError, TellsProgram};
+ghost use Rattle.picc_core.specs.Blocks.{HasBlocks};
+ghost use Rattle.picc_core.specs.CodeAnswers as stated;
+ghost use Rattle.picc_core.specs.CodeAnswers.{Explains, TellsCode, TellsFirstOver};
 ghost use Rattle.picc_core.specs.Texts.{tokens_left, program_tokens, HasTree};
+ghost use Rattle.picc_core.specs.Typed.{IsTreeOf, IsTypedAs};
 ghost use Rattle.picc_core.specs.declared.refusal.CompileError.TheVariants.{NoMemory, Refused};
 ghost use Rattle.picc_core.specs.declared.refusal.LimitKind.TheVariants as kinds;
 ghost use Rattle.picc_core.specs.declared.refusal.Refusal.{Refusal};
@@ -27,7 +32,7 @@ use c_token::{Tok, raw};
 use c_tree::statement::Unit;
 use call_graph::{Copies, FnCopy, FnId, copies};
 use code_place::{PageError, pages};
-use ram_place::{block_words, place, start_words};
+use ram_place::{Placed, block_words, place, start_words};
 use std::alloc::{AllocError, Global};
 
 /// The longest text, in bytes.
@@ -53,7 +58,7 @@ fn tokens_in(alloc: Global, text: &[u8]) -> Result<Vec<Tok>, CompileError>
 }
 
 fn tree_of(alloc: Global, text: &[u8]) -> Result<Unit, CompileError>
-    ensures answer { MatchResult result (λ _. HasTree text.now) (TellsError text.now) }
+    ensures answer { MatchResult result (λ unit. IsTreeOf text.now (unit_of unit)) (TellsError text.now) }
     ensures long { 262144 < length text.now → result ≡ Err (Refused (refusals.Limit kinds.Text 0)) }
 {
     let toks = tokens_in(alloc, text)?;
@@ -62,17 +67,46 @@ fn tree_of(alloc: Global, text: &[u8]) -> Result<Unit, CompileError>
 
 fn parsed(alloc: Global, text: &[u8], toks: &[Tok]) -> Result<Unit, CompileError>
     requires { tokens_left text.now ≡ Ok toks.now }
-    ensures answer { MatchResult result (λ _. HasTree text.now) (TellsError text.now) }
+    ensures answer { MatchResult result (λ unit. IsTreeOf text.now (unit_of unit)) (TellsError text.now) }
 {
     Ok(parse(alloc, text, toks)?)
 }
 
+#[tactic(auto, using(crate::proofs::Told::typed_told, crate::proofs::Told::check_told))]
 fn typed_of(alloc: Global, text: &[u8]) -> Result<Typed, CompileError>
-    ensures answer { MatchResult result (λ _. HasTree text.now) (TellsError text.now) }
+    ensures answer { MatchResult result (λ typed. IsTypedAs text.now (program_of typed)) (TellsError text.now) }
     ensures long { 262144 < length text.now → result ≡ Err (Refused (refusals.Limit kinds.Text 0)) }
 {
     let unit = tree_of(alloc, text)?;
     Ok(check(alloc, &unit)?)
+}
+
+/// The copies of a typed program, or the first refusal of it up to its return stack.
+#[tactic(auto, using(crate::proofs::Told::graph_told))]
+fn copies_of(alloc: Global, p: &Typed) -> Result<Copies, CompileError>
+    ensures refused { IfErr result (TellsProgram (program_of p.now)) }
+    ensures roots { IfOk result (λ _. broken_root (program_of p.now) ≡ None) }
+    ensures recursion { IfOk result (λ _. IsAcyclic (graph_of (program_of p.now))) }
+    ensures depth { IfOk result (λ copies. HasDepth (program_of p.now) copies.depth × (copies.depth ≤ 8)) }
+    ensures list { IfOk result (λ copies. AreCopies (program_of p.now) copies.list.items) }
+{
+    Ok(copies(alloc, p)?)
+}
+
+/// The addresses of objects and frames, or the first that has none.
+fn placed_of(alloc: Global, p: &Typed, copies: &Copies) -> Result<Placed, CompileError>
+    requires roots { broken_root (program_of p.now) ≡ None }
+    requires recursion { IsAcyclic (graph_of (program_of p.now)) }
+    requires depth { HasDepth (program_of p.now) copies.now.depth × (copies.now.depth ≤ 8) }
+    requires list { AreCopies (program_of p.now) copies.now.list.items }
+    ensures refused { IfErr result (TellsProgram (program_of p.now)) }
+    ensures exact { IfOk result (λ placed. placement.IsPlacing (program_of p.now) copies.now.list.items (map object_of placed.objects.items) (map frame_of placed.frames.items)) }
+    ensures apart { IfOk result (λ placed. placement.LiveFramesAreDisjoint (program_of p.now) copies.now.list.items (map frame_of placed.frames.items)) }
+    ensures clear { IfOk result (λ placed. placement.FramesAreClear (map object_of placed.objects.items) (map frame_of placed.frames.items)) }
+    ensures objects { IfOk result (λ placed. placement.ObjectsAreDisjoint (map object_of placed.objects.items)) }
+    ensures ram { IfOk result (λ placed. placed.ram ≡ placement.addresses_covered (map object_of placed.objects.items) (map frame_of placed.frames.items)) }
+{
+    Ok(place(alloc, p, copies)?)
 }
 
 #[tactic(auto, unfolding(program_code::specs::Stated::copy_words))]
@@ -104,68 +138,94 @@ fn words_of(alloc: Global, p: &Typed, order: &[FnCopy]) -> Result<Vec<u64>, Allo
     Ok(words)
 }
 
-/// Of the functions whose blocks are over a page the one that is defined first, and its words. The copies are in the order of
-/// code, and of one function they have the same words. The start block and those of helpers are never over a page.
-fn first_over_page(p: &Typed, order: &[FnCopy]) -> Option<(u32, u64)> {
-    let mut first = None;
-    for copy in order {
-        if let FnId::User(number) = copy.function {
-            let words = copy_words(p, *copy);
-            if words > PAGE_WORDS && is_earlier(number, first) {
-                first = Some((number, words));
+/// A function whose block is over a page, and the words of that.
+#[derive(Clone, Copy)]
+struct OverPage {
+    number: u32,
+    words: u64,
+}
+
+/// The function of a copy, if its block is over a page. Those of helpers never are.
+#[tactic(auto, using(crate::proofs::OverPages::helper_within, crate::proofs::OverPages::one_within, crate::proofs::OverPages::one_over))]
+fn over_page(p: &Typed, copy: FnCopy) -> Option<OverPage>
+    ensures { TellsFirstOver (program_of p.now) (copy ∷ []) result }
+{
+    let FnId::User(number) = copy.function else {
+        return None;
+    };
+    let words = copy_words(p, copy);
+    if words <= PAGE_WORDS {
+        return None;
+    }
+    Some(OverPage { number, words })
+}
+
+/// Of two functions the one that is defined first.
+fn earlier(found: Option<OverPage>, next: Option<OverPage>) -> Option<OverPage>
+    ensures { result ≡ stated.earlier found next }
+{
+    match (found, next) {
+        (None, _) => next,
+        (Some(_), None) => found,
+        (Some(first), Some(second)) => {
+            if second.number < first.number {
+                next
+            } else {
+                found
             }
         }
+    }
+}
+
+/// Of the functions whose blocks are over a page the one that is defined first.
+#[tactic(auto, using(crate::proofs::OverPages::nothing_seen, crate::proofs::OverPages::one_more, crate::proofs::OverPages::all_seen))]
+fn first_over_page(p: &Typed, copies: &[FnCopy]) -> Option<OverPage>
+    ensures { TellsFirstOver (program_of p.now) copies.now result }
+{
+    let mut first = None;
+    for copy in copies {
+        first = earlier(first, over_page(p, *copy));
     }
     first
 }
 
-/// Whether a function is defined before the one that was found so far.
-fn is_earlier(number: u32, found: Option<(u32, u64)>) -> bool {
-    match found {
-        None => true,
-        Some((other, _)) => number < other,
-    }
-}
-
-fn name_of(alloc: Global, p: &Typed, number: u32) -> Result<Vec<u8>, AllocError> {
-    match p.functions.get(number as usize) {
-        Some(function) => function.name.clone(),
-        None => Ok(Vec::new(alloc)),
-    }
-}
-
-/// The first block over a page in the order of the text, where this is the first one in the order of code.
-fn refused_page(
-    alloc: Global,
-    p: &Typed,
-    order: &[FnCopy],
-    words_in_code: u64,
-) -> Result<Refusal, AllocError>
-    ensures { IfOk result IsCodeRefusal }
+fn name_of(alloc: Global, p: &Typed, number: u32) -> Result<Vec<u8>, AllocError>
+    ensures { IfOk result (λ name. name.items ≡ name_at (program_of p.now) number) }
 {
-    let Some((number, words)) = first_over_page(p, order) else {
-        return Ok(Refusal::Page {
-            function: Vec::new(alloc),
-            words: words_in_code,
-        });
+    let at = number as usize;
+    if at >= p.functions.len() {
+        return Ok(Vec::new(alloc));
+    }
+    let name = Vec::from_slice(alloc, &p.functions[at].name)?;
+    Ok(name)
+}
+
+/// The first block over a page in the order of the text. Some function's is, since the start block has four words for each byte of a
+/// static object, and few of these have addresses. That isn't proved: without one the answer is out of memory.
+#[tactic(auto, using(crate::proofs::OverPages::page_told))]
+fn refused_page(alloc: Global, p: &Typed, copies: &[FnCopy]) -> CompileError
+    ensures { TellsCode (program_of p.now) copies.now result }
+{
+    let Some(found) = first_over_page(p, copies) else {
+        return CompileError::NoMemory;
     };
-    Ok(Refusal::Page {
-        function: name_of(alloc, p, number)?,
-        words,
-    })
+    match name_of(alloc, p, found.number) {
+        Ok(function) => CompileError::Refused(Refusal::Page {
+            function,
+            words: found.words,
+        }),
+        Err(_) => CompileError::NoMemory,
+    }
 }
 
 /// Why the blocks have no addresses.
-fn refused_code(alloc: Global, p: &Typed, order: &[FnCopy], error: PageError) -> CompileError
-    ensures { IsOfCode result }
+fn refused_code(alloc: Global, p: &Typed, copies: &[FnCopy], error: PageError) -> CompileError
+    ensures { Explains (program_of p.now) copies.now error result }
 {
     match error {
         PageError::NoMemory => CompileError::NoMemory,
         PageError::Code { words } => CompileError::Refused(Refusal::Code { words }),
-        PageError::Page { words, .. } => match refused_page(alloc, p, order, words) {
-            Ok(refusal) => CompileError::Refused(refusal),
-            Err(_) => CompileError::NoMemory,
-        },
+        PageError::Page { .. } => refused_page(alloc, p, copies),
     }
 }
 
@@ -176,10 +236,10 @@ struct Code {
     words: u32,
 }
 
-#[tactic(auto, using(crate::proofs::Sums::few, crate::proofs::Sums::blocks_had))]
+#[tactic(auto, using(crate::proofs::Sums::few, crate::proofs::Sums::blocks_had, crate::proofs::OverPages::code_told))]
 fn code_of(alloc: Global, p: &Typed, copies: &Copies) -> Result<Code, CompileError>
     ensures blocks { IfOk result (λ code. HasBlocks (program_of p.now) copies.now.list.items code.at.items code.words) }
-    ensures refused { IfErr result IsOfCode }
+    ensures refused { IfErr result (TellsCode (program_of p.now) copies.now.list.items) }
 {
     let order = code_order(alloc, copies)?;
     let words = words_of(alloc, p, &order)?;
@@ -191,7 +251,7 @@ fn code_of(alloc: Global, p: &Typed, copies: &Copies) -> Result<Code, CompileErr
             at,
             words: sum_of(&words),
         }),
-        Err(error) => Err(refused_code(alloc, p, &order, error)),
+        Err(error) => Err(refused_code(alloc, p, &copies.list, error)),
     }
 }
 
@@ -203,9 +263,39 @@ fn sum_of(words: &[u64]) -> u32
     sum as u32
 }
 
+/// What is known of a typed program, or its first refusal.
+fn known_of(alloc: Global, typed: Typed) -> Result<Front, CompileError>
+    ensures refused { IfErr result (TellsProgram (program_of typed)) }
+    ensures same { IfOk result (λ front. front.typed ≡ typed) }
+    ensures accepted { IfOk result (λ front. AreAccepted (program_of front.typed) front.copies.list.items) }
+    ensures roots { IfOk result (λ front. broken_root (program_of front.typed) ≡ None) }
+    ensures recursion { IfOk result (λ front. IsAcyclic (graph_of (program_of front.typed))) }
+    ensures depth { IfOk result (λ front. HasDepth (program_of front.typed) front.copies.depth × (front.copies.depth ≤ 8)) }
+    ensures list { IfOk result (λ front. AreCopies (program_of front.typed) front.copies.list.items) }
+    ensures exact { IfOk result (λ front. placement.IsPlacing (program_of front.typed) front.copies.list.items (map object_of front.placed.objects.items) (map frame_of front.placed.frames.items)) }
+    ensures apart { IfOk result (λ front. placement.LiveFramesAreDisjoint (program_of front.typed) front.copies.list.items (map frame_of front.placed.frames.items)) }
+    ensures clear { IfOk result (λ front. placement.FramesAreClear (map object_of front.placed.objects.items) (map frame_of front.placed.frames.items)) }
+    ensures objects { IfOk result (λ front. placement.ObjectsAreDisjoint (map object_of front.placed.objects.items)) }
+    ensures ram { IfOk result (λ front. front.placed.ram ≡ placement.addresses_covered (map object_of front.placed.objects.items) (map frame_of front.placed.frames.items)) }
+    ensures blocks { IfOk result (λ front. HasBlocks (program_of front.typed) front.copies.list.items front.at.items front.words) }
+{
+    let copies = copies_of(alloc, &typed)?;
+    let placed = placed_of(alloc, &typed, &copies)?;
+    let Code { at, words } = code_of(alloc, &typed, &copies)?;
+    Ok(Front {
+        typed,
+        copies,
+        placed,
+        at,
+        words,
+    })
+}
+
+#[tactic(auto, using(crate::proofs::Told::front_told))]
 fn known(alloc: Global, text: &[u8]) -> Result<Front, CompileError>
-    ensures answer { MatchResult result (λ _. HasTree text.now) (TellsError text.now) }
+    ensures answer { MatchResult result (λ front. IsTypedAs text.now (program_of front.typed)) (TellsError text.now) }
     ensures long { 262144 < length text.now → result ≡ Err (Refused (refusals.Limit kinds.Text 0)) }
+    ensures accepted { IfOk result (λ front. AreAccepted (program_of front.typed) front.copies.list.items) }
     ensures roots { IfOk result (λ front. broken_root (program_of front.typed) ≡ None) }
     ensures recursion { IfOk result (λ front. IsAcyclic (graph_of (program_of front.typed))) }
     ensures depth { IfOk result (λ front. HasDepth (program_of front.typed) front.copies.depth × (front.copies.depth ≤ 8)) }
@@ -218,32 +308,27 @@ fn known(alloc: Global, text: &[u8]) -> Result<Front, CompileError>
     ensures blocks { IfOk result (λ front. HasBlocks (program_of front.typed) front.copies.list.items front.at.items front.words) }
 {
     let typed = typed_of(alloc, text)?;
-    let copies = copies(alloc, &typed)?;
-    let placed = place(alloc, &typed, &copies)?;
-    let Code { at, words } = code_of(alloc, &typed, &copies)?;
-    Ok(Front {
-        typed,
-        copies,
-        placed,
-        at,
-        words,
-    })
+    known_of(alloc, typed)
 }
 
 /// What is known of a text, or the first refusal that holds of it. The order is: the limit on the text; tokens and the
 /// limit on names, whichever stands first; excluded words; directives; the limit on tokens; nesting and runs, whichever
 /// stands first; trees; types; roots; recursion; depth; data memory; a block over a page; all blocks.
-#[tactic(auto, using(crate::proofs::Telling::tokens_first))]
+#[tactic(auto, using(crate::proofs::Telling::tokens_first, crate::proofs::Told::has_tree))]
 pub fn front(alloc: Global, text: &[u8]) -> Result<Front, CompileError>
     // A text over 262,144 bytes is refused so.
     ensures text_limit { 262144 < length text.now → result ≡ Err (Refused (refusals.Limit kinds.Text 0)) }
-    // What is accepted has a tree.
+    // What is accepted has a tree,
     ensures tree { IfOk result (λ _. HasTree text.now) }
+    // and this is the typed program that the rules on names and types give to it.
+    ensures typed { IfOk result (λ front. IsTypedAs text.now (program_of front.typed)) }
     // A refusal tells what it says of the text.
     ensures refused { IfErr result (TellsError text.now) }
     // The first refusal of the text's tokens is told, unless memory runs out.
     ensures tokens { (r : Refusal) → program_tokens text.now ≡ Err (Refused r) → IsRefusedUnless result r }
-    // What is accepted breaks no rule on main and the interrupt handler.
+    // That program is accepted by all rules behind those on types.
+    ensures accepted { IfOk result (λ front. AreAccepted (program_of front.typed) front.copies.list.items) }
+    // It breaks no rule on main and the interrupt handler.
     ensures roots { IfOk result (λ front. broken_root (program_of front.typed) ≡ None) }
     // No function of it reaches itself.
     ensures recursion { IfOk result (λ front. IsAcyclic (graph_of (program_of front.typed))) }

@@ -12,6 +12,7 @@ returns-in-Ok c =
           record {
             tree = says.tree;
             program = program_of known.typed;
+            typed = says.typed;
             copies = known.copies.list.items;
             are_copies = says.list;
             has_depth = says.depth.0;

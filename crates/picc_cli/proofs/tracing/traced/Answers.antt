@@ -21,6 +21,7 @@ returns-in-Ok-front-clause-runs g c =
     c.deref.ensures.value
     (record {
       tree = c.in-Ok-front.ensures.tree;
+      typed = c.in-Ok-front.ensures.typed;
       sound = c.in-Ok-front.known.typed.sound;
       roots = c.in-Ok-front.ensures.roots;
       numbers = c.see_numbers.ensures;

@@ -7,9 +7,15 @@ use Rattle.pic_map.specs.MapView.{content_of, object_of, frame_of}
 use Rattle.program_code.specs.Translated.{IsTranslated}
 use Rattle.picc_core.specs.Blocks.{HasWords}
 use Rattle.picc_core.specs.Compiled.{IsPlaced, IsWithinDepth}
+use Rattle.picc_core.specs.Typed.{IsTypedAs}
 use Rattle.picc_core.proofs.Handed.{on_same, within_depth, words_handed, placed}
 use Rattle.picc_core.proofs.Translating.{on_checked, translated}
 use Rattle.picc_core.proofs.compiling.compile.Goals as goal
+
+pub returns-clause-typed : goal.returns-clause-typed
+returns-clause-typed c =
+    on_same (λ b. IsTypedAs c.args.text.now (program_of b.typed)) c.checked.result c.in_ok-built.field-0 c.checked.ensures.same
+    (subst (λ t. IsTypedAs c.args.text.now (program_of t)) (sym c.in_ok-built.ensures.typed) c.in_ok-front.ensures.typed)
 
 pub returns-clause-roots : goal.returns-clause-roots
 returns-clause-roots c =

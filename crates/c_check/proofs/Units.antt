@@ -1,0 +1,271 @@
+-- Functions and units: the names that a unit defines, parameters, bodies and the typed program.
+use Rattle.std.proofs.Common.{◌≡◌, ℕ, suc, ◌+◌, ◌<◌, ◌≤◌, Bool, true, false, ◌||◌, if◌then◌else◌, List, [], ◌∷◌, ◌++◌, map, length, drop, get_or, Option, Some, None, Result, Ok, Err, refl, sym, ap, subst, ◌∙◌, append-nil, append_assoc, bytes_eq, Vec, Global, arith}
+use Rattle.std.proofs.lemmas.List.{length-map, map-append}
+use Rattle.std.specs.List.{list_any}
+use Rattle.std.specs.Prelude.{IfSome}
+use Rattle.indexmap.specs.IndexSet.{insert_key}
+use Rattle.c_tree.specs.ProgramViews.{block_of, declaration_of, item_of}
+use Rattle.c_tree.specs.Programs as tree
+use Rattle.c_tree.specs.Programs.{BlockTree, DeclarationTree, ItemTree}
+use Rattle.c_tree.specs.Trees.{DeclaratorTree, SpecTrees}
+use Rattle.c_tree.specs.Views.{declarator_of, specs_of}
+use Rattle.c_tree.specs.declared.statement.Declaration.{Declaration}
+use Rattle.c_tree.specs.declared.statement.Function as code
+use Rattle.c_tree.specs.declared.statement.Item.{Item}
+use Rattle.c_tree.specs.declared.statement.Item.TheVariants as node
+use Rattle.c_typed.specs.Trees as typed
+use Rattle.c_typed.specs.Trees.{FunctionTree, Program, Statement, StaticTree, StructureTree, VariableTree}
+use Rattle.c_typed.specs.Views as shown
+use Rattle.c_typed.specs.declared.expression.Object.TheVariants as object
+use Rattle.c_typed.specs.declared.program.Function.{Function}
+use Rattle.c_typed.specs.declared.program.Static.{Static}
+use Rattle.c_typed.specs.declared.program.Typed.{Typed}
+use Rattle.c_typed.specs.declared.program.Variable.{Variable}
+use Rattle.c_typed.specs.declared.types.Structure.{Structure}
+use Rattle.c_typed.specs.declared.types.Qualified.{Qualified}
+use Rattle.c_typed.specs.declared.types.Ty.{Ty}
+use Rattle.type_rules.specs.Declarations.{block_declarations, file_declaration}
+use Rattle.type_rules.specs.Faults.{Fault}
+use Rattle.type_rules.specs.Known.{ObjectName, Shape, Known, Rule, given, known_first, known_here, go_on, ◌>>=◌}
+use Rattle.type_rules.specs.Names.{bind, enter, leave}
+use Rattle.type_rules.specs.Outlines.{Param, bind_param}
+use Rattle.type_rules.specs.Specifiers.{Specified}
+use Rattle.type_rules.specs.Statements as statements
+use Rattle.type_rules.specs.Units as rule
+use Rattle.c_operate.specs.Answers.{Learns, Refuses}
+use Rattle.c_operate.specs.Tables.{known_of}
+use Rattle.c_operate.specs.declared.checker.Checker.{Checker}
+use Rattle.c_operate.specs.declared.error.CheckError.{CheckError}
+use Rattle.c_operate.specs.declared.error.CheckError.TheVariants as errors
+use Rattle.check_expr.specs.Views.{param_of}
+use Rattle.check_expr.specs.declared.outline.ParamShape.{ParamShape}
+use Rattle.c_check.specs.StatementViews.{behind, bound_behind, block_list, inner_rule}
+use Rattle.c_check.proofs.Lists.{next, passes_on}
+
+-- ---- the names that a unit defines
+
+module _ {K : Type 0} (text : K → List ℕ) where
+  seen_among : (ks : List K) (k : K) → list_any (λ x. bytes_eq (text k) (text x)) ks ≡ rule.is_among (text k) (map text ks)
+  seen_among [] k = refl
+  seen_among (x ∷ xs) k = ap (λ b. bytes_eq (text k) (text x) || b) (seen_among xs k)
+
+  put_last : (ks : List K) (k : K) → map text (ks ++ k ∷ []) ≡ map text ks ++ text k ∷ []
+  put_last [] k = refl
+  put_last (x ∷ xs) k = ap (λ l. text x ∷ l) (put_last xs k)
+
+  put_by : (b : Bool) (ks : List K) (k : K) → map text (if b then ks else ks ++ k ∷ []) ≡ (if b then map text ks else map text ks ++ text k ∷ [])
+  put_by true ks k = refl
+  put_by false ks k = put_last ks k
+
+  pub name_put : (ks : List K) (k : K) → map text (insert_key (λ a b. bytes_eq (text a) (text b)) ks k) ≡ rule.with_name (text k) (map text ks)
+  name_put ks k = put_by (list_any (λ x. bytes_eq (text k) (text x)) ks) ks k ∙ ap (λ b. if b then map text ks else map text ks ++ text k ∷ []) (seen_among ks k)
+
+pub name_added : (old new : List (Vec ℕ Global)) (k : Vec ℕ Global) (name : List ℕ) → k.items ≡ name → new ≡ insert_key (λ a b. bytes_eq a.items b.items) old k → map (λ n. n.items) new ≡ rule.with_name name (map (λ n. n.items) old)
+name_added old new k name is put =
+    let names : List (Vec ℕ Global) → List (List ℕ) = map (λ (n : Vec ℕ Global). n.items) in
+    ap names put ∙ name_put (λ (n : Vec ℕ Global). n.items) old k ∙ ap (λ n. rule.with_name n (names old)) is
+
+-- ---- parameters
+
+bound_joined : (before : List VariableTree) (p : Param) (ps : List Param) (said : Result (Known × Known) Fault) → go_on (λ _. given (before ++ rule.variable_of p ∷ map rule.variable_of ps)) said ≡ go_on (λ _. given ((before ++ rule.variable_of p ∷ []) ++ map rule.variable_of ps)) said
+bound_joined before p ps (Ok x) = ap (λ (l : List VariableTree). Ok (l, x.1)) (sym (append_assoc before (rule.variable_of p ∷ []) (map rule.variable_of ps)))
+bound_joined before p ps (Err fault) = refl
+
+longer : (before : List VariableTree) (v : VariableTree) → suc (length before) ≡ length (before ++ v ∷ [])
+longer [] v = refl
+longer (b ∷ bs) v = ap suc (longer bs v)
+
+pub param_more : (before : List VariableTree) (p : Param) (ps : List Param) (known mid seen : Known) → bind_param p.name (length before) p.ty p.fixed known ≡ Ok (seen, mid) → bound_behind before (p ∷ ps) known ≡ bound_behind (before ++ rule.variable_of p ∷ []) ps mid
+param_more before p ps known mid seen e =
+    ap (λ said. go_on (λ _. given (before ++ map rule.variable_of (p ∷ ps))) (go_on (λ _. rule.bind_params ps (suc (length before))) said)) e
+    ∙ bound_joined before p ps (rule.bind_params ps (suc (length before)) mid)
+    ∙ ap (λ n. go_on (λ _. given ((before ++ rule.variable_of p ∷ []) ++ map rule.variable_of ps)) (rule.bind_params ps n mid)) (longer before (rule.variable_of p))
+
+pub param_refuses : (before : List VariableTree) (p : Param) (ps : List Param) (known : Known) (e : CheckError) → Refuses e (bind_param p.name (length before) p.ty p.fixed known) → Refuses e (bound_behind before (p ∷ ps) known)
+param_refuses before p ps known e h =
+    passes_on (λ _. given (before ++ map rule.variable_of (p ∷ ps))) (rule.bind_params (p ∷ ps) (length before) known) e
+    (passes_on (λ _. rule.bind_params ps (suc (length before))) (bind_param p.name (length before) p.ty p.fixed known) e h)
+
+pub no_param : (before : List VariableTree) (known : Known) → bound_behind before [] known ≡ Ok (before, known)
+no_param before known = ap (λ (l : List VariableTree). Ok (l, known)) (append-nil before)
+
+-- what a loop over parameters has bound so far, and a parameter more
+pub param_next : (variables pushed : List Variable) (v : Variable) (params rest : List ParamShape) (p : ParamShape) (name : List ℕ) (number n : ℕ) (known mid : Known) (total : Result (List VariableTree × Known) Fault) →
+    params ≡ p ∷ rest → name ≡ p.name.items → number ≡ n → n ≡ length variables → pushed ≡ variables ++ v ∷ [] → shown.variable_of v ≡ rule.variable_of (param_of p) → bind_param name number p.ty p.fixed known ≡ Ok (mid, mid)
+    → bound_behind (map shown.variable_of variables) (map param_of params) known ≡ total → bound_behind (map shown.variable_of pushed) (map param_of rest) mid ≡ total
+param_next variables pushed v params rest p name number n known mid total is named counted long put same bound so_far =
+    let before : List VariableTree = map shown.variable_of variables in
+    let at : number ≡ length before = counted ∙ long ∙ sym (length-map variables shown.variable_of) in
+    let whole : bind_param p.name.items (length before) p.ty p.fixed known ≡ Ok (mid, mid) = ap (λ m. bind_param m (length before) p.ty p.fixed known) (sym named) ∙ ap (λ k. bind_param name k p.ty p.fixed known) (sym at) ∙ bound in
+    ap (λ l. bound_behind l (map param_of rest) mid) (ap (map shown.variable_of) put ∙ map-append shown.variable_of variables (v ∷ []) ∙ ap (λ t. before ++ t ∷ []) same)
+    ∙ sym (param_more before (param_of p) (map param_of rest) known mid mid whole)
+    ∙ ap (λ l. bound_behind before (map param_of l) known) (sym is) ∙ so_far
+
+-- a name that is there is bound
+pub named_bound : (name : List ℕ) (number : ℕ) (ty : Qualified) (fixed : Bool) (result : Result Unit CheckError) (after known : Known) → 1 ≤ length name → Learns result after (bind name (ObjectName (object.Param number) ty fixed) known) → Learns result after (bind_param name number ty fixed known)
+named_bound [] number ty fixed result after known some h = absurd (omega arith)
+named_bound (b ∷ bs) number ty fixed result after known some h = h
+
+-- ---- the scope of parameters and body
+
+module _ (b : BlockTree) (params : List Param) (known mid : Known) (entered : enter known ≡ Ok (mid, mid)) where
+  abbrev made_with : List VariableTree → Rule (List VariableTree × List Statement)
+  made_with bound = block_list b statements.outside >>= (λ made. leave >>= (λ _. given (bound, made)))
+
+  abbrev inside : Rule (List VariableTree × List Statement)
+  inside = bound_behind [] params >>= made_with
+
+  pub params_refuse : (e : CheckError) → Refuses e (bound_behind [] params mid) → Refuses e (inner_rule b params known)
+  params_refuse e h = subst (Refuses e) (sym (ap (go_on (λ _. inside)) entered)) (passes_on made_with (bound_behind [] params mid) e h)
+
+  module _ (bound : List VariableTree) (mid2 : Known) (flow : statements.Flow) (have : bound_behind [] params mid ≡ Ok (bound, mid2)) (out : flow ≡ statements.outside) where
+    bound_first : inner_rule b params known ≡ made_with bound mid2
+    bound_first = ap (go_on (λ _. inside)) entered ∙ ap (go_on made_with) have
+
+    pub body_refuses : (e : CheckError) → Refuses e (block_list b flow mid2) → Refuses e (inner_rule b params known)
+    body_refuses e h = subst (Refuses e) (sym bound_first) (passes_on (λ made. leave >>= (λ _. given (bound, made))) (block_list b statements.outside mid2) e (subst (λ f. Refuses e (block_list b f mid2)) out h))
+
+    pub inner_made : (made : List Statement) (mid3 after : Known) → block_list b flow mid2 ≡ Ok (made, mid3) → leave mid3 ≡ Ok (after, after) → inner_rule b params known ≡ Ok ((bound, made), after)
+    inner_made made mid3 after e left =
+        bound_first ∙ ap (λ f. go_on (λ m. leave >>= (λ _. given (bound, m))) (block_list b f mid2)) (sym out) ∙ ap (go_on (λ m. leave >>= (λ _. given (bound, m)))) e ∙ ap (go_on (λ _. given (bound, made))) left
+
+pub scope_refuses : (b : BlockTree) (params : List Param) (known : Known) (e : CheckError) → Refuses e (enter known) → Refuses e (inner_rule b params known)
+scope_refuses b params known e h = passes_on (λ _. bound_behind [] params >>= (λ bound. block_list b statements.outside >>= (λ made. leave >>= (λ _. given (bound, made))))) (enter known) e h
+
+-- ---- bodies
+
+body_behind : {A : Type 0} (first : List Statement) (second : typed.Statements → Rule A) (said : Result (List Statement × Known) Fault) → go_on second (go_on (λ others. given (statements.statements_of (first ++ others))) said) ≡ go_on (λ made. second (statements.statements_of made)) (go_on (λ others. given (first ++ others)) said)
+body_behind first second (Ok x) = refl
+body_behind first second (Err fault) = refl
+
+body_from : {A : Type 0} (ss : tree.Statements) (second : typed.Statements → Rule A) (said : Result (List Statement × Known) Fault) →
+    go_on second (go_on (λ first. statements.statements ss statements.outside >>= (λ others. given (statements.statements_of (first ++ others)))) said) ≡ go_on (λ made. second (statements.statements_of made)) (go_on (λ first. statements.statements ss statements.outside >>= (λ others. given (first ++ others))) said)
+body_from ss second (Ok x) = body_behind x.0 second (statements.statements ss statements.outside x.1)
+body_from ss second (Err fault) = refl
+
+-- the statements of a body are those of its block
+pub body_is : {A : Type 0} (b : BlockTree) (second : typed.Statements → Rule A) (known : Known) → go_on second (statements.body_statements b known) ≡ go_on (λ made. second (statements.statements_of made)) (block_list b statements.outside known)
+body_is (tree.Block opening ds ss closing) second known = body_from ss second (block_declarations ds known)
+
+module _ (said : Specified) (name : List ℕ) (result : Ty) (params : List Param) where
+  abbrev made_of : List VariableTree → typed.Statements → List VariableTree → FunctionTree
+  made_of bound body locals = record { name = name; result = result; params = bound; locals = locals; body = body; interrupt = said.interrupt; line = said.line }
+
+  abbrev closing : List VariableTree → typed.Statements → Rule FunctionTree
+  closing bound body = leave >>= (λ _. known_here >>= (λ here. rule.body_ended >>= (λ _. given (made_of bound body (here.body).locals))))
+
+  abbrev ended : List VariableTree × List Statement → Rule FunctionTree
+  ended made = known_here >>= (λ here. rule.body_ended >>= (λ _. given (made_of made.0 (statements.statements_of made.1) (here.body).locals)))
+
+  ended_behind : (said : Result (List Statement × Known) Fault) → go_on (λ made. closing (map rule.variable_of params) (statements.statements_of made)) said ≡ go_on ended (go_on (λ made. leave >>= (λ _. given (map rule.variable_of params, made))) said)
+  ended_behind (Ok x) = refl
+  ended_behind (Err fault) = refl
+
+  from_inner : (b : BlockTree) (said : Result (Known × Known) Fault) → go_on (λ _. statements.body_statements b >>= closing (map rule.variable_of params)) said
+      ≡ go_on ended (go_on (λ bound. block_list b statements.outside >>= (λ made. leave >>= (λ _. given (bound, made)))) (go_on (λ _. given ([] ++ map rule.variable_of params)) said))
+  from_inner b (Ok x) = body_is b (closing (map rule.variable_of params)) x.1 ∙ ended_behind (block_list b statements.outside x.1)
+  from_inner b (Err fault) = refl
+
+  abbrev begun : Known → Known
+  begun known = record known { body = record { name = name; result = result; locals = []; declarators = 0 } }
+
+  body_as : (b : BlockTree) (known : Known) → rule.function_body b said name result params known ≡ go_on ended (inner_rule b params (begun known))
+  body_as b known = from_inner b (rule.bind_params params 0 (record (begun known) { scopes = [] ∷ known.scopes }))
+
+  abbrev known_behind : Known → Result (Known × Known) Fault → Known
+  known_behind other (Ok x) = x.1
+  known_behind other (Err fault) = other
+
+  at_mid : (b : BlockTree) (known mid : Known) → rule.body_begun name result known ≡ Ok (mid, mid) → rule.function_body b said name result params known ≡ go_on ended (inner_rule b params mid)
+  at_mid b known mid e = let same : begun known ≡ mid = ap (known_behind mid) e in body_as b known ∙ ap (λ k. go_on ended (inner_rule b params k)) same
+
+  pub function_made : (b : BlockTree) (known mid mid2 after : Known) (bound locals : List VariableTree) (made : List Statement) → rule.body_begun name result known ≡ Ok (mid, mid) → inner_rule b params mid ≡ Ok ((bound, made), mid2) → locals ≡ (mid2.body).locals → rule.body_ended mid2 ≡ Ok (after, after)
+      → rule.function_body b said name result params known ≡ Ok (made_of bound (statements.statements_of made) locals, after)
+  function_made b known mid mid2 after bound locals made e inner are over =
+      at_mid b known mid e ∙ ap (go_on ended) inner ∙ ap (go_on (λ _. given (made_of bound (statements.statements_of made) (mid2.body).locals))) over ∙ ap (λ l. Ok (made_of bound (statements.statements_of made) l, after)) (sym are)
+
+  pub function_refuses : (b : BlockTree) (known mid : Known) (e : CheckError) → rule.body_begun name result known ≡ Ok (mid, mid) → Refuses e (inner_rule b params mid) → Refuses e (rule.function_body b said name result params known)
+  function_refuses b known mid e begins h = subst (Refuses e) (sym (at_mid b known mid begins)) (passes_on ended (inner_rule b params mid) e h)
+
+-- ---- the functions of a unit
+
+pub function_more : (s : SpecTrees) (d : DeclaratorTree) (b : BlockTree) (is : List ItemTree) (known mid : Known) (made : FunctionTree) → rule.function s d b known ≡ Ok (made, mid) → rule.functions_of (tree.Function s d b ∷ is) known ≡ behind (made ∷ []) (rule.functions_of is) mid
+function_more s d b is known mid made e = ap (go_on (λ first. rule.functions_of is >>= (λ others. given (first ∷ others)))) e
+
+with_none : {A : Type 0} (said : Result (List A × Known) Fault) → said ≡ go_on (λ others. given ([] ++ others)) said
+with_none (Ok x) = refl
+with_none (Err fault) = refl
+
+pub declaration_more : (d : DeclarationTree) (is : List ItemTree) (known mid seen : Known) → file_declaration d known ≡ Ok (seen, mid) → rule.functions_of (tree.Declaration d ∷ is) known ≡ behind [] (rule.functions_of is) mid
+declaration_more d is known mid seen e = ap (go_on (λ _. rule.functions_of is)) e ∙ with_none (rule.functions_of is mid)
+
+-- what a loop over items has made so far, and an item more
+module _ (items : List Item) (i : ℕ) (item : Item) (old new : Vec Function Global) (known : Known) (later : Checker) (total : Result (List FunctionTree × Known) Fault) (lt : i < length items) (at : item ≡ get_or items i item) where
+  abbrev whole : List Item → Rule (List FunctionTree)
+  whole is = rule.functions_of (map item_of is)
+
+  abbrev rest : List Item
+  rest = drop (i + 1) items
+
+  pub function_next : (inner : code.Function) (made : Function) (pushed : Vec Function Global) (checker : Checker) → item ≡ node.Function inner → rule.function (specs_of inner.specs) (declarator_of inner.declarator) (block_of inner.body) known ≡ Ok (shown.function_of made, known_of checker)
+      → pushed.items ≡ old.items ++ made ∷ [] → new ≡ pushed → later ≡ checker → behind (map shown.function_of old.items) (whole (drop i items)) known ≡ total → behind (map shown.function_of new.items) (whole rest) (known_of later) ≡ total
+  function_next inner made pushed checker is e put are same so_far =
+      let step : whole (item ∷ rest) known ≡ behind (map shown.function_of (made ∷ [])) (whole rest) (known_of checker) = ap (λ x. whole (x ∷ rest) known) is ∙ function_more (specs_of inner.specs) (declarator_of inner.declarator) (block_of inner.body) (map item_of rest) known (known_of checker) (shown.function_of made) e in
+      ap (λ (c : Checker). behind (map shown.function_of new.items) (whole rest) (known_of c)) same
+      ∙ next shown.function_of whole items i known total old.items (made ∷ []) new.items item (known_of checker) lt at step (ap (λ (v : Vec Function Global). v.items) are ∙ put) so_far
+
+  pub declaration_next : (inner : Declaration) (checker : Checker) → item ≡ node.Declaration inner → file_declaration (declaration_of inner) known ≡ Ok (known_of checker, known_of checker) → new ≡ old → later ≡ checker
+      → behind (map shown.function_of old.items) (whole (drop i items)) known ≡ total → behind (map shown.function_of new.items) (whole rest) (known_of later) ≡ total
+  declaration_next inner checker is e are same so_far =
+      let step : whole (item ∷ rest) known ≡ behind [] (whole rest) (known_of checker) = ap (λ x. whole (x ∷ rest) known) is ∙ declaration_more (declaration_of inner) (map item_of rest) known (known_of checker) (known_of checker) e in
+      ap (λ (c : Checker). behind (map shown.function_of new.items) (whole rest) (known_of c)) same
+      ∙ next shown.function_of whole items i known total old.items [] new.items item (known_of checker) lt at step (ap (λ (v : Vec Function Global). v.items) are ∙ sym (append-nil old.items)) so_far
+
+-- ---- the typed program
+
+sizes_are : (xs : List Structure) (ys : List StructureTree) → map shown.structure_of xs ≡ ys → map shown.size_of xs ≡ map (λ s. s.size) ys
+sizes_are xs ys h = seen xs ∙ ap (map (λ (s : StructureTree). s.size)) h
+  where
+    seen : (zs : List Structure) → map shown.size_of zs ≡ map (λ (s : StructureTree). s.size) (map shown.structure_of zs)
+    seen [] = refl
+    seen (z ∷ zs) = ap (λ l. z.size ∷ l) (seen zs)
+
+sizes_of : (shapes : List Shape) → map (λ (s : StructureTree). s.size) (map rule.structure_tree shapes) ≡ map (λ s. s.size) shapes
+sizes_of [] = refl
+sizes_of (s ∷ ss) = ap (λ l. s.size ∷ l) (sizes_of ss)
+
+abbrev program : List Qualified → List StructureTree → List ℕ → List StaticTree → List FunctionTree → Program
+program targets structures sizes statics functions = record { targets = targets; structures = structures; sizes = sizes; statics = statics; functions = functions }
+
+pub program_is : (known : Known) (targets : List Qualified) (structures : List Structure) (functions : List FunctionTree) → targets ≡ known.targets → map shown.structure_of structures ≡ map rule.structure_tree known.shapes → program targets (map shown.structure_of structures) (map shown.size_of structures) known.statics functions ≡ rule.program_from known functions
+program_is known targets structures functions same h =
+    ap (λ t. program t (map shown.structure_of structures) (map shown.size_of structures) known.statics functions) same
+    ∙ ap (λ s. program known.targets s (map shown.size_of structures) known.statics functions) h
+    ∙ ap (λ n. program known.targets (map rule.structure_tree known.shapes) n known.statics functions) (sizes_are structures (map rule.structure_tree known.shapes) h ∙ sizes_of known.shapes)
+
+-- what a program that is made of these tables shows
+pub typed_is : (result : Option Typed) (known : Known) (targets : Vec Qualified Global) (structures : Vec Structure Global) (statics : Vec Static Global) (functions : Vec Function Global) →
+    IfSome result (λ p. (p.targets ≡ targets) × (p.structures ≡ structures) × (p.statics ≡ statics) × (p.functions ≡ functions)) → targets.items ≡ known.targets → map shown.structure_of structures.items ≡ map rule.structure_tree known.shapes → map shown.static_of statics.items ≡ known.statics
+    → IfSome result (λ p. shown.program_of p ≡ rule.program_from known (map shown.function_of functions.items))
+typed_is None known targets structures statics functions kept same h held = tt
+typed_is (Some p) known targets structures statics functions kept same h held =
+    ap (λ (t : Vec Qualified Global). shown.program_from t.items p.structures.items p.statics.items p.functions.items) kept.0
+    ∙ ap (λ (t : Vec Structure Global). shown.program_from targets.items t.items p.statics.items p.functions.items) kept.1
+    ∙ ap (λ (t : Vec Static Global). shown.program_from targets.items structures.items t.items p.functions.items) kept.2
+    ∙ ap (λ (t : Vec Function Global). shown.program_from targets.items structures.items statics.items t.items) kept.3
+    ∙ ap (λ l. program targets.items (map shown.structure_of structures.items) (map shown.size_of structures.items) l (map shown.function_of functions.items)) held
+    ∙ program_is known targets.items structures.items (map shown.function_of functions.items) same h
+
+-- ---- the whole unit
+
+pub judged : (unit : List ItemTree) (known after : Known) (functions : List FunctionTree) → known ≡ known_first (rule.defined_in unit []) → rule.functions_of unit known ≡ Ok (functions, after) → rule.judged_unit unit ≡ Ok (rule.program_from after functions)
+unfolding rule.judged_unit
+judged unit known after functions begun e = ap (λ k. rule.program_in (rule.functions_of unit k)) (sym begun) ∙ ap rule.program_in e
+
+wrong : (e : CheckError) (said : Result (List FunctionTree × Known) Fault) → Refuses e said → Refuses e (rule.program_in said)
+wrong errors.NoMemory said h = h
+wrong (errors.Kind kind line) said h = ap rule.program_in h
+
+pub misjudged : (unit : List ItemTree) (known : Known) (e : CheckError) → known ≡ known_first (rule.defined_in unit []) → Refuses e (rule.functions_of unit known) → Refuses e (rule.judged_unit unit)
+unfolding rule.judged_unit
+misjudged unit known e begun h = wrong e (rule.functions_of unit (known_first (rule.defined_in unit []))) (subst (λ k. Refuses e (rule.functions_of unit k)) begun h)

@@ -1,0 +1,152 @@
+-- The first of the functions whose blocks are over a page, and what the placing of blocks tells by it.
+use Rattle.std.proofs.Common.{◌≡◌, ℕ, zero, suc, ◌+◌, ◌<◌, ◌≤◌, ◌⊎◌, inl, inr, ⊎_elim, List, [], ◌∷◌, ◌++◌, length, take, Option, Some, None, Result, Err, Bool, refl, sym, ap, ◌∙◌, subst, arith}
+use Rattle.std.proofs.Math.ListN.{get_or}
+use Rattle.std.specs.Prelude.{sum, if◌then◌else◌}
+use Rattle.std.specs.Global.{Global}
+use Rattle.std.specs.List.{Contains}
+use Rattle.std.specs.List.Sorted.{IsNonDecreasingBy, IsPermutation}
+use Rattle.std.specs.declared.vec.Vec.{Vec}
+use Rattle.std.proofs.lemmas.Bool.{cases_lt, lt-ltb, le-ltb}
+use Rattle.std.proofs.lemmas.List.{take_more, take_all}
+use Rattle.std.proofs.lemmas.List.Elements.{Contains-append_left, Contains-append_right, Contains-append_cases}
+use Rattle.c_typed.specs.Trees.{Program}
+use Rattle.c_typed.specs.declared.calls.FnId.TheVariants as callee
+use Rattle.c_typed.specs.declared.calls.Helper.{Helper}
+use Rattle.call_graph.specs.Copies.{name_at}
+use Rattle.call_graph.specs.declared.types.FnCopy.{FnCopy}
+use Rattle.code_place.specs.Answers.{TellsPages}
+use Rattle.code_place.specs.Pages.{addresses, AreWithinPages, PassesMemory}
+use Rattle.code_place.specs.declared.PageError.{PageError}
+use Rattle.code_place.specs.declared.PageError.TheVariants as pages
+use Rattle.program_code.specs.Order.{rank}
+use Rattle.program_code.specs.Stated.{copy_words, sizes}
+use Rattle.picc_core.specs.Accepted.{IsOverPage, IsFirstOverPage, PassesPages}
+use Rattle.picc_core.specs.CodeAnswers.{TellsFirstOver, earlier, TellsCode, Explains}
+use Rattle.picc_core.specs.declared.refusal.CompileError.{CompileError}
+use Rattle.picc_core.specs.declared.stages.OverPage.{OverPage}
+
+-- ---- one copy
+at_one : (x y : FnCopy) (k : ℕ) → k < length (x ∷ []) → get_or (x ∷ []) k y ≡ y → x ≡ y
+at_one x y zero below is = is
+at_one x y (suc k) below is = absurd (omega (arith, below))
+
+in_one : (x y : FnCopy) → Contains (x ∷ []) y → x ≡ y
+in_one x y among = at_one x y among.0 among.1 among.2
+
+alone : (x : FnCopy) → Contains (x ∷ []) x
+alone x = (0, omega arith, refl)
+
+user_only : (h : Helper) (n : ℕ) → callee.Helper h ≡ callee.User n → ⊥
+user_only h n is = cc
+
+pub helper_within : (p : Program) (copy : FnCopy) (h : Helper) → copy.function ≡ callee.Helper h → TellsFirstOver p (copy ∷ []) None
+helper_within p copy h is number words over = user_only h number (sym is ∙ ap (λ (c : FnCopy). c.function) (in_one copy over.copy over.among) ∙ over.function)
+
+pub one_within : (p : Program) (copy : FnCopy) (words : ℕ) → words ≡ copy_words p copy → words ≤ 2048 → TellsFirstOver p (copy ∷ []) None
+one_within p copy words stated low number more over =
+    let same : more ≡ words = over.stated ∙ ap (copy_words p) (sym (in_one copy over.copy over.among)) ∙ sym stated in
+    let high : 2048 < more = over.over in
+    omega (arith, same, high, low)
+
+user_number : (m n : ℕ) → callee.User m ≡ callee.User n → m ≡ n
+user_number m n is = cc
+
+pub one_over : (p : Program) (copy : FnCopy) (found : OverPage) → copy.function ≡ callee.User found.number → found.words ≡ copy_words p copy → 2048 < found.words → TellsFirstOver p (copy ∷ []) (Some found)
+one_over p copy found function stated over = (
+  record { copy = copy; among = alone copy; function = function; stated = stated; over = over },
+  λ other more there.
+      let same = user_number found.number other (sym function ∙ ap (λ (c : FnCopy). c.function) (in_one copy there.copy there.among) ∙ there.function) in
+      omega (arith, same),
+)
+
+-- ---- two lists
+module _ (p : Program) (xs ys : List FnCopy) where
+  on_left : (number words : ℕ) → IsOverPage p xs number words → IsOverPage p (xs ++ ys) number words
+  on_left number words over = record { copy = over.copy; among = Contains-append_left xs ys over.copy over.among; function = over.function; stated = over.stated; over = over.over }
+
+  on_right : (number words : ℕ) → IsOverPage p ys number words → IsOverPage p (xs ++ ys) number words
+  on_right number words over = record { copy = over.copy; among = Contains-append_right xs ys over.copy over.among; function = over.function; stated = over.stated; over = over.over }
+
+  by_side : (number words : ℕ) → IsOverPage p (xs ++ ys) number words → IsOverPage p xs number words ⊎ IsOverPage p ys number words
+  by_side number words over =
+      ⊎_elim
+      (λ l. inl (record { copy = over.copy; among = l; function = over.function; stated = over.stated; over = over.over }))
+      (λ r. inr (record { copy = over.copy; among = r; function = over.function; stated = over.stated; over = over.over }))
+      (Contains-append_cases xs ys over.copy over.among)
+
+  none_left : (next : Option OverPage) → TellsFirstOver p xs None → TellsFirstOver p ys next → TellsFirstOver p (xs ++ ys) next
+  none_left None left right = λ number words over. ⊎_elim (λ l. left number words l) (λ r. right number words r) (by_side number words over)
+  none_left (Some second) left right = (
+    on_right second.number second.words right.0,
+    λ other more over. ⊎_elim (λ l. absurd (left other more l)) (λ r. right.1 other more r) (by_side other more over),
+  )
+
+  none_right : (first : OverPage) → TellsFirstOver p xs (Some first) → TellsFirstOver p ys None → TellsFirstOver p (xs ++ ys) (Some first)
+  none_right first left right = (
+    on_left first.number first.words left.0,
+    λ other more over. ⊎_elim (λ l. left.1 other more l) (λ r. absurd (right other more r)) (by_side other more over),
+  )
+
+  right_first : (first second : OverPage) → second.number < first.number → TellsFirstOver p xs (Some first) → TellsFirstOver p ys (Some second) → TellsFirstOver p (xs ++ ys) (Some second)
+  right_first first second less left right = (
+    on_right second.number second.words right.0,
+    λ other more over. ⊎_elim (λ l. let low = left.1 other more l in omega (arith, low, less)) (λ r. right.1 other more r) (by_side other more over),
+  )
+
+  left_first : (first second : OverPage) → first.number ≤ second.number → TellsFirstOver p xs (Some first) → TellsFirstOver p ys (Some second) → TellsFirstOver p (xs ++ ys) (Some first)
+  left_first first second less left right = (
+    on_left first.number first.words left.0,
+    λ other more over. ⊎_elim (λ l. left.1 other more l) (λ r. let low = right.1 other more r in omega (arith, low, less)) (by_side other more over),
+  )
+
+  tells_earlier : (found next : Option OverPage) → TellsFirstOver p xs found → TellsFirstOver p ys next → TellsFirstOver p (xs ++ ys) (earlier found next)
+  tells_earlier None next left right = none_left next left right
+  tells_earlier (Some first) None left right = none_right first left right
+  tells_earlier (Some first) (Some second) left right =
+      ⊎_elim
+      (λ less. subst (λ (b : Bool). TellsFirstOver p (xs ++ ys) (if b then Some second else Some first)) (sym (lt-ltb second.number first.number less)) (right_first first second less left right))
+      (λ more. subst (λ (b : Bool). TellsFirstOver p (xs ++ ys) (if b then Some second else Some first)) (sym (le-ltb second.number first.number more)) (left_first first second more left right))
+      (cases_lt second.number first.number)
+
+-- ---- the loop
+pub nothing_seen : (p : Program) (copies : List FnCopy) → TellsFirstOver p (take 0 copies) None
+nothing_seen p copies number words over = none_in over.copy over.among
+  where
+    none_in : (y : FnCopy) → Contains [] y → ⊥
+    none_in y among = let below : among.0 < 0 = among.1 in omega (arith, below)
+
+pub one_more : (p : Program) (copies : List FnCopy) (i : ℕ) (d : FnCopy) (found next new : Option OverPage) → i < length copies → TellsFirstOver p (take i copies) found → TellsFirstOver p (get_or copies i d ∷ []) next → new ≡ earlier found next
+    → TellsFirstOver p (take (i + 1) copies) new
+one_more p copies i d found next new below seen here is =
+    subst (λ (o : Option OverPage). TellsFirstOver p (take (i + 1) copies) o) (sym is)
+    (subst (λ (l : List FnCopy). TellsFirstOver p l (earlier found next)) (sym (take_more copies i d below)) (tells_earlier p (take i copies) (get_or copies i d ∷ []) found next seen here))
+
+pub all_seen : (p : Program) (copies : List FnCopy) (i : ℕ) (found : Option OverPage) → length copies ≤ i → TellsFirstOver p (take i copies) found → TellsFirstOver p copies found
+all_seen p copies i found over tells = subst (λ (l : List FnCopy). TellsFirstOver p l found) (take_all i copies over) tells
+
+-- ---- what is told
+pub page_told : (p : Program) (copies : List FnCopy) (found : OverPage) (name : List ℕ) → TellsFirstOver p copies (Some found) → name ≡ name_at p found.number → IsFirstOverPage p copies name found.words
+page_told p copies found name tells named = record { number = found.number; over = tells.0; first = tells.1; named = named }
+
+passes : (p : Program) (copies order : List FnCopy) (blocks : List ℕ) (words : ℕ) → IsPermutation copies order → IsNonDecreasingBy rank order → blocks ≡ sizes p order
+    → AreWithinPages blocks × PassesMemory (addresses blocks) × (words ≡ sum blocks) → PassesPages p copies words
+passes p copies order blocks words same sorted is (within, behind, total) =
+    record {
+      order = order;
+      in_order = record { same = same; sorted = sorted };
+      pages = subst AreWithinPages is within;
+      passes = subst (λ (l : List ℕ). PassesMemory (addresses l)) is behind;
+      total = total ∙ ap sum is;
+    }
+
+explained : (p : Program) (copies order : List FnCopy) (blocks : List ℕ) (error : PageError) (told : CompileError) → IsPermutation copies order → IsNonDecreasingBy rank order → blocks ≡ sizes p order
+    → TellsPages blocks (Err error) → Explains p copies error told → TellsCode p copies told
+explained p copies order blocks pages.NoMemory told same sorted is tells why = subst (TellsCode p copies) (sym why) tt
+explained p copies order blocks (pages.Page block words) told same sorted is tells why = why
+explained p copies order blocks (pages.Code words) told same sorted is tells why = subst (TellsCode p copies) (sym why) (passes p copies order blocks words same sorted is tells)
+
+-- the error of the placing of these blocks tells of the copies, lent as this list
+pub code_told : (p : Program) (copies lent order : List FnCopy) (blocks : List ℕ) (answer : Result (Vec ℕ Global) PageError) (error : PageError) (told : CompileError) → IsPermutation copies order → IsNonDecreasingBy rank order
+    → blocks ≡ sizes p order → answer ≡ Err error → TellsPages blocks answer → lent ≡ copies → Explains p lent error told → TellsCode p copies told
+code_told p copies lent order blocks answer error told same sorted is err tells given why =
+    explained p copies order blocks error told same sorted is (subst (TellsPages blocks) err tells) (subst (λ (l : List FnCopy). Explains p l error told) given why)

@@ -1,0 +1,21 @@
+use Rattle.std.proofs.Common.{map}
+use Rattle.std.proofs.lemmas.Result.{err_from_is_err_and}
+use Rattle.c_typed.specs.Views.{program_of}
+use Rattle.pic_map.specs.MapView.{object_of, frame_of}
+use Rattle.picc_core.proofs.Told.{code_refused, accepted}
+use Rattle.picc_core.proofs.stages.known_of.Goals as goal
+
+pub returns-in_err-at-clause-refused : goal.returns-in_err-at-clause-refused
+returns-in_err-at-clause-refused c =
+    let p = err_from_is_err_and c.from_residual-in_err-at.result c.from_residual-in_err-at.ensures.1 in
+    let known = c.in_ok-copies.ensures in
+    let placed = c.in_ok-placed.placed in
+    rw (p.1, p.2) (code_refused (program_of c.args.typed) c.in_ok-copies.copies.list.items c.in_ok-copies.copies.depth (map object_of placed.objects.items) (map frame_of placed.frames.items) c.in_err-at.field-0.0
+    known.roots known.recursion known.depth known.list c.in_ok-placed.ensures.exact c.in_err-at.ensures.refused)
+
+pub returns-clause-accepted : goal.returns-clause-accepted
+returns-clause-accepted c =
+    let known = c.in_ok-copies.ensures in
+    let placed = c.in_ok-placed.placed in
+    accepted c.args.typed c.in_ok-copies.copies.list.items c.in_ok-copies.copies.depth (map object_of placed.objects.items) (map frame_of placed.frames.items) _ _
+    known.roots known.recursion known.depth known.list c.in_ok-placed.ensures.exact c.in_ok-at.ensures.blocks

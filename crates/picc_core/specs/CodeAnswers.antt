@@ -1,0 +1,48 @@
+-- What is said of a typed program whose blocks have no addresses.
+use Rattle.std.specs.Prelude.{ℕ, ◌≡◌, ◌≤◌, nat_lt, if◌then◌else◌, List, Option, Some, None}
+use Rattle.c_typed.specs.Trees.{Program}
+use Rattle.call_graph.specs.declared.types.FnCopy.{FnCopy}
+use Rattle.code_place.specs.declared.PageError.{PageError}
+use Rattle.code_place.specs.declared.PageError.TheVariants as pages
+use Rattle.picc_core.specs.Accepted.{IsOverPage, IsFirstOverPage, PassesPages}
+use Rattle.picc_core.specs.declared.refusal.CompileError.{CompileError}
+use Rattle.picc_core.specs.declared.refusal.CompileError.TheVariants.{NoMemory, Refused}
+use Rattle.picc_core.specs.declared.refusal.Refusal.{Refusal}
+use Rattle.picc_core.specs.declared.refusal.Refusal.TheVariants.{Lex, Word, Directive, Syntax, Typing, Recursion, Roots, Depth, Ram, Code, Page, Limit}
+use Rattle.picc_core.specs.declared.stages.OverPage.{OverPage}
+
+-- Of the functions whose blocks are over a page the one that is defined first, or that there is none.
+abbrev pub TellsFirstOver : Program → List FnCopy → Option OverPage → Type 0
+TellsFirstOver p copies None = (number words : ℕ) → IsOverPage p copies number words → ⊥
+TellsFirstOver p copies (Some found) = IsOverPage p copies found.number found.words × ((other more : ℕ) → IsOverPage p copies other more → found.number ≤ other)
+
+-- of two such functions the one that is defined first
+abbrev pub earlier : Option OverPage → Option OverPage → Option OverPage
+earlier None next = next
+earlier (Some first) None = Some first
+earlier (Some first) (Some second) = if nat_lt second.number first.number then Some second else Some first
+
+-- a function's block is over a page, or all blocks pass the last one
+abbrev pub IsOfCode : Program → List FnCopy → Refusal → Type 0
+IsOfCode p copies (Page name words) = IsFirstOverPage p copies name.items words
+IsOfCode p copies (Code words) = PassesPages p copies words
+IsOfCode p copies (Lex line) = ⊥
+IsOfCode p copies (Word line) = ⊥
+IsOfCode p copies (Directive line) = ⊥
+IsOfCode p copies (Syntax line) = ⊥
+IsOfCode p copies (Typing kind line) = ⊥
+IsOfCode p copies (Recursion name) = ⊥
+IsOfCode p copies (Roots kind) = ⊥
+IsOfCode p copies (Depth depth) = ⊥
+IsOfCode p copies (Ram name) = ⊥
+IsOfCode p copies (Limit kind line) = ⊥
+
+abbrev pub TellsCode : Program → List FnCopy → CompileError → Type 0
+TellsCode p copies NoMemory = Unit {0}
+TellsCode p copies (Refused refusal) = IsOfCode p copies refusal
+
+-- The error of the placing of blocks as one of a text: one over a page is told by the name of a function.
+abbrev pub Explains : Program → List FnCopy → PageError → CompileError → Type 0
+Explains p copies pages.NoMemory told = told ≡ NoMemory
+Explains p copies (pages.Page block words) told = TellsCode p copies told
+Explains p copies (pages.Code words) told = told ≡ Refused (Code words)
