@@ -19,13 +19,13 @@ ghost use Rattle.c_check.specs.Views.{any_init, only_one, slot_of};
 
 use crate::initializer::begun;
 use crate::slots::Slot;
-use crate::types::{both, either, is_array, is_scalar, like};
+use crate::types::{both, either};
 use c_operate::checker::Checker;
 use c_operate::error::{CheckError, Kind, refused};
 use c_operate::scope::{Binding, Scopes};
-use c_operate::types::Types;
+use c_operate::types::{Types, like};
 use c_tree::statement::Init;
-use c_typed::{Object, Qualified, TExpr, TItem, TPlace, TStmt, Ty};
+use c_typed::{Object, Qualified, TExpr, TItem, TPlace, TStmt, Ty, is_array, is_scalar};
 use check_expr::outline::{Declared, Outline};
 use check_expr::specifiers::{Specified, Storage};
 use itoa::Buffer;

@@ -15,7 +15,7 @@ ghost use Rattle.c_check.specs.Views.{any_slot, begin_scalar, begun_of, slot_of}
 
 use crate::slots::{Sink, Slot};
 use crate::text::characters;
-use crate::types::{is_char, is_scalar, same_type};
+use crate::types::is_char;
 use c_ints::{IntTy, Value};
 use c_operate::checker::Checker;
 use c_operate::conversion::{assigned, is_assignable};
@@ -23,7 +23,7 @@ use c_operate::error::{CheckError, Kind, number, refused};
 use c_operate::term::{Operand, read_from};
 use c_operate::types::Types;
 use c_tree::word::Text;
-use c_typed::{Initial, InitialByte, Object, TExpr, TItem, TPlace, Ty};
+use c_typed::{Initial, InitialByte, Object, TExpr, TItem, TPlace, Ty, is_scalar, same_type};
 use check_expr::constants::folded;
 use std::alloc::Global;
 

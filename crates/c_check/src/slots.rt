@@ -9,9 +9,8 @@ ghost use Rattle.c_operate.specs.Tables.{types_in};
 ghost use Rattle.c_operate.specs.declared.error.CheckError.TheVariants.{NoMemory};
 ghost use Rattle.c_check.specs.Views.{any_slot, begun_of, slot_of};
 
-use crate::types::like;
 use c_operate::error::CheckError;
-use c_operate::types::Types;
+use c_operate::types::{Types, like};
 use c_typed::{Initial, Qualified, TItem, Ty};
 use std::alloc::Global;
 

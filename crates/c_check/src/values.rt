@@ -15,14 +15,13 @@ ghost use Rattle.c_operate.specs.Tables.{known_of};
 ghost use Rattle.c_operate.specs.Terms.{operand_of};
 ghost use Rattle.c_check.specs.StatementViews.{switched_rule, valued_return};
 
-use crate::types::{is_scalar, is_void};
 use c_ints::{IntTy, promote};
 use c_operate::checker::Checker;
 use c_operate::conversion::{assigned, converted};
 use c_operate::error::{CheckError, Kind, refused};
 use c_operate::term::{Operand, used};
 use c_tree::expression::Expr;
-use c_typed::{TExpr, TStmt, Ty};
+use c_typed::{TExpr, TStmt, Ty, is_scalar, is_void};
 use check_expr::expression::expression;
 
 #[tactic(auto, using(crate::proofs::Evaluated::value_is, crate::proofs::Evaluated::judged_wrong))]

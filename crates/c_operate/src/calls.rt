@@ -12,7 +12,7 @@ use crate::checker::Checker;
 use crate::conversion::assigned;
 use crate::error::{CheckError, Kind, refused};
 use crate::functions::Functions;
-use crate::made::call_node;
+use crate::nodes::call_node;
 use crate::term::{Form, Operand, Term, refuse_table, value_term};
 use crate::types::Types;
 use c_typed::{TExpr, Ty};

@@ -8,12 +8,11 @@ ghost use Rattle.c_operate.specs.Answers.{Answers};
 ghost use Rattle.c_operate.specs.Tables.{types_in};
 ghost use Rattle.c_operate.specs.Terms.{operand_of, side_of};
 
-use crate::build::convert_node;
 use crate::error::{CheckError, Kind, refused};
-use crate::sameness::{is_int, is_pointer, is_void, same_type};
+use crate::nodes::convert_node;
 use crate::term::{Operand, Side};
 use crate::types::Types;
-use c_typed::{Qualified, TExpr, Ty};
+use c_typed::{Qualified, TExpr, Ty, is_int, is_pointer, is_void, same_type};
 use std::alloc::{AllocError, Global};
 
 /// The value in this type, by a Convert node where it has another one. The one error is that memory ran out.

@@ -9,18 +9,16 @@
 #![tactic(auto)]
 
 pub mod body;
-mod build;
 pub mod calls;
 pub mod checker;
 pub mod conversion;
 pub mod error;
 pub mod functions;
-mod made;
+mod nodes;
 mod operation;
 pub mod operators;
 pub mod places;
 pub mod primary;
-mod sameness;
 pub mod scope;
 pub mod statics;
 pub mod term;

@@ -8,12 +8,11 @@ ghost use Rattle.type_rules.specs.Operations as rule;
 ghost use Rattle.c_operate.specs.Tables.{types_in};
 ghost use Rattle.c_operate.specs.Terms.{operation_of, side_of};
 
-use crate::sameness::{is_void, same_type};
 use crate::term::Side;
 use crate::types::Types;
 use c_ints::{BinOp, IntTy, promote, usual};
 use c_token::Punct;
-use c_typed::Ty;
+use c_typed::{Ty, is_void, same_type};
 
 /// Which kind of node an operator becomes.
 #[derive(Clone, Copy)]

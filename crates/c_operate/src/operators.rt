@@ -13,19 +13,18 @@ ghost use Rattle.c_operate.specs.Answers.{Answers};
 ghost use Rattle.c_operate.specs.Tables.{types_in};
 ghost use Rattle.c_operate.specs.Terms.{node_of, operation_of, operand_of, reach_moved, reach_of, side_of as shown_side, term_of};
 
-use crate::build::{
+use crate::conversion::{in_type, is_assignable, is_castable};
+use crate::error::{CheckError, Kind, refused};
+use crate::nodes::{
     binary_node, cast_node, comma_node, conditional_node, difference_node, logical_node,
     offset_node, unary_node,
 };
-use crate::conversion::{in_type, is_assignable, is_castable};
-use crate::error::{CheckError, Kind, refused};
 use crate::operation::{Node, Operation, binary_operator, operation_of};
-use crate::sameness::{is_pointer, is_scalar, same_type};
 use crate::term::{Form, Operand, Reach, Side, Term, first_reach, value_term};
 use crate::types::Types;
 use c_ints::{BinOp, IntTy, UnOp, promote, usual};
 use c_token::Punct;
-use c_typed::{LogicalOp, Qualified, TExpr, Ty};
+use c_typed::{LogicalOp, Qualified, TExpr, Ty, is_pointer, is_scalar, same_type};
 use std::alloc::{AllocError, Global};
 
 // The node of an operator on these two values.

@@ -9,19 +9,17 @@ ghost use Rattle.c_operate.specs.Answers.{Answers};
 ghost use Rattle.c_operate.specs.Tables.{field_of, types_in};
 ghost use Rattle.c_operate.specs.Terms.{form_of, lvalue_reach, operand_of, operation_of, reach_of, term_of};
 
-use crate::build::{address_node, offset_node};
 use crate::conversion::converted;
 use crate::error::{CheckError, Kind, number, refused};
-use crate::made::{deref_place, member_place};
+use crate::nodes::{address_node, deref_place, member_place, offset_node};
 use crate::operation::{Operation, operation_of};
-use crate::sameness::is_array;
 use crate::term::{
     Form, Lvalue, Operand, Reach, Term, constant, first_reach, indexed, into_lvalue, lvalue_term,
     refuse_table, used_value, value_term,
 };
 use crate::types::{Field, Types};
 use c_ints::{BinOp, IntTy};
-use c_typed::{Qualified, TPlace, Ty};
+use c_typed::{Qualified, TPlace, Ty, is_array};
 use std::alloc::Global;
 
 // What a pointer of this type points to.

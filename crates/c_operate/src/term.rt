@@ -13,13 +13,12 @@ ghost use Rattle.c_operate.specs.Answers.{Answers, Learns};
 ghost use Rattle.c_operate.specs.Tables.{known_of, types_in};
 ghost use Rattle.c_operate.specs.Terms.{form_of, lvalue_reach, operand_of, place_in, reach_of, side_of, term_of};
 
-use crate::build::{address_node, read_node};
 use crate::checker::Checker;
 use crate::error::{CheckError, Kind, refused};
-use crate::sameness::is_array;
+use crate::nodes::{address_node, read_node};
 use crate::types::Types;
 use c_ints::{IntTy, Value};
-use c_typed::{Qualified, TExpr, TPlace, Ty};
+use c_typed::{Qualified, TExpr, TPlace, Ty, is_array};
 use std::alloc::Global;
 
 /// An lvalue (ISO/IEC 9899:1990, 6.2.2.1). `through` says that it is reached through a pointer; `fixed` that

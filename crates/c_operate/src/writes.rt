@@ -15,14 +15,13 @@ ghost use Rattle.c_operate.specs.Terms.{node_of, operand_of, term_of, valued};
 
 use crate::conversion::{assigned, converted};
 use crate::error::{CheckError, Kind, refused};
-use crate::made::{assign_node, copy_node, step_node, update_node};
+use crate::nodes::{assign_node, copy_node, step_node, update_node};
 use crate::operation::{Node, compound_operator, operation_of};
-use crate::sameness::{is_int, same_type};
 use crate::term::{Operand, Side, Term, read_from, refuse_table, value_term, written};
 use crate::types::Types;
 use c_ints::{BinOp, IntTy, usual};
 use c_token::Punct;
-use c_typed::{StepOp, TExpr, TPlace, Ty};
+use c_typed::{StepOp, TExpr, TPlace, Ty, is_int, same_type};
 use std::alloc::Global;
 
 // The assignment of a structure to a structure's place.

@@ -27,5 +27,6 @@ pub use calls::{FnId, Helper, int_helper};
 pub use expression::{LogicalOp, Object, PlaceForm, StepOp, TExpr, TPlace};
 pub use folding::Folded;
 pub use program::{Function, Initial, InitialByte, RootKind, Static, Typed, Variable};
+pub use sameness::{is_array, is_int, is_pointer, is_scalar, is_void, same_type};
 pub use statement::{LoopForm, TArm, TCase, TItem, TStmt};
 pub use types::{Member, Qualified, Structure, Ty, bytes_of};

@@ -34,7 +34,7 @@ pub(crate) fn same_int(a: IntTy, b: IntTy) -> bool
 }
 
 /// Whether two types are the same.
-pub(crate) fn same_type(a: Ty, b: Ty) -> bool
+pub fn same_type(a: Ty, b: Ty) -> bool
     ensures { result ≡ stated.same_type a b }
 {
     match a {
@@ -85,7 +85,8 @@ pub(crate) fn same_qualified(a: Qualified, b: Qualified) -> bool
     same_type(a.ty, b.ty) && same_flag(a.constant, b.constant) && same_flag(a.volatile, b.volatile)
 }
 
-pub(crate) fn is_void(ty: Ty) -> bool
+/// Whether the type is void.
+pub fn is_void(ty: Ty) -> bool
     ensures { result ≡ stated.is_void ty }
 {
     match ty {
@@ -94,7 +95,8 @@ pub(crate) fn is_void(ty: Ty) -> bool
     }
 }
 
-pub(crate) fn is_int(ty: Ty) -> bool
+/// Whether the type is an integer type.
+pub fn is_int(ty: Ty) -> bool
     ensures { result ≡ stated.is_int ty }
 {
     match ty {
@@ -103,7 +105,8 @@ pub(crate) fn is_int(ty: Ty) -> bool
     }
 }
 
-pub(crate) fn is_pointer(ty: Ty) -> bool
+/// Whether the type is a pointer.
+pub fn is_pointer(ty: Ty) -> bool
     ensures { result ≡ stated.is_pointer ty }
 {
     match ty {
@@ -112,7 +115,8 @@ pub(crate) fn is_pointer(ty: Ty) -> bool
     }
 }
 
-pub(crate) fn is_array(ty: Ty) -> bool
+/// Whether the type is an array.
+pub fn is_array(ty: Ty) -> bool
     ensures { result ≡ stated.is_array ty }
 {
     match ty {
@@ -130,7 +134,8 @@ pub(crate) fn is_struct(ty: Ty) -> bool
     }
 }
 
-pub(crate) fn is_scalar(ty: Ty) -> bool
+/// Whether the type is an integer or a pointer (ISO/IEC 9899:1990, 6.1.2.5: a scalar).
+pub fn is_scalar(ty: Ty) -> bool
     ensures { result ≡ stated.is_scalar ty }
 {
     is_int(ty) || is_pointer(ty)

@@ -35,30 +35,6 @@ impl Ty {
             _ => None,
         }
     }
-
-    /// The row of what this type points to, if it is a pointer.
-    pub fn target(self) -> Option<u32> {
-        match self {
-            Ty::Pointer(target) => Some(target),
-            _ => None,
-        }
-    }
-
-    /// Whether the type is an array.
-    pub fn is_array(self) -> bool {
-        match self {
-            Ty::Array { .. } => true,
-            _ => false,
-        }
-    }
-
-    /// Whether the type is an integer or a pointer (ISO/IEC 9899:1990, 6.1.2.5: a scalar).
-    pub fn is_scalar(self) -> bool {
-        match self {
-            Ty::Int(_) | Ty::Pointer(_) => true,
-            _ => false,
-        }
-    }
 }
 
 /// A type with its qualifiers (ISO/IEC 9899:1990, 6.5.3). An array has those of its elements.
@@ -67,35 +43,6 @@ pub struct Qualified {
     pub ty: Ty,
     pub constant: bool,
     pub volatile: bool,
-}
-
-impl Qualified {
-    /// The type without qualifiers.
-    pub fn plain(ty: Ty) -> Qualified {
-        Qualified {
-            ty,
-            constant: false,
-            volatile: false,
-        }
-    }
-
-    /// This type with the qualifiers of another one too.
-    pub fn qualified_as(self, other: Qualified) -> Qualified {
-        Qualified {
-            ty: self.ty,
-            constant: self.constant || other.constant,
-            volatile: self.volatile || other.volatile,
-        }
-    }
-
-    /// Another type with the qualifiers of this one.
-    pub fn of(self, ty: Ty) -> Qualified {
-        Qualified {
-            ty,
-            constant: self.constant,
-            volatile: self.volatile,
-        }
-    }
 }
 
 /// A member of a structure, and how many bytes of the structure stand before it.

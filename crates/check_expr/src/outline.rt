@@ -13,13 +13,12 @@ ghost use Rattle.check_expr.specs.Lists.{Lists, outermost};
 ghost use Rattle.check_expr.specs.Views.{declared_of, made_of, outline_of, param_of, specified_of};
 
 use crate::specifiers::{Specified, is_register};
-use crate::type_name::plain;
 use c_operate::checker::Checker;
-use c_operate::error::{CheckError, Kind, number, refused};
+use c_operate::error::{CheckError, Kind, copied, number, refused};
 use c_operate::scope::{Binding, Scopes};
-use c_operate::types::Types;
+use c_operate::types::{Types, plain};
 use c_tree::expression::Declarator;
-use c_typed::{Object, Qualified, Ty};
+use c_typed::{Object, Qualified, Ty, is_void};
 use std::alloc::Global;
 
 /// A parameter: its name, if it has one, its type, and whether it is declared `register`.
@@ -71,15 +70,6 @@ impl ParamList {
         ParamList {
             params: Vec::new(alloc),
         }
-    }
-}
-
-fn is_void(ty: Ty) -> bool
-    ensures { result ≡ sameness.is_void ty }
-{
-    match ty {
-        Ty::Void => true,
-        Ty::Int(_) | Ty::Pointer(_) | Ty::Array { .. } | Ty::Struct(_) => false,
     }
 }
 
@@ -291,14 +281,6 @@ fn bind_param(
     }
     let object = Object::Param(number);
     scopes.bind(name, Binding::Object { object, ty, fixed })
-}
-
-// A name of its own.
-fn copied(alloc: Global, name: &[u8]) -> Result<Vec<u8>, CheckError>
-    ensures ok { IfOk result (λ copy. copy.items ≡ name.now) }
-    ensures err { IfErr result (λ e. e ≡ NoMemory) }
-{
-    Ok(name.to_vec(alloc)?)
 }
 
 /// Puts a parameter after a list, whose scope is open: it is declared in what follows it. The name is

@@ -7,7 +7,6 @@ ghost use Rattle.c_tree.specs.Kinds.{is_key};
 ghost use Rattle.c_tree.specs.Views.{spec_of, type_name_of};
 ghost use Rattle.c_tree.specs.Words.{Symbols, keyed, named, spell_pointers, spell_tag};
 ghost use Rattle.type_rules.specs.Known.{Known};
-ghost use Rattle.type_rules.specs.Rows as rows;
 ghost use Rattle.type_rules.specs.Specifiers.{Gathered};
 ghost use Rattle.type_rules.specs.TypeNames as rule;
 ghost use Rattle.c_operate.specs.Answers.{Answers, kind_of};
@@ -22,22 +21,11 @@ use c_operate::checker::Checker;
 use c_operate::error::{CheckError, Kind, refused};
 use c_operate::places::size_of_type;
 use c_operate::term::Term;
-use c_operate::types::Types;
+use c_operate::types::{Types, plain};
 use c_token::Keyword;
 use c_tree::expression::{Spec, TypeName};
 use c_tree::word::{Name, Pointer, Word};
-use c_typed::{Qualified, Ty};
-
-// A type without qualifiers.
-pub(crate) fn plain(ty: Ty) -> Qualified
-    ensures { result ≡ rows.plain ty }
-{
-    Qualified {
-        ty,
-        constant: false,
-        volatile: false,
-    }
-}
+use c_typed::Qualified;
 
 fn is_const(keyword: Keyword) -> bool
     ensures { result ≡ is_key words.Const (kinds.Keyword keyword) }
