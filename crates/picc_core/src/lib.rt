@@ -12,6 +12,7 @@
 mod agreeing;
 mod code_order;
 mod compiling;
+mod deciding;
 mod joining;
 mod known;
 mod map_range;
@@ -23,6 +24,7 @@ mod typing;
 pub use agreeing::{Agreed, agree};
 pub use c_check::{Kind, RootKind};
 pub use compiling::compile;
+pub use deciding::accepted_or_refused;
 pub use joining::{joined, symbolic};
 pub use known::{Built, Front};
 pub use refusal::{CompileError, LimitKind, Refusal};
