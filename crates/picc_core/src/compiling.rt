@@ -7,6 +7,7 @@ ghost use Rattle.c_typed.specs.Roots.{broken_root};
 ghost use Rattle.c_typed.specs.Sound.{is_sound};
 ghost use Rattle.c_typed.specs.Views.{program_of};
 ghost use Rattle.call_graph.specs.Levels.{IsAcyclic};
+ghost use Rattle.headline.specs.SourceOf.{IsFaithfulTo};
 ghost use Rattle.pic_map.specs.MapText.{AreInRange};
 ghost use Rattle.pic_map.specs.MapView.{content_of, object_of, frame_of};
 ghost use Rattle.program_code.specs.Translated.{AreOthers, IsTranslated};
@@ -15,7 +16,8 @@ ghost use Rattle.src_rules.specs.Numbers.{ProgramHasNumbers};
 ghost use Rattle.picc_core.specs.Answers.{IsRefusedUnless, TellsError};
 ghost use Rattle.picc_core.specs.Blocks.{HasWords};
 ghost use Rattle.picc_core.specs.Coded.{IsCoded};
-ghost use Rattle.picc_core.specs.Compiled.{IsPlaced, IsWithinDepth};
+ghost use Rattle.picc_core.specs.Compiled.{IsCompiledTo, IsPlaced, IsWithinDepth};
+ghost use Rattle.picc_core.specs.Decided.{IsAcceptedText};
 ghost use Rattle.picc_core.specs.Texts.{program_tokens, HasTree};
 ghost use Rattle.picc_core.specs.Typed.{IsTypedAs};
 ghost use Rattle.picc_core.specs.declared.refusal.CompileError.TheVariants.{NoMemory, Refused};
@@ -108,6 +110,18 @@ fn see_typed(typed: &Typed)
     see_numbers(typed);
 }
 
+/// What a text is compiled to, or the first refusal that holds of it.
+fn compiled(alloc: Global, text: &[u8]) -> Result<Built, CompileError>
+    ensures text_limit { 262144 < length text.now → result ≡ Err (Refused (refusals.Limit kinds.Text 0)) }
+    ensures refused { IfErr result (TellsError text.now) }
+    ensures tokens { (r : Refusal) → program_tokens text.now ≡ Err (Refused r) → IsRefusedUnless result r }
+    ensures whole { IfOk result (IsCompiledTo text.now) }
+{
+    let front = front(alloc, text)?;
+    see_typed(&front.typed);
+    checked(built(alloc, front)?)
+}
+
 /// What a text is compiled to, or the first refusal that holds of it, as `front` reports it.
 pub fn compile(alloc: Global, text: &[u8]) -> Result<Built, CompileError>
     // A text over 262,144 bytes is refused so.
@@ -116,6 +130,8 @@ pub fn compile(alloc: Global, text: &[u8]) -> Result<Built, CompileError>
     ensures tree { IfOk result (λ _. HasTree text.now) }
     // and this is the typed program that the rules on names and types give to it.
     ensures typed { IfOk result (λ built. IsTypedAs text.now (program_of built.typed)) }
+    // So the text is an accepted one.
+    ensures taken { IfOk result (λ _. IsAcceptedText text.now) }
     // A refusal tells what it says of the text.
     ensures refused { IfErr result (TellsError text.now) }
     // The first refusal of the text's tokens is told, unless memory runs out.
@@ -136,10 +152,12 @@ pub fn compile(alloc: Global, text: &[u8]) -> Result<Built, CompileError>
     ensures few { IfOk result (λ built. length built.map.objects.items ≤ 65536) }
     // The image and the map are what the passes make of the program: each promises its part.
     ensures translated { IfOk result (λ built. IsTranslated (program_of built.typed) built.image (content_of built.map)) }
+    // So what the image does on the chip, seen by the map, is what the program says.
+    ensures faithful { IfOk result (λ built. IsFaithfulTo (program_of built.typed) (content_of built.map) built.image) }
     // Each address that is covered is counted once.
     ensures ram { IfOk result (λ built. built.ram ≡ addresses_covered (map object_of built.map.objects.items) (map frame_of built.map.frames.items)) }
+    // All this together.
+    ensures whole { IfOk result (IsCompiledTo text.now) }
 {
-    let front = front(alloc, text)?;
-    see_typed(&front.typed);
-    checked(built(alloc, front)?)
+    compiled(alloc, text)
 }
