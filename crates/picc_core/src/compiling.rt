@@ -25,7 +25,7 @@ ghost use Rattle.picc_core.specs.declared.refusal.LimitKind.TheVariants as kinds
 ghost use Rattle.picc_core.specs.declared.refusal.Refusal.{Refusal};
 ghost use Rattle.picc_core.specs.declared.refusal.Refusal.TheVariants as refusals;
 
-use crate::joining::symbolic;
+use crate::joining::{Selects, symbolic_by};
 use crate::known::{Built, Front};
 use crate::map_range::{can_be_written, have_own_names};
 use crate::refusal::CompileError;
@@ -45,17 +45,18 @@ fn coded(
     copies: &Copies,
     placed: &Placed,
     at: &[u16],
+    selects: Selects,
 ) -> Result<Assembled, AllocError>
     ensures { IfOk result (λ made. IsCoded (program_of typed.now) copies.now.list.items placed.now at.now made.image made.main made.halt) }
 {
     let core = lower(alloc, typed, copies)?;
-    let program = symbolic(alloc, &core, copies, placed)?;
+    let program = symbolic_by(alloc, &core, copies, placed, selects)?;
     let made = assemble(alloc, &program, at, placed)?;
     Ok(made)
 }
 
 /// The image and the map of what is known of a text.
-fn built(alloc: Global, front: Front) -> Result<Built, AllocError>
+fn built(alloc: Global, front: Front, selects: Selects) -> Result<Built, AllocError>
     ensures typed { IfOk result (λ built. built.typed ≡ front.typed) }
     ensures objects { IfOk result (λ built. built.map.objects ≡ front.placed.objects) }
     ensures frames { IfOk result (λ built. built.map.frames ≡ front.placed.frames) }
@@ -69,7 +70,7 @@ fn built(alloc: Global, front: Front) -> Result<Built, AllocError>
         at,
         words,
     } = front;
-    let assembled = coded(alloc, &typed, &copies, &placed, &at)?;
+    let assembled = coded(alloc, &typed, &copies, &placed, &at, selects)?;
     let ram = placed.ram;
     Ok(Built {
         typed,
@@ -110,8 +111,8 @@ fn see_typed(typed: &Typed)
     see_numbers(typed);
 }
 
-/// What a text is compiled to, or the first refusal that holds of it.
-fn compiled(alloc: Global, text: &[u8]) -> Result<Built, CompileError>
+/// What a text is compiled to with these selects, or the first refusal that holds of it.
+fn compiled(alloc: Global, text: &[u8], selects: Selects) -> Result<Built, CompileError>
     ensures text_limit { 262144 < length text.now → result ≡ Err (Refused (refusals.Limit kinds.Text 0)) }
     ensures refused { IfErr result (TellsError text.now) }
     ensures tokens { (r : Refusal) → program_tokens text.now ≡ Err (Refused r) → IsRefusedUnless result r }
@@ -119,7 +120,7 @@ fn compiled(alloc: Global, text: &[u8]) -> Result<Built, CompileError>
 {
     let front = front(alloc, text)?;
     see_typed(&front.typed);
-    checked(built(alloc, front)?)
+    checked(built(alloc, front, selects)?)
 }
 
 /// What a text is compiled to, or the first refusal that holds of it, as `front` reports it.
@@ -159,5 +160,20 @@ pub fn compile(alloc: Global, text: &[u8]) -> Result<Built, CompileError>
     // All this together.
     ensures whole { IfOk result (IsCompiledTo text.now) }
 {
-    compiled(alloc, text)
+    compiled(alloc, text, Selects::Lean)
+}
+
+/// The same where no flow facts are sought: each block has the selects that it needs by what its straight code tells. So its words are
+/// no fewer, and `compile` is measured by it.
+pub fn compile_plain(alloc: Global, text: &[u8]) -> Result<Built, CompileError>
+    // A text over 262,144 bytes is refused so.
+    ensures text_limit { 262144 < length text.now → result ≡ Err (Refused (refusals.Limit kinds.Text 0)) }
+    // A refusal tells what it says of the text.
+    ensures refused { IfErr result (TellsError text.now) }
+    // The first refusal of the text's tokens is told, unless memory runs out.
+    ensures tokens { (r : Refusal) → program_tokens text.now ≡ Err (Refused r) → IsRefusedUnless result r }
+    // All that is known of what `compile` makes.
+    ensures whole { IfOk result (IsCompiledTo text.now) }
+{
+    compiled(alloc, text, Selects::Plain)
 }

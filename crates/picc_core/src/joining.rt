@@ -2,6 +2,7 @@
 
 ghost use Rattle.std.specs.Prelude.{◌≡◌, ◌++◌, IfOk, OnOk};
 ghost use Rattle.std.specs.List.Sorted.{IsNonDecreasingBy, IsPermutation};
+ghost use Rattle.flow_facts.specs.Thin.{IsThinned};
 ghost use Rattle.select_wide.specs.Blocks.{views_of};
 ghost use Rattle.picc_core.specs.Coded.{IsSymbolic};
 ghost use Rattle.program_code.specs.Joined.{helper_at, helpers_from, IsJoined};
@@ -11,7 +12,7 @@ use crate::code_order::name_rank;
 use bank_page::selects;
 use call_graph::{Copies, FnCopy, FnId};
 use core_code::CoreProgram;
-use flow_facts::thinned;
+use flow_facts::{thinned, thinned_plainly};
 use isr_save::start_block;
 use math_helpers::helper;
 use pic_map::Placed;
@@ -87,6 +88,47 @@ pub fn joined(
     Ok(SymProgram { blocks: order })
 }
 
+/// What is known where selects are left out that set what is so already.
+#[derive(Clone, Copy)]
+pub(crate) enum Selects {
+    /// What flow facts tell, over jumps, loops and calls.
+    Lean,
+    /// What straight code tells alone.
+    Plain,
+}
+
+// The program without the selects that are needless by what is known. Some are so either way, where nothing comes.
+fn thinner(
+    alloc: Global,
+    program: &SymProgram,
+    handler: Option<u16>,
+    selects: Selects,
+) -> Result<SymProgram, AllocError>
+    ensures { IfOk result (λ made. IsThinned handler program.now.blocks.items made.blocks.items) }
+{
+    match selects {
+        Selects::Lean => thinned(alloc, program, handler),
+        Selects::Plain => thinned_plainly(alloc, program, handler),
+    }
+}
+
+/// The same with its selects, but for those that are needless by what is known.
+pub(crate) fn symbolic_by(
+    alloc: Global,
+    core: &CoreProgram,
+    copies: &Copies,
+    placed: &Placed,
+    known: Selects,
+) -> Result<SymProgram, AllocError>
+    ensures { IfOk result (λ made. IsSymbolic core.now copies.now.list.items placed.now made.blocks.items) }
+{
+    let program = joined(alloc, core, copies, placed)?;
+    let whole = selects(alloc, &program, placed)?;
+    let handler = numbered(handler_at(&copies.list))?;
+    let made = thinner(alloc, &whole, handler, known)?;
+    Ok(made)
+}
+
 /// The same with its selects, but for those that set what is so already by the facts that were found.
 pub fn symbolic(
     alloc: Global,
@@ -97,9 +139,5 @@ pub fn symbolic(
     // The selects are those of `selects`, each for a need, but for those that flow facts which are consistent make needless.
     ensures { IfOk result (λ made. IsSymbolic core.now copies.now.list.items placed.now made.blocks.items) }
 {
-    let program = joined(alloc, core, copies, placed)?;
-    let whole = selects(alloc, &program, placed)?;
-    let handler = numbered(handler_at(&copies.list))?;
-    let made = thinned(alloc, &whole, handler)?;
-    Ok(made)
+    symbolic_by(alloc, core, copies, placed, Selects::Lean)
 }

@@ -23,7 +23,7 @@ mod typing;
 
 pub use agreeing::{Agreed, agree};
 pub use c_check::{Kind, RootKind};
-pub use compiling::compile;
+pub use compiling::{compile, compile_plain};
 pub use deciding::accepted_or_refused;
 pub use joining::{joined, symbolic};
 pub use known::{Built, Front};

@@ -1,5 +1,5 @@
 use Rattle.picc_core.proofs.Handed.{thinned_by}
-use Rattle.picc_core.proofs.joining.symbolic.Goals as goal
+use Rattle.picc_core.proofs.joining.symbolic_by.Goals as goal
 
 pub returns : goal.returns
 returns c =
