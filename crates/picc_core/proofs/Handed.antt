@@ -1,21 +1,24 @@
 -- What is known of a front, of the program that is built of it.
-use Rattle.std.proofs.Common.{◌≡◌, ℕ, ◌≤◌, map, length, Option, None, IfOk, Result, Ok, Err, sym, ap, ◌∙◌, subst, arith}
+use Rattle.std.proofs.Common.{◌≡◌, ℕ, ◌<◌, ◌≤◌, map, length, None, Some, IfOk, Result, Ok, Err, sym, ap, ◌∙◌, subst, arith}
+use Rattle.std.proofs.lemmas.List.Quantifiers.{position-Some}
 use Rattle.c_typed.specs.Chains.{graph_of}
 use Rattle.c_typed.specs.Roots.{broken_root}
 use Rattle.c_typed.specs.Trees.{Program}
 use Rattle.c_typed.specs.Views.{program_of}
+use Rattle.c_typed.specs.declared.calls.FnId.TheVariants.{User}
 use Rattle.call_graph.specs.Copies.{AreCopies, HasDepth}
 use Rattle.call_graph.specs.Levels.{IsAcyclic}
 use Rattle.call_graph.specs.Numbers.{handler_at}
 use Rattle.call_graph.specs.declared.types.FnCopy.{FnCopy}
-use Rattle.flow_facts.specs.Thin.{IsThinned}
-use Rattle.sym_code.specs.declared.code.SymBlock.{SymBlock}
+use Rattle.pic_world.specs.Roots.{same_root}
+use Rattle.pic_world.specs.declared.Root.TheVariants.{Isr}
 use Rattle.pic_map.specs.MapContent.{ObjectLine, FrameLine}
 use Rattle.pic_map.specs.MapText.{AreInRange}
 use Rattle.pic_map.specs.MapView.{content_of, object_of, frame_of}
 use Rattle.program_code.specs.Translated.{IsTranslated}
 use Rattle.ram_place.specs.Placement.{IsPlacing, LiveFramesAreDisjoint, FramesAreClear, ObjectsAreDisjoint, addresses_covered}
 use Rattle.image_links.proofs.Faithful.{translations_faithful}
+use Rattle.image_links.proofs.FewCopies.{copies_few}
 use Rattle.picc_core.specs.Blocks.{HasBlocks, HasWords}
 use Rattle.picc_core.specs.Compiled.{IsPlaced, IsWithinDepth, IsCompiledTo}
 use Rattle.picc_core.specs.Decided.{IsAcceptedText}
@@ -42,9 +45,18 @@ words_handed p q w v copies at a b known blocks =
 pub placed : (p q : Program) (os ps : List ObjectLine) (fs gs : List FrameLine) → q ≡ p → ps ≡ os → gs ≡ fs → IsPlaced p os fs → IsPlaced q ps gs
 placed p q os ps fs gs a b c is = subst (λ x. IsPlaced x ps gs) (sym a) (subst (λ x. IsPlaced p x gs) (sym b) (subst (λ x. IsPlaced p os x) (sym c) is))
 
--- the handler is that of the list that was lent
-pub thinned_by : (copies given : List FnCopy) (handler found : Option ℕ) (whole made : List SymBlock) → given ≡ copies → handler ≡ found → found ≡ handler_at given → IsThinned handler whole made → IsThinned (handler_at copies) whole made
-thinned_by copies given handler found whole made first kept is thin = subst (λ (h : Option ℕ). IsThinned h whole made) (kept ∙ is ∙ ap handler_at first) thin
+-- a copy's number is small, where there are few
+pub small_number : (copies : List FnCopy) (number : ℕ) → handler_at copies ≡ Some number → length copies ≤ 65536 → number ≤ 65535
+small_number copies number is few = let within = (position-Some (λ (c : FnCopy). same_root c.root Isr) copies number (record { root = Isr; function = User 0; level = 0 }) is).0 in omega (arith, within, few)
+
+-- a program that has its blocks has few copies
+few_had : (p : Program) (copies : List FnCopy) (at : List ℕ) (words : ℕ) → AreCopies p copies → HasBlocks p copies at words → length copies < 8192
+few_had p copies at words known blocks = copies_few p copies at (record { order = blocks.order; same = blocks.same; sorted = blocks.sorted; stand = blocks.placed; pages = blocks.pages; memory = blocks.memory }) known
+
+pub few_copies : (answer : Result Front CompileError) → IfOk answer (λ f. AreCopies (program_of f.typed) f.copies.list.items) → IfOk answer (λ f. HasBlocks (program_of f.typed) f.copies.list.items f.at.items f.words)
+    → IfOk answer (λ f. length f.copies.list.items < 8192)
+few_copies (Ok f) known blocks = few_had (program_of f.typed) f.copies.list.items f.at.items f.words known blocks
+few_copies (Err e) known blocks = tt
 
 -- all that is known of a front, and that image and map are what the passes make of its program, is known of what is built of it
 pub compiled_to : (text : List ℕ) (f : Front) (b : Built) → HasTree text → IsTypedAs text (program_of f.typed) → IsAcceptedText text → broken_root (program_of f.typed) ≡ None → IsAcyclic (graph_of (program_of f.typed))

@@ -47,6 +47,7 @@ fn coded(
     at: &[u16],
     selects: Selects,
 ) -> Result<Assembled, AllocError>
+    requires { length copies.now.list.items ≤ 65536 }
     ensures { IfOk result (λ made. IsCoded (program_of typed.now) copies.now.list.items placed.now at.now made.image made.main made.halt) }
 {
     let core = lower(alloc, typed, copies)?;
@@ -57,6 +58,7 @@ fn coded(
 
 /// The image and the map of what is known of a text.
 fn built(alloc: Global, front: Front, selects: Selects) -> Result<Built, AllocError>
+    requires { length front.copies.list.items < 8192 }
     ensures typed { IfOk result (λ built. built.typed ≡ front.typed) }
     ensures objects { IfOk result (λ built. built.map.objects ≡ front.placed.objects) }
     ensures frames { IfOk result (λ built. built.map.frames ≡ front.placed.frames) }

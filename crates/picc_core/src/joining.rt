@@ -1,7 +1,8 @@
 //! The blocks of a program, joined to its symbolic code.
 
-ghost use Rattle.std.specs.Prelude.{◌≡◌, ◌++◌, IfOk, OnOk};
+ghost use Rattle.std.specs.Prelude.{◌≡◌, ◌<◌, ◌≤◌, ◌++◌, length, IfOk, OnOk};
 ghost use Rattle.std.specs.List.Sorted.{IsNonDecreasingBy, IsPermutation};
+ghost use Rattle.call_graph.specs.Numbers.{handler_at};
 ghost use Rattle.flow_facts.specs.Thin.{IsThinned};
 ghost use Rattle.select_wide.specs.Blocks.{views_of};
 ghost use Rattle.picc_core.specs.Coded.{IsSymbolic};
@@ -20,14 +21,15 @@ use select_wide::{handler_at, select};
 use std::alloc::{AllocError, Global};
 use sym_code::{SymBlock, SymProgram};
 
-// The number of a copy as blocks have it. No program that is placed has so many copies that it doesn't fit.
-fn numbered(number: Option<usize>) -> Result<Option<u16>, AllocError>
-    ensures { IfOk result (λ kept. kept ≡ number) }
+// The number of the handler's copy as blocks have it.
+#[tactic(auto, using(crate::proofs::Handed::small_number))]
+fn handler_of(copies: &Copies) -> Option<u16>
+    requires { length copies.now.list.items ≤ 65536 }
+    ensures { result ≡ handler_at copies.now.list.items }
 {
-    match number {
-        Some(number) if number <= 0xFFFF => Ok(Some(number as u16)),
-        Some(_) => Err(AllocError),
-        None => Ok(None),
+    match handler_at(&copies.list) {
+        Some(number) => Some(number as u16),
+        None => None,
     }
 }
 
@@ -39,11 +41,9 @@ fn put_helper(
     number: usize,
     blocks: &mut Vec<SymBlock>,
 ) -> Result<(), AllocError>
+    requires { number < 65536 }
     ensures { OnOk result (views_of blocks.new.items ≡ views_of blocks.old.items ++ helper_at number copy) }
 {
-    if number > 0xFFFF {
-        return Err(AllocError);
-    }
     if let FnId::Helper(routine) = copy.function {
         blocks.push(helper(alloc, routine, copy.root, number as u16)?)?;
     }
@@ -52,6 +52,7 @@ fn put_helper(
 
 // The blocks of the helpers behind some others, in the order of their copies.
 fn put_helpers(alloc: Global, list: &[FnCopy], blocks: &mut Vec<SymBlock>) -> Result<(), AllocError>
+    requires { length list.now ≤ 65536 }
     ensures { OnOk result (views_of blocks.new.items ≡ views_of blocks.old.items ++ helpers_from 0 list.now) }
 {
     for (number, copy) in list.iter().enumerate() {
@@ -76,11 +77,12 @@ pub fn joined(
     copies: &Copies,
     placed: &Placed,
 ) -> Result<SymProgram, AllocError>
+    requires { length copies.now.list.items ≤ 65536 }
     // Each copy has its block, a function the one that is selected for its body and a helper its routine, none is lost, and they stand in
     // the order of code.
     ensures whole { IfOk result (λ program. IsJoined core.now copies.now.list.items program.blocks.items) }
 {
-    let handler = numbered(handler_at(&copies.list))?;
+    let handler = handler_of(copies);
     let mut blocks = select(alloc, core, copies)?.blocks;
     put_helpers(alloc, &copies.list, &mut blocks)?;
     let mut order = in_code_order(blocks, copies)?;
@@ -120,11 +122,12 @@ pub(crate) fn symbolic_by(
     placed: &Placed,
     known: Selects,
 ) -> Result<SymProgram, AllocError>
+    requires { length copies.now.list.items ≤ 65536 }
     ensures { IfOk result (λ made. IsSymbolic core.now copies.now.list.items placed.now made.blocks.items) }
 {
     let program = joined(alloc, core, copies, placed)?;
     let whole = selects(alloc, &program, placed)?;
-    let handler = numbered(handler_at(&copies.list))?;
+    let handler = handler_of(copies);
     let made = thinner(alloc, &whole, handler, known)?;
     Ok(made)
 }
@@ -136,6 +139,7 @@ pub fn symbolic(
     copies: &Copies,
     placed: &Placed,
 ) -> Result<SymProgram, AllocError>
+    requires { length copies.now.list.items ≤ 65536 }
     // The selects are those of `selects`, each for a need, but for those that flow facts which are consistent make needless.
     ensures { IfOk result (λ made. IsSymbolic core.now copies.now.list.items placed.now made.blocks.items) }
 {

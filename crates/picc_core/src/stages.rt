@@ -315,7 +315,7 @@ fn known(alloc: Global, text: &[u8]) -> Result<Front, CompileError>
 /// What is known of a text, or the first refusal that holds of it. The order is: the limit on the text; tokens and the
 /// limit on names, whichever stands first; excluded words; directives; the limit on tokens; nesting and runs, whichever
 /// stands first; trees; types; roots; recursion; depth; data memory; a block over a page; all blocks.
-#[tactic(auto, using(crate::proofs::Telling::tokens_first, crate::proofs::Told::has_tree, crate::proofs::Told::is_taken))]
+#[tactic(auto, using(crate::proofs::Telling::tokens_first, crate::proofs::Told::has_tree, crate::proofs::Told::is_taken, crate::proofs::Handed::few_copies))]
 pub fn front(alloc: Global, text: &[u8]) -> Result<Front, CompileError>
     // A text over 262,144 bytes is refused so.
     ensures text_limit { 262144 < length text.now → result ≡ Err (Refused (refusals.Limit kinds.Text 0)) }
@@ -339,6 +339,8 @@ pub fn front(alloc: Global, text: &[u8]) -> Result<Front, CompileError>
     ensures depth { IfOk result (λ front. HasDepth (program_of front.typed) front.copies.depth × (front.copies.depth ≤ 8)) }
     // These are the copies of its functions.
     ensures list { IfOk result (λ front. AreCopies (program_of front.typed) front.copies.list.items) }
+    // They are few.
+    ensures few { IfOk result (λ front. length front.copies.list.items < 8192) }
     // Its objects and frames stand where they are to stand.
     ensures exact { IfOk result (λ front. placement.IsPlacing (program_of front.typed) front.copies.list.items (map object_of front.placed.objects.items) (map frame_of front.placed.frames.items)) }
     // Frames that may be live together are disjoint,
