@@ -1,5 +1,6 @@
-use Rattle.picc_core.proofs.Handed.{thinned_by}
-use Rattle.picc_core.proofs.joining.symbolic.Goals as goal
+use Rattle.std.proofs.Common.{subst}
+use Rattle.flow_facts.specs.Thin.{IsThinned}
+use Rattle.picc_core.proofs.joining.symbolic_by.Goals as goal
 
 pub returns : goal.returns
 returns c =
@@ -14,5 +15,5 @@ returns c =
       reaches = whole.reaches;
       few = whole.few;
       exact = whole.exact;
-      thinned = thinned_by c.args.copies.now.list.items _ _ _ c.in_ok-whole.whole.blocks.items c.in_ok-made.made.blocks.items c.deref.ensures.value c.in_ok-handler.ensures c.handler_at.ensures c.in_ok-made.ensures;
+      thinned = subst (λ h. IsThinned h c.in_ok-whole.whole.blocks.items c.in_ok-made.made.blocks.items) c.handler_of-handler.ensures c.in_ok-made.ensures;
     }
