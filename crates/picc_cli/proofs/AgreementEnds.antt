@@ -1,7 +1,7 @@
 -- What is known of a comparison by its end.
 use Rattle.std.proofs.Common.{◌≡◌, ℕ, Option, Some, None, IfSome, List, sym, ◌∙◌, subst}
 use Rattle.host_io.specs.Host.{Kind, Contents, IsRead}
-use Rattle.picc_core.specs.AcceptedText.{IsAcceptedText}
+use Rattle.picc_core.specs.Decided.{IsAcceptedText}
 use Rattle.schedule.specs.ScriptFile.{ScriptContent}
 use Rattle.picc_cli.specs.declared.building.Outcome.TheVariants as outcomes
 use Rattle.picc_cli.specs.declared.comparing.Ended.{Ended}

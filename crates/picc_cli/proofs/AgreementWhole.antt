@@ -1,9 +1,9 @@
 -- Without a fault, how a comparison ends by its files.
 use Rattle.std.proofs.Common.{◌≡◌, ℕ, ◌⊎◌, inl, inr, ⊎_elim, Option, Some, List, sym, ◌∙◌, subst}
 use Rattle.host_io.specs.Host.{Contents}
-use Rattle.picc_core.proofs.AcceptedText.{accepted_not_refused}
-use Rattle.picc_core.specs.AcceptedText.{IsAcceptedText}
+use Rattle.picc_core.proofs.OneAnswer.{one_answer}
 use Rattle.picc_core.specs.Answers.{Tells}
+use Rattle.picc_core.specs.Decided.{IsAcceptedText}
 use Rattle.picc_core.specs.declared.refusal.Refusal.{Refusal}
 use Rattle.picc_cli.specs.declared.comparing.Ended.{Ended}
 use Rattle.picc_cli.specs.declared.comparing.Ended.TheVariants.{Same, Undefined, Refused, CannotReadText, NoScript, NoMemory}
@@ -38,7 +38,7 @@ module _ (asked : Compared) (o : Contents) (result : ℕ) (quiet : result ≡ 3 
   accepted_ends (Same events) k e text script reads has is accepted = inl e
   accepted_ends (Undefined kind line) k e text script reads has is accepted = inr (inl e)
   accepted_ends (Refused refusal) k e text script reads has is accepted =
-      absurd (accepted_not_refused text refusal accepted (subst (λ t. Tells t refusal) (same_bytes o asked.input k.text text k.has_text reads) k.of_text))
+      absurd ((one_answer text).either refusal accepted (subst (λ t. Tells t refusal) (same_bytes o asked.input k.text text k.has_text reads) k.of_text))
   accepted_ends CannotReadText k e text script reads has is accepted = absurd (quiet e)
   accepted_ends (NoScript end) k e text script reads has is accepted = inr (inr (kept_ends end k e script has is))
   accepted_ends NoMemory k e text script reads has is accepted = inr (inr e)
@@ -46,9 +46,9 @@ module _ (asked : Compared) (o : Contents) (result : ℕ) (quiet : result ≡ 3 
   refused_ends : (ended : Ended) → Knows asked o ended → result ≡ status_of ended → (text script : List ℕ) (refusal : Refusal) → o asked.input ≡ Some text → o asked.script ≡ Some script → IsScript script
       → Tells text refusal → (result ≡ 1) ⊎ (result ≡ 9)
   refused_ends (Same events) k e text script refusal reads has is tells =
-      absurd (accepted_not_refused text refusal (subst IsAcceptedText (same_bytes o asked.input k.text text k.has_text reads) k.of_text) tells)
+      absurd ((one_answer text).either refusal (subst IsAcceptedText (same_bytes o asked.input k.text text k.has_text reads) k.of_text) tells)
   refused_ends (Undefined kind line) k e text script refusal reads has is tells =
-      absurd (accepted_not_refused text refusal (subst IsAcceptedText (same_bytes o asked.input k.text text k.has_text reads) k.of_text) tells)
+      absurd ((one_answer text).either refusal (subst IsAcceptedText (same_bytes o asked.input k.text text k.has_text reads) k.of_text) tells)
   refused_ends (Refused told) k e text script refusal reads has is tells = inl e
   refused_ends CannotReadText k e text script refusal reads has is tells = absurd (quiet e)
   refused_ends (NoScript end) k e text script refusal reads has is tells = inr (kept_ends end k e script has is)

@@ -4,9 +4,9 @@ use Rattle.std.proofs.Math.Seq.{take-length}
 use Rattle.host_io.specs.Host.{Kind, Contents, put, PrintsPrefix, IsCounted}
 use Rattle.picc_cli.specs.declared.building.Outcome.{Outcome}
 use Rattle.picc_cli.specs.declared.building.Outcome.TheVariants.{Built, Refused, CannotRead, CannotWriteHex, CannotWriteMap, NoMemory}
-use Rattle.picc_core.proofs.AcceptedText.{accepted_not_refused}
-use Rattle.picc_core.specs.AcceptedText.{IsAcceptedText}
+use Rattle.picc_core.proofs.OneAnswer.{one_answer}
 use Rattle.picc_core.specs.Answers.{Tells}
+use Rattle.picc_core.specs.Decided.{IsAcceptedText}
 use Rattle.picc_core.specs.declared.refusal.Refusal.{Refusal}
 use Rattle.picc_cli.specs.Command.{Names, Form, Build}
 use Rattle.picc_cli.specs.Finished.{HasStatus, BuildHasFiles, BuildPrints, HasTold, IsComplete}
@@ -200,7 +200,7 @@ module _ (names : Names) where
       → (is_fault outcome ≡ true → ⊥) → (text : List ℕ) → o names.input ≡ Some text → IsAcceptedText text → (result ≡ 0) ⊎ (result ≡ 9)
   accepted_ends Built o new result w e quiet text read accepted = inl e
   accepted_ends (Refused refusal) o new result w e quiet text read accepted =
-      absurd (accepted_not_refused text refusal accepted (subst (λ t. Tells t refusal) (same_bytes o names.input w.text text w.read read) w.tells))
+      absurd ((one_answer text).either refusal accepted (subst (λ t. Tells t refusal) (same_bytes o names.input w.text text w.read read) w.tells))
   accepted_ends CannotRead o new result w e quiet text read accepted = absurd (quiet refl)
   accepted_ends CannotWriteHex o new result w e quiet text read accepted = absurd (quiet refl)
   accepted_ends CannotWriteMap o new result w e quiet text read accepted = absurd (quiet refl)
@@ -209,7 +209,7 @@ module _ (names : Names) where
   refused_ends : (outcome : Outcome) (o : Contents) (new : Option Contents) (result : ℕ) → WorkedOn outcome names o new → result ≡ status_of outcome
       → (is_fault outcome ≡ true → ⊥) → (text : List ℕ) (refusal : Refusal) → o names.input ≡ Some text → Tells text refusal → (result ≡ 1) ⊎ (result ≡ 9)
   refused_ends Built o new result w e quiet text refusal read tells =
-      absurd (accepted_not_refused text refusal (subst IsAcceptedText (same_bytes o names.input w.text text w.read read) w.built.accepted) tells)
+      absurd ((one_answer text).either refusal (subst IsAcceptedText (same_bytes o names.input w.text text w.read read) w.built.accepted) tells)
   refused_ends (Refused told) o new result w e quiet text refusal read tells = inl e
   refused_ends CannotRead o new result w e quiet text refusal read tells = absurd (quiet refl)
   refused_ends CannotWriteHex o new result w e quiet text refusal read tells = absurd (quiet refl)

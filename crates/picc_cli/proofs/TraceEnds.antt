@@ -1,9 +1,9 @@
 -- How a trace ends, by what was printed.
 use Rattle.std.proofs.Common.{◌≡◌, ℕ, ◌⊎◌, inl, inr, ⊎_elim, true, IsTrue, Option, Some, None, IfSome, List, [], ◌++◌, refl, sym, ap, ◌∙◌, subst, arith, option_map}
 use Rattle.host_io.specs.Host.{Kind, Contents, PrintsPrefix, IsCounted}
-use Rattle.picc_core.proofs.AcceptedText.{accepted_not_refused}
-use Rattle.picc_core.specs.AcceptedText.{IsAcceptedText}
+use Rattle.picc_core.proofs.OneAnswer.{one_answer}
 use Rattle.picc_core.specs.Answers.{Tells}
+use Rattle.picc_core.specs.Decided.{IsAcceptedText}
 use Rattle.picc_core.specs.declared.refusal.Refusal.{Refusal}
 use Rattle.picc_cli.specs.declared.inputs.FileEnd.{FileEnd}
 use Rattle.picc_cli.specs.declared.inputs.FileEnd.TheVariants as files
@@ -226,7 +226,7 @@ module _ (asked : Asked) where
   accepted_ends Done o result k e quiet text script reads has is accepted = inl e
   accepted_ends (Undefined kind line) o result k e quiet text script reads has is accepted = inr (inl e)
   accepted_ends (Refused refusal) o result k e quiet text script reads has is accepted =
-      absurd (accepted_not_refused text refusal accepted (subst (λ t. Tells t refusal) (same_bytes o asked.input k.text text k.has_text reads) k.of_text))
+      absurd ((one_answer text).either refusal accepted (subst (λ t. Tells t refusal) (same_bytes o asked.input k.text text k.has_text reads) k.of_text))
   accepted_ends CannotReadText o result k e quiet text script reads has is accepted = absurd (quiet refl)
   accepted_ends (NoScript end) o result k e quiet text script reads has is accepted = inr (inr (kept_ends end o result k e quiet script has is))
   accepted_ends CannotPrint o result k e quiet text script reads has is accepted = absurd (quiet refl)
@@ -235,9 +235,9 @@ module _ (asked : Asked) where
   refused_ends : (ended : Ended) (o : Contents) (result : ℕ) → Knows asked o ended → result ≡ status_of ended → (is_fault ended ≡ true → ⊥) → (text script : List ℕ) (refusal : Refusal)
       → o asked.input ≡ Some text → o asked.script ≡ Some script → IsScript script → Tells text refusal → (result ≡ 1) ⊎ (result ≡ 9)
   refused_ends Done o result k e quiet text script refusal reads has is tells =
-      absurd (accepted_not_refused text refusal (subst IsAcceptedText (same_bytes o asked.input k.text text k.has_text reads) k.of_text) tells)
+      absurd ((one_answer text).either refusal (subst IsAcceptedText (same_bytes o asked.input k.text text k.has_text reads) k.of_text) tells)
   refused_ends (Undefined kind line) o result k e quiet text script refusal reads has is tells =
-      absurd (accepted_not_refused text refusal (subst IsAcceptedText (same_bytes o asked.input k.text text k.has_text reads) k.of_text) tells)
+      absurd ((one_answer text).either refusal (subst IsAcceptedText (same_bytes o asked.input k.text text k.has_text reads) k.of_text) tells)
   refused_ends (Refused told) o result k e quiet text script refusal reads has is tells = inl e
   refused_ends CannotReadText o result k e quiet text script refusal reads has is tells = absurd (quiet refl)
   refused_ends (NoScript end) o result k e quiet text script refusal reads has is tells = inr (kept_ends end o result k e quiet script has is)

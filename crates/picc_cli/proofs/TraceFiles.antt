@@ -1,8 +1,8 @@
 -- What a trace knows of its files.
 use Rattle.std.proofs.Common.{◌≡◌, ℕ, Option, Some, None, IfSome, List, sym, ◌∙◌, subst}
 use Rattle.host_io.specs.Host.{Contents, IsRead}
-use Rattle.picc_core.specs.AcceptedText.{IsAcceptedText}
 use Rattle.picc_core.specs.Answers.{Tells}
+use Rattle.picc_core.specs.Decided.{IsAcceptedText}
 use Rattle.picc_core.specs.declared.refusal.Refusal.{Refusal}
 use Rattle.schedule.specs.ScriptFile.{ScriptContent}
 use Rattle.picc_cli.specs.declared.building.Outcome.TheVariants as outcomes

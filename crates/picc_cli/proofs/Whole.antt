@@ -4,8 +4,8 @@ use Rattle.std.proofs.lemmas.Bool.{cases_lt, lt-ltb}
 use Rattle.std.proofs.lemmas.List.{length-take, take_all}
 use Rattle.c_operate.specs.Answers.{fault_of}
 use Rattle.picc_core.proofs.Trees.{typed_tree, mistyped_tree, refused_tree}
-use Rattle.picc_core.specs.AcceptedText.{IsAcceptedText}
 use Rattle.picc_core.specs.Answers.{Tells}
+use Rattle.picc_core.specs.Decided.{IsAcceptedText}
 use Rattle.picc_core.specs.Texts.{tokens_left, within_limits, program_tokens, HasTree, HasNoTree}
 use Rattle.picc_core.specs.declared.refusal.CompileError.TheVariants.{Refused}
 use Rattle.picc_core.specs.declared.refusal.LimitKind.TheVariants as kinds

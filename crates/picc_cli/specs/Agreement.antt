@@ -1,8 +1,8 @@
 -- How a comparison ends: what is known of its files, what it prints, and its exit status.
 use Rattle.std.specs.Prelude.{ℕ, ◌≡◌, ◌⊎◌, Bool, true, false, IsTrue, Option, List, [], ◌∷◌, ◌++◌, codes, decimal}
 use Rattle.host_io.specs.Host.{Kind, Contents, Lacks}
-use Rattle.picc_core.specs.AcceptedText.{IsAcceptedText}
 use Rattle.picc_core.specs.Answers.{Tells}
+use Rattle.picc_core.specs.Decided.{IsAcceptedText}
 use Rattle.picc_cli.specs.declared.comparing.Ended.{Ended}
 use Rattle.picc_cli.specs.declared.comparing.Ended.TheVariants.{Same, Undefined, Refused, CannotReadText, NoScript, NoMemory}
 use Rattle.picc_cli.specs.Command.{Asked, Compared}

@@ -9,8 +9,8 @@ use Rattle.hex_image.specs.HexFile.{IsHexFile}
 use Rattle.hex_image.specs.HexText.{hex_text}
 use Rattle.pic_map.specs.MapContent.{MapContent}
 use Rattle.pic_map.specs.MapFile.{IsMapFile}
-use Rattle.picc_core.specs.AcceptedText.{IsAcceptedText}
 use Rattle.picc_core.specs.Compiled.{IsPlaced, IsWithinDepth}
+use Rattle.picc_core.specs.Decided.{IsAcceptedText}
 use Rattle.picc_core.specs.Texts.{HasTree}
 use Rattle.picc_core.specs.Typed.{IsTypedAs}
 use Rattle.program_code.specs.Translated.{IsTranslated}

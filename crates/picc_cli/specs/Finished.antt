@@ -1,8 +1,8 @@
 -- What the exit status of a command says.
 use Rattle.std.specs.Prelude.{ℕ, ◌≡◌, ◌<◌, ◌≤◌, ◌⊎◌, IsTrue, Option, Some, None, List, ◌++◌, option_map}
 use Rattle.host_io.specs.Host.{Kind, Contents, Lacks, PrintsPrefix, IsCounted}
-use Rattle.picc_core.specs.AcceptedText.{IsAcceptedText}
 use Rattle.picc_core.specs.Answers.{Tells}
+use Rattle.picc_core.specs.Decided.{IsAcceptedText}
 use Rattle.picc_core.specs.declared.refusal.Refusal.{Refusal}
 use Rattle.picc_cli.specs.declared.building.Outcome.{Outcome}
 use Rattle.picc_cli.specs.declared.tracing.Ended.{Ended}

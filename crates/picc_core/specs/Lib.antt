@@ -8,4 +8,3 @@ pub mod Agreement
 pub mod Accepted
 pub mod CodeAnswers
 pub mod Coded
-pub mod AcceptedText
