@@ -1,7 +1,7 @@
-//! Builds. The texts were written out by hand from the instruction table and the formats.
+//! Builds: what the files that they leave do on the chip, and what is left where a call of the outside fails.
 
 use crate::commands::{
-    LED, LED_HEX, LED_MAP, USAGE, check_built, check_refused, host_with, is_file, is_front, run,
+    LED, USAGE, check_built, check_refused, files_of, host_with, is_file, is_front, run, simulated,
     words_of,
 };
 use host_io::Fail;
@@ -9,34 +9,43 @@ use std::alloc::{AllocError, Global};
 use std::process::Abort;
 use std::test::Fail as Failure;
 
-fn check_build(
-    rt: &impl Abort,
-    alloc: Global,
-    text: &str,
-    hex: &str,
-    map: &str,
-) -> Result<(), AllocError> {
-    let mut host = host_with(alloc, Some(text), Vec::new(alloc))?;
-    let words = words_of(alloc, "build a.c a.hex a.map")?;
-    assert_eq!(rt; run(alloc, &words, &mut host)?, 0);
-    assert!(rt; is_file(&host, "a.hex", hex), "the HEX of {text}");
-    assert!(rt; is_file(&host, "a.map", map), "the map of {text}");
-    assert!(rt; is_file(&host, "a.c", text));
-    assert_eq!(rt; host.printed.len(), 0);
+// A text that is built, and the events of what was built.
+fn check_build(rt: &impl Abort, alloc: Global, text: &str, events: &str) -> Result<(), AllocError> {
+    check_built(rt, alloc, text)?;
+    let printed = simulated(rt, alloc, text, "", 1000)?;
+    assert!(rt;
+        printed.as_slice() == events.as_bytes(),
+        "the run of {text}"
+    );
     Ok(())
 }
 
 #[test]
 fn programs_are_built(rt: HostRuntime) -> Result<(), Failure> {
     let alloc = rt.alloc();
-    check_build(&rt, alloc, LED, LED_HEX, LED_MAP)?;
-    check_build(
-        &rt,
-        alloc,
-        "void main(void){}\n",
-        ":020000040000FA\n:100000000528FF3FFF3FFF3F09000528FF3FFF3F57\n:00000001FF\n",
-        "picc map 1\nmain 0005\nhalt 0005\nframe main main 0020 0\nend\n",
-    )?;
+    for (text, events) in [
+        (LED, "W PORTB 05\nEnd\n"),
+        ("void main(void){}\n", "End\n"),
+        // a number is cut to the byte of the register
+        ("void main(void){PORTB=256;}", "W PORTB 00\nEnd\n"),
+        // a number that begins with 0 is octal
+        ("void main(void){PORTB=05;}", "W PORTB 05\nEnd\n"),
+        ("void main(void){PORTB=5;}\n\n", "W PORTB 05\nEnd\n"),
+        (" void main(void){}", "End\n"),
+    ] {
+        check_build(&rt, alloc, text, events)?;
+    }
+    Ok(())
+}
+
+// Main's frame has the temporary bytes of the assignment: one of the constant, and two of the address.
+#[test]
+fn a_map_has_its_lines(rt: HostRuntime) -> Result<(), Failure> {
+    let alloc = rt.alloc();
+    let map = files_of(&rt, alloc, LED)?.map;
+    assert!(rt; map.starts_with(b"picc map 1\nmain ".as_slice()));
+    assert!(rt; map.ends_with(b"\nframe main main 0020 3\nend\n".as_slice()));
+    assert_eq!(rt; map.iter().filter(|c| **c == b'\n').count(), 5);
     Ok(())
 }
 
@@ -44,14 +53,6 @@ fn programs_are_built(rt: HostRuntime) -> Result<(), Failure> {
 fn refusals_are_printed(rt: HostRuntime) -> Result<(), Failure> {
     let alloc = rt.alloc();
     let build = "build a.c a.hex a.map";
-    for text in [
-        "void main(void){PORTB=256;}",
-        "void main(void){PORTB=05;}",
-        "void main(void){PORTB=5;}\n\n",
-        " void main(void){}",
-    ] {
-        check_built(&rt, alloc, text)?;
-    }
     check_refused(&rt, alloc, build, None, 3, "cannot read a.c\n")?;
     for line in [
         "",
@@ -66,6 +67,7 @@ fn refusals_are_printed(rt: HostRuntime) -> Result<(), Failure> {
     Ok(())
 }
 
+// The function is stated at 4 words, and each assignment at 14: with 146 of them it is 2,048 words, a whole page.
 #[test]
 fn a_page_holds_146_assignments(rt: HostRuntime) -> Result<(), Failure> {
     let alloc = rt.alloc();
@@ -90,6 +92,7 @@ fn a_page_holds_146_assignments(rt: HostRuntime) -> Result<(), Failure> {
 fn each_fault_leaves_the_outputs_whole_or_begun(rt: HostRuntime) -> Result<(), Failure> {
     let alloc = rt.alloc();
     let words = words_of(alloc, "build a.c a.hex a.map")?;
+    let whole = files_of(&rt, alloc, LED)?;
     let mut host = host_with(
         alloc,
         Some(LED),
@@ -97,12 +100,12 @@ fn each_fault_leaves_the_outputs_whole_or_begun(rt: HostRuntime) -> Result<(), F
     )?;
     assert_eq!(rt; run(alloc, &words, &mut host)?, 3);
     assert!(rt; host.printed.as_slice() == "cannot write a.map\n".as_bytes());
-    assert!(rt; is_file(&host, "a.hex", LED_HEX));
+    assert!(rt; is_file(&host, "a.hex", &whole.hex));
     for k in 0..100u64 {
         let mut host = host_with(alloc, Some(LED), vec![in alloc; Fail::Call(k)]?)?;
         let status = run(alloc, &words, &mut host)?;
-        assert!(rt; is_front(&host, "a.hex", LED_HEX), "the HEX at call {k}");
-        assert!(rt; is_front(&host, "a.map", LED_MAP), "the map at call {k}");
+        assert!(rt; is_front(&host, "a.hex", &whole.hex), "the HEX at call {k}");
+        assert!(rt; is_front(&host, "a.map", &whole.map), "the map at call {k}");
         if status == 0 {
             assert!(rt; k > 5, "{k} calls");
             return Ok(());

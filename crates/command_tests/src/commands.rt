@@ -14,13 +14,13 @@ use std::process::Abort;
 /// A C text that writes 5 to PORTB once.
 pub const LED: &str = "void main(void){PORTB=5;}";
 
-/// The HEX file of `LED`. 0000: GOTO 5; 0004: RETFIE; 0005: MOVLW 05; BCF STATUS,RP0; MOVWF PORTB; GOTO 8.
+/// A HEX file by hand that does what `LED` says. 0000: GOTO 5; 0004: RETFIE; 0005: MOVLW 05; BCF STATUS,RP0; MOVWF PORTB; GOTO 8.
 pub const LED_HEX: &str = ":020000040000FA\n\
 :100000000528FF3FFF3FFF3F0900053083128600B0\n\
 :100010000828FF3FFF3FFF3FFF3FFF3FFF3FFF3FFE\n\
 :00000001FF\n";
 
-/// The map file of `LED`.
+/// The map file that belongs to `LED_HEX`.
 pub const LED_MAP: &str = "picc map 1\nmain 0005\nhalt 0008\nframe main main 0020 3\nend\n";
 
 /// The line that lists the forms of the commands.
@@ -65,28 +65,53 @@ pub fn run(alloc: Global, words: &[String], host: &mut MemoryHost) -> Result<u8,
 }
 
 /// Whether the host has a file of this name with exactly this content.
-pub fn is_file(host: &MemoryHost, name: &str, text: &str) -> bool {
+pub fn is_file(host: &MemoryHost, name: &str, bytes: &[u8]) -> bool {
     match host.files.get(name) {
-        Some(content) => content.as_slice() == text.as_bytes(),
+        Some(content) => content.as_slice() == bytes,
         None => false,
     }
 }
 
-/// The name has a prefix of the text, or no content.
-pub fn is_front(host: &MemoryHost, name: &str, text: &str) -> bool {
+/// The name has a prefix of these bytes, or no content.
+pub fn is_front(host: &MemoryHost, name: &str, bytes: &[u8]) -> bool {
     match host.files.get(name) {
-        Some(content) => text.as_bytes().starts_with(content.as_slice()),
+        Some(content) => bytes.starts_with(content.as_slice()),
         None => true,
     }
 }
 
-/// A text that is built: both files are there, and nothing is printed.
+fn content_of(alloc: Global, host: &MemoryHost, name: &str) -> Result<Vec<u8>, AllocError> {
+    match host.files.get(name) {
+        Some(content) => content.as_slice().to_vec(alloc),
+        None => Ok(Vec::new(alloc)),
+    }
+}
+
+/// The two files of a program.
+#[derive(Drop)]
+pub struct Files {
+    pub hex: Vec<u8>,
+    pub map: Vec<u8>,
+}
+
+/// The files that a build of the text leaves where no call fails.
+pub fn files_of(rt: &impl Abort, alloc: Global, text: &str) -> Result<Files, AllocError> {
+    let mut host = host_with(alloc, Some(text), Vec::new(alloc))?;
+    let words = words_of(alloc, "build a.c a.hex a.map")?;
+    assert_eq!(rt; run(alloc, &words, &mut host)?, 0, "the status of {text}");
+    let hex = content_of(alloc, &host, "a.hex")?;
+    let map = content_of(alloc, &host, "a.map")?;
+    Ok(Files { hex, map })
+}
+
+/// A text that is built: both files are there, the text is as it was, and nothing is printed.
 pub fn check_built(rt: &impl Abort, alloc: Global, text: &str) -> Result<(), AllocError> {
     let mut host = host_with(alloc, Some(text), Vec::new(alloc))?;
     let words = words_of(alloc, "build a.c a.hex a.map")?;
     assert_eq!(rt; run(alloc, &words, &mut host)?, 0, "the status of {text}");
     assert_eq!(rt; host.printed.len(), 0);
     assert_eq!(rt; host.files.len(), 3);
+    assert!(rt; is_file(&host, "a.c", text.as_bytes()));
     Ok(())
 }
 

@@ -6,7 +6,7 @@ ghost use Rattle.host_io.specs.Host.{Closed};
 ghost use Rattle.host_io.specs.Memory.{open_of};
 
 use crate::commands::{
-    Case, LED, LED_HEX, LED_MAP, check, host_with, is_front, put, run, simulated, words_of,
+    Case, Files, LED, check, files_of, host_with, is_front, put, run, simulated, words_of,
 };
 use host_io::{Fail, MemoryHost};
 use std::alloc::{AllocError, Global};
@@ -159,15 +159,34 @@ struct Command {
     cannot: [&'static str; 3],
 }
 
+// A file of these bytes.
+fn put_bytes(
+    alloc: Global,
+    host: &mut MemoryHost,
+    name: &str,
+    bytes: &[u8],
+) -> Result<(), AllocError>
+    ensures { host.new.current ≡ host.old.current }
+{
+    let name = String::from_str(alloc, name)?;
+    host.files.insert(name, bytes.to_vec(alloc)?)?;
+    Ok(())
+}
+
 // Files for each form. The outputs of a build are there before only for other commands.
-fn host_for(alloc: Global, line: &str, fails: Vec<Fail>) -> Result<MemoryHost, AllocError>
+fn host_for(
+    alloc: Global,
+    line: &str,
+    fails: Vec<Fail>,
+    whole: &Files,
+) -> Result<MemoryHost, AllocError>
     ensures { IfOk result (λ host. open_of host.current ≡ Closed) }
 {
     let mut host = host_with(alloc, Some(LED), fails)?;
     put(alloc, &mut host, "a.s", Some(""))?;
     if !line.starts_with("build") {
-        put(alloc, &mut host, "a.hex", Some(LED_HEX))?;
-        put(alloc, &mut host, "a.map", Some(LED_MAP))?;
+        put_bytes(alloc, &mut host, "a.hex", &whole.hex)?;
+        put_bytes(alloc, &mut host, "a.map", &whole.map)?;
     }
     Ok(host)
 }
@@ -176,13 +195,14 @@ fn host_for(alloc: Global, line: &str, fails: Vec<Fail>) -> Result<MemoryHost, A
 fn check_faults(rt: &impl Abort, alloc: Global, command: Command) -> Result<(), AllocError> {
     let line = command.line;
     let words = words_of(alloc, line)?;
+    let whole = files_of(rt, alloc, LED)?;
     let mut told = [false; 3];
     for k in 0..200u64 {
-        let mut host = host_for(alloc, line, vec![in alloc; Fail::Call(k)]?)?;
+        let mut host = host_for(alloc, line, vec![in alloc; Fail::Call(k)]?, &whole)?;
         let status = run(alloc, &words, &mut host)?;
         let printed = host.printed.as_slice();
-        assert!(rt; is_front(&host, "a.hex", LED_HEX), "call {k} of {line}");
-        assert!(rt; is_front(&host, "a.map", LED_MAP), "call {k} of {line}");
+        assert!(rt; is_front(&host, "a.hex", &whole.hex), "call {k} of {line}");
+        assert!(rt; is_front(&host, "a.map", &whole.map), "call {k} of {line}");
         if status == 0 {
             assert!(rt; printed == command.printed.as_bytes(), "{line}");
             for (came, text) in told.iter().zip(command.cannot) {
@@ -255,18 +275,20 @@ PORTC=x;\n\
     Ok(())
 }
 
-// A program of constants to ports goes a way of its own; with one space more it goes through all passes.
+// A blank more between two tokens changes neither file.
 #[test]
-fn both_ways_to_a_hex_file(rt: HostRuntime) -> Result<(), Failure> {
+fn layout_says_nothing(rt: HostRuntime) -> Result<(), Failure> {
     let alloc = rt.alloc();
     let wanted = b"W TRISB 00\nW PORTB 05\nW PORTC FF\nW TRISE 80\nEnd\n".as_slice();
-    for text in [
-        "void main(void){TRISB=0;PORTB=5;PORTC=255;TRISE=128;}",
-        "void main(void){TRISB=0;PORTB=5;PORTC=255;TRISE=128; }",
-    ] {
+    let text = "void main(void){TRISB=0;PORTB=5;PORTC=255;TRISE=128;}";
+    let wide = "void main(void){TRISB=0;PORTB=5;PORTC=255;TRISE=128; }";
+    for text in [text, wide] {
         let printed = simulated(&rt, alloc, text, "", 1000)?;
         assert!(rt; printed.as_slice() == wanted, "{text}");
     }
+    let (files, others) = (files_of(&rt, alloc, text)?, files_of(&rt, alloc, wide)?);
+    assert!(rt; files.hex.as_slice() == others.hex.as_slice());
+    assert!(rt; files.map.as_slice() == others.map.as_slice());
     Ok(())
 }
 

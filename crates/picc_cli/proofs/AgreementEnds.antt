@@ -1,7 +1,7 @@
 -- What is known of a comparison by its end.
 use Rattle.std.proofs.Common.{◌≡◌, ℕ, Option, Some, None, IfSome, List, sym, ◌∙◌, subst}
 use Rattle.host_io.specs.Host.{Kind, Contents, IsRead}
-use Rattle.picc_core.specs.Texts.{HasTree}
+use Rattle.picc_core.specs.Decided.{IsAcceptedText}
 use Rattle.schedule.specs.ScriptFile.{ScriptContent}
 use Rattle.picc_cli.specs.declared.building.Outcome.TheVariants as outcomes
 use Rattle.picc_cli.specs.declared.comparing.Ended.{Ended}
@@ -16,7 +16,7 @@ use Rattle.picc_cli.specs.ScriptInput.{IsFile, IsScript}
 use Rattle.picc_cli.specs.Trace.{Reads}
 use Rattle.picc_cli.proofs.Files.{content_of, take_all}
 use Rattle.picc_cli.proofs.SimulationEnds.{said_last}
-use Rattle.picc_cli.proofs.Whole.{why_whole, tree_whole}
+use Rattle.picc_cli.proofs.Whole.{why_whole, accepted_whole}
 
 module _ (asked : Compared) where
   reads : (o : Contents) (text script : List ℕ) (content : ScriptContent) (Of : List ℕ → Type 0) → o asked.input ≡ Some text → o asked.script ≡ Some script → IsScriptInput content script → Of text
@@ -26,12 +26,12 @@ module _ (asked : Compared) where
 
   compared_at : (o : Contents) (ended : Ended) (bytes : List ℕ) (content : ScriptContent) → IsRead asked.input 262145 bytes o → IsFile o asked.script (IsScriptInput content) → RunKnows bytes ended
       → Knows asked o ended
-  compared_at o (Same events) bytes content read (script, has, is) tree =
+  compared_at o (Same events) bytes content read (script, has, is) accepted =
       let text = content_of 262145 (o asked.input) bytes read in
-      reads o text.0 script content HasTree text.1 has is (subst HasTree (tree_whole text.0 bytes text.2 tree) tree)
-  compared_at o (Undefined kind line) bytes content read (script, has, is) tree =
+      reads o text.0 script content IsAcceptedText text.1 has is (accepted_whole text.0 bytes text.2 accepted)
+  compared_at o (Undefined kind line) bytes content read (script, has, is) accepted =
       let text = content_of 262145 (o asked.input) bytes read in
-      reads o text.0 script content HasTree text.1 has is (subst HasTree (tree_whole text.0 bytes text.2 tree) tree)
+      reads o text.0 script content IsAcceptedText text.1 has is (accepted_whole text.0 bytes text.2 accepted)
   compared_at o (Refused refusal) bytes content read (script, has, is) tells =
       let text = content_of 262145 (o asked.input) bytes read in
       reads o text.0 script content _ text.1 has is (why_whole text.0 bytes (outcomes.Refused refusal) (λ l. sym text.2 ∙ take_all text.0 262145 l) text.2 tells)

@@ -1,14 +1,17 @@
 -- Without a fault, how a comparison ends by its files.
-use Rattle.std.proofs.Common.{◌≡◌, ℕ, ◌⊎◌, inl, inr, ⊎_elim, Option, Some, List, Err, sym, ◌∙◌, subst}
+use Rattle.std.proofs.Common.{◌≡◌, ℕ, ◌⊎◌, inl, inr, ⊎_elim, Option, Some, List, sym, ◌∙◌, subst}
 use Rattle.host_io.specs.Host.{Contents}
-use Rattle.picc_core.specs.Texts.{program_tokens, HasTree}
-use Rattle.picc_core.specs.declared.refusal.CompileError.TheVariants as errors
+use Rattle.picc_core.proofs.OneAnswer.{one_answer}
+use Rattle.picc_core.specs.Answers.{Tells}
+use Rattle.picc_core.specs.Decided.{IsAcceptedText}
 use Rattle.picc_core.specs.declared.refusal.Refusal.{Refusal}
 use Rattle.picc_cli.specs.declared.comparing.Ended.{Ended}
 use Rattle.picc_cli.specs.declared.comparing.Ended.TheVariants.{Same, Undefined, Refused, CannotReadText, NoScript, NoMemory}
+use Rattle.picc_cli.specs.declared.inputs.FileEnd.{FileEnd}
 use Rattle.picc_cli.specs.Agreement.{AgreementTells, Knows, status_of}
 use Rattle.picc_cli.specs.Command.{Compared}
 use Rattle.picc_cli.specs.Finished.{AgreementCompletes}
+use Rattle.picc_cli.specs.Inputs.{HasNoScript}
 use Rattle.picc_cli.specs.Said.{GivesUp}
 use Rattle.picc_cli.specs.ScriptInput.{IsScript}
 use Rattle.picc_cli.proofs.FilesKept.{same_bytes, script_kept, file_ends}
@@ -26,18 +29,30 @@ module _ (asked : Compared) (o : Contents) (result : ℕ) (quiet : result ≡ 3 
   no_script_ends (NoScript end) k e script has none = file_ends end result quiet e
   no_script_ends NoMemory k e script has none = inr e
 
-  refused_ends : (ended : Ended) → Knows asked o ended → result ≡ status_of ended → (text script : List ℕ) → o asked.input ≡ Some text → o asked.script ≡ Some script → IsScript script → (HasTree text → ⊥)
-      → (result ≡ 1) ⊎ (result ≡ 9)
-  refused_ends (Same events) k e text script reads has is no_tree = absurd (no_tree (subst HasTree (same_bytes o asked.input k.text text k.has_text reads) k.of_text))
-  refused_ends (Undefined kind line) k e text script reads has is no_tree = absurd (no_tree (subst HasTree (same_bytes o asked.input k.text text k.has_text reads) k.of_text))
-  refused_ends (Refused refusal) k e text script reads has is no_tree = inl e
-  refused_ends CannotReadText k e text script reads has is no_tree = absurd (quiet e)
-  refused_ends (NoScript end) k e text script reads has is no_tree =
-      inr (nine (subst GivesUp (sym e) (script_kept o asked.script is.content end (script, has, record { short = is.short; file = is.file }) k)))
-  refused_ends NoMemory k e text script reads has is no_tree = inr e
+  -- where there is a script, the text decides
+  kept_ends : (end : FileEnd) → HasNoScript o asked.script end → result ≡ status_of (NoScript end) → (script : List ℕ) → o asked.script ≡ Some script → IsScript script → result ≡ 9
+  kept_ends end k e script has is = nine (subst GivesUp (sym e) (script_kept o asked.script is.content end (script, has, record { short = is.short; file = is.file }) k))
 
-  tokens_refused : (text : List ℕ) (refusal : Refusal) → program_tokens text ≡ Err (errors.Refused refusal) → HasTree text → ⊥
-  tokens_refused text refusal e tree = let both = sym e ∙ tree.tokens in cc
+  accepted_ends : (ended : Ended) → Knows asked o ended → result ≡ status_of ended → (text script : List ℕ) → o asked.input ≡ Some text → o asked.script ≡ Some script → IsScript script → IsAcceptedText text
+      → (result ≡ 0) ⊎ ((result ≡ 4) ⊎ (result ≡ 9))
+  accepted_ends (Same events) k e text script reads has is accepted = inl e
+  accepted_ends (Undefined kind line) k e text script reads has is accepted = inr (inl e)
+  accepted_ends (Refused refusal) k e text script reads has is accepted =
+      absurd ((one_answer text).either refusal accepted (subst (λ t. Tells t refusal) (same_bytes o asked.input k.text text k.has_text reads) k.of_text))
+  accepted_ends CannotReadText k e text script reads has is accepted = absurd (quiet e)
+  accepted_ends (NoScript end) k e text script reads has is accepted = inr (inr (kept_ends end k e script has is))
+  accepted_ends NoMemory k e text script reads has is accepted = inr (inr e)
+
+  refused_ends : (ended : Ended) → Knows asked o ended → result ≡ status_of ended → (text script : List ℕ) (refusal : Refusal) → o asked.input ≡ Some text → o asked.script ≡ Some script → IsScript script
+      → Tells text refusal → (result ≡ 1) ⊎ (result ≡ 9)
+  refused_ends (Same events) k e text script refusal reads has is tells =
+      absurd ((one_answer text).either refusal (subst IsAcceptedText (same_bytes o asked.input k.text text k.has_text reads) k.of_text) tells)
+  refused_ends (Undefined kind line) k e text script refusal reads has is tells =
+      absurd ((one_answer text).either refusal (subst IsAcceptedText (same_bytes o asked.input k.text text k.has_text reads) k.of_text) tells)
+  refused_ends (Refused told) k e text script refusal reads has is tells = inl e
+  refused_ends CannotReadText k e text script refusal reads has is tells = absurd (quiet e)
+  refused_ends (NoScript end) k e text script refusal reads has is tells = inr (kept_ends end k e script has is)
+  refused_ends NoMemory k e text script refusal reads has is tells = inr e
 
   pub agreement_whole : (before after : Option (List ℕ)) → AgreementTells asked o before after result → (result ≡ 0) ⊎ ((result ≡ 1) ⊎ ((result ≡ 4) ⊎ ((result ≡ 5) ⊎ (result ≡ 9))))
       → AgreementCompletes asked o result
@@ -47,8 +62,9 @@ module _ (asked : Compared) (o : Contents) (result : ℕ) (quiet : result ≡ 3 
         files =
             record {
               no_script = λ text script reads has none. ⊎_elim (λ said. no_script_ends t.ended t.knows said.0 script has none) (λ up. inr (nine up.0)) t.last;
-              no_tokens = λ text script refusal reads has is e.
-                  ⊎_elim (λ said. refused_ends t.ended t.knows said.0 text script reads has is (tokens_refused text refusal e)) (λ up. inr (nine up.0)) t.last;
-              no_tree = λ text script reads has is n. ⊎_elim (λ said. refused_ends t.ended t.knows said.0 text script reads has is (λ tree. n.none tree)) (λ up. inr (nine up.0)) t.last;
+              accepted = λ text script reads has is accepted.
+                  ⊎_elim (λ said. accepted_ends t.ended t.knows said.0 text script reads has is accepted) (λ up. inr (inr (nine up.0))) t.last;
+              refused = λ text script refusal reads has is tells.
+                  ⊎_elim (λ said. refused_ends t.ended t.knows said.0 text script refusal reads has is tells) (λ up. inr (nine up.0)) t.last;
             };
       }

@@ -1,21 +1,20 @@
 -- How a build ends, by its outcome and by what was printed.
-use Rattle.std.proofs.Common.{◌≡◌, ℕ, ◌⊎◌, inl, inr, true, IsTrue, Option, Some, None, IfSome, List, ◌++◌, length, refl, sym, ap, ◌∙◌, subst, arith, option_map, Err}
+use Rattle.std.proofs.Common.{◌≡◌, ℕ, ◌⊎◌, inl, inr, true, IsTrue, Option, Some, None, IfSome, List, ◌++◌, length, refl, sym, ap, ◌∙◌, subst, arith, option_map}
 use Rattle.std.proofs.Math.Seq.{take-length}
 use Rattle.host_io.specs.Host.{Kind, Contents, put, PrintsPrefix, IsCounted}
 use Rattle.picc_cli.specs.declared.building.Outcome.{Outcome}
 use Rattle.picc_cli.specs.declared.building.Outcome.TheVariants.{Built, Refused, CannotRead, CannotWriteHex, CannotWriteMap, NoMemory}
-use Rattle.picc_cli.specs.declared.program.Assignment.{Assignment}
-use Rattle.picc_core.specs.Texts.{program_tokens, HasTree}
-use Rattle.picc_core.specs.declared.refusal.CompileError.TheVariants as errors
+use Rattle.picc_core.proofs.OneAnswer.{one_answer}
+use Rattle.picc_core.specs.Answers.{Tells}
+use Rattle.picc_core.specs.Decided.{IsAcceptedText}
 use Rattle.picc_core.specs.declared.refusal.Refusal.{Refusal}
-use Rattle.picc_cli.specs.Built.{IsRefused, IsMade}
 use Rattle.picc_cli.specs.Command.{Names, Form, Build}
 use Rattle.picc_cli.specs.Finished.{HasStatus, BuildHasFiles, BuildPrints, HasTold, IsComplete}
 use Rattle.picc_cli.specs.Lines.{cannot_read}
 use Rattle.picc_cli.specs.Outcome.{Refuses, BreaksOff, WorkedOn, is_fault, FailsWithoutInput, line_of, status_of}
-use Rattle.picc_cli.specs.PortProgram.{IsProgram}
 use Rattle.picc_cli.specs.Said.{GivesUp, HasOutcomeCause, Says}
 use Rattle.picc_cli.proofs.Endings.{number_apart, up_apart, add_nothing, whole_line, counted_later, quiet_ends}
+use Rattle.picc_cli.proofs.FilesKept.{same_bytes}
 
 module _ (names : Names) where
   abbrev form : Option Form
@@ -197,38 +196,25 @@ module _ (names : Names) where
   build_told outcome (Some o) middle new kind before now p still q result w same quiet (inr u) = λ one. up_apart 1 result (omega arith) one u.ends
 
   -- ---- without a fault
-  same_text : (o : Contents) (text other : List ℕ) → o names.input ≡ Some text → o names.input ≡ Some other → other ≡ text
-  same_text o text other a b = let both : Some text ≡ Some other = sym a ∙ b in cc
-
-  not_made : (text hex map : List ℕ) → IsRefused text → (HasTree text → ⊥) → IsMade text hex map → ⊥
-  not_made text hex map refused no_tree (inl built) = refused built.assignments built.program
-  not_made text hex map refused no_tree (inr (other, compiled)) = no_tree compiled.tree
-
-  no_tokens_tree : (text : List ℕ) (refusal : Refusal) → program_tokens text ≡ Err (errors.Refused refusal) → HasTree text → ⊥
-  no_tokens_tree text refusal e t = let both = sym e ∙ t.tokens in cc
+  accepted_ends : (outcome : Outcome) (o : Contents) (new : Option Contents) (result : ℕ) → WorkedOn outcome names o new → result ≡ status_of outcome
+      → (is_fault outcome ≡ true → ⊥) → (text : List ℕ) → o names.input ≡ Some text → IsAcceptedText text → (result ≡ 0) ⊎ (result ≡ 9)
+  accepted_ends Built o new result w e quiet text read accepted = inl e
+  accepted_ends (Refused refusal) o new result w e quiet text read accepted =
+      absurd ((one_answer text).either refusal accepted (subst (λ t. Tells t refusal) (same_bytes o names.input w.text text w.read read) w.tells))
+  accepted_ends CannotRead o new result w e quiet text read accepted = absurd (quiet refl)
+  accepted_ends CannotWriteHex o new result w e quiet text read accepted = absurd (quiet refl)
+  accepted_ends CannotWriteMap o new result w e quiet text read accepted = absurd (quiet refl)
+  accepted_ends NoMemory o new result w e quiet text read accepted = inr e
 
   refused_ends : (outcome : Outcome) (o : Contents) (new : Option Contents) (result : ℕ) → WorkedOn outcome names o new → result ≡ status_of outcome
-      → (is_fault outcome ≡ true → ⊥) → (text : List ℕ) → o names.input ≡ Some text → IsRefused text → (HasTree text → ⊥) → (result ≡ 1) ⊎ (result ≡ 9)
-  refused_ends Built o new result w e quiet text read refused no_tree =
-      absurd (not_made text w.hex w.map refused no_tree (subst (λ t. IsMade t w.hex w.map) (same_text o text w.text read w.read) w.built))
-  refused_ends (Refused refusal) o new result w e quiet text read refused no_tree = inl e
-  refused_ends CannotRead o new result w e quiet text read refused no_tree = absurd (quiet refl)
-  refused_ends CannotWriteHex o new result w e quiet text read refused no_tree = absurd (quiet refl)
-  refused_ends CannotWriteMap o new result w e quiet text read refused no_tree = absurd (quiet refl)
-  refused_ends NoMemory o new result w e quiet text read refused no_tree = inr e
-
-  no_refusal : {P : Type 0} (why : Outcome) (o : Contents) (new : Option Contents) (text : List ℕ) (xs : List Assignment) → Refuses why names o new
-      → o names.input ≡ Some text → IsProgram text xs → P
-  no_refusal why o new text xs w read program = absurd (w.refused xs (subst (λ t. IsProgram t xs) (sym (same_text o text w.text read w.read)) program))
-
-  built_ends : (outcome : Outcome) (o : Contents) (new : Option Contents) (result : ℕ) → WorkedOn outcome names o new → result ≡ status_of outcome
-      → (is_fault outcome ≡ true → ⊥) → (text : List ℕ) (xs : List Assignment) → o names.input ≡ Some text → IsProgram text xs → (result ≡ 0) ⊎ (result ≡ 9)
-  built_ends Built o new result w e quiet text xs read program = inl e
-  built_ends (Refused refusal) o new result w e quiet text xs read program = no_refusal (Refused refusal) o new text xs w read program
-  built_ends CannotRead o new result w e quiet text xs read program = absurd (quiet refl)
-  built_ends CannotWriteHex o new result w e quiet text xs read program = absurd (quiet refl)
-  built_ends CannotWriteMap o new result w e quiet text xs read program = absurd (quiet refl)
-  built_ends NoMemory o new result w e quiet text xs read program = inr e
+      → (is_fault outcome ≡ true → ⊥) → (text : List ℕ) (refusal : Refusal) → o names.input ≡ Some text → Tells text refusal → (result ≡ 1) ⊎ (result ≡ 9)
+  refused_ends Built o new result w e quiet text refusal read tells =
+      absurd ((one_answer text).either refusal (subst IsAcceptedText (same_bytes o names.input w.text text w.read read) w.built.accepted) tells)
+  refused_ends (Refused told) o new result w e quiet text refusal read tells = inl e
+  refused_ends CannotRead o new result w e quiet text refusal read tells = absurd (quiet refl)
+  refused_ends CannotWriteHex o new result w e quiet text refusal read tells = absurd (quiet refl)
+  refused_ends CannotWriteMap o new result w e quiet text refusal read tells = absurd (quiet refl)
+  refused_ends NoMemory o new result w e quiet text refusal read tells = inr e
 
   complete_at : (kind : Kind) (outcome : Outcome) (o : Contents) (middle : Option Contents) (first before now : ℕ) (p q : Option (List ℕ)) (result : ℕ)
       → WorkedOn outcome names o middle → HasOutcomeCause kind first before (is_fault outcome)
@@ -236,16 +222,14 @@ module _ (names : Names) where
   complete_at kind outcome o middle first before now p q result w cause (inl s) = λ quiet.
       let no_fault : is_fault outcome ≡ true → ⊥ = λ fault. quiet (subst (IsCounted kind first) (sym s.kept) (cause.failed fault)) in
       record {
-        no_tokens = λ text refusal read refused tokens. refused_ends outcome o middle result w s.ends no_fault text read refused (no_tokens_tree text refusal tokens);
-        no_tree = λ text read refused n. refused_ends outcome o middle result w s.ends no_fault text read refused n.none;
-        built = λ text xs read program. built_ends outcome o middle result w s.ends no_fault text xs read program;
+        accepted = λ text read is. accepted_ends outcome o middle result w s.ends no_fault text read is;
+        refused = λ text refusal read tells. refused_ends outcome o middle result w s.ends no_fault text refusal read tells;
       }
   complete_at kind outcome o middle first before now p q result w cause (inr u) = λ quiet.
       let no_three : result ≡ 3 → ⊥ = λ three. quiet (counted_later kind first before now cause.never_falls (u.failed three)) in
       record {
-        no_tokens = λ text refusal read refused tokens. quiet_ends 1 result no_three u.ends;
-        no_tree = λ text read refused n. quiet_ends 1 result no_three u.ends;
-        built = λ text xs read program. quiet_ends 0 result no_three u.ends;
+        accepted = λ text read is. quiet_ends 0 result no_three u.ends;
+        refused = λ text refusal read tells. quiet_ends 1 result no_three u.ends;
       }
 
   pub build_complete : (kind later : Kind) (outcome : Outcome) (old middle : Option Contents) (first before now : ℕ) (p q : Option (List ℕ)) (result : ℕ)

@@ -1,8 +1,3 @@
-pub mod Ticks
-pub mod Stages
-pub mod Faithful
-pub mod Placing
-pub mod Spelling
 pub mod Whole
 pub mod Files
 pub mod Endings
@@ -11,7 +6,6 @@ pub mod TraceFiles
 pub mod TraceRun
 pub mod TraceEnds
 pub mod Forms
-pub mod MapRanges
 pub mod FormEnds
 pub mod InputFiles
 pub mod Generated

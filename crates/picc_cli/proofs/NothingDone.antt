@@ -95,12 +95,12 @@ not_simulated (Some (Generate functions)) (Some o) board p = tt
 pub no_end : (form : Option Form) (kind : Kind) (before now : ℕ) (old : Option Contents) → IfSome old (λ o. IsComplete kind before now form o 9)
 no_end form kind before now None = tt
 no_end None kind before now (Some o) = λ quiet. inr refl
-no_end (Some (Build names)) kind before now (Some o) = λ quiet. record { no_tokens = λ text refusal a b c. inr refl; no_tree = λ text a b c. inr refl; built = λ text xs a b. inr refl }
+no_end (Some (Build names)) kind before now (Some o) = λ quiet. record { accepted = λ text a b. inr refl; refused = λ text refusal a b. inr refl }
 no_end (Some (Trace asked)) kind before now (Some o) = λ quiet.
     record {
       no_script = λ text script a b c. inr refl;
-      no_tokens = λ text script refusal a b c d. inr refl;
-      no_tree = λ text script a b c d. inr refl;
+      accepted = λ text script a b c d. inr (inr refl);
+      refused = λ text script refusal a b c d. inr refl;
     }
 no_end (Some (Simulate asked)) kind before now (Some o) = λ quiet.
     record {
@@ -116,8 +116,8 @@ no_end (Some (Agree asked)) kind before now (Some o) = λ quiet.
       files =
           record {
             no_script = λ text script a b c. inr refl;
-            no_tokens = λ text script refusal a b c d. inr refl;
-            no_tree = λ text script a b c d. inr refl;
+            accepted = λ text script a b c d. inr (inr refl);
+            refused = λ text script refusal a b c d. inr refl;
           };
     }
 no_end (Some (Generate functions)) kind before now (Some o) = λ quiet. inr refl

@@ -1,8 +1,9 @@
 -- How a trace ends, by what was printed.
-use Rattle.std.proofs.Common.{◌≡◌, ℕ, ◌⊎◌, inl, inr, ⊎_elim, true, IsTrue, Option, Some, None, IfSome, List, [], ◌++◌, refl, sym, ap, ◌∙◌, subst, arith, option_map, Err}
+use Rattle.std.proofs.Common.{◌≡◌, ℕ, ◌⊎◌, inl, inr, ⊎_elim, true, IsTrue, Option, Some, None, IfSome, List, [], ◌++◌, refl, sym, ap, ◌∙◌, subst, arith, option_map}
 use Rattle.host_io.specs.Host.{Kind, Contents, PrintsPrefix, IsCounted}
-use Rattle.picc_core.specs.Texts.{program_tokens, HasTree, HasNoTree}
-use Rattle.picc_core.specs.declared.refusal.CompileError.TheVariants as errors
+use Rattle.picc_core.proofs.OneAnswer.{one_answer}
+use Rattle.picc_core.specs.Answers.{Tells}
+use Rattle.picc_core.specs.Decided.{IsAcceptedText}
 use Rattle.picc_core.specs.declared.refusal.Refusal.{Refusal}
 use Rattle.picc_cli.specs.declared.inputs.FileEnd.{FileEnd}
 use Rattle.picc_cli.specs.declared.inputs.FileEnd.TheVariants as files
@@ -211,26 +212,37 @@ module _ (asked : Asked) where
   no_script_ends CannotPrint o result k e quiet script has none = absurd (quiet refl)
   no_script_ends NoMemory o result k e quiet script has none = inr e
 
-  -- a text without a tree is refused, where there is a script
-  refused_ends : (ended : Ended) (o : Contents) (result : ℕ) → Knows asked o ended → result ≡ status_of ended → (is_fault ended ≡ true → ⊥) → (text script : List ℕ) → o asked.input ≡ Some text
-      → o asked.script ≡ Some script → IsScript script → (HasTree text → ⊥) → (result ≡ 1) ⊎ (result ≡ 9)
-  refused_ends Done o result k e quiet text script reads has is no_tree = absurd (no_tree (subst HasTree (same_bytes o asked.input k.text text k.has_text reads) k.of_text))
-  refused_ends (Undefined kind line) o result k e quiet text script reads has is no_tree = absurd (no_tree (subst HasTree (same_bytes o asked.input k.text text k.has_text reads) k.of_text))
-  refused_ends (Refused refusal) o result k e quiet text script reads has is no_tree = inl e
-  refused_ends CannotReadText o result k e quiet text script reads has is no_tree = absurd (quiet refl)
-  refused_ends (NoScript end) o result k e quiet text script reads has is no_tree =
+  -- where there is a script, the text decides
+  kept_ends : (end : FileEnd) (o : Contents) (result : ℕ) → inputs.HasNoScript o asked.script end → result ≡ inputs.status_of end → (inputs.is_fault end ≡ true → ⊥) → (script : List ℕ)
+      → o asked.script ≡ Some script → IsScript script → result ≡ 9
+  kept_ends end o result k e quiet script has is =
       ⊎_elim
       (λ three. absurd (quiet (file_three end three)))
-      (λ nine. inr (e ∙ nine))
+      (λ nine. e ∙ nine)
       (script_kept o asked.script is.content end (script, has, record { short = is.short; file = is.file }) k)
-  refused_ends CannotPrint o result k e quiet text script reads has is no_tree = absurd (quiet refl)
-  refused_ends NoMemory o result k e quiet text script reads has is no_tree = inr e
 
-  tokens_refused : (text : List ℕ) (refusal : Refusal) → program_tokens text ≡ Err (errors.Refused refusal) → HasTree text → ⊥
-  tokens_refused text refusal e tree = let both = sym e ∙ tree.tokens in cc
+  accepted_ends : (ended : Ended) (o : Contents) (result : ℕ) → Knows asked o ended → result ≡ status_of ended → (is_fault ended ≡ true → ⊥) → (text script : List ℕ) → o asked.input ≡ Some text
+      → o asked.script ≡ Some script → IsScript script → IsAcceptedText text → (result ≡ 0) ⊎ ((result ≡ 4) ⊎ (result ≡ 9))
+  accepted_ends Done o result k e quiet text script reads has is accepted = inl e
+  accepted_ends (Undefined kind line) o result k e quiet text script reads has is accepted = inr (inl e)
+  accepted_ends (Refused refusal) o result k e quiet text script reads has is accepted =
+      absurd ((one_answer text).either refusal accepted (subst (λ t. Tells t refusal) (same_bytes o asked.input k.text text k.has_text reads) k.of_text))
+  accepted_ends CannotReadText o result k e quiet text script reads has is accepted = absurd (quiet refl)
+  accepted_ends (NoScript end) o result k e quiet text script reads has is accepted = inr (inr (kept_ends end o result k e quiet script has is))
+  accepted_ends CannotPrint o result k e quiet text script reads has is accepted = absurd (quiet refl)
+  accepted_ends NoMemory o result k e quiet text script reads has is accepted = inr (inr e)
 
-  tree_refused : (text : List ℕ) → HasNoTree text → HasTree text → ⊥
-  tree_refused text n tree = n.none tree
+  refused_ends : (ended : Ended) (o : Contents) (result : ℕ) → Knows asked o ended → result ≡ status_of ended → (is_fault ended ≡ true → ⊥) → (text script : List ℕ) (refusal : Refusal)
+      → o asked.input ≡ Some text → o asked.script ≡ Some script → IsScript script → Tells text refusal → (result ≡ 1) ⊎ (result ≡ 9)
+  refused_ends Done o result k e quiet text script refusal reads has is tells =
+      absurd ((one_answer text).either refusal (subst IsAcceptedText (same_bytes o asked.input k.text text k.has_text reads) k.of_text) tells)
+  refused_ends (Undefined kind line) o result k e quiet text script refusal reads has is tells =
+      absurd ((one_answer text).either refusal (subst IsAcceptedText (same_bytes o asked.input k.text text k.has_text reads) k.of_text) tells)
+  refused_ends (Refused told) o result k e quiet text script refusal reads has is tells = inl e
+  refused_ends CannotReadText o result k e quiet text script refusal reads has is tells = absurd (quiet refl)
+  refused_ends (NoScript end) o result k e quiet text script refusal reads has is tells = inr (kept_ends end o result k e quiet script has is)
+  refused_ends CannotPrint o result k e quiet text script refusal reads has is tells = absurd (quiet refl)
+  refused_ends NoMemory o result k e quiet text script refusal reads has is tells = inr e
 
   complete_at : (kind : Kind) (ended : Ended) (o : Contents) (first before now : ℕ) (p q : Option (List ℕ)) (result : ℕ)
       → Knows asked o ended → HasOutcomeCause kind first before (is_fault ended)
@@ -239,15 +251,15 @@ module _ (asked : Asked) where
       let no_fault : is_fault ended ≡ true → ⊥ = λ fault. quiet (subst (IsCounted kind first) (sym s.kept) (cause.failed fault)) in
       record {
         no_script = λ text script reads has none. no_script_ends ended o result knows s.ends no_fault script has none;
-        no_tokens = λ text script refusal reads has is e. refused_ends ended o result knows s.ends no_fault text script reads has is (tokens_refused text refusal e);
-        no_tree = λ text script reads has is n. refused_ends ended o result knows s.ends no_fault text script reads has is (tree_refused text n);
+        accepted = λ text script reads has is accepted. accepted_ends ended o result knows s.ends no_fault text script reads has is accepted;
+        refused = λ text script refusal reads has is tells. refused_ends ended o result knows s.ends no_fault text script refusal reads has is tells;
       }
   complete_at kind ended o first before now p q result knows cause (inr u) = λ quiet.
       let no_three : result ≡ 3 → ⊥ = λ three. quiet (counted_later kind first before now cause.never_falls (u.failed three)) in
       record {
         no_script = λ text script reads has none. quiet_ends 5 result no_three u.ends;
-        no_tokens = λ text script refusal reads has is e. quiet_ends 1 result no_three u.ends;
-        no_tree = λ text script reads has is n. quiet_ends 1 result no_three u.ends;
+        accepted = λ text script reads has is accepted. inr (quiet_ends 4 result no_three u.ends);
+        refused = λ text script refusal reads has is tells. quiet_ends 1 result no_three u.ends;
       }
 
   pub trace_complete : (kind alike : Kind) (ended : Ended) (old : Option Contents) (first before now : ℕ) (p q : Option (List ℕ)) (result : ℕ)

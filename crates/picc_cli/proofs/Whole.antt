@@ -3,8 +3,9 @@ use Rattle.std.proofs.Common.{◌≡◌, ℕ, ◌<◌, ◌≤◌, ⊎_elim, List
 use Rattle.std.proofs.lemmas.Bool.{cases_lt, lt-ltb}
 use Rattle.std.proofs.lemmas.List.{length-take, take_all}
 use Rattle.c_operate.specs.Answers.{fault_of}
-use Rattle.picc_core.proofs.Trees.{mistyped_tree, refused_tree}
+use Rattle.picc_core.proofs.Trees.{typed_tree, mistyped_tree, refused_tree}
 use Rattle.picc_core.specs.Answers.{Tells}
+use Rattle.picc_core.specs.Decided.{IsAcceptedText}
 use Rattle.picc_core.specs.Texts.{tokens_left, within_limits, program_tokens, HasTree, HasNoTree}
 use Rattle.picc_core.specs.declared.refusal.CompileError.TheVariants.{Refused}
 use Rattle.picc_core.specs.declared.refusal.LimitKind.TheVariants as kinds
@@ -61,6 +62,9 @@ tree_whole text bytes e t =
     (λ h. absurd (no_tree bytes h t))
     (λ l. sym e ∙ take_all 262145 text (omega arith))
     (cases_lt 262144 (length bytes))
+
+pub accepted_whole : (text bytes : List ℕ) → take 262145 text ≡ bytes → IsAcceptedText bytes → IsAcceptedText text
+accepted_whole text bytes e is = subst IsAcceptedText (tree_whole text bytes e (typed_tree bytes is.program is.typed)) is
 
 pub why_whole : (text bytes : List ℕ) (why : Outcome) → (length text ≤ 262145 → bytes ≡ text) → take 262145 text ≡ bytes → TellsWhy bytes why → TellsWhy text why
 why_whole text bytes why short e t =

@@ -2,7 +2,7 @@
 use Rattle.std.specs.Prelude.{ℕ, ◌≡◌, ◌⊎◌, Bool, true, false, IsTrue, Option, List, [], ◌∷◌, ◌++◌, codes, decimal}
 use Rattle.host_io.specs.Host.{Kind, Contents, Lacks}
 use Rattle.picc_core.specs.Answers.{Tells}
-use Rattle.picc_core.specs.Texts.{HasTree}
+use Rattle.picc_core.specs.Decided.{IsAcceptedText}
 use Rattle.picc_cli.specs.declared.comparing.Ended.{Ended}
 use Rattle.picc_cli.specs.declared.comparing.Ended.TheVariants.{Same, Undefined, Refused, CannotReadText, NoScript, NoMemory}
 use Rattle.picc_cli.specs.Command.{Asked, Compared}
@@ -37,8 +37,8 @@ IsRunEnd NoMemory = Unit {0}
 
 -- what is known of the text where a comparison of its runs ended so
 abbrev pub RunKnows : List ℕ → Ended → Type 0
-RunKnows text (Same events) = HasTree text
-RunKnows text (Undefined kind line) = HasTree text
+RunKnows text (Same events) = IsAcceptedText text
+RunKnows text (Undefined kind line) = IsAcceptedText text
 RunKnows text (Refused refusal) = Tells text refusal
 RunKnows text CannotReadText = ⊥
 RunKnows text (NoScript end) = ⊥
@@ -79,8 +79,8 @@ files_of asked = record { input = asked.input; script = asked.script; steps = as
 
 -- What is known of the files of a comparison that ended so.
 abbrev pub Knows : Compared → Contents → Ended → Type 0
-Knows asked old (Same events) = Reads (files_of asked) old HasTree IsScript
-Knows asked old (Undefined kind line) = Reads (files_of asked) old HasTree IsScript
+Knows asked old (Same events) = Reads (files_of asked) old IsAcceptedText IsScript
+Knows asked old (Undefined kind line) = Reads (files_of asked) old IsAcceptedText IsScript
 Knows asked old (Refused refusal) = Reads (files_of asked) old (λ text. Tells text refusal) IsScript
 Knows asked old (NoScript end) = inputs.HasNoScript old asked.script end
 Knows asked old CannotReadText = Unit {0}

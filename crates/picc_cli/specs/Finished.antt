@@ -1,20 +1,17 @@
 -- What the exit status of a command says.
-use Rattle.std.specs.Prelude.{ℕ, ◌≡◌, ◌<◌, ◌≤◌, ◌⊎◌, IsTrue, Option, Some, None, List, ◌++◌, option_map, Err}
+use Rattle.std.specs.Prelude.{ℕ, ◌≡◌, ◌<◌, ◌≤◌, ◌⊎◌, IsTrue, Option, Some, None, List, ◌++◌, option_map}
 use Rattle.host_io.specs.Host.{Kind, Contents, Lacks, PrintsPrefix, IsCounted}
-use Rattle.picc_core.specs.Texts.{program_tokens, HasNoTree}
-use Rattle.picc_core.specs.declared.refusal.CompileError.TheVariants as errors
+use Rattle.picc_core.specs.Answers.{Tells}
+use Rattle.picc_core.specs.Decided.{IsAcceptedText}
 use Rattle.picc_core.specs.declared.refusal.Refusal.{Refusal}
 use Rattle.picc_cli.specs.declared.building.Outcome.{Outcome}
-use Rattle.picc_cli.specs.declared.program.Assignment.{Assignment}
 use Rattle.picc_cli.specs.declared.tracing.Ended.{Ended}
-use Rattle.picc_cli.specs.Built.{IsRefused}
 use Rattle.picc_cli.specs.Agreement as agreement
 use Rattle.picc_cli.specs.Chip as chip
 use Rattle.picc_cli.specs.Command.{Names, Asked, Compared, Form, Build, Trace, Simulate, Agree, Generate}
 use Rattle.picc_cli.specs.Lines.{usage_line, cannot_read}
 use Rattle.picc_cli.specs.Outcome as build
 use Rattle.picc_cli.specs.Outcome.{Builds, Refuses, BreaksOff}
-use Rattle.picc_cli.specs.PortProgram.{IsProgram}
 use Rattle.picc_cli.specs.Said.{GivesUp, Prints}
 use Rattle.picc_cli.specs.Simulation.{SimulationCompletes}
 use Rattle.picc_cli.specs.Summary.{IsSummed, GeneratedTells}
@@ -132,20 +129,20 @@ HasTold (Some (Generate functions)) old new before after result = result ≡ 0 �
 HasTold (Some (Simulate asked)) old new before after result = Unit {0}
 
 -- ---- without a fault and with memory enough, each command ends as it is to end
+-- an accepted text is built, and one that is refused for some reason isn't
 pub record BuildCompletes (names : Names) (old : Contents) (result : ℕ) : Type 0 where
-  -- A text without a tree is refused. That a program of constants to ports has a tree isn't shown here.
-  pub no_tokens : (text : List ℕ) (refusal : Refusal) → old names.input ≡ Some text → IsRefused text
-      → program_tokens text ≡ Err (errors.Refused refusal) → (result ≡ 1) ⊎ (result ≡ 9)
-  pub no_tree : (text : List ℕ) → old names.input ≡ Some text → IsRefused text → HasNoTree text → (result ≡ 1) ⊎ (result ≡ 9)
-  pub built : (text : List ℕ) (assignments : List Assignment) → old names.input ≡ Some text → IsProgram text assignments → (result ≡ 0) ⊎ (result ≡ 9)
+  pub accepted : (text : List ℕ) → old names.input ≡ Some text → IsAcceptedText text → (result ≡ 0) ⊎ (result ≡ 9)
+  pub refused : (text : List ℕ) (refusal : Refusal) → old names.input ≡ Some text → Tells text refusal → (result ≡ 1) ⊎ (result ≡ 9)
 
+-- the script comes first
 pub record TraceCompletes (asked : Asked) (old : Contents) (result : ℕ) : Type 0 where
   pub no_script : (text script : List ℕ) → old asked.input ≡ Some text → old asked.script ≡ Some script → (IsScript script → ⊥) → (result ≡ 5) ⊎ (result ≡ 9)
-  pub no_tokens : (text script : List ℕ) (refusal : Refusal) → old asked.input ≡ Some text → old asked.script ≡ Some script → IsScript script
-      → program_tokens text ≡ Err (errors.Refused refusal) → (result ≡ 1) ⊎ (result ≡ 9)
-  pub no_tree : (text script : List ℕ) → old asked.input ≡ Some text → old asked.script ≡ Some script → IsScript script → HasNoTree text → (result ≡ 1) ⊎ (result ≡ 9)
+  pub accepted : (text script : List ℕ) → old asked.input ≡ Some text → old asked.script ≡ Some script → IsScript script → IsAcceptedText text
+      → (result ≡ 0) ⊎ ((result ≡ 4) ⊎ (result ≡ 9))
+  pub refused : (text script : List ℕ) (refusal : Refusal) → old asked.input ≡ Some text → old asked.script ≡ Some script → IsScript script → Tells text refusal
+      → (result ≡ 1) ⊎ (result ≡ 9)
 
--- as a trace of the same files, where they aren't such as they are to be
+-- as a trace of the same files
 pub record AgreementCompletes (asked : Compared) (old : Contents) (result : ℕ) : Type 0 where
   pub ends : (result ≡ 0) ⊎ ((result ≡ 1) ⊎ ((result ≡ 4) ⊎ ((result ≡ 5) ⊎ (result ≡ 9))))
   pub files : TraceCompletes (agreement.files_of asked) old result

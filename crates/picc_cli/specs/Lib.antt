@@ -1,5 +1,3 @@
-pub mod PortProgram
-pub mod PortCode
 pub mod Built
 pub mod Command
 pub mod CommandView

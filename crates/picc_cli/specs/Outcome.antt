@@ -4,19 +4,19 @@ use Rattle.host_io.specs.Host.{Kind, Contents, put, Lacks}
 use Rattle.picc_cli.specs.declared.building.Outcome.{Outcome}
 use Rattle.picc_cli.specs.declared.building.Outcome.TheVariants.{Built, Refused, CannotRead, CannotWriteHex, CannotWriteMap, NoMemory}
 use Rattle.picc_core.specs.Answers.{Tells}
-use Rattle.picc_cli.specs.Built.{IsMade, IsRefused}
+use Rattle.picc_cli.specs.Built.{IsBuilt}
 use Rattle.picc_cli.specs.Command.{Names}
 use Rattle.picc_cli.specs.Lines.{cannot_read}
 use Rattle.picc_cli.specs.Refusals.{refusal_line}
 
 -- ---- the files
--- the input is a program, and the two outputs have its files; all other names are as before
+-- the two outputs have the files of the input's text; all other names are as before
 pub record Builds (names : Names) (old : Contents) (new : Option Contents) : Type 0 where
   pub text : List ℕ
   pub hex : List ℕ
   pub map : List ℕ
   pub read : old names.input ≡ Some text
-  pub built : IsMade text hex map
+  pub built : IsBuilt text hex map
   pub files : new ≡ Some (put names.map map (put names.output hex old))
 
 -- Why a text isn't built: it is refused, and the refusal tells this of the text.
@@ -28,7 +28,6 @@ TellsWhy text _ = ⊥
 pub record Refuses (why : Outcome) (names : Names) (old : Contents) (new : Option Contents) : Type 0 where
   pub text : List ℕ
   pub read : old names.input ≡ Some text
-  pub refused : IsRefused text
   pub tells : TellsWhy text why
   pub files : new ≡ Some old
 
@@ -38,7 +37,7 @@ pub record BuildsPartly (names : Names) (old : Contents) (new : Option Contents)
   pub hex : List ℕ
   pub map : List ℕ
   pub read : old names.input ≡ Some text
-  pub built : IsMade text hex map
+  pub built : IsBuilt text hex map
   pub files : ((n : ℕ) × (n ≤ length hex) × (new ≡ Some (put names.output (take n hex) old)))
       ⊎ ((n : ℕ) × (n ≤ length map) × (new ≡ Some (put names.map (take n map) (put names.output hex old))))
 

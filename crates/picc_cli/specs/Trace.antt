@@ -8,7 +8,7 @@ use Rattle.pic_world.specs.declared.Event.{Event}
 use Rattle.pic_map.specs.EventText.{CanBeShown, event_text}
 use Rattle.pic_map.specs.MapContent.{MapContent}
 use Rattle.picc_core.specs.Answers.{Tells}
-use Rattle.picc_core.specs.Texts.{HasTree}
+use Rattle.picc_core.specs.Decided.{IsAcceptedText}
 use Rattle.ram_place.specs.Placement.{IsPlacing}
 use Rattle.picc_cli.specs.declared.tracing.Ended.{Ended}
 use Rattle.picc_cli.specs.declared.tracing.Ended.TheVariants.{Done, Undefined, Refused, CannotReadText, NoScript, CannotPrint, NoMemory}
@@ -31,8 +31,8 @@ pub record Reads (asked : Asked) (old : Contents) (OfText OfScript : List ℕ �
 
 -- What is known of the files of a trace that ended so.
 abbrev pub Knows : Asked → Contents → Ended → Type 0
-Knows asked old Done = Reads asked old HasTree IsScript
-Knows asked old (Undefined kind line) = Reads asked old HasTree IsScript
+Knows asked old Done = Reads asked old IsAcceptedText IsScript
+Knows asked old (Undefined kind line) = Reads asked old IsAcceptedText IsScript
 Knows asked old (Refused refusal) = Reads asked old (λ text. Tells text refusal) IsScript
 Knows asked old CannotReadText = Unit {0}
 Knows asked old (NoScript end) = inputs.HasNoScript old asked.script end

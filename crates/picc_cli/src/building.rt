@@ -7,7 +7,7 @@ ghost use Rattle.host_io.specs.Host.{Closed};
 ghost use Rattle.pic_map.specs.MapFile.{IsMapFile};
 ghost use Rattle.pic_map.specs.MapText.{AreInRange};
 ghost use Rattle.pic_map.specs.MapView.{content_of};
-ghost use Rattle.picc_cli.specs.Built.{IsCompiled, IsMade, IsRefused};
+ghost use Rattle.picc_cli.specs.Built.{IsBuilt};
 ghost use Rattle.picc_cli.specs.Command.{Build};
 ghost use Rattle.picc_cli.specs.CommandView.{names_of};
 ghost use Rattle.picc_cli.specs.Finished.{HasFiles, HasFaults, HasStatus, HasPrinted, HasTold, IsComplete};
@@ -15,7 +15,6 @@ ghost use Rattle.picc_cli.specs.declared.building.Outcome.TheVariants as outcome
 ghost use Rattle.picc_cli.specs.Outcome.{TellsWhy, WorkedOn, FailsWithoutInput, is_fault, line_of, status_of};
 ghost use Rattle.picc_cli.specs.Said.{Says, HasOutcomeCause};
 
-use crate::build::{Built as Texts, build};
 use crate::command::Files;
 use crate::say::{say, say_refusal};
 use hex_image::write_hex;
@@ -26,6 +25,13 @@ use std::alloc::{AllocError, Global};
 
 /// The longest C text, in bytes.
 pub const TEXT_LIMIT: usize = 262_144;
+
+/// The texts of the two files.
+#[derive(Drop)]
+struct Texts {
+    hex: Vec<u8>,
+    map: Vec<u8>,
+}
 
 /// How a build went.
 #[derive(Drop)]
@@ -84,9 +90,9 @@ fn texts_of(alloc: Global, program: &Program) -> Result<Texts, AllocError>
     Ok(Texts { hex, map })
 }
 
-/// The files of any text, or why there are none.
-fn compiled(alloc: Global, text: &[u8]) -> Result<Texts, Outcome>
-    ensures made { IfOk result (λ texts. IsCompiled text.now texts.hex.items texts.map.items) }
+/// The files of a text, or why there are none.
+fn made(alloc: Global, text: &[u8]) -> Result<Texts, Outcome>
+    ensures made { IfOk result (λ texts. IsBuilt text.now texts.hex.items texts.map.items) }
     ensures why { IfErr result (λ why. (why ≡ outcomes.NoMemory) ⊎ TellsWhy text.now why) }
 {
     let program = match compile(alloc, text) {
@@ -96,18 +102,6 @@ fn compiled(alloc: Global, text: &[u8]) -> Result<Texts, Outcome>
     };
     match texts_of(alloc, &program) {
         Ok(texts) => Ok(texts),
-        Err(_) => Err(Outcome::NoMemory),
-    }
-}
-
-/// The files of a text by the proved path, where it has the form of that path, and else by all passes; or why there are none.
-fn made(alloc: Global, text: &[u8]) -> Result<Texts, Outcome>
-    ensures made { IfOk result (λ texts. IsMade text.now texts.hex.items texts.map.items) }
-    ensures why { IfErr result (λ why. (why ≡ outcomes.NoMemory) ⊎ (IsRefused text.now × TellsWhy text.now why)) }
-{
-    match build(alloc, text) {
-        Ok(Some(texts)) => Ok(texts),
-        Ok(None) => compiled(alloc, text),
         Err(_) => Err(Outcome::NoMemory),
     }
 }

@@ -45,8 +45,8 @@ pub fn picc<H: Host>(
     ensures closed { H.open_file host.new ≡ Closed }
     ensures same_kind { H.kind host.new ≡ H.kind host.old }
 
-    // With status 0 of a build of constants to ports what the HEX does on the chip is what the text says; of any other text the map
-    // is such as it is to be. All other commands leave all files as they were.
+    // With status 0 of a build what the HEX does on the chip is what the text's typed program says; with status 1 all files are as
+    // they were, and a refusal holds of the text. All other commands leave all files as they were.
     ensures files { IfSome (H.contents host.old) (λ old. HasFiles (form_of (words_of words.now)) old (H.contents host.new) result) }
     ensures faults { HasFaults (H.kind host.old) (H.faults host.old) (H.faults host.new) (form_of (words_of words.now)) (H.contents host.old) result }
     ensures status { HasStatus (form_of (words_of words.now)) result }
@@ -59,6 +59,7 @@ pub fn picc<H: Host>(
     ensures simulated { IfSome (H.contents host.old) (λ old. HasSimulated (form_of (words_of words.now)) old (board_of (lists board.old) (follows board.old)) (board_of (lists board.new) (follows board.new)) (H.printed host.old) (H.printed host.new) result) }
     // A trace prints the lines of the run of a typed program, by the definitions of the source.
     ensures traced { IfSome (H.contents host.old) (λ old. HasTraced (form_of (words_of words.now)) old (H.printed host.old) (H.printed host.new) result) }
+    // Without a fault an accepted text is built, traced or compared, and one that is refused isn't, unless memory runs out.
     ensures complete { IfSome (H.contents host.old) (λ old. IsComplete (H.kind host.old) (H.faults host.old) (H.faults host.new) (form_of (words_of words.now)) old result) }
     // The board is left as it was, but by a simulation whose files are such as they are to be.
     ensures board { is_simulation (form_of (words_of words.now)) ≡ false → board.new ≡ board.old }

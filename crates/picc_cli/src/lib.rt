@@ -2,16 +2,12 @@
 //!
 //! In: the words of the command line, a host with files by name, and a board around the chip. Out: files, printed lines and
 //! an exit status.
-//! The promise: where a build of constants to ports, written as program.rt reads them, ends with 0, what the HEX does on the chip is
-//! what the C text says. Where it is a build of any other text, that text has a tree, and by the rules on names and types a typed program,
-//! which breaks no rule on main and the handler, in which no function reaches itself and whose calls fit the return stack: image and map
-//! are what all passes make of it, and the map's lines are its objects and copies, where they are to stand. What the HEX does of that
-//! program is no clause here, but a law of build_links. The contract of `picc` says it in full.
+//! The promise: where a build ends with 0, the text is accepted, by the rules on names and types it has a typed program, and what the HEX
+//! does on the chip, seen by the map, is what that program says. Where it ends with 1, the line that is printed is that of a refusal that
+//! holds of the text. Without a fault an accepted text is built and no other one is, unless memory runs out. The contract of `picc` says it in full.
 #![tactic(auto)]
 
-mod build;
 mod building;
-mod code;
 pub mod command;
 mod comparing;
 mod digits;
@@ -20,7 +16,6 @@ mod generating;
 mod hex_reason;
 mod inputs;
 mod parsing;
-mod program;
 mod refusal;
 mod running;
 mod say;
