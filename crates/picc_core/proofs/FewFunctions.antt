@@ -12,7 +12,7 @@ use Rattle.c_pre.specs.declared.PreError.{PreError}
 use Rattle.c_tree.specs.Programs.{ItemTree, Function, Declaration, BlockTree, Block, spelled_block, spelled_item, spelled_unit}
 use Rattle.c_tree.specs.Trees.{SpecTrees, DeclaratorTree, spelled_specs, spelled_declarator}
 use Rattle.c_typed.specs.Trees.{FunctionTree, Program}
-use Rattle.parse_expr.specs.Reader.{symbol_in, symbols_in}
+use Rattle.parse_expr.specs.Reader.{symbol_in}
 use Rattle.parse_expr.specs.declared.error.ParseError.{ParseError}
 use Rattle.c_parse.specs.Limits.{first_over}
 use Rattle.type_rules.specs.Declarations.{file_declaration}
@@ -28,21 +28,18 @@ use Rattle.picc_core.specs.declared.refusal.LimitKind.TheVariants.{Text}
 use Rattle.picc_core.specs.declared.refusal.Refusal.TheVariants.{Limit}
 
 -- ---- tokens
-nil_is : {A E : Type 0} (xs : List A) → Ok {E = E} [] ≡ Ok xs → length xs ≡ 0
-nil_is xs is = let e : [] ≡ xs = cc in sym (ap length e)
-
-ok_is : {A E : Type 0} (x y : A) → Ok {E = E} x ≡ Ok y → x ≡ y
-ok_is x y is = cc
+ok_is : {A E : Type 0} (r : Result A E) (x y : A) → r ≡ Ok x → r ≡ Ok y → x ≡ y
+ok_is r x y here there = let both = sym here ∙ there in cc
 
 limited_few : (room : ℕ) (es : List Event) (toks : List Tok) → limited room es ≡ Ok toks → length toks ≤ room
 unfolding limited
-limited_few room [] toks is = let none = nil_is toks is in omega (arith, none)
+limited_few room [] toks is = let none = ap length (ok_is (limited room []) [] toks refl is) in omega (arith, none)
 limited_few zero (Left t ∷ es) toks is = absurd (cc)
 limited_few zero (Replaced line ∷ es) toks is = absurd (cc)
 limited_few (suc room) (Left t ∷ es) toks is = by (limited room es) (λ ts. limited_few room es ts) is
   where
     by : (r : Result (List Tok) PreError) → ((ts : List Tok) → r ≡ Ok ts → length ts ≤ room) → with_token t r ≡ Ok toks → length toks ≤ suc room
-    by (Ok ts) few all = let low = few ts refl in let long = ap length (ok_is (t ∷ ts) toks all) in omega (arith, low, long)
+    by (Ok ts) few all = let low = few ts refl in let long = ap length (ok_is (with_token t (Ok ts)) (t ∷ ts) toks refl all) in omega (arith, low, long)
     by (Err e) few all = absurd (cc)
 limited_few (suc room) (Replaced line ∷ es) toks is = let low = limited_few room es toks is in omega (arith, low)
 
@@ -57,7 +54,7 @@ program_few text raw toks is =
     (judged_ok (first_word text (items text raw 0 [])) (first_bad (items text raw 0 [])) (limited 262144 (flat_map (events_of text) (free_tokens (items text raw 0 [])))) toks is)
 
 directives_ok : (r : Result (List Tok) PreError) (toks : List Tok) → behind_directives r ≡ Ok toks → r ≡ Ok toks
-directives_ok (Ok ts) toks is = ap Ok (ok_is ts toks is)
+directives_ok (Ok ts) toks is = ap Ok (ok_is (behind_directives (Ok ts)) ts toks refl is)
 directives_ok (Err e) toks is = absurd (cc)
 
 scanned_few : (text : List ℕ) (scanned : Result (List Tok) LexError) (toks : List Tok) → behind_tokens text scanned ≡ Ok toks → length toks ≤ 262144
@@ -73,7 +70,7 @@ left_few text toks is = by (nat_lt longest (length text)) is
     by false all = scanned_few text (tokens_of text) toks all
 
 limits_ok : (ts : List Tok) (over : Option ParseError) (toks : List Tok) → texts.limited ts over ≡ Ok toks → ts ≡ toks
-limits_ok ts None toks is = ok_is ts toks is
+limits_ok ts None toks is = ok_is (texts.limited ts None) ts toks refl is
 limits_ok ts (Some e) toks is = absurd (cc)
 
 within_few : (r : Result (List Tok) CompileError) (toks : List Tok) → ((ts : List Tok) → r ≡ Ok ts → length ts ≤ 262144) → within_limits r ≡ Ok toks → length toks ≤ 262144
@@ -97,29 +94,32 @@ function_spelled s d b unit =
     omega (arith, first, second, all, low)
 
 functions_spelled : (unit : List ItemTree) (known after : Known) (fs : List FunctionTree) → functions_of unit known ≡ Ok (fs, after) → length fs ≤ length (spelled_unit unit)
-functions_spelled [] known after fs is = let same = ap (λ (x : List FunctionTree × Known). length x.0) (ok_is ([], known) (fs, after) is) in omega (arith, same)
-functions_spelled (Function s d b ∷ unit) known after fs is = first (function s d b known) is
+functions_spelled [] known after fs is = let same = ap (λ (x : List FunctionTree × Known). length x.0) (ok_is (functions_of [] known) ([], known) (fs, after) refl is) in omega (arith, same)
+functions_spelled (Function s d b ∷ unit) known after fs is = first (function s d b known) (λ between later others all. functions_spelled unit between later others all) is
   where
-    behind : (f : FunctionTree) (between : Known) (r : Result (List FunctionTree × Known) Fault) → functions_of unit between ≡ r → go_on (λ others. given (f ∷ others)) r ≡ Ok (fs, after)
-        → length fs ≤ length (spelled_unit (Function s d b ∷ unit))
-    behind f between (Ok x) later all =
-        let low = functions_spelled unit between x.1 x.0 later in
-        let same = ap (λ (y : List FunctionTree × Known). length y.0) (ok_is (f ∷ x.0, x.1) (fs, after) all) in
+    behind : (f : FunctionTree) (between : Known) (r : Result (List FunctionTree × Known) Fault) → ((later : Known) (others : List FunctionTree) → r ≡ Ok (others, later) → length others ≤ length (spelled_unit unit))
+        → go_on (λ others. given (f ∷ others)) r ≡ Ok (fs, after) → length fs ≤ length (spelled_unit (Function s d b ∷ unit))
+    behind f between (Ok x) few all =
+        let low = few x.1 x.0 refl in
+        let same = ap (λ (y : List FunctionTree × Known). length y.0) (ok_is (go_on (λ others. given (f ∷ others)) (Ok x)) (f ∷ x.0, x.1) (fs, after) refl all) in
         let one = function_spelled s d b unit in
         omega (arith, low, same, one)
-    behind f between (Err e) later all = absurd (cc)
-    first : (r : Result (FunctionTree × Known) Fault) → go_on (λ f. functions_of unit >>= λ others. given (f ∷ others)) r ≡ Ok (fs, after) → length fs ≤ length (spelled_unit (Function s d b ∷ unit))
-    first (Ok x) all = behind x.0 x.1 (functions_of unit x.1) refl all
-    first (Err e) all = absurd (cc)
-functions_spelled (Declaration d ∷ unit) known after fs is = first (file_declaration d known) is
+    behind f between (Err e) few all = absurd (cc)
+    first : (r : Result (FunctionTree × Known) Fault)
+        → ((between later : Known) (others : List FunctionTree) → functions_of unit between ≡ Ok (others, later) → length others ≤ length (spelled_unit unit))
+        → go_on (λ f. functions_of unit >>= λ others. given (f ∷ others)) r ≡ Ok (fs, after) → length fs ≤ length (spelled_unit (Function s d b ∷ unit))
+    first (Ok x) few all = behind x.0 x.1 (functions_of unit x.1) (few x.1) all
+    first (Err e) few all = absurd (cc)
+functions_spelled (Declaration d ∷ unit) known after fs is = first (file_declaration d known) (λ between all. functions_spelled unit between after fs all) is
   where
-    first : (r : Result (Known × Known) Fault) → go_on (λ _. functions_of unit) r ≡ Ok (fs, after) → length fs ≤ length (spelled_unit (Declaration d ∷ unit))
-    first (Ok x) all = let low = functions_spelled unit x.1 after fs all in let one = length-append (spelled_item (Declaration d)) (spelled_unit unit) in omega (arith, low, one)
-    first (Err e) all = absurd (cc)
+    first : (r : Result (Known × Known) Fault) → ((between : Known) → functions_of unit between ≡ Ok (fs, after) → length fs ≤ length (spelled_unit unit)) → go_on (λ _. functions_of unit) r ≡ Ok (fs, after)
+        → length fs ≤ length (spelled_unit (Declaration d ∷ unit))
+    first (Ok x) few all = let low = few x.1 all in let one = length-append (spelled_item (Declaration d)) (spelled_unit unit) in omega (arith, low, one)
+    first (Err e) few all = absurd (cc)
 
 program_spelled : (unit : List ItemTree) (r : Result (List FunctionTree × Known) Fault) (p : Program) → ((fs : List FunctionTree) (after : Known) → r ≡ Ok (fs, after) → length fs ≤ length (spelled_unit unit))
     → program_in r ≡ Ok p → length p.functions ≤ length (spelled_unit unit)
-program_spelled unit (Ok x) p few is = let low = few x.0 x.1 refl in let same = ap (λ (q : Program). length q.functions) (ok_is (program_from x.1 x.0) p is) in omega (arith, low, same)
+program_spelled unit (Ok x) p few is = let low = few x.0 x.1 refl in let same = ap (λ (q : Program). length q.functions) (ok_is (program_in (Ok x)) (program_from x.1 x.0) p refl is) in omega (arith, low, same)
 program_spelled unit (Err e) p few is = absurd (cc)
 
 unit_spelled : (unit : List ItemTree) (p : Program) → judged_unit unit ≡ Ok p → length p.functions ≤ length (spelled_unit unit)

@@ -12,3 +12,4 @@ pub mod OnlyPlaces
 pub mod OnlyBlocks
 pub mod FewFunctions
 pub mod OneAnswer
+pub mod ObjectBytes

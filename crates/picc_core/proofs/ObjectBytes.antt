@@ -1,5 +1,5 @@
 -- Objects that have addresses have at most 352 bytes together, as many as the regions have; so the start block isn't over a page.
-use Rattle.std.proofs.Common.{◌≡◌, ℕ, zero, suc, ◌+◌, ◌*◌, ◌<◌, ◌≤◌, ◌⊎◌, inl, inr, ⊎_elim, Bool, true, false, ◌||◌, ◌&&◌, List, [], ◌∷◌, length, take, Some, min, ◌-◌, ◌^◌, refl, sym, ap, ◌∙◌, subst, arith}
+use Rattle.std.proofs.Common.{◌≡◌, ℕ, zero, suc, ◌+◌, ◌<◌, ◌≤◌, ◌⊎◌, inl, inr, ⊎_elim, Bool, true, false, ◌||◌, ◌&&◌, List, [], ◌∷◌, length, take, Some, min, ◌-◌, ◌^◌, refl, ap, ◌∙◌, arith}
 use Rattle.std.specs.Prelude.{slice_get, nat_le, nat_lt, if◌then◌else◌}
 use Rattle.std.proofs.Math.Nat.{min-eq_left}
 use Rattle.std.proofs.lemmas.Option.{slice_get_within}
@@ -11,7 +11,6 @@ use Rattle.c_typed.specs.Words.{statics_bytes, start_size}
 use Rattle.pic_map.specs.MapContent.{ObjectLine}
 use Rattle.ram_place.specs.Memory.{covers, count_below, counted, IsLowest, Stands, regions}
 use Rattle.ram_place.specs.Placement.{objects_have, IsTaken, AreObjects, ObjectsAreDisjoint}
-use Rattle.ram_place.specs.declared.memory.Span.{Span}
 
 -- ---- counts
 one_more : (test : ℕ → Bool) (n : ℕ) → count_below test (suc n) ≡ count_below test n + counted test n

@@ -1,5 +1,5 @@
 -- A text is accepted, or refused in one way.
-use Rattle.std.proofs.Common.{◌≡◌, ℕ, ◌+◌, ◌<◌, ◌≤◌, ◌⊎◌, inl, inr, ⊎_elim, Bool, true, false, List, length, Option, Some, None, Result, Ok, Err, refl, sym, ap, ◌∙◌, subst, arith}
+use Rattle.std.proofs.Common.{◌≡◌, ℕ, ◌<◌, ◌≤◌, ◌⊎◌, ⊎_elim, List, length, Option, Some, None, Err, refl, sym, ap, ◌∙◌, subst, arith}
 use Rattle.std.specs.Global.{Global}
 use Rattle.std.specs.declared.vec.Vec.{Vec}
 use Rattle.std.proofs.lemmas.Bool.{cases_lt}
@@ -11,7 +11,7 @@ use Rattle.c_typed.specs.Roots.{broken_root}
 use Rattle.c_typed.specs.Trees.{Program}
 use Rattle.c_typed.specs.declared.program.RootKind.{RootKind}
 use Rattle.call_graph.specs.Copies.{AreCopies, IsDepth, HasDepth, name_at, root_of}
-use Rattle.call_graph.specs.Levels.{IsAcyclic, IsFirstRecursive, IsLongest}
+use Rattle.call_graph.specs.Levels.{IsAcyclic, IsLongest}
 use Rattle.call_graph.specs.declared.types.FnCopy.{FnCopy}
 use Rattle.pic_world.specs.declared.Root.TheVariants as root
 use Rattle.code_place.specs.Pages.{addresses, AreInMemory, AreWithinPages, PassesMemory}
@@ -19,11 +19,11 @@ use Rattle.program_code.specs.Stated.{sizes}
 use Rattle.ram_place.specs.Placement.{LacksObject, LacksFrame}
 use Rattle.type_rules.specs.Faults as rule
 use Rattle.type_rules.specs.Faults.{Fault}
-use Rattle.picc_core.specs.Accepted.{IsCodeOrder, FitsStack, FitsMemory, IsRecursive, IsFirstOverPage, IsPlaceable, PassesPages, AreAccepted, IsFirstRefusal}
+use Rattle.picc_core.specs.Accepted.{IsCodeOrder, FitsStack, FitsMemory, IsRecursive, IsFirstOverPage, PassesPages, AreAccepted, IsFirstRefusal}
 use Rattle.picc_core.specs.Answers.{IsRefusedAs, Tells}
 use Rattle.picc_core.specs.Decided.{IsAcceptedText, SayTheSame, HasOneAnswer}
 use Rattle.picc_core.specs.Texts.{HasTree, HasNoTree, program_tokens}
-use Rattle.picc_core.specs.Typed.{IsTypedAs, IsMistyped}
+use Rattle.picc_core.specs.Typed.{IsMistyped}
 use Rattle.picc_core.specs.declared.refusal.CompileError.TheVariants.{Refused}
 use Rattle.picc_core.specs.declared.refusal.Refusal.{Refusal}
 use Rattle.picc_core.specs.declared.refusal.Refusal.TheVariants.{Lex, Word, Directive, Syntax, Typing, Recursion, Roots, Depth, Ram, Code, Page, Limit}

@@ -1,5 +1,5 @@
 -- Blocks of code have one order and one sum of words, and the first of them that is over a page is one. Where none is, none is told.
-use Rattle.std.proofs.Common.{◌≡◌, ℕ, zero, suc, ◌+◌, ◌*◌, ◌<◌, ◌≤◌, List, [], ◌∷◌, length, map, slice_index, Some, refl, sym, ap, ◌∙◌, subst, arith}
+use Rattle.std.proofs.Common.{◌≡◌, ℕ, suc, ◌+◌, ◌*◌, ◌<◌, ◌≤◌, List, [], ◌∷◌, length, map, Some, refl, sym, ap, ◌∙◌, subst, arith}
 use Rattle.std.specs.Prelude.{slice_index_or, sum}
 use Rattle.std.specs.List.{All, sum_by}
 use Rattle.std.proofs.lemmas.List.{get_or-map, length-map}
@@ -23,7 +23,7 @@ use Rattle.image_links.proofs.SameNumbers.{same_counted, same_numbers, map_up}
 use Rattle.program_code.specs.Order.{rank}
 use Rattle.program_code.specs.Stated.{copy_words, sizes}
 use Rattle.ram_place.specs.Sizes.{block_words}
-use Rattle.picc_core.specs.Accepted.{IsCodeOrder, IsOverPage, IsFirstOverPage, PassesPages}
+use Rattle.picc_core.specs.Accepted.{IsCodeOrder, IsOverPage, IsFirstOverPage}
 
 -- ---- each copy has a rank of its own, where there are few functions
 more : (n : ℕ) (f : FnId) → n ≤ 0x10000000 → IsOne n f → IsOne 0x10000000 f

@@ -1,5 +1,5 @@
 -- The first of the functions whose blocks are over a page, and what the placing of blocks tells by it.
-use Rattle.std.proofs.Common.{◌≡◌, ℕ, zero, suc, ◌+◌, ◌<◌, ◌≤◌, ◌⊎◌, inl, inr, ⊎_elim, List, [], ◌∷◌, ◌++◌, length, take, Option, Some, None, Result, Err, Bool, refl, sym, ap, ◌∙◌, subst, arith}
+use Rattle.std.proofs.Common.{◌≡◌, ℕ, zero, suc, ◌+◌, ◌-◌, ◌^◌, ◌<◌, ◌≤◌, ◌⊎◌, inl, inr, ⊎_elim, List, [], ◌∷◌, ◌++◌, length, map, min, slice_get, take, Option, Some, None, Result, Err, Bool, refl, sym, ap, ◌∙◌, subst, arith}
 use Rattle.std.proofs.Math.ListN.{get_or}
 use Rattle.std.specs.Prelude.{sum, if◌then◌else◌}
 use Rattle.std.specs.Global.{Global}
@@ -9,19 +9,27 @@ use Rattle.std.specs.declared.vec.Vec.{Vec}
 use Rattle.std.proofs.lemmas.Bool.{cases_lt, lt-ltb, le-ltb}
 use Rattle.std.proofs.lemmas.List.{take_more, take_all}
 use Rattle.std.proofs.lemmas.List.Elements.{Contains-append_left, Contains-append_right, Contains-append_cases}
+use Rattle.std.proofs.Math.Nat.{min-eq_left}
+use Rattle.std.proofs.lemmas.List.Sorted.{Contains-permutation, IsPermutation-sym}
+use Rattle.c_typed.specs.Nodes.{capped}
 use Rattle.c_typed.specs.Trees.{Program}
+use Rattle.c_typed.specs.Words.{start_size}
+use Rattle.c_typed.specs.declared.calls.FnId.{FnId}
 use Rattle.c_typed.specs.declared.calls.FnId.TheVariants as callee
 use Rattle.c_typed.specs.declared.calls.Helper.{Helper}
+use Rattle.c_typed.specs.declared.calls.Helper.TheVariants.{Mul2, Mul4, Divu2, Divs2, Remu2, Rems2, Divu4, Divs4, Remu4, Rems4, Shl2, Shru2, Shrs2, Shl4, Shru4, Shrs4}
 use Rattle.call_graph.specs.Copies.{name_at}
 use Rattle.call_graph.specs.declared.types.FnCopy.{FnCopy}
 use Rattle.code_place.specs.Answers.{TellsPages}
-use Rattle.code_place.specs.Pages.{addresses, AreWithinPages, PassesMemory}
+use Rattle.code_place.specs.Pages.{addresses, AreWithinPages, IsFirstOver, PassesMemory}
 use Rattle.code_place.specs.declared.PageError.{PageError}
 use Rattle.code_place.specs.declared.PageError.TheVariants as pages
 use Rattle.program_code.specs.Order.{rank}
 use Rattle.program_code.specs.Stated.{copy_words, sizes}
+use Rattle.ram_place.specs.Helpers.{words}
+use Rattle.ram_place.specs.Sizes.{block_words}
 use Rattle.picc_core.specs.Accepted.{IsOverPage, IsFirstOverPage, PassesPages}
-use Rattle.picc_core.specs.CodeAnswers.{TellsFirstOver, earlier, TellsCode, Explains}
+use Rattle.picc_core.specs.CodeAnswers.{TellsFirstOver, earlier, TellsCode, Explains, SomeIsOver, IsOfCopy}
 use Rattle.picc_core.specs.declared.refusal.CompileError.{CompileError}
 use Rattle.picc_core.specs.declared.stages.OverPage.{OverPage}
 
@@ -150,3 +158,69 @@ pub code_told : (p : Program) (copies lent order : List FnCopy) (blocks : List �
     → blocks ≡ sizes p order → answer ≡ Err error → TellsPages blocks answer → lent ≡ copies → Explains p lent error told → TellsCode p copies told
 code_told p copies lent order blocks answer error told same sorted is err tells given why =
     explained p copies order blocks error told same sorted is (subst (TellsPages blocks) err tells) (subst (λ (l : List FnCopy). Explains p l error told) given why)
+
+-- ---- some function's block is over a page
+helper_small : (h : Helper) → words h ≤ 2048
+helper_small Mul2 = omega arith
+helper_small Mul4 = omega arith
+helper_small Divu2 = omega arith
+helper_small Divs2 = omega arith
+helper_small Remu2 = omega arith
+helper_small Rems2 = omega arith
+helper_small Divu4 = omega arith
+helper_small Divs4 = omega arith
+helper_small Remu4 = omega arith
+helper_small Rems4 = omega arith
+helper_small Shl2 = omega arith
+helper_small Shru2 = omega arith
+helper_small Shrs2 = omega arith
+helper_small Shl4 = omega arith
+helper_small Shru4 = omega arith
+helper_small Shrs4 = omega arith
+
+capped_low : (n most : ℕ) → n ≤ 2048 → 2048 < most → min n most ≤ 2048
+capped_low n most le lt = let e = min-eq_left {n = n} {m = most} (omega (arith, le, lt)) in omega (arith, e, le)
+
+small_helper : (p : Program) (copy : FnCopy) (h : Helper) → copy.function ≡ callee.Helper h → copy_words p copy ≤ 2048
+unfolding copy_words
+small_helper p copy h is =
+    let same = ap (λ f. capped (block_words p f)) is in
+    let low = capped_low (words h) (2 ^ 64 - 1) (helper_small h) (omega arith) in
+    omega (arith, same, low)
+
+pub some_function : (p : Program) (copies : List FnCopy) → SomeIsOver p copies → TellsFirstOver p copies None → ⊥
+some_function p copies some none = by some.copy.function refl
+  where
+    by : (f : FnId) → some.copy.function ≡ f → ⊥
+    by (callee.User number) is = none number (copy_words p some.copy) (record { copy = some.copy; among = some.among; function = is; stated = refl; over = some.over })
+    by (callee.Helper h) is = let low = small_helper p some.copy h is in let high = some.over in omega (arith, low, high)
+
+-- the copy whose words a block has
+of_words : (p : Program) (copies order xs : List FnCopy) (k words : ℕ) → ((c : FnCopy) → Contains xs c → Contains order c) → IsPermutation copies order → slice_get (map (copy_words p) xs) k ≡ Some words → 2048 < words
+    → SomeIsOver p copies
+of_words p copies order [] k words within same is over = absurd (cc)
+of_words p copies order (x ∷ xs) zero words within same is over =
+    let e : copy_words p x ≡ words = one_number (copy_words p x) words is in
+    record { copy = x; among = Contains-permutation order copies x (IsPermutation-sym copies order same) (within x (0, omega arith, refl)); over = omega (arith, e, over) }
+  where
+    one_number : (m n : ℕ) → Some m ≡ Some n → m ≡ n
+    one_number m n e = cc
+of_words p copies order (x ∷ xs) (suc k) words within same is over = of_words p copies order xs k words (λ c there. within c (suc there.0, let l = there.1 in omega (arith, l), there.2)) same is over
+
+over_there : (p : Program) (copies order : List FnCopy) (block words : ℕ) → IsPermutation copies order → capped (start_size p) ≤ 2048 → IsFirstOver (sizes p order) block words → SomeIsOver p copies
+over_there p copies order zero words same low (is, over, first) = absurd (let e = one_number (capped (start_size p)) words is in omega (arith, e, low, over))
+  where
+    one_number : (m n : ℕ) → Some m ≡ Some n → m ≡ n
+    one_number m n e = cc
+over_there p copies order (suc k) words same low (is, over, first) = of_words p copies order order k words (λ c there. there) same is over
+
+of_copy : (p : Program) (copies order : List FnCopy) (blocks : List ℕ) (error : PageError) → IsPermutation copies order → blocks ≡ sizes p order → capped (start_size p) ≤ 2048 → TellsPages blocks (Err error) → IsOfCopy p copies error
+of_copy p copies order blocks pages.NoMemory same is low tells = tt
+of_copy p copies order blocks (pages.Page block words) same is low tells = over_there p copies order block words same low (subst (λ (l : List ℕ). IsFirstOver l block words) is tells)
+of_copy p copies order blocks (pages.Code words) same is low tells = tt
+
+-- the start block isn't over a page, so a block that is is that of a copy of this list that was lent
+pub over_in_copies : (p : Program) (copies lent order : List FnCopy) (blocks : List ℕ) (answer : Result (Vec ℕ Global) PageError) (error : PageError) → IsPermutation copies order → blocks ≡ sizes p order → capped (start_size p) ≤ 2048
+    → answer ≡ Err error → TellsPages blocks answer → lent ≡ copies → IsOfCopy p lent error
+over_in_copies p copies lent order blocks answer error same is low err tells given =
+    subst (λ (l : List FnCopy). IsOfCopy p l error) (sym given) (of_copy p copies order blocks error same is low (subst (TellsPages blocks) err tells))

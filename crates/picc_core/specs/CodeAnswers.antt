@@ -1,9 +1,12 @@
 -- What is said of a typed program whose blocks have no addresses.
-use Rattle.std.specs.Prelude.{ℕ, ◌≡◌, ◌≤◌, nat_lt, if◌then◌else◌, List, Option, Some, None}
+use Rattle.std.specs.Prelude.{ℕ, ◌≡◌, ◌<◌, ◌≤◌, nat_lt, if◌then◌else◌, List, Option, Some, None}
+use Rattle.std.specs.List.{Contains}
 use Rattle.c_typed.specs.Trees.{Program}
 use Rattle.call_graph.specs.declared.types.FnCopy.{FnCopy}
+use Rattle.code_place.specs.Pages.{page_words}
 use Rattle.code_place.specs.declared.PageError.{PageError}
 use Rattle.code_place.specs.declared.PageError.TheVariants as pages
+use Rattle.program_code.specs.Stated.{copy_words}
 use Rattle.picc_core.specs.Accepted.{IsOverPage, IsFirstOverPage, PassesPages}
 use Rattle.picc_core.specs.declared.refusal.CompileError.{CompileError}
 use Rattle.picc_core.specs.declared.refusal.CompileError.TheVariants.{NoMemory, Refused}
@@ -46,3 +49,15 @@ abbrev pub Explains : Program → List FnCopy → PageError → CompileError →
 Explains p copies pages.NoMemory told = told ≡ NoMemory
 Explains p copies (pages.Page block words) told = TellsCode p copies told
 Explains p copies (pages.Code words) told = told ≡ Refused (Code words)
+
+-- the block of some copy is over a page
+pub record SomeIsOver (p : Program) (copies : List FnCopy) : Type 0 where
+  pub copy : FnCopy
+  pub among : Contains copies copy
+  pub over : page_words < copy_words p copy
+
+-- Where the error of the placing names a block over a page, it is that of a copy.
+abbrev pub IsOfCopy : Program → List FnCopy → PageError → Type 0
+IsOfCopy p copies pages.NoMemory = Unit {0}
+IsOfCopy p copies (pages.Page block words) = SomeIsOver p copies
+IsOfCopy p copies (pages.Code words) = Unit {0}

@@ -6,7 +6,7 @@
 //! The promise: a refusal tells what it says of the text, and the first one of the text's tokens is told unless memory runs out. What is
 //! accepted has a tree, and the typed program of the answer is the one that the rules on names and types give to it. It breaks no rule on
 //! main and the handler, has no function that reaches itself, and fits the return stack; its objects, frames and blocks stand where they
-//! are to stand, and image and map are what the passes make of it.
+//! are to stand, and image and map are what the passes make of it, so that the headline holds of them. A text isn't both accepted and refused.
 #![tactic(auto)]
 
 mod agreeing;

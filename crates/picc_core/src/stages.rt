@@ -3,8 +3,10 @@
 ghost use Rattle.std.specs.Prelude.{◌≡◌, ◌<◌, ◌≤◌, ◌^◌, ◌+◌, ℕ, [], ◌∷◌, length, map, sum, None, Ok, Err, IfOk, IfErr, MatchResult};
 ghost use Rattle.c_tree.specs.ProgramViews.{unit_of};
 ghost use Rattle.c_typed.specs.Chains.{graph_of};
+ghost use Rattle.c_typed.specs.Nodes.{capped};
 ghost use Rattle.c_typed.specs.Roots.{broken_root};
 ghost use Rattle.c_typed.specs.Views.{program_of};
+ghost use Rattle.c_typed.specs.Words.{start_size};
 ghost use Rattle.call_graph.specs.Copies.{AreCopies, HasDepth, name_at};
 ghost use Rattle.call_graph.specs.Levels.{IsAcyclic};
 ghost use Rattle.pic_map.specs.MapView.{object_of, frame_of};
@@ -13,7 +15,7 @@ ghost use Rattle.picc_core.specs.Accepted.{AreAccepted};
 ghost use Rattle.picc_core.specs.Answers.{IsRefusedUnless, TellsError, TellsProgram};
 ghost use Rattle.picc_core.specs.Blocks.{HasBlocks};
 ghost use Rattle.picc_core.specs.CodeAnswers as stated;
-ghost use Rattle.picc_core.specs.CodeAnswers.{Explains, TellsCode, TellsFirstOver};
+ghost use Rattle.picc_core.specs.CodeAnswers.{Explains, IsOfCopy, SomeIsOver, TellsCode, TellsFirstOver};
 ghost use Rattle.picc_core.specs.Decided.{IsAcceptedText};
 ghost use Rattle.picc_core.specs.Texts.{tokens_left, program_tokens, HasTree};
 ghost use Rattle.picc_core.specs.Typed.{IsTreeOf, IsTypedAs};
@@ -201,14 +203,14 @@ fn name_of(alloc: Global, p: &Typed, number: u32) -> Result<Vec<u8>, AllocError>
     Ok(name)
 }
 
-/// The first block over a page in the order of the text. Some function's is, since the start block has four words for each byte of a
-/// static object, and few of these have addresses. That isn't proved: without one the answer is out of memory.
-#[tactic(auto, using(crate::proofs::OverPages::page_told))]
+/// The first block over a page in the order of the text. That of a helper never is, so it is a function's.
+#[tactic(auto, using(crate::proofs::OverPages::page_told, crate::proofs::OverPages::some_function))]
 fn refused_page(alloc: Global, p: &Typed, copies: &[FnCopy]) -> CompileError
+    requires { SomeIsOver (program_of p.now) copies.now }
     ensures { TellsCode (program_of p.now) copies.now result }
 {
     let Some(found) = first_over_page(p, copies) else {
-        return CompileError::NoMemory;
+        unreachable!()
     };
     match name_of(alloc, p, found.number) {
         Ok(function) => CompileError::Refused(Refusal::Page {
@@ -221,6 +223,7 @@ fn refused_page(alloc: Global, p: &Typed, copies: &[FnCopy]) -> CompileError
 
 /// Why the blocks have no addresses.
 fn refused_code(alloc: Global, p: &Typed, copies: &[FnCopy], error: PageError) -> CompileError
+    requires { IsOfCopy (program_of p.now) copies.now error }
     ensures { Explains (program_of p.now) copies.now error result }
 {
     match error {
@@ -237,8 +240,9 @@ struct Code {
     words: u32,
 }
 
-#[tactic(auto, using(crate::proofs::Sums::few, crate::proofs::Sums::blocks_had, crate::proofs::OverPages::code_told))]
+#[tactic(auto, using(crate::proofs::Sums::few, crate::proofs::Sums::blocks_had, crate::proofs::OverPages::code_told, crate::proofs::OverPages::over_in_copies))]
 fn code_of(alloc: Global, p: &Typed, copies: &Copies) -> Result<Code, CompileError>
+    requires { capped (start_size (program_of p.now)) ≤ 2048 }
     ensures blocks { IfOk result (λ code. HasBlocks (program_of p.now) copies.now.list.items code.at.items code.words) }
     ensures refused { IfErr result (TellsCode (program_of p.now) copies.now.list.items) }
 {

@@ -1,8 +1,4 @@
-use Rattle.std.proofs.Common.{map, sym, ap, subst, arith}
-use Rattle.c_typed.specs.Views.{program_of}
-use Rattle.pic_map.specs.MapView.{object_of, frame_of}
-use Rattle.picc_core.specs.Compiled.{IsCompiledTo, IsPlaced}
-use Rattle.picc_core.specs.Typed.{IsTypedAs}
+use Rattle.picc_core.specs.Compiled.{IsCompiledTo}
 use Rattle.picc_core.proofs.Handed.{compiled_to}
 use Rattle.picc_core.proofs.Translating.{on_checked, translated}
 use Rattle.picc_core.proofs.compiling.compiled.Goals as goal
