@@ -105,6 +105,7 @@ functions_spelled (Function s d b ∷ unit) known after fs is = first (function 
         let one = function_spelled s d b unit in
         omega (arith, low, same, one)
     behind f between (Err e) few all = absurd (cc)
+
     first : (r : Result (FunctionTree × Known) Fault)
         → ((between later : Known) (others : List FunctionTree) → functions_of unit between ≡ Ok (others, later) → length others ≤ length (spelled_unit unit))
         → go_on (λ f. functions_of unit >>= λ others. given (f ∷ others)) r ≡ Ok (fs, after) → length fs ≤ length (spelled_unit (Function s d b ∷ unit))

@@ -82,10 +82,10 @@ reach a s (suc n) (suc m) low inside =
     ⊎_elim
     (λ (l : a + suc m < suc n). let before = reach a s n (suc m) low (omega (arith, l)) in omega (arith, a_step, before))
     (λ (e : suc n ≤ a + suc m).
-        let before = reach a s n m (omega (arith, low)) (omega (arith, inside)) in
-        let here = ap (λ (b : Bool). if b then 1 else 0) (covered a s n (omega (arith, inside, e)) (omega (arith, inside, low, e))) in
-        let one : counted (covers a s) n ≡ 1 = here in
-        omega (arith, a_step, before, one))
+    let before = reach a s n m (omega (arith, low)) (omega (arith, inside)) in
+    let here = ap (λ (b : Bool). if b then 1 else 0) (covered a s n (omega (arith, inside, e)) (omega (arith, inside, low, e))) in
+    let one : counted (covers a s) n ≡ 1 = here in
+    omega (arith, a_step, before, one))
     (cases_lt (a + suc m) (suc n))
 
 -- and no more than it has

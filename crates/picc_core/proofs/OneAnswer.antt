@@ -50,8 +50,8 @@ one_recursive p name other here there =
     let one = here.first in
     let two = there.first in
     let same : here.number ≡ there.number =
-        ⊎_elim (λ l. absurd (two.none_before here.number l one.reaches_itself)) (λ m. ⊎_elim (λ l. absurd (one.none_before there.number l two.reaches_itself)) (λ k. omega (arith, m, k)) (cases_lt there.number here.number))
-        (cases_lt here.number there.number) in
+    ⊎_elim (λ l. absurd (two.none_before here.number l one.reaches_itself)) (λ m. ⊎_elim (λ l. absurd (one.none_before there.number l two.reaches_itself)) (λ k. omega (arith, m, k)) (cases_lt there.number here.number))
+    (cases_lt here.number there.number) in
     here.named ∙ ap (name_at p) same ∙ sym there.named
 
 longest_once : (graph : List (List ℕ)) (from m n : ℕ) → IsLongest graph from m → IsLongest graph from n → m ≡ n

@@ -125,6 +125,7 @@ module _ (p : Program) (copies : List FnCopy) where
   one_over name other words more here there =
       let low = here.first there.number more there.over in
       let high = there.first here.number words here.over in
-      let same : here.number ≡ there.number = omega (arith, low, high) in
-      (here.named ∙ ap (name_at p) same ∙ sym there.named,
-      here.over.stated ∙ words_by here.over.copy there.over.copy (here.over.function ∙ ap callees.User same ∙ sym there.over.function) ∙ sym there.over.stated)
+      let same : here.number ≡ there.number = omega (arith, low, high) in (
+        here.named ∙ ap (name_at p) same ∙ sym there.named,
+        here.over.stated ∙ words_by here.over.copy there.over.copy (here.over.function ∙ ap callees.User same ∙ sym there.over.function) ∙ sym there.over.stated,
+      )

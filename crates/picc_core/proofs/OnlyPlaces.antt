@@ -77,10 +77,10 @@ module _ {A L : Type 0} (things : List A) (Line : List L → A → L → Type 0)
   no_longer xs ys a each other next none =
       ⊎_elim
       (λ l. absurd (
-        let y = is_there ys (length xs) l in
-        let size = slice_get_within things (length xs) a next in
-        let front = same_front xs ys each other (length xs) (omega arith) (omega (arith, l)) (omega (arith, size)) in
-        none y.0 (subst (λ (o : List L). Line o a y.0) (sym front ∙ take_all (length xs) xs (omega arith)) (other (length xs) a y.0 next y.1))))
+      let y = is_there ys (length xs) l in
+      let size = slice_get_within things (length xs) a next in
+      let front = same_front xs ys each other (length xs) (omega arith) (omega (arith, l)) (omega (arith, size)) in
+      none y.0 (subst (λ (o : List L). Line o a y.0) (sym front ∙ take_all (length xs) xs (omega arith)) (other (length xs) a y.0 next y.1))))
       (λ m. m)
       (cases_lt (length xs) (length ys))
 
@@ -113,7 +113,7 @@ module _ (p : Program) where
       let wide : l.size ≡ type_bytes p.sizes s.ty.ty = ap (λ (line : ObjectLine). line.size) here.0 in
       let long : m.size ≡ type_bytes p.sizes s.ty.ty = ap (λ (line : ObjectLine). line.size) there.0 in
       let same = stands_once (IsTaken others) (type_bytes p.sizes s.ty.ty) l.address m.address (subst (λ (n : ℕ). Stands (IsTaken others) n l.address) wide here.1)
-          (subst (λ (n : ℕ). Stands (IsTaken others) n m.address) long there.1) in
+      (subst (λ (n : ℕ). Stands (IsTaken others) n m.address) long there.1) in
       here.0 ∙ ap (object_line p s) same ∙ sym there.0
 
   object_none : (others : List ObjectLine) (s : StaticTree) → HasNoPlace (IsTaken others) (type_bytes p.sizes s.ty.ty) → (l : ObjectLine) → IsObject p others s l → ⊥
@@ -131,8 +131,8 @@ module _ (p : Program) where
   object_named : (m n : List ℕ) → LacksObject p m → LacksObject p n → m ≡ n
   object_named m n here there =
       let same =
-          same_next p.statics (IsObject p) object_once here.objects there.objects here.object there.object here.objects_stand there.objects_stand here.is_next
-          (object_none here.objects here.object here.has_none) there.is_next (object_none there.objects there.object there.has_none) in
+      same_next p.statics (IsObject p) object_once here.objects there.objects here.object there.object here.objects_stand there.objects_stand here.is_next
+      (object_none here.objects here.object here.has_none) there.is_next (object_none there.objects there.object there.has_none) in
       here.named ∙ ap (λ (s : StaticTree). s.name) same ∙ sym there.named
 
 -- ---- frames
@@ -142,8 +142,8 @@ module _ (p : Program) (objects : List ObjectLine) (copies : List FnCopy) where
       let wide : l.size ≡ frame_bytes p c.function = ap (λ (line : FrameLine). line.size) here.0 in
       let long : m.size ≡ frame_bytes p c.function = ap (λ (line : FrameLine). line.size) there.0 in
       let same =
-          stands_once (IsTakenFor p objects copies others c) (frame_bytes p c.function) l.address m.address
-          (subst (λ (n : ℕ). Stands (IsTakenFor p objects copies others c) n l.address) wide here.1) (subst (λ (n : ℕ). Stands (IsTakenFor p objects copies others c) n m.address) long there.1) in
+      stands_once (IsTakenFor p objects copies others c) (frame_bytes p c.function) l.address m.address
+      (subst (λ (n : ℕ). Stands (IsTakenFor p objects copies others c) n l.address) wide here.1) (subst (λ (n : ℕ). Stands (IsTakenFor p objects copies others c) n m.address) long there.1) in
       here.0 ∙ ap (frame_line p c) same ∙ sym there.0
 
   frame_none : (others : List FrameLine) (c : FnCopy) → HasNoPlace (IsTakenFor p objects copies others c) (frame_bytes p c.function) → (l : FrameLine) → IsFrame p objects copies others c l → ⊥
@@ -158,8 +158,8 @@ module _ (p : Program) (objects : List ObjectLine) (copies : List FnCopy) where
   frame_named : (m n : List ℕ) → LacksFrameBehind p objects copies m → LacksFrameBehind p objects copies n → m ≡ n
   frame_named m n here there =
       let same =
-          same_next copies (IsFrame p objects copies) frame_once here.frames there.frames here.copy there.copy here.frames_stand there.frames_stand here.is_next
-          (frame_none here.frames here.copy here.has_none) there.is_next (frame_none there.frames there.copy there.has_none) in
+      same_next copies (IsFrame p objects copies) frame_once here.frames there.frames here.copy there.copy here.frames_stand there.frames_stand here.is_next
+      (frame_none here.frames here.copy here.has_none) there.is_next (frame_none there.frames there.copy there.has_none) in
       here.named ∙ ap (λ (c : FnCopy). name_of p c.function) same ∙ sym there.named
 
 -- ---- both
