@@ -29,6 +29,8 @@ mod passes;
 mod placing;
 mod words;
 
+ghost use Rattle.std.specs.Prelude.{◌<◌, length};
+
 use crate::instructions::put_symbolic;
 use crate::operations::put_core;
 use crate::passes::compiled;
@@ -40,7 +42,10 @@ use typed_text::listing::Listing;
 use typed_text::types::put_program;
 
 /// The text of all languages of a program.
-pub fn code_text(alloc: Global, front: &Front, built: &Built) -> Result<Vec<u8>, AllocError> {
+pub fn code_text(alloc: Global, front: &Front, built: &Built) -> Result<Vec<u8>, AllocError>
+    // Its copies are few, as those of a program that `front` answers.
+    requires { length front.now.copies.list.items < 8192 }
+{
     let codes = compiled(alloc, front)?;
     let mut out = Listing::new(alloc);
     put_program(&mut out, &front.typed)?;

@@ -1,5 +1,7 @@
 //! The code of a program in each language below C.
 
+ghost use Rattle.std.specs.Prelude.{◌<◌, length};
+
 use core_code::CoreProgram;
 use lower_stmt::lower;
 use picc_core::{Front, joined, symbolic};
@@ -15,7 +17,9 @@ pub struct Codes {
 }
 
 /// The code that a text is compiled to, of which this is known.
-pub fn compiled(alloc: Global, front: &Front) -> Result<Codes, AllocError> {
+pub fn compiled(alloc: Global, front: &Front) -> Result<Codes, AllocError>
+    requires { length front.now.copies.list.items < 8192 }
+{
     let core = lower(alloc, &front.typed, &front.copies)?;
     let plain = joined(alloc, &core, &front.copies, &front.placed)?;
     let selected = symbolic(alloc, &core, &front.copies, &front.placed)?;

@@ -17,7 +17,7 @@ mod thinning;
 mod walk;
 
 pub use laws::thinning_keeps;
-pub use thinning::thinned;
+pub use thinning::{thinned, thinned_plainly};
 
 #[cfg(test)]
 mod tests;

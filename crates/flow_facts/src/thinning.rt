@@ -151,3 +151,18 @@ pub fn thinned(
     let blocks = thin_blocks(alloc, &facts, &program.blocks)?;
     Ok(SymProgram { blocks })
 }
+
+/// The program without those selects to which nothing comes, where nothing is known at labels, at the fronts of blocks and behind calls.
+/// Main is copy 0, and the handler the copy with this number. The start block stays whole.
+pub fn thinned_plainly(
+    alloc: Global,
+    program: &SymProgram,
+    handler: Option<u16>,
+) -> Result<SymProgram, AllocError>
+    // By facts that are consistent, the selects that set what is known or to which nothing comes are left out, and nothing else is.
+    ensures { IfOk result (λ made. stated.IsThinned handler program.now.blocks.items made.blocks.items) }
+{
+    let facts = none_known(alloc, handler, &program.blocks);
+    let blocks = thin_blocks(alloc, &facts, &program.blocks)?;
+    Ok(SymProgram { blocks })
+}

@@ -25,19 +25,17 @@ pub none_put : (bs : List SymBlock) → views_of bs ≡ views_of bs ++ []
 none_put bs = sym (append-nil (views_of bs))
 
 -- what is put together is whole
-pub are_joined : (core : CoreProgram) (copies given listed : List FnCopy) (blocks selected made order : List SymBlock) (start : SymBlock) (handler found : Option ℕ)
-    → given ≡ copies → listed ≡ copies → blocks ≡ start ∷ order → IsPermutation made order → IsNonDecreasingBy (block_rank copies) order
-    → views_of selected ≡ blocks_from core.bodies.items copies 0 copies → views_of made ≡ views_of selected ++ helpers_from 0 listed
-    → start.name ≡ Start → start.list.items ≡ start_code handler core.statics.items → handler ≡ found → found ≡ handler_at given
-    → IsJoined core copies blocks
-are_joined core copies given listed blocks selected made order start handler found first second whole same sorted chosen helped named exact kept is = record {
+pub are_joined : (core : CoreProgram) (copies listed : List FnCopy) (blocks selected made order : List SymBlock) (start : SymBlock) (handler : Option ℕ) → listed ≡ copies → blocks ≡ start ∷ order → IsPermutation made order
+    → IsNonDecreasingBy (block_rank copies) order → views_of selected ≡ blocks_from core.bodies.items copies 0 copies → views_of made ≡ views_of selected ++ helpers_from 0 listed → start.name ≡ Start
+    → start.list.items ≡ start_code handler core.statics.items → handler ≡ handler_at copies → IsJoined core copies blocks
+are_joined core copies listed blocks selected made order start handler same_list whole same sorted chosen helped named exact is = record {
   start = start;
   made = made;
   order = order;
   whole = whole;
   same = same;
   sorted = sorted;
-  views = helped ∙ ap (λ (l : Views). l ++ helpers_from 0 listed) chosen ∙ ap (λ (xs : List FnCopy). blocks_from core.bodies.items copies 0 copies ++ helpers_from 0 xs) second;
+  views = helped ∙ ap (λ (l : Views). l ++ helpers_from 0 listed) chosen ∙ ap (λ (xs : List FnCopy). blocks_from core.bodies.items copies 0 copies ++ helpers_from 0 xs) same_list;
   name = named;
-  exact = exact ∙ ap (λ (h : Option ℕ). start_code h core.statics.items) (kept ∙ is ∙ ap handler_at first);
+  exact = exact ∙ ap (λ (h : Option ℕ). start_code h core.statics.items) is;
 }

@@ -7,3 +7,8 @@ pub mod Sums
 pub mod Handed
 pub mod BlockViews
 pub mod Translating
+pub mod OnlyCopies
+pub mod OnlyPlaces
+pub mod OnlyBlocks
+pub mod FewFunctions
+pub mod OneAnswer

@@ -120,7 +120,7 @@ no_clash text r is none = let both = sym is ∙ none.tokens in absurd (cc)
 same_error : (text : List ℕ) (r s : Refusal) → program_tokens text ≡ Err (Refused r) → program_tokens text ≡ Err (Refused s) → s ≡ r
 same_error text r s is other = let both = sym is ∙ other in cc
 
-told_first : (text : List ℕ) (r s : Refusal) → program_tokens text ≡ Err (Refused r) → Tells text s → s ≡ r
+pub told_first : (text : List ℕ) (r s : Refusal) → program_tokens text ≡ Err (Refused r) → Tells text s → s ≡ r
 told_first text r (Lex line) is tells = same_error text r (Lex line) is tells
 told_first text r (Word line) is tells = same_error text r (Word line) is tells
 told_first text r (Directive line) is tells = same_error text r (Directive line) is tells

@@ -29,6 +29,7 @@ use Rattle.picc_core.specs.Accepted.{FitsMemory, IsPlaceable, AreAccepted, IsRec
 use Rattle.picc_core.specs.Answers.{Tells, TellsError, TellsProgram, IsRefusedAs}
 use Rattle.picc_core.specs.Blocks.{HasBlocks}
 use Rattle.picc_core.specs.CodeAnswers.{TellsCode, IsOfCode}
+use Rattle.picc_core.specs.Decided.{IsAcceptedText}
 use Rattle.picc_core.specs.Errors.{of_check, of_graph, of_place}
 use Rattle.picc_core.specs.Texts.{HasTree}
 use Rattle.picc_core.specs.Typed.{IsTreeOf, IsTypedAs}
@@ -159,3 +160,9 @@ front_told text t (Err e) is refused same = program_told text (program_of t) e i
 pub has_tree : (text : List ℕ) (answer : Result Front CompileError) → MatchResult answer (λ front. IsTypedAs text (program_of front.typed)) (TellsError text) → IfOk answer (λ _. HasTree text)
 has_tree text (Ok front) is = typed_tree text (program_of front.typed) is
 has_tree text (Err e) is = tt
+
+-- a text whose typed program is accepted
+pub is_taken : (text : List ℕ) (answer : Result Front CompileError) → MatchResult answer (λ front. IsTypedAs text (program_of front.typed)) (TellsError text)
+    → IfOk answer (λ front. AreAccepted (program_of front.typed) front.copies.list.items) → IfOk answer (λ _. IsAcceptedText text)
+is_taken text (Ok front) is taken = record { program = program_of front.typed; typed = is; copies = front.copies.list.items; accepted = taken }
+is_taken text (Err e) is taken = tt

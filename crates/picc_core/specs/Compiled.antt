@@ -1,10 +1,23 @@
--- What is known of the map of a compiled program.
-use Rattle.std.specs.Prelude.{ℕ, ◌≤◌, List}
+-- What is known of the map of a compiled program, and of all that a text is compiled to.
+use Rattle.std.specs.Prelude.{ℕ, ◌≡◌, ◌≤◌, List, length, map, None}
+use Rattle.c_typed.specs.Chains.{graph_of}
+use Rattle.c_typed.specs.Roots.{broken_root}
 use Rattle.c_typed.specs.Trees.{Program}
+use Rattle.c_typed.specs.Views.{program_of}
 use Rattle.call_graph.specs.Copies.{AreCopies, HasDepth}
+use Rattle.call_graph.specs.Levels.{IsAcyclic}
 use Rattle.call_graph.specs.declared.types.FnCopy.{FnCopy}
+use Rattle.headline.specs.SourceOf.{IsFaithfulTo}
 use Rattle.pic_map.specs.MapContent.{ObjectLine, FrameLine}
+use Rattle.pic_map.specs.MapText.{AreInRange}
+use Rattle.pic_map.specs.MapView.{content_of, object_of, frame_of}
+use Rattle.program_code.specs.Translated.{IsTranslated}
 use Rattle.ram_place.specs.Placement as placement
+use Rattle.picc_core.specs.Blocks.{HasWords}
+use Rattle.picc_core.specs.Decided.{IsAcceptedText}
+use Rattle.picc_core.specs.Texts.{HasTree}
+use Rattle.picc_core.specs.Typed.{IsTypedAs}
+use Rattle.picc_core.specs.declared.known.Built.{Built}
 
 -- The lines of the map are those of the program's objects and of the frames of its copies, where they are to stand. Frames that
 -- may be live together are disjoint, and no frame overlaps an object, nor does another object.
@@ -20,3 +33,25 @@ pub record IsPlaced (p : Program) (objects : List ObjectLine) (frames : List Fra
 pub record IsWithinDepth (p : Program) (depth : ℕ) : Type 0 where
   pub exact : HasDepth p depth
   pub within : depth ≤ 8
+
+-- The text is compiled to this, whichever selects are left out.
+pub record IsCompiledTo (text : List ℕ) (built : Built) : Type 0 where
+  -- it has a tree, and this is the typed program that the rules on names and types give to it
+  pub tree : HasTree text
+  pub typed : IsTypedAs text (program_of built.typed)
+  -- which all rules behind these accept: those on main and the handler, on recursion, and on the return stack, and others
+  pub taken : IsAcceptedText text
+  pub roots : broken_root (program_of built.typed) ≡ None
+  pub recursion : IsAcyclic (graph_of (program_of built.typed))
+  pub depth : IsWithinDepth (program_of built.typed) built.depth
+  -- the map's lines are those of its objects and of the frames of its copies, where they are to stand, and a map file can tell them
+  pub lines : IsPlaced (program_of built.typed) (map object_of built.map.objects.items) (map frame_of built.map.frames.items)
+  pub written : AreInRange (content_of built.map)
+  -- the sum of the stated words of all blocks, how many objects there are, and how many addresses are covered
+  pub words : HasWords (program_of built.typed) built.words
+  pub few : length built.map.objects.items ≤ 65536
+  pub ram : built.ram ≡ placement.addresses_covered (map object_of built.map.objects.items) (map frame_of built.map.frames.items)
+  -- image and map are what the passes make of the program,
+  pub translated : IsTranslated (program_of built.typed) built.image (content_of built.map)
+  -- so what the image does on the chip, seen by the map, is what the program says
+  pub faithful : IsFaithfulTo (program_of built.typed) (content_of built.map) built.image

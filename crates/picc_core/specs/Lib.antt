@@ -8,3 +8,4 @@ pub mod Agreement
 pub mod Accepted
 pub mod CodeAnswers
 pub mod Coded
+pub mod Decided

@@ -7,6 +7,7 @@ ghost use Rattle.c_typed.specs.Roots.{broken_root};
 ghost use Rattle.c_typed.specs.Sound.{is_sound};
 ghost use Rattle.c_typed.specs.Views.{program_of};
 ghost use Rattle.call_graph.specs.Levels.{IsAcyclic};
+ghost use Rattle.headline.specs.SourceOf.{IsFaithfulTo};
 ghost use Rattle.pic_map.specs.MapText.{AreInRange};
 ghost use Rattle.pic_map.specs.MapView.{content_of, object_of, frame_of};
 ghost use Rattle.program_code.specs.Translated.{AreOthers, IsTranslated};
@@ -15,7 +16,8 @@ ghost use Rattle.src_rules.specs.Numbers.{ProgramHasNumbers};
 ghost use Rattle.picc_core.specs.Answers.{IsRefusedUnless, TellsError};
 ghost use Rattle.picc_core.specs.Blocks.{HasWords};
 ghost use Rattle.picc_core.specs.Coded.{IsCoded};
-ghost use Rattle.picc_core.specs.Compiled.{IsPlaced, IsWithinDepth};
+ghost use Rattle.picc_core.specs.Compiled.{IsCompiledTo, IsPlaced, IsWithinDepth};
+ghost use Rattle.picc_core.specs.Decided.{IsAcceptedText};
 ghost use Rattle.picc_core.specs.Texts.{program_tokens, HasTree};
 ghost use Rattle.picc_core.specs.Typed.{IsTypedAs};
 ghost use Rattle.picc_core.specs.declared.refusal.CompileError.TheVariants.{NoMemory, Refused};
@@ -23,7 +25,7 @@ ghost use Rattle.picc_core.specs.declared.refusal.LimitKind.TheVariants as kinds
 ghost use Rattle.picc_core.specs.declared.refusal.Refusal.{Refusal};
 ghost use Rattle.picc_core.specs.declared.refusal.Refusal.TheVariants as refusals;
 
-use crate::joining::symbolic;
+use crate::joining::{Selects, symbolic_by};
 use crate::known::{Built, Front};
 use crate::map_range::{can_be_written, have_own_names};
 use crate::refusal::CompileError;
@@ -43,17 +45,20 @@ fn coded(
     copies: &Copies,
     placed: &Placed,
     at: &[u16],
+    selects: Selects,
 ) -> Result<Assembled, AllocError>
+    requires { length copies.now.list.items ≤ 65536 }
     ensures { IfOk result (λ made. IsCoded (program_of typed.now) copies.now.list.items placed.now at.now made.image made.main made.halt) }
 {
     let core = lower(alloc, typed, copies)?;
-    let program = symbolic(alloc, &core, copies, placed)?;
+    let program = symbolic_by(alloc, &core, copies, placed, selects)?;
     let made = assemble(alloc, &program, at, placed)?;
     Ok(made)
 }
 
 /// The image and the map of what is known of a text.
-fn built(alloc: Global, front: Front) -> Result<Built, AllocError>
+fn built(alloc: Global, front: Front, selects: Selects) -> Result<Built, AllocError>
+    requires { length front.copies.list.items < 8192 }
     ensures typed { IfOk result (λ built. built.typed ≡ front.typed) }
     ensures objects { IfOk result (λ built. built.map.objects ≡ front.placed.objects) }
     ensures frames { IfOk result (λ built. built.map.frames ≡ front.placed.frames) }
@@ -67,7 +72,7 @@ fn built(alloc: Global, front: Front) -> Result<Built, AllocError>
         at,
         words,
     } = front;
-    let assembled = coded(alloc, &typed, &copies, &placed, &at)?;
+    let assembled = coded(alloc, &typed, &copies, &placed, &at, selects)?;
     let ram = placed.ram;
     Ok(Built {
         typed,
@@ -108,6 +113,18 @@ fn see_typed(typed: &Typed)
     see_numbers(typed);
 }
 
+/// What a text is compiled to with these selects, or the first refusal that holds of it.
+fn compiled(alloc: Global, text: &[u8], selects: Selects) -> Result<Built, CompileError>
+    ensures text_limit { 262144 < length text.now → result ≡ Err (Refused (refusals.Limit kinds.Text 0)) }
+    ensures refused { IfErr result (TellsError text.now) }
+    ensures tokens { (r : Refusal) → program_tokens text.now ≡ Err (Refused r) → IsRefusedUnless result r }
+    ensures whole { IfOk result (IsCompiledTo text.now) }
+{
+    let front = front(alloc, text)?;
+    see_typed(&front.typed);
+    checked(built(alloc, front, selects)?)
+}
+
 /// What a text is compiled to, or the first refusal that holds of it, as `front` reports it.
 pub fn compile(alloc: Global, text: &[u8]) -> Result<Built, CompileError>
     // A text over 262,144 bytes is refused so.
@@ -116,6 +133,8 @@ pub fn compile(alloc: Global, text: &[u8]) -> Result<Built, CompileError>
     ensures tree { IfOk result (λ _. HasTree text.now) }
     // and this is the typed program that the rules on names and types give to it.
     ensures typed { IfOk result (λ built. IsTypedAs text.now (program_of built.typed)) }
+    // So the text is an accepted one.
+    ensures taken { IfOk result (λ _. IsAcceptedText text.now) }
     // A refusal tells what it says of the text.
     ensures refused { IfErr result (TellsError text.now) }
     // The first refusal of the text's tokens is told, unless memory runs out.
@@ -136,10 +155,27 @@ pub fn compile(alloc: Global, text: &[u8]) -> Result<Built, CompileError>
     ensures few { IfOk result (λ built. length built.map.objects.items ≤ 65536) }
     // The image and the map are what the passes make of the program: each promises its part.
     ensures translated { IfOk result (λ built. IsTranslated (program_of built.typed) built.image (content_of built.map)) }
+    // So what the image does on the chip, seen by the map, is what the program says.
+    ensures faithful { IfOk result (λ built. IsFaithfulTo (program_of built.typed) (content_of built.map) built.image) }
     // Each address that is covered is counted once.
     ensures ram { IfOk result (λ built. built.ram ≡ addresses_covered (map object_of built.map.objects.items) (map frame_of built.map.frames.items)) }
+    // All this together.
+    ensures whole { IfOk result (IsCompiledTo text.now) }
 {
-    let front = front(alloc, text)?;
-    see_typed(&front.typed);
-    checked(built(alloc, front)?)
+    compiled(alloc, text, Selects::Lean)
+}
+
+/// The same where no flow facts are sought: each block has the selects that it needs by what its straight code tells. So its words are
+/// no fewer, and `compile` is measured by it.
+pub fn compile_plain(alloc: Global, text: &[u8]) -> Result<Built, CompileError>
+    // A text over 262,144 bytes is refused so.
+    ensures text_limit { 262144 < length text.now → result ≡ Err (Refused (refusals.Limit kinds.Text 0)) }
+    // A refusal tells what it says of the text.
+    ensures refused { IfErr result (TellsError text.now) }
+    // The first refusal of the text's tokens is told, unless memory runs out.
+    ensures tokens { (r : Refusal) → program_tokens text.now ≡ Err (Refused r) → IsRefusedUnless result r }
+    // All that is known of what `compile` makes.
+    ensures whole { IfOk result (IsCompiledTo text.now) }
+{
+    compiled(alloc, text, Selects::Plain)
 }

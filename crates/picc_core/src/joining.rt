@@ -1,7 +1,9 @@
 //! The blocks of a program, joined to its symbolic code.
 
-ghost use Rattle.std.specs.Prelude.{◌≡◌, ◌++◌, IfOk, OnOk};
+ghost use Rattle.std.specs.Prelude.{◌≡◌, ◌<◌, ◌≤◌, ◌++◌, length, IfOk, OnOk};
 ghost use Rattle.std.specs.List.Sorted.{IsNonDecreasingBy, IsPermutation};
+ghost use Rattle.call_graph.specs.Numbers.{handler_at};
+ghost use Rattle.flow_facts.specs.Thin.{IsThinned};
 ghost use Rattle.select_wide.specs.Blocks.{views_of};
 ghost use Rattle.picc_core.specs.Coded.{IsSymbolic};
 ghost use Rattle.program_code.specs.Joined.{helper_at, helpers_from, IsJoined};
@@ -11,7 +13,7 @@ use crate::code_order::name_rank;
 use bank_page::selects;
 use call_graph::{Copies, FnCopy, FnId};
 use core_code::CoreProgram;
-use flow_facts::thinned;
+use flow_facts::{thinned, thinned_plainly};
 use isr_save::start_block;
 use math_helpers::helper;
 use pic_map::Placed;
@@ -19,14 +21,15 @@ use select_wide::{handler_at, select};
 use std::alloc::{AllocError, Global};
 use sym_code::{SymBlock, SymProgram};
 
-// The number of a copy as blocks have it. No program that is placed has so many copies that it doesn't fit.
-fn numbered(number: Option<usize>) -> Result<Option<u16>, AllocError>
-    ensures { IfOk result (λ kept. kept ≡ number) }
+// The number of the handler's copy as blocks have it.
+#[tactic(auto, using(crate::proofs::Handed::small_number))]
+fn handler_of(copies: &Copies) -> Option<u16>
+    requires { length copies.now.list.items ≤ 65536 }
+    ensures { result ≡ handler_at copies.now.list.items }
 {
-    match number {
-        Some(number) if number <= 0xFFFF => Ok(Some(number as u16)),
-        Some(_) => Err(AllocError),
-        None => Ok(None),
+    match handler_at(&copies.list) {
+        Some(number) => Some(number as u16),
+        None => None,
     }
 }
 
@@ -38,11 +41,9 @@ fn put_helper(
     number: usize,
     blocks: &mut Vec<SymBlock>,
 ) -> Result<(), AllocError>
+    requires { number < 65536 }
     ensures { OnOk result (views_of blocks.new.items ≡ views_of blocks.old.items ++ helper_at number copy) }
 {
-    if number > 0xFFFF {
-        return Err(AllocError);
-    }
     if let FnId::Helper(routine) = copy.function {
         blocks.push(helper(alloc, routine, copy.root, number as u16)?)?;
     }
@@ -51,6 +52,7 @@ fn put_helper(
 
 // The blocks of the helpers behind some others, in the order of their copies.
 fn put_helpers(alloc: Global, list: &[FnCopy], blocks: &mut Vec<SymBlock>) -> Result<(), AllocError>
+    requires { length list.now ≤ 65536 }
     ensures { OnOk result (views_of blocks.new.items ≡ views_of blocks.old.items ++ helpers_from 0 list.now) }
 {
     for (number, copy) in list.iter().enumerate() {
@@ -75,16 +77,59 @@ pub fn joined(
     copies: &Copies,
     placed: &Placed,
 ) -> Result<SymProgram, AllocError>
+    requires { length copies.now.list.items ≤ 65536 }
     // Each copy has its block, a function the one that is selected for its body and a helper its routine, none is lost, and they stand in
     // the order of code.
     ensures whole { IfOk result (λ program. IsJoined core.now copies.now.list.items program.blocks.items) }
 {
-    let handler = numbered(handler_at(&copies.list))?;
+    let handler = handler_of(copies);
     let mut blocks = select(alloc, core, copies)?.blocks;
     put_helpers(alloc, &copies.list, &mut blocks)?;
     let mut order = in_code_order(blocks, copies)?;
     order.insert(0, start_block(alloc, placed, core, handler)?)?;
     Ok(SymProgram { blocks: order })
+}
+
+/// What is known where selects are left out that set what is so already.
+#[derive(Clone, Copy)]
+pub(crate) enum Selects {
+    /// What flow facts tell, over jumps, loops and calls.
+    Lean,
+    /// What straight code tells alone.
+    Plain,
+}
+
+// The program without the selects that are needless by what is known. Some are so either way, where nothing comes.
+fn thinner(
+    alloc: Global,
+    program: &SymProgram,
+    handler: Option<u16>,
+    selects: Selects,
+) -> Result<SymProgram, AllocError>
+    ensures { IfOk result (λ made. IsThinned handler program.now.blocks.items made.blocks.items) }
+{
+    match selects {
+        Selects::Lean => thinned(alloc, program, handler),
+        Selects::Plain => thinned_plainly(alloc, program, handler),
+    }
+}
+
+/// The same with its selects, but for those that are needless by what is known.
+pub(crate) fn symbolic_by(
+    alloc: Global,
+    core: &CoreProgram,
+    copies: &Copies,
+    placed: &Placed,
+    known: Selects,
+) -> Result<SymProgram, AllocError>
+    requires { length copies.now.list.items ≤ 65536 }
+    ensures { IfOk result (λ made. IsSymbolic core.now copies.now.list.items placed.now made.blocks.items) }
+{
+    let program = joined(alloc, core, copies, placed)?;
+    let whole = selects(alloc, &program, placed)?;
+    let handler = handler_of(copies);
+    let made = thinner(alloc, &whole, handler, known)?;
+    Ok(made)
 }
 
 /// The same with its selects, but for those that set what is so already by the facts that were found.
@@ -94,12 +139,9 @@ pub fn symbolic(
     copies: &Copies,
     placed: &Placed,
 ) -> Result<SymProgram, AllocError>
+    requires { length copies.now.list.items ≤ 65536 }
     // The selects are those of `selects`, each for a need, but for those that flow facts which are consistent make needless.
     ensures { IfOk result (λ made. IsSymbolic core.now copies.now.list.items placed.now made.blocks.items) }
 {
-    let program = joined(alloc, core, copies, placed)?;
-    let whole = selects(alloc, &program, placed)?;
-    let handler = numbered(handler_at(&copies.list))?;
-    let made = thinned(alloc, &whole, handler)?;
-    Ok(made)
+    symbolic_by(alloc, core, copies, placed, Selects::Lean)
 }

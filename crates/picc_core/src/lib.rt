@@ -12,6 +12,7 @@
 mod agreeing;
 mod code_order;
 mod compiling;
+mod deciding;
 mod joining;
 mod known;
 mod map_range;
@@ -22,7 +23,8 @@ mod typing;
 
 pub use agreeing::{Agreed, agree};
 pub use c_check::{Kind, RootKind};
-pub use compiling::compile;
+pub use compiling::{compile, compile_plain};
+pub use deciding::accepted_or_refused;
 pub use joining::{joined, symbolic};
 pub use known::{Built, Front};
 pub use refusal::{CompileError, LimitKind, Refusal};

@@ -14,6 +14,7 @@ ghost use Rattle.picc_core.specs.Answers.{IsRefusedUnless, TellsError, TellsProg
 ghost use Rattle.picc_core.specs.Blocks.{HasBlocks};
 ghost use Rattle.picc_core.specs.CodeAnswers as stated;
 ghost use Rattle.picc_core.specs.CodeAnswers.{Explains, TellsCode, TellsFirstOver};
+ghost use Rattle.picc_core.specs.Decided.{IsAcceptedText};
 ghost use Rattle.picc_core.specs.Texts.{tokens_left, program_tokens, HasTree};
 ghost use Rattle.picc_core.specs.Typed.{IsTreeOf, IsTypedAs};
 ghost use Rattle.picc_core.specs.declared.refusal.CompileError.TheVariants.{NoMemory, Refused};
@@ -314,7 +315,7 @@ fn known(alloc: Global, text: &[u8]) -> Result<Front, CompileError>
 /// What is known of a text, or the first refusal that holds of it. The order is: the limit on the text; tokens and the
 /// limit on names, whichever stands first; excluded words; directives; the limit on tokens; nesting and runs, whichever
 /// stands first; trees; types; roots; recursion; depth; data memory; a block over a page; all blocks.
-#[tactic(auto, using(crate::proofs::Telling::tokens_first, crate::proofs::Told::has_tree))]
+#[tactic(auto, using(crate::proofs::Telling::tokens_first, crate::proofs::Told::has_tree, crate::proofs::Told::is_taken, crate::proofs::Handed::few_copies))]
 pub fn front(alloc: Global, text: &[u8]) -> Result<Front, CompileError>
     // A text over 262,144 bytes is refused so.
     ensures text_limit { 262144 < length text.now → result ≡ Err (Refused (refusals.Limit kinds.Text 0)) }
@@ -326,7 +327,9 @@ pub fn front(alloc: Global, text: &[u8]) -> Result<Front, CompileError>
     ensures refused { IfErr result (TellsError text.now) }
     // The first refusal of the text's tokens is told, unless memory runs out.
     ensures tokens { (r : Refusal) → program_tokens text.now ≡ Err (Refused r) → IsRefusedUnless result r }
-    // That program is accepted by all rules behind those on types.
+    // So the text is an accepted one,
+    ensures taken { IfOk result (λ _. IsAcceptedText text.now) }
+    // by all rules behind those on types with these copies.
     ensures accepted { IfOk result (λ front. AreAccepted (program_of front.typed) front.copies.list.items) }
     // It breaks no rule on main and the interrupt handler.
     ensures roots { IfOk result (λ front. broken_root (program_of front.typed) ≡ None) }
@@ -336,6 +339,8 @@ pub fn front(alloc: Global, text: &[u8]) -> Result<Front, CompileError>
     ensures depth { IfOk result (λ front. HasDepth (program_of front.typed) front.copies.depth × (front.copies.depth ≤ 8)) }
     // These are the copies of its functions.
     ensures list { IfOk result (λ front. AreCopies (program_of front.typed) front.copies.list.items) }
+    // They are few.
+    ensures few { IfOk result (λ front. length front.copies.list.items < 8192) }
     // Its objects and frames stand where they are to stand.
     ensures exact { IfOk result (λ front. placement.IsPlacing (program_of front.typed) front.copies.list.items (map object_of front.placed.objects.items) (map frame_of front.placed.frames.items)) }
     // Frames that may be live together are disjoint,

@@ -6,7 +6,7 @@
 //! printed; 9 without memory.
 #![tactic(auto)]
 
-ghost use Rattle.std.specs.Prelude.{◌≡◌};
+ghost use Rattle.std.specs.Prelude.{◌≡◌, ◌<◌, length, IfOk};
 ghost use Rattle.host_io.specs.Host.{Closed};
 
 use code_text::code_text;
@@ -42,7 +42,9 @@ fn print<H: Host>(host: &mut H, bytes: &[u8], status: u8) -> u8 {
 }
 
 /// What is known of a text, and what it is compiled to.
-fn known(alloc: Global, text: &[u8]) -> Result<(Front, Built), CompileError> {
+fn known(alloc: Global, text: &[u8]) -> Result<(Front, Built), CompileError>
+    ensures { IfOk result (λ known. length known.0.copies.list.items < 8192) }
+{
     let front = front(alloc, text)?;
     let built = compile(alloc, text)?;
     Ok((front, built))

@@ -29,7 +29,7 @@ enum Ending {
 const MOST_STEPS: u32 = 100_000;
 
 /// How many words of the image aren't as they are after erasing. No instruction that is made has that word.
-fn real_words(image: &Image) -> u32 {
+pub fn real_words(image: &Image) -> u32 {
     let mut count: u32 = 0;
     for at in 0..8192 {
         if image.word(at) != 0x3fff {

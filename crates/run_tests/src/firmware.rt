@@ -5,7 +5,7 @@ use pic_world::{Arrival, Flag, Script};
 use std::alloc::{AllocError, Global};
 use std::test::Fail;
 
-const PUMP: &str = "/*
+pub const PUMP: &str = "/*
  * Pump control for a drainage sump.
  *
  * Two floats hang in the sump: FULL closes when the water is high, WET as long as the pump's inlet is
@@ -78,7 +78,7 @@ void main(void)
 }
 ";
 
-const METER: &str = "/*
+pub const METER: &str = "/*
  * Pulse counter of a water meter.
  *
  * The meter's reed contact pulls RB0/INT low once for each litre. The handler counts the pulses in an
@@ -139,7 +139,7 @@ void main(void)
 }
 ";
 
-const LOCK: &str = "/*
+pub const LOCK: &str = "/*
  * Door lock with a code.
  *
  * A keypad encoder (MM74C922) puts the number of the pressed key on RD0 to RD3 and raises RD4 as long

@@ -19,4 +19,6 @@ mod operators;
 #[cfg(test)]
 mod places;
 #[cfg(test)]
+mod selects;
+#[cfg(test)]
 mod statements;

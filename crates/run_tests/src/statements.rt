@@ -4,7 +4,7 @@ use crate::comparing::{Case, case_agrees};
 use std::alloc::Global;
 use std::test::Fail;
 
-const TEXTS: [&str; 34] = [
+pub const TEXTS: [&str; 34] = [
     "void main(void){}",
     "void main(void){PORTB=5;}",
     "void main(void){unsigned char a=200;unsigned char b=100;PORTB=(a+b)>>1;}",

@@ -1,0 +1,38 @@
+//! Selects by flow facts take fewer words than selects by straight code alone.
+
+use crate::comparing::real_words;
+use crate::firmware::{LOCK, METER, PUMP};
+use crate::interrupts::{KEY, TWO_COPIES};
+use crate::statements::TEXTS;
+use picc_core::{compile, compile_plain};
+use std::alloc::Global;
+use std::test::Fail;
+
+// The words of a text's image by flow facts, and by straight code.
+fn words_of(alloc: Global, text: &str) -> Result<(u32, u32), Fail> {
+    let Ok(lean) = compile(alloc, text.as_bytes()) else {
+        return Err(Fail::new("not built"));
+    };
+    let Ok(plain) = compile_plain(alloc, text.as_bytes()) else {
+        return Err(Fail::new("not built plainly"));
+    };
+    Ok((real_words(&lean.image), real_words(&plain.image)))
+}
+
+#[test]
+fn firmware_has_fewer_words(rt: HostRuntime) -> Result<(), Fail> {
+    for text in [KEY, PUMP, METER, LOCK, TWO_COPIES] {
+        let (lean, plain) = words_of(rt.alloc(), text)?;
+        assert!(rt; lean < plain, "{lean} and {plain}");
+    }
+    Ok(())
+}
+
+#[test]
+fn no_text_has_more_words(rt: HostRuntime) -> Result<(), Fail> {
+    for text in &TEXTS {
+        let (lean, plain) = words_of(rt.alloc(), text)?;
+        assert!(rt; lean <= plain, "{text}");
+    }
+    Ok(())
+}
