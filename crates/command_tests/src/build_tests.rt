@@ -42,7 +42,8 @@ fn programs_are_built(rt: HostRuntime) -> Result<(), Failure> {
 #[test]
 fn a_map_has_its_lines(rt: HostRuntime) -> Result<(), Failure> {
     let alloc = rt.alloc();
-    let map = files_of(&rt, alloc, LED)?.map;
+    let whole = files_of(&rt, alloc, LED)?;
+    let map = whole.map.as_slice();
     assert!(rt; map.starts_with(b"picc map 1\nmain ".as_slice()));
     assert!(rt; map.ends_with(b"\nframe main main 0020 3\nend\n".as_slice()));
     assert_eq!(rt; map.iter().filter(|c| **c == b'\n').count(), 5);

@@ -7,7 +7,7 @@ use Rattle.picc_cli.proofs.tracing.traced.Goals as goal
 pub returns-in-Ok-front-clause-knows : goal.returns-in-Ok-front-clause-knows
 returns-in-Ok-front-clause-knows g c =
     run_known (asked_of c.args.asked) _ _ _ c.run.result _ _ c.in-Ok.ensures.bytes c.in-Ok.ensures.same_contents c.in-Ok-script_in.ensures.found
-    c.deref.ensures.value c.in-Ok-front.ensures.accepted c.run.ensures.end
+    c.deref.ensures.value c.in-Ok-front.ensures.taken c.run.ensures.end
 
 pub returns-clause-knows : goal.returns-clause-knows
 returns-clause-knows g c =
