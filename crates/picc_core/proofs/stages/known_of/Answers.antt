@@ -2,8 +2,15 @@ use Rattle.std.proofs.Common.{map}
 use Rattle.std.proofs.lemmas.Result.{err_from_is_err_and}
 use Rattle.c_typed.specs.Views.{program_of}
 use Rattle.pic_map.specs.MapView.{object_of, frame_of}
+use Rattle.picc_core.proofs.ObjectBytes.{start_within}
 use Rattle.picc_core.proofs.Told.{code_refused, accepted}
 use Rattle.picc_core.proofs.stages.known_of.Goals as goal
+
+pub code_of-requires : goal.code_of-requires
+code_of-requires c =
+    let placed = c.in_ok-placed.placed in
+    let exact = c.in_ok-placed.ensures.exact in
+    start_within (program_of c.args.typed) (map object_of placed.objects.items) exact.objects_stand exact.each_object c.in_ok-placed.ensures.objects
 
 pub returns-in_err-at-clause-refused : goal.returns-in_err-at-clause-refused
 returns-in_err-at-clause-refused c =
