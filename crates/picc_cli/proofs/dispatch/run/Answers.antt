@@ -1,12 +1,7 @@
-use Rattle.std.proofs.Common.{◌≡◌, Some, option_map, sym, ap, ◌∙◌}
-use Rattle.picc_cli.specs.Command.{Trace}
-use Rattle.picc_cli.specs.CommandView.{asked_of, form_view}
-use Rattle.picc_cli.proofs.Forms.{complete_by}
 use Rattle.picc_cli.proofs.dispatch.run.Goals as goal
 
-pub returns-in-Some-Trace-clause-complete : goal.returns-in-Some-Trace-clause-complete
-returns-in-Some-Trace-clause-complete g c =
-    let field = rw c.in-Some-Trace.is at c.in-Some-Trace.field-0-is in
-    let is : option_map form_view c.args.command ≡ Some (Trace (asked_of c.in-Some-Trace.asked)) = ap (option_map form_view) c.in-Some-Trace.is ∙ ap (λ x. Some (form_view x)) field in
-    complete_by (option_map form_view c.args.command) (Some (Trace (asked_of c.in-Some-Trace.asked))) (sym is) (g.H.Host.kind c.args.host.now) (g.H.Host.faults c.args.host.now)
-    (g.H.Host.faults c.trace.new.host) (g.H.Host.contents c.args.host.now) c.trace.result c.trace.ensures.complete
+pub returns-in-Some-Build-clause-complete : goal.returns-in-Some-Build-clause-complete
+returns-in-Some-Build-clause-complete g c = rw (c.in-Some-Build.is, c.in-Some-Build.field-0-is, c.in-Some-Build.files-is) c.build_files.ensures.complete
+
+pub returns-in-Some-Agree-clause-complete : goal.returns-in-Some-Agree-clause-complete
+returns-in-Some-Agree-clause-complete g c = rw (c.in-Some-Agree.is, c.in-Some-Agree.field-0-is, c.in-Some-Agree.asked-is) c.compare.ensures.complete
