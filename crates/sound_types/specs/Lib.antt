@@ -1,0 +1,10 @@
+pub mod Tables
+pub mod Terms
+pub mod Going
+pub mod Meets
+pub mod Spreading
+pub mod Chains
+pub mod Living
+pub mod Objects
+pub mod Files
+pub mod Laws
