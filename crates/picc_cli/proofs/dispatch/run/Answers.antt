@@ -1,7 +1,16 @@
 use Rattle.picc_cli.proofs.dispatch.run.Goals as goal
 
 pub returns-in-Some-Build-clause-complete : goal.returns-in-Some-Build-clause-complete
-returns-in-Some-Build-clause-complete g c = rw (c.in-Some-Build.is, c.in-Some-Build.field-0-is, c.in-Some-Build.files-is) c.build_files.ensures.complete
+returns-in-Some-Build-clause-complete g c =
+    let command = rw c.in-Some-Build.is at c.in-Some-Build.field-0-is in
+    rw (c.in-Some-Build.is, command) c.build_files.ensures.complete
+
+pub returns-in-Some-Trace-clause-complete : goal.returns-in-Some-Trace-clause-complete
+returns-in-Some-Trace-clause-complete g c =
+    let command = rw c.in-Some-Trace.is at c.in-Some-Trace.field-0-is in
+    rw (c.in-Some-Trace.is, command) c.trace.ensures.complete
 
 pub returns-in-Some-Agree-clause-complete : goal.returns-in-Some-Agree-clause-complete
-returns-in-Some-Agree-clause-complete g c = rw (c.in-Some-Agree.is, c.in-Some-Agree.field-0-is, c.in-Some-Agree.asked-is) c.compare.ensures.complete
+returns-in-Some-Agree-clause-complete g c =
+    let command = rw c.in-Some-Agree.is at c.in-Some-Agree.field-0-is in
+    rw (c.in-Some-Agree.is, command) c.compare.ensures.complete
