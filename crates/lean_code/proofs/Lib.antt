@@ -1,0 +1,6 @@
+mod Lists
+mod Places
+mod Alike
+mod Facts
+mod Accesses
+mod Relation

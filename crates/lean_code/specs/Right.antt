@@ -1,6 +1,6 @@
 -- When a certificate is right: what is said before each instruction leads to what is said where it goes, and what is read is the same
 -- on both machines.
-use Rattle.std.specs.Prelude.{◌≡◌, ℕ, ◌+◌, Bool, true, false, not, ◌&&◌, ◌||◌, nat_eq, nat_lt, if◌then◌else◌, List, [], ◌∷◌, drop, Option, Some, None, slice_get}
+use Rattle.std.specs.Prelude.{◌≡◌, ℕ, suc, Bool, true, false, not, ◌&&◌, ◌||◌, nat_eq, nat_lt, if◌then◌else◌, List, [], ◌∷◌, drop, Option, Some, None, slice_get}
 use Rattle.sym_code.specs.Layout.{DataLayout, owner}
 use Rattle.sym_code.specs.Programs.{label_from}
 use Rattle.sym_code.specs.declared.code.BitOperation.{BitOperation}
@@ -26,7 +26,7 @@ use Rattle.sym_code.specs.declared.code.Sym.{Sym}
 use Rattle.sym_code.specs.declared.code.Sym.TheVariants as syms
 use Rattle.sym_code.specs.declared.code.Target.{Target}
 use Rattle.sym_code.specs.declared.code.Target.TheVariants as targets
-use Rattle.lean_code.specs.Rows.{Facts, Apart, Note, nothing_known, Row, Act, Keeps, Drops, Puts, olds, place_in, note_ahead, past, drops_first, keeps_first, goes_on, Lean}
+use Rattle.lean_code.specs.Rows.{Facts, Apart, Note, nothing_known, Row, At, Act, Keeps, Drops, Puts, olds, place_in, note_ahead, past, drops_first, keeps_first, goes_on, Lean}
 use Rattle.lean_code.specs.Changes.{Weaker, CoversFlags, Covers, Aim, ToFsr, ToEvent, ToByte, Through, Nowhere, aim, is_own, is_near, lost, without_zero, without_w, moved, after_to_w, learned, stored, Flags, no_flags, z_alone, flags_in, uses_w, uses_c, may_skip, literal_flags, literal_uses, is_retlw, literal_for, both_set, one_sets, same_w, other_w, same_byte, other_byte, one_moves, one_stores}
 
 -- ---- where the code goes on
@@ -231,10 +231,10 @@ pub record IsNote (x : Lean) (inside : Bool) (n : Note) : Type 0 where
   pub bytes : (a : ℕ) → is_own inside (owner x.layout a) ≡ false → n.apart.bytes a ≡ false
 
 -- the instruction of a number
-pub record IsRightAt (x : Lean) (own : BlockName) (j : ℕ) (row : Row) (n : Note) : Type 0 where
+pub record IsRightAt (x : Lean) (own : BlockName) (j : ℕ) (s : Sym) (act : Act) (n : Note) : Type 0 where
   pub note : IsNote x (x.inside own) n
   pub goes : goes_on (drop j (x.rows own)) ≡ true
-  pub right : IsRight x own n (place_in (x.rows own) j) (drop (j + 1) (x.rows own)) row.act row.old
+  pub right : IsRight x own n (place_in (x.rows own) j) (drop (suc j) (x.rows own)) act s
 
 -- nothing is known where a thread begins, and nothing differs but bytes
 abbrev pub Begins : (ℕ → Bool) → Option (Option Note) → Type 0
@@ -247,7 +247,7 @@ BeginsAt x None = Unit {0}
 BeginsAt x (Some copy) = (x.inside (names.Copy copy) ≡ true) × Begins x.rest (note_ahead (x.rows (names.Copy copy)))
 
 pub record IsSound (x : Lean) : Type 0 where
-  pub right : (own : BlockName) (j : ℕ) (row : Row) (n : Note) → slice_get (x.rows own) j ≡ Some row → row.note ≡ Some n → IsRightAt x own j row n
+  pub right : (own : BlockName) (j : ℕ) (s : Sym) (act : Act) (n : Note) → slice_get (x.rows own) j ≡ Some (At s act (Some n)) → IsRightAt x own j s act n
   pub main : (x.inside (names.Copy 0) ≡ false) × Begins (λ a. false) (note_ahead (x.rows (names.Copy 0)))
   pub handler : BeginsAt x x.handler
   pub rest : (a : ℕ) → is_own true (owner x.layout a) ≡ false → x.rest a ≡ false

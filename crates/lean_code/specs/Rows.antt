@@ -1,6 +1,6 @@
 -- Code of which some instructions are left out or become others, with what is known at each: what a pass that makes code smaller
 -- has to show.
-use Rattle.std.specs.Prelude.{ℕ, suc, zero, Bool, true, false, not, ◌&&◌, if◌then◌else◌, List, [], ◌∷◌, map, Option, Some, None}
+use Rattle.std.specs.Prelude.{ℕ, suc, zero, Bool, true, false, not, ◌&&◌, if◌then◌else◌, List, [], ◌∷◌, Option, Some, None}
 use Rattle.sym_code.specs.Effect.{Setting}
 use Rattle.sym_code.specs.Layout.{DataLayout}
 use Rattle.sym_code.specs.Programs.{Program, labels_in_front}
@@ -46,13 +46,19 @@ pub data Act : Type 0 where
   Puts : LiteralOperation → ℕ → Act
 
 -- an instruction of the given code, and what is known before it; none where nothing comes there
-pub record Row : Type 0 where
-  pub old : Sym
-  pub act : Act
-  pub note : Option Note
+pub data Row : Type 0 where
+  At : Sym → Act → Option Note → Row
 
+abbrev pub old_of : Row → Sym
+old_of (At s act note) = s
+
+abbrev pub note_of : Row → Option Note
+note_of (At s act note) = note
+
+-- the given code
 abbrev pub olds : List Row → List Sym
-olds rows = map (λ (row : Row). row.old) rows
+olds [] = []
+olds (row ∷ rows) = old_of row ∷ olds rows
 
 -- a label always stays
 abbrev pub put_of : Sym → Act → Option Sym
@@ -65,10 +71,13 @@ abbrev pub in_front : Option Sym → List Sym → List Sym
 in_front None list = list
 in_front (Some s) list = s ∷ list
 
+abbrev pub put_by : Row → Option Sym
+put_by (At s act note) = put_of s act
+
 -- the code that is made
 abbrev pub puts : List Row → List Sym
 puts [] = []
-puts (row ∷ rows) = in_front (put_of row.old row.act) (puts rows)
+puts (row ∷ rows) = in_front (put_by row) (puts rows)
 
 abbrev pub is_label : Sym → Bool
 is_label (syms.Label label) = true
@@ -79,7 +88,7 @@ is_none None = true
 is_none (Some s) = false
 
 abbrev pub is_dropped : Row → Bool
-is_dropped row = is_none (put_of row.old row.act)
+is_dropped row = is_none (put_by row)
 
 -- ---- places
 -- The number, in the code that is made, of the first instruction that comes from an index or from behind it.
@@ -91,25 +100,25 @@ place_in (row ∷ rows) (suc j) = if is_dropped row then place_in rows j else su
 -- what is known where the code goes on at the front of a list, behind the labels there; none where no instruction stands
 abbrev pub note_ahead : List Row → Option (Option Note)
 note_ahead [] = None
-note_ahead (row ∷ rows) = if is_label row.old then note_ahead rows else Some row.note
+note_ahead (row ∷ rows) = if is_label (old_of row) then note_ahead rows else Some (note_of row)
 
 -- the list behind its first instruction
 abbrev pub past : List Row → List Row
 past [] = []
-past (row ∷ rows) = if is_label row.old then past rows else rows
+past (row ∷ rows) = if is_label (old_of row) then past rows else rows
 
 -- the first instruction of the list is left out; and an instruction that is made stands in it
 abbrev pub drops_first : List Row → Bool
 drops_first [] = false
-drops_first (row ∷ rows) = if is_label row.old then drops_first rows else is_dropped row
+drops_first (row ∷ rows) = if is_label (old_of row) then drops_first rows else is_dropped row
 
 abbrev pub keeps_first : List Row → Bool
 keeps_first [] = false
-keeps_first (row ∷ rows) = if is_label row.old then keeps_first rows else not (is_dropped row)
+keeps_first (row ∷ rows) = if is_label (old_of row) then keeps_first rows else not (is_dropped row)
 
 abbrev pub goes_on : List Row → Bool
 goes_on [] = false
-goes_on (row ∷ rows) = if is_label row.old then goes_on rows else (if is_dropped row then goes_on rows else true)
+goes_on (row ∷ rows) = if is_label (old_of row) then goes_on rows else (if is_dropped row then goes_on rows else true)
 
 -- ---- programs
 pub record Lean : Type 0 where
