@@ -1,6 +1,7 @@
 -- What operations make of registers that are alike, on both machines or on one.
 use Rattle.std.proofs.Common.{◌≡◌, ℕ, Bool, true, false, not, Some, refl, sym, ap, ◌∙◌}
 use Rattle.std.specs.Prelude.{◌&&◌, ◌||◌, nat_eq, if◌then◌else◌}
+use Lib.Bits.{and_comm, or_comm, xor_comm}
 use Rattle.pic_isa.specs.declared.Ins.TheVariants as ins
 use Rattle.pic_world.specs.Bits.{truth}
 use Rattle.sym_code.specs.Registers.{Registers, result_with, flags_with, skips_with, literal_row, after_row}
@@ -113,7 +114,7 @@ literal_is files.Addwf literals.Retlw r k is no_move = absurd (cc)
 literal_is files.Addwf literals.Sublw r k is no_move = absurd (cc)
 literal_is files.Addwf literals.Xorlw r k is no_move = absurd (cc)
 literal_is files.Andwf literals.Addlw r k is no_move = absurd (cc)
-literal_is files.Andwf literals.Andlw r k is no_move = refl
+literal_is files.Andwf literals.Andlw r k is no_move = ap (λ (v : ℕ). record r { w = v; z = truth (nat_eq v 0) }) (and_comm r.w k)
 literal_is files.Andwf literals.Iorlw r k is no_move = absurd (cc)
 literal_is files.Andwf literals.Movlw r k is no_move = absurd (cc)
 literal_is files.Andwf literals.Retlw r k is no_move = absurd (cc)
@@ -121,7 +122,7 @@ literal_is files.Andwf literals.Sublw r k is no_move = absurd (cc)
 literal_is files.Andwf literals.Xorlw r k is no_move = absurd (cc)
 literal_is files.Iorwf literals.Addlw r k is no_move = absurd (cc)
 literal_is files.Iorwf literals.Andlw r k is no_move = absurd (cc)
-literal_is files.Iorwf literals.Iorlw r k is no_move = refl
+literal_is files.Iorwf literals.Iorlw r k is no_move = ap (λ (v : ℕ). record r { w = v; z = truth (nat_eq v 0) }) (or_comm r.w k)
 literal_is files.Iorwf literals.Movlw r k is no_move = absurd (cc)
 literal_is files.Iorwf literals.Retlw r k is no_move = absurd (cc)
 literal_is files.Iorwf literals.Sublw r k is no_move = absurd (cc)
@@ -139,7 +140,7 @@ literal_is files.Xorwf literals.Iorlw r k is no_move = absurd (cc)
 literal_is files.Xorwf literals.Movlw r k is no_move = absurd (cc)
 literal_is files.Xorwf literals.Retlw r k is no_move = absurd (cc)
 literal_is files.Xorwf literals.Sublw r k is no_move = absurd (cc)
-literal_is files.Xorwf literals.Xorlw r k is no_move = refl
+literal_is files.Xorwf literals.Xorlw r k is no_move = ap (λ (v : ℕ). record r { w = v; z = truth (nat_eq v 0) }) (xor_comm r.w k)
 literal_is files.Movf literals.Movlw r k is no_move = absurd (no_move refl)
 literal_is op new r k is no_move = absurd (cc)
 

@@ -54,7 +54,7 @@ own_other false (Of Isr) e = never e
 own_other true (Of Isr) e = refl
 own_other inside Nobody e = never e
 
-not_false : (c : Bool) → (c ≡ true → false ≡ true) → c ≡ false
+pub not_false : (c : Bool) → (c ≡ true → false ≡ true) → c ≡ false
 not_false true f = never (f refl)
 not_false false f = refl
 

@@ -2,5 +2,10 @@ mod Lists
 mod Places
 mod Alike
 mod Facts
+mod Flags
 mod Accesses
 mod Relation
+mod Kept
+mod Jumps
+mod KeptRows
+mod Dropped

@@ -55,27 +55,27 @@ place_zero (row ∷ rows) = refl
 
 pub place_settle : (rows : List Row) (j : ℕ) → place_in rows (settle (olds rows) j) ≡ place_in rows j
 place_settle [] j = refl
-place_settle (At (syms.Label label) act note ∷ rows) zero =
+place_settle (At (syms.Label label) act said ∷ rows) zero =
     ap suc (subst (λ n. place_in rows n ≡ place_in rows 0) (settle_zero (olds rows)) (place_settle rows zero) ∙ place_zero rows)
-place_settle (At s act note ∷ rows) zero = refl
+place_settle (At s act said ∷ rows) zero = refl
 place_settle (row ∷ rows) (suc j) = ap (λ n. if is_dropped row then n else suc n) (place_settle rows j)
 
 -- what is left out moves nothing
 pub place_dropped : (rows : List Row) (j : ℕ) → dropped_at (slice_get rows j) ≡ true → place_in rows (suc j) ≡ place_in rows j
 place_dropped [] j e = never e
-place_dropped (At (syms.Label label) act note ∷ rows) zero e = never e
-place_dropped (At s Keeps note ∷ rows) zero e = never e
-place_dropped (At s Drops note ∷ rows) zero e = place_zero rows
-place_dropped (At s (Puts op n) note ∷ rows) zero e = never e
+place_dropped (At (syms.Label label) act said ∷ rows) zero e = never e
+place_dropped (At s Keeps said ∷ rows) zero e = never e
+place_dropped (At s Drops said ∷ rows) zero e = place_zero rows
+place_dropped (At s (Puts op n) said ∷ rows) zero e = never e
 place_dropped (row ∷ rows) (suc j) e = ap (λ n. if is_dropped row then n else suc n) (place_dropped rows j e)
 
 -- behind an instruction that is made the code that is made goes on behind it
 pub place_behind : (rows : List Row) (j : ℕ) → stands_at (slice_get rows j) ≡ true → settle (puts rows) (suc (place_in rows j)) ≡ place_in rows (suc j)
 place_behind [] j e = never e
-place_behind (At (syms.Label label) act note ∷ rows) zero e = never e
-place_behind (At s Keeps note ∷ rows) zero e = ap suc (settle_zero (puts rows) ∙ sym (place_zero rows))
-place_behind (At s Drops note ∷ rows) zero e = never e
-place_behind (At s (Puts op n) note ∷ rows) zero e = ap suc (settle_zero (puts rows) ∙ sym (place_zero rows))
+place_behind (At (syms.Label label) act said ∷ rows) zero e = never e
+place_behind (At s Keeps said ∷ rows) zero e = ap suc (settle_zero (puts rows) ∙ sym (place_zero rows))
+place_behind (At s Drops said ∷ rows) zero e = never e
+place_behind (At s (Puts op n) said ∷ rows) zero e = ap suc (settle_zero (puts rows) ∙ sym (place_zero rows))
 place_behind (row ∷ rows) (suc j) e = by_put (put_by row) (place_behind rows j e)
   where
     by_put : (o : Option Sym) → settle (puts rows) (suc (place_in rows j)) ≡ place_in rows (suc j)
@@ -86,10 +86,10 @@ place_behind (row ∷ rows) (suc j) e = by_put (put_by row) (place_behind rows j
 -- it stands there
 pub place_fetches : (rows : List Row) (j : ℕ) → stands_at (slice_get rows j) ≡ true → slice_get (puts rows) (place_in rows j) ≡ put_at (slice_get rows j)
 place_fetches [] j e = never e
-place_fetches (At (syms.Label label) act note ∷ rows) zero e = never e
-place_fetches (At s Keeps note ∷ rows) zero e = refl
-place_fetches (At s Drops note ∷ rows) zero e = never e
-place_fetches (At s (Puts op n) note ∷ rows) zero e = refl
+place_fetches (At (syms.Label label) act said ∷ rows) zero e = never e
+place_fetches (At s Keeps said ∷ rows) zero e = refl
+place_fetches (At s Drops said ∷ rows) zero e = never e
+place_fetches (At s (Puts op n) said ∷ rows) zero e = refl
 place_fetches (row ∷ rows) (suc j) e = by_put (put_by row) (place_fetches rows j e)
   where
     by_put : (o : Option Sym) → slice_get (puts rows) (place_in rows j) ≡ put_at (slice_get rows j)
@@ -101,10 +101,10 @@ place_fetches (row ∷ rows) (suc j) e = by_put (put_by row) (place_fetches rows
 pub place_lands : (rows : List Row) (j : ℕ) → goes_on (drop j rows) ≡ true → is_word (slice_get (puts rows) (place_in rows j)) ≡ true
 place_lands [] zero e = never e
 place_lands [] (suc j) e = never e
-place_lands (At (syms.Label label) act note ∷ rows) zero e = subst (λ n. is_word (slice_get (puts rows) n) ≡ true) (place_zero rows) (place_lands rows zero e)
-place_lands (At s Keeps note ∷ rows) zero e = refl
-place_lands (At s Drops note ∷ rows) zero e = subst (λ n. is_word (slice_get (puts rows) n) ≡ true) (place_zero rows) (place_lands rows zero e)
-place_lands (At s (Puts op n) note ∷ rows) zero e = refl
+place_lands (At (syms.Label label) act said ∷ rows) zero e = subst (λ n. is_word (slice_get (puts rows) n) ≡ true) (place_zero rows) (place_lands rows zero e)
+place_lands (At s Keeps said ∷ rows) zero e = refl
+place_lands (At s Drops said ∷ rows) zero e = subst (λ n. is_word (slice_get (puts rows) n) ≡ true) (place_zero rows) (place_lands rows zero e)
+place_lands (At s (Puts op n) said ∷ rows) zero e = refl
 place_lands (row ∷ rows) (suc j) e = by_put (put_by row) (place_lands rows j e)
   where
     by_put : (o : Option Sym) → is_word (slice_get (puts rows) (place_in rows j)) ≡ true
@@ -115,29 +115,29 @@ place_lands (row ∷ rows) (suc j) e = by_put (put_by row) (place_lands rows j e
 -- ---- what is known there
 pub note_settle : (rows : List Row) (j : ℕ) → note_ahead (drop (settle (olds rows) j) rows) ≡ note_ahead (drop j rows)
 note_settle [] j = refl
-note_settle (At (syms.Label label) act note ∷ rows) zero = subst (λ n. note_ahead (drop n rows) ≡ note_ahead rows) (settle_zero (olds rows)) (note_settle rows zero)
-note_settle (At s act note ∷ rows) zero = refl
+note_settle (At (syms.Label label) act said ∷ rows) zero = subst (λ n. note_ahead (drop n rows) ≡ note_ahead rows) (settle_zero (olds rows)) (note_settle rows zero)
+note_settle (At s act said ∷ rows) zero = refl
 note_settle (row ∷ rows) (suc j) = note_settle rows j
 
 pub past_is : (rows : List Row) (j : ℕ) → past (drop j rows) ≡ drop (suc (settle (olds rows) j)) rows
 past_is [] zero = refl
 past_is [] (suc j) = refl
-past_is (At (syms.Label label) act note ∷ rows) zero = subst (λ n. past rows ≡ drop (suc n) rows) (settle_zero (olds rows)) (past_is rows zero)
-past_is (At s act note ∷ rows) zero = refl
+past_is (At (syms.Label label) act said ∷ rows) zero = subst (λ n. past rows ≡ drop (suc n) rows) (settle_zero (olds rows)) (past_is rows zero)
+past_is (At s act said ∷ rows) zero = refl
 past_is (row ∷ rows) (suc j) = past_is rows j
 
 pub drops_at : (rows : List Row) (j : ℕ) → drops_first (drop j rows) ≡ true → dropped_at (slice_get rows (settle (olds rows) j)) ≡ true
 drops_at [] zero e = never e
 drops_at [] (suc j) e = never e
-drops_at (At (syms.Label label) act note ∷ rows) zero e = subst (λ n. dropped_at (slice_get rows n) ≡ true) (settle_zero (olds rows)) (drops_at rows zero e)
-drops_at (At s act note ∷ rows) zero e = e
+drops_at (At (syms.Label label) act said ∷ rows) zero e = subst (λ n. dropped_at (slice_get rows n) ≡ true) (settle_zero (olds rows)) (drops_at rows zero e)
+drops_at (At s act said ∷ rows) zero e = e
 drops_at (row ∷ rows) (suc j) e = drops_at rows j e
 
 pub keeps_at : (rows : List Row) (j : ℕ) → keeps_first (drop j rows) ≡ true → stands_at (slice_get rows (settle (olds rows) j)) ≡ true
 keeps_at [] zero e = never e
 keeps_at [] (suc j) e = never e
-keeps_at (At (syms.Label label) act note ∷ rows) zero e = subst (λ n. stands_at (slice_get rows n) ≡ true) (settle_zero (olds rows)) (keeps_at rows zero e)
-keeps_at (At s act note ∷ rows) zero e = e
+keeps_at (At (syms.Label label) act said ∷ rows) zero e = subst (λ n. stands_at (slice_get rows n) ≡ true) (settle_zero (olds rows)) (keeps_at rows zero e)
+keeps_at (At s act said ∷ rows) zero e = e
 keeps_at (row ∷ rows) (suc j) e = keeps_at rows j e
 
 -- an instruction stands at an index
@@ -145,15 +145,15 @@ pub record Stood (rows : List Row) (j : ℕ) : Type 0 where
   pub s : Sym
   pub act : Act
   pub note : Option Note
-  pub row : slice_get rows j ≡ Some (At s act note)
+  pub row : slice_get rows j ≡ Some (At s act said)
   pub here : slice_get (olds rows) j ≡ Some s
   pub ahead : note_ahead (drop j rows) ≡ Some note
   pub word : is_label s ≡ false
 
 pub stood : (rows : List Row) (j : ℕ) → is_word (slice_get (olds rows) j) ≡ true → Stood rows j
 stood [] j e = never e
-stood (At (syms.Label label) act note ∷ rows) zero e = never e
-stood (At s act note ∷ rows) zero e = record { s = s; act = act; note = note; row = refl; here = refl; ahead = refl; word = refl }
+stood (At (syms.Label label) act said ∷ rows) zero e = never e
+stood (At s act said ∷ rows) zero e = record { s = s; act = act; note = said; row = refl; here = refl; ahead = refl; word = refl }
 stood (row ∷ rows) (suc j) e = let x = stood rows j e in record { s = x.s; act = x.act; note = x.note; row = x.row; here = x.here; ahead = x.ahead; word = x.word }
 
 -- ---- labels
@@ -176,22 +176,22 @@ suc_lost f g (Some k) same = ap Some (same k)
 
 pub label_place : (rows : List Row) (label : Label) → option_map (place_in rows) (label_from (olds rows) label 0) ≡ option_map (settle (puts rows)) (label_from (puts rows) label 0)
 label_place [] label = refl
-label_place (At (syms.Label l) act note ∷ rows) label = by_label (same_label l label) (label_place rows label)
+label_place (At (syms.Label l) act said ∷ rows) label = by_label (same_label l label) (label_place rows label)
   where
     by_label : (b : Bool) → option_map (place_in rows) (label_from (olds rows) label 0) ≡ option_map (settle (puts rows)) (label_from (puts rows) label 0)
-        → option_map (place_in (At (syms.Label l) act note ∷ rows)) (if b then Some 0 else label_from (olds rows) label 1) ≡ option_map (settle (syms.Label l ∷ puts rows)) (if b then Some 0 else label_from (puts rows) label 1)
+        → option_map (place_in (At (syms.Label l) act said ∷ rows)) (if b then Some 0 else label_from (olds rows) label 1) ≡ option_map (settle (syms.Label l ∷ puts rows)) (if b then Some 0 else label_from (puts rows) label 1)
     by_label true before = refl
     by_label false before =
-        ap (option_map (place_in (At (syms.Label l) act note ∷ rows))) (label_suc (olds rows) label 0) ∙ suc_out (place_in (At (syms.Label l) act note ∷ rows)) (place_in rows) (label_from (olds rows) label 0) (λ k. refl)
+        ap (option_map (place_in (At (syms.Label l) act said ∷ rows))) (label_suc (olds rows) label 0) ∙ suc_out (place_in (At (syms.Label l) act said ∷ rows)) (place_in rows) (label_from (olds rows) label 0) (λ k. refl)
         ∙ ap (option_map suc) before
         ∙ sym (ap (option_map (settle (syms.Label l ∷ puts rows))) (label_suc (puts rows) label 0) ∙ suc_out (settle (syms.Label l ∷ puts rows)) (settle (puts rows)) (label_from (puts rows) label 0) (λ k. refl))
-label_place (At s Drops note ∷ rows) label =
-    ap (option_map (place_in (At s Drops note ∷ rows))) (label_suc (olds rows) label 0) ∙ suc_lost (place_in (At s Drops note ∷ rows)) (place_in rows) (label_from (olds rows) label 0) (λ k. refl) ∙ label_place rows label
-label_place (At s Keeps note ∷ rows) label =
-    ap (option_map (place_in (At s Keeps note ∷ rows))) (label_suc (olds rows) label 0) ∙ suc_out (place_in (At s Keeps note ∷ rows)) (place_in rows) (label_from (olds rows) label 0) (λ k. refl)
+label_place (At s Drops said ∷ rows) label =
+    ap (option_map (place_in (At s Drops said ∷ rows))) (label_suc (olds rows) label 0) ∙ suc_lost (place_in (At s Drops said ∷ rows)) (place_in rows) (label_from (olds rows) label 0) (λ k. refl) ∙ label_place rows label
+label_place (At s Keeps said ∷ rows) label =
+    ap (option_map (place_in (At s Keeps said ∷ rows))) (label_suc (olds rows) label 0) ∙ suc_out (place_in (At s Keeps said ∷ rows)) (place_in rows) (label_from (olds rows) label 0) (λ k. refl)
     ∙ ap (option_map suc) (label_place rows label)
     ∙ sym (ap (option_map (settle (s ∷ puts rows))) (label_suc (puts rows) label 0) ∙ suc_out (settle (s ∷ puts rows)) (settle (puts rows)) (label_from (puts rows) label 0) (λ k. refl))
-label_place (At s (Puts op n) note ∷ rows) label =
-    ap (option_map (place_in (At s (Puts op n) note ∷ rows))) (label_suc (olds rows) label 0) ∙ suc_out (place_in (At s (Puts op n) note ∷ rows)) (place_in rows) (label_from (olds rows) label 0) (λ k. refl)
+label_place (At s (Puts op n) said ∷ rows) label =
+    ap (option_map (place_in (At s (Puts op n) said ∷ rows))) (label_suc (olds rows) label 0) ∙ suc_out (place_in (At s (Puts op n) said ∷ rows)) (place_in rows) (label_from (olds rows) label 0) (λ k. refl)
     ∙ ap (option_map suc) (label_place rows label)
-    ∙ sym (ap (option_map (settle (puts (At s (Puts op n) note ∷ rows)))) (label_suc (puts rows) label 0) ∙ suc_out (settle (puts (At s (Puts op n) note ∷ rows))) (settle (puts rows)) (label_from (puts rows) label 0) (λ k. refl))
+    ∙ sym (ap (option_map (settle (puts (At s (Puts op n) said ∷ rows)))) (label_suc (puts rows) label 0) ∙ suc_out (settle (puts (At s (Puts op n) said ∷ rows))) (settle (puts rows)) (label_from (puts rows) label 0) (λ k. refl))

@@ -7,7 +7,6 @@ use Rattle.sym_code.specs.Machine.{write_by, lands_at}
 use Rattle.sym_code.specs.Programs.{Position, behind, lands}
 use Rattle.sym_code.specs.Registers.{Registers}
 use Rattle.sym_code.specs.declared.code.BlockName.{BlockName}
-use Rattle.sym_code.specs.declared.code.Sym.{Sym}
 use Rattle.lean_code.specs.Rows.{Facts, Apart, Note, Act, Row, At, note_ahead, Lean, old_program, new_program}
 use Rattle.lean_code.specs.Changes.{Holds, Alike, Weaker, CoversFlags, Covers, is_own, is_near}
 use Rattle.lean_code.specs.Right.{Expects, Comes, IsNote, IsRightAt, IsSound}
@@ -27,6 +26,9 @@ held (k ∷ ks) a = k.note.apart.bytes a || held ks a
 
 abbrev pub apart_of : Note → List Frame → ℕ → Bool
 apart_of n ks a = n.apart.bytes a || held ks a
+
+some_in : (a b : Option Note) → Some a ≡ Some b → a ≡ b
+some_in a b e = cc
 
 pub or_left : (a b : Bool) → (a || b) ≡ false → a ≡ false
 or_left true b e = e
@@ -54,7 +56,7 @@ module _ (x : Lean) where
 
   -- the call may come back from the function that runs
   pub record WaitsFor (inside : Bool) (home : BlockName) (k : Frame) : Type 0 where
-    pub inside : x.inside k.at.block ≡ inside
+    pub same_root : x.inside k.at.block ≡ inside
     pub comes : Comes (note_at x (old_back k)) (x.ends home) k.note.apart.bytes
     pub outer : (a : ℕ) → x.outer home a ≡ false → (k.note.apart.bytes a ≡ false) × (x.outer k.at.block a ≡ false)
     pub own : (a : ℕ) → is_own inside (owner x.layout a) ≡ false → k.note.apart.bytes a ≡ false
@@ -82,7 +84,7 @@ module _ (x : Lean) where
   RestIsLoud (Some rest) = IsLoud x rest.to
 
   pub record Tied (inside : Bool) (home : BlockName) (n : Note) (ks : List Frame) (th tv : Thread) (m : Memory) : Type 0 where
-    pub inside : x.inside home ≡ inside
+    pub same_root : x.inside home ≡ inside
     pub rest : th.rest ≡ tv.rest
     pub loud : RestIsLoud th.rest
     pub at : IsAt home n th.at tv.at
@@ -134,27 +136,18 @@ module _ (x : Lean) where
 
   -- the given code alone
   abbrev pub Alone : Bool → (ℕ → Bool) → Thread → Memory → Memory → Effect → Type 0
+  Alone inside rest tv m k Stuck = Unit {0}
   Alone inside rest tv m k (Quiet th w) = Goes inside rest th tv (written w m) k × IsFar inside w
   Alone inside rest tv m k e = ⊥
 
   -- ---- arriving
   module _ (sound : IsSound x) where
-    -- the note of an instruction that stands somewhere
-    pub record Here (p : Position) (n : Note) : Type 0 where
-      pub s : Sym
-      pub act : Act
-      pub row : row_at x p ≡ Some (At s act (Some n))
-      pub right : IsRightAt x p.block p.index s act n
-
     pub lands_new : (p : Position) (n : Note) → note_at x p ≡ Some (Some n) → lands (old_program x) p ≡ true → lands (new_program x) (under x p) ≡ true
     lands_new p n is e =
         let here = stood (x.rows p.block) p.index e in
         let same : here.note ≡ Some n = some_in here.note (Some n) (sym here.ahead ∙ is) in
         let r = sound.right p.block p.index here.s here.act n (here.row ∙ ap (λ (o : Option Note). Some (At here.s here.act o)) same) in
         place_lands (x.rows p.block) p.index r.goes
-      where
-        some_in : (a b : Option Note) → Some a ≡ Some b → a ≡ b
-        some_in a b e = cc
 
     module _ (inside : Bool) (rest : ℕ → Bool) where
       -- A thread of both comes to a place with facts and apart that are expected there.
@@ -162,11 +155,11 @@ module _ (x : Lean) where
           → (th tv : Thread) (m k : Memory) → th.at ≡ Some q → tv.at ≡ Some (under x q) → th.rest ≡ tv.rest → RestIsLoud th.rest → th.stack ≡ olds_of ks → tv.stack ≡ news_of ks
           → Alike d th.registers tv.registers → Holds f th.registers m → ((a : ℕ) → d.bytes a ≡ false → held ks a ≡ false → rest a ≡ false → m a ≡ k a)
           → Goes inside rest th tv m k
-      arrive home q o f d to home_inside expects ks waits th tv m k at new_at same_rest loud olds news alike holds same lands =
+      arrive home q o f d to home_inside expects ks waits th tv m k at new_at same_rest loud olds news alike holds same there =
           by_note o to expects
         where
           stands : lands (old_program x) q ≡ true
-          stands = subst (λ (p : Option Position). lands_at (old_program x) p ≡ true) at lands
+          stands = subst (λ (p : Option Position). lands_at (old_program x) p ≡ true) at there
 
           by_note : (o : Option (Option Note)) → To x home o q → Expects o f d → Ready inside rest th tv m k × (lands_at (new_program x) tv.at ≡ true)
           by_note None to e = absurd (none-some _ (sym to.note ∙ (stood (x.rows q.block) q.index stands).ahead))
@@ -177,7 +170,7 @@ module _ (x : Lean) where
               note = n;
               frames = ks;
               tied = record {
-                inside = home_inside;
+                same_root = home_inside;
                 rest = same_rest;
                 loud = loud;
                 at = subst (λ (p : Option Position). IsAt home n p tv.at) (sym at) (to, new_at);
@@ -199,6 +192,3 @@ module _ (x : Lean) where
                   let same_note : here.note ≡ Some n = some_in here.note (Some n) (sym here.ahead ∙ to.note) in
                   let r = sound.right q.block q.index here.s here.act n (here.row ∙ ap (λ (o : Option Note). Some (At here.s here.act o)) same_note) in
                   subst (λ (i : Bool). IsNote x i n) (ap x.inside to.block ∙ home_inside) r.note
-
-              some_in : (a b : Option Note) → Some a ≡ Some b → a ≡ b
-              some_in a b e = cc

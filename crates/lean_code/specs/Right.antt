@@ -58,6 +58,11 @@ Enters None n = Unit {0}
 Enters (Some None) n = ⊥
 Enters (Some (Some k)) n = Weaker k.facts n.facts × CoversFlags k.apart n.apart
 
+-- at an index, if there is one
+abbrev pub noted : List Row → Option ℕ → Option (Option Note)
+noted rows None = None
+noted rows (Some k) = note_ahead (drop k rows)
+
 -- ---- what is read
 -- bytes that may not differ where they are read
 abbrev pub Same : (ℕ → Bool) → Aim → Apart → (ℕ → Bool) → Type 0
@@ -72,26 +77,23 @@ flag_apart b d = if nat_eq b 0 then d.c else if nat_eq b 1 then d.dc else if nat
 abbrev pub with_flag : ℕ → Bool → Apart → Apart
 with_flag b v d = if nat_eq b 0 then record d { c = v } else if nat_eq b 1 then record d { dc = v } else if nat_eq b 2 then record d { z = v } else d
 
-module _ (x : Lean) (own : BlockName) (n : Note) where
-  abbrev f : Facts
+module _ (x : Lean) (own : BlockName) (inside : Bool) (n : Note) where
+  abbrev pub f : Facts
   f = n.facts
 
-  abbrev d : Apart
+  abbrev pub d : Apart
   d = n.apart
 
-  abbrev inside : Bool
-  inside = x.inside own
-
-  abbrev read : Operand → Aim
+  abbrev pub read : Operand → Aim
   read operand = aim x.layout inside false operand
 
-  abbrev write : Operand → Aim
+  abbrev pub write : Operand → Aim
   write operand = aim x.layout inside true operand
 
-  abbrev IsSame : Aim → Type 0
+  abbrev pub IsSame : Aim → Type 0
   IsSame a = Same x.hidden a d (x.outer own)
 
-  abbrev Uses : FileOperation → Type 0
+  abbrev pub Uses : FileOperation → Type 0
   Uses op = (uses_w op ≡ true → d.w ≡ false) × (uses_c op ≡ true → d.c ≡ false)
 
   -- ---- both execute it
@@ -118,11 +120,7 @@ module _ (x : Lean) (own : BlockName) (n : Note) where
   KeepsPlain rest plains.Return = Weaker (x.ends own).facts f × Covers (x.ends own).apart d
 
   abbrev pub at_label : Label → Option (Option Note)
-  at_label label = found (label_from (olds (x.rows own)) label 0)
-    where
-      found : Option ℕ → Option (Option Note)
-      found None = None
-      found (Some k) = note_ahead (drop k (x.rows own))
+  at_label label = noted (x.rows own) (label_from (olds (x.rows own)) label 0)
 
   abbrev pub KeepsGoto : Target → Type 0
   KeepsGoto (targets.Label labels.Halt) = Unit {0}
@@ -234,7 +232,7 @@ pub record IsNote (x : Lean) (inside : Bool) (n : Note) : Type 0 where
 pub record IsRightAt (x : Lean) (own : BlockName) (j : ℕ) (s : Sym) (act : Act) (n : Note) : Type 0 where
   pub note : IsNote x (x.inside own) n
   pub goes : goes_on (drop j (x.rows own)) ≡ true
-  pub right : IsRight x own n (place_in (x.rows own) j) (drop (suc j) (x.rows own)) act s
+  pub right : IsRight x own (x.inside own) n (place_in (x.rows own) j) (drop (suc j) (x.rows own)) act s
 
 -- nothing is known where a thread begins, and nothing differs but bytes
 abbrev pub Begins : (ℕ → Bool) → Option (Option Note) → Type 0

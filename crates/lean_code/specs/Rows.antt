@@ -50,10 +50,10 @@ pub data Row : Type 0 where
   At : Sym → Act → Option Note → Row
 
 abbrev pub old_of : Row → Sym
-old_of (At s act note) = s
+old_of (At s act said) = s
 
 abbrev pub note_of : Row → Option Note
-note_of (At s act note) = note
+note_of (At s act said) = said
 
 -- the given code
 abbrev pub olds : List Row → List Sym
@@ -72,7 +72,7 @@ in_front None list = list
 in_front (Some s) list = s ∷ list
 
 abbrev pub put_by : Row → Option Sym
-put_by (At s act note) = put_of s act
+put_by (At s act said) = put_of s act
 
 -- the code that is made
 abbrev pub puts : List Row → List Sym
