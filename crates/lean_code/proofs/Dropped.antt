@@ -94,10 +94,10 @@ module _ (x : Lean) (sound : IsSound x) (inside : Bool) (rest : ℕ → Bool) (s
   pass false false ok g e l t b al h same =
       go x sound inside rest scene (note_ahead list) g e (behind (old_program x) p) (under x p) (to_behind x p) (sym (under_dropped x p dropped)) l None None refl tt t s b k al h same
   pass true false ok g e l t b al h same =
-      go x sound inside rest scene (note_ahead list) g e (behind (old_program x) p) (under x p) (to_behind x p) (sym (under_dropped x p dropped)) l.0 None None refl tt t s b k al h same
+      go x sound inside rest scene (note_ahead list) g e (behind (old_program x) p) (under x p) (to_behind x p) (sym (under_dropped x p dropped)) l.runs None None refl tt t s b k al h same
   pass true true ok g e l t b al h same =
       go x sound inside rest scene (note_ahead (past list)) g e (behind (old_program x) (behind (old_program x) p)) (under x p) (to_past x p)
-      (sym (under_dropped x (behind (old_program x) p) (drops_behind x p l.2) ∙ under_dropped x p dropped)) l.1 None None refl tt t s b k al h same
+      (sym (under_dropped x (behind (old_program x) p) (drops_behind x p l.drops) ∙ under_dropped x p dropped)) l.skips None None refl tt t s b k al h same
   pass false true ok g e l t b al h same = never (ok refl)
 
   moves : (g : Facts) (e : Apart) → Expects (note_ahead list) g e → (t : Registers) (b : Memory) → Alike e t s → Holds g t b

@@ -162,10 +162,10 @@ module _ (x : Lean) (sound : IsSound x) (inside : Bool) (rest : ℕ → Bool) (s
         → Alike d t u → Holds f t a → ((j : ℕ) → d.bytes j ≡ false → held ks j ≡ false → rest j ≡ false → a j ≡ b j)
         → Goes x inside rest (at_one w (onward (old_program x) p c) t) (at_other y (onward (new_program x) (under x p) c) u) a b
     lead false false ok f d l = go (note_ahead rows) f d (behind (old_program x) p) (behind (new_program x) (under x p)) (to_behind x p) (under_behind x p stands) l
-    lead true false ok f d l = go (note_ahead rows) f d (behind (old_program x) p) (behind (new_program x) (under x p)) (to_behind x p) (under_behind x p stands) l.0
+    lead true false ok f d l = go (note_ahead rows) f d (behind (old_program x) p) (behind (new_program x) (under x p)) (to_behind x p) (under_behind x p stands) l.runs
     lead true true ok f d l =
         go (note_ahead (past rows)) f d (behind (old_program x) (behind (old_program x) p)) (behind (new_program x) (behind (new_program x) (under x p))) (to_past x p)
-        (ap (behind (new_program x)) (under_behind x p stands) ∙ under_behind x (behind (old_program x) p) (keeps_behind x p l.2)) l.1
+        (ap (behind (new_program x)) (under_behind x p stands) ∙ under_behind x (behind (old_program x) p) (keeps_behind x p l.keeps)) l.skips
     lead false true ok f d l = never (ok refl)
 
     -- it doesn't skip

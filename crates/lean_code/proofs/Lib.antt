@@ -9,3 +9,5 @@ mod Kept
 mod Jumps
 mod KeptRows
 mod Dropped
+mod Put
+mod Steps

@@ -27,7 +27,7 @@ held (k ∷ ks) a = k.note.apart.bytes a || held ks a
 abbrev pub apart_of : Note → List Frame → ℕ → Bool
 apart_of n ks a = n.apart.bytes a || held ks a
 
-some_in : (a b : Option Note) → Some a ≡ Some b → a ≡ b
+pub some_in : (a b : Option Note) → Some a ≡ Some b → a ≡ b
 some_in a b e = cc
 
 pub or_left : (a b : Bool) → (a || b) ≡ false → a ≡ false

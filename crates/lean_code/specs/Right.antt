@@ -37,14 +37,24 @@ Expects (Some None) f d = ⊥
 Expects (Some (Some n)) f d = Weaker n.facts f × Covers n.apart d
 
 -- behind an instruction that both execute, and that may skip the next one
+pub record LeadsBoth (rest : List Row) (f : Facts) (d : Apart) : Type 0 where
+  pub runs : Expects (note_ahead rest) f d
+  pub skips : Expects (note_ahead (past rest)) f d
+  pub keeps : keeps_first rest ≡ true
+
 abbrev pub Leads : List Row → Bool → Facts → Apart → Type 0
 Leads rest false f d = Expects (note_ahead rest) f d
-Leads rest true f d = Expects (note_ahead rest) f d × Expects (note_ahead (past rest)) f d × (keeps_first rest ≡ true)
+Leads rest true f d = LeadsBoth rest f d
 
 -- behind one that is left out
+pub record PassesBoth (rest : List Row) (f : Facts) (d : Apart) : Type 0 where
+  pub runs : Expects (note_ahead rest) f d
+  pub skips : Expects (note_ahead (past rest)) f d
+  pub drops : drops_first rest ≡ true
+
 abbrev pub Passes : List Row → Bool → Facts → Apart → Type 0
 Passes rest false f d = Expects (note_ahead rest) f d
-Passes rest true f d = Expects (note_ahead rest) f d × Expects (note_ahead (past rest)) f d × (drops_first rest ≡ true)
+Passes rest true f d = PassesBoth rest f d
 
 -- behind a call that leaves k, where these bytes may differ meanwhile
 abbrev pub Comes : Option (Option Note) → Note → (ℕ → Bool) → Type 0
