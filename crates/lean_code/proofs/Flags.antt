@@ -10,22 +10,23 @@ use Rattle.lean_code.specs.Right.{flag_apart, with_flag}
 use Rattle.lean_code.proofs.Lists.{never}
 use Rattle.lean_code.proofs.Facts.{not_false}
 
--- both have a flag of this number, alike, or none
-pub data Bit (d : Apart) (b : ℕ) : Option ℕ → Option ℕ → Type 0 where
-  NoBit : Bit d b None None
-  SameBit : (v y : ℕ) → v ≡ y → Bit d b (Some v) (Some y)
+-- both have a flag, alike, or none
+abbrev pub SameFlag : Option ℕ → Option ℕ → Type 0
+SameFlag None None = Unit {0}
+SameFlag (Some v) (Some y) = v ≡ y
+SameFlag a b = ⊥
 
 module _ (d : Apart) (r s : Registers) (a : Alike d r s) where
-  pub bit_same : (b : ℕ) → flag_apart b d ≡ false → Bit d b (status_bit r b) (status_bit s b)
+  pub bit_same : (b : ℕ) → flag_apart b d ≡ false → SameFlag (status_bit r b) (status_bit s b)
   bit_same b e = by_bit (nat_eq b 0) (nat_eq b 1) (nat_eq b 2) (nat_eq b 7) e
     where
       by_bit : (c dc z irp : Bool) → (if c then d.c else if dc then d.dc else if z then d.z else false) ≡ false
-          → Bit d b (if c then Some r.c else if dc then Some r.dc else if z then Some r.z else if irp then Some r.irp else None) (if c then Some s.c else if dc then Some s.dc else if z then Some s.z else if irp then Some s.irp else None)
-      by_bit true dc z irp e = SameBit r.c s.c (a.c e)
-      by_bit false true z irp e = SameBit r.dc s.dc (a.dc e)
-      by_bit false false true irp e = SameBit r.z s.z (a.z e)
-      by_bit false false false true e = SameBit r.irp s.irp a.irp
-      by_bit false false false false e = NoBit
+          → SameFlag (if c then Some r.c else if dc then Some r.dc else if z then Some r.z else if irp then Some r.irp else None) (if c then Some s.c else if dc then Some s.dc else if z then Some s.z else if irp then Some s.irp else None)
+      by_bit true dc z irp e = a.c e
+      by_bit false true z irp e = a.dc e
+      by_bit false false true irp e = a.z e
+      by_bit false false false true e = a.irp
+      by_bit false false false false e = tt
 
   -- both set it
   pub set_same : (b v : ℕ) (t : Registers) → with_status_bit r b v ≡ Some t → (u : Registers) × (with_status_bit s b v ≡ Some u) × Alike (with_flag b false d) t u × (t.w ≡ r.w)

@@ -73,11 +73,11 @@ module _ (x : Lean) (sound : IsSound x) (inside : Bool) (rest : ℕ → Bool) (s
     same = λ c u v. scene.still c (or_left (n.apart.bytes c) (held ks c) u) (or_right (n.apart.bytes c) (held ks c) u) v;
   }
 
-  halt_both : (i : Bool) (s t : List Position) → s ≡ olds_of x ks → t ≡ news_of x ks → Both (halt i (one_of s) s) (halt i (other_of t) t)
-  halt_both true s t a b = tt
-  halt_both false (q ∷ s) t a b = tt
-  halt_both false [] [] a b = ended [] [] a b
-  halt_both false [] (q ∷ t) a b = absurd (let e = same_length [] (q ∷ t) a b in cc)
+  halt_both : (i : Bool) → inside ≡ i → (s t : List Position) → s ≡ olds_of x ks → t ≡ news_of x ks → Both (halt i (one_of s) s) (halt i (other_of t) t)
+  halt_both true e s t a b = tt
+  halt_both false e (q ∷ s) t a b = tt
+  halt_both false e [] [] a b = (e, ended [] [] a b)
+  halt_both false e [] (q ∷ t) a b = absurd (let l = same_length [] (q ∷ t) a b in cc)
 
   left_over : (ks : List Frame) → [] ≡ olds_of x ks → (a : ℕ) → n.apart.bytes a ≡ false → apart_of n ks a ≡ false
   left_over [] e a d = or_both (n.apart.bytes a) false d refl
@@ -100,7 +100,7 @@ module _ (x : Lean) (sound : IsSound x) (inside : Bool) (rest : ℕ → Bool) (s
       scene.r scene.s scene.m scene.k scene.alike scene.holds scene.still, tt)
 
   pub goto_both : (target : Target) → KeepsGoto x p.block inside n target → Both (goto (old_setting x) inside p (one x sound inside rest scene) target) (goto (new_setting x) inside (under x p) (other x sound inside rest scene) target)
-  goto_both (targets.Label Halt) e = halt_both inside scene.stack scene.new_stack scene.olds scene.news
+  goto_both (targets.Label Halt) e = halt_both inside refl scene.stack scene.new_stack scene.olds scene.news
   goto_both (targets.Label Restore) e = restore_both inside scene.stack scene.new_stack scene.olds scene.news e
   goto_both (targets.Label (Inner l)) e =
       subst (λ (o : Option Position). Both (jump_to (one x sound inside rest scene) (place_of (old_program x) p (targets.Label (Inner l)))) (jump_to (other x sound inside rest scene) o)) (sym (under_label x p l))

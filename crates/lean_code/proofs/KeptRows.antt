@@ -34,7 +34,7 @@ use Rattle.lean_code.proofs.Lists.{never, stands_at}
 use Rattle.lean_code.proofs.Places.{under, row_at}
 use Rattle.lean_code.proofs.Alike.{literal_same, clear_same, moved_w, cleared_w}
 use Rattle.lean_code.proofs.Facts.{weaker_holds, lose_zero, lose_w, keep_all, lost_weaker, lost_through, learned_byte, stored_byte, some_is}
-use Rattle.lean_code.proofs.Flags.{Bit, NoBit, SameBit, bit_same, set_same}
+use Rattle.lean_code.proofs.Flags.{SameFlag, bit_same, set_same}
 use Rattle.lean_code.proofs.Accesses.{access_told, access_aims, access_same}
 use Rattle.lean_code.proofs.Relation.{Frame, held, apart_of, Goes, Match}
 use Rattle.lean_code.proofs.Kept.{Scene, AreNear, lost_near, one, other, rows, near, lead, next, file_to_w_both, file_to_file_both, change_both, test_both, store_both}
@@ -126,17 +126,18 @@ module _ (x : Lean) (sound : IsSound x) (inside : Bool) (rest : ℕ → Bool) (s
       (goes_both (without_zero f) (with_flag b false d) l t z.0 z.2 (lose_zero f r m scene.holds t z.3)
       (λ j e o w. scene.still j (sym (flag_bytes b false d j) ∙ e) o w))
 
-  test_flag_both : (b v : ℕ) → Leads list true f d → (o q : Option ℕ) → Bit d b o q → Both (test_flag (old_program x) p first v o) (test_flag (new_program x) (under x p) second v q)
-  test_flag_both b v l None None NoBit = tt
-  test_flag_both b v l (Some i) (Some j) (SameBit i j e) =
+  test_flag_both : (v : ℕ) → Leads list true f d → (o q : Option ℕ) → SameFlag o q → Both (test_flag (old_program x) p first v o) (test_flag (new_program x) (under x p) second v q)
+  test_flag_both v l None q e = tt
+  test_flag_both v l (Some i) None e = absurd e
+  test_flag_both v l (Some i) (Some j) e =
       (subst (λ (c : ℕ). Goes x inside rest (goes first (onward (old_program x) p (nat_eq i v)) r) (goes second (onward (new_program x) (under x p) (nat_eq c v)) s) m k) e
       (lead x sound inside rest scene stands true (nat_eq i v) (λ z. refl) f d l None None refl tt r s m k scene.alike scene.holds scene.still), tt)
 
   flag_both : (op : BitOperation) (b : ℕ) → KeepsBit x p.block inside n list op (operands.Register Status) b → Both (flag (old_program x) p first op b) (flag (new_program x) (under x p) second op b)
   flag_both Bcf b e = put_both b 0 e (with_status_bit r b 0) refl
   flag_both Bsf b e = put_both b 1 e (with_status_bit r b 1) refl
-  flag_both Btfsc b e = test_flag_both b 0 e.1 (status_bit r b) (status_bit s b) (bit_same d r s scene.alike b e.0)
-  flag_both Btfss b e = test_flag_both b 1 e.1 (status_bit r b) (status_bit s b) (bit_same d r s scene.alike b e.0)
+  flag_both Btfsc b e = test_flag_both 0 e.1 (status_bit r b) (status_bit s b) (bit_same d r s scene.alike b e.0)
+  flag_both Btfss b e = test_flag_both 1 e.1 (status_bit r b) (status_bit s b) (bit_same d r s scene.alike b e.0)
 
   -- ---- bits of bytes
   abbrev Clear : Operand → Bool → Type 0

@@ -11,3 +11,6 @@ mod KeptRows
 mod Dropped
 mod Put
 mod Steps
+mod Machines
+mod Resting
+mod Whole

@@ -130,7 +130,7 @@ module _ (x : Lean) where
   Match inside rest apart m k (Reads b f) (Reads c g) = (b ≡ c) × SameLoud m k b × ((v : ℕ) → Goes inside rest (f v) (g v) m k)
   Match inside rest apart m k (Writes b v th) (Writes c w tv) = (b ≡ c) × (v ≡ w) × IsLoud x b × Goes inside rest th tv (written (write_by b v) m) (written (write_by b v) k)
   Match inside rest apart m k Leaves Leaves = IsLeft inside apart
-  Match inside rest apart m k (Ends th) (Ends tv) = Ready inside rest th tv m k
+  Match inside rest apart m k (Ends th) (Ends tv) = (inside ≡ false) × Ready inside rest th tv m k
   Match inside rest apart m k Rests Rests = Unit {0}
   Match inside rest apart m k e f = ⊥
 

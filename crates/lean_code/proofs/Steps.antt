@@ -1,5 +1,5 @@
 -- What a thread does next, on both machines.
-use Rattle.std.proofs.Common.{◌≡◌, ℕ, suc, ◌⊎◌, inl, inr, Bool, true, false, not, List, drop, Option, Some, None, slice_get, refl, sym, ap, ◌∙◌, subst}
+use Rattle.std.proofs.Common.{◌≡◌, ℕ, suc, Bool, true, false, not, List, drop, Option, Some, None, slice_get, refl, sym, ap, ◌∙◌, subst}
 use Rattle.sym_code.specs.Effect.{Setting, Loud, Rest, Thread, Memory, written, Effect, Stuck, effect_of, effect_if, effect_at, effect}
 use Rattle.sym_code.specs.Layout.{owner}
 use Rattle.sym_code.specs.Machine.{write_by, lands_at}
@@ -60,8 +60,20 @@ module _ (x : Lean) (sound : IsSound x) (inside : Bool) (rest : ℕ → Bool) (f
   abbrev thread : Option Rest → Option Position → List Position → Registers → Thread
   thread w at stack r = record { rest = w; at = at; stack = stack; registers = r }
 
-  abbrev pub Either : Effect → Effect → Thread → Type 0
-  Either e f tv = Match x inside rest (apart_of n ks) m k e f ⊎ Alone x inside rest tv m k e
+  -- an instruction that is made, if one is next; or one that is left out
+  abbrev pub Pays : Thread → Type 0
+  Pays th = (p : Position) → th.rest ≡ None → th.at ≡ Some p → stands_at (row_at x p) ≡ true
+
+  pub record Skips (th : Thread) : Type 0 where
+    pub p : Position
+    pub rest : th.rest ≡ None
+    pub at : th.at ≡ Some p
+    pub dropped : dropped_at (row_at x p) ≡ true
+
+  pub data Either (th tv : Thread) (e f : Effect) : Type 0 where
+    Lost : e ≡ Stuck → Either th tv e f
+    Matched : Match x inside rest (apart_of n ks) m k e f → Pays th → Either th tv e f
+    Lone : Alone x inside rest tv m k e → Skips th → Either th tv e f
 
   abbrev TiedTo : Thread → Thread → Type 0
   TiedTo th tv = Tied x inside home n ks th tv m
@@ -73,9 +85,9 @@ module _ (x : Lean) (sound : IsSound x) (inside : Bool) (rest : ℕ → Bool) (f
   -- what is left of an instruction
   module _ (at new_at : Option Position) (stack new_stack : List Position) (r s : Registers) where
     put_rest : (w : Rest) → TiedTo (thread (Some w) at stack r) (thread (Some w) new_at new_stack s)
-        → Either (effect (old_setting x) inside (thread (Some w) at stack r) m) (effect (new_setting x) inside (thread (Some w) new_at new_stack s) k) (thread (Some w) new_at new_stack s)
+        → Either (thread (Some w) at stack r) (thread (Some w) new_at new_stack s) (effect (old_setting x) inside (thread (Some w) at stack r) m) (effect (new_setting x) inside (thread (Some w) new_at new_stack s) k)
     unfolding effect
-    put_rest w t = inl (refl, refl, t.loud, λ l. (
+    put_rest w t = Matched (refl, refl, t.loud, λ l. (
       record {
         home = home;
         note = n;
@@ -95,12 +107,14 @@ module _ (x : Lean) (sound : IsSound x) (inside : Bool) (rest : ℕ → Bool) (f
         same = λ a u v. event_same w.to w.byte m k a (same a u v);
       },
       new_lands at new_at t.at l,
-    ))
+    )) (λ p e z. absurd (cc))
 
     -- main has ended
-    put_ended : (i : Bool) → new_at ≡ None → Either (effect_at (old_setting x) i (thread None None stack r) m None) (effect_at (new_setting x) i (thread None new_at new_stack s) k new_at) (thread None new_at new_stack s)
-    put_ended false e = subst (λ (o : Option Position). Either (effect_at (old_setting x) false (thread None None stack r) m None) (effect_at (new_setting x) false (thread None new_at new_stack s) k o) (thread None new_at new_stack s)) (sym e) (inl tt)
-    put_ended true e = inl tt
+    put_ended : (i : Bool) → new_at ≡ None → Either (thread None None stack r) (thread None new_at new_stack s) (effect_at (old_setting x) i (thread None None stack r) m None) (effect_at (new_setting x) i (thread None new_at new_stack s) k new_at)
+    put_ended false e =
+        subst (λ (o : Option Position). Either (thread None None stack r) (thread None new_at new_stack s) (effect_at (old_setting x) false (thread None None stack r) m None) (effect_at (new_setting x) false (thread None new_at new_stack s) k o)) (sym e)
+        (Matched tt (λ p z q. absurd (cc)))
+    put_ended true e = Lost refl
 
   -- an instruction
   module _ (p : Position) (stack new_stack : List Position) (r s : Registers) (t : TiedTo (thread None (Some p) stack r) (thread None (Some (under x p)) new_stack s)) where
@@ -136,7 +150,14 @@ module _ (x : Lean) (sound : IsSound x) (inside : Bool) (rest : ℕ → Bool) (f
     }
 
     abbrev ByRow : Option Sym → Option Sym → Type 0
-    ByRow o q = Either (effect_if (old_setting x) inside p first m o) (effect_if (new_setting x) inside (under x p) second k q) second
+    ByRow o q = Either first second (effect_if (old_setting x) inside p first m o) (effect_if (new_setting x) inside (under x p) second k q)
+
+    -- the row of the place
+    pays : stands_at (row_at x p) ≡ true → Pays first
+    pays e q z w = subst (λ (v : Position). stands_at (row_at x v) ≡ true) (place_is p q w) e
+      where
+        place_is : (p q : Position) → Some p ≡ Some q → p ≡ q
+        place_is p q e = cc
 
     -- what stands there in the code that is made
     made_at : stands_at (row_at x p) ≡ true → (o : Option Sym) → put_at (row_at x p) ≡ o → fetched (new_program x) (under x p) ≡ o
@@ -147,12 +168,13 @@ module _ (x : Lean) (sound : IsSound x) (inside : Bool) (rest : ℕ → Bool) (f
       unfolding scene
       by_act Keeps row right =
           let stands : stands_at (row_at x p) ≡ true = subst (λ (o : Option Row). stands_at o ≡ true) (sym row) (stands_keeps i (Some n) word) in
-          subst (λ (o : Option Sym). ByRow (Some i) o) (sym (made_at stands (Some i) (ap put_at row ∙ put_keeps i))) (inl (kept_both x sound inside rest scene stands i clear right))
+          subst (λ (o : Option Sym). ByRow (Some i) o) (sym (made_at stands (Some i) (ap put_at row ∙ put_keeps i))) (Matched (kept_both x sound inside rest scene stands i clear right) (pays stands))
       by_act Drops row right =
-          inr (dropped_alone x sound inside rest scene (subst (λ (o : Option Row). dropped_at o ≡ true) (sym row) (drops_drops i (Some n) word)) i clear right)
+          let drops : dropped_at (row_at x p) ≡ true = subst (λ (o : Option Row). dropped_at o ≡ true) (sym row) (drops_drops i (Some n) word) in
+          Lone (dropped_alone x sound inside rest scene drops i clear right) (record { p = p; rest = refl; at = refl; dropped = drops })
       by_act (Puts op v) row right =
           let stands : stands_at (row_at x p) ≡ true = subst (λ (o : Option Row). stands_at o ≡ true) (sym row) (stands_puts i op v (Some n) word) in
-          subst (λ (o : Option Sym). ByRow (Some i) o) (sym (made_at stands (Some (syms.Literal op (Number v))) (ap put_at row ∙ put_puts i op v word))) (inl (put_both x sound inside rest scene stands op v i clear right))
+          subst (λ (o : Option Sym). ByRow (Some i) o) (sym (made_at stands (Some (syms.Literal op (Number v))) (ap put_at row ∙ put_puts i op v word))) (Matched (put_both x sound inside rest scene stands op v i clear right) (pays stands))
 
     by_stood : (y : Stood (x.rows p.block) p.index) → clears_if x.hidden r (fetched (old_program x) p) ≡ true → ByRow (fetched (old_program x) p) (fetched (new_program x) (under x p))
     by_stood y open_at =
@@ -165,34 +187,33 @@ module _ (x : Lean) (sound : IsSound x) (inside : Bool) (rest : ℕ → Bool) (f
 
     by_word : (c : Bool) → is_word (fetched (old_program x) p) ≡ c → clears_if x.hidden r (fetched (old_program x) p) ≡ true → ByRow (fetched (old_program x) p) (fetched (new_program x) (under x p))
     by_word true e open_at = by_stood (stood (x.rows p.block) p.index e) open_at
-    by_word false e open_at =
-        subst (λ (z : Effect). Either z (effect_if (new_setting x) inside (under x p) second k (fetched (new_program x) (under x p))) second) (sym (no_word (old_setting x) inside p first m (fetched (old_program x) p) e)) (inl tt)
+    by_word false e open_at = Lost (no_word (old_setting x) inside p first m (fetched (old_program x) p) e)
 
-    put_some : is_open x.hidden (old_program x) first ≡ true → Either (effect_at (old_setting x) inside first m (Some p)) (effect_at (new_setting x) inside second k (Some (under x p))) second
+    put_some : is_open x.hidden (old_program x) first ≡ true → Either first second (effect_at (old_setting x) inside first m (Some p)) (effect_at (new_setting x) inside second k (Some (under x p)))
     put_some open_at =
-        subst (λ (z : Effect). Either z (effect_at (new_setting x) inside second k (Some (under x p))) second) (sym (effect_some (old_setting x) inside first m p))
-        (subst (λ (z : Effect). Either (effect_if (old_setting x) inside p first m (fetched (old_program x) p)) z second) (sym (effect_some (new_setting x) inside second k (under x p)))
+        subst (λ (z : Effect). Either first second z (effect_at (new_setting x) inside second k (Some (under x p)))) (sym (effect_some (old_setting x) inside first m p))
+        (subst (λ (z : Effect). Either first second (effect_if (old_setting x) inside p first m (fetched (old_program x) p)) z) (sym (effect_some (new_setting x) inside second k (under x p)))
         (by_word (is_word (fetched (old_program x) p)) refl open_at))
 
   -- the thread
   put_at_place : (at new_at : Option Position) (stack new_stack : List Position) (r s : Registers) → TiedTo (thread None at stack r) (thread None new_at new_stack s) → is_open x.hidden (old_program x) (thread None at stack r) ≡ true
-      → Either (effect_at (old_setting x) inside (thread None at stack r) m at) (effect_at (new_setting x) inside (thread None new_at new_stack s) k new_at) (thread None new_at new_stack s)
+      → Either (thread None at stack r) (thread None new_at new_stack s) (effect_at (old_setting x) inside (thread None at stack r) m at) (effect_at (new_setting x) inside (thread None new_at new_stack s) k new_at)
   put_at_place None new_at stack new_stack r s t open_at = put_ended None new_at stack new_stack r s inside t.at
   put_at_place (Some p) new_at stack new_stack r s t open_at =
       by_new new_at t.at.1 t
     where
       by_new : (new_at : Option Position) → new_at ≡ Some (under x p) → TiedTo (thread None (Some p) stack r) (thread None new_at new_stack s)
-          → Either (effect_at (old_setting x) inside (thread None (Some p) stack r) m (Some p)) (effect_at (new_setting x) inside (thread None new_at new_stack s) k new_at) (thread None new_at new_stack s)
+          → Either (thread None (Some p) stack r) (thread None new_at new_stack s) (effect_at (old_setting x) inside (thread None (Some p) stack r) m (Some p)) (effect_at (new_setting x) inside (thread None new_at new_stack s) k new_at)
       by_new new_at e t =
-          subst (λ (o : Option Position). Either (effect_at (old_setting x) inside (thread None (Some p) stack r) m (Some p)) (effect_at (new_setting x) inside (thread None o new_stack s) k o) (thread None o new_stack s)) (sym e)
+          subst (λ (o : Option Position). Either (thread None (Some p) stack r) (thread None o new_stack s) (effect_at (old_setting x) inside (thread None (Some p) stack r) m (Some p)) (effect_at (new_setting x) inside (thread None o new_stack s) k o)) (sym e)
           (put_some p stack new_stack r s (subst (λ (o : Option Position). TiedTo (thread None (Some p) stack r) (thread None o new_stack s)) e t) open_at)
 
   by_rest : (w y : Option Rest) (at new_at : Option Position) (stack new_stack : List Position) (r s : Registers) → w ≡ y → TiedTo (thread w at stack r) (thread y new_at new_stack s) → is_open x.hidden (old_program x) (thread w at stack r) ≡ true
-      → Either (effect (old_setting x) inside (thread w at stack r) m) (effect (new_setting x) inside (thread y new_at new_stack s) k) (thread y new_at new_stack s)
+      → Either (thread w at stack r) (thread y new_at new_stack s) (effect (old_setting x) inside (thread w at stack r) m) (effect (new_setting x) inside (thread y new_at new_stack s) k)
   unfolding effect
   by_rest None None at new_at stack new_stack r s e t open_at = put_at_place at new_at stack new_stack r s t open_at
   by_rest (Some w) (Some y) at new_at stack new_stack r s e t open_at =
-      subst (λ (z : Rest). Either (effect (old_setting x) inside (thread (Some w) at stack r) m) (effect (new_setting x) inside (thread (Some z) new_at new_stack s) k) (thread (Some z) new_at new_stack s)) (rest_is w y e)
+      subst (λ (z : Rest). Either (thread (Some w) at stack r) (thread (Some z) new_at new_stack s) (effect (old_setting x) inside (thread (Some w) at stack r) m) (effect (new_setting x) inside (thread (Some z) new_at new_stack s) k)) (rest_is w y e)
       (put_rest at new_at stack new_stack r s w (subst (λ (z : Rest). TiedTo (thread (Some w) at stack r) (thread (Some z) new_at new_stack s)) (sym (rest_is w y e)) t))
     where
       rest_is : (w y : Rest) → Some w ≡ Some y → w ≡ y
@@ -200,5 +221,5 @@ module _ (x : Lean) (sound : IsSound x) (inside : Bool) (rest : ℕ → Bool) (f
   by_rest None (Some y) at new_at stack new_stack r s e t open_at = absurd (cc)
   by_rest (Some w) None at new_at stack new_stack r s e t open_at = absurd (cc)
 
-  pub thread_step : (th tv : Thread) → TiedTo th tv → is_open x.hidden (old_program x) th ≡ true → Either (effect (old_setting x) inside th m) (effect (new_setting x) inside tv k) tv
+  pub thread_step : (th tv : Thread) → TiedTo th tv → is_open x.hidden (old_program x) th ≡ true → Either th tv (effect (old_setting x) inside th m) (effect (new_setting x) inside tv k)
   thread_step th tv t open_at = by_rest th.rest tv.rest th.at tv.at th.stack tv.stack th.registers tv.registers t.rest t open_at

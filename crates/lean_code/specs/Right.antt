@@ -2,7 +2,7 @@
 -- on both machines.
 use Rattle.std.specs.Prelude.{◌≡◌, ℕ, suc, Bool, true, false, not, ◌&&◌, ◌||◌, nat_eq, nat_lt, if◌then◌else◌, List, [], ◌∷◌, drop, Option, Some, None, slice_get}
 use Rattle.sym_code.specs.Layout.{DataLayout, owner}
-use Rattle.sym_code.specs.Programs.{label_from}
+use Rattle.sym_code.specs.Programs.{label_from, front, lands}
 use Rattle.sym_code.specs.declared.code.BitOperation.{BitOperation}
 use Rattle.sym_code.specs.declared.code.BitOperation.TheVariants as bit_ops
 use Rattle.sym_code.specs.declared.code.BlockName.{BlockName}
@@ -26,7 +26,7 @@ use Rattle.sym_code.specs.declared.code.Sym.{Sym}
 use Rattle.sym_code.specs.declared.code.Sym.TheVariants as syms
 use Rattle.sym_code.specs.declared.code.Target.{Target}
 use Rattle.sym_code.specs.declared.code.Target.TheVariants as targets
-use Rattle.lean_code.specs.Rows.{Facts, Apart, Note, nothing_known, Row, At, Act, Keeps, Drops, Puts, olds, place_in, note_ahead, past, drops_first, keeps_first, goes_on, Lean}
+use Rattle.lean_code.specs.Rows.{Facts, Apart, Note, nothing_known, Row, At, Act, Keeps, Drops, Puts, olds, place_in, note_ahead, past, drops_first, keeps_first, goes_on, Lean, old_program}
 use Rattle.lean_code.specs.Changes.{Weaker, CoversFlags, Covers, Aim, ToFsr, ToEvent, ToByte, Through, Nowhere, aim, is_own, is_near, lost, without_zero, without_w, moved, after_to_w, learned, stored, Flags, no_flags, z_alone, flags_in, uses_w, uses_c, may_skip, literal_flags, literal_uses, is_retlw, literal_for, both_set, one_sets, same_w, other_w, same_byte, other_byte, one_moves, one_stores}
 
 -- ---- where the code goes on
@@ -257,6 +257,7 @@ BeginsAt x (Some copy) = (x.inside (names.Copy copy) ≡ true) × Begins x.rest 
 pub record IsSound (x : Lean) : Type 0 where
   pub right : (own : BlockName) (j : ℕ) (s : Sym) (act : Act) (n : Note) → slice_get (x.rows own) j ≡ Some (At s act (Some n)) → IsRightAt x own j s act n
   pub main : (x.inside (names.Copy 0) ≡ false) × Begins (λ a. false) (note_ahead (x.rows (names.Copy 0)))
+  pub stands : lands (old_program x) (front (old_program x) (names.Copy 0)) ≡ true
   pub handler : BeginsAt x x.handler
   pub rest : (a : ℕ) → is_own true (owner x.layout a) ≡ false → x.rest a ≡ false
   -- what may differ while it waits

@@ -1,5 +1,5 @@
-use Rattle.lean_code.proofs.Steps.{thread_step}
+use Rattle.lean_code.proofs.Whole as whole
 use Rattle.lean_code.proofs.lean_keeps.Goals as goal
 
 pub returns : goal.returns
-returns c = ?
+returns c = whole.lean_keeps
