@@ -73,11 +73,15 @@ module _ (x : Lean) (sound : IsSound x) (inside : Bool) (rest : ℕ → Bool) (s
     same = λ c u v. scene.still c (or_left (n.apart.bytes c) (held ks c) u) (or_right (n.apart.bytes c) (held ks c) u) v;
   }
 
+  no_news : (ks : List Frame) → [] ≡ olds_of x ks → (q : Position) (t : List Position) → q ∷ t ≡ news_of x ks → ⊥
+  no_news [] a q t b = absurd (cc)
+  no_news (k ∷ ks) a q t b = absurd (cc)
+
   halt_both : (i : Bool) → inside ≡ i → (s t : List Position) → s ≡ olds_of x ks → t ≡ news_of x ks → Both (halt i (one_of s) s) (halt i (other_of t) t)
   halt_both true e s t a b = tt
   halt_both false e (q ∷ s) t a b = tt
   halt_both false e [] [] a b = (e, ended [] [] a b)
-  halt_both false e [] (q ∷ t) a b = absurd (let l = same_length [] (q ∷ t) a b in cc)
+  halt_both false e [] (q ∷ t) a b = absurd (no_news ks a q t b)
 
   left_over : (ks : List Frame) → [] ≡ olds_of x ks → (a : ℕ) → n.apart.bytes a ≡ false → apart_of n ks a ≡ false
   left_over [] e a d = or_both (n.apart.bytes a) false d refl
@@ -87,10 +91,7 @@ module _ (x : Lean) (sound : IsSound x) (inside : Bool) (rest : ℕ → Bool) (s
   restore_both false s t a b e = tt
   restore_both true (q ∷ s) t a b e = tt
   restore_both true [] [] a b e = (e.0, λ c z. left_over ks a c (e.1 c z))
-  restore_both true [] (q ∷ t) a b e = absurd (let l = same_length [] (q ∷ t) a b in cc)
-
-  still_or : (a : ℕ) → n.apart.bytes a ≡ false → held ks a ≡ false → rest a ≡ false → scene.m a ≡ scene.k a
-  still_or = scene.still
+  restore_both true [] (q ∷ t) a b e = absurd (no_news ks a q t b)
 
   jump_both : (o : Option ℕ) → Expects (noted (x.rows p.block) o) n.facts n.apart
       → Both (jump_to (one x sound inside rest scene) (option_map (λ k. stand (old_program x) (position p.block k)) o)) (jump_to (other x sound inside rest scene) (option_map (under x) (option_map (λ k. stand (old_program x) (position p.block k)) o)))

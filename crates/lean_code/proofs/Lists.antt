@@ -145,7 +145,7 @@ pub record Stood (rows : List Row) (j : ℕ) : Type 0 where
   pub s : Sym
   pub act : Act
   pub note : Option Note
-  pub row : slice_get rows j ≡ Some (At s act said)
+  pub row : slice_get rows j ≡ Some (At s act note)
   pub here : slice_get (olds rows) j ≡ Some s
   pub ahead : note_ahead (drop j rows) ≡ Some note
   pub word : is_label s ≡ false

@@ -2,7 +2,8 @@
 use Rattle.std.proofs.lemmas.Option.{none-some}
 use Rattle.std.proofs.Common.{◌≡◌, ℕ, suc, ◌+◌, ◌≤◌, ◌⊎◌, inl, inr, Bool, true, false, not, ◌&&◌, if◌then◌else◌, List, [], Option, Some, None, refl, sym, ap, ◌∙◌, subst, arith}
 use Rattle.pic_world.specs.World.{Outside, World, Ended, is_due, entered, left, noted, after_device_read, after_device_write}
-use Rattle.pic_world.specs.Control.{is_stored}
+use Rattle.pic_world.specs.Control as control
+use Rattle.pic_world.specs.Control.{is_stored, with_stored}
 use Rattle.core_code.specs.Cost.{context_cost}
 use Rattle.sym_code.specs.Cost.{Prices, least_prices, most_prices, instruction_cost, thread_cost, step_cost_at}
 use Rattle.sym_code.specs.Effect.{Setting, Loud, Port, Shared, Rest, Thread, Memory, Write, written, Effect, Stuck, Quiet, Reads, Writes, Leaves, Ends, Rests, effect}
@@ -71,11 +72,11 @@ read_inside o m w (Shared j cell) = refl
 
 wrote_inside : (w : World ℕ) (b : Loud) (v : ℕ) → (wrote_by w b v).inside ≡ w.inside
 unfolding after_device_write
-wrote_inside w (Port address) v = by_case (is_stored address) _
+wrote_inside w (Port address) v = by_case (is_stored address)
   where
-    by_case : (c : Bool) (y : _) → (if c then record w { control = y } else w).inside ≡ w.inside
-    by_case true y = refl
-    by_case false y = refl
+    by_case : (c : Bool) → (if c then record w { control = with_stored address v w.control } else w).inside ≡ w.inside
+    by_case true = refl
+    by_case false = refl
 wrote_inside w (Shared j cell) v = refl
 
 left_inside : (w : World ℕ) → (left w).inside ≡ false
@@ -88,7 +89,7 @@ entered_inside w = refl
 
 due_outside : (w : World ℕ) → is_due w ≡ true → w.inside ≡ false
 unfolding is_due
-due_outside w e = by_case w.inside _ e
+due_outside w e = by_case w.inside (control.is_due w.control) e
   where
     by_case : (c b : Bool) → (not c && b) ≡ true → c ≡ false
     by_case true b e = never e

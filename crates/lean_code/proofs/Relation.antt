@@ -161,6 +161,13 @@ module _ (x : Lean) where
           stands : lands (old_program x) q ≡ true
           stands = subst (λ (p : Option Position). lands_at (old_program x) p ≡ true) at there
 
+          note_of_it : (n : Note) → To x home (Some (Some n)) q → IsNote x inside n
+          note_of_it n to =
+              let here = stood (x.rows q.block) q.index stands in
+              let same_note : here.note ≡ Some n = some_in here.note (Some n) (sym here.ahead ∙ to.note) in
+              let r = sound.right q.block q.index here.s here.act n (here.row ∙ ap (λ (o : Option Note). Some (At here.s here.act o)) same_note) in
+              subst (λ (i : Bool). IsNote x i n) (ap x.inside to.block ∙ home_inside) r.note
+
           by_note : (o : Option (Option Note)) → To x home o q → Expects o f d → Ready inside rest th tv m k × (lands_at (new_program x) tv.at ≡ true)
           by_note None to e = absurd (none-some _ (sym to.note ∙ (stood (x.rows q.block) q.index stands).ahead))
           by_note (Some None) to e = absurd e
@@ -185,10 +192,3 @@ module _ (x : Lean) where
             },
             subst (λ (p : Option Position). lands_at (new_program x) p ≡ true) (sym new_at) (lands_new q n to.note stands),
           )
-            where
-              note_of_it : (n : Note) → To x home (Some (Some n)) q → IsNote x inside n
-              note_of_it n to =
-                  let here = stood (x.rows q.block) q.index stands in
-                  let same_note : here.note ≡ Some n = some_in here.note (Some n) (sym here.ahead ∙ to.note) in
-                  let r = sound.right q.block q.index here.s here.act n (here.row ∙ ap (λ (o : Option Note). Some (At here.s here.act o)) same_note) in
-                  subst (λ (i : Bool). IsNote x i n) (ap x.inside to.block ∙ home_inside) r.note

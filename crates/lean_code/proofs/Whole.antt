@@ -1,5 +1,5 @@
 -- The code that is made follows the given code.
-use Rattle.std.proofs.Common.{◌≡◌, ℕ, zero, suc, ◌+◌, ◌<◌, ◌≤◌, Bool, true, false, List, [], map, map-id, Some, None, refl, sym, ap, ◌∙◌, subst, ⊎_elim, arith}
+use Rattle.std.proofs.Common.{◌≡◌, ℕ, zero, suc, ◌+◌, ◌<◌, ◌≤◌, Bool, true, false, List, [], map, map-id, Option, Some, None, refl, sym, ap, ◌∙◌, subst, ⊎_elim, arith}
 use Rattle.std.proofs.lemmas.Bool.{cases_lt}
 use Rattle.std.proofs.lemmas.Option.{none-some}
 use Rattle.pic_world.specs.World.{Outside, World, Happening, arrived, world_at_start}
@@ -14,7 +14,7 @@ use Rattle.sym_code.specs.Registers.{Registers}
 use Rattle.sym_code.specs.Runs.{goes_on, is_still, sym_goes, sym_rests, run_of}
 use Rattle.sym_code.specs.declared.code.BlockName.{BlockName}
 use Rattle.sym_code.specs.declared.code.BlockName.TheVariants.{Copy}
-use Rattle.lean_code.specs.Rows.{Apart, nothing_known, note_ahead, Lean, old_program, new_program, old_setting, new_setting}
+use Rattle.lean_code.specs.Rows.{Apart, Note, nothing_known, note_ahead, Lean, old_program, new_program, old_setting, new_setting}
 use Rattle.lean_code.specs.Right.{Expects, Begins, IsSound}
 use Rattle.lean_code.specs.Links.{is_open, IsOpen, staying, stays_of, IsCheaper, LeanKeeps}
 use Rattle.lean_code.proofs.Lists.{never}
@@ -95,7 +95,7 @@ module _ (x : Lean) (sound : IsSound x) (old new : BlockName → ℕ → ℕ) (c
   abbrev Sim : ℕ → ℕ → Type 0
   Sim i k = Together x (settled o (one i)) (settled o (other k))
 
-  main_expects : (q : _) → Begins (λ j. false) q → Expects q nothing_known (record { w = false; z = false; dc = false; c = false; bytes = λ j. false })
+  main_expects : (q : Option (Option Note)) → Begins (λ j. false) q → Expects q nothing_known (record { w = false; z = false; dc = false; c = false; bytes = λ j. false })
   main_expects None h = tt
   main_expects (Some None) h = h
   main_expects (Some (Some i)) h = (h.0, record { flags = record { w = λ z. refl; z = λ z. refl; dc = λ z. refl; c = λ z. refl }; bytes = h.1 })
