@@ -222,12 +222,12 @@ module _ (x : Lean) (sound : IsSound x) (inside : Bool) (rest : ℕ → Bool) (s
   flag_alone Btfss b e = test_flag_alone 1 e (status_bit r b)
 
   -- ---- others
-  literal_lone : (op : LiteralOperation) (value : Literal) → is_retlw op ≡ false → Expects (note_ahead list) (after_literal x p.block inside n op value) (other_w (one_sets (literal_flags op) d))
+  literal_lone : (op : LiteralOperation) (value : Literal) → is_retlw op ≡ false → Expects (note_ahead list) (after_literal f op value) (other_w (one_sets (literal_flags op) d))
       → Lone (literal (old_program x) p first op (after_row (literal_row op (literal_value x.layout value)) r))
   literal_lone op value plain_op l =
       let t = after_row (literal_row op (literal_value x.layout value)) r in
       subst Lone (sym (literal_quiet (old_program x) p first op t plain_op))
-      (moves (after_literal x p.block inside n op value) (other_w (one_sets (literal_flags op) d)) l t m (literal_alone d r s scene.alike op (literal_value x.layout value) plain_op) (literal_holds x sound inside rest scene op value) scene.still, tt)
+      (moves (after_literal f op value) (other_w (one_sets (literal_flags op) d)) l t m (literal_alone d r s scene.alike op (literal_value x.layout value) plain_op) (literal_holds x sound inside rest scene op value) scene.still, tt)
 
   plain_alone : (op : PlainOperation) → DropsPlain x p.block inside n list op → Lone (plain (old_program x) p first op)
   plain_alone Clrw e = (moves (record f { number = Some 0; held = λ a. false; zero = true }) (record d { w = true; z = true }) e (after_row ins.Clrw r) m (clear_alone d r s scene.alike) (cleared_holds x sound inside rest scene) scene.still, tt)

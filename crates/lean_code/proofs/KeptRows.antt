@@ -55,7 +55,7 @@ literal_quiet q at th op t e = refl
 
 
 module _ (x : Lean) (sound : IsSound x) (inside : Bool) (rest : ℕ → Bool) (scene : Scene x inside rest) where
-  pub literal_holds : (op : LiteralOperation) (value : Literal) → Holds (after_literal x scene.p.block inside scene.n op value) (after_row (literal_row op (literal_value x.layout value)) scene.r) scene.m
+  pub literal_holds : (op : LiteralOperation) (value : Literal) → Holds (after_literal scene.n.facts op value) (after_row (literal_row op (literal_value x.layout value)) scene.r) scene.m
   literal_holds literals.Movlw (Number i) =
       subst (λ (t : Registers). Holds (record scene.n.facts { number = Some i; held = λ a. false; zero = false }) t scene.m) (sym (moved_w scene.r i)) (record { number = λ j e. some_is i j e; held = λ a e. never e; zero = λ e. never e; known = scene.holds.known })
   literal_holds op value = lose_w scene.n.facts scene.r scene.m scene.holds (after_row (literal_row op (literal_value x.layout value)) scene.r)
@@ -197,14 +197,14 @@ module _ (x : Lean) (sound : IsSound x) (inside : Bool) (rest : ℕ → Bool) (s
       (λ i. learned_byte x.hidden (without_zero f) (record r { z = 1 }) m i 0 h) operand clear l
 
   -- ---- literals and others
-  literal_both : (op : LiteralOperation) (value : Literal) → is_retlw op ≡ false → (literal_uses op ≡ true → d.w ≡ false) → Expects (note_ahead list) (after_literal x p.block inside n op value) (same_w (both_set (literal_flags op) d))
+  literal_both : (op : LiteralOperation) (value : Literal) → is_retlw op ≡ false → (literal_uses op ≡ true → d.w ≡ false) → Expects (note_ahead list) (after_literal f op value) (same_w (both_set (literal_flags op) d))
       → Both (literal (old_program x) p first op (after_row (literal_row op (literal_value x.layout value)) r)) (literal (new_program x) (under x p) second op (after_row (literal_row op (literal_value x.layout value)) s))
   literal_both op value plain_op uses l =
       let t = after_row (literal_row op (literal_value x.layout value)) r in
       let u = after_row (literal_row op (literal_value x.layout value)) s in
       subst (λ (e : Effect). Both e (literal (new_program x) (under x p) second op u)) (sym (literal_quiet (old_program x) p first op t plain_op))
       (subst (λ (e : Effect). Both (quiet (goes first (behind (old_program x) p) t)) e) (sym (literal_quiet (new_program x) (under x p) second op u plain_op))
-      (goes_both (after_literal x p.block inside n op value) (same_w (both_set (literal_flags op) d)) l t u (literal_same d r s scene.alike op (literal_value x.layout value) plain_op uses) (literal_holds x sound inside rest scene op value) scene.still))
+      (goes_both (after_literal f op value) (same_w (both_set (literal_flags op) d)) l t u (literal_same d r s scene.alike op (literal_value x.layout value) plain_op uses) (literal_holds x sound inside rest scene op value) scene.still))
 
   plain_both : (op : PlainOperation) → KeepsPlain x p.block inside n list op → Both (plain (old_program x) p first op) (plain (new_program x) (under x p) second op)
   plain_both Clrw e = goes_both (record f { number = Some 0; held = λ a. false; zero = true }) (record d { w = false; z = false }) e (after_row ins.Clrw r) (after_row ins.Clrw s) (clear_same d r s scene.alike) (cleared_holds x sound inside rest scene) scene.still

@@ -14,3 +14,4 @@ mod Steps
 mod Machines
 mod Resting
 mod Whole
+mod Checking

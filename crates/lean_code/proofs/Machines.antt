@@ -174,11 +174,11 @@ module _ (x : Lean) where
   some_price c p Rests = refl
 
   cost_is : (g : Setting) (c : Prices) (inside : Bool) (th : Thread) (m : Memory) → thread_cost g c inside th m th.rest ≡ price_of (base c th.rest th.at) c.leave (effect g inside th m)
+  unfolding effect
   cost_is g c inside th m = by_parts inside th.rest th.at th.stack th.registers
     where
       by_parts : (inside : Bool) (w : Option Rest) (at : Option Position) (stack : List Position) (r : Registers)
           → thread_cost g c inside (record { rest = w; at = at; stack = stack; registers = r }) m w ≡ price_of (base c w at) c.leave (effect g inside (record { rest = w; at = at; stack = stack; registers = r }) m)
-      unfolding effect
       by_parts inside (Some w) at stack r = refl
       by_parts true None None stack r = refl
       by_parts false None None stack r = refl
@@ -418,10 +418,10 @@ module _ (x : Lean) where
       by_either (Lone h skips) = by_alone (alone_acted old_effect h)
         where
           base_none : base (staying x) th.rest th.at ≡ 0
-          base_none = ap (λ (z : Option Rest). base (staying x) z th.at) skips.rest ∙ ap (λ (z : Option Position). base (staying x) None z) skips.at ∙ dropped_count (row_at x skips.p) skips.dropped
+          base_none = ap (λ (z : Option Rest). base (staying x) z th.at) skips.none_left ∙ ap (λ (z : Option Position). base (staying x) None z) skips.stands ∙ dropped_count (row_at x skips.place) skips.dropped
 
           pace_none : pace_at th.rest th.at ≡ 0
-          pace_none = ap (λ (z : Option Rest). pace_at z th.at) skips.rest ∙ ap (λ (z : Option Position). pace_at None z) skips.at ∙ dropped_count (row_at x skips.p) skips.dropped
+          pace_none = ap (λ (z : Option Rest). pace_at z th.at) skips.none_left ∙ ap (λ (z : Option Position). pace_at None z) skips.stands ∙ dropped_count (row_at x skips.place) skips.dropped
 
           none_is : (e : Effect) → only.Alone x c rest tv m k e → price_of (new_base (staying x) th) 0 e ≡ 0
           none_is Stuck h = base_none

@@ -88,10 +88,10 @@ module _ (x : Lean) (sound : IsSound x) (inside : Bool) (rest : ℕ → Bool) (s
   z_if false g b v same zero l e = never (sym e)
 
   -- the registers behind it
-  move_alike : (j i v : ℕ) → j ≡ i → m i ≡ v → Alike (literal_apart x p.block inside n files.Movf j) (record (flags_with r files.Movf (m i)) { w = result_with r files.Movf (m i) }) (after_row (literal_row literals.Movlw v) s)
+  move_alike : (j i v : ℕ) → j ≡ i → m i ≡ v → Alike (literal_apart f d files.Movf j) (record (flags_with r files.Movf (m i)) { w = result_with r files.Movf (m i) }) (after_row (literal_row literals.Movlw v) s)
   move_alike j i v is e =
-      subst (λ (t : Registers). Alike (literal_apart x p.block inside n files.Movf j) t (after_row (literal_row literals.Movlw v) s)) (sym (move_is r (m i)))
-      (subst (λ (u : Registers). Alike (literal_apart x p.block inside n files.Movf j) (record r { w = m i; z = truth (nat_eq (m i) 0) }) u) (sym (moved_w s v))
+      subst (λ (t : Registers). Alike (literal_apart f d files.Movf j) t (after_row (literal_row literals.Movlw v) s)) (sym (move_is r (m i)))
+      (subst (λ (u : Registers). Alike (literal_apart f d files.Movf j) (record r { w = m i; z = truth (nat_eq (m i) 0) }) u) (sym (moved_w s v))
       (record {
         w = λ z. e;
         z = λ z. z_if (f.held j) f.zero d.z (m i) (λ h. scene.holds.held j h ∙ ap m is) scene.holds.zero scene.alike.z z;
@@ -112,7 +112,7 @@ module _ (x : Lean) (sound : IsSound x) (inside : Bool) (rest : ℕ → Bool) (s
   inner a b e = cc
 
   abbrev PutAlike : FileOperation → ℕ → ℕ → ℕ → LiteralOperation → Type 0
-  PutAlike op j i v new = Alike (literal_apart x p.block inside n op j) (record (flags_with r op (m i)) { w = result_with r op (m i) }) (after_row (literal_row new v) s)
+  PutAlike op j i v new = Alike (literal_apart f d op j) (record (flags_with r op (m i)) { w = result_with r op (m i) }) (after_row (literal_row new v) s)
 
   put_alike : (op : FileOperation) (new : LiteralOperation) (j i v : ℕ) → literal_for op ≡ Some new → (uses_w op ≡ true → d.w ≡ false) → j ≡ i → m i ≡ v → PutAlike op j i v new
   put_alike files.Movf new j i v e uses is same = subst (PutAlike files.Movf j i v) (inner literals.Movlw new e) (move_alike j i v is same)
@@ -132,13 +132,13 @@ module _ (x : Lean) (sound : IsSound x) (inside : Bool) (rest : ℕ → Bool) (s
       let t = record (flags_with r op (m i)) { w = result_with r op (m i) } in
       let same : m i ≡ v = ap m (sym is) ∙ scene.holds.known j v e.1 in
       (subst (λ (c : Bool). Goes x inside rest (goes first (onward (old_program x) p c) t) (goes second (behind (new_program x) (under x p)) (after_row (literal_row new v) s)) m scene.k) (sym (no_skip r op (m i) (like op new e.0).steps))
-      (next x sound inside rest scene stands (after_to_w op (ToByte j) f) (literal_apart x p.block inside n op j) e.3 None None refl tt t (after_row (literal_row new v) s) m scene.k
+      (next x sound inside rest scene stands (after_to_w op (ToByte j) f) (literal_apart f d op j) e.3 None None refl tt t (after_row (literal_row new v) s) m scene.k
       (put_alike op new j i v e.0 e.2 is same) (to_w_holds f r m scene.holds op (ToByte j) (m i) (λ h z. ap m (sym is ∙ aim_eq j h z))) (λ a z o w. scene.still a (sym (apart_bytes op j a) ∙ z) o w)), tt)
     where
       aim_eq : (j h : ℕ) → ToByte j ≡ ToByte h → j ≡ h
       aim_eq j h e = cc
 
-      apart_bytes : (op : FileOperation) (j a : ℕ) → (literal_apart x p.block inside n op j).bytes a ≡ d.bytes a
+      apart_bytes : (op : FileOperation) (j a : ℕ) → (literal_apart f d op j).bytes a ≡ d.bytes a
       apart_bytes files.Movf j a = refl
       apart_bytes op j a = refl
 

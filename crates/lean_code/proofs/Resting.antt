@@ -171,11 +171,11 @@ entered_moves g e (Some copy) u = by_land (lands g.program (front g.program (Cop
 
 -- where it rests no instruction is next
 pub open_at_rest : (hidden : ℕ → Bool) (g : Setting) (e : Entry) (o : Outside) (u : Machine) → is_still (sym_step_at g e o u) ≡ true → is_open hidden g.program (running u) ≡ true
+unfolding effect
 open_at_rest hidden g e o u rests = by_due (is_due u.world) rests
   where
     by_parts : (i : Bool) (w : Option Rest) (at : Option Position) (stack : List Position) (r : Registers) → is_still (acted g o u (effect g i (record { rest = w; at = at; stack = stack; registers = r }) u.memory)) ≡ true
         → is_open hidden g.program (record { rest = w; at = at; stack = stack; registers = r }) ≡ true
-    unfolding effect
     by_parts i (Some w) at stack r h = never (sym (acted_moves g o u (effect g i (record { rest = Some w; at = at; stack = stack; registers = r }) u.memory) refl) ∙ h)
     by_parts i None None stack r h = refl
     by_parts true None (Some p) stack r h = never (sym (acted_moves g o u (effect_if g true p (record { rest = None; at = Some p; stack = stack; registers = r }) u.memory (fetched g.program p)) (some_moves g true p (record { rest = None; at = Some p; stack = stack; registers = r }) u.memory (fetched g.program p))) ∙ h)

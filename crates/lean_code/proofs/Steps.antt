@@ -65,10 +65,10 @@ module _ (x : Lean) (sound : IsSound x) (inside : Bool) (rest : ℕ → Bool) (f
   Pays th = (p : Position) → th.rest ≡ None → th.at ≡ Some p → stands_at (row_at x p) ≡ true
 
   pub record Skips (th : Thread) : Type 0 where
-    pub p : Position
-    pub rest : th.rest ≡ None
-    pub at : th.at ≡ Some p
-    pub dropped : dropped_at (row_at x p) ≡ true
+    pub place : Position
+    pub none_left : th.rest ≡ None
+    pub stands : th.at ≡ Some place
+    pub dropped : dropped_at (row_at x place) ≡ true
 
   pub data Either (th tv : Thread) (e f : Effect) : Type 0 where
     Lost : e ≡ Stuck → Either th tv e f
@@ -171,7 +171,7 @@ module _ (x : Lean) (sound : IsSound x) (inside : Bool) (rest : ℕ → Bool) (f
           subst (λ (o : Option Sym). ByRow (Some i) o) (sym (made_at stands (Some i) (ap put_at row ∙ put_keeps i))) (Matched (kept_both x sound inside rest scene stands i clear right) (pays stands))
       by_act Drops row right =
           let drops : dropped_at (row_at x p) ≡ true = subst (λ (o : Option Row). dropped_at o ≡ true) (sym row) (drops_drops i (Some n) word) in
-          Lone (dropped_alone x sound inside rest scene drops i clear right) (record { p = p; rest = refl; at = refl; dropped = drops })
+          Lone (dropped_alone x sound inside rest scene drops i clear right) (record { place = p; none_left = refl; stands = refl; dropped = drops })
       by_act (Puts op v) row right =
           let stands : stands_at (row_at x p) ≡ true = subst (λ (o : Option Row). stands_at o ≡ true) (sym row) (stands_puts i op v (Some n) word) in
           subst (λ (o : Option Sym). ByRow (Some i) o) (sym (made_at stands (Some (syms.Literal op (Number v))) (ap put_at row ∙ put_puts i op v word))) (Matched (put_both x sound inside rest scene stands op v i clear right) (pays stands))

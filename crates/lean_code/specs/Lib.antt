@@ -2,3 +2,4 @@ pub mod Rows
 pub mod Changes
 pub mod Right
 pub mod Links
+pub mod Checked

@@ -87,6 +87,16 @@ flag_apart b d = if nat_eq b 0 then d.c else if nat_eq b 1 then d.dc else if nat
 abbrev pub with_flag : ℕ → Bool → Apart → Apart
 with_flag b v d = if nat_eq b 0 then record d { c = v } else if nat_eq b 1 then record d { dc = v } else if nat_eq b 2 then record d { z = v } else d
 
+-- what is known behind an operation on W and a number
+abbrev pub after_literal : Facts → LiteralOperation → Literal → Facts
+after_literal f literals.Movlw (Number k) = record f { number = Some k; held = λ a. false; zero = false }
+after_literal f op value = without_w f
+
+-- what may differ behind one that stands in place of an operation on a byte
+abbrev pub literal_apart : Facts → Apart → FileOperation → ℕ → Apart
+literal_apart f d files.Movf k = record d { w = false; z = if f.held k && f.zero then d.z else true }
+literal_apart f d op k = same_w (both_set (flags_in op) d)
+
 module _ (x : Lean) (own : BlockName) (inside : Bool) (n : Note) where
   abbrev pub f : Facts
   f = n.facts
@@ -119,10 +129,6 @@ module _ (x : Lean) (own : BlockName) (inside : Bool) (n : Note) where
   KeepsBit rest bit_ops.Bsf operand b = IsSame (write operand) × Expects (note_ahead rest) (lost x.hidden (write operand) f) d
   KeepsBit rest op operand b = IsSame (read operand) × Leads rest true f d
 
-  abbrev pub after_literal : LiteralOperation → Literal → Facts
-  after_literal literals.Movlw (Number k) = record f { number = Some k; held = λ a. false; zero = false }
-  after_literal op value = without_w f
-
   abbrev pub KeepsPlain : List Row → PlainOperation → Type 0
   KeepsPlain rest plains.Clrw = Expects (note_ahead rest) (record f { number = Some 0; held = λ a. false; zero = true }) (record d { w = false; z = false })
   KeepsPlain rest plains.Nop = Expects (note_ahead rest) f d
@@ -149,7 +155,7 @@ module _ (x : Lean) (own : BlockName) (inside : Bool) (n : Note) where
   IsKept rest (syms.Movwf operand) = (d.w ≡ false) × Expects (note_ahead rest) (stored x.hidden (write operand) f) (same_byte (write operand) d)
   IsKept rest (syms.Clrf operand) = Expects (note_ahead rest) (learned x.hidden (write operand) (Some 0) (without_zero f)) (same_byte (write operand) (record d { z = false }))
   IsKept rest (syms.Bit op operand b) = KeepsBit rest op operand b
-  IsKept rest (syms.Literal op value) = (is_retlw op ≡ false) × (literal_uses op ≡ true → d.w ≡ false) × Expects (note_ahead rest) (after_literal op value) (same_w (both_set (literal_flags op) d))
+  IsKept rest (syms.Literal op value) = (is_retlw op ≡ false) × (literal_uses op ≡ true → d.w ≡ false) × Expects (note_ahead rest) (after_literal f op value) (same_w (both_set (literal_flags op) d))
   IsKept rest (syms.Plain op) = KeepsPlain rest op
   IsKept rest (syms.Call target) = KeepsCall rest target
   IsKept rest (syms.Goto target) = KeepsGoto target
@@ -208,18 +214,14 @@ module _ (x : Lean) (own : BlockName) (inside : Bool) (n : Note) where
   IsDropped here rest (syms.Movwf operand) = DropsStore rest (write operand)
   IsDropped here rest (syms.Clrf operand) = DropsClear rest (write operand)
   IsDropped here rest (syms.Bit op operand b) = DropsBit rest op operand b
-  IsDropped here rest (syms.Literal op value) = (is_retlw op ≡ false) × Expects (note_ahead rest) (after_literal op value) (other_w (one_sets (literal_flags op) d))
+  IsDropped here rest (syms.Literal op value) = (is_retlw op ≡ false) × Expects (note_ahead rest) (after_literal f op value) (other_w (one_sets (literal_flags op) d))
   IsDropped here rest (syms.Plain op) = DropsPlain rest op
   IsDropped here rest (syms.Goto target) = DropsGoto here target
   IsDropped here rest s = ⊥
 
   -- ---- an operation on W and a number in its place
-  abbrev pub literal_apart : FileOperation → ℕ → Apart
-  literal_apart files.Movf k = record d { w = false; z = if f.held k && f.zero then d.z else true }
-  literal_apart op k = same_w (both_set (flags_in op) d)
-
   abbrev pub PutsFor : List Row → FileOperation → Aim → LiteralOperation → ℕ → Type 0
-  PutsFor rest op (ToByte k) new v = (literal_for op ≡ Some new) × (f.known k ≡ Some v) × (uses_w op ≡ true → d.w ≡ false) × Expects (note_ahead rest) (after_to_w op (ToByte k) f) (literal_apart op k)
+  PutsFor rest op (ToByte k) new v = (literal_for op ≡ Some new) × (f.known k ≡ Some v) × (uses_w op ≡ true → d.w ≡ false) × Expects (note_ahead rest) (after_to_w op (ToByte k) f) (literal_apart f d op k)
   PutsFor rest op aim new v = ⊥
 
   abbrev pub IsPut : List Row → LiteralOperation → ℕ → Sym → Type 0
