@@ -67,11 +67,11 @@ sides false b e = sym (is_not b e)
 -- ---- lists
 all_is : (test : ℕ → Bool) (bs : List ℕ) → all_of test bs ≡ true → (a : ℕ) → among a bs ≡ true → test a ≡ true
 all_is test [] e a k = never k
-all_is test (b ∷ bs) e a k = by_case (nat_eq a b) refl k
+all_is test (b ∷ bs) e a k = by_case (nat_eq a b) refl (all_is test bs (and_r (test b) (all_of test bs) e) a) k
   where
-    by_case : (c : Bool) → nat_eq a b ≡ c → (c || among a bs) ≡ true → test a ≡ true
-    by_case true is k = ap test (eqb-true a b is) ∙ and_l (test b) (all_of test bs) e
-    by_case false is k = all_is test bs (and_r (test b) (all_of test bs) e) a k
+    by_case : (c : Bool) → nat_eq a b ≡ c → (among a bs ≡ true → test a ≡ true) → (c || among a bs) ≡ true → test a ≡ true
+    by_case true is more k = ap test (eqb-true a b is) ∙ and_l (test b) (all_of test bs) e
+    by_case false is more k = more k
 
 -- what isn't so of a byte that is listed isn't listed
 all_not : (test : ℕ → Bool) (bs : List ℕ) → all_of test bs ≡ true → (a : ℕ) → test a ≡ false → among a bs ≡ false
@@ -83,19 +83,19 @@ number_is (Some k) n e = ap Some (eqb-true k n e)
 
 known_is : (has : ℕ → Option ℕ) (bs : List KnownByte) → gives_known has bs ≡ true → (a n : ℕ) → number_in a bs ≡ Some n → has a ≡ Some n
 known_is has [] e a n k = absurd (none-some n k)
-known_is has (b ∷ bs) e a n k = by_case (nat_eq a b.byte) refl k
+known_is has (b ∷ bs) e a n k = by_case (nat_eq a b.byte) refl (known_is has bs (and_r (is_number (has b.byte) b.number) (gives_known has bs) e) a n) k
   where
-    by_case : (c : Bool) → nat_eq a b.byte ≡ c → (if c then Some b.number else number_in a bs) ≡ Some n → has a ≡ Some n
-    by_case true is k = ap has (eqb-true a b.byte is) ∙ number_is (has b.byte) b.number (and_l (is_number (has b.byte) b.number) (gives_known has bs) e) ∙ k
-    by_case false is k = known_is has bs (and_r (is_number (has b.byte) b.number) (gives_known has bs) e) a n k
+    by_case : (c : Bool) → nat_eq a b.byte ≡ c → (number_in a bs ≡ Some n → has a ≡ Some n) → (if c then Some b.number else number_in a bs) ≡ Some n → has a ≡ Some n
+    by_case true is more k = ap has (eqb-true a b.byte is) ∙ number_is (has b.byte) b.number (and_l (is_number (has b.byte) b.number) (gives_known has bs) e) ∙ k
+    by_case false is more k = more k
 
 known_all : (test : ℕ → Bool) (bs : List KnownByte) → all_known test bs ≡ true → (a n : ℕ) → number_in a bs ≡ Some n → test a ≡ true
 known_all test [] e a n k = absurd (none-some n k)
-known_all test (b ∷ bs) e a n k = by_case (nat_eq a b.byte) refl k
+known_all test (b ∷ bs) e a n k = by_case (nat_eq a b.byte) refl (known_all test bs (and_r (test b.byte) (all_known test bs) e) a n) k
   where
-    by_case : (c : Bool) → nat_eq a b.byte ≡ c → (if c then Some b.number else number_in a bs) ≡ Some n → test a ≡ true
-    by_case true is k = ap test (eqb-true a b.byte is) ∙ and_l (test b.byte) (all_known test bs) e
-    by_case false is k = known_all test bs (and_r (test b.byte) (all_known test bs) e) a n k
+    by_case : (c : Bool) → nat_eq a b.byte ≡ c → (number_in a bs ≡ Some n → test a ≡ true) → (if c then Some b.number else number_in a bs) ≡ Some n → test a ≡ true
+    by_case true is more k = ap test (eqb-true a b.byte is) ∙ and_l (test b.byte) (all_known test bs) e
+    by_case false is more k = more k
 
 -- ---- notes
 gives_is : (f : Facts) (n : ListedFacts) → gives f n ≡ true → Weaker (facts_in n) f
@@ -560,36 +560,32 @@ module _ (k : Sketch) where
   -- the rows of a block that has some are tested
   tested_rows : (bs : List ListedBlock) → are_right_blocks k bs ≡ true → (own : BlockName) (j : ℕ) (row : ListedRow) → slice_get (block_in bs own).rows j ≡ Some row → are_right k own 0 (block_in k.blocks own).rows ≡ true
   tested_rows [] e own j row got = absurd (none-some row got)
-  tested_rows (b ∷ bs) e own j row got = by_name (same_name b.name own) refl got
+  tested_rows (b ∷ bs) e own j row got = by_name (same_name b.name own) refl (tested_rows bs (and_r (is_right_block k b) (are_right_blocks k bs) e) own j row) got
     where
-      rest : are_right_blocks k bs ≡ true
-      rest = and_r (is_right_block k b) (are_right_blocks k bs) e
-
       first : are_right k b.name 0 (block_in k.blocks b.name).rows ≡ true
       first =
           and_l (are_right k b.name 0 (block_in k.blocks b.name).rows) (all_of (λ a. is_own (block_in k.blocks b.name).inside (owner k.layout a)) (block_in k.blocks b.name).ends.apart.bytes)
           (and_l (is_right_block k b) (are_right_blocks k bs) e)
 
-      by_name : (c : Bool) → same_name b.name own ≡ c → slice_get (if c then b else block_in bs own).rows j ≡ Some row → are_right k own 0 (block_in k.blocks own).rows ≡ true
-      by_name true is got = subst (λ (name : BlockName). are_right k name 0 (block_in k.blocks name).rows ≡ true) (same_names b.name own is) first
-      by_name false is got = tested_rows bs rest own j row got
+      by_name : (c : Bool) → same_name b.name own ≡ c → (slice_get (block_in bs own).rows j ≡ Some row → are_right k own 0 (block_in k.blocks own).rows ≡ true) → slice_get (if c then b else block_in bs own).rows j ≡ Some row
+          → are_right k own 0 (block_in k.blocks own).rows ≡ true
+      by_name true is more got = subst (λ (name : BlockName). are_right k name 0 (block_in k.blocks name).rows ≡ true) (same_names b.name own is) first
+      by_name false is more got = more got
 
   -- what a block leaves apart is its own
   tested_ends : (bs : List ListedBlock) → are_right_blocks k bs ≡ true → (own : BlockName) (a : ℕ) → among a (block_in bs own).ends.apart.bytes ≡ true → all_of (λ j. is_own (block_in k.blocks own).inside (owner k.layout j)) (block_in k.blocks own).ends.apart.bytes ≡ true
   tested_ends [] e own a got = never got
-  tested_ends (b ∷ bs) e own a got = by_name (same_name b.name own) refl got
+  tested_ends (b ∷ bs) e own a got = by_name (same_name b.name own) refl (tested_ends bs (and_r (is_right_block k b) (are_right_blocks k bs) e) own a) got
     where
-      rest : are_right_blocks k bs ≡ true
-      rest = and_r (is_right_block k b) (are_right_blocks k bs) e
-
       first : all_of (λ j. is_own (block_in k.blocks b.name).inside (owner k.layout j)) (block_in k.blocks b.name).ends.apart.bytes ≡ true
       first =
           and_r (are_right k b.name 0 (block_in k.blocks b.name).rows) (all_of (λ j. is_own (block_in k.blocks b.name).inside (owner k.layout j)) (block_in k.blocks b.name).ends.apart.bytes)
           (and_l (is_right_block k b) (are_right_blocks k bs) e)
 
-      by_name : (c : Bool) → same_name b.name own ≡ c → among a (if c then b else block_in bs own).ends.apart.bytes ≡ true → all_of (λ j. is_own (block_in k.blocks own).inside (owner k.layout j)) (block_in k.blocks own).ends.apart.bytes ≡ true
-      by_name true is got = subst (λ (name : BlockName). all_of (λ j. is_own (block_in k.blocks name).inside (owner k.layout j)) (block_in k.blocks name).ends.apart.bytes ≡ true) (same_names b.name own is) first
-      by_name false is got = tested_ends bs rest own a got
+      by_name : (c : Bool) → same_name b.name own ≡ c → (among a (block_in bs own).ends.apart.bytes ≡ true → all_of (λ j. is_own (block_in k.blocks own).inside (owner k.layout j)) (block_in k.blocks own).ends.apart.bytes ≡ true)
+          → among a (if c then b else block_in bs own).ends.apart.bytes ≡ true → all_of (λ j. is_own (block_in k.blocks own).inside (owner k.layout j)) (block_in k.blocks own).ends.apart.bytes ≡ true
+      by_name true is more got = subst (λ (name : BlockName). all_of (λ j. is_own (block_in k.blocks name).inside (owner k.layout j)) (block_in k.blocks name).ends.apart.bytes ≡ true) (same_names b.name own is) first
+      by_name false is more got = more got
 
 begins_is : (rest : List ℕ) (q : Option (Option ListedNote)) → begins rest q ≡ true → Begins (λ a. among a rest) (option_map (option_map note_in) q)
 begins_is rest None e = tt
@@ -601,6 +597,11 @@ begins_is rest (Some (Some n)) e =
 
 begins_rows : (rest : List ℕ) (rows : List ListedRow) → begins rest (ahead rows) ≡ true → Begins (λ a. among a rest) (note_ahead (rows_in rows))
 begins_rows rest rows e = subst (Begins (λ a. among a rest)) (sym (ahead_is rows)) (begins_is rest (ahead rows) e)
+
+goes_at : (rows : List ListedRow) (j : ℕ) (s : Sym) (act : Act) (m : ListedNote) → slice_get rows j ≡ Some (Listed s act (Some m)) → rows_of.goes_on (At s act None ∷ rows_in (drop (suc j) rows)) ≡ true → rows_of.goes_on (drop j (rows_in rows)) ≡ true
+goes_at [] j s act m got e = absurd (none-some (Listed s act (Some m)) got)
+goes_at (row ∷ rows) zero s act m got e = subst (λ (z : ListedRow). rows_of.goes_on (row_in z ∷ rows_in rows) ≡ true) (sym (same_row row (Listed s act (Some m)) got)) e
+goes_at (row ∷ rows) (suc j) s act m got e = goes_at rows j s act m got e
 
 module _ (k : Sketch) (limit : Bool → ℕ) (old_page new_page : BlockName → ℕ) where
   handler_is : (o : Option ℕ) → begins_at k o ≡ true → BeginsAt (lean_of k limit old_page new_page) o
@@ -624,11 +625,6 @@ module _ (k : Sketch) (limit : Bool → ℕ) (old_page new_page : BlockName → 
         right = subst (λ (l : List Row). IsRight (lean_of k limit old_page new_page) own (block_in k.blocks own).inside (note_in y.note) (place_in (rows_in rows) j) l act s) (sym (drop_is (suc j) rows))
             (row_is k limit old_page new_page own y.note (place_in (rows_in rows) j) (drop (suc j) rows) act s (and_r two three more));
       })
-    where
-      goes_at : (rows : List ListedRow) (j : ℕ) (s : Sym) (act : Act) (m : ListedNote) → slice_get rows j ≡ Some (Listed s act (Some m)) → rows_of.goes_on (At s act None ∷ rows_in (drop (suc j) rows)) ≡ true → rows_of.goes_on (drop j (rows_in rows)) ≡ true
-      goes_at [] j s act m got e = absurd (none-some (Listed s act (Some m)) got)
-      goes_at (row ∷ rows) zero s act m got e = subst (λ (z : ListedRow). rows_of.goes_on (row_in z ∷ rows_in rows) ≡ true) (sym (same_row row (Listed s act (Some m)) got)) e
-      goes_at (row ∷ rows) (suc j) s act m got e = goes_at rows j s act m got e
 
 pub test_is_right : TestIsRight
 test_is_right k e limit old_page new_page =

@@ -15,3 +15,4 @@ mod Machines
 mod Resting
 mod Whole
 mod Checking
+mod Shrinking

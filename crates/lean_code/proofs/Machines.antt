@@ -336,7 +336,7 @@ module _ (x : Lean) where
     dropped_count None e = never e
     dropped_count (Some row) e = by_label (is_label (old_of row)) (is_dropped row) e
       where
-        by_label : (l d : Bool) → (if l then false else d) ≡ true → (if d then 0 else 1) ≡ 0
+        by_label : (l d : Bool) → (if l then false else d) ≡ true → ◌≡◌ {A = ℕ} (if d then 0 else 1) 0
         by_label true d e = never e
         by_label false true e = refl
         by_label false false e = never e

@@ -153,10 +153,10 @@ moved_moves u (Some y) = refl
 
 acted_moves : (g : Setting) (o : Outside) (u : Machine) (e : Effect) → Moves e → is_still (acted g o u e) ≡ false
 unfolding acted
-acted_moves g o u Stuck h = moved_moves u _
-acted_moves g o u (Quiet th w) h = moved_moves u _
-acted_moves g o u (Reads b f) h = moved_moves u _
-acted_moves g o u (Writes b v th) h = moved_moves u _
+acted_moves g o u Stuck h = moved_moves u (checked g.program (made o u.memory u.world Stuck))
+acted_moves g o u (Quiet th w) h = moved_moves u (checked g.program (made o u.memory u.world (Quiet th w)))
+acted_moves g o u (Reads b f) h = moved_moves u (checked g.program (made o u.memory u.world (Reads b f)))
+acted_moves g o u (Writes b v th) h = moved_moves u (checked g.program (made o u.memory u.world (Writes b v th)))
 acted_moves g o u Leaves h = refl
 acted_moves g o u (Ends th) h = refl
 acted_moves g o u Rests h = never (sym h)

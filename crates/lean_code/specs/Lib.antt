@@ -3,3 +3,4 @@ pub mod Changes
 pub mod Right
 pub mod Links
 pub mod Checked
+pub mod Shrinks

@@ -8,6 +8,7 @@
 
 ghost use Rattle.lean_code.specs.Checked.{TestIsRight};
 ghost use Rattle.lean_code.specs.Links.{LeanKeeps};
+ghost use Rattle.lean_code.specs.Shrinks.{RowsShrink, RowsKeep};
 
 /// Code that is made by a certificate that is right follows the given code.
 pub fn lean_keeps()
@@ -17,4 +18,10 @@ pub fn lean_keeps()
 /// A certificate that passes the test is right.
 pub fn test_is_right()
     ensures { TestIsRight }
+{}
+
+/// The code that is made has no more words, and names nothing that the given code doesn't name.
+pub fn rows_shrink()
+    ensures shorter { RowsShrink }
+    ensures kept { RowsKeep }
 {}
