@@ -315,6 +315,23 @@ class Whole:
         if ok: b.act[j] = 'drop'
         else: b.act[i] = saved
         return not ok
+    # pairs that one instruction could stand for: op X, File and Movf X, W behind it, where X is dead then (no rule of lean_code does it yet)
+    def pairs(self):
+        n = 0
+        for b in self.blocks.values():
+            live = self.live(b); last = None
+            for i, r in enumerate(b.rows):
+                if r[0] == 'Label': last = None; continue
+                if b.act[i] == 'drop': continue
+                if last is not None and r[0] == 'File' and r[1] == 'Movf' and r[3] == 'W' and b.rows[last][0] == 'File' and b.rows[last][3] == 'File' and b.rows[last][2] == r[2] \
+                        and not b.skips(b.rows[last]) and not isinstance(b.act[i], tuple):
+                    a = b.p.aim(b.own, r[2], False)
+                    after = set()
+                    for j in b.succ(i):
+                        if j < b.n: after |= live[j]
+                    if a[0] == 'byte' and a[1] not in after and not self.behind_skip(b, last): n += 1
+                last = i
+        return n
     def words(self):
         return sum(1 for b in self.blocks.values() for i, r in enumerate(b.rows) if r[0] != 'Label' and b.act[i] != 'drop')
 
@@ -329,6 +346,7 @@ if __name__ == '__main__':
                 w = Whole(Prog(text), hide, kinds)
                 if base is None: base = w.words()
                 w.run(); line.append(w.words())
+            line.append(w.words() - w.pairs())
         rows.append((name, base, line))
         print(name.split('/')[-1], base, line)
         if show:

@@ -1,5 +1,5 @@
 -- What is made is what was given without some instructions.
-use Rattle.std.proofs.Common.{◌≡◌, ℕ, ◌+◌, ◌≤◌, Bool, true, false, ◌&&◌, List, [], ◌∷◌, refl, sym, ap, ◌∙◌, subst, arith}
+use Rattle.std.proofs.Common.{◌≡◌, ℕ, ◌+◌, ◌≤◌, Bool, true, false, ◌&&◌, if◌then◌else◌, List, [], ◌∷◌, Option, Some, refl, sym, ap, ◌∙◌, subst, arith}
 use Rattle.std.specs.List.{list_all}
 use Rattle.std.proofs.lemmas.List.Sums.{sum_by-cons}
 use Rattle.sym_code.specs.Words.{words_of_one, words_in}
@@ -7,7 +7,8 @@ use Rattle.sym_code.specs.declared.code.Literal.TheVariants.{Number}
 use Rattle.sym_code.specs.declared.code.LiteralOperation.{LiteralOperation}
 use Rattle.sym_code.specs.declared.code.Sym.{Sym}
 use Rattle.sym_code.specs.declared.code.Sym.TheVariants as syms
-use Rattle.lean_code.specs.Rows.{Keeps, Drops, Puts, Row, At, olds, puts}
+use Rattle.lean_code.specs.Rows.{Keeps, Drops, Puts, Row, At, olds, puts, is_dropped, place_in, Lean}
+use Rattle.lean_code.specs.Links.{price_at, CarriedIsCheaper}
 use Rattle.lean_code.specs.Shrinks.{RowsShrink, RowsKeep}
 use Rattle.lean_code.proofs.Lists.{never}
 
@@ -47,3 +48,9 @@ rows_keep test (At s Keeps said ∷ rows) literal e = both (test s) (list_all te
 rows_keep test (At s Drops said ∷ rows) literal e = rows_keep test rows literal (and_r (test s) (list_all test (olds rows)) e)
 rows_keep test (At s (Puts op n) said ∷ rows) literal e =
     both (test (syms.Literal op (Number n))) (list_all test (puts rows)) (literal op n) (rows_keep test rows literal (and_r (test s) (list_all test (olds rows)) e))
+
+pub carried_is_cheaper : CarriedIsCheaper
+carried_is_cheaper x new name j row got stays =
+    let price : ℕ = new name (place_in (x.rows name) j) in
+    let same = ap (λ (o : Option Row). price_at o price) got ∙ ap (λ (d : Bool). if d then 0 else price) stays in
+    omega arith

@@ -66,6 +66,17 @@ stays_of x price e o t = record (run_of (old_setting x) price e o t) { least = �
 abbrev pub IsCheaper : Lean → (BlockName → ℕ → ℕ) → (BlockName → ℕ → ℕ) → Type 0
 IsCheaper x old new = (name : BlockName) (j : ℕ) (row : Row) → slice_get (x.rows name) j ≡ Some row → is_dropped row ≡ false → new name (place_in (x.rows name) j) ≤ old name j
 
+-- Prices of the code that is made, at the instructions that they are of; what is left out costs nothing.
+abbrev pub price_at : Option Row → ℕ → ℕ
+price_at None price = price
+price_at (Some row) price = if is_dropped row then 0 else price
+
+abbrev pub carried : Lean → (BlockName → ℕ → ℕ) → BlockName → ℕ → ℕ
+carried x new name j = price_at (slice_get (x.rows name) j) (new name (place_in (x.rows name) j))
+
+abbrev pub CarriedIsCheaper : Type 0
+CarriedIsCheaper = (x : Lean) (new : BlockName → ℕ → ℕ) → IsCheaper x (carried x new) new
+
 -- ---- what is kept
 -- From the same registers and the same memory, under every schedule and whatever the handler finds at its entries, as long as the
 -- given code isn't stuck and accesses no hidden byte through FSR: the code that is made makes its events, at no more than it costs, and

@@ -7,12 +7,14 @@
 #![tactic(auto)]
 
 ghost use Rattle.lean_code.specs.Checked.{TestIsRight};
-ghost use Rattle.lean_code.specs.Links.{LeanKeeps};
+ghost use Rattle.lean_code.specs.Links.{CarriedIsCheaper, LeanKeeps};
 ghost use Rattle.lean_code.specs.Shrinks.{RowsShrink, RowsKeep};
 
-/// Code that is made by a certificate that is right follows the given code.
+/// Code that is made by a certificate that is right follows the given code, at any prices by which no instruction that stays costs more
+/// than before; so at those that the made code's own prices carry back.
 pub fn lean_keeps()
-    ensures { LeanKeeps }
+    ensures follows { LeanKeeps }
+    ensures carried { CarriedIsCheaper }
 {}
 
 /// A certificate that passes the test is right.
