@@ -1,6 +1,5 @@
 -- Accesses of the given code, and where they lead.
-use Rattle.std.proofs.Common.{◌≡◌, ℕ, Bool, true, false, not, ◌&&◌, if◌then◌else◌, Option, Some, None, refl, sym, ap, ◌∙◌, subst}
-use Rattle.std.specs.Prelude.{nat_eq}
+use Rattle.std.proofs.Common.{◌≡◌, ℕ, Bool, true, false, not, if◌then◌else◌, Option, Some, None, refl, sym, ap, ◌∙◌}
 use Rattle.pic_world.specs.declared.Root.TheVariants.{Main, Isr}
 use Rattle.core_code.specs.declared.code.Byte.TheVariants as bytes
 use Rattle.sym_code.specs.Effect.{Loud, Port, Shared, Access, Pointer, Event, Silent, Denied, access_by, general_access, access_of}
@@ -10,7 +9,7 @@ use Rattle.sym_code.specs.declared.code.Operand.{Operand}
 use Rattle.sym_code.specs.declared.code.Operand.TheVariants as operands
 use Rattle.sym_code.specs.declared.code.Register.TheVariants.{Indf, Status, Fsr, Pclath}
 use Rattle.lean_code.specs.Rows.{Lean, old_setting, new_setting}
-use Rattle.lean_code.specs.Changes.{Aim, ToFsr, ToEvent, ToByte, Through, Nowhere, aim_of, aim, is_own, is_near}
+use Rattle.lean_code.specs.Changes.{Aim, ToFsr, ToEvent, ToByte, Through, aim_of, aim, is_own, is_near}
 use Rattle.lean_code.specs.Links.{is_clear, clears}
 use Rattle.lean_code.proofs.Lists.{never}
 

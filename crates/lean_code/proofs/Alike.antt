@@ -1,6 +1,6 @@
 -- What operations make of registers that are alike, on both machines or on one.
-use Rattle.std.proofs.Common.{◌≡◌, ℕ, Bool, true, false, not, Some, refl, sym, ap, ◌∙◌}
-use Rattle.std.specs.Prelude.{◌&&◌, ◌||◌, nat_eq, if◌then◌else◌}
+use Rattle.std.proofs.Common.{◌≡◌, ℕ, true, false, Some, refl, sym, ap, ◌∙◌}
+use Rattle.std.specs.Prelude.{nat_eq}
 use Rattle.std.proofs.lemmas.Nat.{and_comm, or_comm, xor_comm}
 use Rattle.pic_isa.specs.declared.Ins.TheVariants as ins
 use Rattle.pic_world.specs.Bits.{truth}
@@ -9,7 +9,7 @@ use Rattle.sym_code.specs.declared.code.FileOperation.{FileOperation}
 use Rattle.sym_code.specs.declared.code.FileOperation.TheVariants as files
 use Rattle.sym_code.specs.declared.code.LiteralOperation.{LiteralOperation}
 use Rattle.sym_code.specs.declared.code.LiteralOperation.TheVariants as literals
-use Rattle.lean_code.specs.Rows.{Facts, Apart}
+use Rattle.lean_code.specs.Rows.{Apart}
 use Rattle.lean_code.specs.Changes.{Alike, flags_in, uses_w, uses_c, may_skip, literal_flags, literal_uses, is_retlw, literal_for, both_set, one_sets, same_w, other_w}
 use Rattle.lean_code.proofs.Lists.{never}
 

@@ -1,12 +1,12 @@
 -- An instruction that is left out: the machine that runs the given code executes it alone.
-use Rattle.std.proofs.Common.{◌≡◌, ℕ, suc, Bool, true, false, not, if◌then◌else◌, List, drop, Option, Some, None, option_map, refl, sym, ap, ◌∙◌, subst}
-use Rattle.std.specs.Prelude.{nat_eq, nat_lt, ◌&&◌, ◌||◌}
+use Rattle.std.proofs.Common.{◌≡◌, ℕ, Bool, true, false, if◌then◌else◌, List, drop, Option, Some, None, option_map, refl, sym, ap, ◌∙◌, subst}
+use Rattle.std.specs.Prelude.{nat_eq, nat_lt, ◌&&◌}
 use Rattle.std.proofs.lemmas.Bool.{eqb-true}
 use Rattle.pic_isa.specs.declared.Ins.TheVariants as ins
 use Rattle.pic_world.specs.Bits.{bit, set_bit, clear_bit, truth}
-use Rattle.sym_code.specs.Effect.{Thread, Memory, Write, write, with_byte, written, Access, Pointer, Event, Silent, Denied, Effect, Stuck, Quiet, access_of, goes, quiet, file_to_w, file_to_file, store, change, test, put_flag, test_flag, flag, literal, literal_value, plain, jump_to, goto, effect_of}
+use Rattle.sym_code.specs.Effect.{Thread, Memory, with_byte, Access, Silent, Denied, Effect, access_of, goes, file_to_w, file_to_file, store, change, test, put_flag, test_flag, flag, literal, literal_value, plain, jump_to, goto, effect_of}
 use Rattle.sym_code.specs.Layout.{owner}
-use Rattle.sym_code.specs.Programs.{Program, Position, position, behind, onward, stand, label_from}
+use Rattle.sym_code.specs.Programs.{Position, position, behind, onward, stand, label_from}
 use Rattle.sym_code.specs.Registers.{Registers, result_with, flags_with, skips_with, literal_row, after_row, status_bit, with_status_bit}
 use Rattle.sym_code.specs.Touching.{touches}
 use Rattle.sym_code.specs.declared.code.BitOperation.{BitOperation}
@@ -17,8 +17,6 @@ use Rattle.sym_code.specs.declared.code.Into.TheVariants as into
 use Rattle.sym_code.specs.declared.code.Label.TheVariants.{Inner}
 use Rattle.sym_code.specs.declared.code.Literal.{Literal}
 use Rattle.sym_code.specs.declared.code.LiteralOperation.{LiteralOperation}
-use Rattle.sym_code.specs.declared.code.LiteralOperation.TheVariants as literals
-use Rattle.sym_code.specs.declared.code.Operand.{Operand}
 use Rattle.sym_code.specs.declared.code.Operand.TheVariants as operands
 use Rattle.sym_code.specs.declared.code.PlainOperation.{PlainOperation}
 use Rattle.sym_code.specs.declared.code.PlainOperation.TheVariants.{Clrw, Nop, Retfie, Return}
@@ -27,17 +25,17 @@ use Rattle.sym_code.specs.declared.code.Sym.{Sym}
 use Rattle.sym_code.specs.declared.code.Sym.TheVariants as syms
 use Rattle.sym_code.specs.declared.code.Target.{Target}
 use Rattle.sym_code.specs.declared.code.Target.TheVariants as targets
-use Rattle.lean_code.specs.Rows.{Facts, Apart, Note, Row, olds, place_in, note_ahead, past, Lean, old_program, new_program, old_setting, new_setting}
-use Rattle.lean_code.specs.Changes.{Holds, Alike, Aim, ToFsr, ToEvent, ToByte, Through, Nowhere, aim, lost, without_zero, without_w, moved, after_to_w, learned, stored, flags_in, may_skip, literal_flags, is_retlw, one_sets, other_w, other_byte, one_moves, one_stores}
+use Rattle.lean_code.specs.Rows.{Facts, Apart, Note, Row, olds, place_in, note_ahead, past, Lean, old_program, old_setting}
+use Rattle.lean_code.specs.Changes.{Holds, Alike, Aim, ToByte, aim, lost, without_zero, moved, after_to_w, learned, stored, flags_in, may_skip, literal_flags, is_retlw, one_sets, other_w, other_byte, one_moves, one_stores}
 use Rattle.lean_code.specs.Right.{Expects, Passes, noted, with_flag, after_literal, DropsToW, DropsToFile, DropsStore, DropsClear, DropsChange, DropsTest, DropsBit, DropsPlain, DropsGoto, IsDropped, IsSound}
 use Rattle.lean_code.specs.Links.{clears}
 use Rattle.lean_code.proofs.Lists.{never, dropped_at}
-use Rattle.lean_code.proofs.Places.{under, row_at, To, to_behind, to_past, to_label, under_dropped, under_stand, drops_behind}
-use Rattle.lean_code.proofs.Alike.{flags_alone, literal_alone, clear_alone, move_is, cleared_w}
-use Rattle.lean_code.proofs.Facts.{own_other, lose_zero, lose_w, to_w_holds, flags_hold, lost_byte, learned_byte, stored_byte}
+use Rattle.lean_code.proofs.Places.{under, row_at, to_behind, to_past, to_label, under_dropped, under_stand, drops_behind}
+use Rattle.lean_code.proofs.Alike.{flags_alone, literal_alone, clear_alone, move_is}
+use Rattle.lean_code.proofs.Facts.{own_other, lose_zero, to_w_holds, flags_hold, lost_byte, learned_byte, stored_byte}
 use Rattle.lean_code.proofs.Flags.{set_alone}
 use Rattle.lean_code.proofs.Accesses.{Told, Aims, access_told, access_aims}
-use Rattle.lean_code.proofs.Relation.{Frame, held, Goes, Alone}
+use Rattle.lean_code.proofs.Relation.{held, Goes, Alone}
 use Rattle.lean_code.proofs.Kept.{Scene, skip_ok, one, other, rows, go}
 use Rattle.lean_code.proofs.KeptRows.{flag_bytes, literal_quiet, literal_holds, cleared_holds}
 

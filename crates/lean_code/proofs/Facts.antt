@@ -1,6 +1,6 @@
 -- What is said stays true.
 use Rattle.std.proofs.Common.{◌≡◌, ℕ, Bool, true, false, not, if◌then◌else◌, Option, Some, None, refl, sym, ap, ◌∙◌, subst}
-use Rattle.std.specs.Prelude.{nat_eq, ◌&&◌}
+use Rattle.std.specs.Prelude.{nat_eq}
 use Rattle.std.proofs.lemmas.Bool.{eqb-true}
 use Rattle.std.proofs.lemmas.Option.{none-some}
 use Rattle.pic_world.specs.Bits.{truth}
@@ -11,7 +11,7 @@ use Rattle.sym_code.specs.Registers.{Registers, result_with, flags_with}
 use Rattle.sym_code.specs.declared.code.FileOperation.{FileOperation}
 use Rattle.sym_code.specs.declared.code.FileOperation.TheVariants as files
 use Rattle.lean_code.specs.Rows.{Facts, Apart}
-use Rattle.lean_code.specs.Changes.{Holds, Alike, Weaker, CoversFlags, Covers, Aim, ToFsr, ToEvent, ToByte, Through, Nowhere, is_own, is_near, lost, without_zero, without_w, moved, after_to_w, learned, stored}
+use Rattle.lean_code.specs.Changes.{Holds, Alike, Weaker, CoversFlags, Aim, ToByte, Through, is_own, is_near, lost, without_zero, without_w, moved, after_to_w, learned, stored}
 use Rattle.lean_code.proofs.Lists.{never}
 use Rattle.lean_code.proofs.Alike.{move_is, flags_w}
 

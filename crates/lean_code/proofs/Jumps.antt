@@ -1,20 +1,18 @@
 -- Jumps, calls and returns on both machines.
-use Rattle.std.proofs.Common.{◌≡◌, ℕ, suc, Bool, true, false, not, if◌then◌else◌, List, [], ◌∷◌, drop, length, Option, Some, None, option_map, refl, sym, ap, ◌∙◌, subst}
+use Rattle.std.proofs.Common.{◌≡◌, ℕ, suc, Bool, true, false, if◌then◌else◌, List, [], ◌∷◌, drop, length, Option, Some, None, option_map, refl, sym, ap, ◌∙◌, subst}
 use Rattle.std.specs.Prelude.{nat_lt, ◌||◌}
-use Rattle.sym_code.specs.Effect.{Thread, Memory, Effect, Stuck, Quiet, jump_to, halt, restore, goto, call, back}
-use Rattle.sym_code.specs.Layout.{owner}
+use Rattle.sym_code.specs.Effect.{Thread, Effect, Stuck, jump_to, halt, restore, goto, call, back}
 use Rattle.sym_code.specs.Programs.{Position, position, behind, front, stand, label_from, place_of}
-use Rattle.sym_code.specs.Registers.{Registers}
 use Rattle.sym_code.specs.declared.code.BlockName.{BlockName}
 use Rattle.sym_code.specs.declared.code.Label.TheVariants.{Inner, Halt, Restore}
 use Rattle.sym_code.specs.declared.code.Target.{Target}
 use Rattle.sym_code.specs.declared.code.Target.TheVariants as targets
-use Rattle.lean_code.specs.Rows.{Facts, Apart, Note, Row, olds, note_ahead, Lean, old_program, new_program, old_setting, new_setting}
-use Rattle.lean_code.specs.Changes.{Holds, Alike, Weaker, CoversFlags, Covers, is_own}
-use Rattle.lean_code.specs.Right.{Expects, Comes, Enters, noted, at_label, KeepsGoto, KeepsCall, IsNote, IsSound}
+use Rattle.lean_code.specs.Rows.{Apart, Note, olds, note_ahead, Lean, old_program, new_program, old_setting, new_setting}
+use Rattle.lean_code.specs.Changes.{Weaker, Covers}
+use Rattle.lean_code.specs.Right.{Expects, Comes, Enters, noted, KeepsGoto, KeepsCall, IsSound}
 use Rattle.lean_code.proofs.Lists.{never, stands_at}
-use Rattle.lean_code.proofs.Places.{under, note_at, row_at, To, to_behind, to_front, to_label, under_behind, under_front, under_label}
-use Rattle.lean_code.proofs.Relation.{Frame, held, apart_of, or_left, or_right, or_both, old_back, olds_of, news_of, WaitsFor, Waits, Tied, Ready, Goes, IsLeft, Match, arrive}
+use Rattle.lean_code.proofs.Places.{under, note_at, row_at, to_behind, to_front, to_label, under_behind, under_front, under_label}
+use Rattle.lean_code.proofs.Relation.{Frame, held, apart_of, or_left, or_right, or_both, old_back, olds_of, news_of, WaitsFor, Waits, Ready, Goes, IsLeft, Match, arrive}
 use Rattle.lean_code.proofs.Kept.{Scene, one, other, rows, go}
 
 pub as_long : (x : Lean) (ks : List Frame) → length (olds_of x ks) ≡ length (news_of x ks)

@@ -1,23 +1,22 @@
 -- An instruction that both machines execute.
-use Rattle.std.proofs.Common.{◌≡◌, ℕ, suc, Bool, true, false, not, if◌then◌else◌, List, [], ◌∷◌, drop, Option, Some, None, slice_get, refl, sym, ap, ◌∙◌, subst}
-use Rattle.std.specs.Prelude.{nat_eq, nat_lt, ◌&&◌, ◌||◌, option_map}
+use Rattle.std.proofs.Common.{◌≡◌, ℕ, suc, Bool, true, false, not, if◌then◌else◌, List, drop, Option, Some, None, refl, sym, ap, ◌∙◌, subst}
+use Rattle.std.specs.Prelude.{nat_eq}
 use Rattle.std.proofs.lemmas.Bool.{eqb-true}
-use Rattle.std.proofs.Math.Path.{fun_ext}
-use Rattle.sym_code.specs.Effect.{Loud, Port, Shared, Rest, Thread, Memory, Write, write, with_byte, written, Access, Pointer, Event, Silent, Denied, Effect, Stuck, Quiet, Reads, Writes, goes, quiet, file_to_w, file_to_file, store, change, test}
+use Rattle.sym_code.specs.Effect.{Loud, Port, Shared, Rest, Thread, Memory, with_byte, written, Access, Pointer, Event, Silent, Denied, Effect, file_to_w, file_to_file, store, change, test}
 use Rattle.sym_code.specs.Layout.{owner}
 use Rattle.sym_code.specs.Machine.{write_by}
 use Rattle.sym_code.specs.Programs.{Position, behind, onward}
 use Rattle.sym_code.specs.Registers.{Registers, result_with, flags_with, skips_with}
 use Rattle.sym_code.specs.declared.code.FileOperation.{FileOperation}
 use Rattle.lean_code.specs.Rows.{Facts, Apart, Note, Row, note_ahead, past, Lean, old_program, new_program}
-use Rattle.lean_code.specs.Changes.{Holds, Alike, Weaker, Aim, ToFsr, ToEvent, ToByte, Through, Nowhere, is_own, is_near, lost, without_zero, after_to_w, flags_in, uses_w, uses_c, may_skip, both_set, same_w, same_byte}
-use Rattle.lean_code.specs.Right.{Expects, Leads, Passes, Same, IsNote, IsSound}
-use Rattle.lean_code.proofs.Lists.{never, dropped_at, stands_at}
-use Rattle.lean_code.proofs.Places.{under, note_at, row_at, To, to_behind, to_past, under_behind, under_dropped, keeps_behind, drops_behind}
+use Rattle.lean_code.specs.Changes.{Holds, Alike, Aim, ToFsr, ToEvent, ToByte, Through, is_own, is_near, lost, without_zero, after_to_w, flags_in, uses_w, uses_c, may_skip, both_set, same_w, same_byte}
+use Rattle.lean_code.specs.Right.{Expects, Leads, Same, IsNote, IsSound}
+use Rattle.lean_code.proofs.Lists.{never, stands_at}
+use Rattle.lean_code.proofs.Places.{under, row_at, To, to_behind, to_past, under_behind, keeps_behind}
 use Rattle.lean_code.proofs.Alike.{result_same, skips_same, flags_same, no_skip}
 use Rattle.lean_code.proofs.Facts.{weaker_holds, near_other, own_near, own_other, keep_all, to_w_holds, flags_hold, lost_byte, lost_through, lost_weaker, elsewhere}
 use Rattle.lean_code.proofs.Accesses.{IsLoud, Told, Aims}
-use Rattle.lean_code.proofs.Relation.{Frame, held, or_both, olds_of, news_of, Waits, held_outer, held_own, RestIsLoud, Ready, Goes, IsFar, SameLoud, Match, arrive}
+use Rattle.lean_code.proofs.Relation.{Frame, held, olds_of, news_of, Waits, held_outer, held_own, RestIsLoud, Goes, SameLoud, Match, arrive}
 
 pub skip_ok : (r : Registers) (op : FileOperation) (v : ℕ) → skips_with r op v ≡ true → may_skip op ≡ true
 skip_ok r op v e = by_case (may_skip op) refl

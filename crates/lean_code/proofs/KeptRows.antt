@@ -1,10 +1,9 @@
 -- Each instruction that both machines execute.
-use Rattle.std.proofs.Common.{◌≡◌, ℕ, suc, Bool, true, false, if◌then◌else◌, List, drop, Option, Some, None, refl, sym, ap, ◌∙◌, subst}
+use Rattle.std.proofs.Common.{◌≡◌, ℕ, Bool, true, false, if◌then◌else◌, List, Option, Some, None, refl, sym, ◌∙◌, subst}
 use Rattle.std.specs.Prelude.{nat_eq}
-use Rattle.std.proofs.lemmas.Option.{none-some}
 use Rattle.pic_isa.specs.declared.Ins.TheVariants as ins
 use Rattle.pic_world.specs.Bits.{bit, set_bit, clear_bit, truth}
-use Rattle.sym_code.specs.Effect.{Thread, Memory, with_byte, Access, Effect, Stuck, Quiet, access_of, goes, quiet, file_to_w, file_to_file, store, change, test, file_bit, put_flag, test_flag, flag, literal, literal_value, plain, effect_of}
+use Rattle.sym_code.specs.Effect.{Thread, Memory, with_byte, Access, Effect, access_of, goes, quiet, file_to_w, file_to_file, store, change, test, put_flag, test_flag, flag, literal, literal_value, plain, effect_of}
 use Rattle.sym_code.specs.Programs.{Program, Position, behind, onward}
 use Rattle.sym_code.specs.Registers.{Registers, with_bank_bit, with_page_bit, literal_row, after_row, status_bit, with_status_bit}
 use Rattle.sym_code.specs.Touching.{touches}
@@ -14,7 +13,7 @@ use Rattle.sym_code.specs.declared.code.BitOperation.{BitOperation}
 use Rattle.sym_code.specs.declared.code.BitOperation.TheVariants.{Bcf, Bsf, Btfsc, Btfss}
 use Rattle.sym_code.specs.declared.code.Into.TheVariants as into
 use Rattle.sym_code.specs.declared.code.Literal.{Literal}
-use Rattle.sym_code.specs.declared.code.Literal.TheVariants.{Number, Low, High}
+use Rattle.sym_code.specs.declared.code.Literal.TheVariants.{Number}
 use Rattle.sym_code.specs.declared.code.LiteralOperation.{LiteralOperation}
 use Rattle.sym_code.specs.declared.code.LiteralOperation.TheVariants as literals
 use Rattle.sym_code.specs.declared.code.Operand.{Operand}
@@ -27,8 +26,8 @@ use Rattle.sym_code.specs.declared.code.Register.TheVariants.{Status}
 use Rattle.sym_code.specs.declared.code.Sym.{Sym}
 use Rattle.sym_code.specs.declared.code.Sym.TheVariants as syms
 use Rattle.lean_code.specs.Rows.{Facts, Apart, Note, Row, note_ahead, Lean, old_program, new_program, old_setting, new_setting}
-use Rattle.lean_code.specs.Changes.{Holds, Alike, Aim, ToFsr, ToEvent, ToByte, Through, aim, lost, without_zero, without_w, learned, stored, literal_flags, literal_uses, is_retlw, both_set, same_w, same_byte}
-use Rattle.lean_code.specs.Right.{Expects, Leads, Same, flag_apart, with_flag, after_literal, KeepsBit, KeepsPlain, IsKept, IsSound}
+use Rattle.lean_code.specs.Changes.{Holds, Alike, Aim, ToFsr, ToEvent, ToByte, Through, aim, lost, without_zero, learned, stored, literal_flags, literal_uses, is_retlw, both_set, same_w, same_byte}
+use Rattle.lean_code.specs.Right.{Expects, Leads, Same, with_flag, after_literal, KeepsBit, KeepsPlain, IsKept, IsSound}
 use Rattle.lean_code.specs.Links.{clears}
 use Rattle.lean_code.proofs.Lists.{never, stands_at}
 use Rattle.lean_code.proofs.Places.{under, row_at}
@@ -36,7 +35,7 @@ use Rattle.lean_code.proofs.Alike.{literal_same, clear_same, moved_w, cleared_w}
 use Rattle.lean_code.proofs.Facts.{weaker_holds, lose_zero, lose_w, keep_all, lost_weaker, lost_through, learned_byte, stored_byte, some_is}
 use Rattle.lean_code.proofs.Flags.{SameFlag, bit_same, set_same}
 use Rattle.lean_code.proofs.Accesses.{access_told, access_aims, access_same}
-use Rattle.lean_code.proofs.Relation.{Frame, held, apart_of, Goes, Match}
+use Rattle.lean_code.proofs.Relation.{held, apart_of, Goes, Match}
 use Rattle.lean_code.proofs.Kept.{Scene, AreNear, lost_near, one, other, rows, near, lead, next, file_to_w_both, file_to_file_both, change_both, test_both, store_both}
 use Rattle.lean_code.proofs.Jumps.{goto_both, call_both, back_both}
 

@@ -16,3 +16,4 @@ mod Resting
 mod Whole
 mod Checking
 mod Shrinking
+mod Worked

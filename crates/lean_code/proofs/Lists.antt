@@ -1,11 +1,10 @@
 -- Places in the given code, and in the code that is made of it.
 use Rattle.std.proofs.Common.{◌≡◌, ℕ, zero, suc, ◌+◌, Bool, true, false, not, if◌then◌else◌, List, [], ◌∷◌, drop, Option, Some, None, option_map, slice_get, refl, sym, ap, ◌∙◌, subst, add-one, true≢false, arith}
-use Rattle.std.proofs.lemmas.Option.{none-some}
 use Rattle.sym_code.specs.Programs.{is_word, labels_in_front, label_from, same_label}
 use Rattle.sym_code.specs.declared.code.Label.{Label}
 use Rattle.sym_code.specs.declared.code.Sym.{Sym}
 use Rattle.sym_code.specs.declared.code.Sym.TheVariants as syms
-use Rattle.lean_code.specs.Rows.{Note, Act, Keeps, Drops, Puts, Row, At, old_of, note_of, olds, put_of, put_by, in_front, puts, is_label, is_none, is_dropped, place_in, note_ahead, past, drops_first, keeps_first, goes_on}
+use Rattle.lean_code.specs.Rows.{Note, Act, Keeps, Drops, Puts, Row, At, old_of, olds, put_by, in_front, puts, is_label, is_none, is_dropped, place_in, note_ahead, past, drops_first, keeps_first, goes_on}
 
 pub never : {A : Type 0} → false ≡ true → A
 never e = absurd (true≢false (sym e))

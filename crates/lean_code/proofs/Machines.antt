@@ -1,6 +1,6 @@
 -- One step of both machines.
 use Rattle.std.proofs.lemmas.Option.{none-some}
-use Rattle.std.proofs.Common.{◌≡◌, ℕ, suc, ◌+◌, ◌≤◌, ◌⊎◌, inl, inr, Bool, true, false, not, ◌&&◌, if◌then◌else◌, List, [], Option, Some, None, refl, sym, ap, ◌∙◌, subst, arith}
+use Rattle.std.proofs.Common.{◌≡◌, ℕ, ◌+◌, ◌≤◌, ◌⊎◌, inl, inr, Bool, true, false, not, ◌&&◌, if◌then◌else◌, List, [], Option, Some, None, refl, sym, ap, ◌∙◌, subst, arith}
 use Rattle.pic_world.specs.World.{Outside, World, Ended, is_due, entered, left, noted, after_device_read, after_device_write}
 use Rattle.pic_world.specs.Control as control
 use Rattle.pic_world.specs.Control.{is_stored, with_stored}
@@ -10,22 +10,22 @@ use Rattle.sym_code.specs.Effect.{Setting, Loud, Port, Shared, Rest, Thread, Mem
 use Rattle.sym_code.specs.Layout.{owner}
 use Rattle.sym_code.specs.Machine as next
 use Rattle.sym_code.specs.Machine.{Machine, Entry, Next, Stops, Still, value_by, read_by, write_by, wrote_by, is_forbidden, Made, made, checked, lands_at, running, moved, acted, act, at_front, with_entry, enter, sym_step_at}
-use Rattle.sym_code.specs.Programs.{Program, Position, front, lands}
+use Rattle.sym_code.specs.Programs.{Position, front, lands}
 use Rattle.sym_code.specs.Registers.{Registers}
 use Rattle.sym_code.specs.declared.code.BlockName.{BlockName}
 use Rattle.sym_code.specs.declared.code.BlockName.TheVariants.{Copy}
-use Rattle.lean_code.specs.Rows.{Facts, Apart, Note, nothing_known, Row, old_of, is_label, is_dropped, place_in, note_ahead, Lean, old_program, new_program, old_setting, new_setting}
-use Rattle.lean_code.specs.Changes.{Holds, Alike, is_own, is_near}
+use Rattle.lean_code.specs.Rows.{Apart, Note, nothing_known, Row, old_of, is_label, is_dropped, place_in, note_ahead, Lean, old_program, new_program, old_setting, new_setting}
+use Rattle.lean_code.specs.Changes.{is_own}
 use Rattle.lean_code.specs.Right.{Expects, Begins, BeginsAt, IsSound}
 use Rattle.lean_code.specs.Links.{is_open, counts, staying, IsCheaper}
 use Rattle.lean_code.proofs.Lists.{never, dropped_at, stands_at}
-use Rattle.lean_code.proofs.Places.{under, row_at, to_front, under_front}
-use Rattle.lean_code.proofs.Facts.{not_false, elsewhere}
+use Rattle.lean_code.proofs.Places.{row_at, to_front, under_front}
+use Rattle.lean_code.proofs.Facts.{elsewhere}
 use Rattle.lean_code.proofs.Accesses.{IsLoud}
 use Rattle.lean_code.proofs.Relation as only
 use Rattle.lean_code.proofs.Relation.{Frame, apart_of, IsAt, Tied, Ready, apart_own, Goes, IsFar, SameLoud, Match, arrive}
-use Rattle.lean_code.proofs.Kept.{AreNear, far_from, event_holds}
-use Rattle.lean_code.proofs.Steps.{Pays, Skips, Either, Lost, Matched, Lone, thread_step}
+use Rattle.lean_code.proofs.Kept.{far_from}
+use Rattle.lean_code.proofs.Steps.{Either, Lost, Matched, Lone, thread_step}
 
 -- ---- the thread that runs, and the other one
 abbrev pub runs : Bool → Machine → Thread

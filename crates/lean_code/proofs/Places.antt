@@ -1,9 +1,8 @@
 -- Positions of the given code, and those of the code that is made that belong to them.
-use Rattle.std.proofs.Common.{◌≡◌, ℕ, suc, ◌+◌, Bool, true, false, List, drop, Option, Some, None, option_map, slice_get, refl, sym, ap, ◌∙◌, subst, add-one}
-use Rattle.sym_code.specs.Programs.{Program, Position, position, is_word, lands, stand, front, behind, label_from, place_of}
+use Rattle.std.proofs.Common.{◌≡◌, ℕ, suc, ◌+◌, true, List, drop, Option, Some, None, option_map, slice_get, refl, sym, ap, ◌∙◌, subst, add-one}
+use Rattle.sym_code.specs.Programs.{Program, Position, position, stand, front, behind, label_from, place_of}
 use Rattle.sym_code.specs.declared.code.BlockName.{BlockName}
 use Rattle.sym_code.specs.declared.code.Label.TheVariants.{Inner}
-use Rattle.sym_code.specs.declared.code.Sym.{Sym}
 use Rattle.sym_code.specs.declared.code.Target.TheVariants as targets
 use Rattle.lean_code.specs.Rows.{Note, Row, olds, puts, place_in, note_ahead, past, drops_first, keeps_first, Lean, old_program, new_program}
 use Rattle.lean_code.proofs.Lists.{dropped_at, stands_at, settle, settle_zero, settle_is, settle_again, place_zero, place_settle, place_dropped, place_behind, note_settle, past_is, drops_at, keeps_at, label_place}

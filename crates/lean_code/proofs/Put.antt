@@ -1,10 +1,10 @@
 -- An operation on W and a number in place of one on W and a byte.
-use Rattle.std.proofs.Common.{◌≡◌, ℕ, suc, Bool, true, false, not, if◌then◌else◌, List, drop, Option, Some, None, refl, sym, ap, ◌∙◌, subst}
+use Rattle.std.proofs.Common.{◌≡◌, ℕ, Bool, true, false, if◌then◌else◌, List, Some, None, refl, sym, ap, ◌∙◌, subst}
 use Rattle.std.specs.Prelude.{nat_eq, ◌&&◌}
 use Rattle.pic_world.specs.Bits.{truth}
-use Rattle.sym_code.specs.Effect.{Thread, Memory, Access, Silent, Denied, Effect, Quiet, access_of, goes, quiet, file_to_w, literal, effect_of}
+use Rattle.sym_code.specs.Effect.{Thread, Memory, Access, Silent, Denied, Effect, access_of, goes, quiet, file_to_w, effect_of}
 use Rattle.sym_code.specs.Programs.{Position, behind, onward}
-use Rattle.sym_code.specs.Registers.{Registers, result_with, flags_with, skips_with, literal_row, after_row}
+use Rattle.sym_code.specs.Registers.{Registers, result_with, flags_with, literal_row, after_row}
 use Rattle.sym_code.specs.Touching.{touches}
 use Rattle.sym_code.specs.declared.code.FileOperation.{FileOperation}
 use Rattle.sym_code.specs.declared.code.FileOperation.TheVariants as files
@@ -12,19 +12,18 @@ use Rattle.sym_code.specs.declared.code.Into.TheVariants as into
 use Rattle.sym_code.specs.declared.code.Literal.TheVariants.{Number}
 use Rattle.sym_code.specs.declared.code.LiteralOperation.{LiteralOperation}
 use Rattle.sym_code.specs.declared.code.LiteralOperation.TheVariants as literals
-use Rattle.sym_code.specs.declared.code.Operand.{Operand}
 use Rattle.sym_code.specs.declared.code.Sym.{Sym}
 use Rattle.sym_code.specs.declared.code.Sym.TheVariants as syms
-use Rattle.lean_code.specs.Rows.{Facts, Apart, Note, Row, note_ahead, Lean, old_program, new_program, old_setting, new_setting}
-use Rattle.lean_code.specs.Changes.{Holds, Alike, Aim, ToFsr, ToEvent, ToByte, Through, Nowhere, aim, after_to_w, flags_in, uses_w, may_skip, literal_flags, literal_uses, is_retlw, literal_for, both_set, same_w}
-use Rattle.lean_code.specs.Right.{Expects, literal_apart, PutsFor, IsPut, IsSound}
+use Rattle.lean_code.specs.Rows.{Facts, Apart, Note, Row, Lean, old_program, new_program, old_setting, new_setting}
+use Rattle.lean_code.specs.Changes.{Alike, Aim, ToByte, aim, after_to_w, flags_in, uses_w, may_skip, literal_flags, literal_uses, is_retlw, literal_for, both_set, same_w}
+use Rattle.lean_code.specs.Right.{literal_apart, PutsFor, IsPut, IsSound}
 use Rattle.lean_code.specs.Links.{clears}
 use Rattle.lean_code.proofs.Lists.{never, stands_at}
 use Rattle.lean_code.proofs.Places.{under, row_at}
 use Rattle.lean_code.proofs.Alike.{literal_is, literal_same, move_is, moved_w, no_skip}
-use Rattle.lean_code.proofs.Facts.{to_w_holds, some_is}
+use Rattle.lean_code.proofs.Facts.{to_w_holds}
 use Rattle.lean_code.proofs.Accesses.{Aims, access_aims}
-use Rattle.lean_code.proofs.Relation.{Frame, apart_of, Goes, Match}
+use Rattle.lean_code.proofs.Relation.{apart_of, Goes, Match}
 use Rattle.lean_code.proofs.Kept.{Scene, one, other, rows, next}
 use Rattle.lean_code.proofs.KeptRows.{literal_quiet}
 

@@ -1,18 +1,17 @@
 -- A thread of both machines, and what it does on both.
-use Rattle.std.proofs.Common.{◌≡◌, ℕ, suc, Bool, true, false, not, ◌||◌, List, [], ◌∷◌, drop, Option, Some, None, slice_get, refl, sym, ap, ◌∙◌, subst}
+use Rattle.std.proofs.Common.{◌≡◌, ℕ, Bool, true, false, not, ◌||◌, List, [], ◌∷◌, Option, Some, None, refl, sym, ap, ◌∙◌, subst}
 use Rattle.std.proofs.lemmas.Option.{none-some}
-use Rattle.sym_code.specs.Effect.{Loud, Port, Shared, Rest, Thread, Memory, Write, write, written, Effect, Stuck, Quiet, Reads, Writes, Leaves, Ends, Rests}
+use Rattle.sym_code.specs.Effect.{Loud, Port, Shared, Rest, Thread, Memory, Write, written, Effect, Stuck, Quiet, Reads, Writes, Leaves, Ends, Rests}
 use Rattle.sym_code.specs.Layout.{owner}
 use Rattle.sym_code.specs.Machine.{write_by, lands_at}
 use Rattle.sym_code.specs.Programs.{Position, behind, lands}
-use Rattle.sym_code.specs.Registers.{Registers}
 use Rattle.sym_code.specs.declared.code.BlockName.{BlockName}
-use Rattle.lean_code.specs.Rows.{Facts, Apart, Note, Act, Row, At, note_ahead, Lean, old_program, new_program}
-use Rattle.lean_code.specs.Changes.{Holds, Alike, Weaker, CoversFlags, Covers, is_own, is_near}
-use Rattle.lean_code.specs.Right.{Expects, Comes, IsNote, IsRightAt, IsSound}
-use Rattle.lean_code.proofs.Lists.{never, Stood, stood, settle, place_lands}
-use Rattle.lean_code.proofs.Places.{under, note_at, row_at, To}
-use Rattle.lean_code.proofs.Facts.{weaker_holds, covers_alike, near_other}
+use Rattle.lean_code.specs.Rows.{Facts, Apart, Note, At, Lean, old_program, new_program}
+use Rattle.lean_code.specs.Changes.{Holds, Alike, is_own, is_near}
+use Rattle.lean_code.specs.Right.{Expects, Comes, IsNote, IsSound}
+use Rattle.lean_code.proofs.Lists.{never, stood, place_lands}
+use Rattle.lean_code.proofs.Places.{under, note_at, To}
+use Rattle.lean_code.proofs.Facts.{weaker_holds, covers_alike}
 use Rattle.lean_code.proofs.Accesses.{IsLoud}
 
 -- a call that waits: where it stands, and what is known there

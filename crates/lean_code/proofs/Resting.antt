@@ -1,9 +1,9 @@
 -- A machine rests only where main has ended.
-use Rattle.std.proofs.Common.{◌≡◌, ℕ, Bool, true, false, if◌then◌else◌, List, [], ◌∷◌, Option, Some, None, refl, sym, ap, ◌∙◌, subst}
+use Rattle.std.proofs.Common.{◌≡◌, ℕ, Bool, true, false, if◌then◌else◌, List, [], ◌∷◌, Option, Some, None, refl, sym, ◌∙◌}
 use Rattle.std.specs.Prelude.{nat_eq, nat_lt, length}
 use Rattle.pic_world.specs.World.{Outside, is_due}
 use Rattle.pic_world.specs.Bits.{bit, set_bit, clear_bit}
-use Rattle.sym_code.specs.Effect.{Setting, Rest, Thread, Memory, Access, Pointer, Event, Silent, Denied, access_of, Effect, Stuck, Quiet, Reads, Writes, Leaves, Ends, Rests, file_to_w, file_to_file, store, change, test, flag, put_flag, test_flag, is_in_page, jump_to, halt, restore, goto, call, back, literal, plain, effect_of, effect_if, effect_at, effect}
+use Rattle.sym_code.specs.Effect.{Setting, Rest, Thread, Memory, Access, Pointer, Event, Silent, Denied, access_of, Effect, Stuck, Quiet, Reads, Writes, Leaves, Ends, Rests, file_to_w, file_to_file, store, change, test, flag, put_flag, test_flag, is_in_page, jump_to, halt, restore, goto, call, back, literal, plain, effect_of, effect_if, effect}
 use Rattle.sym_code.specs.Machine as next
 use Rattle.sym_code.specs.Machine.{Machine, Entry, Next, Stops, Still, Made, made, checked, moved, running, acted, act, enter, with_entry, at_front, sym_step_at}
 use Rattle.sym_code.specs.Programs.{Program, Position, fetched, front, lands, behind, place_of}
@@ -17,7 +17,6 @@ use Rattle.sym_code.specs.declared.code.Into.TheVariants as into
 use Rattle.sym_code.specs.declared.code.Label.TheVariants as labels
 use Rattle.sym_code.specs.declared.code.LiteralOperation.{LiteralOperation}
 use Rattle.sym_code.specs.declared.code.LiteralOperation.TheVariants as literals
-use Rattle.sym_code.specs.declared.code.Operand.{Operand}
 use Rattle.sym_code.specs.declared.code.Operand.TheVariants as operands
 use Rattle.sym_code.specs.declared.code.PlainOperation.{PlainOperation}
 use Rattle.sym_code.specs.declared.code.PlainOperation.TheVariants.{Clrw, Nop, Retfie, Return}

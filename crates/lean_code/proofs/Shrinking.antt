@@ -1,13 +1,12 @@
 -- What is made is what was given without some instructions.
-use Rattle.std.proofs.Common.{◌≡◌, ℕ, ◌+◌, ◌≤◌, Bool, true, false, ◌&&◌, if◌then◌else◌, List, [], ◌∷◌, Option, Some, refl, sym, ap, ◌∙◌, subst, arith}
+use Rattle.std.proofs.Common.{◌≡◌, ℕ, ◌≤◌, Bool, true, false, ◌&&◌, if◌then◌else◌, List, [], ◌∷◌, Option, refl, ap, ◌∙◌, arith}
 use Rattle.std.specs.List.{list_all}
 use Rattle.std.proofs.lemmas.List.Sums.{sum_by-cons}
 use Rattle.sym_code.specs.Words.{words_of_one, words_in}
 use Rattle.sym_code.specs.declared.code.Literal.TheVariants.{Number}
-use Rattle.sym_code.specs.declared.code.LiteralOperation.{LiteralOperation}
 use Rattle.sym_code.specs.declared.code.Sym.{Sym}
 use Rattle.sym_code.specs.declared.code.Sym.TheVariants as syms
-use Rattle.lean_code.specs.Rows.{Keeps, Drops, Puts, Row, At, olds, puts, is_dropped, place_in, Lean}
+use Rattle.lean_code.specs.Rows.{Keeps, Drops, Puts, Row, At, olds, puts, place_in}
 use Rattle.lean_code.specs.Links.{price_at, CarriedIsCheaper}
 use Rattle.lean_code.specs.Shrinks.{RowsShrink, RowsKeep}
 use Rattle.lean_code.proofs.Lists.{never}

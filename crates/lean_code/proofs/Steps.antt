@@ -1,9 +1,9 @@
 -- What a thread does next, on both machines.
-use Rattle.std.proofs.Common.{◌≡◌, ℕ, suc, Bool, true, false, not, List, drop, Option, Some, None, slice_get, refl, sym, ap, ◌∙◌, subst}
-use Rattle.sym_code.specs.Effect.{Setting, Loud, Rest, Thread, Memory, written, Effect, Stuck, effect_of, effect_if, effect_at, effect}
+use Rattle.std.proofs.Common.{◌≡◌, ℕ, suc, Bool, true, false, not, List, drop, Option, Some, None, refl, sym, ap, ◌∙◌, subst}
+use Rattle.sym_code.specs.Effect.{Setting, Rest, Thread, Memory, Effect, Stuck, effect_of, effect_if, effect_at, effect}
 use Rattle.sym_code.specs.Layout.{owner}
-use Rattle.sym_code.specs.Machine.{write_by, lands_at}
-use Rattle.sym_code.specs.Programs.{Position, is_word, fetched, lands}
+use Rattle.sym_code.specs.Machine.{lands_at}
+use Rattle.sym_code.specs.Programs.{Position, is_word, fetched}
 use Rattle.sym_code.specs.Registers.{Registers}
 use Rattle.sym_code.specs.Touching.{touches}
 use Rattle.sym_code.specs.declared.code.BlockName.{BlockName}
@@ -11,13 +11,13 @@ use Rattle.sym_code.specs.declared.code.Literal.TheVariants.{Number}
 use Rattle.sym_code.specs.declared.code.LiteralOperation.{LiteralOperation}
 use Rattle.sym_code.specs.declared.code.Sym.{Sym}
 use Rattle.sym_code.specs.declared.code.Sym.TheVariants as syms
-use Rattle.lean_code.specs.Rows.{Note, Act, Keeps, Drops, Puts, Row, At, put_of, is_label, place_in, note_ahead, Lean, old_program, new_program, old_setting, new_setting}
+use Rattle.lean_code.specs.Rows.{Note, Act, Keeps, Drops, Puts, Row, At, put_of, is_label, place_in, Lean, old_program, new_program, old_setting, new_setting}
 use Rattle.lean_code.specs.Changes.{is_own}
-use Rattle.lean_code.specs.Right.{IsRight, IsRightAt, IsSound}
+use Rattle.lean_code.specs.Right.{IsRight, IsSound}
 use Rattle.lean_code.specs.Links.{clears, clears_if, is_open}
 use Rattle.lean_code.proofs.Lists.{never, dropped_at, stands_at, put_at, place_fetches, Stood, stood}
 use Rattle.lean_code.proofs.Places.{under, row_at, To}
-use Rattle.lean_code.proofs.Relation.{Frame, held, apart_of, or_both, some_in, Waits, IsAt, Tied, Ready, Goes, Match, Alone, lands_new}
+use Rattle.lean_code.proofs.Relation.{Frame, held, apart_of, or_both, some_in, Waits, IsAt, Tied, Match, Alone, lands_new}
 use Rattle.lean_code.proofs.Kept.{event_holds, event_same, Scene}
 use Rattle.lean_code.proofs.KeptRows.{kept_both}
 use Rattle.lean_code.proofs.Dropped.{dropped_alone}

@@ -1,5 +1,5 @@
 -- The code that is made follows the given code.
-use Rattle.std.proofs.Common.{◌≡◌, ℕ, zero, suc, ◌+◌, ◌<◌, ◌≤◌, Bool, true, false, List, [], map, map-id, Option, Some, None, refl, sym, ap, ◌∙◌, subst, ⊎_elim, arith}
+use Rattle.std.proofs.Common.{◌≡◌, ℕ, zero, suc, ◌+◌, ◌<◌, ◌≤◌, true, false, [], map, map-id, Option, Some, None, refl, sym, ap, ◌∙◌, subst, ⊎_elim, arith}
 use Rattle.std.proofs.lemmas.Bool.{cases_lt}
 use Rattle.std.proofs.lemmas.Option.{none-some}
 use Rattle.pic_world.specs.World.{Outside, World, Happening, arrived, world_at_start}
@@ -11,7 +11,7 @@ use Rattle.sym_code.specs.Machine as next
 use Rattle.sym_code.specs.Machine.{Machine, Entry, Next, Stops, Still, at_front, running, settled, sym_step_at, sym_step, gone, sym_run, sym_start}
 use Rattle.sym_code.specs.Programs.{Position, front}
 use Rattle.sym_code.specs.Registers.{Registers}
-use Rattle.sym_code.specs.Runs.{goes_on, is_still, sym_goes, sym_rests, run_of}
+use Rattle.sym_code.specs.Runs.{goes_on, is_still, run_of}
 use Rattle.sym_code.specs.declared.code.BlockName.{BlockName}
 use Rattle.sym_code.specs.declared.code.BlockName.TheVariants.{Copy}
 use Rattle.lean_code.specs.Rows.{Apart, Note, nothing_known, note_ahead, Lean, old_program, new_program, old_setting, new_setting}

@@ -4,7 +4,7 @@ use Rattle.pic_world.specs.Bits.{truth}
 use Rattle.pic_world.specs.declared.Root.TheVariants.{Main, Isr}
 use Rattle.core_code.specs.declared.code.Byte.TheVariants as bytes
 use Rattle.sym_code.specs.Effect.{Memory, Access, Pointer, Event, Silent, Denied, general_access}
-use Rattle.sym_code.specs.Layout.{DataLayout, Owner, Watched, Constant, Of, Nobody, address_of, general_at}
+use Rattle.sym_code.specs.Layout.{DataLayout, Owner, Constant, Of, address_of, general_at}
 use Rattle.sym_code.specs.Registers.{Registers}
 use Rattle.sym_code.specs.declared.code.FileOperation.{FileOperation}
 use Rattle.sym_code.specs.declared.code.FileOperation.TheVariants as files

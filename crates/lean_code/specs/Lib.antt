@@ -4,3 +4,4 @@ pub mod Right
 pub mod Links
 pub mod Checked
 pub mod Shrinks
+pub mod Sample

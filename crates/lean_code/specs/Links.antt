@@ -1,9 +1,9 @@
 -- What code that was made smaller keeps: it follows the given code.
 use Rattle.std.specs.Prelude.{◌≡◌, ℕ, ◌<◌, ◌≤◌, Bool, true, false, not, if◌then◌else◌, Option, Some, None, slice_get}
-use Rattle.pic_world.specs.World.{Outside, Happening, is_due}
+use Rattle.pic_world.specs.World.{Outside, Happening}
 use Rattle.run_links.specs.Runs.{Run, Goes, Follows, IsSlow}
 use Rattle.sym_code.specs.Cost.{Prices, cost_by}
-use Rattle.sym_code.specs.Effect.{Memory, Rest, Thread}
+use Rattle.sym_code.specs.Effect.{Memory, Thread}
 use Rattle.sym_code.specs.Layout.{general_at}
 use Rattle.sym_code.specs.Machine.{Machine, Entry, running, settled, sym_run, sym_start}
 use Rattle.sym_code.specs.Programs.{Program, Position, fetched}

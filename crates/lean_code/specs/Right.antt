@@ -1,7 +1,7 @@
 -- When a certificate is right: what is said before each instruction leads to what is said where it goes, and what is read is the same
 -- on both machines.
-use Rattle.std.specs.Prelude.{◌≡◌, ℕ, suc, Bool, true, false, not, ◌&&◌, ◌||◌, nat_eq, nat_lt, if◌then◌else◌, List, [], ◌∷◌, drop, Option, Some, None, slice_get}
-use Rattle.sym_code.specs.Layout.{DataLayout, owner}
+use Rattle.std.specs.Prelude.{◌≡◌, ℕ, suc, Bool, true, false, ◌&&◌, nat_eq, nat_lt, if◌then◌else◌, List, drop, Option, Some, None, slice_get}
+use Rattle.sym_code.specs.Layout.{owner}
 use Rattle.sym_code.specs.Programs.{label_from, front, lands}
 use Rattle.sym_code.specs.declared.code.BitOperation.{BitOperation}
 use Rattle.sym_code.specs.declared.code.BitOperation.TheVariants as bit_ops
@@ -27,7 +27,7 @@ use Rattle.sym_code.specs.declared.code.Sym.TheVariants as syms
 use Rattle.sym_code.specs.declared.code.Target.{Target}
 use Rattle.sym_code.specs.declared.code.Target.TheVariants as targets
 use Rattle.lean_code.specs.Rows.{Facts, Apart, Note, nothing_known, Row, At, Act, Keeps, Drops, Puts, olds, place_in, note_ahead, past, drops_first, keeps_first, goes_on, Lean, old_program}
-use Rattle.lean_code.specs.Changes.{Weaker, CoversFlags, Covers, Aim, ToFsr, ToEvent, ToByte, Through, Nowhere, aim, is_own, is_near, lost, without_zero, without_w, moved, after_to_w, learned, stored, Flags, no_flags, z_alone, flags_in, uses_w, uses_c, may_skip, literal_flags, literal_uses, is_retlw, literal_for, both_set, one_sets, same_w, other_w, same_byte, other_byte, one_moves, one_stores}
+use Rattle.lean_code.specs.Changes.{Weaker, CoversFlags, Covers, Aim, ToByte, Through, aim, is_own, is_near, lost, without_zero, without_w, moved, after_to_w, learned, stored, flags_in, uses_w, uses_c, may_skip, literal_flags, literal_uses, is_retlw, literal_for, both_set, one_sets, same_w, other_w, same_byte, other_byte, one_moves, one_stores}
 
 -- ---- where the code goes on
 -- With these facts, and this apart, where something stands.

@@ -1,7 +1,7 @@
 -- The code that is made has no more words than the given code, and names nothing else.
 use Rattle.std.specs.Prelude.{◌≡◌, ℕ, ◌≤◌, Bool, true, List}
 use Rattle.std.specs.List.{list_all}
-use Rattle.sym_code.specs.Words.{words_in, most_words}
+use Rattle.sym_code.specs.Words.{words_in}
 use Rattle.sym_code.specs.declared.code.Literal.TheVariants.{Number}
 use Rattle.sym_code.specs.declared.code.LiteralOperation.{LiteralOperation}
 use Rattle.sym_code.specs.declared.code.Sym.{Sym}

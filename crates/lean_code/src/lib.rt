@@ -8,6 +8,7 @@
 
 ghost use Rattle.lean_code.specs.Checked.{TestIsRight};
 ghost use Rattle.lean_code.specs.Links.{CarriedIsCheaper, LeanKeeps};
+ghost use Rattle.lean_code.specs.Sample.{SamplePasses};
 ghost use Rattle.lean_code.specs.Shrinks.{RowsShrink, RowsKeep};
 
 /// Code that is made by a certificate that is right follows the given code, at any prices by which no instruction that stays costs more
@@ -26,4 +27,9 @@ pub fn test_is_right()
 pub fn rows_shrink()
     ensures shorter { RowsShrink }
     ensures kept { RowsKeep }
+{}
+
+/// A certificate of a program of fifteen instructions, of which seven are left, passes the test.
+pub fn sample_passes()
+    ensures { SamplePasses }
 {}
