@@ -136,12 +136,13 @@ expects_is : (q : Option (Option ListedNote)) (f : Facts) (d : Apart) (candidate
 expects_is None f d candidates within e = tt
 expects_is (Some None) f d candidates within e = never e
 expects_is (Some (Some n)) f d candidates within e =
-    let more = and_r (gives f n.facts) (covers_flags n.apart d && covers_bytes n.apart.bytes d.bytes candidates) e in
-    (gives_is f n.facts (and_l (gives f n.facts) (covers_flags n.apart d && covers_bytes n.apart.bytes d.bytes candidates) e),
-    record {
-      flags = flags_are n.apart d (and_l (covers_flags n.apart d) (covers_bytes n.apart.bytes d.bytes candidates) more);
-      bytes = bytes_are n.apart.bytes d candidates within (and_r (covers_flags n.apart d) (covers_bytes n.apart.bytes d.bytes candidates) more);
-    })
+    let more = and_r (gives f n.facts) (covers_flags n.apart d && covers_bytes n.apart.bytes d.bytes candidates) e in (
+      gives_is f n.facts (and_l (gives f n.facts) (covers_flags n.apart d && covers_bytes n.apart.bytes d.bytes candidates) e),
+      record {
+        flags = flags_are n.apart d (and_l (covers_flags n.apart d) (covers_bytes n.apart.bytes d.bytes candidates) more);
+        bytes = bytes_are n.apart.bytes d candidates within (and_r (covers_flags n.apart d) (covers_bytes n.apart.bytes d.bytes candidates) more);
+      },
+    )
 
 ahead_is : (rows : List ListedRow) → note_ahead (rows_in rows) ≡ option_map (option_map note_in) (ahead rows)
 ahead_is [] = refl
@@ -211,9 +212,11 @@ comes_is (Some (Some n)) k across e =
     let three = all_of (λ a. among a n.apart.bytes) k.apart.bytes in
     let four = all_of (λ a. among a n.apart.bytes) across in
     let more = and_r one (two && (three && four)) e in
-    let last = and_r two (three && four) more in
-    (gives_is (facts_in k.facts) n.facts (and_l one (two && (three && four)) e), flags_are n.apart (apart_in k.apart) (and_l two (three && four) more),
-    λ a h. (all_not (λ j. among j n.apart.bytes) k.apart.bytes (and_l three four last) a h, all_not (λ j. among j n.apart.bytes) across (and_r three four last) a h))
+    let last = and_r two (three && four) more in (
+      gives_is (facts_in k.facts) n.facts (and_l one (two && (three && four)) e),
+      flags_are n.apart (apart_in k.apart) (and_l two (three && four) more),
+      λ a h. (all_not (λ j. among j n.apart.bytes) k.apart.bytes (and_l three four last) a h, all_not (λ j. among j n.apart.bytes) across (and_r three four last) a h),
+    )
 
 -- ---- candidates
 within_same : (a : Aim) (d : Apart) (candidates : List ℕ) → Within d candidates → Within (same_byte a d) candidates
@@ -370,11 +373,12 @@ module _ (k : Sketch) (limit : Bool → ℕ) (old_page new_page : BlockName → 
       let five = all_of (λ a. among a to.outer) block.outer in
       let b = and_r one (two && (three && (four && five))) e in
       let c = and_r two (three && (four && five)) b in
-      let g = and_r three (four && five) c in
-      (sides to.inside inside (and_l one (two && (three && (four && five))) e),
-      subst (λ (q : Option (Option Note)). Enters q (note_in n)) (sym (ahead_is to.rows)) (enters_is (ahead to.rows) n (and_l two (three && (four && five)) b)),
-      subst (λ (q : Option (Option Note)). Comes q (note_in to.ends) (λ a. among a bytes)) (sym (ahead_is rest)) (comes_is (ahead rest) to.ends bytes (and_l three (four && five) c)),
-      λ a h. (all_not (λ j. among j to.outer) bytes (and_l four five g) a h, all_not (λ j. among j to.outer) block.outer (and_r four five g) a h))
+      let g = and_r three (four && five) c in (
+        sides to.inside inside (and_l one (two && (three && (four && five))) e),
+        subst (λ (q : Option (Option Note)). Enters q (note_in n)) (sym (ahead_is to.rows)) (enters_is (ahead to.rows) n (and_l two (three && (four && five)) b)),
+        subst (λ (q : Option (Option Note)). Comes q (note_in to.ends) (λ a. among a bytes)) (sym (ahead_is rest)) (comes_is (ahead rest) to.ends bytes (and_l three (four && five) c)),
+        λ a h. (all_not (λ j. among j to.outer) bytes (and_l four five g) a h, all_not (λ j. among j to.outer) block.outer (and_r four five g) a h),
+      )
 
   kept_is : (rest : List ListedRow) (s : Sym) → is_kept k own n rest s ≡ true → IsKept x own inside (note_in n) (rows_in rest) s
   kept_is rest (syms.File op operand to) e = file_is rest op operand to e
@@ -490,9 +494,12 @@ module _ (k : Sketch) (limit : Bool → ℕ) (old_page new_page : BlockName → 
       let three = not (uses_w op && n.apart.w) in
       let four = expects (ahead rest) (after_to_w op (ToByte i) f) (literal_apart f d op i) bytes in
       let b = and_r one (two && (three && four)) e in
-      let c = and_r two (three && four) b in
-      (some_operation (literal_for op) new (and_l one (two && (three && four)) e), number_is (f.known i) v (and_l two (three && four) b), not_both (uses_w op) n.apart.w (and_l three four c),
-      expects_at rest (after_to_w op (ToByte i) f) (literal_apart f d op i) bytes (apart_within op i) (and_r three four c))
+      let c = and_r two (three && four) b in (
+        some_operation (literal_for op) new (and_l one (two && (three && four)) e),
+        number_is (f.known i) v (and_l two (three && four) b),
+        not_both (uses_w op) n.apart.w (and_l three four c),
+        expects_at rest (after_to_w op (ToByte i) f) (literal_apart f d op i) bytes (apart_within op i) (and_r three four c),
+      )
   puts_for_is rest op a new v e = never e
 
   put_is : (rest : List ListedRow) (new : LiteralOperation) (v : ℕ) (s : Sym) → is_put k own n rest new v s ≡ true → IsPut x own inside (note_in n) (rows_in rest) new v s

@@ -109,10 +109,12 @@ module _ (x : Lean) (sound : IsSound x) (inside : Bool) (rest : ℕ → Bool) (s
   to_w_alone : (op : FileOperation) (j i : ℕ) → j ≡ i → Passes list (may_skip op) (after_to_w op (ToByte j) f) (other_w (one_sets (flags_in op) d))
       → Lone (file_to_w (old_program x) p first m op (Silent i))
   to_w_alone op j i is l =
-      let al = flags_alone d r s scene.alike op (m i) in
-      (pass (may_skip op) (skips_with r op (m i)) (skip_ok r op (m i)) (after_to_w op (ToByte j) f) (other_w (one_sets (flags_in op) d)) l (record (flags_with r op (m i)) { w = result_with r op (m i) }) m
-      (record { w = λ e. never (sym e); z = al.z; dc = al.dc; c = al.c; fsr = al.fsr; irp = al.irp })
-      (to_w_holds f r m scene.holds op (ToByte j) (m i) (λ h e. ap m (sym is ∙ aim_eq j h e))) scene.still, tt)
+      let al = flags_alone d r s scene.alike op (m i) in (
+        pass (may_skip op) (skips_with r op (m i)) (skip_ok r op (m i)) (after_to_w op (ToByte j) f) (other_w (one_sets (flags_in op) d)) l (record (flags_with r op (m i)) { w = result_with r op (m i) }) m
+            (record { w = λ e. never (sym e); z = al.z; dc = al.dc; c = al.c; fsr = al.fsr; irp = al.irp })
+            (to_w_holds f r m scene.holds op (ToByte j) (m i) (λ h e. ap m (sym is ∙ aim_eq j h e))) scene.still,
+        tt,
+      )
 
   w_if : (c b : Bool) (v y : ℕ) → (c ≡ true → y ≡ v) → (b ≡ false → y ≡ s.w) → (if c then b else true) ≡ false → v ≡ s.w
   w_if true b v y same l e = sym (same refl) ∙ l e
@@ -126,11 +128,13 @@ module _ (x : Lean) (sound : IsSound x) (inside : Bool) (rest : ℕ → Bool) (s
   move_alone : (j i : ℕ) → j ≡ i → Expects (note_ahead list) (moved (ToByte j) f) (one_moves f j d) → Lone (file_to_w (old_program x) p first m files.Movf (Silent i))
   unfolding skips_with
   move_alone j i is l =
-      let same : f.held j ≡ true → r.w ≡ m i = λ e. scene.holds.held j e ∙ ap m is in
-      (moves (moved (ToByte j) f) (one_moves f j d) l (record (flags_with r files.Movf (m i)) { w = result_with r files.Movf (m i) }) m
-      (subst (λ (t : Registers). Alike (one_moves f j d) t s) (sym (move_is r (m i)))
-      (record { w = λ e. w_if (f.held j) d.w (m i) r.w same scene.alike.w e; z = λ e. z_if (f.held j) f.zero d.z (m i) same scene.holds.zero scene.alike.z e; dc = scene.alike.dc; c = scene.alike.c; fsr = scene.alike.fsr; irp = scene.alike.irp }))
-      (to_w_holds f r m scene.holds files.Movf (ToByte j) (m i) (λ h e. ap m (sym is ∙ aim_eq j h e))) scene.still, tt)
+      let same : f.held j ≡ true → r.w ≡ m i = λ e. scene.holds.held j e ∙ ap m is in (
+        moves (moved (ToByte j) f) (one_moves f j d) l (record (flags_with r files.Movf (m i)) { w = result_with r files.Movf (m i) }) m
+            (subst (λ (t : Registers). Alike (one_moves f j d) t s) (sym (move_is r (m i)))
+            (record { w = λ e. w_if (f.held j) d.w (m i) r.w same scene.alike.w e; z = λ e. z_if (f.held j) f.zero d.z (m i) same scene.holds.zero scene.alike.z e; dc = scene.alike.dc; c = scene.alike.c; fsr = scene.alike.fsr; irp = scene.alike.irp }))
+            (to_w_holds f r m scene.holds files.Movf (ToByte j) (m i) (λ h e. ap m (sym is ∙ aim_eq j h e))) scene.still,
+        tt,
+      )
 
   file_to_w_alone : (op : FileOperation) (a : Aim) (c : Access) → Aims x a c → DropsToW x p.block inside n list op a → Lone (file_to_w (old_program x) p first m op c)
   file_to_w_alone files.Movf (ToByte j) (Silent i) is l = move_alone j i is l
@@ -147,11 +151,13 @@ module _ (x : Lean) (sound : IsSound x) (inside : Bool) (rest : ℕ → Bool) (s
   file_to_file_alone : (op : FileOperation) (a : Aim) (c : Access) → Aims x a c → Told x inside true c → DropsToFile x p.block inside n list op a → Lone (file_to_file (old_program x) p first m op c)
   file_to_file_alone op (ToByte j) (Silent i) is t l =
       let al = flags_alone d r s scene.alike op (m i) in
-      let v = result_with r op (m i) in
-      (pass (may_skip op) (skips_with r op (m i)) (skip_ok r op (m i)) (lost x.hidden (ToByte j) (without_zero f)) (other_byte j (one_sets (flags_in op) d)) l (flags_with r op (m i)) (with_byte m i v)
-      (record { w = al.w; z = al.z; dc = al.dc; c = al.c; fsr = al.fsr; irp = al.irp })
-      (subst (λ (h : ℕ). Holds (lost x.hidden (ToByte h) (without_zero f)) (flags_with r op (m i)) (with_byte m i v)) (sym is) (lost_byte (without_zero f) (flags_with r op (m i)) m (flags_hold f r m scene.holds op (m i)) x.hidden i v))
-      (written_alone (one_sets (flags_in op) d) j i v is (λ a. refl)), own_other inside (owner x.layout i) t)
+      let v = result_with r op (m i) in (
+        pass (may_skip op) (skips_with r op (m i)) (skip_ok r op (m i)) (lost x.hidden (ToByte j) (without_zero f)) (other_byte j (one_sets (flags_in op) d)) l (flags_with r op (m i)) (with_byte m i v)
+            (record { w = al.w; z = al.z; dc = al.dc; c = al.c; fsr = al.fsr; irp = al.irp })
+            (subst (λ (h : ℕ). Holds (lost x.hidden (ToByte h) (without_zero f)) (flags_with r op (m i)) (with_byte m i v)) (sym is) (lost_byte (without_zero f) (flags_with r op (m i)) m (flags_hold f r m scene.holds op (m i)) x.hidden i v))
+            (written_alone (one_sets (flags_in op) d) j i v is (λ a. refl)),
+        own_other inside (owner x.layout i) t,
+      )
   file_to_file_alone op (ToByte j) Denied is t l = tt
   file_to_file_alone op (ToByte j) c is t l = absurd is
   file_to_file_alone op a c is t l = absurd l
@@ -166,32 +172,38 @@ module _ (x : Lean) (sound : IsSound x) (inside : Bool) (rest : ℕ → Bool) (s
   store_regs false j = record { w = scene.alike.w; z = scene.alike.z; dc = scene.alike.dc; c = scene.alike.c; fsr = scene.alike.fsr; irp = scene.alike.irp }
 
   store_alone : (a : Aim) (c : Access) → Aims x a c → Told x inside true c → DropsStore x p.block inside n list a → Lone (store (old_program x) p first r r.w c)
-  store_alone (ToByte j) (Silent i) is t l =
-      (moves (stored x.hidden (ToByte j) f) (one_stores f j d) l r (with_byte m i r.w) (store_regs (f.held j) j)
-      (subst (λ (h : ℕ). Holds (stored x.hidden (ToByte h) f) r (with_byte m i r.w)) (sym is) (stored_byte x.hidden f r m i scene.holds))
-      (store_byte (f.held j) j i is (λ e. scene.holds.held j e ∙ ap m is)), own_other inside (owner x.layout i) t)
+  store_alone (ToByte j) (Silent i) is t l = (
+    moves (stored x.hidden (ToByte j) f) (one_stores f j d) l r (with_byte m i r.w) (store_regs (f.held j) j)
+        (subst (λ (h : ℕ). Holds (stored x.hidden (ToByte h) f) r (with_byte m i r.w)) (sym is) (stored_byte x.hidden f r m i scene.holds))
+        (store_byte (f.held j) j i is (λ e. scene.holds.held j e ∙ ap m is)),
+    own_other inside (owner x.layout i) t,
+  )
   store_alone (ToByte j) Denied is t l = tt
   store_alone (ToByte j) c is t l = absurd is
   store_alone a c is t l = absurd l
 
   clear_byte_alone : (a : Aim) (c : Access) → Aims x a c → Told x inside true c → DropsClear x p.block inside n list a → Lone (store (old_program x) p first (record r { z = 1 }) 0 c)
-  clear_byte_alone (ToByte j) (Silent i) is t l =
-      (moves (learned x.hidden (ToByte j) (Some 0) (without_zero f)) (other_byte j (record d { z = true })) l (record r { z = 1 }) (with_byte m i 0)
-      (record { w = scene.alike.w; z = λ e. never (sym e); dc = scene.alike.dc; c = scene.alike.c; fsr = scene.alike.fsr; irp = scene.alike.irp })
-      (subst (λ (h : ℕ). Holds (learned x.hidden (ToByte h) (Some 0) (without_zero f)) (record r { z = 1 }) (with_byte m i 0)) (sym is)
-      (learned_byte x.hidden (without_zero f) (record r { z = 1 }) m i 0 (lose_zero f r m scene.holds (record r { z = 1 }) refl)))
-      (written_alone (record d { z = true }) j i 0 is (λ b. refl)), own_other inside (owner x.layout i) t)
+  clear_byte_alone (ToByte j) (Silent i) is t l = (
+    moves (learned x.hidden (ToByte j) (Some 0) (without_zero f)) (other_byte j (record d { z = true })) l (record r { z = 1 }) (with_byte m i 0)
+        (record { w = scene.alike.w; z = λ e. never (sym e); dc = scene.alike.dc; c = scene.alike.c; fsr = scene.alike.fsr; irp = scene.alike.irp })
+        (subst (λ (h : ℕ). Holds (learned x.hidden (ToByte h) (Some 0) (without_zero f)) (record r { z = 1 }) (with_byte m i 0)) (sym is)
+        (learned_byte x.hidden (without_zero f) (record r { z = 1 }) m i 0 (lose_zero f r m scene.holds (record r { z = 1 }) refl)))
+        (written_alone (record d { z = true }) j i 0 is (λ b. refl)),
+    own_other inside (owner x.layout i) t,
+  )
   clear_byte_alone (ToByte j) Denied is t l = tt
   clear_byte_alone (ToByte j) c is t l = absurd is
   clear_byte_alone a c is t l = absurd l
 
   -- ---- bits of bytes
   change_alone : (g : ℕ → ℕ) (a : Aim) (c : Access) → Aims x a c → Told x inside true c → DropsChange x p.block inside n list a → Lone (change (old_program x) p first m g c)
-  change_alone g (ToByte j) (Silent i) is t l =
-      (moves (lost x.hidden (ToByte j) f) (other_byte j d) l r (with_byte m i (g (m i)))
-      (record { w = scene.alike.w; z = scene.alike.z; dc = scene.alike.dc; c = scene.alike.c; fsr = scene.alike.fsr; irp = scene.alike.irp })
-      (subst (λ (h : ℕ). Holds (lost x.hidden (ToByte h) f) r (with_byte m i (g (m i)))) (sym is) (lost_byte f r m scene.holds x.hidden i (g (m i))))
-      (written_alone d j i (g (m i)) is (λ b. refl)), own_other inside (owner x.layout i) t)
+  change_alone g (ToByte j) (Silent i) is t l = (
+    moves (lost x.hidden (ToByte j) f) (other_byte j d) l r (with_byte m i (g (m i)))
+        (record { w = scene.alike.w; z = scene.alike.z; dc = scene.alike.dc; c = scene.alike.c; fsr = scene.alike.fsr; irp = scene.alike.irp })
+        (subst (λ (h : ℕ). Holds (lost x.hidden (ToByte h) f) r (with_byte m i (g (m i)))) (sym is) (lost_byte f r m scene.holds x.hidden i (g (m i))))
+        (written_alone d j i (g (m i)) is (λ b. refl)),
+    own_other inside (owner x.layout i) t,
+  )
   change_alone g (ToByte j) Denied is t l = tt
   change_alone g (ToByte j) c is t l = absurd is
   change_alone g a c is t l = absurd l
@@ -236,9 +248,11 @@ module _ (x : Lean) (sound : IsSound x) (inside : Bool) (rest : ℕ → Bool) (s
   jump_alone : (o : Option ℕ) → ((i : ℕ) → o ≡ Some i → place_in (x.rows p.block) i ≡ place_in (x.rows p.block) p.index) → Expects (noted (x.rows p.block) o) f d
       → Lone (jump_to first (option_map (λ i. stand (old_program x) (position p.block i)) o))
   jump_alone None there e = tt
-  jump_alone (Some i) there e =
-      (go x sound inside rest scene (note_ahead (drop i (x.rows p.block))) f d (stand (old_program x) (position p.block i)) (under x p) (to_label x p.block i)
-      (sym (under_stand x p.block i ∙ ap (position p.block) (there i refl))) e None None refl tt r s m k scene.alike scene.holds scene.still, tt)
+  jump_alone (Some i) there e = (
+    go x sound inside rest scene (note_ahead (drop i (x.rows p.block))) f d (stand (old_program x) (position p.block i)) (under x p) (to_label x p.block i)
+        (sym (under_stand x p.block i ∙ ap (position p.block) (there i refl))) e None None refl tt r s m k scene.alike scene.holds scene.still,
+    tt,
+  )
 
   goto_alone : (target : Target) → DropsGoto x p.block inside n (place_in (x.rows p.block) p.index) target → Lone (goto (old_setting x) inside p first target)
   goto_alone (targets.Label (Inner l)) e = jump_alone (label_from (olds (x.rows p.block)) (Inner l) 0) e.1 e.0

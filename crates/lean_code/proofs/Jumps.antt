@@ -94,9 +94,11 @@ module _ (x : Lean) (sound : IsSound x) (inside : Bool) (rest : ℕ → Bool) (s
   jump_both : (o : Option ℕ) → Expects (noted (x.rows p.block) o) n.facts n.apart
       → Both (jump_to (one x sound inside rest scene) (option_map (λ k. stand (old_program x) (position p.block k)) o)) (jump_to (other x sound inside rest scene) (option_map (under x) (option_map (λ k. stand (old_program x) (position p.block k)) o)))
   jump_both None e = tt
-  jump_both (Some k) e =
-      (go x sound inside rest scene (note_ahead (drop k (x.rows p.block))) n.facts n.apart (stand (old_program x) (position p.block k)) (under x (stand (old_program x) (position p.block k))) (to_label x p.block k) refl e None None refl tt
-      scene.r scene.s scene.m scene.k scene.alike scene.holds scene.still, tt)
+  jump_both (Some k) e = (
+    go x sound inside rest scene (note_ahead (drop k (x.rows p.block))) n.facts n.apart (stand (old_program x) (position p.block k)) (under x (stand (old_program x) (position p.block k))) (to_label x p.block k) refl e None None refl tt
+        scene.r scene.s scene.m scene.k scene.alike scene.holds scene.still,
+    tt,
+  )
 
   pub goto_both : (target : Target) → KeepsGoto x p.block inside n target → Both (goto (old_setting x) inside p (one x sound inside rest scene) target) (goto (new_setting x) inside (under x p) (other x sound inside rest scene) target)
   goto_both (targets.Label Halt) e = halt_both inside refl scene.stack scene.new_stack scene.olds scene.news

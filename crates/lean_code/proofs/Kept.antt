@@ -265,9 +265,11 @@ module _ (x : Lean) (sound : IsSound x) (inside : Bool) (rest : ℕ → Bool) (s
           let al = flags_alike r.fsr s.fsr alike.fsr in
           let res = result_same n.apart r s alike op r.fsr s.fsr use_w use_c alike.fsr in
           let t = record (flags_with r op r.fsr) { fsr = result_with r op r.fsr } in
-          let u = record (flags_with s op s.fsr) { fsr = result_with s op s.fsr } in
-          (to_file ToFsr l r.fsr s.fsr alike.fsr t u None None refl tt m k (record { w = al.w; z = al.z; dc = al.dc; c = al.c; fsr = res; irp = al.irp })
-          (keep_all (without_zero n.facts) (flags_with r op r.fsr) m (zero_lost r.fsr) t refl refl) still, tt)
+          let u = record (flags_with s op s.fsr) { fsr = result_with s op s.fsr } in (
+            to_file ToFsr l r.fsr s.fsr alike.fsr t u None None refl tt m k (record { w = al.w; z = al.z; dc = al.dc; c = al.c; fsr = res; irp = al.irp })
+                (keep_all (without_zero n.facts) (flags_with r op r.fsr) m (zero_lost r.fsr) t refl refl) still,
+            tt,
+          )
       file_to_file_both ToEvent (Event b) is t q l = (refl, loud_same b t, event_to_file ToEvent b t refl l)
       file_to_file_both Through (Event b) is t q l = (refl, loud_same b t, event_to_file Through b t refl l)
       file_to_file_both (ToByte j) (Silent i) is t q l =
@@ -275,21 +277,23 @@ module _ (x : Lean) (sound : IsSound x) (inside : Bool) (rest : ℕ → Bool) (s
           let al = flags_alike (m i) (k i) e in
           let res = result_same n.apart r s alike op (m i) (k i) use_w use_c e in
           let a = with_byte m i (result_with r op (m i)) in
-          let b = with_byte k i (result_with s op (k i)) in
-          (to_file (ToByte j) l (m i) (k i) e (flags_with r op (m i)) (flags_with s op (k i)) None None refl tt a b (record { w = al.w; z = al.z; dc = al.dc; c = al.c; fsr = al.fsr; irp = al.irp })
-          (subst (λ (z : ℕ). Holds (lost x.hidden (ToByte z) (without_zero n.facts)) (flags_with r op (m i)) a) (sym is) (lost_byte (without_zero n.facts) (flags_with r op (m i)) m (zero_lost (m i)) x.hidden i (result_with r op (m i))))
-          (λ z u v w. byte_same (nat_eq z i) (n.apart.bytes z) (result_with r op (m i)) (result_with s op (k i)) (m z) (k z) res (λ o. still z o v w) (subst (λ (h : ℕ). (if nat_eq z h then false else n.apart.bytes z) ≡ false) is u)),
-          own_other inside (owner x.layout i) t)
+          let b = with_byte k i (result_with s op (k i)) in (
+            to_file (ToByte j) l (m i) (k i) e (flags_with r op (m i)) (flags_with s op (k i)) None None refl tt a b (record { w = al.w; z = al.z; dc = al.dc; c = al.c; fsr = al.fsr; irp = al.irp })
+                (subst (λ (z : ℕ). Holds (lost x.hidden (ToByte z) (without_zero n.facts)) (flags_with r op (m i)) a) (sym is) (lost_byte (without_zero n.facts) (flags_with r op (m i)) m (zero_lost (m i)) x.hidden i (result_with r op (m i))))
+                (λ z u v w. byte_same (nat_eq z i) (n.apart.bytes z) (result_with r op (m i)) (result_with s op (k i)) (m z) (k z) res (λ o. still z o v w) (subst (λ (h : ℕ). (if nat_eq z h then false else n.apart.bytes z) ≡ false) is u)),
+            own_other inside (owner x.layout i) t,
+          )
       file_to_file_both Through (Silent i) is t q l =
           let e = read_same Through i is (own_near inside (owner x.layout i) t) q in
           let al = flags_alike (m i) (k i) e in
           let res = result_same n.apart r s alike op (m i) (k i) use_w use_c e in
           let a = with_byte m i (result_with r op (m i)) in
-          let b = with_byte k i (result_with s op (k i)) in
-          (to_file Through l (m i) (k i) e (flags_with r op (m i)) (flags_with s op (k i)) None None refl tt a b al
-          (lost_through x.hidden (without_zero n.facts) (flags_with r op (m i)) m i (result_with r op (m i)) is (zero_lost (m i)))
-          (λ z u v w. byte_both (nat_eq z i) (result_with r op (m i)) (result_with s op (k i)) (m z) (k z) res (still z u v w)),
-          own_other inside (owner x.layout i) t)
+          let b = with_byte k i (result_with s op (k i)) in (
+            to_file Through l (m i) (k i) e (flags_with r op (m i)) (flags_with s op (k i)) None None refl tt a b al
+                (lost_through x.hidden (without_zero n.facts) (flags_with r op (m i)) m i (result_with r op (m i)) is (zero_lost (m i)))
+                (λ z u v w. byte_both (nat_eq z i) (result_with r op (m i)) (result_with s op (k i)) (m z) (k z) res (still z u v w)),
+            own_other inside (owner x.layout i) t,
+          )
       file_to_file_both a Denied is t q l = tt
       file_to_file_both a c is t q l = absurd is
 
@@ -302,23 +306,27 @@ module _ (x : Lean) (sound : IsSound x) (inside : Bool) (rest : ℕ → Bool) (s
 
     pub change_both : (f : ℕ → ℕ) (a : Aim) (c : Access) → Aims x a c → Told x inside true c → Same x.hidden a n.apart (x.outer p.block) → Expects (note_ahead rows) (lost x.hidden a n.facts) n.apart
         → Both (change (old_program x) p one m f c) (change (new_program x) (under x p) other k f c)
-    change_both f ToFsr Pointer is t q l =
-        (next stands n.facts n.apart l None None refl tt (record r { fsr = f r.fsr }) (record s { fsr = f s.fsr }) m k
-        (record { w = alike.w; z = alike.z; dc = alike.dc; c = alike.c; fsr = ap f alike.fsr; irp = alike.irp }) (keep_all n.facts r m holds (record r { fsr = f r.fsr }) refl refl) still, tt)
+    change_both f ToFsr Pointer is t q l = (
+      next stands n.facts n.apart l None None refl tt (record r { fsr = f r.fsr }) (record s { fsr = f s.fsr }) m k
+          (record { w = alike.w; z = alike.z; dc = alike.dc; c = alike.c; fsr = ap f alike.fsr; irp = alike.irp }) (keep_all n.facts r m holds (record r { fsr = f r.fsr }) refl refl) still,
+      tt,
+    )
     change_both f ToEvent (Event b) is t q l = (refl, loud_same b t, changed_event ToEvent b t f l)
     change_both f Through (Event b) is t q l = (refl, loud_same b t, changed_event Through b t f l)
     change_both f (ToByte j) (Silent i) is t q l =
-        let e = read_same (ToByte j) i is (own_near inside (owner x.layout i) t) q in
-        (next stands (lost x.hidden (ToByte j) n.facts) n.apart l None None refl tt r s (with_byte m i (f (m i))) (with_byte k i (f (k i))) alike
-        (subst (λ (z : ℕ). Holds (lost x.hidden (ToByte z) n.facts) r (with_byte m i (f (m i)))) (sym is) (lost_byte n.facts r m holds x.hidden i (f (m i))))
-        (λ z u v w. byte_both (nat_eq z i) (f (m i)) (f (k i)) (m z) (k z) (ap f e) (still z u v w)),
-        own_other inside (owner x.layout i) t)
+        let e = read_same (ToByte j) i is (own_near inside (owner x.layout i) t) q in (
+          next stands (lost x.hidden (ToByte j) n.facts) n.apart l None None refl tt r s (with_byte m i (f (m i))) (with_byte k i (f (k i))) alike
+              (subst (λ (z : ℕ). Holds (lost x.hidden (ToByte z) n.facts) r (with_byte m i (f (m i)))) (sym is) (lost_byte n.facts r m holds x.hidden i (f (m i))))
+              (λ z u v w. byte_both (nat_eq z i) (f (m i)) (f (k i)) (m z) (k z) (ap f e) (still z u v w)),
+          own_other inside (owner x.layout i) t,
+        )
     change_both f Through (Silent i) is t q l =
-        let e = read_same Through i is (own_near inside (owner x.layout i) t) q in
-        (next stands (lost x.hidden Through n.facts) n.apart l None None refl tt r s (with_byte m i (f (m i))) (with_byte k i (f (k i))) alike
-        (lost_through x.hidden n.facts r m i (f (m i)) is holds)
-        (λ z u v w. byte_both (nat_eq z i) (f (m i)) (f (k i)) (m z) (k z) (ap f e) (still z u v w)),
-        own_other inside (owner x.layout i) t)
+        let e = read_same Through i is (own_near inside (owner x.layout i) t) q in (
+          next stands (lost x.hidden Through n.facts) n.apart l None None refl tt r s (with_byte m i (f (m i))) (with_byte k i (f (k i))) alike
+              (lost_through x.hidden n.facts r m i (f (m i)) is holds)
+              (λ z u v w. byte_both (nat_eq z i) (f (m i)) (f (k i)) (m z) (k z) (ap f e) (still z u v w)),
+          own_other inside (owner x.layout i) t,
+        )
     change_both f a Denied is t q l = tt
     change_both f a c is t q l = absurd is
 
@@ -358,14 +366,16 @@ module _ (x : Lean) (sound : IsSound x) (inside : Bool) (rest : ℕ → Bool) (s
           (next stands (g ToFsr) d l None None refl tt (record t { fsr = v }) (record u { fsr = y }) m k (record { w = al.w; z = al.z; dc = al.dc; c = al.c; fsr = vy; irp = al.irp }) fsr_holds still_d, tt)
       store_both ToEvent (Event b) is told l = (refl, vy, told, stored_event ToEvent b told event_near event_h l)
       store_both Through (Event b) is told l = (refl, vy, told, stored_event Through b told through_near through_h l)
-      store_both (ToByte j) (Silent i) is told l =
-          (next stands (g (ToByte j)) (same_byte (ToByte j) d) l None None refl tt t u (with_byte m i v) (with_byte k i y) (record { w = al.w; z = al.z; dc = al.dc; c = al.c; fsr = al.fsr; irp = al.irp })
-          (subst (λ (z : ℕ). Holds (g (ToByte z)) t (with_byte m i v)) (sym is) (byte_h i))
-          (λ z e o w. byte_same (nat_eq z i) (d.bytes z) v y (m z) (k z) vy (λ h. still_d z h o w) (subst (λ (h : ℕ). (if nat_eq z h then false else d.bytes z) ≡ false) is e)),
-          own_other inside (owner x.layout i) told)
-      store_both Through (Silent i) is told l =
-          (next stands (g Through) d l None None refl tt t u (with_byte m i v) (with_byte k i y) al (through_byte i is)
-          (λ z e o w. byte_both (nat_eq z i) v y (m z) (k z) vy (still_d z e o w)),
-          own_other inside (owner x.layout i) told)
+      store_both (ToByte j) (Silent i) is told l = (
+        next stands (g (ToByte j)) (same_byte (ToByte j) d) l None None refl tt t u (with_byte m i v) (with_byte k i y) (record { w = al.w; z = al.z; dc = al.dc; c = al.c; fsr = al.fsr; irp = al.irp })
+            (subst (λ (z : ℕ). Holds (g (ToByte z)) t (with_byte m i v)) (sym is) (byte_h i))
+            (λ z e o w. byte_same (nat_eq z i) (d.bytes z) v y (m z) (k z) vy (λ h. still_d z h o w) (subst (λ (h : ℕ). (if nat_eq z h then false else d.bytes z) ≡ false) is e)),
+        own_other inside (owner x.layout i) told,
+      )
+      store_both Through (Silent i) is told l = (
+        next stands (g Through) d l None None refl tt t u (with_byte m i v) (with_byte k i y) al (through_byte i is)
+            (λ z e o w. byte_both (nat_eq z i) v y (m z) (k z) vy (still_d z e o w)),
+        own_other inside (owner x.layout i) told,
+      )
       store_both a Denied is told l = tt
       store_both a c is told l = absurd is

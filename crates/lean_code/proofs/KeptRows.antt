@@ -52,7 +52,6 @@ pub literal_quiet : (q : Program) (at : Position) (th : Thread) (op : LiteralOpe
 literal_quiet q at th literals.Retlw t e = never (sym e)
 literal_quiet q at th op t e = refl
 
-
 module _ (x : Lean) (sound : IsSound x) (inside : Bool) (rest : ℕ → Bool) (scene : Scene x inside rest) where
   pub literal_holds : (op : LiteralOperation) (value : Literal) → Holds (after_literal scene.n.facts op value) (after_row (literal_row op (literal_value x.layout value)) scene.r) scene.m
   literal_holds literals.Movlw (Number i) =
@@ -62,7 +61,6 @@ module _ (x : Lean) (sound : IsSound x) (inside : Bool) (rest : ℕ → Bool) (s
   pub cleared_holds : Holds (record scene.n.facts { number = Some 0; held = λ a. false; zero = true }) (after_row ins.Clrw scene.r) scene.m
   cleared_holds =
       subst (λ (t : Registers). Holds (record scene.n.facts { number = Some 0; held = λ a. false; zero = true }) t scene.m) (sym (cleared_w scene.r)) (record { number = λ j e. some_is 0 j e; held = λ a e. never e; zero = λ e. refl; known = scene.holds.known })
-
 
 module _ (x : Lean) (sound : IsSound x) (inside : Bool) (rest : ℕ → Bool) (scene : Scene x inside rest) (stands : stands_at (row_at x scene.p) ≡ true) where
   abbrev p : Position
@@ -128,9 +126,11 @@ module _ (x : Lean) (sound : IsSound x) (inside : Bool) (rest : ℕ → Bool) (s
   test_flag_both : (v : ℕ) → Leads list true f d → (o q : Option ℕ) → SameFlag o q → Both (test_flag (old_program x) p first v o) (test_flag (new_program x) (under x p) second v q)
   test_flag_both v l None q e = tt
   test_flag_both v l (Some i) None e = absurd e
-  test_flag_both v l (Some i) (Some j) e =
-      (subst (λ (c : ℕ). Goes x inside rest (goes first (onward (old_program x) p (nat_eq i v)) r) (goes second (onward (new_program x) (under x p) (nat_eq c v)) s) m k) e
-      (lead x sound inside rest scene stands true (nat_eq i v) (λ z. refl) f d l None None refl tt r s m k scene.alike scene.holds scene.still), tt)
+  test_flag_both v l (Some i) (Some j) e = (
+    subst (λ (c : ℕ). Goes x inside rest (goes first (onward (old_program x) p (nat_eq i v)) r) (goes second (onward (new_program x) (under x p) (nat_eq c v)) s) m k) e
+        (lead x sound inside rest scene stands true (nat_eq i v) (λ z. refl) f d l None None refl tt r s m k scene.alike scene.holds scene.still),
+    tt,
+  )
 
   flag_both : (op : BitOperation) (b : ℕ) → KeepsBit x p.block inside n list op (operands.Register Status) b → Both (flag (old_program x) p first op b) (flag (new_program x) (under x p) second op b)
   flag_both Bcf b e = put_both b 0 e (with_status_bit r b 0) refl

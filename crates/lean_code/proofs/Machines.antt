@@ -453,16 +453,18 @@ module _ (x : Lean) where
             (at_front (old_program x) copy (e n)) (at_front (new_program x) copy (e n)) m k refl (ap (λ (q : Position). Some q) (under_front x (Copy copy))) refl tt refl refl
             (record { w = λ h. refl; z = λ h. refl; dc = λ h. refl; c = λ h. refl; fsr = refl; irp = refl })
             (record { number = λ i h. absurd (none-some i h); held = λ i h. never h; zero = λ h. never h; known = λ i j h. absurd (none-some j h) })
-            (λ j h i l. ready.same j l (other j ∙ h)) stands in
-            (record {
-              inside = true;
-              is = entered_inside w;
-              entries = refl;
-              world = refl;
-              rest = apart;
-              other = record { home = ready.home; note = ready.note; frames = ready.frames; tied = ready.tied; rest_is = λ j. refl };
-              ready = y.0;
-            }, y.1)
+            (λ j h i l. ready.same j l (other j ∙ h)) stands in (
+              record {
+                inside = true;
+                is = entered_inside w;
+                entries = refl;
+                world = refl;
+                rest = apart;
+                other = record { home = ready.home; note = ready.note; frames = ready.frames; tied = ready.tied; rest_is = λ j. refl };
+                ready = y.0;
+              },
+              y.1,
+            )
 
         enter_by : (h : Option ℕ) → BeginsAt x h → c ≡ false → Outcome vm (enter (old_setting x) e h um) (enter (new_setting x) e h vm) context_cost context_cost 1 1
         enter_by None begins z = Halted refl

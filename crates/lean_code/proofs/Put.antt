@@ -129,10 +129,12 @@ module _ (x : Lean) (sound : IsSound x) (inside : Bool) (rest : ℕ → Bool) (s
   put_quiet : (op : FileOperation) (new : LiteralOperation) (v j i : ℕ) → j ≡ i → PutsFor x p.block inside n list op (ToByte j) new v → Both (file_to_w (old_program x) p first m op (Silent i)) (new_effect new v)
   put_quiet op new v j i is e =
       let t = record (flags_with r op (m i)) { w = result_with r op (m i) } in
-      let same : m i ≡ v = ap m (sym is) ∙ scene.holds.known j v e.1 in
-      (subst (λ (c : Bool). Goes x inside rest (goes first (onward (old_program x) p c) t) (goes second (behind (new_program x) (under x p)) (after_row (literal_row new v) s)) m scene.k) (sym (no_skip r op (m i) (like op new e.0).steps))
-      (next x sound inside rest scene stands (after_to_w op (ToByte j) f) (literal_apart f d op j) e.3 None None refl tt t (after_row (literal_row new v) s) m scene.k
-      (put_alike op new j i v e.0 e.2 is same) (to_w_holds f r m scene.holds op (ToByte j) (m i) (λ h z. ap m (sym is ∙ aim_eq j h z))) (λ a z o w. scene.still a (sym (apart_bytes op j a) ∙ z) o w)), tt)
+      let same : m i ≡ v = ap m (sym is) ∙ scene.holds.known j v e.1 in (
+        subst (λ (c : Bool). Goes x inside rest (goes first (onward (old_program x) p c) t) (goes second (behind (new_program x) (under x p)) (after_row (literal_row new v) s)) m scene.k) (sym (no_skip r op (m i) (like op new e.0).steps))
+            (next x sound inside rest scene stands (after_to_w op (ToByte j) f) (literal_apart f d op j) e.3 None None refl tt t (after_row (literal_row new v) s) m scene.k
+            (put_alike op new j i v e.0 e.2 is same) (to_w_holds f r m scene.holds op (ToByte j) (m i) (λ h z. ap m (sym is ∙ aim_eq j h z))) (λ a z o w. scene.still a (sym (apart_bytes op j a) ∙ z) o w)),
+        tt,
+      )
     where
       aim_eq : (j h : ℕ) → ToByte j ≡ ToByte h → j ≡ h
       aim_eq j h e = cc

@@ -87,27 +87,32 @@ module _ (x : Lean) (sound : IsSound x) (inside : Bool) (rest : ℕ → Bool) (f
     put_rest : (w : Rest) → TiedTo (thread (Some w) at stack r) (thread (Some w) new_at new_stack s)
         → Either (thread (Some w) at stack r) (thread (Some w) new_at new_stack s) (effect (old_setting x) inside (thread (Some w) at stack r) m) (effect (new_setting x) inside (thread (Some w) new_at new_stack s) k)
     unfolding effect
-    put_rest w t = Matched (refl, refl, t.loud, λ l. (
-      record {
-        home = home;
-        note = n;
-        frames = ks;
-        tied = record {
-          same_root = t.same_root;
-          rest = refl;
-          loud = tt;
-          at = t.at;
-          olds = t.olds;
-          news = t.news;
-          waits = t.waits;
-          alike = t.alike;
-          holds = event_holds x inside n.facts r m w.to w.byte (record { held = t.note.held; known = t.note.known }) t.loud t.holds;
-          note = t.note;
-        };
-        same = λ a u v. event_same w.to w.byte m k a (same a u v);
-      },
-      new_lands at new_at t.at l,
-    )) (λ p e z. absurd (cc))
+    put_rest w t = Matched (
+      refl,
+      refl,
+      t.loud,
+      λ l. (
+        record {
+          home = home;
+          note = n;
+          frames = ks;
+          tied = record {
+            same_root = t.same_root;
+            rest = refl;
+            loud = tt;
+            at = t.at;
+            olds = t.olds;
+            news = t.news;
+            waits = t.waits;
+            alike = t.alike;
+            holds = event_holds x inside n.facts r m w.to w.byte (record { held = t.note.held; known = t.note.known }) t.loud t.holds;
+            note = t.note;
+          };
+          same = λ a u v. event_same w.to w.byte m k a (same a u v);
+        },
+        new_lands at new_at t.at l,
+      ),
+    ) (λ p e z. absurd (cc))
 
     -- main has ended
     put_ended : (i : Bool) → new_at ≡ None → Either (thread None None stack r) (thread None new_at new_stack s) (effect_at (old_setting x) i (thread None None stack r) m None) (effect_at (new_setting x) i (thread None new_at new_stack s) k new_at)
