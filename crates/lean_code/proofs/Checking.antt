@@ -14,6 +14,8 @@ use Rattle.sym_code.specs.declared.code.FileOperation.TheVariants as files
 use Rattle.sym_code.specs.declared.code.Into.{Into}
 use Rattle.sym_code.specs.declared.code.Into.TheVariants as into
 use Rattle.sym_code.specs.declared.code.Label.TheVariants as labels
+use Rattle.sym_code.specs.declared.code.Literal.{Literal}
+use Rattle.sym_code.specs.declared.code.Literal.TheVariants.{Number}
 use Rattle.sym_code.specs.declared.code.LiteralOperation.{LiteralOperation}
 use Rattle.sym_code.specs.declared.code.LiteralOperation.TheVariants as literals
 use Rattle.sym_code.specs.declared.code.Operand.{Operand}
@@ -27,10 +29,10 @@ use Rattle.sym_code.specs.declared.code.Target.{Target}
 use Rattle.sym_code.specs.declared.code.Target.TheVariants as targets
 use Rattle.lean_code.specs.Rows as rows_of
 use Rattle.lean_code.specs.Rows.{Facts, Apart, Note, nothing_known, Act, Keeps, Drops, Puts, Row, At, olds, is_label, place_in, note_ahead, Lean}
-use Rattle.lean_code.specs.Changes.{Weaker, CoversFlags, Aim, ToByte, Through, aim, is_own, is_near, lost, without_zero, moved, after_to_w, learned, stored, flags_in, uses_w, uses_c, may_skip, literal_flags, literal_uses, is_retlw, literal_for, both_set, one_sets, same_w, other_w, same_byte, other_byte, one_moves, one_stores}
+use Rattle.lean_code.specs.Changes.{Weaker, CoversFlags, Aim, ToByte, Through, aim, is_own, is_near, lost, without_zero, moved, after_to_w, learned, stored, flags_in, uses_w, uses_c, may_skip, literal_flags, literal_uses, is_retlw, literal_for, both_set, one_sets, same_w, other_w, same_byte, other_byte, one_moves, one_stores, is_number, one_ors, one_clears, z_alone}
 use Rattle.lean_code.specs.Right as right
-use Rattle.lean_code.specs.Right.{Expects, Leads, Passes, Same, Comes, Enters, flag_apart, with_flag, after_literal, literal_apart, KeepsFile, KeepsBit, KeepsPlain, KeepsGoto, KeepsCall, IsKept, DropsToW, DropsToFile, DropsBit, IsDropped, PutsFor, IsPut, IsRight, IsNote, IsRightAt, Begins, BeginsAt, IsSound}
-use Rattle.lean_code.specs.Checked.{among, all_of, KnownByte, number_in, ListedFacts, ListedApart, ListedNote, ListedRow, Listed, ListedBlock, Sketch, facts_in, apart_in, note_in, row_in, rows_in, block_in, lean_of, is_number, gives_number, gives_known, gives, covers_flags, covers_bytes, expects, ahead, past, leads, passes, comes, enters, same, noted, same_side, same_operation, is_operation, is_here, keeps_file, keeps_bit, keeps_plain, keeps_goto, keeps_call, is_kept, drops_to_w, drops_to_file, drops_store, drops_clear, drops_change, drops_test, drops_bit, drops_plain, drops_goto, is_left_out, puts_for, is_put, is_right_row, all_known, is_note, is_right_at, are_right, is_right_block, are_right_blocks, begins, begins_at, TestIsRight}
+use Rattle.lean_code.specs.Right.{Expects, Leads, Passes, Same, Comes, Enters, flag_apart, with_flag, after_literal, dropped_literal, literal_apart, KeepsFile, KeepsBit, KeepsPlain, KeepsGoto, KeepsCall, IsKept, DropsToW, DropsToFile, DropsBit, IsDropped, PutsFor, IsPut, IsRight, IsNote, IsRightAt, Begins, BeginsAt, IsSound}
+use Rattle.lean_code.specs.Checked.{among, all_of, KnownByte, number_in, ListedFacts, ListedApart, ListedNote, ListedRow, Listed, ListedBlock, Sketch, facts_in, apart_in, note_in, row_in, rows_in, block_in, lean_of, gives_number, gives_known, gives, covers_flags, covers_bytes, expects, ahead, past, leads, passes, comes, enters, same, noted, same_side, same_operation, is_operation, is_here, keeps_file, keeps_bit, keeps_plain, keeps_goto, keeps_call, is_kept, drops_to_w, drops_to_file, drops_store, drops_clear, drops_change, drops_test, drops_bit, drops_plain, drops_goto, is_left_out, puts_for, is_put, is_right_row, all_known, is_note, is_right_at, are_right, is_right_block, are_right_blocks, begins, begins_at, TestIsRight}
 use Rattle.lean_code.proofs.Lists.{never}
 use Rattle.lean_code.proofs.Facts.{not_false, some_is}
 use Rattle.lean_code.proofs.KeptRows.{flag_bytes}
@@ -405,8 +407,13 @@ module _ (k : Sketch) (limit : Bool → ℕ) (old_page new_page : BlockName → 
   kept_is rest (syms.SelectPage which target) e = expects_at rest f d bytes here e
 
   -- ---- what is left out
+  within_ors : (c : Bool) → Within (if c then record d { z = if f.zero then d.z else true } else other_w (one_sets z_alone d)) bytes
+  within_ors true b e = e
+  within_ors false b e = e
+
   drops_w_is : (rest : List ListedRow) (op : FileOperation) (a : Aim) → drops_to_w k own n rest op a ≡ true → DropsToW x own inside (note_in n) (rows_in rest) op a
   drops_w_is rest files.Movf (ToByte i) e = expects_at rest (moved (ToByte i) f) (one_moves f i d) bytes (λ b h. h) e
+  drops_w_is rest files.Iorwf (ToByte i) e = expects_at rest (after_to_w files.Iorwf (ToByte i) f) (one_ors f i d) bytes (within_ors (is_number (f.known i) 0)) e
   drops_w_is rest op (ToByte i) e = passes_is rest (may_skip op) (after_to_w op (ToByte i) f) (other_w (one_sets (flags_in op) d)) bytes (λ b h. h) e
   drops_w_is rest op a e = never e
 
@@ -423,9 +430,13 @@ module _ (k : Sketch) (limit : Bool → ℕ) (old_page new_page : BlockName → 
   drops_store_is rest (ToByte i) e = expects_at rest (stored k.hidden (ToByte i) f) (one_stores f i d) (i ∷ bytes) (within_stores (f.held i) i) e
   drops_store_is rest a e = never e
 
+  within_clears : (c : Bool) (i : ℕ) → Within (if c then record d { z = true } else other_byte i (record d { z = true })) (i ∷ bytes)
+  within_clears true i = within_more i (record d { z = true }) bytes (λ b h. h)
+  within_clears false i = within_other i (record d { z = true }) bytes (λ b h. h)
+
   drops_clear_is : (rest : List ListedRow) (a : Aim) → drops_clear k own n rest a ≡ true → right.DropsClear x own inside (note_in n) (rows_in rest) a
   drops_clear_is rest (ToByte i) e =
-      expects_at rest (learned k.hidden (ToByte i) (Some 0) (without_zero f)) (other_byte i (record d { z = true })) (i ∷ bytes) (within_other i (record d { z = true }) bytes (λ b h. h)) e
+      expects_at rest (learned k.hidden (ToByte i) (Some 0) (without_zero f)) (one_clears f i d) (i ∷ bytes) (within_clears (is_number (f.known i) 0) i) e
   drops_clear_is rest a e = never e
 
   drops_change_is : (rest : List ListedRow) (a : Aim) → drops_change k own n rest a ≡ true → right.DropsChange x own inside (note_in n) (rows_in rest) a
@@ -468,6 +479,14 @@ module _ (k : Sketch) (limit : Bool → ℕ) (old_page new_page : BlockName → 
       (label_is o (and_l one two e), here_is to o (and_r one two e))
   drops_goto_is to target e = never e
 
+  within_number : (c : Bool) → Within (if c then d else other_w d) bytes
+  within_number true b e = e
+  within_number false b e = e
+
+  within_literal : (op : LiteralOperation) (value : Literal) → Within (dropped_literal f d op value) bytes
+  within_literal literals.Movlw (Number v) = within_number (is_number f.number v)
+  within_literal op value = λ b e. e
+
   dropped_is : (to : ℕ) (rest : List ListedRow) (s : Sym) → is_left_out k own n to rest s ≡ true → IsDropped x own inside (note_in n) to (rows_in rest) s
   dropped_is to rest (syms.File op operand into.W) e = drops_w_is rest op (aim k.layout inside false operand) e
   dropped_is to rest (syms.File op operand into.File) e = drops_file_is rest op (aim k.layout inside true operand) e
@@ -476,8 +495,8 @@ module _ (k : Sketch) (limit : Bool → ℕ) (old_page new_page : BlockName → 
   dropped_is to rest (syms.Bit op operand b) e = drops_bit_is rest op operand b e
   dropped_is to rest (syms.Literal op value) e =
       let one = not (is_retlw op) in
-      let two = expects (ahead rest) (after_literal f op value) (other_w (one_sets (literal_flags op) d)) bytes in
-      (is_not (is_retlw op) (and_l one two e), expects_at rest (after_literal f op value) (other_w (one_sets (literal_flags op) d)) bytes (λ b h. h) (and_r one two e))
+      let two = expects (ahead rest) (after_literal f op value) (dropped_literal f d op value) bytes in
+      (is_not (is_retlw op) (and_l one two e), expects_at rest (after_literal f op value) (dropped_literal f d op value) bytes (within_literal op value) (and_r one two e))
   dropped_is to rest (syms.Plain op) e = drops_plain_is rest op e
   dropped_is to rest (syms.Goto target) e = drops_goto_is to target e
   dropped_is to rest s e = never e

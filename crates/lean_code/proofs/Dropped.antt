@@ -16,7 +16,9 @@ use Rattle.sym_code.specs.declared.code.FileOperation.TheVariants as files
 use Rattle.sym_code.specs.declared.code.Into.TheVariants as into
 use Rattle.sym_code.specs.declared.code.Label.TheVariants.{Inner}
 use Rattle.sym_code.specs.declared.code.Literal.{Literal}
+use Rattle.sym_code.specs.declared.code.Literal.TheVariants.{Number}
 use Rattle.sym_code.specs.declared.code.LiteralOperation.{LiteralOperation}
+use Rattle.sym_code.specs.declared.code.LiteralOperation.TheVariants as literals
 use Rattle.sym_code.specs.declared.code.Operand.TheVariants as operands
 use Rattle.sym_code.specs.declared.code.PlainOperation.{PlainOperation}
 use Rattle.sym_code.specs.declared.code.PlainOperation.TheVariants.{Clrw, Nop, Retfie, Return}
@@ -26,13 +28,13 @@ use Rattle.sym_code.specs.declared.code.Sym.TheVariants as syms
 use Rattle.sym_code.specs.declared.code.Target.{Target}
 use Rattle.sym_code.specs.declared.code.Target.TheVariants as targets
 use Rattle.lean_code.specs.Rows.{Facts, Apart, Note, Row, olds, place_in, note_ahead, past, Lean, old_program, old_setting}
-use Rattle.lean_code.specs.Changes.{Holds, Alike, Aim, ToByte, aim, lost, without_zero, moved, after_to_w, learned, stored, flags_in, may_skip, literal_flags, is_retlw, one_sets, other_w, other_byte, one_moves, one_stores}
-use Rattle.lean_code.specs.Right.{Expects, Passes, noted, with_flag, after_literal, DropsToW, DropsToFile, DropsStore, DropsClear, DropsChange, DropsTest, DropsBit, DropsPlain, DropsGoto, IsDropped, IsSound}
+use Rattle.lean_code.specs.Changes.{is_number, one_ors, one_clears, z_alone, Holds, Alike, Aim, ToByte, aim, lost, without_zero, moved, after_to_w, learned, stored, flags_in, may_skip, literal_flags, is_retlw, one_sets, other_w, other_byte, one_moves, one_stores}
+use Rattle.lean_code.specs.Right.{Expects, Passes, noted, with_flag, after_literal, dropped_literal, DropsToW, DropsToFile, DropsStore, DropsClear, DropsChange, DropsTest, DropsBit, DropsPlain, DropsGoto, IsDropped, IsSound}
 use Rattle.lean_code.specs.Links.{clears}
 use Rattle.lean_code.proofs.Lists.{never, dropped_at}
 use Rattle.lean_code.proofs.Places.{under, row_at, to_behind, to_past, to_label, under_dropped, under_stand, drops_behind}
-use Rattle.lean_code.proofs.Alike.{flags_alone, literal_alone, clear_alone, move_is}
-use Rattle.lean_code.proofs.Facts.{own_other, lose_zero, to_w_holds, flags_hold, lost_byte, learned_byte, stored_byte}
+use Rattle.lean_code.proofs.Alike.{flags_alone, literal_alone, clear_alone, move_is, or_zero, moved_w}
+use Rattle.lean_code.proofs.Facts.{number_of, own_other, lose_zero, to_w_holds, flags_hold, lost_byte, learned_byte, stored_byte}
 use Rattle.lean_code.proofs.Flags.{set_alone}
 use Rattle.lean_code.proofs.Accesses.{Told, Aims, access_told, access_aims}
 use Rattle.lean_code.proofs.Relation.{held, Goes, Alone}
@@ -136,8 +138,35 @@ module _ (x : Lean) (sound : IsSound x) (inside : Bool) (rest : ℕ → Bool) (s
         tt,
       )
 
+  -- 0 leaves W as it is
+  z_or : (g b : Bool) → (g ≡ true → r.z ≡ truth (nat_eq r.w 0)) → (b ≡ false → r.z ≡ s.z) → (if g then b else true) ≡ false → truth (nat_eq r.w 0) ≡ s.z
+  z_or true b zero l e = sym (zero refl) ∙ l e
+  z_or false b zero l e = never (sym e)
+
+  or_regs : (j i : ℕ) → j ≡ i → (c : Bool) → is_number (f.known j) 0 ≡ c
+      → Alike (if c then record d { z = if f.zero then d.z else true } else other_w (one_sets z_alone d)) (record (flags_with r files.Iorwf (m i)) { w = result_with r files.Iorwf (m i) }) s
+  or_regs j i is true e =
+      let none : m i ≡ 0 = ap m (sym is) ∙ scene.holds.known j 0 (number_of (f.known j) 0 e) in
+      subst (λ (t : Registers). Alike (record d { z = if f.zero then d.z else true }) t s) (sym (or_zero r (m i) none))
+      (record { w = scene.alike.w; z = λ h. z_or f.zero d.z scene.holds.zero scene.alike.z h; dc = scene.alike.dc; c = scene.alike.c; fsr = scene.alike.fsr; irp = scene.alike.irp })
+  or_regs j i is false e =
+      let al = flags_alone d r s scene.alike files.Iorwf (m i) in
+      record { w = λ h. never (sym h); z = al.z; dc = al.dc; c = al.c; fsr = al.fsr; irp = al.irp }
+
+  or_bytes : (c : Bool) (a : ℕ) → (if c then record d { z = if f.zero then d.z else true } else other_w (one_sets z_alone d)).bytes a ≡ d.bytes a
+  or_bytes true a = refl
+  or_bytes false a = refl
+
+  or_alone : (j i : ℕ) → j ≡ i → Expects (note_ahead list) (after_to_w files.Iorwf (ToByte j) f) (one_ors f j d) → Lone (file_to_w (old_program x) p first m files.Iorwf (Silent i))
+  unfolding skips_with
+  or_alone j i is l =
+      (moves (after_to_w files.Iorwf (ToByte j) f) (one_ors f j d) l (record (flags_with r files.Iorwf (m i)) { w = result_with r files.Iorwf (m i) }) m
+      (or_regs j i is (is_number (f.known j) 0) refl)
+      (to_w_holds f r m scene.holds files.Iorwf (ToByte j) (m i) (λ h e. ap m (sym is ∙ aim_eq j h e))) (λ a z o w. scene.still a (sym (or_bytes (is_number (f.known j) 0) a) ∙ z) o w), tt)
+
   file_to_w_alone : (op : FileOperation) (a : Aim) (c : Access) → Aims x a c → DropsToW x p.block inside n list op a → Lone (file_to_w (old_program x) p first m op c)
   file_to_w_alone files.Movf (ToByte j) (Silent i) is l = move_alone j i is l
+  file_to_w_alone files.Iorwf (ToByte j) (Silent i) is l = or_alone j i is l
   file_to_w_alone op (ToByte j) (Silent i) is l = to_w_alone op j i is l
   file_to_w_alone op (ToByte j) Denied is l = tt
   file_to_w_alone op (ToByte j) c is l = absurd is
@@ -182,15 +211,20 @@ module _ (x : Lean) (sound : IsSound x) (inside : Bool) (rest : ℕ → Bool) (s
   store_alone (ToByte j) c is t l = absurd is
   store_alone a c is t l = absurd l
 
+  clear_regs : (c : Bool) (j : ℕ) → Alike (if c then record d { z = true } else other_byte j (record d { z = true })) (record r { z = 1 }) s
+  clear_regs true j = record { w = scene.alike.w; z = λ e. never (sym e); dc = scene.alike.dc; c = scene.alike.c; fsr = scene.alike.fsr; irp = scene.alike.irp }
+  clear_regs false j = record { w = scene.alike.w; z = λ e. never (sym e); dc = scene.alike.dc; c = scene.alike.c; fsr = scene.alike.fsr; irp = scene.alike.irp }
+
+  clear_bytes : (c : Bool) (j i : ℕ) → j ≡ i → (c ≡ true → m i ≡ 0) → (a : ℕ) → (if c then record d { z = true } else other_byte j (record d { z = true })).bytes a ≡ false → held scene.ks a ≡ false → rest a ≡ false → with_byte m i 0 a ≡ k a
+  clear_bytes true j i is none a z o w = byte_still (nat_eq a i) 0 (m a) (λ e. sym (none refl) ∙ ap m (sym (eqb-true a i e))) ∙ scene.still a z o w
+  clear_bytes false j i is none a z o w = written_alone (record d { z = true }) j i 0 is (λ b. refl) a z o w
+
   clear_byte_alone : (a : Aim) (c : Access) → Aims x a c → Told x inside true c → DropsClear x p.block inside n list a → Lone (store (old_program x) p first (record r { z = 1 }) 0 c)
-  clear_byte_alone (ToByte j) (Silent i) is t l = (
-    moves (learned x.hidden (ToByte j) (Some 0) (without_zero f)) (other_byte j (record d { z = true })) l (record r { z = 1 }) (with_byte m i 0)
-        (record { w = scene.alike.w; z = λ e. never (sym e); dc = scene.alike.dc; c = scene.alike.c; fsr = scene.alike.fsr; irp = scene.alike.irp })
-        (subst (λ (h : ℕ). Holds (learned x.hidden (ToByte h) (Some 0) (without_zero f)) (record r { z = 1 }) (with_byte m i 0)) (sym is)
-        (learned_byte x.hidden (without_zero f) (record r { z = 1 }) m i 0 (lose_zero f r m scene.holds (record r { z = 1 }) refl)))
-        (written_alone (record d { z = true }) j i 0 is (λ b. refl)),
-    own_other inside (owner x.layout i) t,
-  )
+  clear_byte_alone (ToByte j) (Silent i) is t l =
+      (moves (learned x.hidden (ToByte j) (Some 0) (without_zero f)) (one_clears f j d) l (record r { z = 1 }) (with_byte m i 0) (clear_regs (is_number (f.known j) 0) j)
+      (subst (λ (h : ℕ). Holds (learned x.hidden (ToByte h) (Some 0) (without_zero f)) (record r { z = 1 }) (with_byte m i 0)) (sym is)
+      (learned_byte x.hidden (without_zero f) (record r { z = 1 }) m i 0 (lose_zero f r m scene.holds (record r { z = 1 }) refl)))
+      (clear_bytes (is_number (f.known j) 0) j i is (λ e. ap m (sym is) ∙ scene.holds.known j 0 (number_of (f.known j) 0 e))), own_other inside (owner x.layout i) t)
   clear_byte_alone (ToByte j) Denied is t l = tt
   clear_byte_alone (ToByte j) c is t l = absurd is
   clear_byte_alone a c is t l = absurd l
@@ -232,12 +266,30 @@ module _ (x : Lean) (sound : IsSound x) (inside : Bool) (rest : ℕ → Bool) (s
   flag_alone Btfss b e = test_flag_alone 1 e (status_bit r b)
 
   -- ---- others
-  literal_lone : (op : LiteralOperation) (value : Literal) → is_retlw op ≡ false → Expects (note_ahead list) (after_literal f op value) (other_w (one_sets (literal_flags op) d))
+  number_regs : (v : ℕ) (c : Bool) → is_number f.number v ≡ c → Alike (if c then d else other_w d) (record r { w = v }) s
+  number_regs v true e =
+      record { w = λ h. sym (scene.holds.number v (number_of f.number v e)) ∙ scene.alike.w h; z = scene.alike.z; dc = scene.alike.dc; c = scene.alike.c; fsr = scene.alike.fsr; irp = scene.alike.irp }
+  number_regs v false e = record { w = λ h. never (sym h); z = scene.alike.z; dc = scene.alike.dc; c = scene.alike.c; fsr = scene.alike.fsr; irp = scene.alike.irp }
+
+  literal_regs : (op : LiteralOperation) (value : Literal) → is_retlw op ≡ false → Alike (dropped_literal f d op value) (after_row (literal_row op (literal_value x.layout value)) r) s
+  literal_regs literals.Movlw (Number v) plain_op = subst (λ (t : Registers). Alike (dropped_literal f d literals.Movlw (Number v)) t s) (sym (moved_w r v)) (number_regs v (is_number f.number v) refl)
+  literal_regs op value plain_op = literal_alone d r s scene.alike op (literal_value x.layout value) plain_op
+
+  number_bytes : (c : Bool) (a : ℕ) → (if c then d else other_w d).bytes a ≡ d.bytes a
+  number_bytes true a = refl
+  number_bytes false a = refl
+
+  pub literal_bytes : (op : LiteralOperation) (value : Literal) (a : ℕ) → (dropped_literal f d op value).bytes a ≡ d.bytes a
+  literal_bytes literals.Movlw (Number v) a = number_bytes (is_number f.number v) a
+  literal_bytes op value a = refl
+
+  literal_lone : (op : LiteralOperation) (value : Literal) → is_retlw op ≡ false → Expects (note_ahead list) (after_literal f op value) (dropped_literal f d op value)
       → Lone (literal (old_program x) p first op (after_row (literal_row op (literal_value x.layout value)) r))
   literal_lone op value plain_op l =
       let t = after_row (literal_row op (literal_value x.layout value)) r in
       subst Lone (sym (literal_quiet (old_program x) p first op t plain_op))
-      (moves (after_literal f op value) (other_w (one_sets (literal_flags op) d)) l t m (literal_alone d r s scene.alike op (literal_value x.layout value) plain_op) (literal_holds x sound inside rest scene op value) scene.still, tt)
+      (moves (after_literal f op value) (dropped_literal f d op value) l t m (literal_regs op value plain_op) (literal_holds x sound inside rest scene op value)
+      (λ a z o w. scene.still a (sym (literal_bytes op value a) ∙ z) o w), tt)
 
   plain_alone : (op : PlainOperation) → DropsPlain x p.block inside n list op → Lone (plain (old_program x) p first op)
   plain_alone Clrw e = (moves (record f { number = Some 0; held = λ a. false; zero = true }) (record d { w = true; z = true }) e (after_row ins.Clrw r) m (clear_alone d r s scene.alike) (cleared_holds x sound inside rest scene) scene.still, tt)

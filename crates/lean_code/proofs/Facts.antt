@@ -11,9 +11,9 @@ use Rattle.sym_code.specs.Registers.{Registers, result_with, flags_with}
 use Rattle.sym_code.specs.declared.code.FileOperation.{FileOperation}
 use Rattle.sym_code.specs.declared.code.FileOperation.TheVariants as files
 use Rattle.lean_code.specs.Rows.{Facts, Apart}
-use Rattle.lean_code.specs.Changes.{Holds, Alike, Weaker, CoversFlags, Aim, ToByte, Through, is_own, is_near, lost, without_zero, without_w, moved, after_to_w, learned, stored}
+use Rattle.lean_code.specs.Changes.{is_number, Holds, Alike, Weaker, CoversFlags, Aim, ToByte, Through, is_own, is_near, lost, without_zero, without_w, moved, after_to_w, learned, stored}
 use Rattle.lean_code.proofs.Lists.{never}
-use Rattle.lean_code.proofs.Alike.{move_is, flags_w}
+use Rattle.lean_code.proofs.Alike.{or_zero, move_is, flags_w}
 
 pub some_is : (n k : ℕ) → Some n ≡ Some k → n ≡ k
 some_is n k e = cc
@@ -58,6 +58,10 @@ pub not_false : (c : Bool) → (c ≡ true → false ≡ true) → c ≡ false
 not_false true f = never (f refl)
 not_false false f = refl
 
+pub number_of : (o : Option ℕ) (n : ℕ) → is_number o n ≡ true → o ≡ Some n
+number_of None n e = never e
+number_of (Some k) n e = ap (λ (i : ℕ). Some i) (eqb-true k n e)
+
 module _ (f : Facts) (r : Registers) (m : Memory) (x : Holds f r m) where
   -- ---- other registers
   pub lose_zero : (s : Registers) → s.w ≡ r.w → Holds (without_zero f) s m
@@ -75,7 +79,14 @@ module _ (f : Facts) (r : Registers) (m : Memory) (x : Holds f r m) where
   move_holds (ToByte k) v same = record { number = λ n e. same k refl ∙ x.known k n e; held = λ b e. same k refl ∙ ap m (sym (eqb-true b k e)); zero = λ e. refl; known = x.known }
   move_holds a v same = record { number = λ n e. absurd (none-some n e); held = λ b e. never e; zero = λ e. refl; known = x.known }
 
+  or_holds : (k v : ℕ) → v ≡ m k → (c : Bool) → is_number (f.known k) 0 ≡ c → Holds (if c then record f { zero = true } else without_w f) (record (flags_with r files.Iorwf v) { w = result_with r files.Iorwf v }) m
+  or_holds k v same true e =
+      subst (λ (t : Registers). Holds (record f { zero = true }) t m) (sym (or_zero r v (same ∙ x.known k 0 (number_of (f.known k) 0 e))))
+      (record { number = x.number; held = x.held; zero = λ h. refl; known = x.known })
+  or_holds k v same false e = lose_w (record (flags_with r files.Iorwf v) { w = result_with r files.Iorwf v })
+
   pub to_w_holds : (op : FileOperation) (a : Aim) (v : ℕ) → ((k : ℕ) → a ≡ ToByte k → v ≡ m k) → Holds (after_to_w op a f) (record (flags_with r op v) { w = result_with r op v }) m
+  to_w_holds files.Iorwf (ToByte k) v same = or_holds k v (same k refl) (is_number (f.known k) 0) refl
   to_w_holds files.Movf a v same = subst (λ (t : Registers). Holds (moved a f) t m) (sym (move_is r v)) (move_holds a v same)
   to_w_holds op a v same = lose_w (record (flags_with r op v) { w = result_with r op v })
 

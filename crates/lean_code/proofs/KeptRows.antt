@@ -26,13 +26,13 @@ use Rattle.sym_code.specs.declared.code.Register.TheVariants.{Status}
 use Rattle.sym_code.specs.declared.code.Sym.{Sym}
 use Rattle.sym_code.specs.declared.code.Sym.TheVariants as syms
 use Rattle.lean_code.specs.Rows.{Facts, Apart, Note, Row, note_ahead, Lean, old_program, new_program, old_setting, new_setting}
-use Rattle.lean_code.specs.Changes.{Holds, Alike, Aim, ToFsr, ToEvent, ToByte, Through, aim, lost, without_zero, learned, stored, literal_flags, literal_uses, is_retlw, both_set, same_w, same_byte}
+use Rattle.lean_code.specs.Changes.{is_number, Holds, Alike, Aim, ToFsr, ToEvent, ToByte, Through, aim, lost, without_zero, learned, stored, literal_flags, literal_uses, is_retlw, both_set, same_w, same_byte}
 use Rattle.lean_code.specs.Right.{Expects, Leads, Same, with_flag, after_literal, KeepsBit, KeepsPlain, IsKept, IsSound}
 use Rattle.lean_code.specs.Links.{clears}
 use Rattle.lean_code.proofs.Lists.{never, stands_at}
 use Rattle.lean_code.proofs.Places.{under, row_at}
 use Rattle.lean_code.proofs.Alike.{literal_same, clear_same, moved_w, cleared_w}
-use Rattle.lean_code.proofs.Facts.{weaker_holds, lose_zero, lose_w, keep_all, lost_weaker, lost_through, learned_byte, stored_byte, some_is}
+use Rattle.lean_code.proofs.Facts.{number_of, weaker_holds, lose_zero, lose_w, keep_all, lost_weaker, lost_through, learned_byte, stored_byte, some_is}
 use Rattle.lean_code.proofs.Flags.{SameFlag, bit_same, set_same}
 use Rattle.lean_code.proofs.Accesses.{access_told, access_aims, access_same}
 use Rattle.lean_code.proofs.Relation.{held, apart_of, Goes, Match}
@@ -55,7 +55,7 @@ literal_quiet q at th op t e = refl
 module _ (x : Lean) (sound : IsSound x) (inside : Bool) (rest : ℕ → Bool) (scene : Scene x inside rest) where
   pub literal_holds : (op : LiteralOperation) (value : Literal) → Holds (after_literal scene.n.facts op value) (after_row (literal_row op (literal_value x.layout value)) scene.r) scene.m
   literal_holds literals.Movlw (Number i) =
-      subst (λ (t : Registers). Holds (record scene.n.facts { number = Some i; held = λ a. false; zero = false }) t scene.m) (sym (moved_w scene.r i)) (record { number = λ j e. some_is i j e; held = λ a e. never e; zero = λ e. never e; known = scene.holds.known })
+      subst (λ (t : Registers). Holds (record scene.n.facts { number = Some i; held = λ a. is_number (scene.n.facts.known a) i; zero = false }) t scene.m) (sym (moved_w scene.r i)) (record { number = λ j e. some_is i j e; held = λ a e. sym (scene.holds.known a i (number_of (scene.n.facts.known a) i e)); zero = λ e. never e; known = scene.holds.known })
   literal_holds op value = lose_w scene.n.facts scene.r scene.m scene.holds (after_row (literal_row op (literal_value x.layout value)) scene.r)
 
   pub cleared_holds : Holds (record scene.n.facts { number = Some 0; held = λ a. false; zero = true }) (after_row ins.Clrw scene.r) scene.m

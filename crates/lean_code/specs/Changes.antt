@@ -100,6 +100,10 @@ without_zero f = record f { zero = false }
 abbrev pub without_w : Facts → Facts
 without_w f = record f { number = None; held = λ a. false; zero = false }
 
+abbrev pub is_number : Option ℕ → ℕ → Bool
+is_number None n = false
+is_number (Some k) n = nat_eq k n
+
 -- a byte is read to W
 abbrev pub moved : Aim → Facts → Facts
 moved (ToByte k) f = record f { number = f.known k; held = λ a. nat_eq a k; zero = true }
@@ -107,6 +111,8 @@ moved aim f = record f { number = None; held = λ a. false; zero = true }
 
 abbrev pub after_to_w : FileOperation → Aim → Facts → Facts
 after_to_w files.Movf aim f = moved aim f
+-- 0 leaves W as it is
+after_to_w files.Iorwf (ToByte k) f = if is_number (f.known k) 0 then record f { zero = true } else without_w f
 after_to_w op aim f = without_w f
 
 -- a number is written, or W
@@ -219,3 +225,11 @@ one_moves f k d = record d { w = if f.held k then d.w else true; z = if f.held k
 -- only one of them stores W in byte k
 abbrev pub one_stores : Facts → ℕ → Apart → Apart
 one_stores f k d = if f.held k then d else other_byte k d
+
+-- only one of them joins W with byte k, whose 0 leaves W as it is
+abbrev pub one_ors : Facts → ℕ → Apart → Apart
+one_ors f k d = if is_number (f.known k) 0 then record d { z = if f.zero then d.z else true } else other_w (one_sets z_alone d)
+
+-- only one of them clears byte k
+abbrev pub one_clears : Facts → ℕ → Apart → Apart
+one_clears f k d = if is_number (f.known k) 0 then record d { z = true } else other_byte k (record d { z = true })

@@ -26,7 +26,7 @@ use Rattle.sym_code.specs.declared.code.SymBlock.{SymBlock}
 use Rattle.sym_code.specs.declared.code.Target.{Target}
 use Rattle.sym_code.specs.declared.code.Target.TheVariants as targets
 use Rattle.lean_code.specs.Rows.{Facts, Apart, Note, nothing_known, Act, Keeps, Drops, Puts, Row, At, olds, puts, is_label, place_in, drops_first, keeps_first, goes_on, Lean, old_program}
-use Rattle.lean_code.specs.Changes.{Aim, ToByte, Through, aim, is_own, is_near, lost, without_zero, moved, after_to_w, learned, stored, flags_in, uses_w, uses_c, may_skip, literal_flags, literal_uses, is_retlw, literal_for, both_set, one_sets, same_w, other_w, same_byte, other_byte, one_moves, one_stores}
+use Rattle.lean_code.specs.Changes.{Aim, ToByte, Through, aim, is_own, is_near, lost, without_zero, moved, after_to_w, learned, stored, flags_in, uses_w, uses_c, may_skip, literal_flags, literal_uses, is_retlw, literal_for, both_set, one_sets, same_w, other_w, same_byte, other_byte, one_moves, one_stores, is_number, one_ors, one_clears}
 use Rattle.lean_code.specs.Right as right
 use Rattle.lean_code.specs.Right.{flag_apart, with_flag}
 
@@ -131,10 +131,6 @@ lean_of k limit old_page new_page = record {
 }
 
 -- ---- tests
-abbrev pub is_number : Option ℕ → ℕ → Bool
-is_number None n = false
-is_number (Some k) n = nat_eq k n
-
 abbrev pub gives_number : Option ℕ → Option ℕ → Bool
 gives_number has None = true
 gives_number has (Some n) = is_number has n
@@ -294,6 +290,7 @@ module _ (k : Sketch) (own : BlockName) (n : ListedNote) where
 
   abbrev pub drops_to_w : List ListedRow → FileOperation → Aim → Bool
   drops_to_w rest files.Movf (ToByte i) = expects (ahead rest) (moved (ToByte i) f) (one_moves f i d) here_bytes
+  drops_to_w rest files.Iorwf (ToByte i) = expects (ahead rest) (after_to_w files.Iorwf (ToByte i) f) (one_ors f i d) here_bytes
   drops_to_w rest op (ToByte i) = passes rest (may_skip op) (after_to_w op (ToByte i) f) (other_w (one_sets (flags_in op) d)) here_bytes
   drops_to_w rest op a = false
 
@@ -306,7 +303,7 @@ module _ (k : Sketch) (own : BlockName) (n : ListedNote) where
   drops_store rest a = false
 
   abbrev pub drops_clear : List ListedRow → Aim → Bool
-  drops_clear rest (ToByte i) = expects (ahead rest) (learned k.hidden (ToByte i) (Some 0) (without_zero f)) (other_byte i (record d { z = true })) (i ∷ here_bytes)
+  drops_clear rest (ToByte i) = expects (ahead rest) (learned k.hidden (ToByte i) (Some 0) (without_zero f)) (one_clears f i d) (i ∷ here_bytes)
   drops_clear rest a = false
 
   abbrev pub drops_change : List ListedRow → Aim → Bool
@@ -340,7 +337,7 @@ module _ (k : Sketch) (own : BlockName) (n : ListedNote) where
   is_left_out here rest (syms.Movwf operand) = drops_store rest (write operand)
   is_left_out here rest (syms.Clrf operand) = drops_clear rest (write operand)
   is_left_out here rest (syms.Bit op operand b) = drops_bit rest op operand b
-  is_left_out here rest (syms.Literal op value) = not (is_retlw op) && expects (ahead rest) (right.after_literal f op value) (other_w (one_sets (literal_flags op) d)) here_bytes
+  is_left_out here rest (syms.Literal op value) = not (is_retlw op) && expects (ahead rest) (right.after_literal f op value) (right.dropped_literal f d op value) here_bytes
   is_left_out here rest (syms.Plain op) = drops_plain rest op
   is_left_out here rest (syms.Goto target) = drops_goto here target
   is_left_out here rest s = false

@@ -27,7 +27,7 @@ use Rattle.sym_code.specs.declared.code.Sym.TheVariants as syms
 use Rattle.sym_code.specs.declared.code.Target.{Target}
 use Rattle.sym_code.specs.declared.code.Target.TheVariants as targets
 use Rattle.lean_code.specs.Rows.{Facts, Apart, Note, nothing_known, Row, At, Act, Keeps, Drops, Puts, olds, place_in, note_ahead, past, drops_first, keeps_first, goes_on, Lean, old_program}
-use Rattle.lean_code.specs.Changes.{Weaker, CoversFlags, Covers, Aim, ToByte, Through, aim, is_own, is_near, lost, without_zero, without_w, moved, after_to_w, learned, stored, flags_in, uses_w, uses_c, may_skip, literal_flags, literal_uses, is_retlw, literal_for, both_set, one_sets, same_w, other_w, same_byte, other_byte, one_moves, one_stores}
+use Rattle.lean_code.specs.Changes.{Weaker, CoversFlags, Covers, Aim, ToByte, Through, aim, is_own, is_near, lost, without_zero, without_w, moved, after_to_w, learned, stored, flags_in, uses_w, uses_c, may_skip, literal_flags, literal_uses, is_retlw, literal_for, both_set, one_sets, same_w, other_w, same_byte, other_byte, one_moves, one_stores, is_number, one_ors, one_clears}
 
 -- ---- where the code goes on
 -- With these facts, and this apart, where something stands.
@@ -89,8 +89,13 @@ with_flag b v d = if nat_eq b 0 then record d { c = v } else if nat_eq b 1 then 
 
 -- what is known behind an operation on W and a number
 abbrev pub after_literal : Facts → LiteralOperation → Literal → Facts
-after_literal f literals.Movlw (Number k) = record f { number = Some k; held = λ a. false; zero = false }
+after_literal f literals.Movlw (Number k) = record f { number = Some k; held = λ a. is_number (f.known a) k; zero = false }
 after_literal f op value = without_w f
+
+-- what may differ behind one that only one of them does
+abbrev pub dropped_literal : Facts → Apart → LiteralOperation → Literal → Apart
+dropped_literal f d literals.Movlw (Number k) = if is_number f.number k then d else other_w d
+dropped_literal f d op value = other_w (one_sets (literal_flags op) d)
 
 -- what may differ behind one that stands in place of an operation on a byte
 abbrev pub literal_apart : Facts → Apart → FileOperation → ℕ → Apart
@@ -166,6 +171,7 @@ module _ (x : Lean) (own : BlockName) (inside : Bool) (n : Note) where
   -- ---- only the given code has it
   abbrev pub DropsToW : List Row → FileOperation → Aim → Type 0
   DropsToW rest files.Movf (ToByte k) = Expects (note_ahead rest) (moved (ToByte k) f) (one_moves f k d)
+  DropsToW rest files.Iorwf (ToByte k) = Expects (note_ahead rest) (after_to_w files.Iorwf (ToByte k) f) (one_ors f k d)
   DropsToW rest op (ToByte k) = Passes rest (may_skip op) (after_to_w op (ToByte k) f) (other_w (one_sets (flags_in op) d))
   DropsToW rest op aim = ⊥
 
@@ -178,7 +184,7 @@ module _ (x : Lean) (own : BlockName) (inside : Bool) (n : Note) where
   DropsStore rest aim = ⊥
 
   abbrev pub DropsClear : List Row → Aim → Type 0
-  DropsClear rest (ToByte k) = Expects (note_ahead rest) (learned x.hidden (ToByte k) (Some 0) (without_zero f)) (other_byte k (record d { z = true }))
+  DropsClear rest (ToByte k) = Expects (note_ahead rest) (learned x.hidden (ToByte k) (Some 0) (without_zero f)) (one_clears f k d)
   DropsClear rest aim = ⊥
 
   abbrev pub DropsChange : List Row → Aim → Type 0
@@ -214,7 +220,7 @@ module _ (x : Lean) (own : BlockName) (inside : Bool) (n : Note) where
   IsDropped here rest (syms.Movwf operand) = DropsStore rest (write operand)
   IsDropped here rest (syms.Clrf operand) = DropsClear rest (write operand)
   IsDropped here rest (syms.Bit op operand b) = DropsBit rest op operand b
-  IsDropped here rest (syms.Literal op value) = (is_retlw op ≡ false) × Expects (note_ahead rest) (after_literal f op value) (other_w (one_sets (literal_flags op) d))
+  IsDropped here rest (syms.Literal op value) = (is_retlw op ≡ false) × Expects (note_ahead rest) (after_literal f op value) (dropped_literal f d op value)
   IsDropped here rest (syms.Plain op) = DropsPlain rest op
   IsDropped here rest (syms.Goto target) = DropsGoto here target
   IsDropped here rest s = ⊥
