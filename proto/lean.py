@@ -131,6 +131,7 @@ def transfer(b, i, f, hidden):
             if op == 'Movf':
                 if a[0] == 'byte': return (known.get(a[1]), frozenset([a[1]]), True, known)
                 return (None, frozenset(), True, known)
+            if op == 'Iorwf' and a[0] == 'byte' and known.get(a[1]) == 0: return (num, held, True, known)
             return (None, frozenset(), False, known)
         return lost(a, num, held, False, known)
     if k in ('Movwf', 'Clrf'):
@@ -150,7 +151,7 @@ def transfer(b, i, f, hidden):
         if r[1] in ('Btfsc', 'Btfss'): return f
         return lost(b.p.aim(b.own, r[2], True), num, held, zero, known)
     if k == 'Literal':
-        if r[1] == 'Movlw' and isinstance(r[2], int): return (r[2], frozenset(), False, known)
+        if r[1] == 'Movlw' and isinstance(r[2], int): return (r[2], frozenset(a for a, v in known.items() if v == r[2]), False, known)
         return (None, frozenset(), False, known)
     if k == 'Plain' and r[1] == 'Clrw': return (0, frozenset(), True, known)
     if k == 'Call': return (None, frozenset(), False, {})
@@ -285,6 +286,13 @@ class Whole:
             if 'loads' in self.kinds and r[0] == 'File' and r[1] == 'Movf' and r[3] == 'W' and not isinstance(b.act[i], tuple):
                 a = b.p.aim(b.own, r[2], False)
                 if a[0] == 'byte' and a[1] in f[1] and (f[2] or 'z' not in after) and not self.guards(b, i): b.act[i] = 'drop'; return True
+            if 'loads' in self.kinds and r[0] == 'File' and r[1] == 'Iorwf' and r[3] == 'W' and not isinstance(b.act[i], tuple):
+                a = b.p.aim(b.own, r[2], False)
+                if a[0] == 'byte' and f[3].get(a[1]) == 0 and (f[2] or 'z' not in after) and not self.guards(b, i): b.act[i] = 'drop'; return True
+            if 'loads' in self.kinds and r[0] == 'Literal' and r[1] == 'Movlw' and isinstance(r[2], int) and f[0] == r[2] and not self.guards(b, i): b.act[i] = 'drop'; return True
+            if 'loads' in self.kinds and r[0] == 'Clrf':
+                a = b.p.aim(b.own, r[1], True)
+                if a[0] == 'byte' and f[3].get(a[1]) == 0 and 'z' not in after and not self.guards(b, i): b.act[i] = 'drop'; return True
             if 'loads' in self.kinds and r[0] == 'Movwf':
                 a = b.p.aim(b.own, r[1], True)
                 if a[0] == 'byte' and a[1] in f[1] and not self.guards(b, i): b.act[i] = 'drop'; return True
