@@ -19,13 +19,18 @@ def sym(r):
 def blist(xs): return ''.join(f'{x} ∷ ' for x in xs) + '[]'
 def bl(v): return 'true' if v else 'false'
 d = dict(w=False, z=False, dc=False, c=False, bytes=set())
+carry = 'None'
+# a pair that one instruction stands for
+for i, r in enumerate(b.rows):
+    if b.act[i] == 'keep' and r[0] == 'File' and r[1] == 'Addwf' and r[3] == 'File' and r[2] == ('F', 2):
+        b.act[i] = 'narrow'; b.act[12] = 'drop'
 rows = []
 for i, r in enumerate(b.rows):
     f = b.facts[i]; act = b.act[i]
     num = 'None' if f[0] is None else f'Some {f[0]}'
     known = ''.join(f'record {{ byte = {k(a)}; number = {v} }} ∷ ' for a, v in sorted(f[3].items())) + '[]'
-    note = (f'said ({num}) ({blist([k(a) for a in sorted(f[1])])}) {bl(f[2])} ({known}) {bl(d["w"])} {bl(d["z"])} {bl(d["dc"])} {bl(d["c"])} ({blist([k(a) for a in sorted(d["bytes"])])})')
-    a = 'Keeps' if act == 'keep' else 'Drops' if act == 'drop' else f'(Puts literals.{act[1]} {act[2]})'
+    note = (f'said ({num}) ({blist([k(a) for a in sorted(f[1])])}) {bl(f[2])} ({known}) {bl(d["w"])} {bl(d["z"])} {bl(d["dc"])} {bl(d["c"])} ({blist([k(a) for a in sorted(d["bytes"])])}) ({carry})')
+    a = 'Keeps' if act == 'keep' else 'Drops' if act == 'drop' else 'Narrows' if act == 'narrow' else f'(Puts literals.{act[1]} {act[2]})'
     rows.append(f'Listed ({sym(r)}) {a} (Some ({note}))')
     # what may differ behind it
     R, Wr, silent = reads_writes(b, i)
@@ -36,6 +41,9 @@ for i, r in enumerate(b.rows):
         for x in flags: d[x] = False
         if 'w' in Wr: d['w'] = False
         d['bytes'] -= set(byt)
+    elif act == 'narrow':
+        for x in flags: d[x] = False
+        d['w'] = True; d['bytes'] |= set(byt)
     elif act == 'drop':
         aim = b.p.aim(b.own, r[1] if r[0] in ('Movwf', 'Clrf') else r[2], r[0] in ('Movwf', 'Clrf')) if r[0] in ('File', 'Movwf', 'Clrf') else None
         if r[0] == 'File' and r[1] == 'Movf' and r[3] == 'W':

@@ -66,6 +66,7 @@ module _ (x : Lean) where
   Aims Through (Event b) = Unit {0}
   Aims (ToByte k) (Silent j) = k ≡ j
   Aims Through (Silent j) = x.hidden j ≡ false
+  Aims (ToByte k) Denied = ⊥
   Aims a Denied = Unit {0}
   Aims a c = ⊥
 

@@ -28,11 +28,11 @@ use Rattle.sym_code.specs.declared.code.Sym.TheVariants as syms
 use Rattle.sym_code.specs.declared.code.Target.{Target}
 use Rattle.sym_code.specs.declared.code.Target.TheVariants as targets
 use Rattle.lean_code.specs.Rows as rows_of
-use Rattle.lean_code.specs.Rows.{Facts, Apart, Note, nothing_known, Act, Keeps, Drops, Puts, Row, At, olds, is_label, place_in, note_ahead, Lean}
+use Rattle.lean_code.specs.Rows.{Facts, Apart, Note, nothing_known, Act, Keeps, Drops, Puts, Narrows, Row, At, olds, is_label, place_in, note_ahead, Lean}
 use Rattle.lean_code.specs.Changes.{Weaker, CoversFlags, Aim, ToByte, Through, aim, is_own, is_near, lost, without_zero, moved, after_to_w, learned, stored, flags_in, uses_w, uses_c, may_skip, literal_flags, literal_uses, is_retlw, literal_for, both_set, one_sets, same_w, other_w, same_byte, other_byte, one_moves, one_stores, is_number, one_ors, one_clears, z_alone}
 use Rattle.lean_code.specs.Right as right
-use Rattle.lean_code.specs.Right.{Expects, Leads, Passes, Same, Comes, Enters, flag_apart, with_flag, after_literal, dropped_literal, literal_apart, KeepsFile, KeepsBit, KeepsPlain, KeepsGoto, KeepsCall, IsKept, DropsToW, DropsToFile, DropsBit, IsDropped, PutsFor, IsPut, IsRight, IsNote, IsRightAt, Begins, BeginsAt, IsSound}
-use Rattle.lean_code.specs.Checked.{among, all_of, KnownByte, number_in, ListedFacts, ListedApart, ListedNote, ListedRow, Listed, ListedBlock, Sketch, facts_in, apart_in, note_in, row_in, rows_in, block_in, lean_of, gives_number, gives_known, gives, covers_flags, covers_bytes, expects, ahead, past, leads, passes, comes, enters, same, noted, same_side, same_operation, is_operation, is_here, keeps_file, keeps_bit, keeps_plain, keeps_goto, keeps_call, is_kept, drops_to_w, drops_to_file, drops_store, drops_clear, drops_change, drops_test, drops_bit, drops_plain, drops_goto, is_left_out, puts_for, is_put, is_right_row, all_known, is_note, is_right_at, are_right, is_right_block, are_right_blocks, begins, begins_at, TestIsRight}
+use Rattle.lean_code.specs.Right.{Expects, ExpectsBy, Leads, Passes, Same, Comes, Enters, flag_apart, with_flag, after_literal, dropped_literal, literal_apart, KeepsFile, KeepsBit, KeepsPlain, KeepsGoto, KeepsCall, IsKept, DropsToW, DropsToFile, DropsBit, IsDropped, PutsFor, IsPut, IsRight, IsNote, IsRightAt, Begins, BeginsAt, IsSound}
+use Rattle.lean_code.specs.Checked.{among, all_of, KnownByte, number_in, ListedFacts, ListedApart, ListedNote, ListedRow, Listed, ListedBlock, Sketch, facts_in, apart_in, note_in, row_in, rows_in, block_in, lean_of, gives_number, gives_known, gives, covers_flags, covers_bytes, same_number, expects_by, expects, drops_move, narrows_for, is_narrowed, carries_near, ahead, past, leads, passes, comes, enters, same, noted, same_side, same_operation, is_operation, is_here, keeps_file, keeps_bit, keeps_plain, keeps_goto, keeps_call, is_kept, drops_to_w, drops_to_file, drops_store, drops_clear, drops_change, drops_test, drops_bit, drops_plain, drops_goto, is_left_out, puts_for, is_put, is_right_row, all_known, is_note, is_right_at, are_right, is_right_block, are_right_blocks, begins, begins_at, TestIsRight}
 use Rattle.lean_code.proofs.Lists.{never}
 use Rattle.lean_code.proofs.Facts.{not_false, some_is}
 use Rattle.lean_code.proofs.KeptRows.{flag_bytes}
@@ -134,17 +134,28 @@ bytes_are : (b : List ℕ) (d : Apart) (candidates : List ℕ) → Within d cand
 bytes_are b d candidates within e a k =
     not_false (d.bytes a) (λ h. sym k ∙ not_or (d.bytes a) (among a b) (all_is (λ j. not (d.bytes j) || among j b) candidates e a (within a h)) h)
 
+numbers_are : (a b : Option ℕ) → same_number a b ≡ true → a ≡ b
+numbers_are None None e = refl
+numbers_are None (Some b) e = never e
+numbers_are (Some a) None e = never e
+numbers_are (Some a) (Some b) e = ap (λ (n : ℕ). Some n) (eqb-true a b e)
+
+expects_by_is : (carry : Option ℕ) (q : Option (Option ListedNote)) (f : Facts) (d : Apart) (candidates : List ℕ) → Within d candidates → expects_by carry q f d candidates ≡ true → ExpectsBy carry (option_map (option_map note_in) q) f d
+expects_by_is carry None f d candidates within e = tt
+expects_by_is carry (Some None) f d candidates within e = never e
+expects_by_is carry (Some (Some n)) f d candidates within e =
+    let one = gives f n.facts in
+    let two = covers_flags n.apart d in
+    let three = covers_bytes n.apart.bytes d.bytes candidates in
+    let four = same_number n.carry carry in
+    let more = and_r one (two && (three && four)) e in
+    let last = and_r two (three && four) more in
+    (gives_is f n.facts (and_l one (two && (three && four)) e),
+    record { flags = flags_are n.apart d (and_l two (three && four) more); bytes = bytes_are n.apart.bytes d candidates within (and_l three four last) },
+    numbers_are n.carry carry (and_r three four last))
+
 expects_is : (q : Option (Option ListedNote)) (f : Facts) (d : Apart) (candidates : List ℕ) → Within d candidates → expects q f d candidates ≡ true → Expects (option_map (option_map note_in) q) f d
-expects_is None f d candidates within e = tt
-expects_is (Some None) f d candidates within e = never e
-expects_is (Some (Some n)) f d candidates within e =
-    let more = and_r (gives f n.facts) (covers_flags n.apart d && covers_bytes n.apart.bytes d.bytes candidates) e in (
-      gives_is f n.facts (and_l (gives f n.facts) (covers_flags n.apart d && covers_bytes n.apart.bytes d.bytes candidates) e),
-      record {
-        flags = flags_are n.apart d (and_l (covers_flags n.apart d) (covers_bytes n.apart.bytes d.bytes candidates) more);
-        bytes = bytes_are n.apart.bytes d candidates within (and_r (covers_flags n.apart d) (covers_bytes n.apart.bytes d.bytes candidates) more);
-      },
-    )
+expects_is q f d candidates within e = expects_by_is None q f d candidates within e
 
 ahead_is : (rows : List ListedRow) → note_ahead (rows_in rows) ≡ option_map (option_map note_in) (ahead rows)
 ahead_is [] = refl
@@ -169,6 +180,9 @@ drop_is (suc i) (row ∷ rows) = drop_is i rows
 
 expects_at : (rows : List ListedRow) (f : Facts) (d : Apart) (candidates : List ℕ) → Within d candidates → expects (ahead rows) f d candidates ≡ true → Expects (note_ahead (rows_in rows)) f d
 expects_at rows f d candidates within e = subst (λ (q : Option (Option Note)). Expects q f d) (sym (ahead_is rows)) (expects_is (ahead rows) f d candidates within e)
+
+expects_by_at : (carry : Option ℕ) (rows : List ListedRow) (f : Facts) (d : Apart) (candidates : List ℕ) → Within d candidates → expects_by carry (ahead rows) f d candidates ≡ true → ExpectsBy carry (note_ahead (rows_in rows)) f d
+expects_by_at carry rows f d candidates within e = subst (λ (q : Option (Option Note)). ExpectsBy carry q f d) (sym (ahead_is rows)) (expects_by_is carry (ahead rows) f d candidates within e)
 
 expects_past : (rows : List ListedRow) (f : Facts) (d : Apart) (candidates : List ℕ) → Within d candidates → expects (ahead (past rows)) f d candidates ≡ true → Expects (note_ahead (rows_of.past (rows_in rows))) f d
 expects_past rows f d candidates within e = subst (λ (l : List Row). Expects (note_ahead l) f d) (sym (past_is rows)) (expects_at (past rows) f d candidates within e)
@@ -203,7 +217,9 @@ enters_is (Some None) n e = never e
 enters_is (Some (Some k)) n e =
     let one = gives (facts_in n.facts) k.facts in
     let two = covers_flags k.apart (apart_in n.apart) in
-    (gives_is (facts_in n.facts) k.facts (and_l one two e), flags_are k.apart (apart_in n.apart) (and_r one two e))
+    let three = same_number k.carry None in
+    let more = and_r one (two && three) e in
+    (gives_is (facts_in n.facts) k.facts (and_l one (two && three) e), flags_are k.apart (apart_in n.apart) (and_l two three more), numbers_are k.carry None (and_r two three more))
 
 comes_is : (q : Option (Option ListedNote)) (k : ListedNote) (across : List ℕ) → comes q k across ≡ true → Comes (option_map (option_map note_in) q) (note_in k) (λ a. among a across)
 comes_is None k across e = tt
@@ -213,12 +229,12 @@ comes_is (Some (Some n)) k across e =
     let two = covers_flags n.apart (apart_in k.apart) in
     let three = all_of (λ a. among a n.apart.bytes) k.apart.bytes in
     let four = all_of (λ a. among a n.apart.bytes) across in
-    let more = and_r one (two && (three && four)) e in
-    let last = and_r two (three && four) more in (
-      gives_is (facts_in k.facts) n.facts (and_l one (two && (three && four)) e),
-      flags_are n.apart (apart_in k.apart) (and_l two (three && four) more),
-      λ a h. (all_not (λ j. among j n.apart.bytes) k.apart.bytes (and_l three four last) a h, all_not (λ j. among j n.apart.bytes) across (and_r three four last) a h),
-    )
+    let five = same_number n.carry None in
+    let more = and_r one (two && (three && (four && five))) e in
+    let last = and_r two (three && (four && five)) more in
+    let end = and_r three (four && five) last in
+    (gives_is (facts_in k.facts) n.facts (and_l one (two && (three && (four && five))) e), flags_are n.apart (apart_in k.apart) (and_l two (three && (four && five)) more), numbers_are n.carry None (and_r four five end),
+    λ a h. (all_not (λ j. among j n.apart.bytes) k.apart.bytes (and_l three (four && five) last) a h, all_not (λ j. among j n.apart.bytes) across (and_l four five end) a h))
 
 -- ---- candidates
 within_same : (a : Aim) (d : Apart) (candidates : List ℕ) → Within d candidates → Within (same_byte a d) candidates
@@ -411,8 +427,14 @@ module _ (k : Sketch) (limit : Bool → ℕ) (old_page new_page : BlockName → 
   within_ors true b e = e
   within_ors false b e = e
 
+  drops_move_is : (rest : List ListedRow) (i : ℕ) (o : Option ℕ) → drops_move k own n rest i o ≡ true → right.DropsMove x own inside (note_in n) (rows_in rest) i o
+  drops_move_is rest i None e = expects_at rest (moved (ToByte i) f) (one_moves f i d) bytes (λ b h. h) e
+  drops_move_is rest i (Some c) e =
+      let two = expects (ahead rest) (moved (ToByte i) f) (record d { w = false; z = true }) bytes in
+      (eqb-true c i (and_l (nat_eq c i) two e), expects_at rest (moved (ToByte i) f) (record d { w = false; z = true }) bytes (λ b h. h) (and_r (nat_eq c i) two e))
+
   drops_w_is : (rest : List ListedRow) (op : FileOperation) (a : Aim) → drops_to_w k own n rest op a ≡ true → DropsToW x own inside (note_in n) (rows_in rest) op a
-  drops_w_is rest files.Movf (ToByte i) e = expects_at rest (moved (ToByte i) f) (one_moves f i d) bytes (λ b h. h) e
+  drops_w_is rest files.Movf (ToByte i) e = drops_move_is rest i n.carry e
   drops_w_is rest files.Iorwf (ToByte i) e = expects_at rest (after_to_w files.Iorwf (ToByte i) f) (one_ors f i d) bytes (within_ors (is_number (f.known i) 0)) e
   drops_w_is rest op (ToByte i) e = passes_is rest (may_skip op) (after_to_w op (ToByte i) f) (other_w (one_sets (flags_in op) d)) bytes (λ b h. h) e
   drops_w_is rest op a e = never e
@@ -526,22 +548,51 @@ module _ (k : Sketch) (limit : Bool → ℕ) (old_page new_page : BlockName → 
   put_is rest new v (syms.Label label) e = tt
   put_is rest new v s e = never e
 
+  narrows_for_is : (rest : List ListedRow) (op : FileOperation) (a b : Aim) → narrows_for k own n rest op a b ≡ true → right.NarrowsFor x own inside (note_in n) (rows_in rest) op a b
+  narrows_for_is rest op (ToByte i) (ToByte j) e =
+      let g = lost k.hidden (ToByte i) (without_zero f) in
+      let h = other_w (other_byte i (both_set (flags_in op) d)) in
+      let one = not (uses_w op && n.apart.w) && not (uses_c op && n.apart.c) in
+      let two = same k.hidden (ToByte i) bytes block.outer in
+      let three = not (may_skip op) in
+      let four = nat_eq j i in
+      let five = expects_by (Some i) (ahead rest) g h (i ∷ bytes) in
+      let b = and_r one (two && (three && (four && five))) e in
+      let c = and_r two (three && (four && five)) b in
+      let w = and_r three (four && five) c in
+      (uses_are op (and_l one (two && (three && (four && five))) e), same_at (ToByte i) (and_l two (three && (four && five)) b), is_not (may_skip op) (and_l three (four && five) c), eqb-true j i (and_l four five w),
+      expects_by_at (Some i) rest g h (i ∷ bytes) (within_other i (both_set (flags_in op) d) bytes (λ z o. o)) (and_r four five w))
+  narrows_for_is rest op a b e = never e
+
+  narrowed_is : (rest : List ListedRow) (s : Sym) → is_narrowed k own n rest s ≡ true → right.IsNarrowed x own inside (note_in n) (rows_in rest) s
+  narrowed_is rest (syms.File op operand into.File) e = narrows_for_is rest op (aim k.layout inside true operand) (aim k.layout inside false operand) e
+  narrowed_is rest (syms.Label label) e = tt
+  narrowed_is rest s e = never e
+
   pub row_is : (to : ℕ) (rest : List ListedRow) (act : Act) (s : Sym) → is_right_row k own n to rest act s ≡ true → IsRight x own inside (note_in n) to (rows_in rest) act s
   row_is to rest Keeps s e = kept_is rest s e
   row_is to rest Drops s e = dropped_is to rest s e
   row_is to rest (Puts new v) s e = put_is rest new v s e
+  row_is to rest Narrows s e = narrowed_is rest s e
 
   pub note_is : is_note k.layout inside n ≡ true → IsNote x inside (note_in n)
   note_is e =
       let one = all_of (λ a. is_near inside (owner k.layout a)) n.facts.held in
       let two = all_known (λ a. is_near inside (owner k.layout a)) n.facts.known in
       let three = all_of (λ a. is_own inside (owner k.layout a)) bytes in
-      let more = and_r one (two && three) e in
+      let four = carries_near k.layout inside n.carry in
+      let more = and_r one (two && (three && four)) e in
+      let last = and_r two (three && four) more in
       record {
-        held = λ a h. all_is (λ j. is_near inside (owner k.layout j)) n.facts.held (and_l one (two && three) e) a h;
-        known = λ a i h. known_all (λ j. is_near inside (owner k.layout j)) n.facts.known (and_l two three more) a i h;
-        bytes = λ a h. all_not (λ j. is_own inside (owner k.layout j)) bytes (and_r two three more) a h;
+        held = λ a h. all_is (λ j. is_near inside (owner k.layout j)) n.facts.held (and_l one (two && (three && four)) e) a h;
+        known = λ a i h. known_all (λ j. is_near inside (owner k.layout j)) n.facts.known (and_l two (three && four) more) a i h;
+        bytes = λ a h. all_not (λ j. is_own inside (owner k.layout j)) bytes (and_l three four last) a h;
+        carry = λ a h. carry_at n.carry (and_r three four last) a h;
       }
+    where
+      carry_at : (o : Option ℕ) → carries_near k.layout inside o ≡ true → (a : ℕ) → o ≡ Some a → is_near inside (owner k.layout a) ≡ true
+      carry_at None e a h = absurd (none-some a h)
+      carry_at (Some b) e a h = ap (λ (z : ℕ). is_near inside (owner k.layout z)) (sym (some_is b a h)) ∙ e
 
 -- ---- the whole
 same_names : (a b : BlockName) → same_name a b ≡ true → a ≡ b
@@ -619,7 +670,9 @@ begins_is rest (Some None) e = never e
 begins_is rest (Some (Some n)) e =
     let one = gives nothing_known n.facts in
     let two = all_of (λ a. among a n.apart.bytes) rest in
-    (gives_is nothing_known n.facts (and_l one two e), λ a h. all_not (λ j. among j n.apart.bytes) rest (and_r one two e) a h)
+    let three = same_number n.carry None in
+    let more = and_r one (two && three) e in
+    (gives_is nothing_known n.facts (and_l one (two && three) e), numbers_are n.carry None (and_r two three more), λ a h. all_not (λ j. among j n.apart.bytes) rest (and_l two three more) a h)
 
 begins_rows : (rest : List ℕ) (rows : List ListedRow) → begins rest (ahead rows) ≡ true → Begins (λ a. among a rest) (note_ahead (rows_in rows))
 begins_rows rest rows e = subst (Begins (λ a. among a rest)) (sym (ahead_is rows)) (begins_is rest (ahead rows) e)

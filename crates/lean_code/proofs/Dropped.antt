@@ -29,7 +29,7 @@ use Rattle.sym_code.specs.declared.code.Target.{Target}
 use Rattle.sym_code.specs.declared.code.Target.TheVariants as targets
 use Rattle.lean_code.specs.Rows.{Facts, Apart, Note, Row, olds, place_in, note_ahead, past, Lean, old_program, old_setting}
 use Rattle.lean_code.specs.Changes.{is_number, one_ors, one_clears, z_alone, Holds, Alike, Aim, ToByte, aim, lost, without_zero, moved, after_to_w, learned, stored, flags_in, may_skip, literal_flags, is_retlw, one_sets, other_w, other_byte, one_moves, one_stores}
-use Rattle.lean_code.specs.Right.{Expects, Passes, noted, with_flag, after_literal, dropped_literal, DropsToW, DropsToFile, DropsStore, DropsClear, DropsChange, DropsTest, DropsBit, DropsPlain, DropsGoto, IsDropped, IsSound}
+use Rattle.lean_code.specs.Right.{Expects, Passes, noted, with_flag, after_literal, dropped_literal, DropsMove, DropsToW, DropsToFile, DropsStore, DropsClear, DropsChange, DropsTest, DropsBit, DropsPlain, DropsGoto, IsDropped, IsSound}
 use Rattle.lean_code.specs.Links.{clears}
 use Rattle.lean_code.proofs.Lists.{never, dropped_at}
 use Rattle.lean_code.proofs.Places.{under, row_at, to_behind, to_past, to_label, under_dropped, under_stand, drops_behind}
@@ -42,7 +42,7 @@ use Rattle.lean_code.proofs.Kept.{Scene, skip_ok, one, other, rows, go}
 use Rattle.lean_code.proofs.KeptRows.{flag_bytes, literal_quiet, literal_holds, cleared_holds}
 
 -- a byte that one machine writes
-byte_one : (c d : Bool) (v a b : ℕ) → (d ≡ false → a ≡ b) → (if c then true else d) ≡ false → (if c then v else a) ≡ b
+pub byte_one : (c d : Bool) (v a b : ℕ) → (d ≡ false → a ≡ b) → (if c then true else d) ≡ false → (if c then v else a) ≡ b
 byte_one true d v a b s e = never (sym e)
 byte_one false d v a b s e = s e
 
@@ -138,6 +138,19 @@ module _ (x : Lean) (sound : IsSound x) (inside : Bool) (rest : ℕ → Bool) (s
         tt,
       )
 
+  -- W of the other machine is what is read
+  carry_alone : (j i c : ℕ) → j ≡ i → n.carry ≡ Some c → (c ≡ j) × Expects (note_ahead list) (moved (ToByte j) f) (record d { w = false; z = true }) → Lone (file_to_w (old_program x) p first m files.Movf (Silent i))
+  unfolding skips_with
+  carry_alone j i c is carried l =
+      (moves (moved (ToByte j) f) (record d { w = false; z = true }) l.1 (record (flags_with r files.Movf (m i)) { w = result_with r files.Movf (m i) }) m
+      (subst (λ (t : Registers). Alike (record d { w = false; z = true }) t s) (sym (move_is r (m i)))
+      (record { w = λ e. ap m (sym (l.0 ∙ is)) ∙ scene.carry c carried; z = λ e. never (sym e); dc = scene.alike.dc; c = scene.alike.c; fsr = scene.alike.fsr; irp = scene.alike.irp }))
+      (to_w_holds f r m scene.holds files.Movf (ToByte j) (m i) (λ h e. ap m (sym is ∙ aim_eq j h e))) scene.still, tt)
+
+  move_by : (o : Option ℕ) → n.carry ≡ o → (j i : ℕ) → j ≡ i → DropsMove x p.block inside n list j o → Lone (file_to_w (old_program x) p first m files.Movf (Silent i))
+  move_by None e j i is l = move_alone j i is l
+  move_by (Some c) e j i is l = carry_alone j i c is e l
+
   -- 0 leaves W as it is
   z_or : (g b : Bool) → (g ≡ true → r.z ≡ truth (nat_eq r.w 0)) → (b ≡ false → r.z ≡ s.z) → (if g then b else true) ≡ false → truth (nat_eq r.w 0) ≡ s.z
   z_or true b zero l e = sym (zero refl) ∙ l e
@@ -165,7 +178,7 @@ module _ (x : Lean) (sound : IsSound x) (inside : Bool) (rest : ℕ → Bool) (s
       (to_w_holds f r m scene.holds files.Iorwf (ToByte j) (m i) (λ h e. ap m (sym is ∙ aim_eq j h e))) (λ a z o w. scene.still a (sym (or_bytes (is_number (f.known j) 0) a) ∙ z) o w), tt)
 
   file_to_w_alone : (op : FileOperation) (a : Aim) (c : Access) → Aims x a c → DropsToW x p.block inside n list op a → Lone (file_to_w (old_program x) p first m op c)
-  file_to_w_alone files.Movf (ToByte j) (Silent i) is l = move_alone j i is l
+  file_to_w_alone files.Movf (ToByte j) (Silent i) is l = move_by n.carry refl j i is l
   file_to_w_alone files.Iorwf (ToByte j) (Silent i) is l = or_alone j i is l
   file_to_w_alone op (ToByte j) (Silent i) is l = to_w_alone op j i is l
   file_to_w_alone op (ToByte j) Denied is l = tt

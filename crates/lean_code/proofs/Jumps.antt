@@ -22,7 +22,7 @@ as_long x (k ∷ ks) = ap suc (as_long x ks)
 enters_expects : (o : Option (Option Note)) (n : Note) → Enters o n → Expects o n.facts (record n.apart { bytes = λ a. false })
 enters_expects None n e = tt
 enters_expects (Some None) n e = e
-enters_expects (Some (Some k)) n e = (e.0, record { flags = record { w = e.1.w; z = e.1.z; dc = e.1.dc; c = e.1.c }; bytes = λ a z. refl })
+enters_expects (Some (Some k)) n e = (e.0, record { flags = record { w = e.1.w; z = e.1.z; dc = e.1.dc; c = e.1.c }; bytes = λ a z. refl }, e.2)
 
 -- what a call leaves, and the caller's own bytes
 abbrev back_apart : Apart → (ℕ → Bool) → Apart
@@ -35,8 +35,9 @@ comes_expects (Some (Some b)) k n across e w c = (
   record { number = λ i z. w.number i (e.0.number i z); held = λ a z. w.held a (e.0.held a z); zero = λ z. w.zero (e.0.zero z); known = λ a i z. w.known a i (e.0.known a i z) },
   record {
     flags = record { w = λ z. c.flags.w (e.1.w z); z = λ z. c.flags.z (e.1.z z); dc = λ z. c.flags.dc (e.1.dc z); c = λ z. c.flags.c (e.1.c z) };
-    bytes = λ a z. or_both (n.apart.bytes a) (across a) (c.bytes a (e.2 a z).0) (e.2 a z).1;
+    bytes = λ a z. or_both (n.apart.bytes a) (across a) (c.bytes a (e.3 a z).0) (e.3 a z).1;
   },
+  e.2,
 )
 
 module _ (x : Lean) (sound : IsSound x) (inside : Bool) (rest : ℕ → Bool) (scene : Scene x inside rest) where
@@ -67,7 +68,7 @@ module _ (x : Lean) (sound : IsSound x) (inside : Bool) (rest : ℕ → Bool) (s
     home = p.block;
     note = n;
     frames = ks;
-    tied = record { same_root = scene.inside_is; rest = refl; loud = tt; at = refl; olds = a; news = b; waits = scene.waits; alike = scene.alike; holds = scene.holds; note = scene.note };
+    tied = record { same_root = scene.inside_is; rest = refl; loud = tt; at = refl; olds = a; news = b; waits = scene.waits; alike = scene.alike; holds = scene.holds; note = scene.note; carry = scene.carry };
     same = λ c u v. scene.still c (or_left (n.apart.bytes c) (held ks c) u) (or_right (n.apart.bytes c) (held ks c) u) v;
   }
 

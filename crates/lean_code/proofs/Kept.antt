@@ -10,13 +10,13 @@ use Rattle.sym_code.specs.Registers.{Registers, result_with, flags_with, skips_w
 use Rattle.sym_code.specs.declared.code.FileOperation.{FileOperation}
 use Rattle.lean_code.specs.Rows.{Facts, Apart, Note, Row, note_ahead, past, Lean, old_program, new_program}
 use Rattle.lean_code.specs.Changes.{Holds, Alike, Aim, ToFsr, ToEvent, ToByte, Through, is_own, is_near, lost, without_zero, after_to_w, flags_in, uses_w, uses_c, may_skip, both_set, same_w, same_byte}
-use Rattle.lean_code.specs.Right.{Expects, Leads, Same, IsNote, IsSound}
+use Rattle.lean_code.specs.Right.{Expects, ExpectsBy, Leads, Same, IsNote, IsSound}
 use Rattle.lean_code.proofs.Lists.{never, stands_at}
 use Rattle.lean_code.proofs.Places.{under, row_at, To, to_behind, to_past, under_behind, keeps_behind}
 use Rattle.lean_code.proofs.Alike.{result_same, skips_same, flags_same, no_skip}
 use Rattle.lean_code.proofs.Facts.{weaker_holds, near_other, own_near, own_other, keep_all, to_w_holds, flags_hold, lost_byte, lost_through, lost_weaker, elsewhere}
 use Rattle.lean_code.proofs.Accesses.{IsLoud, Told, Aims}
-use Rattle.lean_code.proofs.Relation.{Frame, held, olds_of, news_of, Waits, held_outer, held_own, RestIsLoud, Goes, SameLoud, Match, arrive}
+use Rattle.lean_code.proofs.Relation.{Frame, held, olds_of, news_of, Waits, held_outer, held_own, RestIsLoud, Goes, SameLoud, Match, arrive_by, arrive}
 
 pub skip_ok : (r : Registers) (op : FileOperation) (v : ℕ) → skips_with r op v ≡ true → may_skip op ≡ true
 skip_ok r op v e = by_case (may_skip op) refl
@@ -54,6 +54,10 @@ event_same (Shared j cell) v m k a e = by_case (nat_eq a j)
 pub lost_near : (x : Lean) (inside : Bool) (a : Aim) (f : Facts) → AreNear x inside f → AreNear x inside (lost x.hidden a f)
 lost_near x inside a f near = let w = lost_weaker x.hidden a f in record { held = λ b e. near.held b (w.held b e); known = λ b n e. near.known b n (w.known b n e) }
 
+pub event_elsewhere : (x : Lean) (inside : Bool) (b : Loud) (v : ℕ) (m : Memory) (j : ℕ) → is_near inside (owner x.layout j) ≡ true → IsLoud x b → written (write_by b v) m j ≡ m j
+event_elsewhere x inside (Port address) v m j near loud = refl
+event_elsewhere x inside (Shared i cell) v m j near loud = ap (λ (c : Bool). if c then v else m j) (far_from x inside j i near (loud inside).0)
+
 -- a byte that is written alike
 pub byte_same : (c d : Bool) (v y a b : ℕ) → v ≡ y → (d ≡ false → a ≡ b) → (if c then false else d) ≡ false → (if c then v else a) ≡ (if c then y else b)
 byte_same true d v y a b e s k = e
@@ -82,6 +86,7 @@ pub record Scene (x : Lean) (inside : Bool) (rest : ℕ → Bool) : Type 0 where
   pub holds : Holds n.facts r m
   pub note : IsNote x inside n
   pub still : (a : ℕ) → n.apart.bytes a ≡ false → held ks a ≡ false → rest a ≡ false → m a ≡ k a
+  pub carry : (j : ℕ) → n.carry ≡ Some j → m j ≡ s.w
   -- what the other thread has apart is its own
   pub far : (a : ℕ) → is_own (not inside) (owner x.layout a) ≡ false → rest a ≡ false
 
@@ -149,6 +154,11 @@ module _ (x : Lean) (sound : IsSound x) (inside : Bool) (rest : ℕ → Bool) (s
 
   abbrev pub at_other : Option Rest → Position → Registers → Thread
   at_other w q t = record { rest = w; at = Some q; stack = new_stack; registers = t }
+
+  pub go_by : (c : Option ℕ) (o : Option (Option Note)) (f : Facts) (d : Apart) (q v : Position) → To x p.block o q → v ≡ under x q → ExpectsBy c o f d → (w y : Option Rest) → w ≡ y → RestIsLoud x w → (t u : Registers) (a b : Memory)
+      → Alike d t u → Holds f t a → ((j : ℕ) → d.bytes j ≡ false → held ks j ≡ false → rest j ≡ false → a j ≡ b j) → ((j : ℕ) → c ≡ Some j → a j ≡ u.w) → Goes x inside rest (at_one w q t) (at_other y v u) a b
+  go_by c o f d q v to is expects w y same_rest loud t u a b al h same carries =
+      arrive_by x sound inside rest c p.block q o f d to scene.inside_is expects ks waits (at_one w q t) (at_other y v u) a b refl (ap (λ (z : Position). Some z) is) same_rest loud scene.olds scene.news al h same carries
 
   pub go : (o : Option (Option Note)) (f : Facts) (d : Apart) (q v : Position) → To x p.block o q → v ≡ under x q → Expects o f d → (w y : Option Rest) → w ≡ y → RestIsLoud x w → (t u : Registers) (a b : Memory)
       → Alike d t u → Holds f t a → ((j : ℕ) → d.bytes j ≡ false → held ks j ≡ false → rest j ≡ false → a j ≡ b j) → Goes x inside rest (at_one w q t) (at_other y v u) a b

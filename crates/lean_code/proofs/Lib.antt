@@ -9,6 +9,7 @@ mod Kept
 mod Jumps
 mod KeptRows
 mod Dropped
+mod Narrow
 mod Put
 mod Steps
 mod Machines

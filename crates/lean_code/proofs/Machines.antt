@@ -139,6 +139,7 @@ module _ (x : Lean) where
     alike = t.alike;
     holds = elsewhere n.facts a.registers m t.holds w.number w.byte (λ j e. far_from x false j w.number (t.note.held j e) far) (λ j i e. far_from x false j w.number (t.note.known j i e) far);
     note = t.note;
+    carry = λ j h. ap (λ (c : Bool). if c then w.byte else m j) (far_from x false j w.number (t.note.carry j h) far) ∙ t.carry j h;
   }
 
   other_write : (c : Bool) (a b : Thread) (m : Memory) (rest : ℕ → Bool) (w : Option Write) → IsFar x c w → Other c a b m rest → Other c a b (written w m) rest
@@ -440,7 +441,7 @@ module _ (x : Lean) where
         begin_expects : (f : ℕ → Bool) (q : Option (Option Note)) → Begins f q → Expects q nothing_known (record { w = false; z = false; dc = false; c = false; bytes = f })
         begin_expects f None h = tt
         begin_expects f (Some None) h = h
-        begin_expects f (Some (Some i)) h = (h.0, record { flags = record { w = λ z. refl; z = λ z. refl; dc = λ z. refl; c = λ z. refl }; bytes = h.1 })
+        begin_expects f (Some (Some i)) h = (h.0, record { flags = record { w = λ z. refl; z = λ z. refl; dc = λ z. refl; c = λ z. refl }; bytes = h.2 }, h.1)
 
         -- main is interrupted: the handler begins
         enter_to : (c : Bool) → c ≡ false → (th tv a b : Thread) (rest : ℕ → Bool) → Other c a b m rest → Ready x c rest th tv m k → (copy : ℕ) → BeginsAt x (Some copy) → lands (old_program x) (front (old_program x) (Copy copy)) ≡ true

@@ -8,7 +8,7 @@ use Rattle.sym_code.specs.Programs.{Position, behind, lands}
 use Rattle.sym_code.specs.declared.code.BlockName.{BlockName}
 use Rattle.lean_code.specs.Rows.{Facts, Apart, Note, At, Lean, old_program, new_program}
 use Rattle.lean_code.specs.Changes.{Holds, Alike, is_own, is_near}
-use Rattle.lean_code.specs.Right.{Expects, Comes, IsNote, IsSound}
+use Rattle.lean_code.specs.Right.{Expects, ExpectsBy, Comes, IsNote, IsSound}
 use Rattle.lean_code.proofs.Lists.{never, stood, place_lands}
 use Rattle.lean_code.proofs.Places.{under, note_at, To}
 use Rattle.lean_code.proofs.Facts.{weaker_holds, covers_alike}
@@ -93,6 +93,7 @@ module _ (x : Lean) where
     pub alike : Alike n.apart th.registers tv.registers
     pub holds : Holds n.facts th.registers m
     pub note : IsNote x inside n
+    pub carry : (j : ℕ) → n.carry ≡ Some j → m j ≡ tv.registers.w
 
   -- the thread that runs; `rest` says what the other one may have apart
   pub record Ready (inside : Bool) (rest : ℕ → Bool) (th tv : Thread) (m k : Memory) : Type 0 where
@@ -150,11 +151,11 @@ module _ (x : Lean) where
 
     module _ (inside : Bool) (rest : ℕ → Bool) where
       -- A thread of both comes to a place with facts and apart that are expected there.
-      pub arrive : (home : BlockName) (q : Position) (o : Option (Option Note)) (f : Facts) (d : Apart) → To x home o q → x.inside home ≡ inside → Expects o f d → (ks : List Frame) → Waits inside home ks
+      pub arrive_by : (c : Option ℕ) (home : BlockName) (q : Position) (o : Option (Option Note)) (f : Facts) (d : Apart) → To x home o q → x.inside home ≡ inside → ExpectsBy c o f d → (ks : List Frame) → Waits inside home ks
           → (th tv : Thread) (m k : Memory) → th.at ≡ Some q → tv.at ≡ Some (under x q) → th.rest ≡ tv.rest → RestIsLoud th.rest → th.stack ≡ olds_of ks → tv.stack ≡ news_of ks
-          → Alike d th.registers tv.registers → Holds f th.registers m → ((a : ℕ) → d.bytes a ≡ false → held ks a ≡ false → rest a ≡ false → m a ≡ k a)
+          → Alike d th.registers tv.registers → Holds f th.registers m → ((a : ℕ) → d.bytes a ≡ false → held ks a ≡ false → rest a ≡ false → m a ≡ k a) → ((j : ℕ) → c ≡ Some j → m j ≡ tv.registers.w)
           → Goes inside rest th tv m k
-      arrive home q o f d to home_inside expects ks waits th tv m k at new_at same_rest loud olds news alike holds same there =
+      arrive_by c home q o f d to home_inside expects ks waits th tv m k at new_at same_rest loud olds news alike holds same carries there =
           by_note o to expects
         where
           stands : lands (old_program x) q ≡ true
@@ -167,7 +168,7 @@ module _ (x : Lean) where
               let r = sound.right q.block q.index here.s here.act n (here.row ∙ ap (λ (o : Option Note). Some (At here.s here.act o)) same_note) in
               subst (λ (i : Bool). IsNote x i n) (ap x.inside to.block ∙ home_inside) r.note
 
-          by_note : (o : Option (Option Note)) → To x home o q → Expects o f d → Ready inside rest th tv m k × (lands_at (new_program x) tv.at ≡ true)
+          by_note : (o : Option (Option Note)) → To x home o q → ExpectsBy c o f d → Ready inside rest th tv m k × (lands_at (new_program x) tv.at ≡ true)
           by_note None to e = absurd (none-some _ (sym to.note ∙ (stood (x.rows q.block) q.index stands).ahead))
           by_note (Some None) to e = absurd e
           by_note (Some (Some n)) to e = (
@@ -186,8 +187,17 @@ module _ (x : Lean) where
                 alike = covers_alike n.apart d th.registers tv.registers e.1.flags alike;
                 holds = weaker_holds n.facts f th.registers m e.0 holds;
                 note = note_of_it n to;
+                carry = λ j h. carries j (sym e.2 ∙ h);
               };
               same = λ a u v. same a (e.1.bytes a (or_left (n.apart.bytes a) (held ks a) u)) (or_right (n.apart.bytes a) (held ks a) u) v;
             },
             subst (λ (p : Option Position). lands_at (new_program x) p ≡ true) (sym new_at) (lands_new q n to.note stands),
           )
+
+      -- nothing is carried
+      pub arrive : (home : BlockName) (q : Position) (o : Option (Option Note)) (f : Facts) (d : Apart) → To x home o q → x.inside home ≡ inside → Expects o f d → (ks : List Frame) → Waits inside home ks
+          → (th tv : Thread) (m k : Memory) → th.at ≡ Some q → tv.at ≡ Some (under x q) → th.rest ≡ tv.rest → RestIsLoud th.rest → th.stack ≡ olds_of ks → tv.stack ≡ news_of ks
+          → Alike d th.registers tv.registers → Holds f th.registers m → ((a : ℕ) → d.bytes a ≡ false → held ks a ≡ false → rest a ≡ false → m a ≡ k a)
+          → Goes inside rest th tv m k
+      arrive home q o f d to home_inside expects ks waits th tv m k at new_at same_rest loud olds news alike holds same =
+          arrive_by None home q o f d to home_inside expects ks waits th tv m k at new_at same_rest loud olds news alike holds same (λ j h. absurd (none-some j h))

@@ -6,7 +6,7 @@ use Rattle.sym_code.specs.Words.{words_of_one, words_in}
 use Rattle.sym_code.specs.declared.code.Literal.TheVariants.{Number}
 use Rattle.sym_code.specs.declared.code.Sym.{Sym}
 use Rattle.sym_code.specs.declared.code.Sym.TheVariants as syms
-use Rattle.lean_code.specs.Rows.{Keeps, Drops, Puts, Row, At, olds, puts, place_in}
+use Rattle.lean_code.specs.Rows.{Keeps, Drops, Puts, Narrows, narrowed, Row, At, olds, puts, place_in}
 use Rattle.lean_code.specs.Links.{price_at, CarriedIsCheaper}
 use Rattle.lean_code.specs.Shrinks.{RowsShrink, RowsKeep}
 use Rattle.lean_code.proofs.Lists.{never}
@@ -26,6 +26,7 @@ rows_shrink (At (syms.Label label) act said ∷ rows) = more (syms.Label label) 
 rows_shrink (At s Keeps said ∷ rows) = more s s (olds rows) (puts rows) (omega arith) (rows_shrink rows)
 rows_shrink (At s Drops said ∷ rows) = less s (olds rows) (puts rows) (rows_shrink rows)
 rows_shrink (At s (Puts op n) said ∷ rows) = more s (syms.Literal op (Number n)) (olds rows) (puts rows) (omega arith) (rows_shrink rows)
+rows_shrink (At s Narrows said ∷ rows) = more s (narrowed s) (olds rows) (puts rows) (omega arith) (rows_shrink rows)
 
 and_l : (a b : Bool) → (a && b) ≡ true → a ≡ true
 and_l true b e = refl
@@ -40,13 +41,15 @@ both true b e k = k
 both false b e k = e
 
 pub rows_keep : RowsKeep
-rows_keep test [] literal e = refl
-rows_keep test (At (syms.Label label) act said ∷ rows) literal e =
-    both (test (syms.Label label)) (list_all test (puts rows)) (and_l (test (syms.Label label)) (list_all test (olds rows)) e) (rows_keep test rows literal (and_r (test (syms.Label label)) (list_all test (olds rows)) e))
-rows_keep test (At s Keeps said ∷ rows) literal e = both (test s) (list_all test (puts rows)) (and_l (test s) (list_all test (olds rows)) e) (rows_keep test rows literal (and_r (test s) (list_all test (olds rows)) e))
-rows_keep test (At s Drops said ∷ rows) literal e = rows_keep test rows literal (and_r (test s) (list_all test (olds rows)) e)
-rows_keep test (At s (Puts op n) said ∷ rows) literal e =
-    both (test (syms.Literal op (Number n))) (list_all test (puts rows)) (literal op n) (rows_keep test rows literal (and_r (test s) (list_all test (olds rows)) e))
+rows_keep test [] literal narrow e = refl
+rows_keep test (At (syms.Label label) act said ∷ rows) literal narrow e =
+    both (test (syms.Label label)) (list_all test (puts rows)) (and_l (test (syms.Label label)) (list_all test (olds rows)) e) (rows_keep test rows literal narrow (and_r (test (syms.Label label)) (list_all test (olds rows)) e))
+rows_keep test (At s Keeps said ∷ rows) literal narrow e = both (test s) (list_all test (puts rows)) (and_l (test s) (list_all test (olds rows)) e) (rows_keep test rows literal narrow (and_r (test s) (list_all test (olds rows)) e))
+rows_keep test (At s Drops said ∷ rows) literal narrow e = rows_keep test rows literal narrow (and_r (test s) (list_all test (olds rows)) e)
+rows_keep test (At s (Puts op n) said ∷ rows) literal narrow e =
+    both (test (syms.Literal op (Number n))) (list_all test (puts rows)) (literal op n) (rows_keep test rows literal narrow (and_r (test s) (list_all test (olds rows)) e))
+rows_keep test (At s Narrows said ∷ rows) literal narrow e =
+    both (test (narrowed s)) (list_all test (puts rows)) (narrow s (and_l (test s) (list_all test (olds rows)) e)) (rows_keep test rows literal narrow (and_r (test s) (list_all test (olds rows)) e))
 
 pub carried_is_cheaper : CarriedIsCheaper
 carried_is_cheaper x new name j row got stays =

@@ -11,16 +11,17 @@ use Rattle.sym_code.specs.declared.code.Literal.TheVariants.{Number}
 use Rattle.sym_code.specs.declared.code.LiteralOperation.{LiteralOperation}
 use Rattle.sym_code.specs.declared.code.Sym.{Sym}
 use Rattle.sym_code.specs.declared.code.Sym.TheVariants as syms
-use Rattle.lean_code.specs.Rows.{Note, Act, Keeps, Drops, Puts, Row, At, put_of, is_label, place_in, Lean, old_program, new_program, old_setting, new_setting}
+use Rattle.lean_code.specs.Rows.{Note, Act, Keeps, Drops, Puts, Narrows, narrowed, Row, At, put_of, is_label, place_in, Lean, old_program, new_program, old_setting, new_setting}
 use Rattle.lean_code.specs.Changes.{is_own}
 use Rattle.lean_code.specs.Right.{IsRight, IsSound}
 use Rattle.lean_code.specs.Links.{clears, clears_if, is_open}
 use Rattle.lean_code.proofs.Lists.{never, dropped_at, stands_at, put_at, place_fetches, Stood, stood}
 use Rattle.lean_code.proofs.Places.{under, row_at, To}
 use Rattle.lean_code.proofs.Relation.{Frame, held, apart_of, or_both, some_in, Waits, IsAt, Tied, Match, Alone, lands_new}
-use Rattle.lean_code.proofs.Kept.{event_holds, event_same, Scene}
+use Rattle.lean_code.proofs.Kept.{event_elsewhere, event_holds, event_same, Scene}
 use Rattle.lean_code.proofs.KeptRows.{kept_both}
 use Rattle.lean_code.proofs.Dropped.{dropped_alone}
+use Rattle.lean_code.proofs.Narrow.{narrow_both}
 use Rattle.lean_code.proofs.Put.{put_both}
 
 -- ---- rows
@@ -39,6 +40,14 @@ stands_keeps s said e = refl
 stands_puts : (s : Sym) (op : LiteralOperation) (v : ℕ) (said : Option Note) → is_label s ≡ false → stands_at (Some (At s (Puts op v) said)) ≡ true
 stands_puts (syms.Label label) op v said e = never (sym e)
 stands_puts s op v said e = refl
+
+put_narrows : (s : Sym) → is_label s ≡ false → put_of s Narrows ≡ Some (narrowed s)
+put_narrows (syms.Label label) e = never (sym e)
+put_narrows s e = refl
+
+stands_narrows : (s : Sym) (said : Option Note) → is_label s ≡ false → stands_at (Some (At s Narrows said)) ≡ true
+stands_narrows (syms.Label label) said e = never (sym e)
+stands_narrows s said e = refl
 
 drops_drops : (s : Sym) (said : Option Note) → is_label s ≡ false → dropped_at (Some (At s Drops said)) ≡ true
 drops_drops (syms.Label label) said e = never (sym e)
@@ -107,6 +116,7 @@ module _ (x : Lean) (sound : IsSound x) (inside : Bool) (rest : ℕ → Bool) (f
             alike = t.alike;
             holds = event_holds x inside n.facts r m w.to w.byte (record { held = t.note.held; known = t.note.known }) t.loud t.holds;
             note = t.note;
+            carry = λ j h. event_elsewhere x inside w.to w.byte m j (t.note.carry j h) t.loud ∙ t.carry j h;
           };
           same = λ a u v. event_same w.to w.byte m k a (same a u v);
         },
@@ -150,6 +160,7 @@ module _ (x : Lean) (sound : IsSound x) (inside : Bool) (rest : ℕ → Bool) (f
       alike = t.alike;
       holds = t.holds;
       note = t.note;
+      carry = t.carry;
       still = λ a u v w. same a (or_both (n.apart.bytes a) (held ks a) u v) w;
       far = far;
     }
@@ -180,6 +191,9 @@ module _ (x : Lean) (sound : IsSound x) (inside : Bool) (rest : ℕ → Bool) (f
       by_act (Puts op v) row right =
           let stands : stands_at (row_at x p) ≡ true = subst (λ (o : Option Row). stands_at o ≡ true) (sym row) (stands_puts i op v (Some n) word) in
           subst (λ (o : Option Sym). ByRow (Some i) o) (sym (made_at stands (Some (syms.Literal op (Number v))) (ap put_at row ∙ put_puts i op v word))) (Matched (put_both x sound inside rest scene stands op v i clear right) (pays stands))
+      by_act Narrows row right =
+          let stands : stands_at (row_at x p) ≡ true = subst (λ (o : Option Row). stands_at o ≡ true) (sym row) (stands_narrows i (Some n) word) in
+          subst (λ (o : Option Sym). ByRow (Some i) o) (sym (made_at stands (Some (narrowed i)) (ap put_at row ∙ put_narrows i word))) (Matched (narrow_both x sound inside rest scene stands i clear right) (pays stands))
 
     by_stood : (y : Stood (x.rows p.block) p.index) → clears_if x.hidden r (fetched (old_program x) p) ≡ true → ByRow (fetched (old_program x) p) (fetched (new_program x) (under x p))
     by_stood y open_at =

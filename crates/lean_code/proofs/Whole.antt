@@ -98,7 +98,7 @@ module _ (x : Lean) (sound : IsSound x) (old new : BlockName → ℕ → ℕ) (c
   main_expects : (q : Option (Option Note)) → Begins (λ j. false) q → Expects q nothing_known (record { w = false; z = false; dc = false; c = false; bytes = λ j. false })
   main_expects None h = tt
   main_expects (Some None) h = h
-  main_expects (Some (Some i)) h = (h.0, record { flags = record { w = λ z. refl; z = λ z. refl; dc = λ z. refl; c = λ z. refl }; bytes = h.1 })
+  main_expects (Some (Some i)) h = (h.0, record { flags = record { w = λ z. refl; z = λ z. refl; dc = λ z. refl; c = λ z. refl }; bytes = h.2 }, h.1)
 
   begins_ready : Ready x false x.rest (at_front (old_program x) 0 r) (at_front (new_program x) 0 r) m m
   begins_ready =

@@ -25,7 +25,7 @@ use Rattle.sym_code.specs.declared.code.Sym.TheVariants as syms
 use Rattle.sym_code.specs.declared.code.SymBlock.{SymBlock}
 use Rattle.sym_code.specs.declared.code.Target.{Target}
 use Rattle.sym_code.specs.declared.code.Target.TheVariants as targets
-use Rattle.lean_code.specs.Rows.{Facts, Apart, Note, nothing_known, Act, Keeps, Drops, Puts, Row, At, olds, puts, is_label, place_in, drops_first, keeps_first, goes_on, Lean, old_program}
+use Rattle.lean_code.specs.Rows.{Facts, Apart, Note, nothing_known, Act, Keeps, Drops, Puts, Narrows, Row, At, olds, puts, is_label, place_in, drops_first, keeps_first, goes_on, Lean, old_program}
 use Rattle.lean_code.specs.Changes.{Aim, ToByte, Through, aim, is_own, is_near, lost, without_zero, moved, after_to_w, learned, stored, flags_in, uses_w, uses_c, may_skip, literal_flags, literal_uses, is_retlw, literal_for, both_set, one_sets, same_w, other_w, same_byte, other_byte, one_moves, one_stores, is_number, one_ors, one_clears}
 use Rattle.lean_code.specs.Right as right
 use Rattle.lean_code.specs.Right.{flag_apart, with_flag}
@@ -64,6 +64,7 @@ pub record ListedApart : Type 0 where
 pub record ListedNote : Type 0 where
   pub facts : ListedFacts
   pub apart : ListedApart
+  pub carry : Option ℕ
 
 pub data ListedRow : Type 0 where
   Listed : Sym → Act → Option ListedNote → ListedRow
@@ -95,7 +96,7 @@ abbrev pub apart_in : ListedApart → Apart
 apart_in d = record { w = d.w; z = d.z; dc = d.dc; c = d.c; bytes = λ a. among a d.bytes }
 
 abbrev pub note_in : ListedNote → Note
-note_in n = record { facts = facts_in n.facts; apart = apart_in n.apart }
+note_in n = record { facts = facts_in n.facts; apart = apart_in n.apart; carry = n.carry }
 
 abbrev pub row_in : ListedRow → Row
 row_in (Listed s act n) = At s act (option_map note_in n)
@@ -105,7 +106,7 @@ rows_in [] = []
 rows_in (row ∷ rows) = row_in row ∷ rows_in rows
 
 abbrev pub no_note : ListedNote
-no_note = record { facts = record { number = None; held = []; zero = false; known = [] }; apart = record { w = true; z = true; dc = true; c = true; bytes = [] } }
+no_note = record { facts = record { number = None; held = []; zero = false; known = [] }; apart = record { w = true; z = true; dc = true; c = true; bytes = [] }; carry = None }
 
 abbrev pub no_block : BlockName → ListedBlock
 no_block name = record { name = name; rows = []; inside = false; ends = no_note; outer = [] }
@@ -150,10 +151,19 @@ covers_flags b d = (b.w || not d.w) && ((b.z || not d.z) && ((b.dc || not d.dc) 
 abbrev pub covers_bytes : List ℕ → (ℕ → Bool) → List ℕ → Bool
 covers_bytes listed differs candidates = all_of (λ a. not (differs a) || among a listed) candidates
 
+-- both are none, or the same number
+abbrev pub same_number : Option ℕ → Option ℕ → Bool
+same_number None None = true
+same_number (Some a) (Some b) = nat_eq a b
+same_number a b = false
+
+abbrev pub expects_by : Option ℕ → Option (Option ListedNote) → Facts → Apart → List ℕ → Bool
+expects_by carry None f d candidates = true
+expects_by carry (Some None) f d candidates = false
+expects_by carry (Some (Some n)) f d candidates = gives f n.facts && (covers_flags n.apart d && (covers_bytes n.apart.bytes d.bytes candidates && same_number n.carry carry))
+
 abbrev pub expects : Option (Option ListedNote) → Facts → Apart → List ℕ → Bool
-expects None f d candidates = true
-expects (Some None) f d candidates = false
-expects (Some (Some n)) f d candidates = gives f n.facts && (covers_flags n.apart d && covers_bytes n.apart.bytes d.bytes candidates)
+expects o f d candidates = expects_by None o f d candidates
 
 abbrev pub ahead : List ListedRow → Option (Option ListedNote)
 ahead [] = None
@@ -173,12 +183,12 @@ abbrev pub comes : Option (Option ListedNote) → ListedNote → List ℕ → Bo
 comes None k across = true
 comes (Some None) k across = false
 comes (Some (Some n)) k across =
-    gives (facts_in k.facts) n.facts && (covers_flags n.apart (apart_in k.apart) && (all_of (λ a. among a n.apart.bytes) k.apart.bytes && all_of (λ a. among a n.apart.bytes) across))
+    gives (facts_in k.facts) n.facts && (covers_flags n.apart (apart_in k.apart) && (all_of (λ a. among a n.apart.bytes) k.apart.bytes && (all_of (λ a. among a n.apart.bytes) across && same_number n.carry None)))
 
 abbrev pub enters : Option (Option ListedNote) → ListedNote → Bool
 enters None n = true
 enters (Some None) n = false
-enters (Some (Some k)) n = gives (facts_in n.facts) k.facts && covers_flags k.apart (apart_in n.apart)
+enters (Some (Some k)) n = gives (facts_in n.facts) k.facts && (covers_flags k.apart (apart_in n.apart) && same_number k.carry None)
 
 -- what is read may not differ
 abbrev pub same : (ℕ → Bool) → Aim → List ℕ → List ℕ → Bool
@@ -288,8 +298,12 @@ module _ (k : Sketch) (own : BlockName) (n : ListedNote) where
   is_kept rest (syms.SelectBank bit on) = expects (ahead rest) f d here_bytes
   is_kept rest (syms.SelectPage bit target) = expects (ahead rest) f d here_bytes
 
+  abbrev pub drops_move : List ListedRow → ℕ → Option ℕ → Bool
+  drops_move rest i None = expects (ahead rest) (moved (ToByte i) f) (one_moves f i d) here_bytes
+  drops_move rest i (Some c) = nat_eq c i && expects (ahead rest) (moved (ToByte i) f) (record d { w = false; z = true }) here_bytes
+
   abbrev pub drops_to_w : List ListedRow → FileOperation → Aim → Bool
-  drops_to_w rest files.Movf (ToByte i) = expects (ahead rest) (moved (ToByte i) f) (one_moves f i d) here_bytes
+  drops_to_w rest files.Movf (ToByte i) = drops_move rest i n.carry
   drops_to_w rest files.Iorwf (ToByte i) = expects (ahead rest) (after_to_w files.Iorwf (ToByte i) f) (one_ors f i d) here_bytes
   drops_to_w rest op (ToByte i) = passes rest (may_skip op) (after_to_w op (ToByte i) f) (other_w (one_sets (flags_in op) d)) here_bytes
   drops_to_w rest op a = false
@@ -353,20 +367,36 @@ module _ (k : Sketch) (own : BlockName) (n : ListedNote) where
   is_put rest new v (syms.Label label) = true
   is_put rest new v s = false
 
+  abbrev pub narrows_for : List ListedRow → FileOperation → Aim → Aim → Bool
+  narrows_for rest op (ToByte i) (ToByte j) =
+      uses op && (is_same (ToByte i) && (not (may_skip op) && (nat_eq j i
+      && expects_by (Some i) (ahead rest) (lost k.hidden (ToByte i) (without_zero f)) (other_w (other_byte i (both_set (flags_in op) d))) (i ∷ here_bytes))))
+  narrows_for rest op a b = false
+
+  abbrev pub is_narrowed : List ListedRow → Sym → Bool
+  is_narrowed rest (syms.File op operand into.File) = narrows_for rest op (write operand) (read operand)
+  is_narrowed rest (syms.Label label) = true
+  is_narrowed rest s = false
+
   abbrev pub is_right_row : ℕ → List ListedRow → Act → Sym → Bool
   is_right_row here rest Keeps s = is_kept rest s
   is_right_row here rest Drops s = is_left_out here rest s
   is_right_row here rest (Puts new v) s = is_put rest new v s
+  is_right_row here rest Narrows s = is_narrowed rest s
 
 -- ---- notes
 abbrev pub all_known : (ℕ → Bool) → List KnownByte → Bool
 all_known test [] = true
 all_known test (b ∷ bs) = test b.byte && all_known test bs
 
+abbrev pub carries_near : DataLayout → Bool → Option ℕ → Bool
+carries_near l inside None = true
+carries_near l inside (Some a) = is_near inside (owner l a)
+
 -- facts are of bytes that the other thread can't change, and what may differ is the thread's own
 abbrev pub is_note : DataLayout → Bool → ListedNote → Bool
 is_note l inside n =
-    all_of (λ a. is_near inside (owner l a)) n.facts.held && (all_known (λ a. is_near inside (owner l a)) n.facts.known && all_of (λ a. is_own inside (owner l a)) n.apart.bytes)
+    all_of (λ a. is_near inside (owner l a)) n.facts.held && (all_known (λ a. is_near inside (owner l a)) n.facts.known && (all_of (λ a. is_own inside (owner l a)) n.apart.bytes && carries_near l inside n.carry))
 
 abbrev pub is_right_at : Sketch → BlockName → ℕ → ListedRow → List ListedRow → Bool
 is_right_at k own j (Listed s act None) rest = true
@@ -390,7 +420,7 @@ are_right_blocks k (b ∷ bs) = is_right_block k b && are_right_blocks k bs
 abbrev pub begins : List ℕ → Option (Option ListedNote) → Bool
 begins rest None = true
 begins rest (Some None) = false
-begins rest (Some (Some n)) = gives nothing_known n.facts && all_of (λ a. among a n.apart.bytes) rest
+begins rest (Some (Some n)) = gives nothing_known n.facts && (all_of (λ a. among a n.apart.bytes) rest && same_number n.carry None)
 
 abbrev pub begins_at : Sketch → Option ℕ → Bool
 begins_at k None = true

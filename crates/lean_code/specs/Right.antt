@@ -26,15 +26,18 @@ use Rattle.sym_code.specs.declared.code.Sym.{Sym}
 use Rattle.sym_code.specs.declared.code.Sym.TheVariants as syms
 use Rattle.sym_code.specs.declared.code.Target.{Target}
 use Rattle.sym_code.specs.declared.code.Target.TheVariants as targets
-use Rattle.lean_code.specs.Rows.{Facts, Apart, Note, nothing_known, Row, At, Act, Keeps, Drops, Puts, olds, place_in, note_ahead, past, drops_first, keeps_first, goes_on, Lean, old_program}
+use Rattle.lean_code.specs.Rows.{Facts, Apart, Note, nothing_known, Row, At, Act, Keeps, Drops, Puts, Narrows, olds, place_in, note_ahead, past, drops_first, keeps_first, goes_on, Lean, old_program}
 use Rattle.lean_code.specs.Changes.{Weaker, CoversFlags, Covers, Aim, ToByte, Through, aim, is_own, is_near, lost, without_zero, without_w, moved, after_to_w, learned, stored, flags_in, uses_w, uses_c, may_skip, literal_flags, literal_uses, is_retlw, literal_for, both_set, one_sets, same_w, other_w, same_byte, other_byte, one_moves, one_stores, is_number, one_ors, one_clears}
 
 -- ---- where the code goes on
 -- With these facts, and this apart, where something stands.
+abbrev pub ExpectsBy : Option ℕ → Option (Option Note) → Facts → Apart → Type 0
+ExpectsBy carry None f d = Unit {0}
+ExpectsBy carry (Some None) f d = ⊥
+ExpectsBy carry (Some (Some n)) f d = Weaker n.facts f × Covers n.apart d × (n.carry ≡ carry)
+
 abbrev pub Expects : Option (Option Note) → Facts → Apart → Type 0
-Expects None f d = Unit {0}
-Expects (Some None) f d = ⊥
-Expects (Some (Some n)) f d = Weaker n.facts f × Covers n.apart d
+Expects o f d = ExpectsBy None o f d
 
 -- behind an instruction that both execute, and that may skip the next one
 pub record LeadsBoth (rest : List Row) (f : Facts) (d : Apart) : Type 0 where
@@ -60,13 +63,13 @@ Passes rest true f d = PassesBoth rest f d
 abbrev pub Comes : Option (Option Note) → Note → (ℕ → Bool) → Type 0
 Comes None k across = Unit {0}
 Comes (Some None) k across = ⊥
-Comes (Some (Some n)) k across = Weaker n.facts k.facts × CoversFlags n.apart k.apart × ((a : ℕ) → n.apart.bytes a ≡ false → (k.apart.bytes a ≡ false) × (across a ≡ false))
+Comes (Some (Some n)) k across = Weaker n.facts k.facts × CoversFlags n.apart k.apart × (n.carry ≡ None) × ((a : ℕ) → n.apart.bytes a ≡ false → (k.apart.bytes a ≡ false) × (across a ≡ false))
 
 -- at the front of what is called; none of the caller's bytes are read there
 abbrev pub Enters : Option (Option Note) → Note → Type 0
 Enters None n = Unit {0}
 Enters (Some None) n = ⊥
-Enters (Some (Some k)) n = Weaker k.facts n.facts × CoversFlags k.apart n.apart
+Enters (Some (Some k)) n = Weaker k.facts n.facts × CoversFlags k.apart n.apart × (k.carry ≡ None)
 
 -- at an index, if there is one
 abbrev pub noted : List Row → Option ℕ → Option (Option Note)
@@ -169,8 +172,13 @@ module _ (x : Lean) (own : BlockName) (inside : Bool) (n : Note) where
   IsKept rest (syms.SelectPage bit target) = Expects (note_ahead rest) f d
 
   -- ---- only the given code has it
+  -- W may be on the other machine already what is read
+  abbrev pub DropsMove : List Row → ℕ → Option ℕ → Type 0
+  DropsMove rest k None = Expects (note_ahead rest) (moved (ToByte k) f) (one_moves f k d)
+  DropsMove rest k (Some c) = (c ≡ k) × Expects (note_ahead rest) (moved (ToByte k) f) (record d { w = false; z = true })
+
   abbrev pub DropsToW : List Row → FileOperation → Aim → Type 0
-  DropsToW rest files.Movf (ToByte k) = Expects (note_ahead rest) (moved (ToByte k) f) (one_moves f k d)
+  DropsToW rest files.Movf (ToByte k) = DropsMove rest k n.carry
   DropsToW rest files.Iorwf (ToByte k) = Expects (note_ahead rest) (after_to_w files.Iorwf (ToByte k) f) (one_ors f k d)
   DropsToW rest op (ToByte k) = Passes rest (may_skip op) (after_to_w op (ToByte k) f) (other_w (one_sets (flags_in op) d))
   DropsToW rest op aim = ⊥
@@ -235,16 +243,29 @@ module _ (x : Lean) (own : BlockName) (inside : Bool) (n : Note) where
   IsPut rest new v (syms.Label label) = Unit {0}
   IsPut rest new v s = ⊥
 
+  -- ---- a result that goes to W in place of its byte
+  abbrev pub NarrowsFor : List Row → FileOperation → Aim → Aim → Type 0
+  NarrowsFor rest op (ToByte k) (ToByte j) =
+      Uses op × IsSame (ToByte k) × (may_skip op ≡ false) × (j ≡ k) × ExpectsBy (Some k) (note_ahead rest) (lost x.hidden (ToByte k) (without_zero f)) (other_w (other_byte k (both_set (flags_in op) d)))
+  NarrowsFor rest op a b = ⊥
+
+  abbrev pub IsNarrowed : List Row → Sym → Type 0
+  IsNarrowed rest (syms.File op operand into.File) = NarrowsFor rest op (write operand) (read operand)
+  IsNarrowed rest (syms.Label label) = Unit {0}
+  IsNarrowed rest s = ⊥
+
   abbrev pub IsRight : ℕ → List Row → Act → Sym → Type 0
   IsRight here rest Keeps s = IsKept rest s
   IsRight here rest Drops s = IsDropped here rest s
   IsRight here rest (Puts new v) s = IsPut rest new v s
+  IsRight here rest Narrows s = IsNarrowed rest s
 
 -- facts are of bytes that the other thread can't change, and what may differ is the thread's own
 pub record IsNote (x : Lean) (inside : Bool) (n : Note) : Type 0 where
   pub held : (a : ℕ) → n.facts.held a ≡ true → is_near inside (owner x.layout a) ≡ true
   pub known : (a k : ℕ) → n.facts.known a ≡ Some k → is_near inside (owner x.layout a) ≡ true
   pub bytes : (a : ℕ) → is_own inside (owner x.layout a) ≡ false → n.apart.bytes a ≡ false
+  pub carry : (a : ℕ) → n.carry ≡ Some a → is_near inside (owner x.layout a) ≡ true
 
 -- the instruction of a number
 pub record IsRightAt (x : Lean) (own : BlockName) (j : ℕ) (s : Sym) (act : Act) (n : Note) : Type 0 where
@@ -256,7 +277,7 @@ pub record IsRightAt (x : Lean) (own : BlockName) (j : ℕ) (s : Sym) (act : Act
 abbrev pub Begins : (ℕ → Bool) → Option (Option Note) → Type 0
 Begins rest None = Unit {0}
 Begins rest (Some None) = ⊥
-Begins rest (Some (Some n)) = Weaker n.facts nothing_known × ((a : ℕ) → n.apart.bytes a ≡ false → rest a ≡ false)
+Begins rest (Some (Some n)) = Weaker n.facts nothing_known × (n.carry ≡ None) × ((a : ℕ) → n.apart.bytes a ≡ false → rest a ≡ false)
 
 abbrev pub BeginsAt : Lean → Option ℕ → Type 0
 BeginsAt x None = Unit {0}

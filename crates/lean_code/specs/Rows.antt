@@ -5,6 +5,7 @@ use Rattle.sym_code.specs.Effect.{Setting}
 use Rattle.sym_code.specs.Layout.{DataLayout}
 use Rattle.sym_code.specs.Programs.{Program, labels_in_front}
 use Rattle.sym_code.specs.declared.code.BlockName.{BlockName}
+use Rattle.sym_code.specs.declared.code.Into.TheVariants as into
 use Rattle.sym_code.specs.declared.code.Literal.TheVariants.{Number}
 use Rattle.sym_code.specs.declared.code.LiteralOperation.{LiteralOperation}
 use Rattle.sym_code.specs.declared.code.Sym.{Sym}
@@ -33,6 +34,8 @@ pub record Apart : Type 0 where
 pub record Note : Type 0 where
   pub facts : Facts
   pub apart : Apart
+  -- W of the machine that runs the code that is made is what this byte holds for the other one
+  pub carry : Option ℕ
 
 abbrev pub nothing_known : Facts
 nothing_known = record { number = None; held = λ a. false; zero = false; known = λ a. None }
@@ -44,6 +47,8 @@ pub data Act : Type 0 where
   Drops : Act
   -- an operation on W and a number stands in its place
   Puts : LiteralOperation → ℕ → Act
+  -- its result goes to W
+  Narrows : Act
 
 -- an instruction of the given code, and what is known before it; none where nothing comes there
 pub data Row : Type 0 where
@@ -60,12 +65,18 @@ abbrev pub olds : List Row → List Sym
 olds [] = []
 olds (row ∷ rows) = old_of row ∷ olds rows
 
+-- an operation on a byte whose result goes to W
+abbrev pub narrowed : Sym → Sym
+narrowed (syms.File op operand to) = syms.File op operand into.W
+narrowed s = s
+
 -- a label always stays
 abbrev pub put_of : Sym → Act → Option Sym
 put_of (syms.Label label) act = Some (syms.Label label)
 put_of s Keeps = Some s
 put_of s Drops = None
 put_of s (Puts op n) = Some (syms.Literal op (Number n))
+put_of s Narrows = Some (narrowed s)
 
 abbrev pub in_front : Option Sym → List Sym → List Sym
 in_front None list = list
