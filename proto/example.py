@@ -43,7 +43,9 @@ for i, r in enumerate(b.rows):
         d['bytes'] -= set(byt)
     elif act == 'narrow':
         for x in flags: d[x] = False
-        d['w'] = True; d['bytes'] |= set(byt)
+        d['w'] = True; d['bytes'] |= set(byt); carry = f'Some {k(byt[0])}'
+    elif act == 'drop' and carry != 'None' and r[0] == 'File' and r[1] == 'Movf' and f'Some {k(b.p.aim(b.own, r[2], False)[1])}' == carry:
+        d['w'] = False; d['z'] = True; carry = 'None'
     elif act == 'drop':
         aim = b.p.aim(b.own, r[1] if r[0] in ('Movwf', 'Clrf') else r[2], r[0] in ('Movwf', 'Clrf')) if r[0] in ('File', 'Movwf', 'Clrf') else None
         if r[0] == 'File' and r[1] == 'Movf' and r[3] == 'W':
@@ -60,8 +62,8 @@ for i, r in enumerate(b.rows):
         if r[1] == 'Movf': d['z'] = True
         else:
             for x in flags: d[x] = False
-made = [sym(r) if b.act[i] == 'keep' else f'syms.Literal literals.{b.act[i][1]} (Number {b.act[i][2]})' for i, r in enumerate(b.rows) if b.act[i] != 'drop']
-head = '''-- A certificate that passes: of the code of `unsigned char ticks; void main(void){ticks++;}`, fifteen instructions, of which seven are left.
+made = [sym(r) if b.act[i] == 'keep' else sym(r).replace('into.File', 'into.W') if b.act[i] == 'narrow' else f'syms.Literal literals.{b.act[i][1]} (Number {b.act[i][2]})' for i, r in enumerate(b.rows) if b.act[i] != 'drop']
+head = '''-- A certificate that passes: of the code of `unsigned char ticks; void main(void){ticks++;}`, fifteen instructions, of which six are left.
 use Rattle.std.specs.Prelude.{◌≡◌, ℕ, Bool, true, false, List, [], ◌∷◌, Option, Some, None}
 use Rattle.pic_world.specs.declared.Root.TheVariants.{Main}
 use Rattle.core_code.specs.declared.code.Byte.TheVariants as bytes
@@ -77,12 +79,12 @@ use Rattle.sym_code.specs.declared.code.Register.TheVariants.{Status}
 use Rattle.sym_code.specs.declared.code.Sym.{Sym}
 use Rattle.sym_code.specs.declared.code.Sym.TheVariants as syms
 use Rattle.sym_code.specs.declared.code.Target.TheVariants as targets
-use Rattle.lean_code.specs.Rows.{Keeps, Drops, Puts, puts}
+use Rattle.lean_code.specs.Rows.{Keeps, Drops, Puts, Narrows, puts}
 use Rattle.lean_code.specs.Checked.{KnownByte, ListedNote, ListedRow, Listed, Sketch, rows_in, is_lean}
 
-abbrev said : Option ℕ → List ℕ → Bool → List KnownByte → Bool → Bool → Bool → Bool → List ℕ → ListedNote
-said number held zero known w z dc c bytes =
-    record { facts = record { number = number; held = held; zero = zero; known = known }; apart = record { w = w; z = z; dc = dc; c = c; bytes = bytes } }
+abbrev said : Option ℕ → List ℕ → Bool → List KnownByte → Bool → Bool → Bool → Bool → List ℕ → Option ℕ → ListedNote
+said number held zero known w z dc c bytes carry =
+    record { facts = record { number = number; held = held; zero = zero; known = known }; apart = record { w = w; z = z; dc = dc; c = c; bytes = bytes }; carry = carry }
 
 abbrev pub sample_rows : List ListedRow
 sample_rows =
@@ -91,7 +93,7 @@ sample_rows =
 
 abbrev pub sample : Sketch
 sample = record {
-  blocks = record { name = Copy 0; rows = sample_rows; inside = false; ends = said None [] false [] true true true true []; outer = [] } ∷ [];
+  blocks = record { name = Copy 0; rows = sample_rows; inside = false; ends = said None [] false [] true true true true [] None; outer = [] } ∷ [];
   handler = None;
   layout = record { objects = record { constant = false; address = 32; size = 1 } ∷ []; frames = record { root = Main; address = 33; size = 11 } ∷ [] };
   rest = [];

@@ -31,8 +31,8 @@ use Rattle.lean_code.specs.Rows as rows_of
 use Rattle.lean_code.specs.Rows.{Facts, Apart, Note, nothing_known, Act, Keeps, Drops, Puts, Narrows, Row, At, olds, is_label, place_in, note_ahead, Lean}
 use Rattle.lean_code.specs.Changes.{Weaker, CoversFlags, Aim, ToByte, Through, aim, is_own, is_near, lost, without_zero, moved, after_to_w, learned, stored, flags_in, uses_w, uses_c, may_skip, literal_flags, literal_uses, is_retlw, literal_for, both_set, one_sets, same_w, other_w, same_byte, other_byte, one_moves, one_stores, is_number, one_ors, one_clears, z_alone}
 use Rattle.lean_code.specs.Right as right
-use Rattle.lean_code.specs.Right.{Expects, ExpectsBy, Leads, Passes, Same, Comes, Enters, flag_apart, with_flag, after_literal, dropped_literal, literal_apart, KeepsFile, KeepsBit, KeepsPlain, KeepsGoto, KeepsCall, IsKept, DropsToW, DropsToFile, DropsBit, IsDropped, PutsFor, IsPut, IsRight, IsNote, IsRightAt, Begins, BeginsAt, IsSound}
-use Rattle.lean_code.specs.Checked.{among, all_of, KnownByte, number_in, ListedFacts, ListedApart, ListedNote, ListedRow, Listed, ListedBlock, Sketch, facts_in, apart_in, note_in, row_in, rows_in, block_in, lean_of, gives_number, gives_known, gives, covers_flags, covers_bytes, same_number, expects_by, expects, drops_move, narrows_for, is_narrowed, carries_near, ahead, past, leads, passes, comes, enters, same, noted, same_side, same_operation, is_operation, is_here, keeps_file, keeps_bit, keeps_plain, keeps_goto, keeps_call, is_kept, drops_to_w, drops_to_file, drops_store, drops_clear, drops_change, drops_test, drops_bit, drops_plain, drops_goto, is_left_out, puts_for, is_put, is_right_row, all_known, is_note, is_right_at, are_right, is_right_block, are_right_blocks, begins, begins_at, TestIsRight}
+use Rattle.lean_code.specs.Right.{Claims, Expects, ExpectsBy, Leads, Passes, Same, Comes, Enters, flag_apart, with_flag, after_literal, dropped_literal, literal_apart, KeepsFile, KeepsBit, KeepsPlain, KeepsGoto, KeepsCall, IsKept, DropsToW, DropsToFile, DropsBit, IsDropped, PutsFor, IsPut, IsRight, IsNote, IsRightAt, Begins, BeginsAt, IsSound}
+use Rattle.lean_code.specs.Checked.{among, all_of, KnownByte, number_in, ListedFacts, ListedApart, ListedNote, ListedRow, Listed, ListedBlock, Sketch, facts_in, apart_in, note_in, row_in, rows_in, block_in, lean_of, gives_number, gives_known, gives, covers_flags, covers_bytes, same_number, expects_by, expects, drops_carried, drops_move, narrows_for, is_narrowed, carries_near, ahead, past, leads, passes, comes, enters, same, noted, same_side, same_operation, is_operation, is_here, keeps_file, keeps_bit, keeps_plain, keeps_goto, keeps_call, is_kept, drops_to_w, drops_to_file, drops_store, drops_clear, drops_change, drops_test, drops_bit, drops_plain, drops_goto, is_left_out, puts_for, is_put, is_right_row, all_known, is_note, is_right_at, are_right, is_right_block, are_right_blocks, begins, begins_at, TestIsRight}
 use Rattle.lean_code.proofs.Lists.{never}
 use Rattle.lean_code.proofs.Facts.{not_false, some_is}
 use Rattle.lean_code.proofs.KeptRows.{flag_bytes}
@@ -134,11 +134,9 @@ bytes_are : (b : List ℕ) (d : Apart) (candidates : List ℕ) → Within d cand
 bytes_are b d candidates within e a k =
     not_false (d.bytes a) (λ h. sym k ∙ not_or (d.bytes a) (among a b) (all_is (λ j. not (d.bytes j) || among j b) candidates e a (within a h)) h)
 
-numbers_are : (a b : Option ℕ) → same_number a b ≡ true → a ≡ b
-numbers_are None None e = refl
-numbers_are None (Some b) e = never e
-numbers_are (Some a) None e = never e
-numbers_are (Some a) (Some b) e = ap (λ (n : ℕ). Some n) (eqb-true a b e)
+numbers_are : (a b : Option ℕ) → same_number a b ≡ true → Claims a b
+numbers_are None b e = λ j h. absurd (none-some j h)
+numbers_are (Some a) b e = λ j h. number_is b a e ∙ h
 
 expects_by_is : (carry : Option ℕ) (q : Option (Option ListedNote)) (f : Facts) (d : Apart) (candidates : List ℕ) → Within d candidates → expects_by carry q f d candidates ≡ true → ExpectsBy carry (option_map (option_map note_in) q) f d
 expects_by_is carry None f d candidates within e = tt
@@ -196,14 +194,18 @@ leads_is rest true f d candidates within e =
     let more = and_r one (two && keeps) e in
     record { runs = expects_at rest f d candidates within (and_l one (two && keeps) e); skips = expects_past rest f d candidates within (and_l two keeps more); keeps = and_r two keeps more }
 
-passes_is : (rest : List ListedRow) (can : Bool) (f : Facts) (d : Apart) (candidates : List ℕ) → Within d candidates → passes rest can f d candidates ≡ true → Passes (rows_in rest) can f d
-passes_is rest false f d candidates within e = expects_at rest f d candidates within (and_l (expects (ahead rest) f d candidates) true e)
-passes_is rest true f d candidates within e =
-    let one = expects (ahead rest) f d candidates in
-    let two = expects (ahead (past rest)) f d candidates in
+passes_is : (carry : Option ℕ) (rest : List ListedRow) (can : Bool) (f : Facts) (d : Apart) (candidates : List ℕ) → Within d candidates → passes carry rest can f d candidates ≡ true → Passes carry (rows_in rest) can f d
+passes_is carry rest false f d candidates within e = expects_by_at carry rest f d candidates within (and_l (expects_by carry (ahead rest) f d candidates) true e)
+passes_is carry rest true f d candidates within e =
+    let one = expects_by carry (ahead rest) f d candidates in
+    let two = expects_by carry (ahead (past rest)) f d candidates in
     let drops = rows_of.drops_first (rows_in rest) in
     let more = and_r one (two && drops) e in
-    record { runs = expects_at rest f d candidates within (and_l one (two && drops) e); skips = expects_past rest f d candidates within (and_l two drops more); drops = and_r two drops more }
+    record {
+      runs = expects_by_at carry rest f d candidates within (and_l one (two && drops) e);
+      skips = subst (λ (l : List Row). ExpectsBy carry (note_ahead l) f d) (sym (past_is rest)) (expects_by_at carry (past rest) f d candidates within (and_l two drops more));
+      drops = and_r two drops more;
+    }
 
 same_is : (hidden : ℕ → Bool) (a : Aim) (d : ListedApart) (outer : List ℕ) → same hidden a d.bytes outer ≡ true → Same hidden a (apart_in d) (λ j. among j outer)
 same_is hidden (ToByte k) d outer e = (is_not (among k d.bytes) (and_l (not (among k d.bytes)) (not (among k outer)) e), is_not (among k outer) (and_r (not (among k d.bytes)) (not (among k outer)) e))
@@ -372,6 +374,9 @@ module _ (k : Sketch) (limit : Bool → ℕ) (old_page new_page : BlockName → 
   label_is : (o : Option ℕ) → expects (noted block.rows o) f d bytes ≡ true → Expects (right.noted (rows_in block.rows) o) f d
   label_is o e = subst (λ (q : Option (Option Note)). Expects q f d) (sym (noted_is o)) (expects_is (noted block.rows o) f d bytes here e)
 
+  label_by : (carry o : Option ℕ) → expects_by carry (noted block.rows o) f d bytes ≡ true → ExpectsBy carry (right.noted (rows_in block.rows) o) f d
+  label_by carry o e = subst (λ (q : Option (Option Note)). ExpectsBy carry q f d) (sym (noted_is o)) (expects_by_is carry (noted block.rows o) f d bytes here e)
+
   goto_is : (target : Target) → keeps_goto k own n target ≡ true → KeepsGoto x own inside (note_in n) target
   goto_is (targets.Label labels.Halt) e = tt
   goto_is (targets.Label labels.Restore) e =
@@ -427,21 +432,23 @@ module _ (k : Sketch) (limit : Bool → ℕ) (old_page new_page : BlockName → 
   within_ors true b e = e
   within_ors false b e = e
 
+  drops_carried_is : (rest : List ListedRow) (i c : ℕ) (q : Bool) → drops_carried k own n rest i c q ≡ true → right.DropsCarried x own inside (note_in n) (rows_in rest) i c q
+  drops_carried_is rest i c true e = expects_at rest (moved (ToByte i) f) (record d { w = false; z = true }) bytes (λ b h. h) e
+  drops_carried_is rest i c false e = expects_by_at (Some c) rest (moved (ToByte i) f) (one_moves f i d) bytes (λ b h. h) e
+
   drops_move_is : (rest : List ListedRow) (i : ℕ) (o : Option ℕ) → drops_move k own n rest i o ≡ true → right.DropsMove x own inside (note_in n) (rows_in rest) i o
   drops_move_is rest i None e = expects_at rest (moved (ToByte i) f) (one_moves f i d) bytes (λ b h. h) e
-  drops_move_is rest i (Some c) e =
-      let two = expects (ahead rest) (moved (ToByte i) f) (record d { w = false; z = true }) bytes in
-      (eqb-true c i (and_l (nat_eq c i) two e), expects_at rest (moved (ToByte i) f) (record d { w = false; z = true }) bytes (λ b h. h) (and_r (nat_eq c i) two e))
+  drops_move_is rest i (Some c) e = drops_carried_is rest i c (nat_eq c i) e
 
   drops_w_is : (rest : List ListedRow) (op : FileOperation) (a : Aim) → drops_to_w k own n rest op a ≡ true → DropsToW x own inside (note_in n) (rows_in rest) op a
   drops_w_is rest files.Movf (ToByte i) e = drops_move_is rest i n.carry e
-  drops_w_is rest files.Iorwf (ToByte i) e = expects_at rest (after_to_w files.Iorwf (ToByte i) f) (one_ors f i d) bytes (within_ors (is_number (f.known i) 0)) e
-  drops_w_is rest op (ToByte i) e = passes_is rest (may_skip op) (after_to_w op (ToByte i) f) (other_w (one_sets (flags_in op) d)) bytes (λ b h. h) e
+  drops_w_is rest files.Iorwf (ToByte i) e = expects_by_at n.carry rest (after_to_w files.Iorwf (ToByte i) f) (one_ors f i d) bytes (within_ors (is_number (f.known i) 0)) e
+  drops_w_is rest op (ToByte i) e = passes_is n.carry rest (may_skip op) (after_to_w op (ToByte i) f) (other_w (one_sets (flags_in op) d)) bytes (λ b h. h) e
   drops_w_is rest op a e = never e
 
   drops_file_is : (rest : List ListedRow) (op : FileOperation) (a : Aim) → drops_to_file k own n rest op a ≡ true → DropsToFile x own inside (note_in n) (rows_in rest) op a
   drops_file_is rest op (ToByte i) e =
-      passes_is rest (may_skip op) (lost k.hidden (ToByte i) (without_zero f)) (other_byte i (one_sets (flags_in op) d)) (i ∷ bytes) (within_other i (one_sets (flags_in op) d) bytes (λ b h. h)) e
+      passes_is (right.carry_but i n.carry) rest (may_skip op) (lost k.hidden (ToByte i) (without_zero f)) (other_byte i (one_sets (flags_in op) d)) (i ∷ bytes) (within_other i (one_sets (flags_in op) d) bytes (λ b h. h)) e
   drops_file_is rest op a e = never e
 
   within_stores : (c : Bool) (i : ℕ) → Within (if c then d else other_byte i d) (i ∷ bytes)
@@ -449,7 +456,7 @@ module _ (k : Sketch) (limit : Bool → ℕ) (old_page new_page : BlockName → 
   within_stores false i = within_other i d bytes here
 
   drops_store_is : (rest : List ListedRow) (a : Aim) → drops_store k own n rest a ≡ true → right.DropsStore x own inside (note_in n) (rows_in rest) a
-  drops_store_is rest (ToByte i) e = expects_at rest (stored k.hidden (ToByte i) f) (one_stores f i d) (i ∷ bytes) (within_stores (f.held i) i) e
+  drops_store_is rest (ToByte i) e = expects_by_at (right.carry_but i n.carry) rest (stored k.hidden (ToByte i) f) (one_stores f i d) (i ∷ bytes) (within_stores (f.held i) i) e
   drops_store_is rest a e = never e
 
   within_clears : (c : Bool) (i : ℕ) → Within (if c then record d { z = true } else other_byte i (record d { z = true })) (i ∷ bytes)
@@ -458,35 +465,35 @@ module _ (k : Sketch) (limit : Bool → ℕ) (old_page new_page : BlockName → 
 
   drops_clear_is : (rest : List ListedRow) (a : Aim) → drops_clear k own n rest a ≡ true → right.DropsClear x own inside (note_in n) (rows_in rest) a
   drops_clear_is rest (ToByte i) e =
-      expects_at rest (learned k.hidden (ToByte i) (Some 0) (without_zero f)) (one_clears f i d) (i ∷ bytes) (within_clears (is_number (f.known i) 0) i) e
+      expects_by_at (right.carry_but i n.carry) rest (learned k.hidden (ToByte i) (Some 0) (without_zero f)) (one_clears f i d) (i ∷ bytes) (within_clears (is_number (f.known i) 0) i) e
   drops_clear_is rest a e = never e
 
   drops_change_is : (rest : List ListedRow) (a : Aim) → drops_change k own n rest a ≡ true → right.DropsChange x own inside (note_in n) (rows_in rest) a
-  drops_change_is rest (ToByte i) e = expects_at rest (lost k.hidden (ToByte i) f) (other_byte i d) (i ∷ bytes) (within_other i d bytes here) e
+  drops_change_is rest (ToByte i) e = expects_by_at (right.carry_but i n.carry) rest (lost k.hidden (ToByte i) f) (other_byte i d) (i ∷ bytes) (within_other i d bytes here) e
   drops_change_is rest a e = never e
 
   drops_test_is : (rest : List ListedRow) (a : Aim) → drops_test k own n rest a ≡ true → right.DropsTest x own inside (note_in n) (rows_in rest) a
-  drops_test_is rest (ToByte i) e = passes_is rest true f d bytes here e
+  drops_test_is rest (ToByte i) e = passes_is n.carry rest true f d bytes here e
   drops_test_is rest a e = never e
 
-  drops_flag_is : (rest : List ListedRow) (b : ℕ) → (nat_lt b 3 && expects (ahead rest) (without_zero f) (with_flag b true d) bytes) ≡ true → (nat_lt b 3 ≡ true) × ExpectsAt rest (without_zero f) (with_flag b true d)
+  drops_flag_is : (rest : List ListedRow) (b : ℕ) → (nat_lt b 3 && expects_by n.carry (ahead rest) (without_zero f) (with_flag b true d) bytes) ≡ true → (nat_lt b 3 ≡ true) × ExpectsBy n.carry (note_ahead (rows_in rest)) (without_zero f) (with_flag b true d)
   drops_flag_is rest b e =
-      let two = expects (ahead rest) (without_zero f) (with_flag b true d) bytes in
-      (and_l (nat_lt b 3) two e, expects_at rest (without_zero f) (with_flag b true d) bytes (within_flag b true d bytes here) (and_r (nat_lt b 3) two e))
+      let two = expects_by n.carry (ahead rest) (without_zero f) (with_flag b true d) bytes in
+      (and_l (nat_lt b 3) two e, expects_by_at n.carry rest (without_zero f) (with_flag b true d) bytes (within_flag b true d bytes here) (and_r (nat_lt b 3) two e))
 
   drops_bit_is : (rest : List ListedRow) (op : BitOperation) (operand : Operand) (b : ℕ) → drops_bit k own n rest op operand b ≡ true → DropsBit x own inside (note_in n) (rows_in rest) op operand b
   drops_bit_is rest Bcf (operands.Register Status) b e = drops_flag_is rest b e
   drops_bit_is rest Bsf (operands.Register Status) b e = drops_flag_is rest b e
-  drops_bit_is rest Btfsc (operands.Register Status) b e = passes_is rest true f d bytes here e
-  drops_bit_is rest Btfss (operands.Register Status) b e = passes_is rest true f d bytes here e
+  drops_bit_is rest Btfsc (operands.Register Status) b e = passes_is n.carry rest true f d bytes here e
+  drops_bit_is rest Btfss (operands.Register Status) b e = passes_is n.carry rest true f d bytes here e
   drops_bit_is rest Bcf operand b e = drops_change_is rest (aim k.layout inside true operand) e
   drops_bit_is rest Bsf operand b e = drops_change_is rest (aim k.layout inside true operand) e
   drops_bit_is rest Btfsc operand b e = drops_test_is rest (aim k.layout inside false operand) e
   drops_bit_is rest Btfss operand b e = drops_test_is rest (aim k.layout inside false operand) e
 
   drops_plain_is : (rest : List ListedRow) (op : PlainOperation) → drops_plain k own n rest op ≡ true → right.DropsPlain x own inside (note_in n) (rows_in rest) op
-  drops_plain_is rest Clrw e = expects_at rest (record f { number = Some 0; held = λ a. false; zero = true }) (record d { w = true; z = true }) bytes (λ b h. h) e
-  drops_plain_is rest Nop e = expects_at rest f d bytes here e
+  drops_plain_is rest Clrw e = expects_by_at n.carry rest (record f { number = Some 0; held = λ a. false; zero = true }) (record d { w = true; z = true }) bytes (λ b h. h) e
+  drops_plain_is rest Nop e = expects_by_at n.carry rest f d bytes here e
   drops_plain_is rest op e = never e
 
   here_is : (to : ℕ) (o : Option ℕ) → is_here block.rows to o ≡ true → (i : ℕ) → o ≡ Some i → place_in (rows_in block.rows) i ≡ to
@@ -496,9 +503,9 @@ module _ (k : Sketch) (limit : Bool → ℕ) (old_page new_page : BlockName → 
   drops_goto_is : (to : ℕ) (target : Target) → drops_goto k own n to target ≡ true → right.DropsGoto x own inside (note_in n) to target
   drops_goto_is to (targets.Label (labels.Inner l)) e =
       let o = label_from (olds (rows_in block.rows)) (labels.Inner l) 0 in
-      let one = expects (noted block.rows o) f d bytes in
+      let one = expects_by n.carry (noted block.rows o) f d bytes in
       let two = is_here block.rows to o in
-      (label_is o (and_l one two e), here_is to o (and_r one two e))
+      (label_by n.carry o (and_l one two e), here_is to o (and_r one two e))
   drops_goto_is to target e = never e
 
   within_number : (c : Bool) → Within (if c then d else other_w d) bytes
@@ -517,8 +524,8 @@ module _ (k : Sketch) (limit : Bool → ℕ) (old_page new_page : BlockName → 
   dropped_is to rest (syms.Bit op operand b) e = drops_bit_is rest op operand b e
   dropped_is to rest (syms.Literal op value) e =
       let one = not (is_retlw op) in
-      let two = expects (ahead rest) (after_literal f op value) (dropped_literal f d op value) bytes in
-      (is_not (is_retlw op) (and_l one two e), expects_at rest (after_literal f op value) (dropped_literal f d op value) bytes (within_literal op value) (and_r one two e))
+      let two = expects_by n.carry (ahead rest) (after_literal f op value) (dropped_literal f d op value) bytes in
+      (is_not (is_retlw op) (and_l one two e), expects_by_at n.carry rest (after_literal f op value) (dropped_literal f d op value) bytes (within_literal op value) (and_r one two e))
   dropped_is to rest (syms.Plain op) e = drops_plain_is rest op e
   dropped_is to rest (syms.Goto target) e = drops_goto_is to target e
   dropped_is to rest s e = never e

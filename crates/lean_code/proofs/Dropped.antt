@@ -2,6 +2,7 @@
 use Rattle.std.proofs.Common.{◌≡◌, ℕ, Bool, true, false, if◌then◌else◌, List, drop, Option, Some, None, option_map, refl, sym, ap, ◌∙◌, subst}
 use Rattle.std.specs.Prelude.{nat_eq, nat_lt, ◌&&◌}
 use Rattle.std.proofs.lemmas.Bool.{eqb-true}
+use Rattle.std.proofs.lemmas.Option.{none-some}
 use Rattle.pic_isa.specs.declared.Ins.TheVariants as ins
 use Rattle.pic_world.specs.Bits.{bit, set_bit, clear_bit, truth}
 use Rattle.sym_code.specs.Effect.{Thread, Memory, with_byte, Access, Silent, Denied, Effect, access_of, goes, file_to_w, file_to_file, store, change, test, put_flag, test_flag, flag, literal, literal_value, plain, jump_to, goto, effect_of}
@@ -29,16 +30,16 @@ use Rattle.sym_code.specs.declared.code.Target.{Target}
 use Rattle.sym_code.specs.declared.code.Target.TheVariants as targets
 use Rattle.lean_code.specs.Rows.{Facts, Apart, Note, Row, olds, place_in, note_ahead, past, Lean, old_program, old_setting}
 use Rattle.lean_code.specs.Changes.{is_number, one_ors, one_clears, z_alone, Holds, Alike, Aim, ToByte, aim, lost, without_zero, moved, after_to_w, learned, stored, flags_in, may_skip, literal_flags, is_retlw, one_sets, other_w, other_byte, one_moves, one_stores}
-use Rattle.lean_code.specs.Right.{Expects, Passes, noted, with_flag, after_literal, dropped_literal, DropsMove, DropsToW, DropsToFile, DropsStore, DropsClear, DropsChange, DropsTest, DropsBit, DropsPlain, DropsGoto, IsDropped, IsSound}
+use Rattle.lean_code.specs.Right.{Expects, Passes, noted, with_flag, after_literal, dropped_literal, ExpectsBy, carry_but, DropsCarried, DropsMove, DropsToW, DropsToFile, DropsStore, DropsClear, DropsChange, DropsTest, DropsBit, DropsPlain, DropsGoto, IsDropped, IsSound}
 use Rattle.lean_code.specs.Links.{clears}
 use Rattle.lean_code.proofs.Lists.{never, dropped_at}
 use Rattle.lean_code.proofs.Places.{under, row_at, to_behind, to_past, to_label, under_dropped, under_stand, drops_behind}
 use Rattle.lean_code.proofs.Alike.{flags_alone, literal_alone, clear_alone, move_is, or_zero, moved_w}
-use Rattle.lean_code.proofs.Facts.{number_of, own_other, lose_zero, to_w_holds, flags_hold, lost_byte, learned_byte, stored_byte}
+use Rattle.lean_code.proofs.Facts.{some_is, number_of, own_other, lose_zero, to_w_holds, flags_hold, lost_byte, learned_byte, stored_byte}
 use Rattle.lean_code.proofs.Flags.{set_alone}
 use Rattle.lean_code.proofs.Accesses.{Told, Aims, access_told, access_aims}
 use Rattle.lean_code.proofs.Relation.{held, Goes, Alone}
-use Rattle.lean_code.proofs.Kept.{Scene, skip_ok, one, other, rows, go}
+use Rattle.lean_code.proofs.Kept.{Scene, skip_ok, one, other, rows, go_by}
 use Rattle.lean_code.proofs.KeptRows.{flag_bytes, literal_quiet, literal_holds, cleared_holds}
 
 -- a byte that one machine writes
@@ -89,32 +90,50 @@ module _ (x : Lean) (sound : IsSound x) (inside : Bool) (rest : ℕ → Bool) (s
   Lone = Alone x inside rest second m k
 
   -- the machine that was given the code goes on, and the other one stands
-  pass : (can c : Bool) → (c ≡ true → can ≡ true) → (g : Facts) (e : Apart) → Passes list can g e → (t : Registers) (b : Memory) → Alike e t s → Holds g t b
-      → ((j : ℕ) → e.bytes j ≡ false → held scene.ks j ≡ false → rest j ≡ false → b j ≡ k j) → Goes x inside rest (goes first (onward (old_program x) p c) t) second b k
-  pass false false ok g e l t b al h same =
-      go x sound inside rest scene (note_ahead list) g e (behind (old_program x) p) (under x p) (to_behind x p) (sym (under_dropped x p dropped)) l None None refl tt t s b k al h same
-  pass true false ok g e l t b al h same =
-      go x sound inside rest scene (note_ahead list) g e (behind (old_program x) p) (under x p) (to_behind x p) (sym (under_dropped x p dropped)) l.runs None None refl tt t s b k al h same
-  pass true true ok g e l t b al h same =
-      go x sound inside rest scene (note_ahead (past list)) g e (behind (old_program x) (behind (old_program x) p)) (under x p) (to_past x p)
-      (sym (under_dropped x (behind (old_program x) p) (drops_behind x p l.drops) ∙ under_dropped x p dropped)) l.skips None None refl tt t s b k al h same
-  pass false true ok g e l t b al h same = never (ok refl)
+  pass : (carry : Option ℕ) (can c : Bool) → (c ≡ true → can ≡ true) → (g : Facts) (e : Apart) → Passes carry list can g e → (t : Registers) (b : Memory) → Alike e t s → Holds g t b
+      → ((j : ℕ) → e.bytes j ≡ false → held scene.ks j ≡ false → rest j ≡ false → b j ≡ k j) → ((j : ℕ) → carry ≡ Some j → b j ≡ s.w) → Goes x inside rest (goes first (onward (old_program x) p c) t) second b k
+  pass carry false false ok g e l t b al h same carries =
+      go_by x sound inside rest scene carry (note_ahead list) g e (behind (old_program x) p) (under x p) (to_behind x p) (sym (under_dropped x p dropped)) l None None refl tt t s b k al h same carries
+  pass carry true false ok g e l t b al h same carries =
+      go_by x sound inside rest scene carry (note_ahead list) g e (behind (old_program x) p) (under x p) (to_behind x p) (sym (under_dropped x p dropped)) l.runs None None refl tt t s b k al h same carries
+  pass carry true true ok g e l t b al h same carries =
+      go_by x sound inside rest scene carry (note_ahead (past list)) g e (behind (old_program x) (behind (old_program x) p)) (under x p) (to_past x p)
+      (sym (under_dropped x (behind (old_program x) p) (drops_behind x p l.drops) ∙ under_dropped x p dropped)) l.skips None None refl tt t s b k al h same carries
+  pass carry false true ok g e l t b al h same carries = never (ok refl)
 
-  moves : (g : Facts) (e : Apart) → Expects (note_ahead list) g e → (t : Registers) (b : Memory) → Alike e t s → Holds g t b
-      → ((j : ℕ) → e.bytes j ≡ false → held scene.ks j ≡ false → rest j ≡ false → b j ≡ k j) → Goes x inside rest (goes first (behind (old_program x) p) t) second b k
-  moves g e l = pass false false (λ z. z) g e l
+  moves : (carry : Option ℕ) (g : Facts) (e : Apart) → ExpectsBy carry (note_ahead list) g e → (t : Registers) (b : Memory) → Alike e t s → Holds g t b
+      → ((j : ℕ) → e.bytes j ≡ false → held scene.ks j ≡ false → rest j ≡ false → b j ≡ k j) → ((j : ℕ) → carry ≡ Some j → b j ≡ s.w) → Goes x inside rest (goes first (behind (old_program x) p) t) second b k
+  moves carry g e l = pass carry false false (λ z. z) g e l
+
+  differs : (c h j i : ℕ) → nat_eq c j ≡ false → c ≡ h → j ≡ i → nat_eq h i ≡ false
+  differs c h j i e a b = ap (λ (z : ℕ). nat_eq z i) (sym a) ∙ ap (λ (z : ℕ). nat_eq c z) (sym b) ∙ e
+
+  carried_eq : (j i v : ℕ) → j ≡ i → (h c : ℕ) → n.carry ≡ Some c → (q : Bool) → nat_eq c j ≡ q → (if q then None else Some c) ≡ Some h → with_byte m i v h ≡ s.w
+  carried_eq j i v is h c carried true q e = absurd (none-some h e)
+  carried_eq j i v is h c carried false q e = ap (λ (z : Bool). if z then v else m h) (differs c h j i q (some_is c h e) is) ∙ scene.carry h (carried ∙ e)
+
+  carried_by : (j i v : ℕ) → j ≡ i → (h : ℕ) (o : Option ℕ) → n.carry ≡ o → carry_but j o ≡ Some h → with_byte m i v h ≡ s.w
+  carried_by j i v is h None carried e = absurd (none-some h e)
+  carried_by j i v is h (Some c) carried e = carried_eq j i v is h c carried (nat_eq c j) refl e
+
+  -- what is carried stays where another byte is written
+  carried_but : (j i v : ℕ) → j ≡ i → (h : ℕ) → carry_but j n.carry ≡ Some h → with_byte m i v h ≡ s.w
+  carried_but j i v is h e = carried_by j i v is h n.carry refl e
+
+  none_carried : (b : Memory) (j : ℕ) → None ≡ Some j → b j ≡ s.w
+  none_carried b j h = absurd (none-some j h)
 
   aim_eq : (j h : ℕ) → ToByte j ≡ ToByte h → j ≡ h
   aim_eq j h e = cc
 
   -- ---- to W
-  to_w_alone : (op : FileOperation) (j i : ℕ) → j ≡ i → Passes list (may_skip op) (after_to_w op (ToByte j) f) (other_w (one_sets (flags_in op) d))
+  to_w_alone : (op : FileOperation) (j i : ℕ) → j ≡ i → Passes n.carry list (may_skip op) (after_to_w op (ToByte j) f) (other_w (one_sets (flags_in op) d))
       → Lone (file_to_w (old_program x) p first m op (Silent i))
   to_w_alone op j i is l =
       let al = flags_alone d r s scene.alike op (m i) in (
-        pass (may_skip op) (skips_with r op (m i)) (skip_ok r op (m i)) (after_to_w op (ToByte j) f) (other_w (one_sets (flags_in op) d)) l (record (flags_with r op (m i)) { w = result_with r op (m i) }) m
+        pass n.carry (may_skip op) (skips_with r op (m i)) (skip_ok r op (m i)) (after_to_w op (ToByte j) f) (other_w (one_sets (flags_in op) d)) l (record (flags_with r op (m i)) { w = result_with r op (m i) }) m
             (record { w = λ e. never (sym e); z = al.z; dc = al.dc; c = al.c; fsr = al.fsr; irp = al.irp })
-            (to_w_holds f r m scene.holds op (ToByte j) (m i) (λ h e. ap m (sym is ∙ aim_eq j h e))) scene.still,
+            (to_w_holds f r m scene.holds op (ToByte j) (m i) (λ h e. ap m (sym is ∙ aim_eq j h e))) scene.still scene.carry,
         tt,
       )
 
@@ -131,25 +150,31 @@ module _ (x : Lean) (sound : IsSound x) (inside : Bool) (rest : ℕ → Bool) (s
   unfolding skips_with
   move_alone j i is l =
       let same : f.held j ≡ true → r.w ≡ m i = λ e. scene.holds.held j e ∙ ap m is in (
-        moves (moved (ToByte j) f) (one_moves f j d) l (record (flags_with r files.Movf (m i)) { w = result_with r files.Movf (m i) }) m
+        moves None (moved (ToByte j) f) (one_moves f j d) l (record (flags_with r files.Movf (m i)) { w = result_with r files.Movf (m i) }) m
             (subst (λ (t : Registers). Alike (one_moves f j d) t s) (sym (move_is r (m i)))
             (record { w = λ e. w_if (f.held j) d.w (m i) r.w same scene.alike.w e; z = λ e. z_if (f.held j) f.zero d.z (m i) same scene.holds.zero scene.alike.z e; dc = scene.alike.dc; c = scene.alike.c; fsr = scene.alike.fsr; irp = scene.alike.irp }))
-            (to_w_holds f r m scene.holds files.Movf (ToByte j) (m i) (λ h e. ap m (sym is ∙ aim_eq j h e))) scene.still,
+            (to_w_holds f r m scene.holds files.Movf (ToByte j) (m i) (λ h e. ap m (sym is ∙ aim_eq j h e))) scene.still (none_carried m),
         tt,
       )
 
   -- W of the other machine is what is read
-  carry_alone : (j i c : ℕ) → j ≡ i → n.carry ≡ Some c → (c ≡ j) × Expects (note_ahead list) (moved (ToByte j) f) (record d { w = false; z = true }) → Lone (file_to_w (old_program x) p first m files.Movf (Silent i))
+  carry_alone : (j i c : ℕ) → j ≡ i → n.carry ≡ Some c → (q : Bool) → nat_eq c j ≡ q → DropsCarried x p.block inside n list j c q → Lone (file_to_w (old_program x) p first m files.Movf (Silent i))
   unfolding skips_with
-  carry_alone j i c is carried l =
-      (moves (moved (ToByte j) f) (record d { w = false; z = true }) l.1 (record (flags_with r files.Movf (m i)) { w = result_with r files.Movf (m i) }) m
+  carry_alone j i c is carried true q l =
+      (moves None (moved (ToByte j) f) (record d { w = false; z = true }) l (record (flags_with r files.Movf (m i)) { w = result_with r files.Movf (m i) }) m
       (subst (λ (t : Registers). Alike (record d { w = false; z = true }) t s) (sym (move_is r (m i)))
-      (record { w = λ e. ap m (sym (l.0 ∙ is)) ∙ scene.carry c carried; z = λ e. never (sym e); dc = scene.alike.dc; c = scene.alike.c; fsr = scene.alike.fsr; irp = scene.alike.irp }))
-      (to_w_holds f r m scene.holds files.Movf (ToByte j) (m i) (λ h e. ap m (sym is ∙ aim_eq j h e))) scene.still, tt)
+      (record { w = λ e. ap m (sym (eqb-true c j q ∙ is)) ∙ scene.carry c carried; z = λ e. never (sym e); dc = scene.alike.dc; c = scene.alike.c; fsr = scene.alike.fsr; irp = scene.alike.irp }))
+      (to_w_holds f r m scene.holds files.Movf (ToByte j) (m i) (λ h e. ap m (sym is ∙ aim_eq j h e))) scene.still (none_carried m), tt)
+  carry_alone j i c is carried false q l =
+      let same : f.held j ≡ true → r.w ≡ m i = λ e. scene.holds.held j e ∙ ap m is in
+      (moves (Some c) (moved (ToByte j) f) (one_moves f j d) l (record (flags_with r files.Movf (m i)) { w = result_with r files.Movf (m i) }) m
+      (subst (λ (t : Registers). Alike (one_moves f j d) t s) (sym (move_is r (m i)))
+      (record { w = λ e. w_if (f.held j) d.w (m i) r.w same scene.alike.w e; z = λ e. z_if (f.held j) f.zero d.z (m i) same scene.holds.zero scene.alike.z e; dc = scene.alike.dc; c = scene.alike.c; fsr = scene.alike.fsr; irp = scene.alike.irp }))
+      (to_w_holds f r m scene.holds files.Movf (ToByte j) (m i) (λ h e. ap m (sym is ∙ aim_eq j h e))) scene.still (λ h e. scene.carry h (carried ∙ e)), tt)
 
   move_by : (o : Option ℕ) → n.carry ≡ o → (j i : ℕ) → j ≡ i → DropsMove x p.block inside n list j o → Lone (file_to_w (old_program x) p first m files.Movf (Silent i))
   move_by None e j i is l = move_alone j i is l
-  move_by (Some c) e j i is l = carry_alone j i c is e l
+  move_by (Some c) e j i is l = carry_alone j i c is e (nat_eq c j) refl l
 
   -- 0 leaves W as it is
   z_or : (g b : Bool) → (g ≡ true → r.z ≡ truth (nat_eq r.w 0)) → (b ≡ false → r.z ≡ s.z) → (if g then b else true) ≡ false → truth (nat_eq r.w 0) ≡ s.z
@@ -170,12 +195,12 @@ module _ (x : Lean) (sound : IsSound x) (inside : Bool) (rest : ℕ → Bool) (s
   or_bytes true a = refl
   or_bytes false a = refl
 
-  or_alone : (j i : ℕ) → j ≡ i → Expects (note_ahead list) (after_to_w files.Iorwf (ToByte j) f) (one_ors f j d) → Lone (file_to_w (old_program x) p first m files.Iorwf (Silent i))
+  or_alone : (j i : ℕ) → j ≡ i → ExpectsBy n.carry (note_ahead list) (after_to_w files.Iorwf (ToByte j) f) (one_ors f j d) → Lone (file_to_w (old_program x) p first m files.Iorwf (Silent i))
   unfolding skips_with
   or_alone j i is l =
-      (moves (after_to_w files.Iorwf (ToByte j) f) (one_ors f j d) l (record (flags_with r files.Iorwf (m i)) { w = result_with r files.Iorwf (m i) }) m
+      (moves n.carry (after_to_w files.Iorwf (ToByte j) f) (one_ors f j d) l (record (flags_with r files.Iorwf (m i)) { w = result_with r files.Iorwf (m i) }) m
       (or_regs j i is (is_number (f.known j) 0) refl)
-      (to_w_holds f r m scene.holds files.Iorwf (ToByte j) (m i) (λ h e. ap m (sym is ∙ aim_eq j h e))) (λ a z o w. scene.still a (sym (or_bytes (is_number (f.known j) 0) a) ∙ z) o w), tt)
+      (to_w_holds f r m scene.holds files.Iorwf (ToByte j) (m i) (λ h e. ap m (sym is ∙ aim_eq j h e))) (λ a z o w. scene.still a (sym (or_bytes (is_number (f.known j) 0) a) ∙ z) o w) scene.carry, tt)
 
   file_to_w_alone : (op : FileOperation) (a : Aim) (c : Access) → Aims x a c → DropsToW x p.block inside n list op a → Lone (file_to_w (old_program x) p first m op c)
   file_to_w_alone files.Movf (ToByte j) (Silent i) is l = move_by n.carry refl j i is l
@@ -194,10 +219,10 @@ module _ (x : Lean) (sound : IsSound x) (inside : Bool) (rest : ℕ → Bool) (s
   file_to_file_alone op (ToByte j) (Silent i) is t l =
       let al = flags_alone d r s scene.alike op (m i) in
       let v = result_with r op (m i) in (
-        pass (may_skip op) (skips_with r op (m i)) (skip_ok r op (m i)) (lost x.hidden (ToByte j) (without_zero f)) (other_byte j (one_sets (flags_in op) d)) l (flags_with r op (m i)) (with_byte m i v)
+        pass (carry_but j n.carry) (may_skip op) (skips_with r op (m i)) (skip_ok r op (m i)) (lost x.hidden (ToByte j) (without_zero f)) (other_byte j (one_sets (flags_in op) d)) l (flags_with r op (m i)) (with_byte m i v)
             (record { w = al.w; z = al.z; dc = al.dc; c = al.c; fsr = al.fsr; irp = al.irp })
             (subst (λ (h : ℕ). Holds (lost x.hidden (ToByte h) (without_zero f)) (flags_with r op (m i)) (with_byte m i v)) (sym is) (lost_byte (without_zero f) (flags_with r op (m i)) m (flags_hold f r m scene.holds op (m i)) x.hidden i v))
-            (written_alone (one_sets (flags_in op) d) j i v is (λ a. refl)),
+            (written_alone (one_sets (flags_in op) d) j i v is (λ a. refl)) (carried_but j i v is),
         own_other inside (owner x.layout i) t,
       )
   file_to_file_alone op (ToByte j) Denied is t l = tt
@@ -215,9 +240,9 @@ module _ (x : Lean) (sound : IsSound x) (inside : Bool) (rest : ℕ → Bool) (s
 
   store_alone : (a : Aim) (c : Access) → Aims x a c → Told x inside true c → DropsStore x p.block inside n list a → Lone (store (old_program x) p first r r.w c)
   store_alone (ToByte j) (Silent i) is t l = (
-    moves (stored x.hidden (ToByte j) f) (one_stores f j d) l r (with_byte m i r.w) (store_regs (f.held j) j)
+    moves (carry_but j n.carry) (stored x.hidden (ToByte j) f) (one_stores f j d) l r (with_byte m i r.w) (store_regs (f.held j) j)
         (subst (λ (h : ℕ). Holds (stored x.hidden (ToByte h) f) r (with_byte m i r.w)) (sym is) (stored_byte x.hidden f r m i scene.holds))
-        (store_byte (f.held j) j i is (λ e. scene.holds.held j e ∙ ap m is)),
+        (store_byte (f.held j) j i is (λ e. scene.holds.held j e ∙ ap m is)) (carried_but j i r.w is),
     own_other inside (owner x.layout i) t,
   )
   store_alone (ToByte j) Denied is t l = tt
@@ -234,10 +259,10 @@ module _ (x : Lean) (sound : IsSound x) (inside : Bool) (rest : ℕ → Bool) (s
 
   clear_byte_alone : (a : Aim) (c : Access) → Aims x a c → Told x inside true c → DropsClear x p.block inside n list a → Lone (store (old_program x) p first (record r { z = 1 }) 0 c)
   clear_byte_alone (ToByte j) (Silent i) is t l =
-      (moves (learned x.hidden (ToByte j) (Some 0) (without_zero f)) (one_clears f j d) l (record r { z = 1 }) (with_byte m i 0) (clear_regs (is_number (f.known j) 0) j)
+      (moves (carry_but j n.carry) (learned x.hidden (ToByte j) (Some 0) (without_zero f)) (one_clears f j d) l (record r { z = 1 }) (with_byte m i 0) (clear_regs (is_number (f.known j) 0) j)
       (subst (λ (h : ℕ). Holds (learned x.hidden (ToByte h) (Some 0) (without_zero f)) (record r { z = 1 }) (with_byte m i 0)) (sym is)
       (learned_byte x.hidden (without_zero f) (record r { z = 1 }) m i 0 (lose_zero f r m scene.holds (record r { z = 1 }) refl)))
-      (clear_bytes (is_number (f.known j) 0) j i is (λ e. ap m (sym is) ∙ scene.holds.known j 0 (number_of (f.known j) 0 e))), own_other inside (owner x.layout i) t)
+      (clear_bytes (is_number (f.known j) 0) j i is (λ e. ap m (sym is) ∙ scene.holds.known j 0 (number_of (f.known j) 0 e))) (carried_but j i 0 is), own_other inside (owner x.layout i) t)
   clear_byte_alone (ToByte j) Denied is t l = tt
   clear_byte_alone (ToByte j) c is t l = absurd is
   clear_byte_alone a c is t l = absurd l
@@ -245,10 +270,10 @@ module _ (x : Lean) (sound : IsSound x) (inside : Bool) (rest : ℕ → Bool) (s
   -- ---- bits of bytes
   change_alone : (g : ℕ → ℕ) (a : Aim) (c : Access) → Aims x a c → Told x inside true c → DropsChange x p.block inside n list a → Lone (change (old_program x) p first m g c)
   change_alone g (ToByte j) (Silent i) is t l = (
-    moves (lost x.hidden (ToByte j) f) (other_byte j d) l r (with_byte m i (g (m i)))
+    moves (carry_but j n.carry) (lost x.hidden (ToByte j) f) (other_byte j d) l r (with_byte m i (g (m i)))
         (record { w = scene.alike.w; z = scene.alike.z; dc = scene.alike.dc; c = scene.alike.c; fsr = scene.alike.fsr; irp = scene.alike.irp })
         (subst (λ (h : ℕ). Holds (lost x.hidden (ToByte h) f) r (with_byte m i (g (m i)))) (sym is) (lost_byte f r m scene.holds x.hidden i (g (m i))))
-        (written_alone d j i (g (m i)) is (λ b. refl)),
+        (written_alone d j i (g (m i)) is (λ b. refl)) (carried_but j i (g (m i)) is),
     own_other inside (owner x.layout i) t,
   )
   change_alone g (ToByte j) Denied is t l = tt
@@ -256,21 +281,21 @@ module _ (x : Lean) (sound : IsSound x) (inside : Bool) (rest : ℕ → Bool) (s
   change_alone g a c is t l = absurd l
 
   test_alone : (says : ℕ → Bool) (a : Aim) (c : Access) → Aims x a c → DropsTest x p.block inside n list a → Lone (test (old_program x) p first m says c)
-  test_alone says (ToByte j) (Silent i) is l = (pass true (says (m i)) (λ z. refl) f d l r m scene.alike scene.holds scene.still, tt)
+  test_alone says (ToByte j) (Silent i) is l = (pass n.carry true (says (m i)) (λ z. refl) f d l r m scene.alike scene.holds scene.still scene.carry, tt)
   test_alone says (ToByte j) Denied is l = tt
   test_alone says (ToByte j) c is l = absurd is
   test_alone says a c is l = absurd l
 
   -- ---- flags
-  put_alone : (b v : ℕ) → nat_lt b 3 ≡ true → Expects (note_ahead list) (without_zero f) (with_flag b true d) → (o : Option Registers) → with_status_bit r b v ≡ o → Lone (put_flag (old_program x) p first o)
+  put_alone : (b v : ℕ) → nat_lt b 3 ≡ true → ExpectsBy n.carry (note_ahead list) (without_zero f) (with_flag b true d) → (o : Option Registers) → with_status_bit r b v ≡ o → Lone (put_flag (old_program x) p first o)
   put_alone b v low l None is = tt
   put_alone b v low l (Some t) is =
       let z = set_alone d r s scene.alike b v t low is in
-      (moves (without_zero f) (with_flag b true d) l t m z.0 (lose_zero f r m scene.holds t z.1) (λ j e o w. scene.still j (sym (flag_bytes b true d j) ∙ e) o w), tt)
+      (moves n.carry (without_zero f) (with_flag b true d) l t m z.0 (lose_zero f r m scene.holds t z.1) (λ j e o w. scene.still j (sym (flag_bytes b true d j) ∙ e) o w) scene.carry, tt)
 
-  test_flag_alone : (v : ℕ) → Passes list true f d → (o : Option ℕ) → Lone (test_flag (old_program x) p first v o)
+  test_flag_alone : (v : ℕ) → Passes n.carry list true f d → (o : Option ℕ) → Lone (test_flag (old_program x) p first v o)
   test_flag_alone v l None = tt
-  test_flag_alone v l (Some i) = (pass true (nat_eq i v) (λ z. refl) f d l r m scene.alike scene.holds scene.still, tt)
+  test_flag_alone v l (Some i) = (pass n.carry true (nat_eq i v) (λ z. refl) f d l r m scene.alike scene.holds scene.still scene.carry, tt)
 
   flag_alone : (op : BitOperation) (b : ℕ) → DropsBit x p.block inside n list op (operands.Register Status) b → Lone (flag (old_program x) p first op b)
   flag_alone Bcf b e = put_alone b 0 e.0 e.1 (with_status_bit r b 0) refl
@@ -296,26 +321,26 @@ module _ (x : Lean) (sound : IsSound x) (inside : Bool) (rest : ℕ → Bool) (s
   literal_bytes literals.Movlw (Number v) a = number_bytes (is_number f.number v) a
   literal_bytes op value a = refl
 
-  literal_lone : (op : LiteralOperation) (value : Literal) → is_retlw op ≡ false → Expects (note_ahead list) (after_literal f op value) (dropped_literal f d op value)
+  literal_lone : (op : LiteralOperation) (value : Literal) → is_retlw op ≡ false → ExpectsBy n.carry (note_ahead list) (after_literal f op value) (dropped_literal f d op value)
       → Lone (literal (old_program x) p first op (after_row (literal_row op (literal_value x.layout value)) r))
   literal_lone op value plain_op l =
       let t = after_row (literal_row op (literal_value x.layout value)) r in
       subst Lone (sym (literal_quiet (old_program x) p first op t plain_op))
-      (moves (after_literal f op value) (dropped_literal f d op value) l t m (literal_regs op value plain_op) (literal_holds x sound inside rest scene op value)
-      (λ a z o w. scene.still a (sym (literal_bytes op value a) ∙ z) o w), tt)
+      (moves n.carry (after_literal f op value) (dropped_literal f d op value) l t m (literal_regs op value plain_op) (literal_holds x sound inside rest scene op value)
+      (λ a z o w. scene.still a (sym (literal_bytes op value a) ∙ z) o w) scene.carry, tt)
 
   plain_alone : (op : PlainOperation) → DropsPlain x p.block inside n list op → Lone (plain (old_program x) p first op)
-  plain_alone Clrw e = (moves (record f { number = Some 0; held = λ a. false; zero = true }) (record d { w = true; z = true }) e (after_row ins.Clrw r) m (clear_alone d r s scene.alike) (cleared_holds x sound inside rest scene) scene.still, tt)
-  plain_alone Nop e = (moves f d e r m scene.alike scene.holds scene.still, tt)
+  plain_alone Clrw e = (moves n.carry (record f { number = Some 0; held = λ a. false; zero = true }) (record d { w = true; z = true }) e (after_row ins.Clrw r) m (clear_alone d r s scene.alike) (cleared_holds x sound inside rest scene) scene.still scene.carry, tt)
+  plain_alone Nop e = (moves n.carry f d e r m scene.alike scene.holds scene.still scene.carry, tt)
   plain_alone Retfie e = absurd e
   plain_alone Return e = absurd e
 
-  jump_alone : (o : Option ℕ) → ((i : ℕ) → o ≡ Some i → place_in (x.rows p.block) i ≡ place_in (x.rows p.block) p.index) → Expects (noted (x.rows p.block) o) f d
+  jump_alone : (o : Option ℕ) → ((i : ℕ) → o ≡ Some i → place_in (x.rows p.block) i ≡ place_in (x.rows p.block) p.index) → ExpectsBy n.carry (noted (x.rows p.block) o) f d
       → Lone (jump_to first (option_map (λ i. stand (old_program x) (position p.block i)) o))
   jump_alone None there e = tt
   jump_alone (Some i) there e = (
-    go x sound inside rest scene (note_ahead (drop i (x.rows p.block))) f d (stand (old_program x) (position p.block i)) (under x p) (to_label x p.block i)
-        (sym (under_stand x p.block i ∙ ap (position p.block) (there i refl))) e None None refl tt r s m k scene.alike scene.holds scene.still,
+    go_by x sound inside rest scene n.carry (note_ahead (drop i (x.rows p.block))) f d (stand (old_program x) (position p.block i)) (under x p) (to_label x p.block i)
+        (sym (under_stand x p.block i ∙ ap (position p.block) (there i refl))) e None None refl tt r s m k scene.alike scene.holds scene.still scene.carry,
     tt,
   )
 

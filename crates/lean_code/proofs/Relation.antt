@@ -187,7 +187,7 @@ module _ (x : Lean) where
                 alike = covers_alike n.apart d th.registers tv.registers e.1.flags alike;
                 holds = weaker_holds n.facts f th.registers m e.0 holds;
                 note = note_of_it n to;
-                carry = λ j h. carries j (sym e.2 ∙ h);
+                carry = λ j h. carries j (e.2 j h);
               };
               same = λ a u v. same a (e.1.bytes a (or_left (n.apart.bytes a) (held ks a) u)) (or_right (n.apart.bytes a) (held ks a) u) v;
             },

@@ -151,11 +151,10 @@ covers_flags b d = (b.w || not d.w) && ((b.z || not d.z) && ((b.dc || not d.dc) 
 abbrev pub covers_bytes : List ℕ → (ℕ → Bool) → List ℕ → Bool
 covers_bytes listed differs candidates = all_of (λ a. not (differs a) || among a listed) candidates
 
--- both are none, or the same number
+-- no more is said to be carried than is
 abbrev pub same_number : Option ℕ → Option ℕ → Bool
-same_number None None = true
-same_number (Some a) (Some b) = nat_eq a b
-same_number a b = false
+same_number None carry = true
+same_number (Some a) carry = is_number carry a
 
 abbrev pub expects_by : Option ℕ → Option (Option ListedNote) → Facts → Apart → List ℕ → Bool
 expects_by carry None f d candidates = true
@@ -176,8 +175,8 @@ past (Listed s act n ∷ rows) = if is_label s then past rows else rows
 abbrev pub leads : List ListedRow → Bool → Facts → Apart → List ℕ → Bool
 leads rest can f d candidates = expects (ahead rest) f d candidates && (if can then expects (ahead (past rest)) f d candidates && keeps_first (rows_in rest) else true)
 
-abbrev pub passes : List ListedRow → Bool → Facts → Apart → List ℕ → Bool
-passes rest can f d candidates = expects (ahead rest) f d candidates && (if can then expects (ahead (past rest)) f d candidates && drops_first (rows_in rest) else true)
+abbrev pub passes : Option ℕ → List ListedRow → Bool → Facts → Apart → List ℕ → Bool
+passes carry rest can f d candidates = expects_by carry (ahead rest) f d candidates && (if can then expects_by carry (ahead (past rest)) f d candidates && drops_first (rows_in rest) else true)
 
 abbrev pub comes : Option (Option ListedNote) → ListedNote → List ℕ → Bool
 comes None k across = true
@@ -298,51 +297,55 @@ module _ (k : Sketch) (own : BlockName) (n : ListedNote) where
   is_kept rest (syms.SelectBank bit on) = expects (ahead rest) f d here_bytes
   is_kept rest (syms.SelectPage bit target) = expects (ahead rest) f d here_bytes
 
+  abbrev pub drops_carried : List ListedRow → ℕ → ℕ → Bool → Bool
+  drops_carried rest i c true = expects (ahead rest) (moved (ToByte i) f) (record d { w = false; z = true }) here_bytes
+  drops_carried rest i c false = expects_by (Some c) (ahead rest) (moved (ToByte i) f) (one_moves f i d) here_bytes
+
   abbrev pub drops_move : List ListedRow → ℕ → Option ℕ → Bool
   drops_move rest i None = expects (ahead rest) (moved (ToByte i) f) (one_moves f i d) here_bytes
-  drops_move rest i (Some c) = nat_eq c i && expects (ahead rest) (moved (ToByte i) f) (record d { w = false; z = true }) here_bytes
+  drops_move rest i (Some c) = drops_carried rest i c (nat_eq c i)
 
   abbrev pub drops_to_w : List ListedRow → FileOperation → Aim → Bool
   drops_to_w rest files.Movf (ToByte i) = drops_move rest i n.carry
-  drops_to_w rest files.Iorwf (ToByte i) = expects (ahead rest) (after_to_w files.Iorwf (ToByte i) f) (one_ors f i d) here_bytes
-  drops_to_w rest op (ToByte i) = passes rest (may_skip op) (after_to_w op (ToByte i) f) (other_w (one_sets (flags_in op) d)) here_bytes
+  drops_to_w rest files.Iorwf (ToByte i) = expects_by n.carry (ahead rest) (after_to_w files.Iorwf (ToByte i) f) (one_ors f i d) here_bytes
+  drops_to_w rest op (ToByte i) = passes n.carry rest (may_skip op) (after_to_w op (ToByte i) f) (other_w (one_sets (flags_in op) d)) here_bytes
   drops_to_w rest op a = false
 
   abbrev pub drops_to_file : List ListedRow → FileOperation → Aim → Bool
-  drops_to_file rest op (ToByte i) = passes rest (may_skip op) (lost k.hidden (ToByte i) (without_zero f)) (other_byte i (one_sets (flags_in op) d)) (i ∷ here_bytes)
+  drops_to_file rest op (ToByte i) = passes (right.carry_but i n.carry) rest (may_skip op) (lost k.hidden (ToByte i) (without_zero f)) (other_byte i (one_sets (flags_in op) d)) (i ∷ here_bytes)
   drops_to_file rest op a = false
 
   abbrev pub drops_store : List ListedRow → Aim → Bool
-  drops_store rest (ToByte i) = expects (ahead rest) (stored k.hidden (ToByte i) f) (one_stores f i d) (i ∷ here_bytes)
+  drops_store rest (ToByte i) = expects_by (right.carry_but i n.carry) (ahead rest) (stored k.hidden (ToByte i) f) (one_stores f i d) (i ∷ here_bytes)
   drops_store rest a = false
 
   abbrev pub drops_clear : List ListedRow → Aim → Bool
-  drops_clear rest (ToByte i) = expects (ahead rest) (learned k.hidden (ToByte i) (Some 0) (without_zero f)) (one_clears f i d) (i ∷ here_bytes)
+  drops_clear rest (ToByte i) = expects_by (right.carry_but i n.carry) (ahead rest) (learned k.hidden (ToByte i) (Some 0) (without_zero f)) (one_clears f i d) (i ∷ here_bytes)
   drops_clear rest a = false
 
   abbrev pub drops_change : List ListedRow → Aim → Bool
-  drops_change rest (ToByte i) = expects (ahead rest) (lost k.hidden (ToByte i) f) (other_byte i d) (i ∷ here_bytes)
+  drops_change rest (ToByte i) = expects_by (right.carry_but i n.carry) (ahead rest) (lost k.hidden (ToByte i) f) (other_byte i d) (i ∷ here_bytes)
   drops_change rest a = false
 
   abbrev pub drops_test : List ListedRow → Aim → Bool
-  drops_test rest (ToByte i) = passes rest true f d here_bytes
+  drops_test rest (ToByte i) = passes n.carry rest true f d here_bytes
   drops_test rest a = false
 
   abbrev pub drops_bit : List ListedRow → BitOperation → Operand → ℕ → Bool
-  drops_bit rest bit_ops.Bcf (operands.Register Status) b = nat_lt b 3 && expects (ahead rest) (without_zero f) (with_flag b true d) here_bytes
-  drops_bit rest bit_ops.Bsf (operands.Register Status) b = nat_lt b 3 && expects (ahead rest) (without_zero f) (with_flag b true d) here_bytes
-  drops_bit rest op (operands.Register Status) b = passes rest true f d here_bytes
+  drops_bit rest bit_ops.Bcf (operands.Register Status) b = nat_lt b 3 && expects_by n.carry (ahead rest) (without_zero f) (with_flag b true d) here_bytes
+  drops_bit rest bit_ops.Bsf (operands.Register Status) b = nat_lt b 3 && expects_by n.carry (ahead rest) (without_zero f) (with_flag b true d) here_bytes
+  drops_bit rest op (operands.Register Status) b = passes n.carry rest true f d here_bytes
   drops_bit rest bit_ops.Bcf operand b = drops_change rest (write operand)
   drops_bit rest bit_ops.Bsf operand b = drops_change rest (write operand)
   drops_bit rest op operand b = drops_test rest (read operand)
 
   abbrev pub drops_plain : List ListedRow → PlainOperation → Bool
-  drops_plain rest plains.Clrw = expects (ahead rest) (record f { number = Some 0; held = λ a. false; zero = true }) (record d { w = true; z = true }) here_bytes
-  drops_plain rest plains.Nop = expects (ahead rest) f d here_bytes
+  drops_plain rest plains.Clrw = expects_by n.carry (ahead rest) (record f { number = Some 0; held = λ a. false; zero = true }) (record d { w = true; z = true }) here_bytes
+  drops_plain rest plains.Nop = expects_by n.carry (ahead rest) f d here_bytes
   drops_plain rest op = false
 
   abbrev pub drops_goto : ℕ → Target → Bool
-  drops_goto here (targets.Label (labels.Inner l)) = expects (at_label (labels.Inner l)) f d here_bytes && is_here block.rows here (label_from (olds (rows_in block.rows)) (labels.Inner l) 0)
+  drops_goto here (targets.Label (labels.Inner l)) = expects_by n.carry (at_label (labels.Inner l)) f d here_bytes && is_here block.rows here (label_from (olds (rows_in block.rows)) (labels.Inner l) 0)
   drops_goto here target = false
 
   abbrev pub is_left_out : ℕ → List ListedRow → Sym → Bool
@@ -351,7 +354,7 @@ module _ (k : Sketch) (own : BlockName) (n : ListedNote) where
   is_left_out here rest (syms.Movwf operand) = drops_store rest (write operand)
   is_left_out here rest (syms.Clrf operand) = drops_clear rest (write operand)
   is_left_out here rest (syms.Bit op operand b) = drops_bit rest op operand b
-  is_left_out here rest (syms.Literal op value) = not (is_retlw op) && expects (ahead rest) (right.after_literal f op value) (right.dropped_literal f d op value) here_bytes
+  is_left_out here rest (syms.Literal op value) = not (is_retlw op) && expects_by n.carry (ahead rest) (right.after_literal f op value) (right.dropped_literal f d op value) here_bytes
   is_left_out here rest (syms.Plain op) = drops_plain rest op
   is_left_out here rest (syms.Goto target) = drops_goto here target
   is_left_out here rest s = false

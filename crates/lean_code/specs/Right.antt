@@ -31,10 +31,19 @@ use Rattle.lean_code.specs.Changes.{Weaker, CoversFlags, Covers, Aim, ToByte, Th
 
 -- ---- where the code goes on
 -- With these facts, and this apart, where something stands.
+-- no more is said to be carried than is
+abbrev pub Claims : Option ℕ → Option ℕ → Type 0
+Claims said carry = (j : ℕ) → said ≡ Some j → carry ≡ Some j
+
+-- what is carried behind a write of byte k on one machine
+abbrev pub carry_but : ℕ → Option ℕ → Option ℕ
+carry_but k None = None
+carry_but k (Some j) = if nat_eq j k then None else Some j
+
 abbrev pub ExpectsBy : Option ℕ → Option (Option Note) → Facts → Apart → Type 0
 ExpectsBy carry None f d = Unit {0}
 ExpectsBy carry (Some None) f d = ⊥
-ExpectsBy carry (Some (Some n)) f d = Weaker n.facts f × Covers n.apart d × (n.carry ≡ carry)
+ExpectsBy carry (Some (Some n)) f d = Weaker n.facts f × Covers n.apart d × Claims n.carry carry
 
 abbrev pub Expects : Option (Option Note) → Facts → Apart → Type 0
 Expects o f d = ExpectsBy None o f d
@@ -50,26 +59,26 @@ Leads rest false f d = Expects (note_ahead rest) f d
 Leads rest true f d = LeadsBoth rest f d
 
 -- behind one that is left out
-pub record PassesBoth (rest : List Row) (f : Facts) (d : Apart) : Type 0 where
-  pub runs : Expects (note_ahead rest) f d
-  pub skips : Expects (note_ahead (past rest)) f d
+pub record PassesBoth (carry : Option ℕ) (rest : List Row) (f : Facts) (d : Apart) : Type 0 where
+  pub runs : ExpectsBy carry (note_ahead rest) f d
+  pub skips : ExpectsBy carry (note_ahead (past rest)) f d
   pub drops : drops_first rest ≡ true
 
-abbrev pub Passes : List Row → Bool → Facts → Apart → Type 0
-Passes rest false f d = Expects (note_ahead rest) f d
-Passes rest true f d = PassesBoth rest f d
+abbrev pub Passes : Option ℕ → List Row → Bool → Facts → Apart → Type 0
+Passes carry rest false f d = ExpectsBy carry (note_ahead rest) f d
+Passes carry rest true f d = PassesBoth carry rest f d
 
 -- behind a call that leaves k, where these bytes may differ meanwhile
 abbrev pub Comes : Option (Option Note) → Note → (ℕ → Bool) → Type 0
 Comes None k across = Unit {0}
 Comes (Some None) k across = ⊥
-Comes (Some (Some n)) k across = Weaker n.facts k.facts × CoversFlags n.apart k.apart × (n.carry ≡ None) × ((a : ℕ) → n.apart.bytes a ≡ false → (k.apart.bytes a ≡ false) × (across a ≡ false))
+Comes (Some (Some n)) k across = Weaker n.facts k.facts × CoversFlags n.apart k.apart × Claims n.carry None × ((a : ℕ) → n.apart.bytes a ≡ false → (k.apart.bytes a ≡ false) × (across a ≡ false))
 
 -- at the front of what is called; none of the caller's bytes are read there
 abbrev pub Enters : Option (Option Note) → Note → Type 0
 Enters None n = Unit {0}
 Enters (Some None) n = ⊥
-Enters (Some (Some k)) n = Weaker k.facts n.facts × CoversFlags k.apart n.apart × (k.carry ≡ None)
+Enters (Some (Some k)) n = Weaker k.facts n.facts × CoversFlags k.apart n.apart × Claims k.carry None
 
 -- at an index, if there is one
 abbrev pub noted : List Row → Option ℕ → Option (Option Note)
@@ -173,53 +182,57 @@ module _ (x : Lean) (own : BlockName) (inside : Bool) (n : Note) where
 
   -- ---- only the given code has it
   -- W may be on the other machine already what is read
+  abbrev pub DropsCarried : List Row → ℕ → ℕ → Bool → Type 0
+  DropsCarried rest k c true = Expects (note_ahead rest) (moved (ToByte k) f) (record d { w = false; z = true })
+  DropsCarried rest k c false = ExpectsBy (Some c) (note_ahead rest) (moved (ToByte k) f) (one_moves f k d)
+
   abbrev pub DropsMove : List Row → ℕ → Option ℕ → Type 0
   DropsMove rest k None = Expects (note_ahead rest) (moved (ToByte k) f) (one_moves f k d)
-  DropsMove rest k (Some c) = (c ≡ k) × Expects (note_ahead rest) (moved (ToByte k) f) (record d { w = false; z = true })
+  DropsMove rest k (Some c) = DropsCarried rest k c (nat_eq c k)
 
   abbrev pub DropsToW : List Row → FileOperation → Aim → Type 0
   DropsToW rest files.Movf (ToByte k) = DropsMove rest k n.carry
-  DropsToW rest files.Iorwf (ToByte k) = Expects (note_ahead rest) (after_to_w files.Iorwf (ToByte k) f) (one_ors f k d)
-  DropsToW rest op (ToByte k) = Passes rest (may_skip op) (after_to_w op (ToByte k) f) (other_w (one_sets (flags_in op) d))
+  DropsToW rest files.Iorwf (ToByte k) = ExpectsBy n.carry (note_ahead rest) (after_to_w files.Iorwf (ToByte k) f) (one_ors f k d)
+  DropsToW rest op (ToByte k) = Passes n.carry rest (may_skip op) (after_to_w op (ToByte k) f) (other_w (one_sets (flags_in op) d))
   DropsToW rest op aim = ⊥
 
   abbrev pub DropsToFile : List Row → FileOperation → Aim → Type 0
-  DropsToFile rest op (ToByte k) = Passes rest (may_skip op) (lost x.hidden (ToByte k) (without_zero f)) (other_byte k (one_sets (flags_in op) d))
+  DropsToFile rest op (ToByte k) = Passes (carry_but k n.carry) rest (may_skip op) (lost x.hidden (ToByte k) (without_zero f)) (other_byte k (one_sets (flags_in op) d))
   DropsToFile rest op aim = ⊥
 
   abbrev pub DropsStore : List Row → Aim → Type 0
-  DropsStore rest (ToByte k) = Expects (note_ahead rest) (stored x.hidden (ToByte k) f) (one_stores f k d)
+  DropsStore rest (ToByte k) = ExpectsBy (carry_but k n.carry) (note_ahead rest) (stored x.hidden (ToByte k) f) (one_stores f k d)
   DropsStore rest aim = ⊥
 
   abbrev pub DropsClear : List Row → Aim → Type 0
-  DropsClear rest (ToByte k) = Expects (note_ahead rest) (learned x.hidden (ToByte k) (Some 0) (without_zero f)) (one_clears f k d)
+  DropsClear rest (ToByte k) = ExpectsBy (carry_but k n.carry) (note_ahead rest) (learned x.hidden (ToByte k) (Some 0) (without_zero f)) (one_clears f k d)
   DropsClear rest aim = ⊥
 
   abbrev pub DropsChange : List Row → Aim → Type 0
-  DropsChange rest (ToByte k) = Expects (note_ahead rest) (lost x.hidden (ToByte k) f) (other_byte k d)
+  DropsChange rest (ToByte k) = ExpectsBy (carry_but k n.carry) (note_ahead rest) (lost x.hidden (ToByte k) f) (other_byte k d)
   DropsChange rest aim = ⊥
 
   abbrev pub DropsTest : List Row → Aim → Type 0
-  DropsTest rest (ToByte k) = Passes rest true f d
+  DropsTest rest (ToByte k) = Passes n.carry rest true f d
   DropsTest rest aim = ⊥
 
   abbrev pub DropsBit : List Row → BitOperation → Operand → ℕ → Type 0
-  DropsBit rest bit_ops.Bcf (operands.Register Status) b = (nat_lt b 3 ≡ true) × Expects (note_ahead rest) (without_zero f) (with_flag b true d)
-  DropsBit rest bit_ops.Bsf (operands.Register Status) b = (nat_lt b 3 ≡ true) × Expects (note_ahead rest) (without_zero f) (with_flag b true d)
-  DropsBit rest op (operands.Register Status) b = Passes rest true f d
+  DropsBit rest bit_ops.Bcf (operands.Register Status) b = (nat_lt b 3 ≡ true) × ExpectsBy n.carry (note_ahead rest) (without_zero f) (with_flag b true d)
+  DropsBit rest bit_ops.Bsf (operands.Register Status) b = (nat_lt b 3 ≡ true) × ExpectsBy n.carry (note_ahead rest) (without_zero f) (with_flag b true d)
+  DropsBit rest op (operands.Register Status) b = Passes n.carry rest true f d
   DropsBit rest bit_ops.Bcf operand b = DropsChange rest (write operand)
   DropsBit rest bit_ops.Bsf operand b = DropsChange rest (write operand)
   DropsBit rest op operand b = DropsTest rest (read operand)
 
   abbrev pub DropsPlain : List Row → PlainOperation → Type 0
-  DropsPlain rest plains.Clrw = Expects (note_ahead rest) (record f { number = Some 0; held = λ a. false; zero = true }) (record d { w = true; z = true })
-  DropsPlain rest plains.Nop = Expects (note_ahead rest) f d
+  DropsPlain rest plains.Clrw = ExpectsBy n.carry (note_ahead rest) (record f { number = Some 0; held = λ a. false; zero = true }) (record d { w = true; z = true })
+  DropsPlain rest plains.Nop = ExpectsBy n.carry (note_ahead rest) f d
   DropsPlain rest op = ⊥
 
   -- A jump goes where the code that is made stands already; here is that place.
   abbrev pub DropsGoto : ℕ → Target → Type 0
   DropsGoto here (targets.Label (labels.Inner k)) =
-      Expects (at_label (labels.Inner k)) f d × ((i : ℕ) → label_from (olds (x.rows own)) (labels.Inner k) 0 ≡ Some i → place_in (x.rows own) i ≡ here)
+      ExpectsBy n.carry (at_label (labels.Inner k)) f d × ((i : ℕ) → label_from (olds (x.rows own)) (labels.Inner k) 0 ≡ Some i → place_in (x.rows own) i ≡ here)
   DropsGoto here target = ⊥
 
   abbrev pub IsDropped : ℕ → List Row → Sym → Type 0
@@ -228,7 +241,7 @@ module _ (x : Lean) (own : BlockName) (inside : Bool) (n : Note) where
   IsDropped here rest (syms.Movwf operand) = DropsStore rest (write operand)
   IsDropped here rest (syms.Clrf operand) = DropsClear rest (write operand)
   IsDropped here rest (syms.Bit op operand b) = DropsBit rest op operand b
-  IsDropped here rest (syms.Literal op value) = (is_retlw op ≡ false) × Expects (note_ahead rest) (after_literal f op value) (dropped_literal f d op value)
+  IsDropped here rest (syms.Literal op value) = (is_retlw op ≡ false) × ExpectsBy n.carry (note_ahead rest) (after_literal f op value) (dropped_literal f d op value)
   IsDropped here rest (syms.Plain op) = DropsPlain rest op
   IsDropped here rest (syms.Goto target) = DropsGoto here target
   IsDropped here rest s = ⊥
@@ -277,7 +290,7 @@ pub record IsRightAt (x : Lean) (own : BlockName) (j : ℕ) (s : Sym) (act : Act
 abbrev pub Begins : (ℕ → Bool) → Option (Option Note) → Type 0
 Begins rest None = Unit {0}
 Begins rest (Some None) = ⊥
-Begins rest (Some (Some n)) = Weaker n.facts nothing_known × (n.carry ≡ None) × ((a : ℕ) → n.apart.bytes a ≡ false → rest a ≡ false)
+Begins rest (Some (Some n)) = Weaker n.facts nothing_known × Claims n.carry None × ((a : ℕ) → n.apart.bytes a ≡ false → rest a ≡ false)
 
 abbrev pub BeginsAt : Lean → Option ℕ → Type 0
 BeginsAt x None = Unit {0}

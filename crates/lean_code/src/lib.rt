@@ -29,7 +29,7 @@ pub fn rows_shrink()
     ensures kept { RowsKeep }
 {}
 
-/// A certificate of a program of fifteen instructions, of which seven are left, passes the test.
+/// A certificate of a program of fifteen instructions, of which six are left, passes the test.
 pub fn sample_passes()
     ensures { SamplePasses }
 {}
