@@ -159,10 +159,12 @@ module _ (x : Lean) (sound : IsSound x) (inside : Bool) (rest : ℕ → Bool) (s
 
   or_alone : (j i : ℕ) → j ≡ i → Expects (note_ahead list) (after_to_w files.Iorwf (ToByte j) f) (one_ors f j d) → Lone (file_to_w (old_program x) p first m files.Iorwf (Silent i))
   unfolding skips_with
-  or_alone j i is l =
-      (moves (after_to_w files.Iorwf (ToByte j) f) (one_ors f j d) l (record (flags_with r files.Iorwf (m i)) { w = result_with r files.Iorwf (m i) }) m
-      (or_regs j i is (is_number (f.known j) 0) refl)
-      (to_w_holds f r m scene.holds files.Iorwf (ToByte j) (m i) (λ h e. ap m (sym is ∙ aim_eq j h e))) (λ a z o w. scene.still a (sym (or_bytes (is_number (f.known j) 0) a) ∙ z) o w), tt)
+  or_alone j i is l = (
+    moves (after_to_w files.Iorwf (ToByte j) f) (one_ors f j d) l (record (flags_with r files.Iorwf (m i)) { w = result_with r files.Iorwf (m i) }) m
+        (or_regs j i is (is_number (f.known j) 0) refl)
+        (to_w_holds f r m scene.holds files.Iorwf (ToByte j) (m i) (λ h e. ap m (sym is ∙ aim_eq j h e))) (λ a z o w. scene.still a (sym (or_bytes (is_number (f.known j) 0) a) ∙ z) o w),
+    tt,
+  )
 
   file_to_w_alone : (op : FileOperation) (a : Aim) (c : Access) → Aims x a c → DropsToW x p.block inside n list op a → Lone (file_to_w (old_program x) p first m op c)
   file_to_w_alone files.Movf (ToByte j) (Silent i) is l = move_alone j i is l
@@ -220,11 +222,13 @@ module _ (x : Lean) (sound : IsSound x) (inside : Bool) (rest : ℕ → Bool) (s
   clear_bytes false j i is none a z o w = written_alone (record d { z = true }) j i 0 is (λ b. refl) a z o w
 
   clear_byte_alone : (a : Aim) (c : Access) → Aims x a c → Told x inside true c → DropsClear x p.block inside n list a → Lone (store (old_program x) p first (record r { z = 1 }) 0 c)
-  clear_byte_alone (ToByte j) (Silent i) is t l =
-      (moves (learned x.hidden (ToByte j) (Some 0) (without_zero f)) (one_clears f j d) l (record r { z = 1 }) (with_byte m i 0) (clear_regs (is_number (f.known j) 0) j)
-      (subst (λ (h : ℕ). Holds (learned x.hidden (ToByte h) (Some 0) (without_zero f)) (record r { z = 1 }) (with_byte m i 0)) (sym is)
-      (learned_byte x.hidden (without_zero f) (record r { z = 1 }) m i 0 (lose_zero f r m scene.holds (record r { z = 1 }) refl)))
-      (clear_bytes (is_number (f.known j) 0) j i is (λ e. ap m (sym is) ∙ scene.holds.known j 0 (number_of (f.known j) 0 e))), own_other inside (owner x.layout i) t)
+  clear_byte_alone (ToByte j) (Silent i) is t l = (
+    moves (learned x.hidden (ToByte j) (Some 0) (without_zero f)) (one_clears f j d) l (record r { z = 1 }) (with_byte m i 0) (clear_regs (is_number (f.known j) 0) j)
+        (subst (λ (h : ℕ). Holds (learned x.hidden (ToByte h) (Some 0) (without_zero f)) (record r { z = 1 }) (with_byte m i 0)) (sym is)
+        (learned_byte x.hidden (without_zero f) (record r { z = 1 }) m i 0 (lose_zero f r m scene.holds (record r { z = 1 }) refl)))
+        (clear_bytes (is_number (f.known j) 0) j i is (λ e. ap m (sym is) ∙ scene.holds.known j 0 (number_of (f.known j) 0 e))),
+    own_other inside (owner x.layout i) t,
+  )
   clear_byte_alone (ToByte j) Denied is t l = tt
   clear_byte_alone (ToByte j) c is t l = absurd is
   clear_byte_alone a c is t l = absurd l
@@ -287,9 +291,11 @@ module _ (x : Lean) (sound : IsSound x) (inside : Bool) (rest : ℕ → Bool) (s
       → Lone (literal (old_program x) p first op (after_row (literal_row op (literal_value x.layout value)) r))
   literal_lone op value plain_op l =
       let t = after_row (literal_row op (literal_value x.layout value)) r in
-      subst Lone (sym (literal_quiet (old_program x) p first op t plain_op))
-      (moves (after_literal f op value) (dropped_literal f d op value) l t m (literal_regs op value plain_op) (literal_holds x sound inside rest scene op value)
-      (λ a z o w. scene.still a (sym (literal_bytes op value a) ∙ z) o w), tt)
+      subst Lone (sym (literal_quiet (old_program x) p first op t plain_op)) (
+        moves (after_literal f op value) (dropped_literal f d op value) l t m (literal_regs op value plain_op) (literal_holds x sound inside rest scene op value)
+            (λ a z o w. scene.still a (sym (literal_bytes op value a) ∙ z) o w),
+        tt,
+      )
 
   plain_alone : (op : PlainOperation) → DropsPlain x p.block inside n list op → Lone (plain (old_program x) p first op)
   plain_alone Clrw e = (moves (record f { number = Some 0; held = λ a. false; zero = true }) (record d { w = true; z = true }) e (after_row ins.Clrw r) m (clear_alone d r s scene.alike) (cleared_holds x sound inside rest scene) scene.still, tt)
