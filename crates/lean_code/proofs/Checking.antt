@@ -147,10 +147,11 @@ expects_by_is carry (Some (Some n)) f d candidates within e =
     let three = covers_bytes n.apart.bytes d.bytes candidates in
     let four = same_number n.carry carry in
     let more = and_r one (two && (three && four)) e in
-    let last = and_r two (three && four) more in
-    (gives_is f n.facts (and_l one (two && (three && four)) e),
-    record { flags = flags_are n.apart d (and_l two (three && four) more); bytes = bytes_are n.apart.bytes d candidates within (and_l three four last) },
-    numbers_are n.carry carry (and_r three four last))
+    let last = and_r two (three && four) more in (
+      gives_is f n.facts (and_l one (two && (three && four)) e),
+      record { flags = flags_are n.apart d (and_l two (three && four) more); bytes = bytes_are n.apart.bytes d candidates within (and_l three four last) },
+      numbers_are n.carry carry (and_r three four last),
+    )
 
 expects_is : (q : Option (Option ListedNote)) (f : Facts) (d : Apart) (candidates : List ℕ) → Within d candidates → expects q f d candidates ≡ true → Expects (option_map (option_map note_in) q) f d
 expects_is q f d candidates within e = expects_by_is None q f d candidates within e
@@ -234,9 +235,12 @@ comes_is (Some (Some n)) k across e =
     let five = same_number n.carry None in
     let more = and_r one (two && (three && (four && five))) e in
     let last = and_r two (three && (four && five)) more in
-    let end = and_r three (four && five) last in
-    (gives_is (facts_in k.facts) n.facts (and_l one (two && (three && (four && five))) e), flags_are n.apart (apart_in k.apart) (and_l two (three && (four && five)) more), numbers_are n.carry None (and_r four five end),
-    λ a h. (all_not (λ j. among j n.apart.bytes) k.apart.bytes (and_l three (four && five) last) a h, all_not (λ j. among j n.apart.bytes) across (and_l four five end) a h))
+    let end = and_r three (four && five) last in (
+      gives_is (facts_in k.facts) n.facts (and_l one (two && (three && (four && five))) e),
+      flags_are n.apart (apart_in k.apart) (and_l two (three && (four && five)) more),
+      numbers_are n.carry None (and_r four five end),
+      λ a h. (all_not (λ j. among j n.apart.bytes) k.apart.bytes (and_l three (four && five) last) a h, all_not (λ j. among j n.apart.bytes) across (and_l four five end) a h),
+    )
 
 -- ---- candidates
 within_same : (a : Aim) (d : Apart) (candidates : List ℕ) → Within d candidates → Within (same_byte a d) candidates
@@ -566,9 +570,13 @@ module _ (k : Sketch) (limit : Bool → ℕ) (old_page new_page : BlockName → 
       let five = expects_by (Some i) (ahead rest) g h (i ∷ bytes) in
       let b = and_r one (two && (three && (four && five))) e in
       let c = and_r two (three && (four && five)) b in
-      let w = and_r three (four && five) c in
-      (uses_are op (and_l one (two && (three && (four && five))) e), same_at (ToByte i) (and_l two (three && (four && five)) b), is_not (may_skip op) (and_l three (four && five) c), eqb-true j i (and_l four five w),
-      expects_by_at (Some i) rest g h (i ∷ bytes) (within_other i (both_set (flags_in op) d) bytes (λ z o. o)) (and_r four five w))
+      let w = and_r three (four && five) c in (
+        uses_are op (and_l one (two && (three && (four && five))) e),
+        same_at (ToByte i) (and_l two (three && (four && five)) b),
+        is_not (may_skip op) (and_l three (four && five) c),
+        eqb-true j i (and_l four five w),
+        expects_by_at (Some i) rest g h (i ∷ bytes) (within_other i (both_set (flags_in op) d) bytes (λ z o. o)) (and_r four five w),
+      )
   narrows_for_is rest op a b e = never e
 
   narrowed_is : (rest : List ListedRow) (s : Sym) → is_narrowed k own n rest s ≡ true → right.IsNarrowed x own inside (note_in n) (rows_in rest) s

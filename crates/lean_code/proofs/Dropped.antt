@@ -160,17 +160,21 @@ module _ (x : Lean) (sound : IsSound x) (inside : Bool) (rest : ℕ → Bool) (s
   -- W of the other machine is what is read
   carry_alone : (j i c : ℕ) → j ≡ i → n.carry ≡ Some c → (q : Bool) → nat_eq c j ≡ q → DropsCarried x p.block inside n list j c q → Lone (file_to_w (old_program x) p first m files.Movf (Silent i))
   unfolding skips_with
-  carry_alone j i c is carried true q l =
-      (moves None (moved (ToByte j) f) (record d { w = false; z = true }) l (record (flags_with r files.Movf (m i)) { w = result_with r files.Movf (m i) }) m
-      (subst (λ (t : Registers). Alike (record d { w = false; z = true }) t s) (sym (move_is r (m i)))
-      (record { w = λ e. ap m (sym (eqb-true c j q ∙ is)) ∙ scene.carry c carried; z = λ e. never (sym e); dc = scene.alike.dc; c = scene.alike.c; fsr = scene.alike.fsr; irp = scene.alike.irp }))
-      (to_w_holds f r m scene.holds files.Movf (ToByte j) (m i) (λ h e. ap m (sym is ∙ aim_eq j h e))) scene.still (none_carried m), tt)
+  carry_alone j i c is carried true q l = (
+    moves None (moved (ToByte j) f) (record d { w = false; z = true }) l (record (flags_with r files.Movf (m i)) { w = result_with r files.Movf (m i) }) m
+        (subst (λ (t : Registers). Alike (record d { w = false; z = true }) t s) (sym (move_is r (m i)))
+        (record { w = λ e. ap m (sym (eqb-true c j q ∙ is)) ∙ scene.carry c carried; z = λ e. never (sym e); dc = scene.alike.dc; c = scene.alike.c; fsr = scene.alike.fsr; irp = scene.alike.irp }))
+        (to_w_holds f r m scene.holds files.Movf (ToByte j) (m i) (λ h e. ap m (sym is ∙ aim_eq j h e))) scene.still (none_carried m),
+    tt,
+  )
   carry_alone j i c is carried false q l =
-      let same : f.held j ≡ true → r.w ≡ m i = λ e. scene.holds.held j e ∙ ap m is in
-      (moves (Some c) (moved (ToByte j) f) (one_moves f j d) l (record (flags_with r files.Movf (m i)) { w = result_with r files.Movf (m i) }) m
-      (subst (λ (t : Registers). Alike (one_moves f j d) t s) (sym (move_is r (m i)))
-      (record { w = λ e. w_if (f.held j) d.w (m i) r.w same scene.alike.w e; z = λ e. z_if (f.held j) f.zero d.z (m i) same scene.holds.zero scene.alike.z e; dc = scene.alike.dc; c = scene.alike.c; fsr = scene.alike.fsr; irp = scene.alike.irp }))
-      (to_w_holds f r m scene.holds files.Movf (ToByte j) (m i) (λ h e. ap m (sym is ∙ aim_eq j h e))) scene.still (λ h e. scene.carry h (carried ∙ e)), tt)
+      let same : f.held j ≡ true → r.w ≡ m i = λ e. scene.holds.held j e ∙ ap m is in (
+        moves (Some c) (moved (ToByte j) f) (one_moves f j d) l (record (flags_with r files.Movf (m i)) { w = result_with r files.Movf (m i) }) m
+            (subst (λ (t : Registers). Alike (one_moves f j d) t s) (sym (move_is r (m i)))
+            (record { w = λ e. w_if (f.held j) d.w (m i) r.w same scene.alike.w e; z = λ e. z_if (f.held j) f.zero d.z (m i) same scene.holds.zero scene.alike.z e; dc = scene.alike.dc; c = scene.alike.c; fsr = scene.alike.fsr; irp = scene.alike.irp }))
+            (to_w_holds f r m scene.holds files.Movf (ToByte j) (m i) (λ h e. ap m (sym is ∙ aim_eq j h e))) scene.still (λ h e. scene.carry h (carried ∙ e)),
+        tt,
+      )
 
   move_by : (o : Option ℕ) → n.carry ≡ o → (j i : ℕ) → j ≡ i → DropsMove x p.block inside n list j o → Lone (file_to_w (old_program x) p first m files.Movf (Silent i))
   move_by None e j i is l = move_alone j i is l
@@ -197,10 +201,12 @@ module _ (x : Lean) (sound : IsSound x) (inside : Bool) (rest : ℕ → Bool) (s
 
   or_alone : (j i : ℕ) → j ≡ i → ExpectsBy n.carry (note_ahead list) (after_to_w files.Iorwf (ToByte j) f) (one_ors f j d) → Lone (file_to_w (old_program x) p first m files.Iorwf (Silent i))
   unfolding skips_with
-  or_alone j i is l =
-      (moves n.carry (after_to_w files.Iorwf (ToByte j) f) (one_ors f j d) l (record (flags_with r files.Iorwf (m i)) { w = result_with r files.Iorwf (m i) }) m
-      (or_regs j i is (is_number (f.known j) 0) refl)
-      (to_w_holds f r m scene.holds files.Iorwf (ToByte j) (m i) (λ h e. ap m (sym is ∙ aim_eq j h e))) (λ a z o w. scene.still a (sym (or_bytes (is_number (f.known j) 0) a) ∙ z) o w) scene.carry, tt)
+  or_alone j i is l = (
+    moves n.carry (after_to_w files.Iorwf (ToByte j) f) (one_ors f j d) l (record (flags_with r files.Iorwf (m i)) { w = result_with r files.Iorwf (m i) }) m
+        (or_regs j i is (is_number (f.known j) 0) refl)
+        (to_w_holds f r m scene.holds files.Iorwf (ToByte j) (m i) (λ h e. ap m (sym is ∙ aim_eq j h e))) (λ a z o w. scene.still a (sym (or_bytes (is_number (f.known j) 0) a) ∙ z) o w) scene.carry,
+    tt,
+  )
 
   file_to_w_alone : (op : FileOperation) (a : Aim) (c : Access) → Aims x a c → DropsToW x p.block inside n list op a → Lone (file_to_w (old_program x) p first m op c)
   file_to_w_alone files.Movf (ToByte j) (Silent i) is l = move_by n.carry refl j i is l
@@ -258,11 +264,13 @@ module _ (x : Lean) (sound : IsSound x) (inside : Bool) (rest : ℕ → Bool) (s
   clear_bytes false j i is none a z o w = written_alone (record d { z = true }) j i 0 is (λ b. refl) a z o w
 
   clear_byte_alone : (a : Aim) (c : Access) → Aims x a c → Told x inside true c → DropsClear x p.block inside n list a → Lone (store (old_program x) p first (record r { z = 1 }) 0 c)
-  clear_byte_alone (ToByte j) (Silent i) is t l =
-      (moves (carry_but j n.carry) (learned x.hidden (ToByte j) (Some 0) (without_zero f)) (one_clears f j d) l (record r { z = 1 }) (with_byte m i 0) (clear_regs (is_number (f.known j) 0) j)
-      (subst (λ (h : ℕ). Holds (learned x.hidden (ToByte h) (Some 0) (without_zero f)) (record r { z = 1 }) (with_byte m i 0)) (sym is)
-      (learned_byte x.hidden (without_zero f) (record r { z = 1 }) m i 0 (lose_zero f r m scene.holds (record r { z = 1 }) refl)))
-      (clear_bytes (is_number (f.known j) 0) j i is (λ e. ap m (sym is) ∙ scene.holds.known j 0 (number_of (f.known j) 0 e))) (carried_but j i 0 is), own_other inside (owner x.layout i) t)
+  clear_byte_alone (ToByte j) (Silent i) is t l = (
+    moves (carry_but j n.carry) (learned x.hidden (ToByte j) (Some 0) (without_zero f)) (one_clears f j d) l (record r { z = 1 }) (with_byte m i 0) (clear_regs (is_number (f.known j) 0) j)
+        (subst (λ (h : ℕ). Holds (learned x.hidden (ToByte h) (Some 0) (without_zero f)) (record r { z = 1 }) (with_byte m i 0)) (sym is)
+        (learned_byte x.hidden (without_zero f) (record r { z = 1 }) m i 0 (lose_zero f r m scene.holds (record r { z = 1 }) refl)))
+        (clear_bytes (is_number (f.known j) 0) j i is (λ e. ap m (sym is) ∙ scene.holds.known j 0 (number_of (f.known j) 0 e))) (carried_but j i 0 is),
+    own_other inside (owner x.layout i) t,
+  )
   clear_byte_alone (ToByte j) Denied is t l = tt
   clear_byte_alone (ToByte j) c is t l = absurd is
   clear_byte_alone a c is t l = absurd l
@@ -325,9 +333,11 @@ module _ (x : Lean) (sound : IsSound x) (inside : Bool) (rest : ℕ → Bool) (s
       → Lone (literal (old_program x) p first op (after_row (literal_row op (literal_value x.layout value)) r))
   literal_lone op value plain_op l =
       let t = after_row (literal_row op (literal_value x.layout value)) r in
-      subst Lone (sym (literal_quiet (old_program x) p first op t plain_op))
-      (moves n.carry (after_literal f op value) (dropped_literal f d op value) l t m (literal_regs op value plain_op) (literal_holds x sound inside rest scene op value)
-      (λ a z o w. scene.still a (sym (literal_bytes op value a) ∙ z) o w) scene.carry, tt)
+      subst Lone (sym (literal_quiet (old_program x) p first op t plain_op)) (
+        moves n.carry (after_literal f op value) (dropped_literal f d op value) l t m (literal_regs op value plain_op) (literal_holds x sound inside rest scene op value)
+            (λ a z o w. scene.still a (sym (literal_bytes op value a) ∙ z) o w) scene.carry,
+        tt,
+      )
 
   plain_alone : (op : PlainOperation) → DropsPlain x p.block inside n list op → Lone (plain (old_program x) p first op)
   plain_alone Clrw e = (moves n.carry (record f { number = Some 0; held = λ a. false; zero = true }) (record d { w = true; z = true }) e (after_row ins.Clrw r) m (clear_alone d r s scene.alike) (cleared_holds x sound inside rest scene) scene.still scene.carry, tt)
