@@ -1,0 +1,744 @@
+-- A certificate that passes the test is right.
+use Rattle.std.proofs.Common.{◌≡◌, ℕ, zero, suc, ◌+◌, Bool, true, false, not, ◌&&◌, ◌||◌, if◌then◌else◌, List, [], ◌∷◌, drop, Option, Some, None, option_map, slice_get, refl, sym, ap, ◌∙◌, subst, arith}
+use Rattle.std.specs.Prelude.{nat_eq, nat_lt}
+use Rattle.std.proofs.lemmas.Bool.{eqb-true}
+use Rattle.std.proofs.lemmas.Option.{none-some}
+use Rattle.sym_code.specs.Layout.{owner}
+use Rattle.sym_code.specs.Programs.{same_name, label_from, lands, front}
+use Rattle.sym_code.specs.declared.code.BitOperation.{BitOperation}
+use Rattle.sym_code.specs.declared.code.BitOperation.TheVariants.{Bcf, Bsf, Btfsc, Btfss}
+use Rattle.sym_code.specs.declared.code.BlockName.{BlockName}
+use Rattle.sym_code.specs.declared.code.BlockName.TheVariants as names
+use Rattle.sym_code.specs.declared.code.FileOperation.{FileOperation}
+use Rattle.sym_code.specs.declared.code.FileOperation.TheVariants as files
+use Rattle.sym_code.specs.declared.code.Into.{Into}
+use Rattle.sym_code.specs.declared.code.Into.TheVariants as into
+use Rattle.sym_code.specs.declared.code.Label.TheVariants as labels
+use Rattle.sym_code.specs.declared.code.Literal.{Literal}
+use Rattle.sym_code.specs.declared.code.Literal.TheVariants.{Number}
+use Rattle.sym_code.specs.declared.code.LiteralOperation.{LiteralOperation}
+use Rattle.sym_code.specs.declared.code.LiteralOperation.TheVariants as literals
+use Rattle.sym_code.specs.declared.code.Operand.{Operand}
+use Rattle.sym_code.specs.declared.code.Operand.TheVariants as operands
+use Rattle.sym_code.specs.declared.code.PlainOperation.{PlainOperation}
+use Rattle.sym_code.specs.declared.code.PlainOperation.TheVariants.{Clrw, Nop, Retfie, Return}
+use Rattle.sym_code.specs.declared.code.Register.TheVariants.{Status}
+use Rattle.sym_code.specs.declared.code.Sym.{Sym}
+use Rattle.sym_code.specs.declared.code.Sym.TheVariants as syms
+use Rattle.sym_code.specs.declared.code.Target.{Target}
+use Rattle.sym_code.specs.declared.code.Target.TheVariants as targets
+use Rattle.lean_code.specs.Rows as rows_of
+use Rattle.lean_code.specs.Rows.{Facts, Apart, Note, nothing_known, Act, Keeps, Drops, Puts, Narrows, Row, At, olds, is_label, place_in, note_ahead, Lean}
+use Rattle.lean_code.specs.Changes.{Weaker, CoversFlags, Aim, ToByte, Through, aim, is_own, is_near, lost, without_zero, moved, after_to_w, learned, stored, flags_in, uses_w, uses_c, may_skip, literal_flags, literal_uses, is_retlw, literal_for, both_set, one_sets, same_w, other_w, same_byte, other_byte, one_moves, one_stores, is_number, one_ors, one_clears, z_alone}
+use Rattle.lean_code.specs.Right as right
+use Rattle.lean_code.specs.Right.{Claims, Expects, ExpectsBy, Leads, Passes, Same, Comes, Enters, flag_apart, with_flag, after_literal, dropped_literal, literal_apart, KeepsFile, KeepsBit, KeepsPlain, KeepsGoto, KeepsCall, IsKept, DropsToW, DropsToFile, DropsBit, IsDropped, PutsFor, IsPut, IsRight, IsNote, IsRightAt, Begins, BeginsAt, IsSound}
+use Rattle.lean_code.specs.Checked.{among, all_of, KnownByte, number_in, ListedFacts, ListedApart, ListedNote, ListedRow, Listed, ListedBlock, Sketch, facts_in, apart_in, note_in, row_in, rows_in, block_in, lean_of, gives_number, gives_known, gives, covers_flags, covers_bytes, same_number, expects_by, expects, drops_carried, drops_move, narrows_for, is_narrowed, carries_near, ahead, past, leads, passes, comes, enters, same, noted, same_side, same_operation, is_operation, is_here, keeps_file, keeps_bit, keeps_plain, keeps_goto, keeps_call, is_kept, drops_to_w, drops_to_file, drops_store, drops_clear, drops_change, drops_test, drops_bit, drops_plain, drops_goto, is_left_out, puts_for, is_put, is_right_row, all_known, is_note, is_right_at, are_right, is_right_block, are_right_blocks, begins, begins_at, TestIsRight}
+use Rattle.lean_code.proofs.Lists.{never}
+use Rattle.lean_code.proofs.Facts.{not_false, some_is}
+use Rattle.lean_code.proofs.KeptRows.{flag_bytes}
+
+-- ---- Bool
+and_l : (a b : Bool) → (a && b) ≡ true → a ≡ true
+and_l true b e = refl
+and_l false b e = e
+
+and_r : (a b : Bool) → (a && b) ≡ true → b ≡ true
+and_r true b e = e
+and_r false b e = never e
+
+is_not : (a : Bool) → not a ≡ true → a ≡ false
+is_not true e = never e
+is_not false e = refl
+
+not_both : (a b : Bool) → not (a && b) ≡ true → a ≡ true → b ≡ false
+not_both true b e k = is_not b e
+not_both false b e k = never k
+
+or_not : (a b : Bool) → (a || not b) ≡ true → a ≡ false → b ≡ false
+or_not true b e k = never (sym k)
+or_not false b e k = is_not b e
+
+not_or : (a b : Bool) → (not a || b) ≡ true → a ≡ true → b ≡ true
+not_or true b e k = e
+not_or false b e k = never k
+
+sides : (a b : Bool) → same_side a b ≡ true → a ≡ b
+sides true b e = sym e
+sides false b e = sym (is_not b e)
+
+-- ---- lists
+all_is : (test : ℕ → Bool) (bs : List ℕ) → all_of test bs ≡ true → (a : ℕ) → among a bs ≡ true → test a ≡ true
+all_is test [] e a k = never k
+all_is test (b ∷ bs) e a k = by_case (nat_eq a b) refl (all_is test bs (and_r (test b) (all_of test bs) e) a) k
+  where
+    by_case : (c : Bool) → nat_eq a b ≡ c → (among a bs ≡ true → test a ≡ true) → (c || among a bs) ≡ true → test a ≡ true
+    by_case true is more k = ap test (eqb-true a b is) ∙ and_l (test b) (all_of test bs) e
+    by_case false is more k = more k
+
+-- what isn't so of a byte that is listed isn't listed
+all_not : (test : ℕ → Bool) (bs : List ℕ) → all_of test bs ≡ true → (a : ℕ) → test a ≡ false → among a bs ≡ false
+all_not test bs e a k = not_false (among a bs) (λ h. sym k ∙ all_is test bs e a h)
+
+number_is : (o : Option ℕ) (n : ℕ) → is_number o n ≡ true → o ≡ Some n
+number_is None n e = never e
+number_is (Some k) n e = ap Some (eqb-true k n e)
+
+known_is : (has : ℕ → Option ℕ) (bs : List KnownByte) → gives_known has bs ≡ true → (a n : ℕ) → number_in a bs ≡ Some n → has a ≡ Some n
+known_is has [] e a n k = absurd (none-some n k)
+known_is has (b ∷ bs) e a n k = by_case (nat_eq a b.byte) refl (known_is has bs (and_r (is_number (has b.byte) b.number) (gives_known has bs) e) a n) k
+  where
+    by_case : (c : Bool) → nat_eq a b.byte ≡ c → (number_in a bs ≡ Some n → has a ≡ Some n) → (if c then Some b.number else number_in a bs) ≡ Some n → has a ≡ Some n
+    by_case true is more k = ap has (eqb-true a b.byte is) ∙ number_is (has b.byte) b.number (and_l (is_number (has b.byte) b.number) (gives_known has bs) e) ∙ k
+    by_case false is more k = more k
+
+known_all : (test : ℕ → Bool) (bs : List KnownByte) → all_known test bs ≡ true → (a n : ℕ) → number_in a bs ≡ Some n → test a ≡ true
+known_all test [] e a n k = absurd (none-some n k)
+known_all test (b ∷ bs) e a n k = by_case (nat_eq a b.byte) refl (known_all test bs (and_r (test b.byte) (all_known test bs) e) a n) k
+  where
+    by_case : (c : Bool) → nat_eq a b.byte ≡ c → (number_in a bs ≡ Some n → test a ≡ true) → (if c then Some b.number else number_in a bs) ≡ Some n → test a ≡ true
+    by_case true is more k = ap test (eqb-true a b.byte is) ∙ and_l (test b.byte) (all_known test bs) e
+    by_case false is more k = more k
+
+-- ---- notes
+gives_is : (f : Facts) (n : ListedFacts) → gives f n ≡ true → Weaker (facts_in n) f
+gives_is f n e =
+    let one = and_r (gives_number f.number n.number) (all_of f.held n.held && ((not n.zero || f.zero) && gives_known f.known n.known)) e in
+    let two = and_r (all_of f.held n.held) ((not n.zero || f.zero) && gives_known f.known n.known) one in
+    record {
+      number = number_of n.number (and_l (gives_number f.number n.number) (all_of f.held n.held && ((not n.zero || f.zero) && gives_known f.known n.known)) e);
+      held = λ a k. all_is f.held n.held (and_l (all_of f.held n.held) ((not n.zero || f.zero) && gives_known f.known n.known) one) a k;
+      zero = λ k. not_or n.zero f.zero (and_l (not n.zero || f.zero) (gives_known f.known n.known) two) k;
+      known = λ a i k. known_is f.known n.known (and_r (not n.zero || f.zero) (gives_known f.known n.known) two) a i k;
+    }
+  where
+    number_of : (o : Option ℕ) → gives_number f.number o ≡ true → (i : ℕ) → o ≡ Some i → f.number ≡ Some i
+    number_of None e i k = absurd (none-some i k)
+    number_of (Some j) e i k = number_is f.number j e ∙ k
+
+flags_are : (b : ListedApart) (d : Apart) → covers_flags b d ≡ true → CoversFlags (apart_in b) d
+flags_are b d e =
+    let one = and_r (b.w || not d.w) ((b.z || not d.z) && ((b.dc || not d.dc) && (b.c || not d.c))) e in
+    let two = and_r (b.z || not d.z) ((b.dc || not d.dc) && (b.c || not d.c)) one in
+    record {
+      w = or_not b.w d.w (and_l (b.w || not d.w) ((b.z || not d.z) && ((b.dc || not d.dc) && (b.c || not d.c))) e);
+      z = or_not b.z d.z (and_l (b.z || not d.z) ((b.dc || not d.dc) && (b.c || not d.c)) one);
+      dc = or_not b.dc d.dc (and_l (b.dc || not d.dc) (b.c || not d.c) two);
+      c = or_not b.c d.c (and_r (b.dc || not d.dc) (b.c || not d.c) two);
+    }
+
+-- all that may differ is among the candidates
+abbrev Within : Apart → List ℕ → Type 0
+Within d candidates = (a : ℕ) → d.bytes a ≡ true → among a candidates ≡ true
+
+bytes_are : (b : List ℕ) (d : Apart) (candidates : List ℕ) → Within d candidates → covers_bytes b d.bytes candidates ≡ true → (a : ℕ) → among a b ≡ false → d.bytes a ≡ false
+bytes_are b d candidates within e a k =
+    not_false (d.bytes a) (λ h. sym k ∙ not_or (d.bytes a) (among a b) (all_is (λ j. not (d.bytes j) || among j b) candidates e a (within a h)) h)
+
+numbers_are : (a b : Option ℕ) → same_number a b ≡ true → Claims a b
+numbers_are None b e = λ j h. absurd (none-some j h)
+numbers_are (Some a) b e = λ j h. number_is b a e ∙ h
+
+expects_by_is : (carry : Option ℕ) (q : Option (Option ListedNote)) (f : Facts) (d : Apart) (candidates : List ℕ) → Within d candidates → expects_by carry q f d candidates ≡ true → ExpectsBy carry (option_map (option_map note_in) q) f d
+expects_by_is carry None f d candidates within e = tt
+expects_by_is carry (Some None) f d candidates within e = never e
+expects_by_is carry (Some (Some n)) f d candidates within e =
+    let one = gives f n.facts in
+    let two = covers_flags n.apart d in
+    let three = covers_bytes n.apart.bytes d.bytes candidates in
+    let four = same_number n.carry carry in
+    let more = and_r one (two && (three && four)) e in
+    let last = and_r two (three && four) more in (
+      gives_is f n.facts (and_l one (two && (three && four)) e),
+      record { flags = flags_are n.apart d (and_l two (three && four) more); bytes = bytes_are n.apart.bytes d candidates within (and_l three four last) },
+      numbers_are n.carry carry (and_r three four last),
+    )
+
+expects_is : (q : Option (Option ListedNote)) (f : Facts) (d : Apart) (candidates : List ℕ) → Within d candidates → expects q f d candidates ≡ true → Expects (option_map (option_map note_in) q) f d
+expects_is q f d candidates within e = expects_by_is None q f d candidates within e
+
+ahead_is : (rows : List ListedRow) → note_ahead (rows_in rows) ≡ option_map (option_map note_in) (ahead rows)
+ahead_is [] = refl
+ahead_is (Listed s act n ∷ rows) = by_case (is_label s) (ahead_is rows)
+  where
+    by_case : (c : Bool) → note_ahead (rows_in rows) ≡ option_map (option_map note_in) (ahead rows) → (if c then note_ahead (rows_in rows) else Some (option_map note_in n)) ≡ option_map (option_map note_in) (if c then ahead rows else Some n)
+    by_case true e = e
+    by_case false e = refl
+
+past_is : (rows : List ListedRow) → rows_of.past (rows_in rows) ≡ rows_in (past rows)
+past_is [] = refl
+past_is (Listed s act n ∷ rows) = by_case (is_label s) (past_is rows)
+  where
+    by_case : (c : Bool) → rows_of.past (rows_in rows) ≡ rows_in (past rows) → (if c then rows_of.past (rows_in rows) else rows_in rows) ≡ rows_in (if c then past rows else rows)
+    by_case true e = e
+    by_case false e = refl
+
+drop_is : (i : ℕ) (rows : List ListedRow) → drop i (rows_in rows) ≡ rows_in (drop i rows)
+drop_is zero rows = refl
+drop_is (suc i) [] = refl
+drop_is (suc i) (row ∷ rows) = drop_is i rows
+
+expects_at : (rows : List ListedRow) (f : Facts) (d : Apart) (candidates : List ℕ) → Within d candidates → expects (ahead rows) f d candidates ≡ true → Expects (note_ahead (rows_in rows)) f d
+expects_at rows f d candidates within e = subst (λ (q : Option (Option Note)). Expects q f d) (sym (ahead_is rows)) (expects_is (ahead rows) f d candidates within e)
+
+expects_by_at : (carry : Option ℕ) (rows : List ListedRow) (f : Facts) (d : Apart) (candidates : List ℕ) → Within d candidates → expects_by carry (ahead rows) f d candidates ≡ true → ExpectsBy carry (note_ahead (rows_in rows)) f d
+expects_by_at carry rows f d candidates within e = subst (λ (q : Option (Option Note)). ExpectsBy carry q f d) (sym (ahead_is rows)) (expects_by_is carry (ahead rows) f d candidates within e)
+
+expects_past : (rows : List ListedRow) (f : Facts) (d : Apart) (candidates : List ℕ) → Within d candidates → expects (ahead (past rows)) f d candidates ≡ true → Expects (note_ahead (rows_of.past (rows_in rows))) f d
+expects_past rows f d candidates within e = subst (λ (l : List Row). Expects (note_ahead l) f d) (sym (past_is rows)) (expects_at (past rows) f d candidates within e)
+
+leads_is : (rest : List ListedRow) (can : Bool) (f : Facts) (d : Apart) (candidates : List ℕ) → Within d candidates → leads rest can f d candidates ≡ true → Leads (rows_in rest) can f d
+leads_is rest false f d candidates within e = expects_at rest f d candidates within (and_l (expects (ahead rest) f d candidates) true e)
+leads_is rest true f d candidates within e =
+    let one = expects (ahead rest) f d candidates in
+    let two = expects (ahead (past rest)) f d candidates in
+    let keeps = rows_of.keeps_first (rows_in rest) in
+    let more = and_r one (two && keeps) e in
+    record { runs = expects_at rest f d candidates within (and_l one (two && keeps) e); skips = expects_past rest f d candidates within (and_l two keeps more); keeps = and_r two keeps more }
+
+passes_is : (carry : Option ℕ) (rest : List ListedRow) (can : Bool) (f : Facts) (d : Apart) (candidates : List ℕ) → Within d candidates → passes carry rest can f d candidates ≡ true → Passes carry (rows_in rest) can f d
+passes_is carry rest false f d candidates within e = expects_by_at carry rest f d candidates within (and_l (expects_by carry (ahead rest) f d candidates) true e)
+passes_is carry rest true f d candidates within e =
+    let one = expects_by carry (ahead rest) f d candidates in
+    let two = expects_by carry (ahead (past rest)) f d candidates in
+    let drops = rows_of.drops_first (rows_in rest) in
+    let more = and_r one (two && drops) e in
+    record {
+      runs = expects_by_at carry rest f d candidates within (and_l one (two && drops) e);
+      skips = subst (λ (l : List Row). ExpectsBy carry (note_ahead l) f d) (sym (past_is rest)) (expects_by_at carry (past rest) f d candidates within (and_l two drops more));
+      drops = and_r two drops more;
+    }
+
+same_is : (hidden : ℕ → Bool) (a : Aim) (d : ListedApart) (outer : List ℕ) → same hidden a d.bytes outer ≡ true → Same hidden a (apart_in d) (λ j. among j outer)
+same_is hidden (ToByte k) d outer e = (is_not (among k d.bytes) (and_l (not (among k d.bytes)) (not (among k outer)) e), is_not (among k outer) (and_r (not (among k d.bytes)) (not (among k outer)) e))
+same_is hidden Through d outer e =
+    λ a k. (all_not hidden d.bytes (and_l (all_of hidden d.bytes) (all_of hidden outer) e) a k, all_not hidden outer (and_r (all_of hidden d.bytes) (all_of hidden outer) e) a k)
+same_is hidden a d outer e = tt
+
+enters_is : (q : Option (Option ListedNote)) (n : ListedNote) → enters q n ≡ true → Enters (option_map (option_map note_in) q) (note_in n)
+enters_is None n e = tt
+enters_is (Some None) n e = never e
+enters_is (Some (Some k)) n e =
+    let one = gives (facts_in n.facts) k.facts in
+    let two = covers_flags k.apart (apart_in n.apart) in
+    let three = same_number k.carry None in
+    let more = and_r one (two && three) e in
+    (gives_is (facts_in n.facts) k.facts (and_l one (two && three) e), flags_are k.apart (apart_in n.apart) (and_l two three more), numbers_are k.carry None (and_r two three more))
+
+comes_is : (q : Option (Option ListedNote)) (k : ListedNote) (across : List ℕ) → comes q k across ≡ true → Comes (option_map (option_map note_in) q) (note_in k) (λ a. among a across)
+comes_is None k across e = tt
+comes_is (Some None) k across e = never e
+comes_is (Some (Some n)) k across e =
+    let one = gives (facts_in k.facts) n.facts in
+    let two = covers_flags n.apart (apart_in k.apart) in
+    let three = all_of (λ a. among a n.apart.bytes) k.apart.bytes in
+    let four = all_of (λ a. among a n.apart.bytes) across in
+    let five = same_number n.carry None in
+    let more = and_r one (two && (three && (four && five))) e in
+    let last = and_r two (three && (four && five)) more in
+    let end = and_r three (four && five) last in (
+      gives_is (facts_in k.facts) n.facts (and_l one (two && (three && (four && five))) e),
+      flags_are n.apart (apart_in k.apart) (and_l two (three && (four && five)) more),
+      numbers_are n.carry None (and_r four five end),
+      λ a h. (all_not (λ j. among j n.apart.bytes) k.apart.bytes (and_l three (four && five) last) a h, all_not (λ j. among j n.apart.bytes) across (and_l four five end) a h),
+    )
+
+-- ---- candidates
+within_same : (a : Aim) (d : Apart) (candidates : List ℕ) → Within d candidates → Within (same_byte a d) candidates
+within_same (ToByte k) d candidates within b e = within b (by_case (nat_eq b k) (d.bytes b) e)
+  where
+    by_case : (c h : Bool) → (if c then false else h) ≡ true → h ≡ true
+    by_case true h e = never e
+    by_case false h e = e
+within_same a d candidates within b e = within b e
+
+within_other : (i : ℕ) (d : Apart) (bytes : List ℕ) → Within d bytes → Within (other_byte i d) (i ∷ bytes)
+within_other i d bytes within b e = by_case (nat_eq b i) (d.bytes b) (within b) e
+  where
+    by_case : (c h : Bool) → (h ≡ true → among b bytes ≡ true) → (if c then true else h) ≡ true → (c || among b bytes) ≡ true
+    by_case true h w e = refl
+    by_case false h w e = w e
+
+within_more : (i : ℕ) (d : Apart) (bytes : List ℕ) → Within d bytes → Within d (i ∷ bytes)
+within_more i d bytes within b e = by_case (nat_eq b i)
+  where
+    by_case : (c : Bool) → (c || among b bytes) ≡ true
+    by_case true = refl
+    by_case false = within b e
+
+within_flag : (b : ℕ) (v : Bool) (d : Apart) (bytes : List ℕ) → Within d bytes → Within (with_flag b v d) bytes
+within_flag b v d bytes within a e = within a (sym (flag_bytes b v d a) ∙ e)
+
+operation_is : (a b : LiteralOperation) → same_operation a b ≡ true → a ≡ b
+operation_is literals.Addlw literals.Addlw e = refl
+operation_is literals.Andlw literals.Andlw e = refl
+operation_is literals.Iorlw literals.Iorlw e = refl
+operation_is literals.Movlw literals.Movlw e = refl
+operation_is literals.Sublw literals.Sublw e = refl
+operation_is literals.Xorlw literals.Xorlw e = refl
+operation_is a b e = never e
+
+some_operation : (o : Option LiteralOperation) (new : LiteralOperation) → is_operation o new ≡ true → o ≡ Some new
+some_operation None new e = never e
+some_operation (Some op) new e = ap Some (operation_is op new e)
+
+-- ---- rows
+module _ (k : Sketch) (limit : Bool → ℕ) (old_page new_page : BlockName → ℕ) (own : BlockName) (n : ListedNote) where
+  abbrev x : Lean
+  x = lean_of k limit old_page new_page
+
+  abbrev block : ListedBlock
+  block = block_in k.blocks own
+
+  abbrev inside : Bool
+  inside = block.inside
+
+  abbrev f : Facts
+  f = facts_in n.facts
+
+  abbrev d : Apart
+  d = apart_in n.apart
+
+  abbrev bytes : List ℕ
+  bytes = n.apart.bytes
+
+  here : Within d bytes
+  here a e = e
+
+  uses_are : (op : FileOperation) → (not (uses_w op && n.apart.w) && not (uses_c op && n.apart.c)) ≡ true → (uses_w op ≡ true → n.apart.w ≡ false) × (uses_c op ≡ true → n.apart.c ≡ false)
+  uses_are op e =
+      (not_both (uses_w op) n.apart.w (and_l (not (uses_w op && n.apart.w)) (not (uses_c op && n.apart.c)) e), not_both (uses_c op) n.apart.c (and_r (not (uses_w op && n.apart.w)) (not (uses_c op && n.apart.c)) e))
+
+  same_at : (a : Aim) → same k.hidden a bytes block.outer ≡ true → Same k.hidden a d (x.outer own)
+  same_at a e = same_is k.hidden a n.apart block.outer e
+
+  file_is : (rest : List ListedRow) (op : FileOperation) (operand : Operand) (to : Into) → keeps_file k own n rest op operand to ≡ true → KeepsFile x own inside (note_in n) (rows_in rest) op operand to
+  file_is rest op operand into.W e =
+      let a = aim k.layout inside false operand in
+      let one = not (uses_w op && n.apart.w) && not (uses_c op && n.apart.c) in
+      let two = same k.hidden a bytes block.outer in
+      let three = leads rest (may_skip op) (after_to_w op a f) (same_w (both_set (flags_in op) d)) bytes in
+      let more = and_r one (two && three) e in
+      (uses_are op (and_l one (two && three) e), same_at a (and_l two three more), leads_is rest (may_skip op) (after_to_w op a f) (same_w (both_set (flags_in op) d)) bytes here (and_r two three more))
+  file_is rest op operand into.File e =
+      let a = aim k.layout inside true operand in
+      let g = lost k.hidden a (without_zero f) in
+      let h = same_byte a (both_set (flags_in op) d) in
+      let one = not (uses_w op && n.apart.w) && not (uses_c op && n.apart.c) in
+      let two = same k.hidden a bytes block.outer in
+      let three = leads rest (may_skip op) g h bytes in
+      let more = and_r one (two && three) e in
+      (uses_are op (and_l one (two && three) e), same_at a (and_l two three more), leads_is rest (may_skip op) g h bytes (within_same a (both_set (flags_in op) d) bytes here) (and_r two three more))
+
+  abbrev ExpectsAt : List ListedRow → Facts → Apart → Type 0
+  ExpectsAt rest g h = Expects (note_ahead (rows_in rest)) g h
+
+  change_is : (rest : List ListedRow) (a : Aim) → (same k.hidden a bytes block.outer && expects (ahead rest) (lost k.hidden a f) d bytes) ≡ true → Same k.hidden a d (x.outer own) × ExpectsAt rest (lost k.hidden a f) d
+  change_is rest a e =
+      let one = same k.hidden a bytes block.outer in
+      let two = expects (ahead rest) (lost k.hidden a f) d bytes in
+      (same_at a (and_l one two e), expects_at rest (lost k.hidden a f) d bytes here (and_r one two e))
+
+  test_is : (rest : List ListedRow) (a : Aim) → (same k.hidden a bytes block.outer && leads rest true f d bytes) ≡ true → Same k.hidden a d (x.outer own) × Leads (rows_in rest) true f d
+  test_is rest a e =
+      let one = same k.hidden a bytes block.outer in
+      let two = leads rest true f d bytes in
+      (same_at a (and_l one two e), leads_is rest true f d bytes here (and_r one two e))
+
+  flag_is : (rest : List ListedRow) (b : ℕ) → (not (flag_apart b d) && leads rest true f d bytes) ≡ true → (flag_apart b d ≡ false) × Leads (rows_in rest) true f d
+  flag_is rest b e =
+      let one = not (flag_apart b d) in
+      let two = leads rest true f d bytes in
+      (is_not (flag_apart b d) (and_l one two e), leads_is rest true f d bytes here (and_r one two e))
+
+  bit_is : (rest : List ListedRow) (op : BitOperation) (operand : Operand) (b : ℕ) → keeps_bit k own n rest op operand b ≡ true → KeepsBit x own inside (note_in n) (rows_in rest) op operand b
+  bit_is rest Bcf (operands.Register Status) b e = expects_at rest (without_zero f) (with_flag b false d) bytes (within_flag b false d bytes here) e
+  bit_is rest Bsf (operands.Register Status) b e = expects_at rest (without_zero f) (with_flag b false d) bytes (within_flag b false d bytes here) e
+  bit_is rest Btfsc (operands.Register Status) b e = flag_is rest b e
+  bit_is rest Btfss (operands.Register Status) b e = flag_is rest b e
+  bit_is rest Bcf operand b e = change_is rest (aim k.layout inside true operand) e
+  bit_is rest Bsf operand b e = change_is rest (aim k.layout inside true operand) e
+  bit_is rest Btfsc operand b e = test_is rest (aim k.layout inside false operand) e
+  bit_is rest Btfss operand b e = test_is rest (aim k.layout inside false operand) e
+
+  plain_is : (rest : List ListedRow) (op : PlainOperation) → keeps_plain k own n rest op ≡ true → KeepsPlain x own inside (note_in n) (rows_in rest) op
+  plain_is rest Clrw e = expects_at rest (record f { number = Some 0; held = λ a. false; zero = true }) (record d { w = false; z = false }) bytes (λ a h. h) e
+  plain_is rest Nop e = expects_at rest f d bytes here e
+  plain_is rest Retfie e = tt
+  plain_is rest Return e =
+      let one = gives f block.ends.facts in
+      let two = covers_flags block.ends.apart d in
+      let three = covers_bytes block.ends.apart.bytes d.bytes bytes in
+      let more = and_r one (two && three) e in
+      (gives_is f block.ends.facts (and_l one (two && three) e), record { flags = flags_are block.ends.apart d (and_l two three more); bytes = bytes_are block.ends.apart.bytes d bytes here (and_r two three more) })
+
+  noted_is : (o : Option ℕ) → right.noted (rows_in block.rows) o ≡ option_map (option_map note_in) (noted block.rows o)
+  noted_is None = refl
+  noted_is (Some i) = ap note_ahead (drop_is i block.rows) ∙ ahead_is (drop i block.rows)
+
+  label_is : (o : Option ℕ) → expects (noted block.rows o) f d bytes ≡ true → Expects (right.noted (rows_in block.rows) o) f d
+  label_is o e = subst (λ (q : Option (Option Note)). Expects q f d) (sym (noted_is o)) (expects_is (noted block.rows o) f d bytes here e)
+
+  label_by : (carry o : Option ℕ) → expects_by carry (noted block.rows o) f d bytes ≡ true → ExpectsBy carry (right.noted (rows_in block.rows) o) f d
+  label_by carry o e = subst (λ (q : Option (Option Note)). ExpectsBy carry q f d) (sym (noted_is o)) (expects_by_is carry (noted block.rows o) f d bytes here e)
+
+  goto_is : (target : Target) → keeps_goto k own n target ≡ true → KeepsGoto x own inside (note_in n) target
+  goto_is (targets.Label labels.Halt) e = tt
+  goto_is (targets.Label labels.Restore) e =
+      let two = all_of (λ a. among a k.rest) bytes in
+      (and_l inside two e, λ a h. all_not (λ j. among j k.rest) bytes (and_r inside two e) a h)
+  goto_is (targets.Label (labels.Inner l)) e = label_is (label_from (olds (rows_in block.rows)) (labels.Inner l) 0) e
+  goto_is (targets.Block name) e = never e
+
+  call_is : (rest : List ListedRow) (target : Target) → keeps_call k own n rest target ≡ true → KeepsCall x own inside (note_in n) (rows_in rest) target
+  call_is rest (targets.Label label) e = never e
+  call_is rest (targets.Block name) e =
+      let to = block_in k.blocks name in
+      let one = same_side to.inside inside in
+      let two = enters (ahead to.rows) n in
+      let three = comes (ahead rest) to.ends bytes in
+      let four = all_of (λ a. among a to.outer) bytes in
+      let five = all_of (λ a. among a to.outer) block.outer in
+      let b = and_r one (two && (three && (four && five))) e in
+      let c = and_r two (three && (four && five)) b in
+      let g = and_r three (four && five) c in (
+        sides to.inside inside (and_l one (two && (three && (four && five))) e),
+        subst (λ (q : Option (Option Note)). Enters q (note_in n)) (sym (ahead_is to.rows)) (enters_is (ahead to.rows) n (and_l two (three && (four && five)) b)),
+        subst (λ (q : Option (Option Note)). Comes q (note_in to.ends) (λ a. among a bytes)) (sym (ahead_is rest)) (comes_is (ahead rest) to.ends bytes (and_l three (four && five) c)),
+        λ a h. (all_not (λ j. among j to.outer) bytes (and_l four five g) a h, all_not (λ j. among j to.outer) block.outer (and_r four five g) a h),
+      )
+
+  kept_is : (rest : List ListedRow) (s : Sym) → is_kept k own n rest s ≡ true → IsKept x own inside (note_in n) (rows_in rest) s
+  kept_is rest (syms.File op operand to) e = file_is rest op operand to e
+  kept_is rest (syms.Movwf operand) e =
+      let a = aim k.layout inside true operand in
+      let one = not n.apart.w in
+      let two = expects (ahead rest) (stored k.hidden a f) (same_byte a d) bytes in
+      (is_not n.apart.w (and_l one two e), expects_at rest (stored k.hidden a f) (same_byte a d) bytes (within_same a d bytes here) (and_r one two e))
+  kept_is rest (syms.Clrf operand) e =
+      let a = aim k.layout inside true operand in
+      expects_at rest (learned k.hidden a (Some 0) (without_zero f)) (same_byte a (record d { z = false })) bytes (within_same a (record d { z = false }) bytes (λ b h. h)) e
+  kept_is rest (syms.Bit op operand b) e = bit_is rest op operand b e
+  kept_is rest (syms.Literal op value) e =
+      let one = not (is_retlw op) in
+      let two = not (literal_uses op && n.apart.w) in
+      let three = expects (ahead rest) (after_literal f op value) (same_w (both_set (literal_flags op) d)) bytes in
+      let more = and_r one (two && three) e in
+      (is_not (is_retlw op) (and_l one (two && three) e), not_both (literal_uses op) n.apart.w (and_l two three more), expects_at rest (after_literal f op value) (same_w (both_set (literal_flags op) d)) bytes (λ b h. h) (and_r two three more))
+  kept_is rest (syms.Plain op) e = plain_is rest op e
+  kept_is rest (syms.Call target) e = call_is rest target e
+  kept_is rest (syms.Goto target) e = goto_is target e
+  kept_is rest (syms.Label label) e = tt
+  kept_is rest (syms.SelectBank which on) e = expects_at rest f d bytes here e
+  kept_is rest (syms.SelectPage which target) e = expects_at rest f d bytes here e
+
+  -- ---- what is left out
+  within_ors : (c : Bool) → Within (if c then record d { z = if f.zero then d.z else true } else other_w (one_sets z_alone d)) bytes
+  within_ors true b e = e
+  within_ors false b e = e
+
+  drops_carried_is : (rest : List ListedRow) (i c : ℕ) (q : Bool) → drops_carried k own n rest i c q ≡ true → right.DropsCarried x own inside (note_in n) (rows_in rest) i c q
+  drops_carried_is rest i c true e = expects_at rest (moved (ToByte i) f) (record d { w = false; z = true }) bytes (λ b h. h) e
+  drops_carried_is rest i c false e = expects_by_at (Some c) rest (moved (ToByte i) f) (one_moves f i d) bytes (λ b h. h) e
+
+  drops_move_is : (rest : List ListedRow) (i : ℕ) (o : Option ℕ) → drops_move k own n rest i o ≡ true → right.DropsMove x own inside (note_in n) (rows_in rest) i o
+  drops_move_is rest i None e = expects_at rest (moved (ToByte i) f) (one_moves f i d) bytes (λ b h. h) e
+  drops_move_is rest i (Some c) e = drops_carried_is rest i c (nat_eq c i) e
+
+  drops_w_is : (rest : List ListedRow) (op : FileOperation) (a : Aim) → drops_to_w k own n rest op a ≡ true → DropsToW x own inside (note_in n) (rows_in rest) op a
+  drops_w_is rest files.Movf (ToByte i) e = drops_move_is rest i n.carry e
+  drops_w_is rest files.Iorwf (ToByte i) e = expects_by_at n.carry rest (after_to_w files.Iorwf (ToByte i) f) (one_ors f i d) bytes (within_ors (is_number (f.known i) 0)) e
+  drops_w_is rest op (ToByte i) e = passes_is n.carry rest (may_skip op) (after_to_w op (ToByte i) f) (other_w (one_sets (flags_in op) d)) bytes (λ b h. h) e
+  drops_w_is rest op a e = never e
+
+  drops_file_is : (rest : List ListedRow) (op : FileOperation) (a : Aim) → drops_to_file k own n rest op a ≡ true → DropsToFile x own inside (note_in n) (rows_in rest) op a
+  drops_file_is rest op (ToByte i) e =
+      passes_is (right.carry_but i n.carry) rest (may_skip op) (lost k.hidden (ToByte i) (without_zero f)) (other_byte i (one_sets (flags_in op) d)) (i ∷ bytes) (within_other i (one_sets (flags_in op) d) bytes (λ b h. h)) e
+  drops_file_is rest op a e = never e
+
+  within_stores : (c : Bool) (i : ℕ) → Within (if c then d else other_byte i d) (i ∷ bytes)
+  within_stores true i = within_more i d bytes here
+  within_stores false i = within_other i d bytes here
+
+  drops_store_is : (rest : List ListedRow) (a : Aim) → drops_store k own n rest a ≡ true → right.DropsStore x own inside (note_in n) (rows_in rest) a
+  drops_store_is rest (ToByte i) e = expects_by_at (right.carry_but i n.carry) rest (stored k.hidden (ToByte i) f) (one_stores f i d) (i ∷ bytes) (within_stores (f.held i) i) e
+  drops_store_is rest a e = never e
+
+  within_clears : (c : Bool) (i : ℕ) → Within (if c then record d { z = true } else other_byte i (record d { z = true })) (i ∷ bytes)
+  within_clears true i = within_more i (record d { z = true }) bytes (λ b h. h)
+  within_clears false i = within_other i (record d { z = true }) bytes (λ b h. h)
+
+  drops_clear_is : (rest : List ListedRow) (a : Aim) → drops_clear k own n rest a ≡ true → right.DropsClear x own inside (note_in n) (rows_in rest) a
+  drops_clear_is rest (ToByte i) e =
+      expects_by_at (right.carry_but i n.carry) rest (learned k.hidden (ToByte i) (Some 0) (without_zero f)) (one_clears f i d) (i ∷ bytes) (within_clears (is_number (f.known i) 0) i) e
+  drops_clear_is rest a e = never e
+
+  drops_change_is : (rest : List ListedRow) (a : Aim) → drops_change k own n rest a ≡ true → right.DropsChange x own inside (note_in n) (rows_in rest) a
+  drops_change_is rest (ToByte i) e = expects_by_at (right.carry_but i n.carry) rest (lost k.hidden (ToByte i) f) (other_byte i d) (i ∷ bytes) (within_other i d bytes here) e
+  drops_change_is rest a e = never e
+
+  drops_test_is : (rest : List ListedRow) (a : Aim) → drops_test k own n rest a ≡ true → right.DropsTest x own inside (note_in n) (rows_in rest) a
+  drops_test_is rest (ToByte i) e = passes_is n.carry rest true f d bytes here e
+  drops_test_is rest a e = never e
+
+  drops_flag_is : (rest : List ListedRow) (b : ℕ) → (nat_lt b 3 && expects_by n.carry (ahead rest) (without_zero f) (with_flag b true d) bytes) ≡ true → (nat_lt b 3 ≡ true) × ExpectsBy n.carry (note_ahead (rows_in rest)) (without_zero f) (with_flag b true d)
+  drops_flag_is rest b e =
+      let two = expects_by n.carry (ahead rest) (without_zero f) (with_flag b true d) bytes in
+      (and_l (nat_lt b 3) two e, expects_by_at n.carry rest (without_zero f) (with_flag b true d) bytes (within_flag b true d bytes here) (and_r (nat_lt b 3) two e))
+
+  drops_bit_is : (rest : List ListedRow) (op : BitOperation) (operand : Operand) (b : ℕ) → drops_bit k own n rest op operand b ≡ true → DropsBit x own inside (note_in n) (rows_in rest) op operand b
+  drops_bit_is rest Bcf (operands.Register Status) b e = drops_flag_is rest b e
+  drops_bit_is rest Bsf (operands.Register Status) b e = drops_flag_is rest b e
+  drops_bit_is rest Btfsc (operands.Register Status) b e = passes_is n.carry rest true f d bytes here e
+  drops_bit_is rest Btfss (operands.Register Status) b e = passes_is n.carry rest true f d bytes here e
+  drops_bit_is rest Bcf operand b e = drops_change_is rest (aim k.layout inside true operand) e
+  drops_bit_is rest Bsf operand b e = drops_change_is rest (aim k.layout inside true operand) e
+  drops_bit_is rest Btfsc operand b e = drops_test_is rest (aim k.layout inside false operand) e
+  drops_bit_is rest Btfss operand b e = drops_test_is rest (aim k.layout inside false operand) e
+
+  drops_plain_is : (rest : List ListedRow) (op : PlainOperation) → drops_plain k own n rest op ≡ true → right.DropsPlain x own inside (note_in n) (rows_in rest) op
+  drops_plain_is rest Clrw e = expects_by_at n.carry rest (record f { number = Some 0; held = λ a. false; zero = true }) (record d { w = true; z = true }) bytes (λ b h. h) e
+  drops_plain_is rest Nop e = expects_by_at n.carry rest f d bytes here e
+  drops_plain_is rest op e = never e
+
+  here_is : (to : ℕ) (o : Option ℕ) → is_here block.rows to o ≡ true → (i : ℕ) → o ≡ Some i → place_in (rows_in block.rows) i ≡ to
+  here_is to None e i is = absurd (none-some i is)
+  here_is to (Some j) e i is = ap (place_in (rows_in block.rows)) (sym (some_is j i is)) ∙ eqb-true (place_in (rows_in block.rows) j) to e
+
+  drops_goto_is : (to : ℕ) (target : Target) → drops_goto k own n to target ≡ true → right.DropsGoto x own inside (note_in n) to target
+  drops_goto_is to (targets.Label (labels.Inner l)) e =
+      let o = label_from (olds (rows_in block.rows)) (labels.Inner l) 0 in
+      let one = expects_by n.carry (noted block.rows o) f d bytes in
+      let two = is_here block.rows to o in
+      (label_by n.carry o (and_l one two e), here_is to o (and_r one two e))
+  drops_goto_is to target e = never e
+
+  within_number : (c : Bool) → Within (if c then d else other_w d) bytes
+  within_number true b e = e
+  within_number false b e = e
+
+  within_literal : (op : LiteralOperation) (value : Literal) → Within (dropped_literal f d op value) bytes
+  within_literal literals.Movlw (Number v) = within_number (is_number f.number v)
+  within_literal op value = λ b e. e
+
+  dropped_is : (to : ℕ) (rest : List ListedRow) (s : Sym) → is_left_out k own n to rest s ≡ true → IsDropped x own inside (note_in n) to (rows_in rest) s
+  dropped_is to rest (syms.File op operand into.W) e = drops_w_is rest op (aim k.layout inside false operand) e
+  dropped_is to rest (syms.File op operand into.File) e = drops_file_is rest op (aim k.layout inside true operand) e
+  dropped_is to rest (syms.Movwf operand) e = drops_store_is rest (aim k.layout inside true operand) e
+  dropped_is to rest (syms.Clrf operand) e = drops_clear_is rest (aim k.layout inside true operand) e
+  dropped_is to rest (syms.Bit op operand b) e = drops_bit_is rest op operand b e
+  dropped_is to rest (syms.Literal op value) e =
+      let one = not (is_retlw op) in
+      let two = expects_by n.carry (ahead rest) (after_literal f op value) (dropped_literal f d op value) bytes in
+      (is_not (is_retlw op) (and_l one two e), expects_by_at n.carry rest (after_literal f op value) (dropped_literal f d op value) bytes (within_literal op value) (and_r one two e))
+  dropped_is to rest (syms.Plain op) e = drops_plain_is rest op e
+  dropped_is to rest (syms.Goto target) e = drops_goto_is to target e
+  dropped_is to rest s e = never e
+
+  -- ---- what stands in an instruction's place
+  apart_within : (op : FileOperation) (i : ℕ) → Within (literal_apart f d op i) bytes
+  apart_within files.Movf i b e = e
+  apart_within op i b e = e
+
+  puts_for_is : (rest : List ListedRow) (op : FileOperation) (a : Aim) (new : LiteralOperation) (v : ℕ) → puts_for k own n rest op a new v ≡ true → PutsFor x own inside (note_in n) (rows_in rest) op a new v
+  puts_for_is rest op (ToByte i) new v e =
+      let one = is_operation (literal_for op) new in
+      let two = is_number (f.known i) v in
+      let three = not (uses_w op && n.apart.w) in
+      let four = expects (ahead rest) (after_to_w op (ToByte i) f) (literal_apart f d op i) bytes in
+      let b = and_r one (two && (three && four)) e in
+      let c = and_r two (three && four) b in (
+        some_operation (literal_for op) new (and_l one (two && (three && four)) e),
+        number_is (f.known i) v (and_l two (three && four) b),
+        not_both (uses_w op) n.apart.w (and_l three four c),
+        expects_at rest (after_to_w op (ToByte i) f) (literal_apart f d op i) bytes (apart_within op i) (and_r three four c),
+      )
+  puts_for_is rest op a new v e = never e
+
+  put_is : (rest : List ListedRow) (new : LiteralOperation) (v : ℕ) (s : Sym) → is_put k own n rest new v s ≡ true → IsPut x own inside (note_in n) (rows_in rest) new v s
+  put_is rest new v (syms.File op operand into.W) e = puts_for_is rest op (aim k.layout inside false operand) new v e
+  put_is rest new v (syms.Label label) e = tt
+  put_is rest new v s e = never e
+
+  narrows_for_is : (rest : List ListedRow) (op : FileOperation) (a b : Aim) → narrows_for k own n rest op a b ≡ true → right.NarrowsFor x own inside (note_in n) (rows_in rest) op a b
+  narrows_for_is rest op (ToByte i) (ToByte j) e =
+      let g = lost k.hidden (ToByte i) (without_zero f) in
+      let h = other_w (other_byte i (both_set (flags_in op) d)) in
+      let one = not (uses_w op && n.apart.w) && not (uses_c op && n.apart.c) in
+      let two = same k.hidden (ToByte i) bytes block.outer in
+      let three = not (may_skip op) in
+      let four = nat_eq j i in
+      let five = expects_by (Some i) (ahead rest) g h (i ∷ bytes) in
+      let b = and_r one (two && (three && (four && five))) e in
+      let c = and_r two (three && (four && five)) b in
+      let w = and_r three (four && five) c in (
+        uses_are op (and_l one (two && (three && (four && five))) e),
+        same_at (ToByte i) (and_l two (three && (four && five)) b),
+        is_not (may_skip op) (and_l three (four && five) c),
+        eqb-true j i (and_l four five w),
+        expects_by_at (Some i) rest g h (i ∷ bytes) (within_other i (both_set (flags_in op) d) bytes (λ z o. o)) (and_r four five w),
+      )
+  narrows_for_is rest op a b e = never e
+
+  narrowed_is : (rest : List ListedRow) (s : Sym) → is_narrowed k own n rest s ≡ true → right.IsNarrowed x own inside (note_in n) (rows_in rest) s
+  narrowed_is rest (syms.File op operand into.File) e = narrows_for_is rest op (aim k.layout inside true operand) (aim k.layout inside false operand) e
+  narrowed_is rest (syms.Label label) e = tt
+  narrowed_is rest s e = never e
+
+  pub row_is : (to : ℕ) (rest : List ListedRow) (act : Act) (s : Sym) → is_right_row k own n to rest act s ≡ true → IsRight x own inside (note_in n) to (rows_in rest) act s
+  row_is to rest Keeps s e = kept_is rest s e
+  row_is to rest Drops s e = dropped_is to rest s e
+  row_is to rest (Puts new v) s e = put_is rest new v s e
+  row_is to rest Narrows s e = narrowed_is rest s e
+
+  pub note_is : is_note k.layout inside n ≡ true → IsNote x inside (note_in n)
+  note_is e =
+      let one = all_of (λ a. is_near inside (owner k.layout a)) n.facts.held in
+      let two = all_known (λ a. is_near inside (owner k.layout a)) n.facts.known in
+      let three = all_of (λ a. is_own inside (owner k.layout a)) bytes in
+      let four = carries_near k.layout inside n.carry in
+      let more = and_r one (two && (three && four)) e in
+      let last = and_r two (three && four) more in
+      record {
+        held = λ a h. all_is (λ j. is_near inside (owner k.layout j)) n.facts.held (and_l one (two && (three && four)) e) a h;
+        known = λ a i h. known_all (λ j. is_near inside (owner k.layout j)) n.facts.known (and_l two (three && four) more) a i h;
+        bytes = λ a h. all_not (λ j. is_own inside (owner k.layout j)) bytes (and_l three four last) a h;
+        carry = λ a h. carry_at n.carry (and_r three four last) a h;
+      }
+    where
+      carry_at : (o : Option ℕ) → carries_near k.layout inside o ≡ true → (a : ℕ) → o ≡ Some a → is_near inside (owner k.layout a) ≡ true
+      carry_at None e a h = absurd (none-some a h)
+      carry_at (Some b) e a h = ap (λ (z : ℕ). is_near inside (owner k.layout z)) (sym (some_is b a h)) ∙ e
+
+-- ---- the whole
+same_names : (a b : BlockName) → same_name a b ≡ true → a ≡ b
+same_names names.Start names.Start e = refl
+same_names names.Start (names.Copy d) e = never e
+same_names (names.Copy c) names.Start e = never e
+same_names (names.Copy c) (names.Copy d) e = ap names.Copy (eqb-true c d e)
+
+same_row : (a b : ListedRow) → Some a ≡ Some b → a ≡ b
+same_row a b e = cc
+
+-- a row of the lists that has a note
+pub record IsListed (rows : List ListedRow) (j : ℕ) (s : Sym) (act : Act) (n : Note) : Type 0 where
+  pub note : ListedNote
+  pub row : slice_get rows j ≡ Some (Listed s act (Some note))
+  pub is : note_in note ≡ n
+
+listed : (rows : List ListedRow) (j : ℕ) (s : Sym) (act : Act) (n : Note) → slice_get (rows_in rows) j ≡ Some (At s act (Some n)) → IsListed rows j s act n
+listed [] j s act n e = absurd (none-some (At s act (Some n)) e)
+listed (Listed t act_of None ∷ rows) zero s act n e = absurd (no_note t act_of s act n e)
+  where
+    no_note : (t : Sym) (a : Act) (s : Sym) (b : Act) (n : Note) → Some (At t a None) ≡ Some (At s b (Some n)) → ⊥
+    no_note t a s b n e = cc
+listed (Listed t act_of (Some m) ∷ rows) zero s act n e =
+    record { note = m; row = row_as t act_of s act (note_in m) n e; is = note_as t act_of s act (note_in m) n e }
+  where
+    row_as : (t : Sym) (a : Act) (s : Sym) (b : Act) (h n : Note) → Some (At t a (Some h)) ≡ Some (At s b (Some n)) → Some (Listed t a (Some m)) ≡ Some (Listed s b (Some m))
+    row_as t a s b h n e = cc
+
+    note_as : (t : Sym) (a : Act) (s : Sym) (b : Act) (h n : Note) → Some (At t a (Some h)) ≡ Some (At s b (Some n)) → h ≡ n
+    note_as t a s b h n e = cc
+listed (row ∷ rows) (suc j) s act n e = let y = listed rows j s act n e in record { note = y.note; row = y.row; is = y.is }
+
+rows_right : (k : Sketch) (own : BlockName) (rows : List ListedRow) (i : ℕ) → are_right k own i rows ≡ true → (j h : ℕ) (row : ListedRow) → h ≡ i + j → slice_get rows j ≡ Some row → is_right_at k own h row (drop (suc j) rows) ≡ true
+rows_right k own [] i e j h row is got = absurd (none-some row got)
+rows_right k own (first ∷ rows) i e zero h row is got =
+    let same_index : i ≡ h = omega arith in
+    subst (λ (z : ℕ). is_right_at k own z row rows ≡ true) same_index (subst (λ (z : ListedRow). is_right_at k own i z rows ≡ true) (same_row first row got) (and_l (is_right_at k own i first rows) (are_right k own (suc i) rows) e))
+rows_right k own (first ∷ rows) i e (suc j) h row is got = rows_right k own rows (suc i) (and_r (is_right_at k own i first rows) (are_right k own (suc i) rows) e) j h row (omega arith) got
+
+module _ (k : Sketch) where
+  -- the rows of a block that has some are tested
+  tested_rows : (bs : List ListedBlock) → are_right_blocks k bs ≡ true → (own : BlockName) (j : ℕ) (row : ListedRow) → slice_get (block_in bs own).rows j ≡ Some row → are_right k own 0 (block_in k.blocks own).rows ≡ true
+  tested_rows [] e own j row got = absurd (none-some row got)
+  tested_rows (b ∷ bs) e own j row got = by_name (same_name b.name own) refl (tested_rows bs (and_r (is_right_block k b) (are_right_blocks k bs) e) own j row) got
+    where
+      first : are_right k b.name 0 (block_in k.blocks b.name).rows ≡ true
+      first =
+          and_l (are_right k b.name 0 (block_in k.blocks b.name).rows) (all_of (λ a. is_own (block_in k.blocks b.name).inside (owner k.layout a)) (block_in k.blocks b.name).ends.apart.bytes)
+          (and_l (is_right_block k b) (are_right_blocks k bs) e)
+
+      by_name : (c : Bool) → same_name b.name own ≡ c → (slice_get (block_in bs own).rows j ≡ Some row → are_right k own 0 (block_in k.blocks own).rows ≡ true) → slice_get (if c then b else block_in bs own).rows j ≡ Some row
+          → are_right k own 0 (block_in k.blocks own).rows ≡ true
+      by_name true is more got = subst (λ (name : BlockName). are_right k name 0 (block_in k.blocks name).rows ≡ true) (same_names b.name own is) first
+      by_name false is more got = more got
+
+  -- what a block leaves apart is its own
+  tested_ends : (bs : List ListedBlock) → are_right_blocks k bs ≡ true → (own : BlockName) (a : ℕ) → among a (block_in bs own).ends.apart.bytes ≡ true → all_of (λ j. is_own (block_in k.blocks own).inside (owner k.layout j)) (block_in k.blocks own).ends.apart.bytes ≡ true
+  tested_ends [] e own a got = never got
+  tested_ends (b ∷ bs) e own a got = by_name (same_name b.name own) refl (tested_ends bs (and_r (is_right_block k b) (are_right_blocks k bs) e) own a) got
+    where
+      first : all_of (λ j. is_own (block_in k.blocks b.name).inside (owner k.layout j)) (block_in k.blocks b.name).ends.apart.bytes ≡ true
+      first =
+          and_r (are_right k b.name 0 (block_in k.blocks b.name).rows) (all_of (λ j. is_own (block_in k.blocks b.name).inside (owner k.layout j)) (block_in k.blocks b.name).ends.apart.bytes)
+          (and_l (is_right_block k b) (are_right_blocks k bs) e)
+
+      by_name : (c : Bool) → same_name b.name own ≡ c → (among a (block_in bs own).ends.apart.bytes ≡ true → all_of (λ j. is_own (block_in k.blocks own).inside (owner k.layout j)) (block_in k.blocks own).ends.apart.bytes ≡ true)
+          → among a (if c then b else block_in bs own).ends.apart.bytes ≡ true → all_of (λ j. is_own (block_in k.blocks own).inside (owner k.layout j)) (block_in k.blocks own).ends.apart.bytes ≡ true
+      by_name true is more got = subst (λ (name : BlockName). all_of (λ j. is_own (block_in k.blocks name).inside (owner k.layout j)) (block_in k.blocks name).ends.apart.bytes ≡ true) (same_names b.name own is) first
+      by_name false is more got = more got
+
+begins_is : (rest : List ℕ) (q : Option (Option ListedNote)) → begins rest q ≡ true → Begins (λ a. among a rest) (option_map (option_map note_in) q)
+begins_is rest None e = tt
+begins_is rest (Some None) e = never e
+begins_is rest (Some (Some n)) e =
+    let one = gives nothing_known n.facts in
+    let two = all_of (λ a. among a n.apart.bytes) rest in
+    let three = same_number n.carry None in
+    let more = and_r one (two && three) e in
+    (gives_is nothing_known n.facts (and_l one (two && three) e), numbers_are n.carry None (and_r two three more), λ a h. all_not (λ j. among j n.apart.bytes) rest (and_l two three more) a h)
+
+begins_rows : (rest : List ℕ) (rows : List ListedRow) → begins rest (ahead rows) ≡ true → Begins (λ a. among a rest) (note_ahead (rows_in rows))
+begins_rows rest rows e = subst (Begins (λ a. among a rest)) (sym (ahead_is rows)) (begins_is rest (ahead rows) e)
+
+goes_at : (rows : List ListedRow) (j : ℕ) (s : Sym) (act : Act) (m : ListedNote) → slice_get rows j ≡ Some (Listed s act (Some m)) → rows_of.goes_on (At s act None ∷ rows_in (drop (suc j) rows)) ≡ true → rows_of.goes_on (drop j (rows_in rows)) ≡ true
+goes_at [] j s act m got e = absurd (none-some (Listed s act (Some m)) got)
+goes_at (row ∷ rows) zero s act m got e = subst (λ (z : ListedRow). rows_of.goes_on (row_in z ∷ rows_in rows) ≡ true) (sym (same_row row (Listed s act (Some m)) got)) e
+goes_at (row ∷ rows) (suc j) s act m got e = goes_at rows j s act m got e
+
+module _ (k : Sketch) (limit : Bool → ℕ) (old_page new_page : BlockName → ℕ) where
+  handler_is : (o : Option ℕ) → begins_at k o ≡ true → BeginsAt (lean_of k limit old_page new_page) o
+  handler_is None e = tt
+  handler_is (Some copy) e =
+      let b = block_in k.blocks (names.Copy copy) in
+      (and_l b.inside (begins k.rest (ahead b.rows)) e, begins_rows k.rest b.rows (and_r b.inside (begins k.rest (ahead b.rows)) e))
+
+  right_at : are_right_blocks k k.blocks ≡ true → (own : BlockName) (j : ℕ) (s : Sym) (act : Act) (n : Note) → slice_get (rows_in (block_in k.blocks own).rows) j ≡ Some (At s act (Some n)) → IsRightAt (lean_of k limit old_page new_page) own j s act n
+  right_at e own j s act n got =
+      let rows = (block_in k.blocks own).rows in
+      let y = listed rows j s act n got in
+      let at = rows_right k own rows 0 (tested_rows k k.blocks e own j (Listed s act (Some y.note)) y.row) j j (Listed s act (Some y.note)) (omega arith) y.row in
+      let one = is_note k.layout (block_in k.blocks own).inside y.note in
+      let two = rows_of.goes_on (At s act None ∷ rows_in (drop (suc j) rows)) in
+      let three = is_right_row k own y.note (place_in (rows_in rows) j) (drop (suc j) rows) act s in
+      let more = and_r one (two && three) at in
+      subst (λ (i : Note). IsRightAt (lean_of k limit old_page new_page) own j s act i) y.is (record {
+        note = note_is k limit old_page new_page own y.note (and_l one (two && three) at);
+        goes = goes_at rows j s act y.note y.row (and_l two three more);
+        right = subst (λ (l : List Row). IsRight (lean_of k limit old_page new_page) own (block_in k.blocks own).inside (note_in y.note) (place_in (rows_in rows) j) l act s) (sym (drop_is (suc j) rows))
+            (row_is k limit old_page new_page own y.note (place_in (rows_in rows) j) (drop (suc j) rows) act s (and_r two three more));
+      })
+
+pub test_is_right : TestIsRight
+test_is_right k e limit old_page new_page =
+    let main = block_in k.blocks (names.Copy 0) in
+    let one = are_right_blocks k k.blocks in
+    let two = not main.inside && begins [] (ahead main.rows) in
+    let y = lean_of k (λ i. 0) (λ i. 0) (λ i. 0) in
+    let three = lands (rows_of.old_program y) (front (rows_of.old_program y) (names.Copy 0)) in
+    let four = begins_at k k.handler in
+    let five = all_of (λ a. is_own true (owner k.layout a)) k.rest in
+    let b = and_r one (two && (three && (four && five))) e in
+    let c = and_r two (three && (four && five)) b in
+    let d = and_r three (four && five) c in
+    let begun = and_l two (three && (four && five)) b in
+    let tested = and_l one (two && (three && (four && five))) e in
+    record {
+      right = λ own j s act n got. right_at k limit old_page new_page tested own j s act n got;
+      main = (is_not main.inside (and_l (not main.inside) (begins [] (ahead main.rows)) begun), begins_rows [] main.rows (and_r (not main.inside) (begins [] (ahead main.rows)) begun));
+      stands = and_l three (four && five) c;
+      handler = handler_is k limit old_page new_page k.handler (and_l four five d);
+      rest = λ a h. all_not (λ j. is_own true (owner k.layout j)) k.rest (and_r four five d) a h;
+      ends = λ own a h. not_false (among a (block_in k.blocks own).ends.apart.bytes) (λ z. sym h ∙ all_is (λ j. is_own (block_in k.blocks own).inside (owner k.layout j)) (block_in k.blocks own).ends.apart.bytes (tested_ends k k.blocks tested own a z) a z);
+    }

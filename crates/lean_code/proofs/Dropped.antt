@@ -1,0 +1,376 @@
+-- An instruction that is left out: the machine that runs the given code executes it alone.
+use Rattle.std.proofs.Common.{◌≡◌, ℕ, Bool, true, false, if◌then◌else◌, List, drop, Option, Some, None, option_map, refl, sym, ap, ◌∙◌, subst}
+use Rattle.std.specs.Prelude.{nat_eq, nat_lt, ◌&&◌}
+use Rattle.std.proofs.lemmas.Bool.{eqb-true}
+use Rattle.std.proofs.lemmas.Option.{none-some}
+use Rattle.pic_isa.specs.declared.Ins.TheVariants as ins
+use Rattle.pic_world.specs.Bits.{bit, set_bit, clear_bit, truth}
+use Rattle.sym_code.specs.Effect.{Thread, Memory, with_byte, Access, Silent, Denied, Effect, access_of, goes, file_to_w, file_to_file, store, change, test, put_flag, test_flag, flag, literal, literal_value, plain, jump_to, goto, effect_of}
+use Rattle.sym_code.specs.Layout.{owner}
+use Rattle.sym_code.specs.Programs.{Position, position, behind, onward, stand, label_from}
+use Rattle.sym_code.specs.Registers.{Registers, result_with, flags_with, skips_with, literal_row, after_row, status_bit, with_status_bit}
+use Rattle.sym_code.specs.Touching.{touches}
+use Rattle.sym_code.specs.declared.code.BitOperation.{BitOperation}
+use Rattle.sym_code.specs.declared.code.BitOperation.TheVariants.{Bcf, Bsf, Btfsc, Btfss}
+use Rattle.sym_code.specs.declared.code.FileOperation.{FileOperation}
+use Rattle.sym_code.specs.declared.code.FileOperation.TheVariants as files
+use Rattle.sym_code.specs.declared.code.Into.TheVariants as into
+use Rattle.sym_code.specs.declared.code.Label.TheVariants.{Inner}
+use Rattle.sym_code.specs.declared.code.Literal.{Literal}
+use Rattle.sym_code.specs.declared.code.Literal.TheVariants.{Number}
+use Rattle.sym_code.specs.declared.code.LiteralOperation.{LiteralOperation}
+use Rattle.sym_code.specs.declared.code.LiteralOperation.TheVariants as literals
+use Rattle.sym_code.specs.declared.code.Operand.TheVariants as operands
+use Rattle.sym_code.specs.declared.code.PlainOperation.{PlainOperation}
+use Rattle.sym_code.specs.declared.code.PlainOperation.TheVariants.{Clrw, Nop, Retfie, Return}
+use Rattle.sym_code.specs.declared.code.Register.TheVariants.{Status}
+use Rattle.sym_code.specs.declared.code.Sym.{Sym}
+use Rattle.sym_code.specs.declared.code.Sym.TheVariants as syms
+use Rattle.sym_code.specs.declared.code.Target.{Target}
+use Rattle.sym_code.specs.declared.code.Target.TheVariants as targets
+use Rattle.lean_code.specs.Rows.{Facts, Apart, Note, Row, olds, place_in, note_ahead, past, Lean, old_program, old_setting}
+use Rattle.lean_code.specs.Changes.{is_number, one_ors, one_clears, z_alone, Holds, Alike, Aim, ToByte, aim, lost, without_zero, moved, after_to_w, learned, stored, flags_in, may_skip, literal_flags, is_retlw, one_sets, other_w, other_byte, one_moves, one_stores}
+use Rattle.lean_code.specs.Right.{Expects, Passes, noted, with_flag, after_literal, dropped_literal, ExpectsBy, carry_but, DropsCarried, DropsMove, DropsToW, DropsToFile, DropsStore, DropsClear, DropsChange, DropsTest, DropsBit, DropsPlain, DropsGoto, IsDropped, IsSound}
+use Rattle.lean_code.specs.Links.{clears}
+use Rattle.lean_code.proofs.Lists.{never, dropped_at}
+use Rattle.lean_code.proofs.Places.{under, row_at, to_behind, to_past, to_label, under_dropped, under_stand, drops_behind}
+use Rattle.lean_code.proofs.Alike.{flags_alone, literal_alone, clear_alone, move_is, or_zero, moved_w}
+use Rattle.lean_code.proofs.Facts.{some_is, number_of, own_other, lose_zero, to_w_holds, flags_hold, lost_byte, learned_byte, stored_byte}
+use Rattle.lean_code.proofs.Flags.{set_alone}
+use Rattle.lean_code.proofs.Accesses.{Told, Aims, access_told, access_aims}
+use Rattle.lean_code.proofs.Relation.{held, Goes, Alone}
+use Rattle.lean_code.proofs.Kept.{Scene, skip_ok, one, other, rows, go_by}
+use Rattle.lean_code.proofs.KeptRows.{flag_bytes, literal_quiet, literal_holds, cleared_holds}
+
+-- a byte that one machine writes
+pub byte_one : (c d : Bool) (v a b : ℕ) → (d ≡ false → a ≡ b) → (if c then true else d) ≡ false → (if c then v else a) ≡ b
+byte_one true d v a b s e = never (sym e)
+byte_one false d v a b s e = s e
+
+-- one that held this already
+byte_still : (c : Bool) (v a : ℕ) → (c ≡ true → v ≡ a) → (if c then v else a) ≡ a
+byte_still true v a s = s refl
+byte_still false v a s = refl
+
+module _ (x : Lean) (sound : IsSound x) (inside : Bool) (rest : ℕ → Bool) (scene : Scene x inside rest) (dropped : dropped_at (row_at x scene.p) ≡ true) where
+  abbrev p : Position
+  p = scene.p
+
+  abbrev n : Note
+  n = scene.n
+
+  abbrev d : Apart
+  d = scene.n.apart
+
+  abbrev f : Facts
+  f = scene.n.facts
+
+  abbrev r : Registers
+  r = scene.r
+
+  abbrev s : Registers
+  s = scene.s
+
+  abbrev m : Memory
+  m = scene.m
+
+  abbrev k : Memory
+  k = scene.k
+
+  abbrev first : Thread
+  first = one x sound inside rest scene
+
+  abbrev second : Thread
+  second = other x sound inside rest scene
+
+  abbrev list : List Row
+  list = rows x sound inside rest scene
+
+  abbrev Lone : Effect → Type 0
+  Lone = Alone x inside rest second m k
+
+  -- the machine that was given the code goes on, and the other one stands
+  pass : (carry : Option ℕ) (can c : Bool) → (c ≡ true → can ≡ true) → (g : Facts) (e : Apart) → Passes carry list can g e → (t : Registers) (b : Memory) → Alike e t s → Holds g t b
+      → ((j : ℕ) → e.bytes j ≡ false → held scene.ks j ≡ false → rest j ≡ false → b j ≡ k j) → ((j : ℕ) → carry ≡ Some j → b j ≡ s.w) → Goes x inside rest (goes first (onward (old_program x) p c) t) second b k
+  pass carry false false ok g e l t b al h same carries =
+      go_by x sound inside rest scene carry (note_ahead list) g e (behind (old_program x) p) (under x p) (to_behind x p) (sym (under_dropped x p dropped)) l None None refl tt t s b k al h same carries
+  pass carry true false ok g e l t b al h same carries =
+      go_by x sound inside rest scene carry (note_ahead list) g e (behind (old_program x) p) (under x p) (to_behind x p) (sym (under_dropped x p dropped)) l.runs None None refl tt t s b k al h same carries
+  pass carry true true ok g e l t b al h same carries =
+      go_by x sound inside rest scene carry (note_ahead (past list)) g e (behind (old_program x) (behind (old_program x) p)) (under x p) (to_past x p)
+      (sym (under_dropped x (behind (old_program x) p) (drops_behind x p l.drops) ∙ under_dropped x p dropped)) l.skips None None refl tt t s b k al h same carries
+  pass carry false true ok g e l t b al h same carries = never (ok refl)
+
+  moves : (carry : Option ℕ) (g : Facts) (e : Apart) → ExpectsBy carry (note_ahead list) g e → (t : Registers) (b : Memory) → Alike e t s → Holds g t b
+      → ((j : ℕ) → e.bytes j ≡ false → held scene.ks j ≡ false → rest j ≡ false → b j ≡ k j) → ((j : ℕ) → carry ≡ Some j → b j ≡ s.w) → Goes x inside rest (goes first (behind (old_program x) p) t) second b k
+  moves carry g e l = pass carry false false (λ z. z) g e l
+
+  differs : (c h j i : ℕ) → nat_eq c j ≡ false → c ≡ h → j ≡ i → nat_eq h i ≡ false
+  differs c h j i e a b = ap (λ (z : ℕ). nat_eq z i) (sym a) ∙ ap (λ (z : ℕ). nat_eq c z) (sym b) ∙ e
+
+  carried_eq : (j i v : ℕ) → j ≡ i → (h c : ℕ) → n.carry ≡ Some c → (q : Bool) → nat_eq c j ≡ q → (if q then None else Some c) ≡ Some h → with_byte m i v h ≡ s.w
+  carried_eq j i v is h c carried true q e = absurd (none-some h e)
+  carried_eq j i v is h c carried false q e = ap (λ (z : Bool). if z then v else m h) (differs c h j i q (some_is c h e) is) ∙ scene.carry h (carried ∙ e)
+
+  carried_by : (j i v : ℕ) → j ≡ i → (h : ℕ) (o : Option ℕ) → n.carry ≡ o → carry_but j o ≡ Some h → with_byte m i v h ≡ s.w
+  carried_by j i v is h None carried e = absurd (none-some h e)
+  carried_by j i v is h (Some c) carried e = carried_eq j i v is h c carried (nat_eq c j) refl e
+
+  -- what is carried stays where another byte is written
+  carried_but : (j i v : ℕ) → j ≡ i → (h : ℕ) → carry_but j n.carry ≡ Some h → with_byte m i v h ≡ s.w
+  carried_but j i v is h e = carried_by j i v is h n.carry refl e
+
+  none_carried : (b : Memory) (j : ℕ) → None ≡ Some j → b j ≡ s.w
+  none_carried b j h = absurd (none-some j h)
+
+  aim_eq : (j h : ℕ) → ToByte j ≡ ToByte h → j ≡ h
+  aim_eq j h e = cc
+
+  -- ---- to W
+  to_w_alone : (op : FileOperation) (j i : ℕ) → j ≡ i → Passes n.carry list (may_skip op) (after_to_w op (ToByte j) f) (other_w (one_sets (flags_in op) d))
+      → Lone (file_to_w (old_program x) p first m op (Silent i))
+  to_w_alone op j i is l =
+      let al = flags_alone d r s scene.alike op (m i) in (
+        pass n.carry (may_skip op) (skips_with r op (m i)) (skip_ok r op (m i)) (after_to_w op (ToByte j) f) (other_w (one_sets (flags_in op) d)) l (record (flags_with r op (m i)) { w = result_with r op (m i) }) m
+            (record { w = λ e. never (sym e); z = al.z; dc = al.dc; c = al.c; fsr = al.fsr; irp = al.irp })
+            (to_w_holds f r m scene.holds op (ToByte j) (m i) (λ h e. ap m (sym is ∙ aim_eq j h e))) scene.still scene.carry,
+        tt,
+      )
+
+  w_if : (c b : Bool) (v y : ℕ) → (c ≡ true → y ≡ v) → (b ≡ false → y ≡ s.w) → (if c then b else true) ≡ false → v ≡ s.w
+  w_if true b v y same l e = sym (same refl) ∙ l e
+  w_if false b v y same l e = never (sym e)
+
+  z_if : (c g b : Bool) (v : ℕ) → (c ≡ true → r.w ≡ v) → (g ≡ true → r.z ≡ truth (nat_eq r.w 0)) → (b ≡ false → r.z ≡ s.z) → (if c && g then b else true) ≡ false → truth (nat_eq v 0) ≡ s.z
+  z_if true true b v same zero l e = ap (λ (i : ℕ). truth (nat_eq i 0)) (sym (same refl)) ∙ sym (zero refl) ∙ l e
+  z_if true false b v same zero l e = never (sym e)
+  z_if false g b v same zero l e = never (sym e)
+
+  move_alone : (j i : ℕ) → j ≡ i → Expects (note_ahead list) (moved (ToByte j) f) (one_moves f j d) → Lone (file_to_w (old_program x) p first m files.Movf (Silent i))
+  unfolding skips_with
+  move_alone j i is l =
+      let same : f.held j ≡ true → r.w ≡ m i = λ e. scene.holds.held j e ∙ ap m is in (
+        moves None (moved (ToByte j) f) (one_moves f j d) l (record (flags_with r files.Movf (m i)) { w = result_with r files.Movf (m i) }) m
+            (subst (λ (t : Registers). Alike (one_moves f j d) t s) (sym (move_is r (m i)))
+            (record { w = λ e. w_if (f.held j) d.w (m i) r.w same scene.alike.w e; z = λ e. z_if (f.held j) f.zero d.z (m i) same scene.holds.zero scene.alike.z e; dc = scene.alike.dc; c = scene.alike.c; fsr = scene.alike.fsr; irp = scene.alike.irp }))
+            (to_w_holds f r m scene.holds files.Movf (ToByte j) (m i) (λ h e. ap m (sym is ∙ aim_eq j h e))) scene.still (none_carried m),
+        tt,
+      )
+
+  -- W of the other machine is what is read
+  carry_alone : (j i c : ℕ) → j ≡ i → n.carry ≡ Some c → (q : Bool) → nat_eq c j ≡ q → DropsCarried x p.block inside n list j c q → Lone (file_to_w (old_program x) p first m files.Movf (Silent i))
+  unfolding skips_with
+  carry_alone j i c is carried true q l = (
+    moves None (moved (ToByte j) f) (record d { w = false; z = true }) l (record (flags_with r files.Movf (m i)) { w = result_with r files.Movf (m i) }) m
+        (subst (λ (t : Registers). Alike (record d { w = false; z = true }) t s) (sym (move_is r (m i)))
+        (record { w = λ e. ap m (sym (eqb-true c j q ∙ is)) ∙ scene.carry c carried; z = λ e. never (sym e); dc = scene.alike.dc; c = scene.alike.c; fsr = scene.alike.fsr; irp = scene.alike.irp }))
+        (to_w_holds f r m scene.holds files.Movf (ToByte j) (m i) (λ h e. ap m (sym is ∙ aim_eq j h e))) scene.still (none_carried m),
+    tt,
+  )
+  carry_alone j i c is carried false q l =
+      let same : f.held j ≡ true → r.w ≡ m i = λ e. scene.holds.held j e ∙ ap m is in (
+        moves (Some c) (moved (ToByte j) f) (one_moves f j d) l (record (flags_with r files.Movf (m i)) { w = result_with r files.Movf (m i) }) m
+            (subst (λ (t : Registers). Alike (one_moves f j d) t s) (sym (move_is r (m i)))
+            (record { w = λ e. w_if (f.held j) d.w (m i) r.w same scene.alike.w e; z = λ e. z_if (f.held j) f.zero d.z (m i) same scene.holds.zero scene.alike.z e; dc = scene.alike.dc; c = scene.alike.c; fsr = scene.alike.fsr; irp = scene.alike.irp }))
+            (to_w_holds f r m scene.holds files.Movf (ToByte j) (m i) (λ h e. ap m (sym is ∙ aim_eq j h e))) scene.still (λ h e. scene.carry h (carried ∙ e)),
+        tt,
+      )
+
+  move_by : (o : Option ℕ) → n.carry ≡ o → (j i : ℕ) → j ≡ i → DropsMove x p.block inside n list j o → Lone (file_to_w (old_program x) p first m files.Movf (Silent i))
+  move_by None e j i is l = move_alone j i is l
+  move_by (Some c) e j i is l = carry_alone j i c is e (nat_eq c j) refl l
+
+  -- 0 leaves W as it is
+  z_or : (g b : Bool) → (g ≡ true → r.z ≡ truth (nat_eq r.w 0)) → (b ≡ false → r.z ≡ s.z) → (if g then b else true) ≡ false → truth (nat_eq r.w 0) ≡ s.z
+  z_or true b zero l e = sym (zero refl) ∙ l e
+  z_or false b zero l e = never (sym e)
+
+  or_regs : (j i : ℕ) → j ≡ i → (c : Bool) → is_number (f.known j) 0 ≡ c
+      → Alike (if c then record d { z = if f.zero then d.z else true } else other_w (one_sets z_alone d)) (record (flags_with r files.Iorwf (m i)) { w = result_with r files.Iorwf (m i) }) s
+  or_regs j i is true e =
+      let none : m i ≡ 0 = ap m (sym is) ∙ scene.holds.known j 0 (number_of (f.known j) 0 e) in
+      subst (λ (t : Registers). Alike (record d { z = if f.zero then d.z else true }) t s) (sym (or_zero r (m i) none))
+      (record { w = scene.alike.w; z = λ h. z_or f.zero d.z scene.holds.zero scene.alike.z h; dc = scene.alike.dc; c = scene.alike.c; fsr = scene.alike.fsr; irp = scene.alike.irp })
+  or_regs j i is false e =
+      let al = flags_alone d r s scene.alike files.Iorwf (m i) in
+      record { w = λ h. never (sym h); z = al.z; dc = al.dc; c = al.c; fsr = al.fsr; irp = al.irp }
+
+  or_bytes : (c : Bool) (a : ℕ) → (if c then record d { z = if f.zero then d.z else true } else other_w (one_sets z_alone d)).bytes a ≡ d.bytes a
+  or_bytes true a = refl
+  or_bytes false a = refl
+
+  or_alone : (j i : ℕ) → j ≡ i → ExpectsBy n.carry (note_ahead list) (after_to_w files.Iorwf (ToByte j) f) (one_ors f j d) → Lone (file_to_w (old_program x) p first m files.Iorwf (Silent i))
+  unfolding skips_with
+  or_alone j i is l = (
+    moves n.carry (after_to_w files.Iorwf (ToByte j) f) (one_ors f j d) l (record (flags_with r files.Iorwf (m i)) { w = result_with r files.Iorwf (m i) }) m
+        (or_regs j i is (is_number (f.known j) 0) refl)
+        (to_w_holds f r m scene.holds files.Iorwf (ToByte j) (m i) (λ h e. ap m (sym is ∙ aim_eq j h e))) (λ a z o w. scene.still a (sym (or_bytes (is_number (f.known j) 0) a) ∙ z) o w) scene.carry,
+    tt,
+  )
+
+  file_to_w_alone : (op : FileOperation) (a : Aim) (c : Access) → Aims x a c → DropsToW x p.block inside n list op a → Lone (file_to_w (old_program x) p first m op c)
+  file_to_w_alone files.Movf (ToByte j) (Silent i) is l = move_by n.carry refl j i is l
+  file_to_w_alone files.Iorwf (ToByte j) (Silent i) is l = or_alone j i is l
+  file_to_w_alone op (ToByte j) (Silent i) is l = to_w_alone op j i is l
+  file_to_w_alone op (ToByte j) Denied is l = tt
+  file_to_w_alone op (ToByte j) c is l = absurd is
+  file_to_w_alone op a c is l = absurd l
+
+  -- ---- to the byte
+  written_alone : (e : Apart) (j i v : ℕ) → j ≡ i → ((a : ℕ) → e.bytes a ≡ d.bytes a) → (a : ℕ) → (other_byte j e).bytes a ≡ false → held scene.ks a ≡ false → rest a ≡ false → with_byte m i v a ≡ k a
+  written_alone e j i v is same a z o w =
+      byte_one (nat_eq a i) (e.bytes a) v (m a) (k a) (λ h. scene.still a (sym (same a) ∙ h) o w) (subst (λ (h : ℕ). (if nat_eq a h then true else e.bytes a) ≡ false) is z)
+
+  file_to_file_alone : (op : FileOperation) (a : Aim) (c : Access) → Aims x a c → Told x inside true c → DropsToFile x p.block inside n list op a → Lone (file_to_file (old_program x) p first m op c)
+  file_to_file_alone op (ToByte j) (Silent i) is t l =
+      let al = flags_alone d r s scene.alike op (m i) in
+      let v = result_with r op (m i) in (
+        pass (carry_but j n.carry) (may_skip op) (skips_with r op (m i)) (skip_ok r op (m i)) (lost x.hidden (ToByte j) (without_zero f)) (other_byte j (one_sets (flags_in op) d)) l (flags_with r op (m i)) (with_byte m i v)
+            (record { w = al.w; z = al.z; dc = al.dc; c = al.c; fsr = al.fsr; irp = al.irp })
+            (subst (λ (h : ℕ). Holds (lost x.hidden (ToByte h) (without_zero f)) (flags_with r op (m i)) (with_byte m i v)) (sym is) (lost_byte (without_zero f) (flags_with r op (m i)) m (flags_hold f r m scene.holds op (m i)) x.hidden i v))
+            (written_alone (one_sets (flags_in op) d) j i v is (λ a. refl)) (carried_but j i v is),
+        own_other inside (owner x.layout i) t,
+      )
+  file_to_file_alone op (ToByte j) Denied is t l = tt
+  file_to_file_alone op (ToByte j) c is t l = absurd is
+  file_to_file_alone op a c is t l = absurd l
+
+  -- ---- stores
+  store_byte : (c : Bool) (j i : ℕ) → j ≡ i → (c ≡ true → r.w ≡ m i) → (a : ℕ) → (if c then d else other_byte j d).bytes a ≡ false → held scene.ks a ≡ false → rest a ≡ false → with_byte m i r.w a ≡ k a
+  store_byte true j i is same a z o w = byte_still (nat_eq a i) r.w (m a) (λ e. same refl ∙ ap m (sym (eqb-true a i e))) ∙ scene.still a z o w
+  store_byte false j i is same a z o w = written_alone d j i r.w is (λ b. refl) a z o w
+
+  store_regs : (c : Bool) (j : ℕ) → Alike (if c then d else other_byte j d) r s
+  store_regs true j = scene.alike
+  store_regs false j = record { w = scene.alike.w; z = scene.alike.z; dc = scene.alike.dc; c = scene.alike.c; fsr = scene.alike.fsr; irp = scene.alike.irp }
+
+  store_alone : (a : Aim) (c : Access) → Aims x a c → Told x inside true c → DropsStore x p.block inside n list a → Lone (store (old_program x) p first r r.w c)
+  store_alone (ToByte j) (Silent i) is t l = (
+    moves (carry_but j n.carry) (stored x.hidden (ToByte j) f) (one_stores f j d) l r (with_byte m i r.w) (store_regs (f.held j) j)
+        (subst (λ (h : ℕ). Holds (stored x.hidden (ToByte h) f) r (with_byte m i r.w)) (sym is) (stored_byte x.hidden f r m i scene.holds))
+        (store_byte (f.held j) j i is (λ e. scene.holds.held j e ∙ ap m is)) (carried_but j i r.w is),
+    own_other inside (owner x.layout i) t,
+  )
+  store_alone (ToByte j) Denied is t l = tt
+  store_alone (ToByte j) c is t l = absurd is
+  store_alone a c is t l = absurd l
+
+  clear_regs : (c : Bool) (j : ℕ) → Alike (if c then record d { z = true } else other_byte j (record d { z = true })) (record r { z = 1 }) s
+  clear_regs true j = record { w = scene.alike.w; z = λ e. never (sym e); dc = scene.alike.dc; c = scene.alike.c; fsr = scene.alike.fsr; irp = scene.alike.irp }
+  clear_regs false j = record { w = scene.alike.w; z = λ e. never (sym e); dc = scene.alike.dc; c = scene.alike.c; fsr = scene.alike.fsr; irp = scene.alike.irp }
+
+  clear_bytes : (c : Bool) (j i : ℕ) → j ≡ i → (c ≡ true → m i ≡ 0) → (a : ℕ) → (if c then record d { z = true } else other_byte j (record d { z = true })).bytes a ≡ false → held scene.ks a ≡ false → rest a ≡ false → with_byte m i 0 a ≡ k a
+  clear_bytes true j i is none a z o w = byte_still (nat_eq a i) 0 (m a) (λ e. sym (none refl) ∙ ap m (sym (eqb-true a i e))) ∙ scene.still a z o w
+  clear_bytes false j i is none a z o w = written_alone (record d { z = true }) j i 0 is (λ b. refl) a z o w
+
+  clear_byte_alone : (a : Aim) (c : Access) → Aims x a c → Told x inside true c → DropsClear x p.block inside n list a → Lone (store (old_program x) p first (record r { z = 1 }) 0 c)
+  clear_byte_alone (ToByte j) (Silent i) is t l = (
+    moves (carry_but j n.carry) (learned x.hidden (ToByte j) (Some 0) (without_zero f)) (one_clears f j d) l (record r { z = 1 }) (with_byte m i 0) (clear_regs (is_number (f.known j) 0) j)
+        (subst (λ (h : ℕ). Holds (learned x.hidden (ToByte h) (Some 0) (without_zero f)) (record r { z = 1 }) (with_byte m i 0)) (sym is)
+        (learned_byte x.hidden (without_zero f) (record r { z = 1 }) m i 0 (lose_zero f r m scene.holds (record r { z = 1 }) refl)))
+        (clear_bytes (is_number (f.known j) 0) j i is (λ e. ap m (sym is) ∙ scene.holds.known j 0 (number_of (f.known j) 0 e))) (carried_but j i 0 is),
+    own_other inside (owner x.layout i) t,
+  )
+  clear_byte_alone (ToByte j) Denied is t l = tt
+  clear_byte_alone (ToByte j) c is t l = absurd is
+  clear_byte_alone a c is t l = absurd l
+
+  -- ---- bits of bytes
+  change_alone : (g : ℕ → ℕ) (a : Aim) (c : Access) → Aims x a c → Told x inside true c → DropsChange x p.block inside n list a → Lone (change (old_program x) p first m g c)
+  change_alone g (ToByte j) (Silent i) is t l = (
+    moves (carry_but j n.carry) (lost x.hidden (ToByte j) f) (other_byte j d) l r (with_byte m i (g (m i)))
+        (record { w = scene.alike.w; z = scene.alike.z; dc = scene.alike.dc; c = scene.alike.c; fsr = scene.alike.fsr; irp = scene.alike.irp })
+        (subst (λ (h : ℕ). Holds (lost x.hidden (ToByte h) f) r (with_byte m i (g (m i)))) (sym is) (lost_byte f r m scene.holds x.hidden i (g (m i))))
+        (written_alone d j i (g (m i)) is (λ b. refl)) (carried_but j i (g (m i)) is),
+    own_other inside (owner x.layout i) t,
+  )
+  change_alone g (ToByte j) Denied is t l = tt
+  change_alone g (ToByte j) c is t l = absurd is
+  change_alone g a c is t l = absurd l
+
+  test_alone : (says : ℕ → Bool) (a : Aim) (c : Access) → Aims x a c → DropsTest x p.block inside n list a → Lone (test (old_program x) p first m says c)
+  test_alone says (ToByte j) (Silent i) is l = (pass n.carry true (says (m i)) (λ z. refl) f d l r m scene.alike scene.holds scene.still scene.carry, tt)
+  test_alone says (ToByte j) Denied is l = tt
+  test_alone says (ToByte j) c is l = absurd is
+  test_alone says a c is l = absurd l
+
+  -- ---- flags
+  put_alone : (b v : ℕ) → nat_lt b 3 ≡ true → ExpectsBy n.carry (note_ahead list) (without_zero f) (with_flag b true d) → (o : Option Registers) → with_status_bit r b v ≡ o → Lone (put_flag (old_program x) p first o)
+  put_alone b v low l None is = tt
+  put_alone b v low l (Some t) is =
+      let z = set_alone d r s scene.alike b v t low is in
+      (moves n.carry (without_zero f) (with_flag b true d) l t m z.0 (lose_zero f r m scene.holds t z.1) (λ j e o w. scene.still j (sym (flag_bytes b true d j) ∙ e) o w) scene.carry, tt)
+
+  test_flag_alone : (v : ℕ) → Passes n.carry list true f d → (o : Option ℕ) → Lone (test_flag (old_program x) p first v o)
+  test_flag_alone v l None = tt
+  test_flag_alone v l (Some i) = (pass n.carry true (nat_eq i v) (λ z. refl) f d l r m scene.alike scene.holds scene.still scene.carry, tt)
+
+  flag_alone : (op : BitOperation) (b : ℕ) → DropsBit x p.block inside n list op (operands.Register Status) b → Lone (flag (old_program x) p first op b)
+  flag_alone Bcf b e = put_alone b 0 e.0 e.1 (with_status_bit r b 0) refl
+  flag_alone Bsf b e = put_alone b 1 e.0 e.1 (with_status_bit r b 1) refl
+  flag_alone Btfsc b e = test_flag_alone 0 e (status_bit r b)
+  flag_alone Btfss b e = test_flag_alone 1 e (status_bit r b)
+
+  -- ---- others
+  number_regs : (v : ℕ) (c : Bool) → is_number f.number v ≡ c → Alike (if c then d else other_w d) (record r { w = v }) s
+  number_regs v true e =
+      record { w = λ h. sym (scene.holds.number v (number_of f.number v e)) ∙ scene.alike.w h; z = scene.alike.z; dc = scene.alike.dc; c = scene.alike.c; fsr = scene.alike.fsr; irp = scene.alike.irp }
+  number_regs v false e = record { w = λ h. never (sym h); z = scene.alike.z; dc = scene.alike.dc; c = scene.alike.c; fsr = scene.alike.fsr; irp = scene.alike.irp }
+
+  literal_regs : (op : LiteralOperation) (value : Literal) → is_retlw op ≡ false → Alike (dropped_literal f d op value) (after_row (literal_row op (literal_value x.layout value)) r) s
+  literal_regs literals.Movlw (Number v) plain_op = subst (λ (t : Registers). Alike (dropped_literal f d literals.Movlw (Number v)) t s) (sym (moved_w r v)) (number_regs v (is_number f.number v) refl)
+  literal_regs op value plain_op = literal_alone d r s scene.alike op (literal_value x.layout value) plain_op
+
+  number_bytes : (c : Bool) (a : ℕ) → (if c then d else other_w d).bytes a ≡ d.bytes a
+  number_bytes true a = refl
+  number_bytes false a = refl
+
+  pub literal_bytes : (op : LiteralOperation) (value : Literal) (a : ℕ) → (dropped_literal f d op value).bytes a ≡ d.bytes a
+  literal_bytes literals.Movlw (Number v) a = number_bytes (is_number f.number v) a
+  literal_bytes op value a = refl
+
+  literal_lone : (op : LiteralOperation) (value : Literal) → is_retlw op ≡ false → ExpectsBy n.carry (note_ahead list) (after_literal f op value) (dropped_literal f d op value)
+      → Lone (literal (old_program x) p first op (after_row (literal_row op (literal_value x.layout value)) r))
+  literal_lone op value plain_op l =
+      let t = after_row (literal_row op (literal_value x.layout value)) r in
+      subst Lone (sym (literal_quiet (old_program x) p first op t plain_op)) (
+        moves n.carry (after_literal f op value) (dropped_literal f d op value) l t m (literal_regs op value plain_op) (literal_holds x sound inside rest scene op value)
+            (λ a z o w. scene.still a (sym (literal_bytes op value a) ∙ z) o w) scene.carry,
+        tt,
+      )
+
+  plain_alone : (op : PlainOperation) → DropsPlain x p.block inside n list op → Lone (plain (old_program x) p first op)
+  plain_alone Clrw e = (moves n.carry (record f { number = Some 0; held = λ a. false; zero = true }) (record d { w = true; z = true }) e (after_row ins.Clrw r) m (clear_alone d r s scene.alike) (cleared_holds x sound inside rest scene) scene.still scene.carry, tt)
+  plain_alone Nop e = (moves n.carry f d e r m scene.alike scene.holds scene.still scene.carry, tt)
+  plain_alone Retfie e = absurd e
+  plain_alone Return e = absurd e
+
+  jump_alone : (o : Option ℕ) → ((i : ℕ) → o ≡ Some i → place_in (x.rows p.block) i ≡ place_in (x.rows p.block) p.index) → ExpectsBy n.carry (noted (x.rows p.block) o) f d
+      → Lone (jump_to first (option_map (λ i. stand (old_program x) (position p.block i)) o))
+  jump_alone None there e = tt
+  jump_alone (Some i) there e = (
+    go_by x sound inside rest scene n.carry (note_ahead (drop i (x.rows p.block))) f d (stand (old_program x) (position p.block i)) (under x p) (to_label x p.block i)
+        (sym (under_stand x p.block i ∙ ap (position p.block) (there i refl))) e None None refl tt r s m k scene.alike scene.holds scene.still scene.carry,
+    tt,
+  )
+
+  goto_alone : (target : Target) → DropsGoto x p.block inside n (place_in (x.rows p.block) p.index) target → Lone (goto (old_setting x) inside p first target)
+  goto_alone (targets.Label (Inner l)) e = jump_alone (label_from (olds (x.rows p.block)) (Inner l) 0) e.1 e.0
+  goto_alone target e = absurd e
+
+  pub dropped_alone : (i : Sym) → clears x.hidden r (touches i) ≡ true → IsDropped x p.block inside n (place_in (x.rows p.block) p.index) list i → Lone (effect_of (old_setting x) inside p first m i)
+  unfolding effect_of
+  dropped_alone (syms.File op operand into.W) clear e = file_to_w_alone op (aim x.layout inside false operand) (access_of (old_setting x) inside false r operand) (access_aims x inside false r operand clear) e
+  dropped_alone (syms.File op operand into.File) clear e =
+      file_to_file_alone op (aim x.layout inside true operand) (access_of (old_setting x) inside true r operand) (access_aims x inside true r operand clear) (access_told x inside true r operand) e
+  dropped_alone (syms.Movwf operand) clear e = store_alone (aim x.layout inside true operand) (access_of (old_setting x) inside true r operand) (access_aims x inside true r operand clear) (access_told x inside true r operand) e
+  dropped_alone (syms.Clrf operand) clear e = clear_byte_alone (aim x.layout inside true operand) (access_of (old_setting x) inside true r operand) (access_aims x inside true r operand clear) (access_told x inside true r operand) e
+  dropped_alone (syms.Bit op (operands.Register Status) b) clear e = flag_alone op b e
+  dropped_alone (syms.Bit Bcf operand b) clear e = change_alone (clear_bit b) (aim x.layout inside true operand) (access_of (old_setting x) inside true r operand) (access_aims x inside true r operand clear) (access_told x inside true r operand) e
+  dropped_alone (syms.Bit Bsf operand b) clear e = change_alone (set_bit b) (aim x.layout inside true operand) (access_of (old_setting x) inside true r operand) (access_aims x inside true r operand clear) (access_told x inside true r operand) e
+  dropped_alone (syms.Bit Btfsc operand b) clear e = test_alone (λ v. nat_eq (bit v b) 0) (aim x.layout inside false operand) (access_of (old_setting x) inside false r operand) (access_aims x inside false r operand clear) e
+  dropped_alone (syms.Bit Btfss operand b) clear e = test_alone (λ v. nat_eq (bit v b) 1) (aim x.layout inside false operand) (access_of (old_setting x) inside false r operand) (access_aims x inside false r operand clear) e
+  dropped_alone (syms.Literal op value) clear e = literal_lone op value e.0 e.1
+  dropped_alone (syms.Plain op) clear e = plain_alone op e
+  dropped_alone (syms.Goto target) clear e = goto_alone target e
+  dropped_alone i clear e = absurd e

@@ -1,0 +1,235 @@
+-- What instructions do to what is known and to what may differ.
+use Rattle.std.specs.Prelude.{◌≡◌, ℕ, Bool, true, false, not, ◌&&◌, ◌||◌, nat_eq, if◌then◌else◌, Option, Some, None}
+use Rattle.pic_world.specs.Bits.{truth}
+use Rattle.pic_world.specs.declared.Root.TheVariants.{Main, Isr}
+use Rattle.core_code.specs.declared.code.Byte.TheVariants as bytes
+use Rattle.sym_code.specs.Effect.{Memory, Access, Pointer, Event, Silent, Denied, general_access}
+use Rattle.sym_code.specs.Layout.{DataLayout, Owner, Constant, Of, address_of, general_at}
+use Rattle.sym_code.specs.Registers.{Registers}
+use Rattle.sym_code.specs.declared.code.FileOperation.{FileOperation}
+use Rattle.sym_code.specs.declared.code.FileOperation.TheVariants as files
+use Rattle.sym_code.specs.declared.code.LiteralOperation.{LiteralOperation}
+use Rattle.sym_code.specs.declared.code.LiteralOperation.TheVariants as literals
+use Rattle.sym_code.specs.declared.code.Operand.{Operand}
+use Rattle.sym_code.specs.declared.code.Operand.TheVariants as operands
+use Rattle.sym_code.specs.declared.code.Register.TheVariants.{Indf, Fsr}
+use Rattle.lean_code.specs.Rows.{Facts, Apart}
+
+-- ---- what is said
+pub record Holds (f : Facts) (r : Registers) (m : Memory) : Type 0 where
+  pub number : (n : ℕ) → f.number ≡ Some n → r.w ≡ n
+  pub held : (a : ℕ) → f.held a ≡ true → r.w ≡ m a
+  pub zero : f.zero ≡ true → r.z ≡ truth (nat_eq r.w 0)
+  pub known : (a n : ℕ) → f.known a ≡ Some n → m a ≡ n
+
+-- the registers of the two machines; FSR and IRP never differ
+pub record Alike (d : Apart) (r s : Registers) : Type 0 where
+  pub w : d.w ≡ false → r.w ≡ s.w
+  pub z : d.z ≡ false → r.z ≡ s.z
+  pub dc : d.dc ≡ false → r.dc ≡ s.dc
+  pub c : d.c ≡ false → r.c ≡ s.c
+  pub fsr : r.fsr ≡ s.fsr
+  pub irp : r.irp ≡ s.irp
+
+-- f claims no more than k
+pub record Weaker (f k : Facts) : Type 0 where
+  pub number : (n : ℕ) → f.number ≡ Some n → k.number ≡ Some n
+  pub held : (a : ℕ) → f.held a ≡ true → k.held a ≡ true
+  pub zero : f.zero ≡ true → k.zero ≡ true
+  pub known : (a n : ℕ) → f.known a ≡ Some n → k.known a ≡ Some n
+
+-- W and the flags of b may differ wherever those of d may
+pub record CoversFlags (b d : Apart) : Type 0 where
+  pub w : b.w ≡ false → d.w ≡ false
+  pub z : b.z ≡ false → d.z ≡ false
+  pub dc : b.dc ≡ false → d.dc ≡ false
+  pub c : b.c ≡ false → d.c ≡ false
+
+-- b allows what d allows
+pub record Covers (b d : Apart) : Type 0 where
+  pub flags : CoversFlags b d
+  pub bytes : (a : ℕ) → b.bytes a ≡ false → d.bytes a ≡ false
+
+-- ---- where an operand leads
+pub data Aim : Type 0 where
+  ToFsr : Aim
+  -- an event, if it may be accessed
+  ToEvent : Aim
+  -- a general byte by its number, without an event
+  ToByte : ℕ → Aim
+  -- what FSR and IRP point to
+  Through : Aim
+  Nowhere : Aim
+
+abbrev pub aim_of : Access → Aim
+aim_of Pointer = ToFsr
+aim_of (Event loud) = ToEvent
+aim_of (Silent k) = ToByte k
+aim_of Denied = Nowhere
+
+unfoldable pub aim : DataLayout → Bool → Bool → Operand → Aim
+aim l inside writes (operands.Byte (bytes.Device address)) = ToEvent
+aim l inside writes (operands.Byte byte) = aim_of (general_access l inside writes (general_at (address_of l byte)))
+aim l inside writes (operands.Register Indf) = Through
+aim l inside writes (operands.Register Fsr) = ToFsr
+aim l inside writes operand = Nowhere
+
+-- ---- bytes of a thread
+-- its own
+abbrev pub is_own : Bool → Owner → Bool
+is_own inside (Of Main) = not inside
+is_own inside (Of Isr) = inside
+is_own inside owner = false
+
+-- what the other thread can't change
+abbrev pub is_near : Bool → Owner → Bool
+is_near inside Constant = true
+is_near inside owner = is_own inside owner
+
+-- ---- facts behind an instruction
+-- what is said of bytes, where the operand is written
+abbrev pub lost : (ℕ → Bool) → Aim → Facts → Facts
+lost hidden (ToByte k) f = record f { held = λ a. if nat_eq a k then false else f.held a; known = λ a. if nat_eq a k then None else f.known a }
+lost hidden Through f = record f { held = λ a. if hidden a then f.held a else false; known = λ a. if hidden a then f.known a else None }
+lost hidden aim f = f
+
+-- Z may have changed, or W with it
+abbrev pub without_zero : Facts → Facts
+without_zero f = record f { zero = false }
+
+abbrev pub without_w : Facts → Facts
+without_w f = record f { number = None; held = λ a. false; zero = false }
+
+abbrev pub is_number : Option ℕ → ℕ → Bool
+is_number None n = false
+is_number (Some k) n = nat_eq k n
+
+-- a byte is read to W
+abbrev pub moved : Aim → Facts → Facts
+moved (ToByte k) f = record f { number = f.known k; held = λ a. nat_eq a k; zero = true }
+moved aim f = record f { number = None; held = λ a. false; zero = true }
+
+abbrev pub after_to_w : FileOperation → Aim → Facts → Facts
+after_to_w files.Movf aim f = moved aim f
+-- 0 leaves W as it is
+after_to_w files.Iorwf (ToByte k) f = if is_number (f.known k) 0 then record f { zero = true } else without_w f
+after_to_w op aim f = without_w f
+
+-- a number is written, or W
+abbrev pub learned : (ℕ → Bool) → Aim → Option ℕ → Facts → Facts
+learned hidden (ToByte k) number f = record f { held = λ a. if nat_eq a k then false else f.held a; known = λ a. if nat_eq a k then number else f.known a }
+learned hidden aim number f = lost hidden aim f
+
+abbrev pub stored : (ℕ → Bool) → Aim → Facts → Facts
+stored hidden (ToByte k) f = record f { held = λ a. if nat_eq a k then true else f.held a; known = λ a. if nat_eq a k then f.number else f.known a }
+stored hidden aim f = lost hidden aim f
+
+-- ---- what instructions read and write of W and the flags
+pub record Flags : Type 0 where
+  pub z : Bool
+  pub dc : Bool
+  pub c : Bool
+
+abbrev pub no_flags : Flags
+no_flags = record { z = false; dc = false; c = false }
+
+abbrev pub z_alone : Flags
+z_alone = record { z = true; dc = false; c = false }
+
+abbrev pub all_flags : Flags
+all_flags = record { z = true; dc = true; c = true }
+
+abbrev pub c_alone : Flags
+c_alone = record { z = false; dc = false; c = true }
+
+abbrev pub flags_in : FileOperation → Flags
+flags_in files.Addwf = all_flags
+flags_in files.Subwf = all_flags
+flags_in files.Decfsz = no_flags
+flags_in files.Incfsz = no_flags
+flags_in files.Swapf = no_flags
+flags_in files.Rlf = c_alone
+flags_in files.Rrf = c_alone
+flags_in op = z_alone
+
+abbrev pub uses_w : FileOperation → Bool
+uses_w files.Addwf = true
+uses_w files.Andwf = true
+uses_w files.Iorwf = true
+uses_w files.Subwf = true
+uses_w files.Xorwf = true
+uses_w op = false
+
+abbrev pub uses_c : FileOperation → Bool
+uses_c files.Rlf = true
+uses_c files.Rrf = true
+uses_c op = false
+
+abbrev pub may_skip : FileOperation → Bool
+may_skip files.Decfsz = true
+may_skip files.Incfsz = true
+may_skip op = false
+
+abbrev pub literal_flags : LiteralOperation → Flags
+literal_flags literals.Addlw = all_flags
+literal_flags literals.Sublw = all_flags
+literal_flags literals.Movlw = no_flags
+literal_flags literals.Retlw = no_flags
+literal_flags op = z_alone
+
+abbrev pub literal_uses : LiteralOperation → Bool
+literal_uses literals.Movlw = false
+literal_uses literals.Retlw = false
+literal_uses op = true
+
+abbrev pub is_retlw : LiteralOperation → Bool
+is_retlw literals.Retlw = true
+is_retlw op = false
+
+-- the operation on W and a number that does the same as one on W and a byte that holds it, but that MOVLW leaves Z
+abbrev pub literal_for : FileOperation → Option LiteralOperation
+literal_for files.Addwf = Some literals.Addlw
+literal_for files.Andwf = Some literals.Andlw
+literal_for files.Iorwf = Some literals.Iorlw
+literal_for files.Movf = Some literals.Movlw
+literal_for files.Subwf = Some literals.Sublw
+literal_for files.Xorwf = Some literals.Xorlw
+literal_for op = None
+
+-- ---- what may differ behind an instruction
+-- both write these flags alike
+abbrev pub both_set : Flags → Apart → Apart
+both_set f d = record d { z = not f.z && d.z; dc = not f.dc && d.dc; c = not f.c && d.c }
+
+-- only one of them writes these
+abbrev pub one_sets : Flags → Apart → Apart
+one_sets f d = record d { z = f.z || d.z; dc = f.dc || d.dc; c = f.c || d.c }
+
+abbrev pub same_w : Apart → Apart
+same_w d = record d { w = false }
+
+abbrev pub other_w : Apart → Apart
+other_w d = record d { w = true }
+
+abbrev pub same_byte : Aim → Apart → Apart
+same_byte (ToByte k) d = record d { bytes = λ a. if nat_eq a k then false else d.bytes a }
+same_byte aim d = d
+
+abbrev pub other_byte : ℕ → Apart → Apart
+other_byte k d = record d { bytes = λ a. if nat_eq a k then true else d.bytes a }
+
+-- Only one of them reads byte k to W: W differs, unless it was what that holds, and Z, unless it said so.
+abbrev pub one_moves : Facts → ℕ → Apart → Apart
+one_moves f k d = record d { w = if f.held k then d.w else true; z = if f.held k && f.zero then d.z else true }
+
+-- only one of them stores W in byte k
+abbrev pub one_stores : Facts → ℕ → Apart → Apart
+one_stores f k d = if f.held k then d else other_byte k d
+
+-- only one of them joins W with byte k, whose 0 leaves W as it is
+abbrev pub one_ors : Facts → ℕ → Apart → Apart
+one_ors f k d = if is_number (f.known k) 0 then record d { z = if f.zero then d.z else true } else other_w (one_sets z_alone d)
+
+-- only one of them clears byte k
+abbrev pub one_clears : Facts → ℕ → Apart → Apart
+one_clears f k d = if is_number (f.known k) 0 then record d { z = true } else other_byte k (record d { z = true })

@@ -1,0 +1,451 @@
+-- A certificate as lists, and the test of it.
+use Rattle.std.specs.Prelude.{◌≡◌, ℕ, suc, Bool, true, false, not, ◌&&◌, ◌||◌, nat_eq, nat_lt, if◌then◌else◌, List, [], ◌∷◌, drop, Option, Some, None, option_map}
+use Rattle.std.specs.List.{AllZip}
+use Rattle.sym_code.specs.Layout.{DataLayout, owner}
+use Rattle.sym_code.specs.Programs.{same_name, label_from, front, lands}
+use Rattle.sym_code.specs.declared.code.BitOperation.{BitOperation}
+use Rattle.sym_code.specs.declared.code.BitOperation.TheVariants as bit_ops
+use Rattle.sym_code.specs.declared.code.BlockName.{BlockName}
+use Rattle.sym_code.specs.declared.code.BlockName.TheVariants as names
+use Rattle.sym_code.specs.declared.code.FileOperation.{FileOperation}
+use Rattle.sym_code.specs.declared.code.FileOperation.TheVariants as files
+use Rattle.sym_code.specs.declared.code.Into.{Into}
+use Rattle.sym_code.specs.declared.code.Into.TheVariants as into
+use Rattle.sym_code.specs.declared.code.Label.{Label}
+use Rattle.sym_code.specs.declared.code.Label.TheVariants as labels
+use Rattle.sym_code.specs.declared.code.LiteralOperation.{LiteralOperation}
+use Rattle.sym_code.specs.declared.code.LiteralOperation.TheVariants as literals
+use Rattle.sym_code.specs.declared.code.Operand.{Operand}
+use Rattle.sym_code.specs.declared.code.Operand.TheVariants as operands
+use Rattle.sym_code.specs.declared.code.PlainOperation.{PlainOperation}
+use Rattle.sym_code.specs.declared.code.PlainOperation.TheVariants as plains
+use Rattle.sym_code.specs.declared.code.Register.TheVariants.{Status}
+use Rattle.sym_code.specs.declared.code.Sym.{Sym}
+use Rattle.sym_code.specs.declared.code.Sym.TheVariants as syms
+use Rattle.sym_code.specs.declared.code.SymBlock.{SymBlock}
+use Rattle.sym_code.specs.declared.code.Target.{Target}
+use Rattle.sym_code.specs.declared.code.Target.TheVariants as targets
+use Rattle.lean_code.specs.Rows.{Facts, Apart, Note, nothing_known, Act, Keeps, Drops, Puts, Narrows, Row, At, olds, puts, is_label, place_in, drops_first, keeps_first, goes_on, Lean, old_program}
+use Rattle.lean_code.specs.Changes.{Aim, ToByte, Through, aim, is_own, is_near, lost, without_zero, moved, after_to_w, learned, stored, flags_in, uses_w, uses_c, may_skip, literal_flags, literal_uses, is_retlw, literal_for, both_set, one_sets, same_w, other_w, same_byte, other_byte, one_moves, one_stores, is_number, one_ors, one_clears}
+use Rattle.lean_code.specs.Right as right
+use Rattle.lean_code.specs.Right.{flag_apart, with_flag}
+
+-- ---- lists
+abbrev pub among : ℕ → List ℕ → Bool
+among a [] = false
+among a (b ∷ bs) = nat_eq a b || among a bs
+
+abbrev pub all_of : (ℕ → Bool) → List ℕ → Bool
+all_of test [] = true
+all_of test (b ∷ bs) = test b && all_of test bs
+
+-- a general byte and the number that it holds
+pub record KnownByte : Type 0 where
+  pub byte : ℕ
+  pub number : ℕ
+
+abbrev pub number_in : ℕ → List KnownByte → Option ℕ
+number_in a [] = None
+number_in a (b ∷ bs) = if nat_eq a b.byte then Some b.number else number_in a bs
+
+pub record ListedFacts : Type 0 where
+  pub number : Option ℕ
+  pub held : List ℕ
+  pub zero : Bool
+  pub known : List KnownByte
+
+pub record ListedApart : Type 0 where
+  pub w : Bool
+  pub z : Bool
+  pub dc : Bool
+  pub c : Bool
+  pub bytes : List ℕ
+
+pub record ListedNote : Type 0 where
+  pub facts : ListedFacts
+  pub apart : ListedApart
+  pub carry : Option ℕ
+
+pub data ListedRow : Type 0 where
+  Listed : Sym → Act → Option ListedNote → ListedRow
+
+pub record ListedBlock : Type 0 where
+  pub name : BlockName
+  pub rows : List ListedRow
+  -- it runs inside the handler
+  pub inside : Bool
+  -- what is known where it returns
+  pub ends : ListedNote
+  -- bytes that may differ in functions that wait for it
+  pub outer : List ℕ
+
+pub record Sketch : Type 0 where
+  pub blocks : List ListedBlock
+  pub handler : Option ℕ
+  pub layout : DataLayout
+  -- bytes of the handler's that may differ while it doesn't run
+  pub rest : List ℕ
+  -- bytes that are never reached through FSR
+  pub hidden : ℕ → Bool
+
+-- ---- what the lists say
+abbrev pub facts_in : ListedFacts → Facts
+facts_in f = record { number = f.number; held = λ a. among a f.held; zero = f.zero; known = λ a. number_in a f.known }
+
+abbrev pub apart_in : ListedApart → Apart
+apart_in d = record { w = d.w; z = d.z; dc = d.dc; c = d.c; bytes = λ a. among a d.bytes }
+
+abbrev pub note_in : ListedNote → Note
+note_in n = record { facts = facts_in n.facts; apart = apart_in n.apart; carry = n.carry }
+
+abbrev pub row_in : ListedRow → Row
+row_in (Listed s act n) = At s act (option_map note_in n)
+
+abbrev pub rows_in : List ListedRow → List Row
+rows_in [] = []
+rows_in (row ∷ rows) = row_in row ∷ rows_in rows
+
+abbrev pub no_note : ListedNote
+no_note = record { facts = record { number = None; held = []; zero = false; known = [] }; apart = record { w = true; z = true; dc = true; c = true; bytes = [] }; carry = None }
+
+abbrev pub no_block : BlockName → ListedBlock
+no_block name = record { name = name; rows = []; inside = false; ends = no_note; outer = [] }
+
+-- of two blocks of one name the first counts
+abbrev pub block_in : List ListedBlock → BlockName → ListedBlock
+block_in [] name = no_block name
+block_in (b ∷ bs) name = if same_name b.name name then b else block_in bs name
+
+abbrev pub lean_of : Sketch → (Bool → ℕ) → (BlockName → ℕ) → (BlockName → ℕ) → Lean
+lean_of k limit old_page new_page = record {
+  rows = λ name. rows_in (block_in k.blocks name).rows;
+  handler = k.handler;
+  layout = k.layout;
+  limit = limit;
+  old_page = old_page;
+  new_page = new_page;
+  inside = λ name. (block_in k.blocks name).inside;
+  ends = λ name. note_in (block_in k.blocks name).ends;
+  outer = λ name a. among a (block_in k.blocks name).outer;
+  rest = λ a. among a k.rest;
+  hidden = k.hidden;
+}
+
+-- ---- tests
+abbrev pub gives_number : Option ℕ → Option ℕ → Bool
+gives_number has None = true
+gives_number has (Some n) = is_number has n
+
+abbrev pub gives_known : (ℕ → Option ℕ) → List KnownByte → Bool
+gives_known has [] = true
+gives_known has (b ∷ bs) = is_number (has b.byte) b.number && gives_known has bs
+
+-- the facts are enough for those that are listed
+abbrev pub gives : Facts → ListedFacts → Bool
+gives f n = gives_number f.number n.number && (all_of f.held n.held && ((not n.zero || f.zero) && gives_known f.known n.known))
+
+abbrev pub covers_flags : ListedApart → Apart → Bool
+covers_flags b d = (b.w || not d.w) && ((b.z || not d.z) && ((b.dc || not d.dc) && (b.c || not d.c)))
+
+-- each byte of the candidates that may differ is listed
+abbrev pub covers_bytes : List ℕ → (ℕ → Bool) → List ℕ → Bool
+covers_bytes listed differs candidates = all_of (λ a. not (differs a) || among a listed) candidates
+
+-- no more is said to be carried than is
+abbrev pub same_number : Option ℕ → Option ℕ → Bool
+same_number None carry = true
+same_number (Some a) carry = is_number carry a
+
+abbrev pub expects_by : Option ℕ → Option (Option ListedNote) → Facts → Apart → List ℕ → Bool
+expects_by carry None f d candidates = true
+expects_by carry (Some None) f d candidates = false
+expects_by carry (Some (Some n)) f d candidates = gives f n.facts && (covers_flags n.apart d && (covers_bytes n.apart.bytes d.bytes candidates && same_number n.carry carry))
+
+abbrev pub expects : Option (Option ListedNote) → Facts → Apart → List ℕ → Bool
+expects o f d candidates = expects_by None o f d candidates
+
+abbrev pub ahead : List ListedRow → Option (Option ListedNote)
+ahead [] = None
+ahead (Listed s act n ∷ rows) = if is_label s then ahead rows else Some n
+
+abbrev pub past : List ListedRow → List ListedRow
+past [] = []
+past (Listed s act n ∷ rows) = if is_label s then past rows else rows
+
+abbrev pub leads : List ListedRow → Bool → Facts → Apart → List ℕ → Bool
+leads rest can f d candidates = expects (ahead rest) f d candidates && (if can then expects (ahead (past rest)) f d candidates && keeps_first (rows_in rest) else true)
+
+abbrev pub passes : Option ℕ → List ListedRow → Bool → Facts → Apart → List ℕ → Bool
+passes carry rest can f d candidates = expects_by carry (ahead rest) f d candidates && (if can then expects_by carry (ahead (past rest)) f d candidates && drops_first (rows_in rest) else true)
+
+abbrev pub comes : Option (Option ListedNote) → ListedNote → List ℕ → Bool
+comes None k across = true
+comes (Some None) k across = false
+comes (Some (Some n)) k across =
+    gives (facts_in k.facts) n.facts && (covers_flags n.apart (apart_in k.apart) && (all_of (λ a. among a n.apart.bytes) k.apart.bytes && (all_of (λ a. among a n.apart.bytes) across && same_number n.carry None)))
+
+abbrev pub enters : Option (Option ListedNote) → ListedNote → Bool
+enters None n = true
+enters (Some None) n = false
+enters (Some (Some k)) n = gives (facts_in n.facts) k.facts && (covers_flags k.apart (apart_in n.apart) && same_number k.carry None)
+
+-- what is read may not differ
+abbrev pub same : (ℕ → Bool) → Aim → List ℕ → List ℕ → Bool
+same hidden (ToByte k) differs outer = not (among k differs) && not (among k outer)
+same hidden Through differs outer = all_of hidden differs && all_of hidden outer
+same hidden aim differs outer = true
+
+abbrev pub with_aim : Aim → List ℕ → List ℕ
+with_aim (ToByte k) bytes = k ∷ bytes
+with_aim aim bytes = bytes
+
+abbrev pub noted : List ListedRow → Option ℕ → Option (Option ListedNote)
+noted rows None = None
+noted rows (Some i) = ahead (drop i rows)
+
+abbrev pub same_side : Bool → Bool → Bool
+same_side true b = b
+same_side false b = not b
+
+abbrev pub same_operation : LiteralOperation → LiteralOperation → Bool
+same_operation literals.Addlw literals.Addlw = true
+same_operation literals.Andlw literals.Andlw = true
+same_operation literals.Iorlw literals.Iorlw = true
+same_operation literals.Movlw literals.Movlw = true
+same_operation literals.Sublw literals.Sublw = true
+same_operation literals.Xorlw literals.Xorlw = true
+same_operation a b = false
+
+abbrev pub is_operation : Option LiteralOperation → LiteralOperation → Bool
+is_operation None new = false
+is_operation (Some op) new = same_operation op new
+
+-- a label that is found stands where the code that is made stands already
+abbrev pub is_here : List ListedRow → ℕ → Option ℕ → Bool
+is_here rows here None = true
+is_here rows here (Some i) = nat_eq (place_in (rows_in rows) i) here
+
+module _ (k : Sketch) (own : BlockName) (n : ListedNote) where
+  abbrev pub block : ListedBlock
+  block = block_in k.blocks own
+
+  abbrev pub f : Facts
+  f = facts_in n.facts
+
+  abbrev pub d : Apart
+  d = apart_in n.apart
+
+  abbrev pub here_bytes : List ℕ
+  here_bytes = n.apart.bytes
+
+  abbrev pub read : Operand → Aim
+  read operand = aim k.layout block.inside false operand
+
+  abbrev pub write : Operand → Aim
+  write operand = aim k.layout block.inside true operand
+
+  abbrev pub is_same : Aim → Bool
+  is_same a = same k.hidden a n.apart.bytes block.outer
+
+  abbrev pub uses : FileOperation → Bool
+  uses op = not (uses_w op && n.apart.w) && not (uses_c op && n.apart.c)
+
+  abbrev pub keeps_file : List ListedRow → FileOperation → Operand → Into → Bool
+  keeps_file rest op operand into.W = uses op && (is_same (read operand) && leads rest (may_skip op) (after_to_w op (read operand) f) (same_w (both_set (flags_in op) d)) here_bytes)
+  keeps_file rest op operand into.File =
+      uses op && (is_same (write operand) && leads rest (may_skip op) (lost k.hidden (write operand) (without_zero f)) (same_byte (write operand) (both_set (flags_in op) d)) here_bytes)
+
+  abbrev pub keeps_bit : List ListedRow → BitOperation → Operand → ℕ → Bool
+  keeps_bit rest bit_ops.Bcf (operands.Register Status) b = expects (ahead rest) (without_zero f) (with_flag b false d) here_bytes
+  keeps_bit rest bit_ops.Bsf (operands.Register Status) b = expects (ahead rest) (without_zero f) (with_flag b false d) here_bytes
+  keeps_bit rest op (operands.Register Status) b = not (flag_apart b d) && leads rest true f d here_bytes
+  keeps_bit rest bit_ops.Bcf operand b = is_same (write operand) && expects (ahead rest) (lost k.hidden (write operand) f) d here_bytes
+  keeps_bit rest bit_ops.Bsf operand b = is_same (write operand) && expects (ahead rest) (lost k.hidden (write operand) f) d here_bytes
+  keeps_bit rest op operand b = is_same (read operand) && leads rest true f d here_bytes
+
+  abbrev pub keeps_plain : List ListedRow → PlainOperation → Bool
+  keeps_plain rest plains.Clrw = expects (ahead rest) (record f { number = Some 0; held = λ a. false; zero = true }) (record d { w = false; z = false }) here_bytes
+  keeps_plain rest plains.Nop = expects (ahead rest) f d here_bytes
+  keeps_plain rest plains.Retfie = true
+  keeps_plain rest plains.Return = gives f block.ends.facts && (covers_flags block.ends.apart d && covers_bytes block.ends.apart.bytes d.bytes here_bytes)
+
+  abbrev pub at_label : Label → Option (Option ListedNote)
+  at_label label = noted block.rows (label_from (olds (rows_in block.rows)) label 0)
+
+  abbrev pub keeps_goto : Target → Bool
+  keeps_goto (targets.Label labels.Halt) = true
+  keeps_goto (targets.Label labels.Restore) = block.inside && all_of (λ a. among a k.rest) here_bytes
+  keeps_goto (targets.Label label) = expects (at_label label) f d here_bytes
+  keeps_goto (targets.Block name) = false
+
+  abbrev pub keeps_call : List ListedRow → Target → Bool
+  keeps_call rest (targets.Label label) = false
+  keeps_call rest (targets.Block name) =
+      same_side (block_in k.blocks name).inside block.inside && (enters (ahead (block_in k.blocks name).rows) n && (comes (ahead rest) (block_in k.blocks name).ends here_bytes
+      && (all_of (λ a. among a (block_in k.blocks name).outer) here_bytes && all_of (λ a. among a (block_in k.blocks name).outer) block.outer)))
+
+  abbrev pub is_kept : List ListedRow → Sym → Bool
+  is_kept rest (syms.File op operand to) = keeps_file rest op operand to
+  is_kept rest (syms.Movwf operand) = not n.apart.w && expects (ahead rest) (stored k.hidden (write operand) f) (same_byte (write operand) d) here_bytes
+  is_kept rest (syms.Clrf operand) = expects (ahead rest) (learned k.hidden (write operand) (Some 0) (without_zero f)) (same_byte (write operand) (record d { z = false })) here_bytes
+  is_kept rest (syms.Bit op operand b) = keeps_bit rest op operand b
+  is_kept rest (syms.Literal op value) = not (is_retlw op) && (not (literal_uses op && n.apart.w) && expects (ahead rest) (right.after_literal f op value) (same_w (both_set (literal_flags op) d)) here_bytes)
+  is_kept rest (syms.Plain op) = keeps_plain rest op
+  is_kept rest (syms.Call target) = keeps_call rest target
+  is_kept rest (syms.Goto target) = keeps_goto target
+  is_kept rest (syms.Label label) = true
+  is_kept rest (syms.SelectBank bit on) = expects (ahead rest) f d here_bytes
+  is_kept rest (syms.SelectPage bit target) = expects (ahead rest) f d here_bytes
+
+  abbrev pub drops_carried : List ListedRow → ℕ → ℕ → Bool → Bool
+  drops_carried rest i c true = expects (ahead rest) (moved (ToByte i) f) (record d { w = false; z = true }) here_bytes
+  drops_carried rest i c false = expects_by (Some c) (ahead rest) (moved (ToByte i) f) (one_moves f i d) here_bytes
+
+  abbrev pub drops_move : List ListedRow → ℕ → Option ℕ → Bool
+  drops_move rest i None = expects (ahead rest) (moved (ToByte i) f) (one_moves f i d) here_bytes
+  drops_move rest i (Some c) = drops_carried rest i c (nat_eq c i)
+
+  abbrev pub drops_to_w : List ListedRow → FileOperation → Aim → Bool
+  drops_to_w rest files.Movf (ToByte i) = drops_move rest i n.carry
+  drops_to_w rest files.Iorwf (ToByte i) = expects_by n.carry (ahead rest) (after_to_w files.Iorwf (ToByte i) f) (one_ors f i d) here_bytes
+  drops_to_w rest op (ToByte i) = passes n.carry rest (may_skip op) (after_to_w op (ToByte i) f) (other_w (one_sets (flags_in op) d)) here_bytes
+  drops_to_w rest op a = false
+
+  abbrev pub drops_to_file : List ListedRow → FileOperation → Aim → Bool
+  drops_to_file rest op (ToByte i) = passes (right.carry_but i n.carry) rest (may_skip op) (lost k.hidden (ToByte i) (without_zero f)) (other_byte i (one_sets (flags_in op) d)) (i ∷ here_bytes)
+  drops_to_file rest op a = false
+
+  abbrev pub drops_store : List ListedRow → Aim → Bool
+  drops_store rest (ToByte i) = expects_by (right.carry_but i n.carry) (ahead rest) (stored k.hidden (ToByte i) f) (one_stores f i d) (i ∷ here_bytes)
+  drops_store rest a = false
+
+  abbrev pub drops_clear : List ListedRow → Aim → Bool
+  drops_clear rest (ToByte i) = expects_by (right.carry_but i n.carry) (ahead rest) (learned k.hidden (ToByte i) (Some 0) (without_zero f)) (one_clears f i d) (i ∷ here_bytes)
+  drops_clear rest a = false
+
+  abbrev pub drops_change : List ListedRow → Aim → Bool
+  drops_change rest (ToByte i) = expects_by (right.carry_but i n.carry) (ahead rest) (lost k.hidden (ToByte i) f) (other_byte i d) (i ∷ here_bytes)
+  drops_change rest a = false
+
+  abbrev pub drops_test : List ListedRow → Aim → Bool
+  drops_test rest (ToByte i) = passes n.carry rest true f d here_bytes
+  drops_test rest a = false
+
+  abbrev pub drops_bit : List ListedRow → BitOperation → Operand → ℕ → Bool
+  drops_bit rest bit_ops.Bcf (operands.Register Status) b = nat_lt b 3 && expects_by n.carry (ahead rest) (without_zero f) (with_flag b true d) here_bytes
+  drops_bit rest bit_ops.Bsf (operands.Register Status) b = nat_lt b 3 && expects_by n.carry (ahead rest) (without_zero f) (with_flag b true d) here_bytes
+  drops_bit rest op (operands.Register Status) b = passes n.carry rest true f d here_bytes
+  drops_bit rest bit_ops.Bcf operand b = drops_change rest (write operand)
+  drops_bit rest bit_ops.Bsf operand b = drops_change rest (write operand)
+  drops_bit rest op operand b = drops_test rest (read operand)
+
+  abbrev pub drops_plain : List ListedRow → PlainOperation → Bool
+  drops_plain rest plains.Clrw = expects_by n.carry (ahead rest) (record f { number = Some 0; held = λ a. false; zero = true }) (record d { w = true; z = true }) here_bytes
+  drops_plain rest plains.Nop = expects_by n.carry (ahead rest) f d here_bytes
+  drops_plain rest op = false
+
+  abbrev pub drops_goto : ℕ → Target → Bool
+  drops_goto here (targets.Label (labels.Inner l)) = expects_by n.carry (at_label (labels.Inner l)) f d here_bytes && is_here block.rows here (label_from (olds (rows_in block.rows)) (labels.Inner l) 0)
+  drops_goto here target = false
+
+  abbrev pub is_left_out : ℕ → List ListedRow → Sym → Bool
+  is_left_out here rest (syms.File op operand into.W) = drops_to_w rest op (read operand)
+  is_left_out here rest (syms.File op operand into.File) = drops_to_file rest op (write operand)
+  is_left_out here rest (syms.Movwf operand) = drops_store rest (write operand)
+  is_left_out here rest (syms.Clrf operand) = drops_clear rest (write operand)
+  is_left_out here rest (syms.Bit op operand b) = drops_bit rest op operand b
+  is_left_out here rest (syms.Literal op value) = not (is_retlw op) && expects_by n.carry (ahead rest) (right.after_literal f op value) (right.dropped_literal f d op value) here_bytes
+  is_left_out here rest (syms.Plain op) = drops_plain rest op
+  is_left_out here rest (syms.Goto target) = drops_goto here target
+  is_left_out here rest s = false
+
+  abbrev pub puts_for : List ListedRow → FileOperation → Aim → LiteralOperation → ℕ → Bool
+  puts_for rest op (ToByte i) new v =
+      is_operation (literal_for op) new && (is_number (f.known i) v && (not (uses_w op && n.apart.w)
+      && expects (ahead rest) (after_to_w op (ToByte i) f) (right.literal_apart f d op i) here_bytes))
+  puts_for rest op a new v = false
+
+  abbrev pub is_put : List ListedRow → LiteralOperation → ℕ → Sym → Bool
+  is_put rest new v (syms.File op operand into.W) = puts_for rest op (read operand) new v
+  is_put rest new v (syms.Label label) = true
+  is_put rest new v s = false
+
+  abbrev pub narrows_for : List ListedRow → FileOperation → Aim → Aim → Bool
+  narrows_for rest op (ToByte i) (ToByte j) =
+      uses op && (is_same (ToByte i) && (not (may_skip op) && (nat_eq j i
+      && expects_by (Some i) (ahead rest) (lost k.hidden (ToByte i) (without_zero f)) (other_w (other_byte i (both_set (flags_in op) d))) (i ∷ here_bytes))))
+  narrows_for rest op a b = false
+
+  abbrev pub is_narrowed : List ListedRow → Sym → Bool
+  is_narrowed rest (syms.File op operand into.File) = narrows_for rest op (write operand) (read operand)
+  is_narrowed rest (syms.Label label) = true
+  is_narrowed rest s = false
+
+  abbrev pub is_right_row : ℕ → List ListedRow → Act → Sym → Bool
+  is_right_row here rest Keeps s = is_kept rest s
+  is_right_row here rest Drops s = is_left_out here rest s
+  is_right_row here rest (Puts new v) s = is_put rest new v s
+  is_right_row here rest Narrows s = is_narrowed rest s
+
+-- ---- notes
+abbrev pub all_known : (ℕ → Bool) → List KnownByte → Bool
+all_known test [] = true
+all_known test (b ∷ bs) = test b.byte && all_known test bs
+
+abbrev pub carries_near : DataLayout → Bool → Option ℕ → Bool
+carries_near l inside None = true
+carries_near l inside (Some a) = is_near inside (owner l a)
+
+-- facts are of bytes that the other thread can't change, and what may differ is the thread's own
+abbrev pub is_note : DataLayout → Bool → ListedNote → Bool
+is_note l inside n =
+    all_of (λ a. is_near inside (owner l a)) n.facts.held && (all_known (λ a. is_near inside (owner l a)) n.facts.known && (all_of (λ a. is_own inside (owner l a)) n.apart.bytes && carries_near l inside n.carry))
+
+abbrev pub is_right_at : Sketch → BlockName → ℕ → ListedRow → List ListedRow → Bool
+is_right_at k own j (Listed s act None) rest = true
+is_right_at k own j (Listed s act (Some n)) rest =
+    is_note k.layout (block_in k.blocks own).inside n && (goes_on (At s act None ∷ rows_in rest) && is_right_row k own n (place_in (rows_in (block_in k.blocks own).rows) j) rest act s)
+
+abbrev pub are_right : Sketch → BlockName → ℕ → List ListedRow → Bool
+are_right k own j [] = true
+are_right k own j (row ∷ rest) = is_right_at k own j row rest && are_right k own (suc j) rest
+
+-- each instruction of a block
+abbrev pub is_right_block : Sketch → ListedBlock → Bool
+is_right_block k b =
+    are_right k b.name 0 (block_in k.blocks b.name).rows && all_of (λ a. is_own (block_in k.blocks b.name).inside (owner k.layout a)) (block_in k.blocks b.name).ends.apart.bytes
+
+abbrev pub are_right_blocks : Sketch → List ListedBlock → Bool
+are_right_blocks k [] = true
+are_right_blocks k (b ∷ bs) = is_right_block k b && are_right_blocks k bs
+
+-- where a thread begins nothing is known, and only these bytes may differ
+abbrev pub begins : List ℕ → Option (Option ListedNote) → Bool
+begins rest None = true
+begins rest (Some None) = false
+begins rest (Some (Some n)) = gives nothing_known n.facts && (all_of (λ a. among a n.apart.bytes) rest && same_number n.carry None)
+
+abbrev pub begins_at : Sketch → Option ℕ → Bool
+begins_at k None = true
+begins_at k (Some copy) = (block_in k.blocks (names.Copy copy)).inside && begins k.rest (ahead (block_in k.blocks (names.Copy copy)).rows)
+
+-- The test of a certificate.
+abbrev pub is_lean : Sketch → Bool
+is_lean k =
+    are_right_blocks k k.blocks && ((not (block_in k.blocks (names.Copy 0)).inside && begins [] (ahead (block_in k.blocks (names.Copy 0)).rows))
+    && (lands (old_program (lean_of k (λ i. 0) (λ i. 0) (λ i. 0))) (front (old_program (lean_of k (λ i. 0) (λ i. 0) (λ i. 0))) (names.Copy 0))
+    && (begins_at k k.handler && all_of (λ a. is_own true (owner k.layout a)) k.rest)))
+
+-- One block is given, and another one made, by these rows.
+pub record IsBlockOf (k : Sketch) (given made : SymBlock) : Type 0 where
+  pub name : made.name ≡ given.name
+  pub before : given.list.items ≡ olds (rows_in (block_in k.blocks given.name).rows)
+  pub after : made.list.items ≡ puts (rows_in (block_in k.blocks given.name).rows)
+
+pub record IsLeanOf (k : Sketch) (given made : List SymBlock) : Type 0 where
+  pub tested : is_lean k ≡ true
+  pub blocks : AllZip (IsBlockOf k) given made
+
+-- what the test tells
+abbrev pub TestIsRight : Type 0
+TestIsRight = (k : Sketch) → is_lean k ≡ true → (limit : Bool → ℕ) (old_page new_page : BlockName → ℕ) → right.IsSound (lean_of k limit old_page new_page)

@@ -1,0 +1,164 @@
+-- Code of which some instructions are left out or become others, with what is known at each: what a pass that makes code smaller
+-- has to show.
+use Rattle.std.specs.Prelude.{ℕ, suc, zero, Bool, true, false, not, if◌then◌else◌, List, [], ◌∷◌, Option, Some, None}
+use Rattle.sym_code.specs.Effect.{Setting}
+use Rattle.sym_code.specs.Layout.{DataLayout}
+use Rattle.sym_code.specs.Programs.{Program, labels_in_front}
+use Rattle.sym_code.specs.declared.code.BlockName.{BlockName}
+use Rattle.sym_code.specs.declared.code.Into.TheVariants as into
+use Rattle.sym_code.specs.declared.code.Literal.TheVariants.{Number}
+use Rattle.sym_code.specs.declared.code.LiteralOperation.{LiteralOperation}
+use Rattle.sym_code.specs.declared.code.Sym.{Sym}
+use Rattle.sym_code.specs.declared.code.Sym.TheVariants as syms
+
+-- ---- what is known
+-- What is true of the machine that runs the given code.
+pub record Facts : Type 0 where
+  -- W is this number
+  pub number : Option ℕ
+  -- W is what this general byte holds
+  pub held : ℕ → Bool
+  -- Z says whether W is 0
+  pub zero : Bool
+  -- the general byte holds this number
+  pub known : ℕ → Option ℕ
+
+-- What may differ between the two machines: W, the flags, general bytes.
+pub record Apart : Type 0 where
+  pub w : Bool
+  pub z : Bool
+  pub dc : Bool
+  pub c : Bool
+  pub bytes : ℕ → Bool
+
+pub record Note : Type 0 where
+  pub facts : Facts
+  pub apart : Apart
+  -- W of the machine that runs the code that is made is what this byte holds for the other one
+  pub carry : Option ℕ
+
+abbrev pub nothing_known : Facts
+nothing_known = record { number = None; held = λ a. false; zero = false; known = λ a. None }
+
+-- ---- rows
+-- what becomes of an instruction
+pub data Act : Type 0 where
+  Keeps : Act
+  Drops : Act
+  -- an operation on W and a number stands in its place
+  Puts : LiteralOperation → ℕ → Act
+  -- its result goes to W
+  Narrows : Act
+
+-- an instruction of the given code, and what is known before it; none where nothing comes there
+pub data Row : Type 0 where
+  At : Sym → Act → Option Note → Row
+
+abbrev pub old_of : Row → Sym
+old_of (At s act said) = s
+
+abbrev pub note_of : Row → Option Note
+note_of (At s act said) = said
+
+-- the given code
+abbrev pub olds : List Row → List Sym
+olds [] = []
+olds (row ∷ rows) = old_of row ∷ olds rows
+
+-- an operation on a byte whose result goes to W
+abbrev pub narrowed : Sym → Sym
+narrowed (syms.File op operand to) = syms.File op operand into.W
+narrowed s = s
+
+-- a label always stays
+abbrev pub put_of : Sym → Act → Option Sym
+put_of (syms.Label label) act = Some (syms.Label label)
+put_of s Keeps = Some s
+put_of s Drops = None
+put_of s (Puts op n) = Some (syms.Literal op (Number n))
+put_of s Narrows = Some (narrowed s)
+
+abbrev pub in_front : Option Sym → List Sym → List Sym
+in_front None list = list
+in_front (Some s) list = s ∷ list
+
+abbrev pub put_by : Row → Option Sym
+put_by (At s act said) = put_of s act
+
+-- the code that is made
+abbrev pub puts : List Row → List Sym
+puts [] = []
+puts (row ∷ rows) = in_front (put_by row) (puts rows)
+
+abbrev pub is_label : Sym → Bool
+is_label (syms.Label label) = true
+is_label _ = false
+
+abbrev pub is_none : Option Sym → Bool
+is_none None = true
+is_none (Some s) = false
+
+abbrev pub is_dropped : Row → Bool
+is_dropped row = is_none (put_by row)
+
+-- ---- places
+-- The number, in the code that is made, of the first instruction that comes from an index or from behind it.
+abbrev pub place_in : List Row → ℕ → ℕ
+place_in [] j = j
+place_in (row ∷ rows) zero = labels_in_front (puts (row ∷ rows))
+place_in (row ∷ rows) (suc j) = if is_dropped row then place_in rows j else suc (place_in rows j)
+
+-- what is known where the code goes on at the front of a list, behind the labels there; none where no instruction stands
+abbrev pub note_ahead : List Row → Option (Option Note)
+note_ahead [] = None
+note_ahead (row ∷ rows) = if is_label (old_of row) then note_ahead rows else Some (note_of row)
+
+-- the list behind its first instruction
+abbrev pub past : List Row → List Row
+past [] = []
+past (row ∷ rows) = if is_label (old_of row) then past rows else rows
+
+-- the first instruction of the list is left out; and an instruction that is made stands in it
+abbrev pub drops_first : List Row → Bool
+drops_first [] = false
+drops_first (row ∷ rows) = if is_label (old_of row) then drops_first rows else is_dropped row
+
+abbrev pub keeps_first : List Row → Bool
+keeps_first [] = false
+keeps_first (row ∷ rows) = if is_label (old_of row) then keeps_first rows else not (is_dropped row)
+
+abbrev pub goes_on : List Row → Bool
+goes_on [] = false
+goes_on (row ∷ rows) = if is_label (old_of row) then goes_on rows else (if is_dropped row then goes_on rows else true)
+
+-- ---- programs
+pub record Lean : Type 0 where
+  pub rows : BlockName → List Row
+  pub handler : Option ℕ
+  pub layout : DataLayout
+  pub limit : Bool → ℕ
+  -- pages don't count: selects come later
+  pub old_page : BlockName → ℕ
+  pub new_page : BlockName → ℕ
+  -- the block runs inside the handler
+  pub inside : BlockName → Bool
+  -- what is known where a block returns
+  pub ends : BlockName → Note
+  -- bytes that may differ in the functions that wait for a block
+  pub outer : BlockName → ℕ → Bool
+  -- bytes of the handler's that may differ while it doesn't run
+  pub rest : ℕ → Bool
+  -- bytes that are never read or written through FSR
+  pub hidden : ℕ → Bool
+
+abbrev pub old_program : Lean → Program
+old_program x = record { block = λ name. olds (x.rows name); handler = x.handler; layout = x.layout }
+
+abbrev pub new_program : Lean → Program
+new_program x = record { block = λ name. puts (x.rows name); handler = x.handler; layout = x.layout }
+
+abbrev pub old_setting : Lean → Setting
+old_setting x = record { program = old_program x; banked = false; page_of = x.old_page; limit = x.limit }
+
+abbrev pub new_setting : Lean → Setting
+new_setting x = record { program = new_program x; banked = false; page_of = x.new_page; limit = x.limit }

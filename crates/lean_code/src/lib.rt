@@ -1,0 +1,35 @@
+//! Symbolic code without the instructions that what is known makes needless: what a certificate of it says, the test of one, and what
+//! code keeps that passes it.
+//!
+//! In: nothing yet; the crate has definitions and their proofs. Out: nothing.
+//! The promise: code that is made by a certificate that passes the test follows the given code, under every schedule, costs no more
+//! and no less than the instructions that stay, has no more words, and uses no byte that the given code doesn't use.
+#![tactic(auto)]
+
+ghost use Rattle.lean_code.specs.Checked.{TestIsRight};
+ghost use Rattle.lean_code.specs.Links.{CarriedIsCheaper, LeanKeeps};
+ghost use Rattle.lean_code.specs.Sample.{SamplePasses};
+ghost use Rattle.lean_code.specs.Shrinks.{RowsShrink, RowsKeep};
+
+/// Code that is made by a certificate that is right follows the given code, at any prices by which no instruction that stays costs more
+/// than before; so at those that the made code's own prices carry back.
+pub fn lean_keeps()
+    ensures follows { LeanKeeps }
+    ensures carried { CarriedIsCheaper }
+{}
+
+/// A certificate that passes the test is right.
+pub fn test_is_right()
+    ensures { TestIsRight }
+{}
+
+/// The code that is made has no more words, and names nothing that the given code doesn't name.
+pub fn rows_shrink()
+    ensures shorter { RowsShrink }
+    ensures kept { RowsKeep }
+{}
+
+/// A certificate of a program of fifteen instructions, of which six are left, passes the test.
+pub fn sample_passes()
+    ensures { SamplePasses }
+{}
