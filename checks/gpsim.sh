@@ -1,8 +1,8 @@
 #!/bin/sh
 # HEX files of picc on gpsim's model of the PIC16F877A, which nobody of this project wrote. examples/led.c: after 1,000 cycles PORTB's
-# latch holds 05h, and the program counter stands at the halt address of the map. Then each of examples/: the bytes that it
-# writes to PORTB and PORTC, one behind the other, are those that `picc sim` prints of the same file without input bytes
-# and arrivals, as far as gpsim runs.
+# latch holds 05h, and the program counter stands in the loop at the halt address of the map: at most two selects of the page, and a
+# jump back. Then each of examples/: the bytes that it writes to PORTB and PORTC, one behind the other, are those that `picc sim` prints
+# of the same file without input bytes and arrivals, as far as gpsim runs.
 set -u
 if ! command -v gpsim >/dev/null; then
     echo 'gpsim: skipped, since gpsim is not installed'
@@ -23,11 +23,12 @@ led() {
     gpsim -i -p p16f877a -c commands.stc led.hex </dev/null >printed 2>&1
     latch=$(value portb)
     pc=$(value pc)
-    if [ -n "$latch" ] && [ -n "$pc" ] && [ $((0x$latch)) -eq 5 ] && [ $((0x$pc)) -eq $((0x$halt)) ]; then
+    if [ -n "$latch" ] && [ -n "$pc" ] && [ $((0x$latch)) -eq 5 ] && [ $((0x$pc)) -ge $((0x$halt)) ] &&
+        [ $((0x$pc)) -le $((0x$halt + 2)) ]; then
         echo "gpsim: PORTB's latch holds 05h, and the program idles at $halt"
         return 0
     fi
-    echo "gpsim: PORTB's latch is '$latch', wanted 5; the program counter is '$pc', wanted $halt"
+    echo "gpsim: PORTB's latch is '$latch', wanted 5; the program counter is '$pc', wanted $halt or up to two words behind"
     cat printed
     return 1
 }
