@@ -65,7 +65,8 @@ pub fn agree(
     see_numbers(program);
     see_bytes(&script.input);
     let off = read_off(alloc, image, map, script, n)?;
-    match first_fault(alloc, program, map, script, &off)? {
+    let found = first_fault(alloc, program, map, script, &off)?;
+    match found {
         Some(Fault { kind, line }) => Ok(Agreed::Undefined { kind, line }),
         None => Ok(Agreed::Same { events: off.events }),
     }

@@ -54,7 +54,7 @@ fn add(script: &mut Script, arrival: Arrival) -> Result<bool, AllocError>
 
 /// The run, if the schedule is still its own.
 fn kept<'a>(known: Option<SourceRun<'a>>, changes: bool) -> Option<SourceRun<'a>>
-    ensures { result ≡ (if changes then None else known) }
+    ensures { result ≡ (if changes then None else known.entry) }
 {
     if changes { None } else { known }
 }
@@ -73,7 +73,7 @@ fn run_on<'a>(
     map: &'a Map,
     known: Option<SourceRun<'a>>,
 ) -> Result<SourceRun<'a>, AllocError>
-    ensures { IfOk result (λ run. (outside : Outside) → MayBeRunBy (program_of program.now) (content_of map.now) outside known → IsRunBy (program_of program.now) (content_of map.now) outside run) }
+    ensures { IfOk result (λ run. (outside : Outside) → MayBeRunBy (program_of program.now) (content_of map.now) outside known.entry → IsRunBy (program_of program.now) (content_of map.now) outside run) }
 {
     match known {
         Some(run) => Ok(run),

@@ -25,8 +25,8 @@ first_fault-requires-clause-early c =
     let g = run_of c.args.image.now c.args.map.now c.args.script.now in
     subst (λ xs. ComeBy c.args.script.now.arrivals.items (length xs) c.in_ok-off.off.moment) (sym c.in_ok-off.ensures.lengths) (come_by (traces g) c.in_ok-off.off.moment c.args.script.now.arrivals.items c.args.script.now.rising)
 
-pub returns-in-None-clause-exact : goal.returns-in-None-clause-exact
-returns-in-None-clause-exact c = λ copies.
+pub returns-clause-exact : goal.returns-clause-exact
+returns-clause-exact c = λ copies.
     let p = program_of c.args.program.now in
     let content = content_of c.args.map.now in
     let g = run_of c.args.image.now c.args.map.now c.args.script.now in
@@ -37,7 +37,7 @@ returns-in-None-clause-exact c = λ copies.
     read_is c.args.program.now c.args.image.now c.args.map.now c.args.script.now off c.requires.roots c.requires.acyclic c.see_numbers.ensures faithful c.requires.objects
     (subst (All (λ byte. byte < 256)) c.deref.ensures.value c.see_bytes.ensures.all) o.events o.runs o.before o.lengths o.input in
     subst (λ f. Tells p copies content g (last_free g c.args.n) (agreed_of f off.events)) c.in-None.is
-    (exact p c.args.image.now c.args.map.now c.args.script.now off faithful (subst (λ xs. (k : ℕ) → slice_index xs k < 256) c.deref.ensures.value c.see_bytes.ensures.each) given (last_free g c.args.n) _ o.last c.in_ok-first_fault.ensures copies)
+    (exact p c.args.image.now c.args.map.now c.args.script.now off faithful (subst (λ xs. (k : ℕ) → slice_index xs k < 256) c.deref.ensures.value c.see_bytes.ensures.each) given (last_free g c.args.n) _ o.last c.in_ok-found.ensures copies)
 
 pub returns-in-Some-clause-exact : goal.returns-in-Some-clause-exact
 returns-in-Some-clause-exact c = λ copies.
@@ -51,4 +51,4 @@ returns-in-Some-clause-exact c = λ copies.
     read_is c.args.program.now c.args.image.now c.args.map.now c.args.script.now off c.requires.roots c.requires.acyclic c.see_numbers.ensures faithful c.requires.objects
     (subst (All (λ byte. byte < 256)) c.deref.ensures.value c.see_bytes.ensures.all) o.events o.runs o.before o.lengths o.input in
     subst (λ f. Tells p copies content g (last_free g c.args.n) (agreed_of f off.events)) c.in-Some.is
-    (exact p c.args.image.now c.args.map.now c.args.script.now off faithful (subst (λ xs. (k : ℕ) → slice_index xs k < 256) c.deref.ensures.value c.see_bytes.ensures.each) given (last_free g c.args.n) _ o.last c.in_ok-first_fault.ensures copies)
+    (exact p c.args.image.now c.args.map.now c.args.script.now off faithful (subst (λ xs. (k : ℕ) → slice_index xs k < 256) c.deref.ensures.value c.see_bytes.ensures.each) given (last_free g c.args.n) _ o.last c.in_ok-found.ensures copies)

@@ -26,7 +26,7 @@ returns-in-Idle-clause-goes c = λ s map o is. (c.in-Idle.ensures.goes s map o (
 pub returns-in-Undefined-clause-looked : goal.returns-in-Undefined-clause-looked
 returns-in-Undefined-clause-looked c = λ s map o is.
     let h = c.loop-self.invariant s map o is in
-    looked_fault s map c.loop-self.self h c.args.most c.args.longest (fault_in c.in-Undefined.field-0) c.loop-self-test.true c.if-self-longest.false (c.in-Undefined.ensures.goes s map o h)
+    looked_fault s map c.loop-self.self h c.args.most c.args.longest (fault_in c.in-Undefined.fault) c.loop-self-test.true c.if-self-longest.false (c.in-Undefined.ensures.goes s map o h)
 
 pub returns-clause-looked : goal.returns-clause-looked
 returns-clause-looked c = λ s map o is. looked_all s map c.loop-self.self (c.loop-self.invariant s map o is) c.args.most c.args.longest c.loop-self-test.false

@@ -12,4 +12,4 @@ returns-in-Idle-clause-goes c = λ s map o is. idle s map c.args.self.now _ c.st
 pub returns-in-Went-clause-goes : goal.returns-in-Went-clause-goes
 returns-in-Went-clause-goes c = λ s map o is.
     went s map c.args.self.now _ c.in-Went.event c.step.new.self is (c.in-Went.ensures.follows s map c.args.self.now.steps o c.requires is.source) refl refl
-    (c.plus.ensures (let e = events_few s map c.args.self.now is in let r = c.requires in omega (arith, e, r)) ∙ ap (λ b. c.args.self.now.events + (if b then 1 else 0)) c.is_some.ensures)
+    (c.plus-self.ensures (let e = events_few s map c.args.self.now is in let r = c.requires in omega (arith, e, r)) ∙ ap (λ b. c.args.self.now.events + (if b then 1 else 0)) c.is_some.ensures)

@@ -14,10 +14,10 @@ returns-then-main_steps-most c = λ s map o is.
     let e = c.main_steps.ensures in
     met_main s map c.loop-self.self (c.loop-self.invariant s map o is) c.args.most c.args.runs (let m = c.if-main_steps-most.true in omega (arith, e, m))
 
-pub returns-then-runs-runs : goal.returns-then-runs-runs
-returns-then-runs-runs c = λ s map o is.
+pub returns-then-runs : goal.returns-then-runs
+returns-then-runs c = λ s map o is.
     let e = c.runs.ensures in
-    met_runs s map c.loop-self.self (c.loop-self.invariant s map o is) c.args.most c.args.runs (let m = c.if-runs-runs.true in omega (arith, e, m))
+    met_runs s map c.loop-self.self (c.loop-self.invariant s map o is) c.args.most c.args.runs (let m = c.if-runs.true in omega (arith, e, m))
 
 pub returns-in-Idle : goal.returns-in-Idle
 returns-in-Idle c = λ s map o is.
@@ -30,8 +30,8 @@ returns-in-Undefined c = λ s map o is.
     let a = c.main_steps.ensures in
     let b = c.if-main_steps-most.false in
     let d = c.runs.ensures in
-    let e = c.if-runs-runs.false in
-    met_fault s map c.loop-self.self h c.args.most c.args.runs (fault_in c.in-Undefined.field-0) c.loop-self-test.true (omega (arith, a, b)) (omega (arith, d, e)) (c.in-Undefined.ensures.goes s map o h)
+    let e = c.if-runs.false in
+    met_fault s map c.loop-self.self h c.args.most c.args.runs (fault_in c.in-Undefined.fault) c.loop-self-test.true (omega (arith, a, b)) (omega (arith, d, e)) (c.in-Undefined.ensures.goes s map o h)
 
 pub returns : goal.returns
 returns c = λ s map o is. met_all s map c.loop-self.self (c.loop-self.invariant s map o is) c.args.most c.args.runs c.loop-self-test.false
