@@ -20,7 +20,7 @@ from trees import KEYWORDS, NoTree, tokens_of, unit_of
 
 KINDS = 'name again declare size incomplete constant initializer member call address assign operand convert return jump'.split()
 CLASSES = [
-    'char short int long signed unsigned void'.split(), 'const volatile'.split(), 'static auto register'.split(), ['break', 'continue'],
+    'char short int long signed unsigned void'.split(), 'const volatile'.split(), 'static auto register typedef'.split(), ['break', 'continue'],
     '* / % + - << >> < > <= >= == != & ^ |'.split() + ['&&', '||', ','], '= *= /= %= += -= <<= >>= &= ^= |='.split(), ['++', '--'],
     ['.', '->'], '& * + - ~ !'.split(), ['case 0', 'default', 'case 1']]
 NUMBERS = ['0', '1', '2', '3', '5', '65535', '65536', '32767', '32768', '40000', '0x8000', '1u', '1L', '0L', '2ul', '4294967295', "'a'", "'\\0'"]

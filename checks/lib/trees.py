@@ -5,9 +5,9 @@ import re
 
 from interpreter import NONE, Record, some
 
-KEYWORDS = ('auto break case char const continue default do else for if int interrupt long register return short signed sizeof static struct '
-            'switch unsigned void volatile while').split()
-EXCLUDED = 'float double union enum typedef goto extern bit bank1 bank2 bank3 persistent asm __asm __CONFIG __interrupt'.split()
+KEYWORDS = ('auto break case char const continue default do else enum for if int interrupt long register return short signed sizeof static struct '
+            'switch typedef unsigned void volatile while').split()
+EXCLUDED = 'float double union goto extern bit bank1 bank2 bank3 persistent asm __asm __CONFIG __interrupt'.split()
 PUNCTUATORS = {
     '[': 'LeftBracket', ']': 'RightBracket', '(': 'LeftParenthesis', ')': 'RightParenthesis', '{': 'LeftBrace', '}': 'RightBrace', '.': 'Dot',
     '->': 'Arrow', '++': 'Increment', '--': 'Decrement', '&': 'Ampersand', '*': 'Star', '+': 'Plus', '-': 'Minus', '~': 'Tilde', '!': 'Not',
@@ -122,6 +122,27 @@ def replaced(token, macros, under_way):
     return made
 
 
+def marked(tokens):
+    """The tokens with the names of types marked: of each `typedef` outside brackets those that stand outside brackets up to its `;`."""
+    depths, depth = [], 0
+    for t in tokens:
+        depths.append(depth)
+        if t.form == 'punct':
+            depth = max(0, depth + (t.spelling in '([{') - (t.spelling in ')]}'))
+    kinds = {}      # a type name, and the place of the `;` that it stands from
+    for at, t in enumerate(tokens):
+        before = tokens[at - 1].spelling if at else ''
+        if t.form == 'name' and t.spelling in kinds and kinds[t.spelling] < at and before not in ('.', '->', 'struct', 'enum'):
+            t.form = 'type'
+        if t.form == 'name' and t.spelling == 'typedef' and depths[at] == 0:
+            end = next((k for k in range(at, len(tokens)) if depths[k] == 0 and tokens[k].form == 'punct' and tokens[k].spelling == ';'), None)
+            for k in range(at, end or at):
+                name = tokens[k]
+                if name.form == 'name' and name.spelling not in KEYWORDS and depths[k] == 0 and tokens[k - 1].spelling not in ('struct', 'enum'):
+                    kinds.setdefault(name.spelling, end)
+    return tokens
+
+
 # ---- symbols
 def symbol(token, with_bytes=True):
     spelling, bytes_ = token.spelling, ()
@@ -129,6 +150,8 @@ def symbol(token, with_bytes=True):
         kind = ('Punct', (PUNCTUATORS[spelling],))
     elif token.form == 'name' and spelling in KEYWORDS:
         kind = ('Keyword', (spelling.capitalize(),))
+    elif token.form == 'type':
+        kind, bytes_ = ('TypeName',), tuple(spelling.encode('latin-1'))
     elif token.form == 'name':
         kind, bytes_ = ('Name',), tuple(spelling.encode('latin-1'))
     elif token.form == 'number':
@@ -148,9 +171,13 @@ def linked(empty, more, parts):
     return made
 
 
-SPEC_WORDS = 'static auto register const volatile interrupt void char short int long signed unsigned'.split()
+SPEC_WORDS = 'typedef static auto register const volatile interrupt void char short int long signed unsigned'.split()
 LEVELS = (('||',), ('&&',), ('|',), ('^',), ('&',), ('==', '!='), ('<', '>', '<=', '>='), ('<<', '>>'), ('+', '-'), ('*', '/', '%'))
 ASSIGNMENTS = '= *= /= %= += -= <<= >>= &= ^= |='.split()
+
+
+def begins_spec(token):
+    return token.form == 'type' or (token.form == 'name' and token.spelling in SPEC_WORDS + ['struct', 'enum'])
 
 
 class Reader:
@@ -221,7 +248,7 @@ class Reader:
 
     def opens_type(self):
         after = self.tokens[min(self.at + 1, len(self.tokens) - 1)]
-        return self.stands('(') and after.form == 'name' and after.spelling in SPEC_WORDS + ['struct']
+        return self.stands('(') and begins_spec(after)
 
     def bracketed_type(self):
         opening = self.want('(')
@@ -280,7 +307,7 @@ class Reader:
 
     # ---- declarations
     def begins_specs(self):
-        return self.stands('struct', *SPEC_WORDS) and self.tokens[self.at].form == 'name'
+        return begins_spec(self.tokens[self.at])
 
     def specs(self):
         if not self.begins_specs():
@@ -292,6 +319,10 @@ class Reader:
 
     def spec(self):
         token = self.next()
+        if token.form == 'type':
+            return 'NamedType', symbol(token)
+        if token.spelling == 'enum':
+            return self.enumeration(token)
         if token.spelling != 'struct':
             return 'OneWord', symbol(token)
         tag = () if self.stands('{') else (self.name(),)
@@ -303,6 +334,26 @@ class Reader:
         if not members:
             raise NoTree('no members at line %d' % opening)
         return 'Body', token.line, tag, opening, members[0][0], linked('NoMember', 'AndMember', members[1:]), self.next().line
+
+    def enumeration(self, token):
+        tag = () if self.stands('{') else (self.name(),)
+        if not self.stands('{'):
+            return 'EnumTagged', token.line, tag[0]
+        opening, first, others, last = self.next().line, self.enumerator(), [], NONE
+        while self.stands(','):
+            comma = self.next().line
+            if self.stands('}'):
+                last = some(comma)
+                break
+            others.append((comma, self.enumerator()))
+        return 'EnumBody', token.line, tag, opening, first, linked('NoEnumerator', 'AndEnumerator', others), last, self.want('}')
+
+    def enumerator(self):
+        name = self.name()
+        if not self.stands('='):
+            return 'Bare', name
+        equals = self.next().line
+        return 'Valued', name, equals, self.cond()
 
     def member(self):
         specs, first, others = self.specs(), self.declarator(), []
@@ -512,6 +563,6 @@ def ends_bracketed(suffixes):
 def unit_of(text):
     """The tree of a text."""
     try:
-        return Reader(program_tokens(text)).unit()
+        return Reader(marked(program_tokens(text))).unit()
     except IndexError:
         raise NoTree('the text ends early') from None

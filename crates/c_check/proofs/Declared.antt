@@ -8,10 +8,10 @@ use Rattle.type_rules.specs.Declarations as rule
 use Rattle.type_rules.specs.Declarators.{in_block, in_file, line_in, name_in, outline_of, specified}
 use Rattle.type_rules.specs.Faults as kind
 use Rattle.type_rules.specs.Faults.{Fault}
-use Rattle.type_rules.specs.Known.{Binding, ObjectName, BitName, FunctionName, Known, Rule, given, known_here, tried, go_on, ◌>>=◌}
-use Rattle.type_rules.specs.Names.{innermost_in, tests_of_new}
+use Rattle.type_rules.specs.Known.{Binding, ObjectName, BitName, FunctionName, TypeNamed, EnumeratorName, Known, Rule, given, known_here, tried, go_on, ◌>>=◌}
+use Rattle.type_rules.specs.Names.{innermost_in, is_declared, bind, tests_of_new}
 use Rattle.type_rules.specs.Objects.{next_declarator, object_rule, static_rule, block_name, local_rule}
-use Rattle.type_rules.specs.Outlines.{Outline, Param}
+use Rattle.type_rules.specs.Outlines.{Outline, Param, is_function, object_type}
 use Rattle.type_rules.specs.Specifiers.{Specified}
 use Rattle.c_operate.specs.Answers.{Answers, Learns, Refuses}
 use Rattle.c_operate.specs.declared.error.CheckError.{CheckError}
@@ -41,7 +41,7 @@ module _ (name : List ℕ) (result : Qualified) (params : List Ty) (defines : Bo
   pub bad_again : (found : Option Binding) (n : ℕ) (bad : Bool) → Some (FunctionName n) ≡ found → bad ≡ true → number_known found bad ≡ again
   bad_again found n bad is wrong = ap (λ f. number_known f bad) (sym is) ∙ ap (λ b. number_known (Some (FunctionName n)) b) wrong
 
-  -- it is declared as an object or a register's bit
+  -- it is declared as an object, a register's bit, a type or an enumerator
   other_at : (same bad : Bool) → same ≡ false → go_on (λ _. rule.function_added None name result params) (tried ((bad || not same, kind.Again) ∷ (bad, kind.Declare) ∷ []) line known) ≡ again
   other_at true bad e = cc
   other_at false true e = refl
@@ -52,6 +52,12 @@ module _ (name : List ℕ) (result : Qualified) (params : List Ty) (defines : Bo
 
   pub bit_again : (found : Option Binding) (bad : Bool) (r b : ℕ) → Some (BitName r b) ≡ found → number_known found bad ≡ again
   bit_again found bad r b is = ap (λ f. number_known f bad) (sym is) ∙ other_at false bad refl
+
+  pub type_again : (found : Option Binding) (bad incomplete : Bool) (ty : Qualified) → Some (TypeNamed ty incomplete) ≡ found → number_known found bad ≡ again
+  type_again found bad incomplete ty is = ap (λ f. number_known f bad) (sym is) ∙ other_at false bad refl
+
+  pub enumerator_again : (found : Option Binding) (bad : Bool) (n : _) → Some (EnumeratorName n) ≡ found → number_known found bad ≡ again
+  enumerator_again found bad n is = ap (λ f. number_known f bad) (sym is) ∙ other_at false bad refl
 
   -- it is declared as a function
   abbrev same_at : ℕ → Bool
@@ -115,6 +121,41 @@ module _ (said : Specified) (o : Outline) (init : Option InitTree) (name : List 
 
   pub object_last : (given : Bool) (ty : Qualified) (result : Result Unit CheckError) (after : Known) → given ≡ is_some init → tests_of_new known name line known ≡ Ok (known, known) → object_rule said o given line known ≡ Ok (ty, known) → Learns result after (static_rule init name name ty line known) → Learns result after (rule.file_object said o init name line known)
   object_last given ty result after is new typed h = subst (Learns result after) (sym (ap (go_on (λ t. static_rule init name name t line)) typed) ∙ at_given given is ∙ sym (at_type new)) h
+
+-- ---- the names of types
+
+module _ (line : ℕ) (known : Known) (bound : Rule Known) where
+  abbrev tested : Bool → Bool → Result (Known × Known) Fault
+  tested declared bad = go_on (λ _. bound) (tried ((declared, kind.Again) ∷ (bad, kind.Declare) ∷ []) line known)
+
+  type_first : (declared bad : Bool) (e : CheckError) → Refuses e (tried ((declared, kind.Again) ∷ []) line known) → Refuses e (tested declared bad)
+  type_first declared bad errors.NoMemory h = h
+  type_first true bad (errors.Kind kind line) h = ap (go_on (λ _. bound)) h
+  type_first false bad (errors.Kind kind line) h = cc
+
+  type_bad : (declared bad : Bool) → tried ((declared, kind.Again) ∷ []) line known ≡ Ok (known, known) → bad ≡ true → tested declared bad ≡ Err (record { kind = kind.Declare; line = line })
+  type_bad false bad h wrong = ap (tested false) wrong
+  type_bad true bad h wrong = cc
+
+  type_good : (declared bad : Bool) → tried ((declared, kind.Again) ∷ []) line known ≡ Ok (known, known) → bad ≡ false → tested declared bad ≡ bound known
+  type_good false bad h good = ap (tested false) good
+  type_good true bad h good = cc
+
+module _ (said : Specified) (o : Outline) (begun : Bool) (name : List ℕ) (line : ℕ) (known : Known) where
+  abbrev no_type : Bool
+  no_type = o.bad || (is_function o.declared || (begun || said.interrupt))
+
+  abbrev type_bound : Rule Known
+  type_bound = bind name (TypeNamed (object_type o.declared) o.incomplete)
+
+  pub named_again : (e : CheckError) → Refuses e (tests_of_new known name line known) → Refuses e (rule.type_rule said o begun name line known)
+  named_again e h = type_first line known type_bound (is_declared known name) no_type e h
+
+  pub named_badly : tests_of_new known name line known ≡ Ok (known, known) → no_type ≡ true → rule.type_rule said o begun name line known ≡ Err (record { kind = kind.Declare; line = line })
+  named_badly h wrong = type_bad line known type_bound (is_declared known name) no_type h wrong
+
+  pub named_well : tests_of_new known name line known ≡ Ok (known, known) → no_type ≡ false → rule.type_rule said o begun name line known ≡ type_bound known
+  named_well h good = type_good line known type_bound (is_declared known name) no_type h good
 
 -- ---- objects of blocks behind their type
 

@@ -16,7 +16,6 @@ use Rattle.c_tree.specs.declared.statement.Item.TheVariants as node
 use Rattle.c_typed.specs.Trees as typed
 use Rattle.c_typed.specs.Trees.{FunctionTree, Program, Statement, StaticTree, StructureTree, VariableTree}
 use Rattle.c_typed.specs.Views as shown
-use Rattle.c_typed.specs.declared.expression.Object.TheVariants as object
 use Rattle.c_typed.specs.declared.program.Function.{Function}
 use Rattle.c_typed.specs.declared.program.Static.{Static}
 use Rattle.c_typed.specs.declared.program.Typed.{Typed}
@@ -26,9 +25,9 @@ use Rattle.c_typed.specs.declared.types.Qualified.{Qualified}
 use Rattle.c_typed.specs.declared.types.Ty.{Ty}
 use Rattle.type_rules.specs.Declarations.{block_declarations, file_declaration}
 use Rattle.type_rules.specs.Faults.{Fault}
-use Rattle.type_rules.specs.Known.{ObjectName, Shape, Known, Rule, given, known_first, known_here, go_on, ◌>>=◌}
-use Rattle.type_rules.specs.Names.{bind, enter, leave}
-use Rattle.type_rules.specs.Outlines.{Param, bind_param}
+use Rattle.type_rules.specs.Known.{Scope, Shape, Known, Rule, given, known_first, known_here, go_on, ◌>>=◌}
+use Rattle.type_rules.specs.Names.{enter_with, leave}
+use Rattle.type_rules.specs.Outlines.{Param}
 use Rattle.type_rules.specs.Specifiers.{Specified}
 use Rattle.type_rules.specs.Statements as statements
 use Rattle.type_rules.specs.Units as rule
@@ -39,7 +38,7 @@ use Rattle.c_operate.specs.declared.error.CheckError.{CheckError}
 use Rattle.c_operate.specs.declared.error.CheckError.TheVariants as errors
 use Rattle.check_expr.specs.Views.{param_of}
 use Rattle.check_expr.specs.declared.outline.ParamShape.{ParamShape}
-use Rattle.c_check.specs.StatementViews.{behind, bound_behind, block_list, inner_rule}
+use Rattle.c_check.specs.StatementViews.{behind, block_list, inner_rule}
 use Rattle.c_check.proofs.Lists.{next, passes_on}
 
 -- ---- the names that a unit defines
@@ -65,72 +64,44 @@ name_added old new k name is put =
     let names : List (Vec ℕ Global) → List (List ℕ) = map (λ (n : Vec ℕ Global). n.items) in
     ap names put ∙ name_put (λ (n : Vec ℕ Global). n.items) old k ∙ ap (λ n. rule.with_name n (names old)) is
 
--- ---- parameters
+-- ---- parameters as variables, one more
 
-bound_joined : (before : List VariableTree) (p : Param) (ps : List Param) (said : Result (Known × Known) Fault) → go_on (λ _. given (before ++ rule.variable_of p ∷ map rule.variable_of ps)) said ≡ go_on (λ _. given ((before ++ rule.variable_of p ∷ []) ++ map rule.variable_of ps)) said
-bound_joined before p ps (Ok x) = ap (λ (l : List VariableTree). Ok (l, x.1)) (sym (append_assoc before (rule.variable_of p ∷ []) (map rule.variable_of ps)))
-bound_joined before p ps (Err fault) = refl
+pub variables_more : (made pushed : List Variable) (v : Variable) (params rest : List ParamShape) (p : ParamShape) (total : List VariableTree) → params ≡ p ∷ rest → pushed ≡ made ++ v ∷ [] → shown.variable_of v ≡ rule.variable_of (param_of p)
+    → map shown.variable_of made ++ map rule.variable_of (map param_of params) ≡ total → map shown.variable_of pushed ++ map rule.variable_of (map param_of rest) ≡ total
+variables_more made pushed v params rest p total is put same so_far =
+    let before : List VariableTree = map shown.variable_of made in
+    let later : List VariableTree = map rule.variable_of (map param_of rest) in
+    ap (λ (l : List VariableTree). l ++ later) (ap (map shown.variable_of) put ∙ map-append shown.variable_of made (v ∷ []))
+    ∙ append_assoc before (shown.variable_of v ∷ []) later
+    ∙ ap (λ (t : VariableTree). before ++ t ∷ later) same
+    ∙ ap (λ (l : List ParamShape). before ++ map rule.variable_of (map param_of l)) (sym is)
+    ∙ so_far
 
-longer : (before : List VariableTree) (v : VariableTree) → suc (length before) ≡ length (before ++ v ∷ [])
-longer [] v = refl
-longer (b ∷ bs) v = ap suc (longer bs v)
-
-pub param_more : (before : List VariableTree) (p : Param) (ps : List Param) (known mid seen : Known) → bind_param p.name (length before) p.ty p.fixed known ≡ Ok (seen, mid) → bound_behind before (p ∷ ps) known ≡ bound_behind (before ++ rule.variable_of p ∷ []) ps mid
-param_more before p ps known mid seen e =
-    ap (λ said. go_on (λ _. given (before ++ map rule.variable_of (p ∷ ps))) (go_on (λ _. rule.bind_params ps (suc (length before))) said)) e
-    ∙ bound_joined before p ps (rule.bind_params ps (suc (length before)) mid)
-    ∙ ap (λ n. go_on (λ _. given ((before ++ rule.variable_of p ∷ []) ++ map rule.variable_of ps)) (rule.bind_params ps n mid)) (longer before (rule.variable_of p))
-
-pub param_refuses : (before : List VariableTree) (p : Param) (ps : List Param) (known : Known) (e : CheckError) → Refuses e (bind_param p.name (length before) p.ty p.fixed known) → Refuses e (bound_behind before (p ∷ ps) known)
-param_refuses before p ps known e h =
-    passes_on (λ _. given (before ++ map rule.variable_of (p ∷ ps))) (rule.bind_params (p ∷ ps) (length before) known) e
-    (passes_on (λ _. rule.bind_params ps (suc (length before))) (bind_param p.name (length before) p.ty p.fixed known) e h)
-
-pub no_param : (before : List VariableTree) (known : Known) → bound_behind before [] known ≡ Ok (before, known)
-no_param before known = ap (λ (l : List VariableTree). Ok (l, known)) (append-nil before)
-
--- what a loop over parameters has bound so far, and a parameter more
-pub param_next : (variables pushed : List Variable) (v : Variable) (params rest : List ParamShape) (p : ParamShape) (name : List ℕ) (number n : ℕ) (known mid : Known) (total : Result (List VariableTree × Known) Fault) →
-    params ≡ p ∷ rest → name ≡ p.name.items → number ≡ n → n ≡ length variables → pushed ≡ variables ++ v ∷ [] → shown.variable_of v ≡ rule.variable_of (param_of p) → bind_param name number p.ty p.fixed known ≡ Ok (mid, mid)
-    → bound_behind (map shown.variable_of variables) (map param_of params) known ≡ total → bound_behind (map shown.variable_of pushed) (map param_of rest) mid ≡ total
-param_next variables pushed v params rest p name number n known mid total is named counted long put same bound so_far =
-    let before : List VariableTree = map shown.variable_of variables in
-    let at : number ≡ length before = counted ∙ long ∙ sym (length-map variables shown.variable_of) in
-    let whole : bind_param p.name.items (length before) p.ty p.fixed known ≡ Ok (mid, mid) = ap (λ m. bind_param m (length before) p.ty p.fixed known) (sym named) ∙ ap (λ k. bind_param name k p.ty p.fixed known) (sym at) ∙ bound in
-    ap (λ l. bound_behind l (map param_of rest) mid) (ap (map shown.variable_of) put ∙ map-append shown.variable_of variables (v ∷ []) ∙ ap (λ t. before ++ t ∷ []) same)
-    ∙ sym (param_more before (param_of p) (map param_of rest) known mid mid whole)
-    ∙ ap (λ l. bound_behind before (map param_of l) known) (sym is) ∙ so_far
-
--- a name that is there is bound
-pub named_bound : (name : List ℕ) (number : ℕ) (ty : Qualified) (fixed : Bool) (result : Result Unit CheckError) (after known : Known) → 1 ≤ length name → Learns result after (bind name (ObjectName (object.Param number) ty fixed) known) → Learns result after (bind_param name number ty fixed known)
-named_bound [] number ty fixed result after known some h = absurd (omega arith)
-named_bound (b ∷ bs) number ty fixed result after known some h = h
+pub variables_end : (made : List Variable) (total : List VariableTree) → map shown.variable_of made ++ [] ≡ total → map shown.variable_of made ≡ total
+variables_end made total so_far = sym (append-nil (map shown.variable_of made)) ∙ so_far
 
 -- ---- the scope of parameters and body
 
-module _ (b : BlockTree) (params : List Param) (known mid : Known) (entered : enter known ≡ Ok (mid, mid)) where
-  abbrev made_with : List VariableTree → Rule (List VariableTree × List Statement)
-  made_with bound = block_list b statements.outside >>= (λ made. leave >>= (λ _. given (bound, made)))
+module _ (b : BlockTree) (params : List Param) (scope : Scope) (known : Known) where
+  abbrev left_with : List Statement → Rule (List VariableTree × List Statement)
+  left_with made = leave >>= (λ _. given (map rule.variable_of params, made))
 
   abbrev inside : Rule (List VariableTree × List Statement)
-  inside = bound_behind [] params >>= made_with
+  inside = block_list b statements.outside >>= left_with
 
-  pub params_refuse : (e : CheckError) → Refuses e (bound_behind [] params mid) → Refuses e (inner_rule b params known)
-  params_refuse e h = subst (Refuses e) (sym (ap (go_on (λ _. inside)) entered)) (passes_on made_with (bound_behind [] params mid) e h)
+  pub scope_refuses : (e : CheckError) → Refuses e (enter_with scope known) → Refuses e (inner_rule b params scope known)
+  scope_refuses e h = passes_on (λ _. inside) (enter_with scope known) e h
 
-  module _ (bound : List VariableTree) (mid2 : Known) (flow : statements.Flow) (have : bound_behind [] params mid ≡ Ok (bound, mid2)) (out : flow ≡ statements.outside) where
-    bound_first : inner_rule b params known ≡ made_with bound mid2
-    bound_first = ap (go_on (λ _. inside)) entered ∙ ap (go_on made_with) have
+  module _ (mid : Known) (flow : statements.Flow) (entered : enter_with scope known ≡ Ok (mid, mid)) (out : flow ≡ statements.outside) where
+    inner_first : inner_rule b params scope known ≡ inside mid
+    inner_first = ap (go_on (λ _. inside)) entered
 
-    pub body_refuses : (e : CheckError) → Refuses e (block_list b flow mid2) → Refuses e (inner_rule b params known)
-    body_refuses e h = subst (Refuses e) (sym bound_first) (passes_on (λ made. leave >>= (λ _. given (bound, made))) (block_list b statements.outside mid2) e (subst (λ f. Refuses e (block_list b f mid2)) out h))
+    pub body_refuses : (e : CheckError) → Refuses e (block_list b flow mid) → Refuses e (inner_rule b params scope known)
+    body_refuses e h = subst (Refuses e) (sym inner_first) (passes_on left_with (block_list b statements.outside mid) e (subst (λ f. Refuses e (block_list b f mid)) out h))
 
-    pub inner_made : (made : List Statement) (mid3 after : Known) → block_list b flow mid2 ≡ Ok (made, mid3) → leave mid3 ≡ Ok (after, after) → inner_rule b params known ≡ Ok ((bound, made), after)
-    inner_made made mid3 after e left =
-        bound_first ∙ ap (λ f. go_on (λ m. leave >>= (λ _. given (bound, m))) (block_list b f mid2)) (sym out) ∙ ap (go_on (λ m. leave >>= (λ _. given (bound, m)))) e ∙ ap (go_on (λ _. given (bound, made))) left
-
-pub scope_refuses : (b : BlockTree) (params : List Param) (known : Known) (e : CheckError) → Refuses e (enter known) → Refuses e (inner_rule b params known)
-scope_refuses b params known e h = passes_on (λ _. bound_behind [] params >>= (λ bound. block_list b statements.outside >>= (λ made. leave >>= (λ _. given (bound, made))))) (enter known) e h
+    pub inner_made : (bound : List VariableTree) (made : List Statement) (mid2 after : Known) → bound ≡ map rule.variable_of params → block_list b flow mid ≡ Ok (made, mid2) → leave mid2 ≡ Ok (after, after) → inner_rule b params scope known ≡ Ok ((bound, made), after)
+    inner_made bound made mid2 after are e left =
+        inner_first ∙ ap (λ f. go_on left_with (block_list b f mid)) (sym out) ∙ ap (go_on left_with) e ∙ ap (go_on (λ _. given (map rule.variable_of params, made))) left ∙ ap (λ (l : List VariableTree). Ok ((l, made), after)) (sym are)
 
 -- ---- bodies
 
@@ -147,7 +118,7 @@ body_from ss second (Err fault) = refl
 pub body_is : {A : Type 0} (b : BlockTree) (second : typed.Statements → Rule A) (known : Known) → go_on second (statements.body_statements b known) ≡ go_on (λ made. second (statements.statements_of made)) (block_list b statements.outside known)
 body_is (tree.Block opening ds ss closing) second known = body_from ss second (block_declarations ds known)
 
-module _ (said : Specified) (name : List ℕ) (result : Ty) (params : List Param) where
+module _ (said : Specified) (name : List ℕ) (result : Ty) (params : List Param) (scope : Scope) where
   abbrev made_of : List VariableTree → typed.Statements → List VariableTree → FunctionTree
   made_of bound body locals = record { name = name; result = result; params = bound; locals = locals; body = body; interrupt = said.interrupt; line = said.line }
 
@@ -162,30 +133,30 @@ module _ (said : Specified) (name : List ℕ) (result : Ty) (params : List Param
   ended_behind (Err fault) = refl
 
   from_inner : (b : BlockTree) (said : Result (Known × Known) Fault) → go_on (λ _. statements.body_statements b >>= closing (map rule.variable_of params)) said
-      ≡ go_on ended (go_on (λ bound. block_list b statements.outside >>= (λ made. leave >>= (λ _. given (bound, made)))) (go_on (λ _. given ([] ++ map rule.variable_of params)) said))
+      ≡ go_on ended (go_on (λ _. block_list b statements.outside >>= (λ made. leave >>= (λ _. given (map rule.variable_of params, made)))) said)
   from_inner b (Ok x) = body_is b (closing (map rule.variable_of params)) x.1 ∙ ended_behind (block_list b statements.outside x.1)
   from_inner b (Err fault) = refl
 
   abbrev begun : Known → Known
   begun known = record known { body = record { name = name; result = result; locals = []; declarators = 0 } }
 
-  body_as : (b : BlockTree) (known : Known) → rule.function_body b said name result params known ≡ go_on ended (inner_rule b params (begun known))
-  body_as b known = from_inner b (rule.bind_params params 0 (record (begun known) { scopes = [] ∷ known.scopes }))
+  body_as : (b : BlockTree) (known : Known) → rule.function_body b said name result params scope known ≡ go_on ended (inner_rule b params scope (begun known))
+  body_as b known = from_inner b (enter_with scope (begun known))
 
   abbrev known_behind : Known → Result (Known × Known) Fault → Known
   known_behind other (Ok x) = x.1
   known_behind other (Err fault) = other
 
-  at_mid : (b : BlockTree) (known mid : Known) → rule.body_begun name result known ≡ Ok (mid, mid) → rule.function_body b said name result params known ≡ go_on ended (inner_rule b params mid)
-  at_mid b known mid e = let same : begun known ≡ mid = ap (known_behind mid) e in body_as b known ∙ ap (λ k. go_on ended (inner_rule b params k)) same
+  at_mid : (b : BlockTree) (known mid : Known) → rule.body_begun name result known ≡ Ok (mid, mid) → rule.function_body b said name result params scope known ≡ go_on ended (inner_rule b params scope mid)
+  at_mid b known mid e = let same : begun known ≡ mid = ap (known_behind mid) e in body_as b known ∙ ap (λ k. go_on ended (inner_rule b params scope k)) same
 
-  pub function_made : (b : BlockTree) (known mid mid2 after : Known) (bound locals : List VariableTree) (made : List Statement) → rule.body_begun name result known ≡ Ok (mid, mid) → inner_rule b params mid ≡ Ok ((bound, made), mid2) → locals ≡ (mid2.body).locals → rule.body_ended mid2 ≡ Ok (after, after)
-      → rule.function_body b said name result params known ≡ Ok (made_of bound (statements.statements_of made) locals, after)
+  pub function_made : (b : BlockTree) (known mid mid2 after : Known) (bound locals : List VariableTree) (made : List Statement) → rule.body_begun name result known ≡ Ok (mid, mid) → inner_rule b params scope mid ≡ Ok ((bound, made), mid2) → locals ≡ (mid2.body).locals → rule.body_ended mid2 ≡ Ok (after, after)
+      → rule.function_body b said name result params scope known ≡ Ok (made_of bound (statements.statements_of made) locals, after)
   function_made b known mid mid2 after bound locals made e inner are over =
       at_mid b known mid e ∙ ap (go_on ended) inner ∙ ap (go_on (λ _. given (made_of bound (statements.statements_of made) (mid2.body).locals))) over ∙ ap (λ l. Ok (made_of bound (statements.statements_of made) l, after)) (sym are)
 
-  pub function_refuses : (b : BlockTree) (known mid : Known) (e : CheckError) → rule.body_begun name result known ≡ Ok (mid, mid) → Refuses e (inner_rule b params mid) → Refuses e (rule.function_body b said name result params known)
-  function_refuses b known mid e begins h = subst (Refuses e) (sym (at_mid b known mid begins)) (passes_on ended (inner_rule b params mid) e h)
+  pub function_refuses : (b : BlockTree) (known mid : Known) (e : CheckError) → rule.body_begun name result known ≡ Ok (mid, mid) → Refuses e (inner_rule b params scope mid) → Refuses e (rule.function_body b said name result params scope known)
+  function_refuses b known mid e begins h = subst (Refuses e) (sym (at_mid b known mid begins)) (passes_on ended (inner_rule b params scope mid) e h)
 
 -- ---- the functions of a unit
 

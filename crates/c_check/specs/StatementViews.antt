@@ -23,8 +23,8 @@ use Rattle.type_rules.specs.Declarations as declarations
 use Rattle.type_rules.specs.Expressions.{value_of}
 use Rattle.type_rules.specs.Faults as kind
 use Rattle.type_rules.specs.Faults.{Fault}
-use Rattle.type_rules.specs.Known.{Binding, Known, Rule, broken, given, known_here, tried, wanted, ◌>>=◌}
-use Rattle.type_rules.specs.Names.{enter, is_declared, leave}
+use Rattle.type_rules.specs.Known.{Binding, Scope, Known, Rule, broken, given, known_here, tried, wanted, ◌>>=◌}
+use Rattle.type_rules.specs.Names.{enter, enter_with, is_declared, leave}
 use Rattle.type_rules.specs.Objects.{object_rule, next_declarator}
 use Rattle.type_rules.specs.Outlines.{Outline, Param}
 use Rattle.type_rules.specs.Specifiers.{Specified}
@@ -189,20 +189,13 @@ Labels (Err e) body ty after said = Refuses e said
 
 -- ---- units
 
--- parameters that are bound behind others
-abbrev pub bound_behind : List VariableTree → List Param → Rule (List VariableTree)
-bound_behind before params = do
-  _ ← units.bind_params params (length before)
-  given (before ++ map units.variable_of params)
-
--- The parameters and the outermost block of a function are one scope.
-abbrev pub inner_rule : BlockTree → List Param → Rule (List VariableTree × List Statement)
-inner_rule b params = do
-  _ ← enter
-  bound ← bound_behind [] params
+-- The parameters and the outermost block of a function are one scope, whose names the list of parameters declared.
+abbrev pub inner_rule : BlockTree → List Param → Scope → Rule (List VariableTree × List Statement)
+inner_rule b params scope = do
+  _ ← enter_with scope
   made ← block_list b rule.outside
   _ ← leave
-  given (bound, made)
+  given (map units.variable_of params, made)
 
 -- what is written as a function and declares none
 abbrev pub no_function : List ℕ → ℕ → Rule FunctionTree

@@ -12,6 +12,8 @@ ghost use Rattle.type_rules.specs.Names.{innermost_in};
 ghost use Rattle.c_operate.specs.Answers.{Answers, Learns};
 ghost use Rattle.c_operate.specs.Tables.{known_of};
 ghost use Rattle.check_expr.specs.Views.{context_of, is_static, outline_of, param_of, specified_of};
+ghost use Rattle.check_expr.specs.Views.{declared_of as check_declared_of};
+ghost use Rattle.type_rules.specs.Outlines as outlines;
 ghost use Rattle.c_check.specs.Views.{any_init};
 ghost use Rattle.c_check.specs.StatementViews.{function_known, object_in_block};
 
@@ -25,7 +27,7 @@ use c_tree::statement::{Declaration, Declared as DeclaredTree, EqualsInit, Init,
 use c_typed::{Qualified, TStmt, Ty};
 use check_expr::declarator::{Context, outline, specified};
 use check_expr::outline::{Declared, Outline, ParamShape, line_of};
-use check_expr::specifiers::{Site, Specified, Storage};
+use check_expr::specifiers::{Site, Specified, Storage, is_typedef};
 use std::alloc::{AllocError, Global};
 
 /// The context of what stands outside functions.
@@ -130,7 +132,12 @@ fn function_number(
             functions.refuse_other(function, returns, &types, defines, line)?;
             Ok(function)
         }
-        Some(Binding::Object { .. } | Binding::Bit { .. }) => refused(Kind::Again, line),
+        Some(
+            Binding::Object { .. }
+            | Binding::Bit { .. }
+            | Binding::TypeName { .. }
+            | Binding::Enumerator(_),
+        ) => refused(Kind::Again, line),
         None => {
             refuse_bad(bad, line)?;
             add_function(checker, name, returns, types)
@@ -208,7 +215,7 @@ fn file_declared(
         incomplete,
     } = outline;
     match declared {
-        Declared::Function { result, params } => {
+        Declared::Function { result, params, .. } => {
             declare_function(checker, name, result, &params, bad, false, line)?;
             refuse_value(init, checker, line)
         }
@@ -223,6 +230,54 @@ fn file_declared(
     }
 }
 
+fn is_function(declared: &Declared) -> bool
+    ensures { result ≡ outlines.is_function (check_declared_of declared.now) }
+{
+    match declared {
+        Declared::Function { .. } => true,
+        Declared::Object(_) => false,
+    }
+}
+
+// The type that is named, whatever else is declared.
+fn type_of(declared: &Declared) -> Qualified
+    ensures { result ≡ outlines.object_type (check_declared_of declared.now) }
+{
+    match declared {
+        Declared::Function { result, .. } => *result,
+        Declared::Object(ty) => *ty,
+    }
+}
+
+// What can't be declared by a `typedef`: what no declaration declares, a function, or anything with a value or `interrupt`.
+fn is_no_type(outline: &Outline, specified: Specified, begun: bool) -> bool
+    ensures { result ≡ ((outline_of outline.now).bad || (outlines.is_function (outline_of outline.now).declared || (begun || specified.interrupt))) }
+{
+    outline.bad || (is_function(&outline.declared) || (begun || specified.interrupt))
+}
+
+// The declarator of a `typedef`. A type is no object, so it may be incomplete and of any size.
+fn named_type(
+    checker: &mut Checker,
+    specified: Specified,
+    outline: Outline,
+    begun: bool,
+    name: &[u8],
+    line: u32,
+) -> Result<(), CheckError>
+    ensures { Learns result (known_of checker.new) (rule.type_rule (specified_of specified) (outline_of outline) begun name.now line (known_of checker.old)) }
+{
+    checker.scopes.refuse_again(name, line)?;
+    if is_no_type(&outline, specified, begun) {
+        return refused(Kind::Declare, line);
+    }
+    let ty = type_of(&outline.declared);
+    let incomplete = outline.incomplete;
+    checker
+        .scopes
+        .bind(name, Binding::TypeName { ty, incomplete })
+}
+
 fn file_declarator(
     declared: &InitDeclarator,
     checker: &mut Checker,
@@ -233,14 +288,19 @@ fn file_declarator(
     let outline = outline(&declared.declarator, checker, specified, true)?;
     let line = line_of(&declared.declarator);
     let name = name_of(&declared.declarator);
-    file_declared(&declared.init, checker, specified, outline, name, line)
+    if is_typedef(specified.storage) {
+        let begun = is_given(&declared.init);
+        named_type(checker, specified, outline, begun, name, line)
+    } else {
+        file_declared(&declared.init, checker, specified, outline, name, line)
+    }
 }
 
-// `interrupt` where nothing is declared.
-fn refuse_interrupt(specified: Specified) -> Result<(), CheckError>
+// `interrupt` or `typedef` where nothing is declared.
+fn refuse_nothing(specified: Specified) -> Result<(), CheckError>
     ensures { (known : Known) → Learns result known (rule.nothing_declared (specified_of specified) known) }
 {
-    if specified.interrupt {
+    if specified.interrupt || is_typedef(specified.storage) {
         refused(Kind::Declare, specified.line)
     } else {
         Ok(())
@@ -271,7 +331,7 @@ pub(crate) fn file_declaration(
     let specified = specified(&declaration.specs, checker, in_file())?;
     match &declaration.declared {
         Some(list) => file_declarators(list, checker, specified),
-        None => refuse_interrupt(specified),
+        None => refuse_nothing(specified),
     }
 }
 
@@ -280,7 +340,7 @@ fn is_static(storage: Storage) -> bool
 {
     match storage {
         Storage::Static => true,
-        Storage::Plain | Storage::Auto | Storage::Register => false,
+        Storage::Plain | Storage::Typedef | Storage::Auto | Storage::Register => false,
     }
 }
 
@@ -359,7 +419,7 @@ fn block_declaration(
     match &declaration.declared {
         Some(list) => block_declarators(list, checker, specified),
         None => {
-            refuse_interrupt(specified)?;
+            refuse_nothing(specified)?;
             Ok(Vec::new(checker.alloc))
         }
     }

@@ -1,32 +1,32 @@
 //! Functions, and the whole unit (ISO/IEC 9899:1990, 6.7).
 
-ghost use Rattle.std.specs.Prelude.{◌≡◌, [], map, Ok, IfOk, IfErr, IfSome, OnOk};
+ghost use Rattle.std.specs.Prelude.{◌≡◌, [], ◌∷◌, map, Ok, IfOk, IfErr, IfSome, OnOk};
 ghost use Rattle.c_tree.specs.ProgramViews.{block_of, unit_of};
 ghost use Rattle.c_tree.specs.Views.{declarator_of, specs_of};
 ghost use Rattle.c_typed.specs.Views.{function_of, program_of, statement_of, variable_of};
 ghost use Rattle.type_rules.specs.Declarators.{line_in, name_in};
-ghost use Rattle.type_rules.specs.Known.{known_first};
-ghost use Rattle.type_rules.specs.Outlines as outlines;
+ghost use Rattle.type_rules.specs.Faults as faults;
+ghost use Rattle.type_rules.specs.Known.{Known, known_first, tried};
 ghost use Rattle.type_rules.specs.Units as rule;
 ghost use Rattle.c_operate.specs.Answers.{Answers, Learns};
-ghost use Rattle.c_operate.specs.Tables.{known_of};
+ghost use Rattle.c_operate.specs.Tables.{known_of, scope_of};
 ghost use Rattle.c_operate.specs.declared.error.CheckError.TheVariants.{NoMemory};
 ghost use Rattle.check_expr.specs.Views.{outline_of, param_of, specified_of};
 ghost use Rattle.c_check.specs.Checks.{Checks};
-ghost use Rattle.c_check.specs.StatementViews.{bound_behind, inner_rule, no_function};
+ghost use Rattle.c_check.specs.StatementViews.{inner_rule, no_function};
 
 use crate::declaration::{declare_function, file_declaration, in_file, name_of};
 use crate::flow::Flow;
 use crate::statement::block;
 use c_operate::body::Body;
 use c_operate::checker::Checker;
-use c_operate::error::{CheckError, Kind, number, refused};
-use c_operate::scope::Binding;
+use c_operate::error::{CheckError, Kind, refused};
+use c_operate::scope::Names;
 use c_tree::statement::{Function, Item, Unit};
-use c_typed::{Function as TypedFunction, Object, Qualified, TStmt, Ty, Typed, Variable};
+use c_typed::{Function as TypedFunction, TStmt, Ty, Typed, Variable};
 use check_expr::declarator::{outline, specified};
 use check_expr::outline::{Declared, Outline, ParamShape, line_of};
-use check_expr::specifiers::Specified;
+use check_expr::specifiers::{Specified, is_typedef};
 use indexmap::IndexSet;
 use std::alloc::Global;
 use std::mem;
@@ -58,39 +58,14 @@ fn definitions(alloc: Global, unit: &Unit) -> Result<IndexSet<Vec<u8>>, CheckErr
     Ok(names)
 }
 
-// Puts a parameter of this number into the innermost scope, if it has a name.
-fn bind_param(
-    checker: &mut Checker,
-    name: &[u8],
-    number: u32,
-    ty: Qualified,
-    fixed: bool,
-) -> Result<(), CheckError>
-    ensures { Learns result (known_of checker.new) (outlines.bind_param name.now number ty fixed (known_of checker.old)) }
+// The parameters as variables.
+fn variables(alloc: Global, params: Vec<ParamShape>) -> Result<Vec<Variable>, CheckError>
+    ensures ok { IfOk result (λ made. map variable_of made.items ≡ map rule.variable_of (map param_of params.items)) }
+    ensures err { IfErr result (λ e. e ≡ NoMemory) }
 {
-    match name {
-        [] => Ok(()),
-        [_, ..] => {
-            let object = Object::Param(number);
-            let binding = Binding::Object { object, ty, fixed };
-            checker.scopes.bind(name, binding)
-        }
-    }
-}
-
-// Puts the parameters into the innermost scope.
-fn bind_params(checker: &mut Checker, params: Vec<ParamShape>) -> Result<Vec<Variable>, CheckError>
-    ensures { Answers (λ bound. map variable_of bound.items) result (known_of checker.new) (bound_behind [] (map param_of params.items) (known_of checker.old)) }
-{
-    let mut variables = Vec::new(checker.alloc);
+    let mut variables = Vec::new(alloc);
     for param in params {
-        let ParamShape {
-            name,
-            ty,
-            fixed,
-            line,
-        } = param;
-        bind_param(checker, &name, number(variables.len())?, ty, fixed)?;
+        let ParamShape { name, ty, line, .. } = param;
         variables.push(Variable { name, ty, line })?;
     }
     Ok(variables)
@@ -125,16 +100,17 @@ struct Checked {
     statements: Vec<TStmt>,
 }
 
-// The parameters and the outermost block of a function are one scope.
+// The parameters and the outermost block of a function are one scope, whose names the list of parameters declared.
 fn inner(
     function: &Function,
     checker: &mut Checker,
     params: Vec<ParamShape>,
+    names: Names,
 ) -> Result<Checked, CheckError>
-    ensures { Answers (λ made. (map variable_of made.params.items, map statement_of made.statements.items)) result (known_of checker.new) (inner_rule (block_of function.now.body) (map param_of params.items) (known_of checker.old)) }
+    ensures { Answers (λ made. (map variable_of made.params.items, map statement_of made.statements.items)) result (known_of checker.new) (inner_rule (block_of function.now.body) (map param_of params.items) (scope_of names) (known_of checker.old)) }
 {
-    checker.scopes.enter()?;
-    let params = bind_params(checker, params)?;
+    checker.scopes.enter_with(names)?;
+    let params = variables(checker.alloc, params)?;
     let statements = block(&function.body, checker, Flow::outside())?;
     checker.scopes.leave();
     Ok(Checked { params, statements })
@@ -147,12 +123,13 @@ fn function_body(
     specified: Specified,
     returns: Ty,
     params: Vec<ParamShape>,
+    names: Names,
 ) -> Result<TypedFunction, CheckError>
-    ensures { Answers function_of result (known_of checker.new) (rule.function_body (block_of function.now.body) (specified_of specified) (name_in (declarator_of function.now.declarator)) returns (map param_of params.items) (known_of checker.old)) }
+    ensures { Answers function_of result (known_of checker.new) (rule.function_body (block_of function.now.body) (specified_of specified) (name_in (declarator_of function.now.declarator)) returns (map param_of params.items) (scope_of names) (known_of checker.old)) }
 {
     let name = name_of(&function.declarator);
     begin_body(checker, name, returns)?;
-    let Checked { params, statements } = inner(function, checker, params)?;
+    let Checked { params, statements } = inner(function, checker, params, names)?;
     let locals = end_body(checker);
     Ok(TypedFunction {
         name: name.to_vec(checker.alloc)?,
@@ -185,11 +162,26 @@ fn function_declared(
     let name = name_of(&function.declarator);
     let bad = outline.bad;
     match outline.declared {
-        Declared::Function { result, params } => {
+        Declared::Function {
+            result,
+            params,
+            names,
+        } => {
             declare_function(checker, name, result, &params, bad, true, line)?;
-            function_body(function, checker, specified, result.ty, params)
+            function_body(function, checker, specified, result.ty, params, names)
         }
         Declared::Object(_) => refuse_object(checker, name, line),
+    }
+}
+
+// A `typedef` stands in declarations alone.
+fn refuse_typedef(specified: Specified) -> Result<(), CheckError>
+    ensures { (known : Known) → Learns result known (tried (((specified_of specified).is_typedef, faults.Declare) ∷ []) (specified_of specified).line known) }
+{
+    if is_typedef(specified.storage) {
+        refused(Kind::Declare, specified.line)
+    } else {
+        Ok(())
     }
 }
 
@@ -197,6 +189,7 @@ fn function(function: &Function, checker: &mut Checker) -> Result<TypedFunction,
     ensures { Answers function_of result (known_of checker.new) (rule.function (specs_of function.now.specs) (declarator_of function.now.declarator) (block_of function.now.body) (known_of checker.old)) }
 {
     let specified = specified(&function.specs, checker, in_file())?;
+    refuse_typedef(specified)?;
     let outline = outline(&function.declarator, checker, specified, true)?;
     function_declared(function, checker, specified, outline)
 }

@@ -14,7 +14,7 @@ use Rattle.type_rules.specs.Known.{Field, Known, Rule, given, tried, wanted, go_
 use Rattle.type_rules.specs.Operations.{Operation}
 use Rattle.type_rules.specs.Places.{object_pointed, reach_behind, dereference, element_at, element, address_of, address, member_in, member_of, member, part_type, size_of_type}
 use Rattle.type_rules.specs.Rows.{pointer_to, bytes_of, is_complete}
-use Rattle.type_rules.specs.Terms.{Reach, Form, ValueForm, PlaceForm, FunctionForm, Term, Operand, value_term, place_term, number_of_type, no_table, is_addressable, first_into}
+use Rattle.type_rules.specs.Terms.{Reach, Form, ValueForm, PlaceForm, FunctionForm, TypeForm, Term, Operand, value_term, place_term, number_of_type, no_table, is_addressable, first_into}
 use Rattle.c_operate.specs.Terms.{place_in}
 
 -- ---- what is pointed to
@@ -36,6 +36,7 @@ unfolding form_in
 the_place (ValueForm value) place reach h = cc
 the_place (PlaceForm here by) place reach h = ap (λ found. form_in found (PlaceForm here by)) h
 the_place (FunctionForm number bare) place reach h = cc
+the_place TypeForm place reach h = cc
 
 -- ---- `&`
 

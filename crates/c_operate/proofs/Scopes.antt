@@ -10,6 +10,10 @@ module _ {A : Type 0} (view : A → Scope) where
   pub opened : (xs : List A) (x : A) → reverse (map view (xs ++ x ∷ [])) ≡ view x ∷ reverse (map view xs)
   opened xs x = ap reverse (seen_more view xs x) ∙ reverse-append (map view xs) (view x ∷ [])
 
+  -- a scope that is closed
+  pub closed : (xs ys : List A) (x : A) → xs ≡ ys ++ x ∷ [] → reverse (map view xs) ≡ view x ∷ reverse (map view ys)
+  closed xs ys x is = ap (λ l. reverse (map view l)) is ∙ opened ys x
+
   -- the scopes up to one, from that one outwards
   outwards : (xs : List A) (m : ℕ) (d : A) → m < length xs → reverse (map view (take (suc m) xs)) ≡ view (get_or xs m d) ∷ reverse (map view (take m xs))
   outwards xs m d lt = ap (λ l. reverse (map view l)) (take-suc xs m d lt) ∙ opened (take m xs) (get_or xs m d)

@@ -19,10 +19,12 @@ use Rattle.c_operate.specs.declared.error.CheckError.{CheckError}
 use Rattle.c_operate.specs.declared.error.CheckError.TheVariants.{NoMemory}
 use Rattle.c_operate.specs.declared.error.CheckError.TheVariants as errors
 use Rattle.c_operate.specs.declared.error.Kind.TheVariants as kinds
-use Rattle.c_operate.specs.Tables.{shape_of, field_of, binding_of}
+use Rattle.c_operate.specs.Tables.{shape_of, field_of, tag_of, binding_of}
 use Rattle.c_operate.specs.declared.scope.Binding.{Binding}
 use Rattle.c_operate.specs.declared.types.Field.{Field}
 use Rattle.c_operate.specs.declared.types.Shape.{Shape}
+use Rattle.c_operate.specs.declared.types.Tag.{Tag}
+use Rattle.c_operate.specs.declared.types.Tag.TheVariants as sorts
 use Rattle.c_operate.proofs.Names.{entry_found, entry_put, entry_there, member_found}
 
 -- ---- numbers of tables
@@ -116,29 +118,27 @@ binding_put es fresh k b name is put = ap bindings_of put ∙ entry_put (λ (v :
 -- ---- tags
 
 abbrev pub Tags : Type 0
-Tags = List (Vec ℕ Global × ℕ)
+Tags = List (Vec ℕ Global × Tag)
 
-abbrev pub tags_of : Tags → List (List ℕ × ℕ)
-tags_of es = map (λ e. (e.0.items, e.1)) es
+abbrev pub tags_of : Tags → List (List ℕ × rule.Tag)
+tags_of es = map (λ e. (e.0.items, tag_of e.1)) es
 
-itself : (r : Option ℕ) → r ≡ option_map (λ n. n) r
-itself None = refl
-itself (Some n) = refl
+pub tag_found : (es : Tags) (name : List ℕ) → option_map tag_of (lookup (λ k. bytes_eq name k.items) es) ≡ entry_of (tags_of es) name
+tag_found es name = entry_found (λ (v : Vec ℕ Global). v.items) tag_of es name
 
-pub tag_found : (es : Tags) (name : List ℕ) → lookup (λ k. bytes_eq name k.items) es ≡ entry_of (tags_of es) name
-tag_found es name = itself (lookup (λ k. bytes_eq name k.items) es) ∙ entry_found (λ (k : Vec ℕ Global). k.items) (λ (n : ℕ). n) es name
+pub tag_put : (es fresh : Tags) (k : Vec ℕ Global) (t : Tag) (name : List ℕ) → k.items ≡ name → fresh ≡ insert_entry (λ a b. bytes_eq a.items b.items) es k t → with_entry (tags_of es) name (tag_of t) ≡ tags_of fresh
+tag_put es fresh k t name is put = sym (ap tags_of put ∙ entry_put (λ (v : Vec ℕ Global). v.items) tag_of es k t ∙ ap (λ n. with_entry (tags_of es) n (tag_of t)) is)
 
 abbrev pub put_tag : List ℕ → Result (ℕ × Known) Fault → Result (ℕ × Known) Fault
-put_tag name (Ok x) = Ok (x.0, record x.1 { tags = with_entry (x.1).tags name x.0 })
+put_tag name (Ok x) = Ok (x.0, record x.1 { tags = with_entry (x.1).tags name (rule.StructTag x.0) })
 put_tag name (Err fault) = Err fault
 
 pub tag_declared : (old known : Known) (targets : List Qualified) (shapes : List Shape) (tags fresh : Tags) (k : Vec ℕ Global) (n : ℕ) (name : List ℕ)
     → rows.new_structure old ≡ Ok (n, record known { targets = targets; shapes = map shape_of shapes; tags = tags_of tags })
-    → k.items ≡ name → fresh ≡ insert_entry (λ a b. bytes_eq a.items b.items) tags k n
+    → k.items ≡ name → fresh ≡ insert_entry (λ a b. bytes_eq a.items b.items) tags k (sorts.Structure n)
     → rows.new_tag name old ≡ Ok (n, record known { targets = targets; shapes = map shape_of shapes; tags = tags_of fresh })
 tag_declared old known targets shapes tags fresh k n name made is put =
-    let now : with_entry (tags_of tags) name n ≡ tags_of fresh =
-    sym (ap tags_of put ∙ entry_put (λ (v : Vec ℕ Global). v.items) (λ (m : ℕ). m) tags k n ∙ ap (λ t. with_entry (tags_of tags) t n) is) in
+    let now : with_entry (tags_of tags) name (rule.StructTag n) ≡ tags_of fresh = tag_put tags fresh k (sorts.Structure n) name is put in
     ap (put_tag name) made ∙ ap (λ l. Ok (n, record known { targets = targets; shapes = map shape_of shapes; tags = l })) now
 
 -- ---- functions

@@ -1,5 +1,7 @@
 -- The tables of the checker, as the rules speak of them: what is known at a place.
-use Rattle.std.specs.Prelude.{ℕ, List, [], ◌∷◌, map, reverse, Option}
+use Rattle.std.specs.Prelude.{ℕ, pos, List, [], ◌∷◌, map, reverse, Option}
+use Rattle.c_ints.specs.Range.{cut}
+use Rattle.c_ints.specs.declared.types.IntTy.TheVariants as int
 use Rattle.c_typed.specs.Views.{static_of, variable_of}
 use Rattle.type_rules.specs.Known as rule
 use Rattle.type_rules.specs.Known.{Known, Scope}
@@ -9,12 +11,15 @@ use Rattle.c_operate.specs.declared.functions.Functions.{Functions}
 use Rattle.c_operate.specs.declared.functions.Signature.{Signature}
 use Rattle.c_operate.specs.declared.scope.Binding.{Binding}
 use Rattle.c_operate.specs.declared.scope.Binding.TheVariants as bindings
+use Rattle.c_operate.specs.declared.scope.Names.{Names}
 use Rattle.c_operate.specs.declared.scope.Scopes.{Scopes}
 use Rattle.c_operate.specs.declared.statics.Statics.{Statics}
 use Rattle.c_operate.specs.declared.types.Field.{Field}
 use Rattle.c_operate.specs.declared.types.Progress.{Progress}
 use Rattle.c_operate.specs.declared.types.Progress.TheVariants as progress
 use Rattle.c_operate.specs.declared.types.Shape.{Shape}
+use Rattle.c_operate.specs.declared.types.Tag.{Tag}
+use Rattle.c_operate.specs.declared.types.Tag.TheVariants as tags
 use Rattle.c_operate.specs.declared.types.Types.{Types}
 
 -- ---- types
@@ -30,9 +35,13 @@ field_of f = record { ty = f.ty; offset = f.offset }
 abbrev pub shape_of : Shape → rule.Shape
 shape_of s = record { fields = map (λ e. (e.0.items, field_of e.1)) s.fields.entries; size = s.size; body = progress_of s.body }
 
+abbrev pub tag_of : Tag → rule.Tag
+tag_of (tags.Structure number) = rule.StructTag number
+tag_of tags.Enumeration = rule.EnumTag
+
 -- what is known, with these tables of types
 abbrev pub types_in : Types → Known → Known
-types_in t known = record known { targets = t.targets.keys; shapes = map shape_of t.shapes.items; tags = map (λ e. (e.0.items, e.1)) t.tags.entries }
+types_in t known = record known { targets = t.targets.keys; shapes = map shape_of t.shapes.items; tags = map (λ e. (e.0.items, tag_of e.1)) t.tags.entries }
 
 -- ---- names
 
@@ -40,6 +49,11 @@ abbrev pub binding_of : Binding → rule.Binding
 binding_of (bindings.Object object ty fixed) = rule.ObjectName object ty fixed
 binding_of (bindings.Bit register bit) = rule.BitName register bit
 binding_of (bindings.Function number) = rule.FunctionName number
+binding_of (bindings.TypeName ty incomplete) = rule.TypeNamed ty incomplete
+binding_of (bindings.Enumerator bits) = rule.EnumeratorName (cut int.Int (pos bits))
+
+abbrev pub scope_of : Names → Scope
+scope_of n = map (λ e. (e.0.items, binding_of e.1)) n.entries.entries
 
 -- the open scopes, the innermost first
 abbrev pub scopes_of : Scopes → List Scope

@@ -27,6 +27,7 @@ abbrev pub form_of : Form → rule.Form
 form_of (forms.Value value) = rule.ValueForm (expression_of value)
 form_of (forms.Lvalue l) = rule.PlaceForm (place_of l.place) (lvalue_reach l)
 form_of (forms.Function number bare) = rule.FunctionForm number bare
+form_of forms.TypeName = rule.TypeForm
 
 -- Of a term the checker doesn't keep what stands between its commas: lists of arguments are read apart.
 abbrev pub term_of : Term → rule.Term

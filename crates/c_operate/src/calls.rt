@@ -24,7 +24,7 @@ fn function_of(term: &Term) -> Option<u32>
 {
     match &term.form {
         Form::Function { number, bare } => { if *bare { Some(*number) } else { None } }
-        Form::Value(_) | Form::Lvalue(_) => None,
+        Form::Value(_) | Form::Lvalue(_) | Form::TypeName => None,
     }
 }
 

@@ -122,7 +122,7 @@ fn measured(form: &Form) -> Option<Ty>
                 Some(place.ty().ty)
             }
         }
-        Form::Function { .. } => None,
+        Form::Function { .. } | Form::TypeName => None,
     }
 }
 
@@ -142,7 +142,7 @@ fn keeps_place(form: &Form) -> bool
 {
     match form {
         Form::Lvalue(place) => is_array(place.ty().ty),
-        Form::Value(_) | Form::Function { .. } => false,
+        Form::Value(_) | Form::Function { .. } | Form::TypeName => false,
     }
 }
 

@@ -1,6 +1,6 @@
 //! Names, constants and brackets (ISO/IEC 9899:1990, 6.3.1).
 
-ghost use Rattle.std.specs.Prelude.{◌≡◌, Ok};
+ghost use Rattle.std.specs.Prelude.{◌≡◌, Ok, None, []};
 ghost use Rattle.c_tree.specs.Words.{spell_constant};
 ghost use Rattle.type_rules.specs.Expressions as rule;
 ghost use Rattle.type_rules.specs.Known.{Known};
@@ -11,10 +11,23 @@ ghost use Rattle.c_operate.specs.Terms.{form_of, term_of};
 
 use crate::error::{CheckError, Kind, refused};
 use crate::scope::{Binding, Scopes};
-use crate::term::{Form, Lvalue, Term, constant, lvalue_term};
+use crate::term::{Form, Lvalue, Term, constant, lvalue_term, value_term};
 use c_ints::IntTy;
 use c_tree::word::{Constant, Name};
 use c_typed::TPlace;
+
+// What has no value and no place, at this line.
+fn form_term(form: Form, line: u32) -> Term
+    ensures { term_of result ≡ record { form = form_of form; null = false; line = line; start = line; into = None; listed = [] } }
+{
+    Term {
+        form,
+        null: false,
+        line,
+        start: line,
+        reach: None,
+    }
+}
 
 // What a name that stands for this is at this line.
 #[tactic(auto, using(c_typed::proofs::Shapes::show_place_name, c_typed::proofs::Shapes::show_place_bit))]
@@ -42,13 +55,9 @@ fn bound(binding: Binding, line: u32) -> Term
             };
             lvalue_term(place, line)
         }
-        Binding::Function(number) => Term {
-            form: Form::Function { number, bare: true },
-            null: false,
-            line,
-            start: line,
-            reach: None,
-        },
+        Binding::Function(number) => form_term(Form::Function { number, bare: true }, line),
+        Binding::TypeName { .. } => form_term(Form::TypeName, line),
+        Binding::Enumerator(bits) => value_term(constant(IntTy::Int, bits, line), line),
     }
 }
 
@@ -104,6 +113,7 @@ fn bracketed_form(form: Form) -> Form
             number,
             bare: false,
         },
+        Form::TypeName => Form::TypeName,
     }
 }
 

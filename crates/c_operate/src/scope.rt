@@ -5,7 +5,7 @@ ghost use Rattle.std.specs.Option.{option_map};
 ghost use Rattle.type_rules.specs.Known.{Known};
 ghost use Rattle.type_rules.specs.Names as names;
 ghost use Rattle.c_operate.specs.Answers.{Learns};
-ghost use Rattle.c_operate.specs.Tables.{binding_of, scopes_of, scopes_in};
+ghost use Rattle.c_operate.specs.Tables.{binding_of, scope_of, scopes_of, scopes_in};
 
 use crate::error::{CheckError, Kind, copied, refused};
 use c_ints::IntTy;
@@ -30,6 +30,30 @@ pub enum Binding {
     },
     /// The function of this number among those that are declared.
     Function(u32),
+    /// A type. `incomplete` says that it has arrays of what wasn't complete where it was named.
+    TypeName {
+        ty: Qualified,
+        incomplete: bool,
+    },
+    /// The number of type int that has these bits, 0 to 65,535.
+    Enumerator(u32),
+}
+
+/// The names of a scope, which goes on elsewhere.
+#[derive(Drop)]
+pub struct Names {
+    entries: IndexMap<Vec<u8>, Binding>,
+}
+
+impl Names {
+    /// No names.
+    pub fn none(alloc: Global) -> Names
+        ensures { scope_of result ≡ [] }
+    {
+        Names {
+            entries: IndexMap::new(alloc),
+        }
+    }
 }
 
 /// The names of the scopes that are open, the innermost last. The first is that of the file. The
@@ -109,12 +133,24 @@ impl Scopes {
         self.enter()
     }
 
-    /// Closes the scope of a list of parameters.
-    pub fn leave_list(&mut self)
-        ensures { (known : Known) → names.leave_list (scopes_in self.old known) ≡ Ok (scopes_in self.new known, scopes_in self.new known) }
+    /// Closes the scope of a list of parameters, whose names go on in the body of its function.
+    pub fn leave_list(&mut self) -> Names
+        ensures { (known : Known) → names.leave_list (scopes_in self.old known) ≡ Ok (scope_of result, scopes_in self.new known) }
     {
         self.lists = self.lists.saturating_sub(1);
-        self.leave();
+        match self.open.pop() {
+            Some(entries) => Names { entries },
+            None => Names::none(self.alloc),
+        }
+    }
+
+    /// Opens a scope that has these names already.
+    pub fn enter_with(&mut self, opened: Names) -> Result<(), CheckError>
+        ensures { (known : Known) → Learns result (scopes_in self.new known) (names.enter_with (scope_of opened) (scopes_in self.old known)) }
+    {
+        let Names { entries } = opened;
+        self.open.push(entries)?;
+        Ok(())
     }
 
     /// Whether no block is open.

@@ -64,6 +64,8 @@ pub(crate) enum Form {
     /// The name of the function of this number among those declared; `bare` where no brackets stand
     /// round it.
     Function { number: u32, bare: bool },
+    /// The name of a type.
+    TypeName,
 }
 
 /// How the elements of an array are reached: through a pointer, or as parts of what no address can be taken of.
@@ -218,7 +220,7 @@ pub(crate) fn first_reach(left: Option<Reach>, right: Option<Reach>) -> Option<R
     }
 }
 
-/// The value of an expression, where a const array may stand too: as what is indexed. A function has none.
+/// The value of an expression, where a const array may stand too: as what is indexed. A function has none, nor has a type.
 pub(crate) fn indexed(alloc: Global, types: &mut Types, term: Term) -> Result<Operand, CheckError>
     ensures { (known : Known) → Answers operand_of result (types_in types.new known) (rule.indexed (term_of term) (types_in types.old known)) }
 {
@@ -235,7 +237,7 @@ pub(crate) fn indexed(alloc: Global, types: &mut Types, term: Term) -> Result<Op
             let reach = reach_of(&place);
             (value_at(alloc, types, place.place, line)?, reach)
         }
-        Form::Function { .. } => return refused(Kind::Operand, line),
+        Form::Function { .. } | Form::TypeName => return refused(Kind::Operand, line),
     };
     Ok(Operand {
         value,
@@ -277,7 +279,7 @@ pub fn refuse_table(term: &Term) -> Result<(), CheckError>
                 Ok(())
             }
         }
-        Form::Value(_) | Form::Function { .. } => Ok(()),
+        Form::Value(_) | Form::Function { .. } | Form::TypeName => Ok(()),
     }
 }
 
@@ -287,7 +289,7 @@ pub(crate) fn into_lvalue(term: Term) -> Option<Lvalue>
 {
     match term.form {
         Form::Lvalue(place) => Some(place),
-        Form::Value(_) | Form::Function { .. } => None,
+        Form::Value(_) | Form::Function { .. } | Form::TypeName => None,
     }
 }
 

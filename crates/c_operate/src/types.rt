@@ -11,7 +11,7 @@ ghost use Rattle.type_rules.specs.Places.{member_from};
 ghost use Rattle.type_rules.specs.Rows as rows;
 ghost use Rattle.type_rules.specs.Units.{structure_tree};
 ghost use Rattle.c_operate.specs.Answers.{Answers, Learns, kind_of};
-ghost use Rattle.c_operate.specs.Tables.{field_of, progress_of, shape_of, types_in};
+ghost use Rattle.c_operate.specs.Tables.{field_of, progress_of, shape_of, tag_of, types_in};
 ghost use Rattle.c_operate.specs.declared.error.CheckError.TheVariants.{NoMemory};
 
 use crate::error::{CheckError, Kind, copied, number};
@@ -32,6 +32,13 @@ struct Shape {
     fields: IndexMap<Vec<u8>, Field>,
     size: u64,
     body: Progress,
+}
+
+/// What a tag is that of: the structure of this number, or an enumeration.
+#[derive(Clone, Copy, PartialEq, Eq)]
+pub enum Tag {
+    Structure(u32),
+    Enumeration,
 }
 
 /// How far the body of a structure is.
@@ -72,14 +79,14 @@ fn found(fields: &IndexMap<Vec<u8>, Field>, name: &[u8]) -> Option<(usize, Field
     }
 }
 
-/// The types of a unit: what pointers point to and arrays are made of, the structures, and their
-/// tags.
+/// The types of a unit: what pointers point to and arrays are made of, the structures, and the tags of structures
+/// and of enumerations.
 #[derive(Drop)]
 pub struct Types {
     alloc: Global,
     targets: IndexSet<Qualified>,
     shapes: Vec<Shape>,
-    tags: IndexMap<Vec<u8>, u32>,
+    tags: IndexMap<Vec<u8>, Tag>,
 }
 
 /// The greatest number of bytes that an object has.
@@ -238,14 +245,23 @@ impl Types {
         Ok(index)
     }
 
-    /// The structure of a tag.
-    pub fn tagged(&self, tag: &[u8]) -> Option<u32>
-        ensures { (known : Known) → result ≡ rows.tagged (types_in self.now known) tag.now }
+    /// What a tag is that of.
+    pub fn tagged(&self, tag: &[u8]) -> Option<Tag>
+        ensures { (known : Known) → option_map tag_of result ≡ rows.tagged (types_in self.now known) tag.now }
     {
         match self.tags.get(tag) {
-            Some(number) => Some(*number),
+            Some(found) => Some(*found),
             None => None,
         }
+    }
+
+    /// The tag of an enumeration, whose body ends here.
+    pub fn declare_enumeration(&mut self, tag: &[u8]) -> Result<(), CheckError>
+        ensures { (known : Known) → Learns result (types_in self.new known) (rows.new_enum_tag tag.now (types_in self.old known)) }
+    {
+        let name = copied(self.alloc, tag)?;
+        self.tags.insert(name, Tag::Enumeration)?;
+        Ok(())
     }
 
     /// A structure without a tag.
@@ -261,7 +277,7 @@ impl Types {
     {
         let structure = self.add_structure()?;
         let name = copied(self.alloc, tag)?;
-        self.tags.insert(name, structure)?;
+        self.tags.insert(name, Tag::Structure(structure))?;
         Ok(structure)
     }
 

@@ -3,18 +3,18 @@ use Rattle.std.proofs.Common.{◌≡◌, ℕ, zero, suc, ◌≤◌, Bool, true, 
 use Rattle.c_token.specs.declared.token.TokKind.{TokKind}
 use Rattle.c_token.specs.declared.token.TokKind.TheVariants as kinds
 use Rattle.c_token.specs.declared.token.Punct.TheVariants as marks
-use Rattle.c_tree.specs.Words.{Symbol, Symbols, punct}
+use Rattle.c_tree.specs.Words.{Symbol, Symbols, punct, spelled_comma}
 use Rattle.c_tree.specs.Kinds.{is_punct, is_text, is_spec}
 use Rattle.c_tree.specs.Trees.{Tree, SpecTrees, DeclaratorTree, spelled, spelled_specs, spelled_declarator, IsDeclarator}
-use Rattle.c_tree.specs.Programs.{InitTree, Value, Quoted, Listed, MoreInits, NoInit, AndInit, BegunTree, DeclaredTrees, DeclarationTree, spelled_init, spelled_more_inits, spelled_comma, spelled_equals, spelled_begun, spelled_more_begun, spelled_declared, spelled_declaration, spelled_declarations, IsInit, AreMoreInits, IsEquals, IsBegun, AreMoreBegun, AreDeclared, IsDeclaration, AreDeclarations}
+use Rattle.c_tree.specs.Programs.{InitTree, Value, Quoted, Listed, MoreInits, NoInit, AndInit, BegunTree, DeclaredTrees, DeclarationTree, spelled_init, spelled_more_inits, spelled_equals, spelled_begun, spelled_more_begun, spelled_declared, spelled_declaration, spelled_declarations, IsInit, AreMoreInits, IsEquals, IsBegun, AreMoreBegun, AreDeclared, IsDeclaration, AreDeclarations}
 use Rattle.c_tree.specs.ProgramViews.{more_inits}
-use Rattle.parse_expr.specs.Reader.{Reader, front_is, punct_at, collect}
+use Rattle.parse_expr.specs.Reader.{Reader, front_is, punct_at, comma_at, collect}
 use Rattle.parse_expr.proofs.Knots.{goes_on_specs, goes_on_suffixes, begins_expr, Stops}
 use Rattle.parse_expr.proofs.Collects.{front_not, punct_none, collect_ends, collect_more}
 use Rattle.parse_expr.proofs.Starts.{begins_declarator, declarator_token, declarator_starts}
 use Rattle.parse_expr.proofs.AgainOperands.{expr_starts}
 use Rattle.parse_expr.proofs.AgainAll.{assign_again, specs_again, declarator_again}
-use Rattle.c_parse.specs.Reading.{comma_at, next_init_by, list_by, value_by, init_by, init_inside, init_at, begun_behind, begun_by, next_begun_by, declared_behind, declaration_behind, declaration_by, next_declaration_by}
+use Rattle.c_parse.specs.Reading.{next_init_by, list_by, value_by, init_by, init_inside, init_at, begun_behind, begun_by, next_begun_by, declared_behind, declaration_behind, declaration_by, next_declaration_by}
 use Rattle.c_parse.proofs.AgainFronts.{apart_mark, no_mark, no_text, begins_init, init_starts, declaration_starts, declaration_has_token}
 
 -- ---- initializers

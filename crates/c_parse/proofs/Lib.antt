@@ -1,4 +1,5 @@
 mod Counting
+mod Names
 pub mod AgainFronts
 pub mod AgainDeclarations
 pub mod AgainStatements

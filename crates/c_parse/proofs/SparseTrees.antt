@@ -1,12 +1,12 @@
 -- Expressions, specifiers and declarators have four tokens at least for each `?`, and an expression has one more.
-use Rattle.std.proofs.Common.{◌≡◌, ◌<◌, Bool, true, false, nat_lt, ◌&&◌, if◌then◌else◌, [], ◌∷◌, ◌++◌, refl}
+use Rattle.std.proofs.Common.{◌≡◌, ℕ, ◌<◌, Bool, true, false, nat_lt, ◌&&◌, if◌then◌else◌, [], ◌∷◌, ◌++◌, Option, Some, None, refl}
 use Rattle.std.proofs.lemmas.Bool.{lt-ltb}
 use Rattle.c_token.specs.declared.token.Keyword.TheVariants as words
 use Rattle.c_token.specs.declared.token.Punct.TheVariants as marks
-use Rattle.c_tree.specs.Words.{Symbol, Symbols, key, punct}
-use Rattle.c_tree.specs.Kinds.{is_punct, is_name, is_leaf, level_of, is_assignment, is_prefix, is_step, is_field, is_qualifier, is_spec_word}
-use Rattle.c_tree.specs.Trees.{Tree, Leaf, Group, Behind, Before, Measure, Join, Choose, Assign, Post, Index, CallBare, Call, Field, Step, Pre, Sign, Sizeof, Cast, TypeTree, TypeOf, SpecTrees, Specified, MoreSpecs, NoSpec, AndSpec, SpecTree, OneWord, Tagged, Body, MoreMembers, NoMember, AndMember, MemberTree, Members, MoreDeclarators, NoDeclarator, AndDeclarator, DeclaratorTree, Declares, SuffixTrees, NoSuffix, AndSuffix, SuffixTree, Unsized, Sized, Empty, VoidOnly, Params, MoreParams, NoParam, AndParam, ParamTree, Named, Unnamed, spelled, spelled_post, spelled_pre, spelled_type, spelled_specs, spelled_more_specs, spelled_spec, spelled_more_members, spelled_member, spelled_more_declarators, spelled_declarator, spelled_suffixes, spelled_suffix, spelled_more_params, spelled_param, are_stars, are_pointers, is_tag, IsTree, IsPost, IsPre, IsType, AreSpecs, AreMoreSpecs, IsSpec, AreMoreMembers, IsMember, AreMoreDeclarators, IsDeclarator, AreSuffixes, IsSuffix, AreMoreParams, IsParam}
-use Rattle.c_parse.proofs.QuietKinds.{Quiet, quiet, key_quiet, comma, opens, closes, bracket, closing_bracket}
+use Rattle.c_tree.specs.Words.{Symbol, Symbols, key, punct, spelled_comma}
+use Rattle.c_tree.specs.Kinds.{is_punct, is_name, is_leaf, level_of, is_assignment, is_prefix, is_step, is_field, is_qualifier, is_spec_word, is_type_name}
+use Rattle.c_tree.specs.Trees.{Tree, Leaf, Group, Behind, Before, Measure, Join, Choose, Assign, Post, Index, CallBare, Call, Field, Step, Pre, Sign, Sizeof, Cast, TypeTree, TypeOf, SpecTrees, Specified, MoreSpecs, NoSpec, AndSpec, SpecTree, OneWord, Tagged, Body, NamedType, EnumTagged, EnumBody, MoreEnumerators, NoEnumerator, AndEnumerator, EnumeratorTree, Bare, Valued, spelled_more_enumerators, spelled_enumerator, AreMoreEnumerators, IsEnumerator, MoreMembers, NoMember, AndMember, MemberTree, Members, MoreDeclarators, NoDeclarator, AndDeclarator, DeclaratorTree, Declares, SuffixTrees, NoSuffix, AndSuffix, SuffixTree, Unsized, Sized, Empty, VoidOnly, Params, MoreParams, NoParam, AndParam, ParamTree, Named, Unnamed, spelled, spelled_post, spelled_pre, spelled_type, spelled_specs, spelled_more_specs, spelled_spec, spelled_more_members, spelled_member, spelled_more_declarators, spelled_declarator, spelled_suffixes, spelled_suffix, spelled_more_params, spelled_param, are_stars, are_pointers, is_tag, IsTree, IsPost, IsPre, IsType, AreSpecs, AreMoreSpecs, IsSpec, AreMoreMembers, IsMember, AreMoreDeclarators, IsDeclarator, AreSuffixes, IsSuffix, AreMoreParams, IsParam}
+use Rattle.c_parse.proofs.QuietKinds.{Quiet, quiet, key_quiet, comma, equals, opens, closes, bracket, closing_bracket}
 use Rattle.c_parse.proofs.Sparse.{Good, good_none, weaker, good_then, good_behind, good_one, good_choice, Steady, steady, steady_none, steady_then, steady_end, steady_closing, good_braced}
 
 -- ---- tokens
@@ -32,6 +32,9 @@ assignment_quiet s h = quiet is_assignment (record { question = refl; semicolon 
 operator_quiet : (s : Symbol) → 0 < level_of s.kind → Quiet s.kind
 operator_quiet s h = quiet (λ k. nat_lt 0 (level_of k)) (record { question = refl; semicolon = refl; opening = refl; closing = refl }) s.kind (lt-ltb 0 (level_of s.kind) h)
 
+type_name_quiet : (s : Symbol) → is_type_name s.kind ≡ true → Quiet s.kind
+type_name_quiet s h = quiet is_type_name (record { question = refl; semicolon = refl; opening = refl; closing = refl }) s.kind h
+
 word_quiet : (s : Symbol) → is_spec_word s.kind ≡ true → Quiet s.kind
 word_quiet s h = quiet is_spec_word (record { question = refl; semicolon = refl; opening = refl; closing = refl }) s.kind h
 
@@ -55,6 +58,10 @@ tag_good : (tag : Symbols) → is_tag tag ≡ true → Good 0 tag
 tag_good [] h = good_none
 tag_good (n ∷ []) h = good_behind 0 n [] (name_quiet n h) good_none
 tag_good (n ∷ m ∷ rest) h = absurd cc
+
+last_good : (last : Option ℕ) → Good 0 (spelled_comma last)
+last_good None = good_none
+last_good (Some c) = good_behind 0 (punct marks.Comma c) [] comma good_none
 
 -- a token behind a part
 behind : (xs : Symbols) (s : Symbol) → Quiet s.kind → Good 0 xs → Good 1 (xs ++ s ∷ [])
@@ -108,6 +115,24 @@ mutual
       let ends = steady_then (spelled_more_members ms) (punct marks.RightBrace c ∷ []) (more_members_steady ms is.2) (steady_closing c) in
       let whole = steady_then (spelled_member m) end (member_steady m is.1) ends in
       good_behind 0 (key words.Struct k) (tag ++ punct marks.LeftBrace o ∷ inside) (key_quiet words.Struct) (good_then 0 tag (punct marks.LeftBrace o ∷ inside) (tag_good tag is.0) (good_braced o inside whole))
+  spec_good (NamedType s) is = good_behind 0 s [] (type_name_quiet s is) good_none
+  spec_good (EnumTagged k n) is = good_behind 0 (key words.Enum k) (n ∷ []) (key_quiet words.Enum) (good_behind 0 n [] (name_quiet n is) good_none)
+  spec_good (EnumBody k tag o e es last c) is =
+      let end = spelled_comma last ++ punct marks.RightBrace c ∷ [] in
+      let more = spelled_more_enumerators es ++ end in
+      let inside = spelled_enumerator e ++ more in
+      let ends = steady_then (spelled_comma last) (punct marks.RightBrace c ∷ []) (steady (spelled_comma last) (last_good last)) (steady_closing c) in
+      let others = steady_then (spelled_more_enumerators es) end (steady (spelled_more_enumerators es) (more_enumerators_good es is.2)) ends in
+      let whole = steady_then (spelled_enumerator e) more (steady (spelled_enumerator e) (enumerator_good e is.1)) others in
+      good_behind 0 (key words.Enum k) (tag ++ punct marks.LeftBrace o ∷ inside) (key_quiet words.Enum) (good_then 0 tag (punct marks.LeftBrace o ∷ inside) (tag_good tag is.0) (good_braced o inside whole))
+
+  more_enumerators_good : (es : MoreEnumerators) → AreMoreEnumerators es → Good 0 (spelled_more_enumerators es)
+  more_enumerators_good NoEnumerator are = good_none
+  more_enumerators_good (AndEnumerator c e es) are = good_behind 0 (punct marks.Comma c) (spelled_enumerator e ++ spelled_more_enumerators es) comma (good_then 0 (spelled_enumerator e) (spelled_more_enumerators es) (enumerator_good e are.0) (more_enumerators_good es are.1))
+
+  enumerator_good : (e : EnumeratorTree) → IsEnumerator e → Good 0 (spelled_enumerator e)
+  enumerator_good (Bare n) is = good_behind 0 n [] (name_quiet n is) good_none
+  enumerator_good (Valued n q e) is = good_behind 0 n (punct marks.Assign q ∷ spelled e) (name_quiet n is.0) (good_behind 0 (punct marks.Assign q) (spelled e) equals (weaker (spelled e) (tree_good e is.1)))
 
   more_members_steady : (ms : MoreMembers) → AreMoreMembers ms → Steady (spelled_more_members ms)
   more_members_steady NoMember are = steady_none

@@ -10,6 +10,7 @@ use Rattle.parse_expr.specs.Reader.{symbol_in, spells}
 
 kind_is : (k : TokKind) → is_text k ≡ true → k ≡ kinds.Text
 kind_is kinds.Name h = cc
+kind_is kinds.TypeName h = cc
 kind_is (kinds.Keyword w) h = cc
 kind_is (kinds.Int value base u l) h = cc
 kind_is (kinds.Char value) h = cc

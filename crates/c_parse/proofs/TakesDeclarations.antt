@@ -1,17 +1,17 @@
 -- What is read as an initializer or as a declaration is a tree of its kind.
 use Rattle.std.proofs.Common.{◌≡◌, ℕ, zero, suc, List, [], ◌∷◌, ◌++◌, Some, None, refl, sym, ap, subst, ◌∙◌}
 use Rattle.c_token.specs.declared.token.Punct.TheVariants as marks
-use Rattle.c_tree.specs.Words.{Symbols, punct}
+use Rattle.c_tree.specs.Words.{Symbols, punct, spelled_comma}
 use Rattle.c_tree.specs.Kinds.{is_punct, is_text}
 use Rattle.c_tree.specs.Trees.{SpecTrees, DeclaratorTree, spelled_specs, spelled_declarator, AreSpecs, IsDeclarator}
-use Rattle.c_tree.specs.Programs.{InitTree, Value, Quoted, Listed, BegunTree, DeclarationTree, spelled_init, spelled_more_inits, spelled_comma, spelled_begun, spelled_more_begun, spelled_declaration, spelled_declarations, IsInit, AreMoreInits, IsBegun, AreMoreBegun, IsDeclaration, AreDeclarations}
+use Rattle.c_tree.specs.Programs.{InitTree, Value, Quoted, Listed, BegunTree, DeclarationTree, spelled_init, spelled_more_inits, spelled_begun, spelled_more_begun, spelled_declaration, spelled_declarations, IsInit, AreMoreInits, IsBegun, AreMoreBegun, IsDeclaration, AreDeclarations}
 use Rattle.c_tree.specs.ProgramViews.{more_inits}
-use Rattle.parse_expr.specs.Reader.{◌>>=◌, Reader, front_is, punct_at, specs_come, all_that}
+use Rattle.parse_expr.specs.Reader.{◌>>=◌, Reader, front_is, punct_at, specs_come, comma_at, all_that}
 use Rattle.parse_expr.proofs.Knots.{ArePlain, Takes, Sound, SoundStep}
 use Rattle.parse_expr.proofs.Plain.{punct_is}
-use Rattle.parse_expr.proofs.TakesLists.{Splits, join, splits_as, part, one, taken_as, take, sound_then, cases_if, cases_option, got_ok, punct_takes, Each, spelled_all, all_take}
+use Rattle.parse_expr.proofs.TakesLists.{Splits, join, splits_as, part, one, taken_as, take, sound_then, cases_if, cases_option, got_ok, punct_takes, comma_takes, Each, spelled_all, all_take}
 use Rattle.parse_expr.proofs.Takes.{assign_takes, specs_takes, declarator_takes}
-use Rattle.c_parse.specs.Reading.{comma_on, comma_at, next_init_by, list_by, value_by, init_by, init_inside, init_at, begun_on, begun_behind, begun_by, next_begun_by, declared_behind, declaration_on, declaration_behind, declaration_by, next_declaration_by}
+use Rattle.c_parse.specs.Reading.{next_init_by, list_by, value_by, init_by, init_inside, init_at, begun_on, begun_behind, begun_by, next_begun_by, declared_behind, declaration_on, declaration_behind, declaration_by, next_declaration_by}
 
 -- ---- initializers
 
@@ -37,14 +37,6 @@ more_inits_spelled (i ∷ is) = ap (λ (l : Symbols). spelled_next_init i ++ l) 
 more_inits_are : (is : List (ℕ × InitTree)) → Each (λ i. IsInit i.1) is → AreMoreInits (more_inits is)
 more_inits_are [] each = tt
 more_inits_are (i ∷ is) each = (each.0, more_inits_are is each.1)
-
--- a comma behind the last, or none
-comma_takes : (toks : Symbols) → ArePlain toks → Takes spelled_comma (λ c. Unit {0}) toks (comma_at toks)
-unfolding comma_at
-comma_takes toks plain = elim (punct_at marks.Comma toks) as (λ q. punct_at marks.Comma toks ≡ q → Takes spelled_comma (λ c. Unit {0}) toks (comma_on toks q)) [
-  | None ↦ λ is. record { parts = refl; tree = tt; plain = plain }
-  | Some c ↦ λ is. let t = punct_takes marks.Comma toks plain c is in record { parts = t.parts; tree = tt; plain = t.plain }
-] refl
 
 list_takes : (inner : Reader InitTree) → Sound spelled_init IsInit inner → (o : ℕ) (toks : Symbols) → ArePlain toks → (x : InitTree × Symbols) → list_by inner o toks ≡ Some x → Takes spelled_init IsInit (punct marks.LeftBrace o ∷ toks) x
 unfolding list_by

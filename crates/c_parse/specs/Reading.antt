@@ -9,18 +9,10 @@ use Rattle.c_tree.specs.Kinds.{is_punct, is_key, is_text}
 use Rattle.c_tree.specs.Trees.{Tree, SpecTrees, DeclaratorTree}
 use Rattle.c_tree.specs.Programs.{ConditionTree, HeadTree, LabelTree, Case, Default, InitTree, Value, Quoted, Listed, BegunTree, DeclaredTrees, DeclarationTree, StatementTree, Braced, Plain, Chain, While, Do, For, Switch, Break, Continue, Return, BlockTree, Block, ArmTree, Arm, is_function, ItemTree, Function, Declaration}
 use Rattle.c_tree.specs.ProgramViews.{more_inits, statements_of, arms_of, InnerTree, LabelInner, StatementInner, items_of}
-use Rattle.parse_expr.specs.Reader.{◌>>=◌, Reader, Step, front_is, punct_at, key_at, specs_come, got, all_that}
+use Rattle.parse_expr.specs.Reader.{◌>>=◌, Reader, Step, front_is, punct_at, key_at, specs_come, comma_at, got, all_that}
 use Rattle.parse_expr.specs.Reading.{at, expr_by, cond_by, assign_by, specs_by, declarator_by}
 
 -- ---- initializers
-
--- a comma in front, where one comes
-abbrev pub comma_on : Symbols → Option (ℕ × Symbols) → Option ℕ × Symbols
-comma_on toks None = (None, toks)
-comma_on toks (Some c) = (Some c.0, c.1)
-
-unfoldable pub comma_at : Symbols → Option ℕ × Symbols
-comma_at toks = comma_on toks (punct_at marks.Comma toks)
 
 -- a comma that an item follows, and not the end of the list
 unfoldable pub next_init_by : Reader InitTree → Step (ℕ × InitTree)

@@ -1,11 +1,11 @@
 //! The parser of initializers.
 
-ghost use Rattle.std.specs.Prelude.{◌≡◌, ℕ, List, Some, true, IfOk, map};
+ghost use Rattle.std.specs.Prelude.{◌≡◌, true, IfOk, map};
 ghost use Rattle.c_tree.specs.Words.{quoted};
 ghost use Rattle.c_tree.specs.Kinds.{is_text};
 ghost use Rattle.c_tree.specs.ProgramViews.{init_of, next_init_of};
 ghost use Rattle.parse_expr.specs.Reader.{Gives, over, symbol_in, symbols_in, all_that};
-ghost use Rattle.c_parse.specs.Reading.{comma_at, next_init_by, list_by, value_by, init_by, init_inside, init_at};
+ghost use Rattle.c_parse.specs.Reading.{next_init_by, list_by, value_by, init_by, init_inside, init_at};
 
 use crate::build;
 use c_pre::word_of;
@@ -14,7 +14,7 @@ use c_tree::statement::{Init, NextInit};
 use c_tree::word::Text;
 use parse_expr::expression::assign;
 use parse_expr::kind::is_punct;
-use parse_expr::take::{Read, Step, behind_punct, punct, punct_comes, stopped};
+use parse_expr::take::{Read, Step, behind_comma, punct, punct_comes, stopped};
 use std::alloc::{AllocError, Global};
 
 /// Whether it is a string literal.
@@ -44,17 +44,6 @@ fn value<'s>(alloc: Global, text: &[u8], last: u32, fuel: usize, toks: &'s [Tok]
 {
     let (assign, rest) = assign(alloc, text, last, fuel, toks)?;
     Ok((build::value(assign), rest))
-}
-
-/// The comma in front, where one comes.
-#[tactic(auto, unfolding(crate::specs::Reading::comma_at))]
-fn comma<'s>(toks: &'s [Tok]) -> (Option<u32>, &'s [Tok])
-    ensures { (text : List ℕ) → (result.0, symbols_in text result.1.now) ≡ comma_at (symbols_in text toks.now) }
-{
-    match behind_punct(Punct::Comma, toks) {
-        Some((comma, rest)) => (Some(comma), rest),
-        None => (None, toks),
-    }
 }
 
 /// `assign | string | "{" init { "," init } [ "," ] "}"`
@@ -116,7 +105,7 @@ fn list<'s>(
 {
     let (first, rest) = inner_init(alloc, text, last, fuel, toks)?;
     let (others, rest) = next_inits(alloc, text, last, fuel, rest)?;
-    let (last_comma, rest) = comma(rest);
+    let (last_comma, rest) = behind_comma(rest);
     let (closing, rest) = punct(last, Punct::RightBrace, rest)?;
     Ok((
         build::list(alloc, opening, first, others, last_comma, closing)?,

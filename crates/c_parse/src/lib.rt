@@ -15,10 +15,12 @@ mod declaration;
 mod entry;
 mod initial;
 mod limits;
+mod marks;
 mod part;
 mod statement;
 mod unit;
 
 pub use entry::parse;
 pub use limits::over;
+pub use marks::mark;
 pub use parse_expr::ParseError;

@@ -18,8 +18,6 @@ abbrev pub excluded_spelling : Excluded → List ℕ
 excluded_spelling excluded.Float = codes "float"
 excluded_spelling excluded.Double = codes "double"
 excluded_spelling excluded.Union = codes "union"
-excluded_spelling excluded.Enum = codes "enum"
-excluded_spelling excluded.Typedef = codes "typedef"
 excluded_spelling excluded.Goto = codes "goto"
 excluded_spelling excluded.Extern = codes "extern"
 excluded_spelling excluded.Bit = codes "bit"
@@ -34,8 +32,7 @@ excluded_spelling excluded.UnderscoreInterrupt = codes "__interrupt"
 
 abbrev pub excluded_words : List Excluded
 excluded_words =
-    excluded.Float ∷ excluded.Double ∷ excluded.Union ∷ excluded.Enum ∷
-    excluded.Typedef ∷ excluded.Goto ∷ excluded.Extern ∷ excluded.Bit ∷
+    excluded.Float ∷ excluded.Double ∷ excluded.Union ∷ excluded.Goto ∷ excluded.Extern ∷ excluded.Bit ∷
     excluded.Bank1 ∷ excluded.Bank2 ∷ excluded.Bank3 ∷ excluded.Persistent ∷
     excluded.Asm ∷ excluded.UnderscoreAsm ∷ excluded.Config ∷ excluded.UnderscoreInterrupt ∷ []
 

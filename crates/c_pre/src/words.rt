@@ -32,8 +32,6 @@ enum Excluded {
     Float,
     Double,
     Union,
-    Enum,
-    Typedef,
     Goto,
     Extern,
     Bit,
@@ -47,12 +45,10 @@ enum Excluded {
     UnderscoreInterrupt,
 }
 
-const EXCLUDED: [Excluded; 16] = [
+const EXCLUDED: [Excluded; 14] = [
     Excluded::Float,
     Excluded::Double,
     Excluded::Union,
-    Excluded::Enum,
-    Excluded::Typedef,
     Excluded::Goto,
     Excluded::Extern,
     Excluded::Bit,
@@ -74,8 +70,6 @@ impl Excluded {
             Excluded::Float => b"float",
             Excluded::Double => b"double",
             Excluded::Union => b"union",
-            Excluded::Enum => b"enum",
-            Excluded::Typedef => b"typedef",
             Excluded::Goto => b"goto",
             Excluded::Extern => b"extern",
             Excluded::Bit => b"bit",

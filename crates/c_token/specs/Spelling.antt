@@ -16,6 +16,7 @@ keyword_spelling keyword.Continue = codes "continue"
 keyword_spelling keyword.Default = codes "default"
 keyword_spelling keyword.Do = codes "do"
 keyword_spelling keyword.Else = codes "else"
+keyword_spelling keyword.Enum = codes "enum"
 keyword_spelling keyword.For = codes "for"
 keyword_spelling keyword.If = codes "if"
 keyword_spelling keyword.Int = codes "int"
@@ -29,6 +30,7 @@ keyword_spelling keyword.Sizeof = codes "sizeof"
 keyword_spelling keyword.Static = codes "static"
 keyword_spelling keyword.Struct = codes "struct"
 keyword_spelling keyword.Switch = codes "switch"
+keyword_spelling keyword.Typedef = codes "typedef"
 keyword_spelling keyword.Unsigned = codes "unsigned"
 keyword_spelling keyword.Void = codes "void"
 keyword_spelling keyword.Volatile = codes "volatile"
@@ -85,10 +87,10 @@ punct_spelling punct.Hash = codes "#"
 abbrev pub keywords : List Keyword
 keywords =
     keyword.Auto ∷ keyword.Break ∷ keyword.Case ∷ keyword.Char ∷ keyword.Const ∷
-    keyword.Continue ∷ keyword.Default ∷ keyword.Do ∷ keyword.Else ∷ keyword.For ∷ keyword.If ∷
+    keyword.Continue ∷ keyword.Default ∷ keyword.Do ∷ keyword.Else ∷ keyword.Enum ∷ keyword.For ∷ keyword.If ∷
     keyword.Int ∷ keyword.Interrupt ∷ keyword.Long ∷ keyword.Register ∷ keyword.Return ∷
     keyword.Short ∷ keyword.Signed ∷ keyword.Sizeof ∷ keyword.Static ∷ keyword.Struct ∷
-    keyword.Switch ∷ keyword.Unsigned ∷ keyword.Void ∷ keyword.Volatile ∷ keyword.While ∷ []
+    keyword.Switch ∷ keyword.Typedef ∷ keyword.Unsigned ∷ keyword.Void ∷ keyword.Volatile ∷ keyword.While ∷ []
 
 abbrev pub punctuators : List Punct
 punctuators =

@@ -6,7 +6,7 @@ ghost use Rattle.c_token.specs.Spelling.{keyword_spelling, punct_spelling};
 use crate::token::{Keyword, Punct};
 
 /// Every keyword.
-pub const KEYWORDS: [Keyword; 26] = [
+pub const KEYWORDS: [Keyword; 28] = [
     Keyword::Auto,
     Keyword::Break,
     Keyword::Case,
@@ -16,6 +16,7 @@ pub const KEYWORDS: [Keyword; 26] = [
     Keyword::Default,
     Keyword::Do,
     Keyword::Else,
+    Keyword::Enum,
     Keyword::For,
     Keyword::If,
     Keyword::Int,
@@ -29,6 +30,7 @@ pub const KEYWORDS: [Keyword; 26] = [
     Keyword::Static,
     Keyword::Struct,
     Keyword::Switch,
+    Keyword::Typedef,
     Keyword::Unsigned,
     Keyword::Void,
     Keyword::Volatile,
@@ -100,6 +102,7 @@ impl Keyword {
             Keyword::Default => b"default",
             Keyword::Do => b"do",
             Keyword::Else => b"else",
+            Keyword::Enum => b"enum",
             Keyword::For => b"for",
             Keyword::If => b"if",
             Keyword::Int => b"int",
@@ -113,6 +116,7 @@ impl Keyword {
             Keyword::Static => b"static",
             Keyword::Struct => b"struct",
             Keyword::Switch => b"switch",
+            Keyword::Typedef => b"typedef",
             Keyword::Unsigned => b"unsigned",
             Keyword::Void => b"void",
             Keyword::Volatile => b"volatile",

@@ -13,6 +13,7 @@ pub enum Keyword {
     Default,
     Do,
     Else,
+    Enum,
     For,
     If,
     Int,
@@ -26,6 +27,7 @@ pub enum Keyword {
     Static,
     Struct,
     Switch,
+    Typedef,
     Unsigned,
     Void,
     Volatile,
@@ -135,6 +137,8 @@ pub enum Punct {
 pub enum TokKind {
     /// An identifier that is no keyword.
     Name,
+    /// An identifier that is marked as the name of a type. No text is cut into one: marking makes them of identifiers.
+    TypeName,
     Keyword(Keyword),
     /// An integer constant (ISO/IEC 9899:1990, 6.1.3.2, with `0b` for base 2): its value, its base
     /// (2, 8, 10 or 16; `0` alone is octal), and which suffixes it has.

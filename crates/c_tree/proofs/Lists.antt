@@ -3,8 +3,8 @@ use Rattle.std.proofs.Common.{◌≡◌, ℕ, List, [], ◌∷◌, ◌++◌, Opt
 use Rattle.c_token.specs.declared.token.Keyword.TheVariants as words
 use Rattle.c_token.specs.declared.token.Punct.TheVariants as marks
 use Rattle.c_tree.specs.Words.{Symbol, Symbols, key, punct, flat}
-use Rattle.c_tree.specs.Trees.{Tree, Behind, Join, Post, Pre, SpecTree, MemberTree, DeclaratorTree, SuffixTree, ParamTree, spelled, spelled_post, spelled_pre, spelled_spec, spelled_more_specs, spelled_member, spelled_more_members, spelled_declarator, spelled_more_declarators, spelled_suffix, spelled_suffixes, spelled_param, spelled_more_params}
-use Rattle.c_tree.specs.Lists.{posted, prefixed, joined, listed, ChoiceParts, chosen, assigned, more_specs, more_members, more_declarators, suffixes_of, more_params}
+use Rattle.c_tree.specs.Trees.{Tree, Behind, Join, Post, Pre, SpecTree, MemberTree, DeclaratorTree, SuffixTree, ParamTree, spelled, spelled_post, spelled_pre, spelled_spec, spelled_more_specs, spelled_member, spelled_more_members, spelled_declarator, spelled_more_declarators, spelled_suffix, spelled_suffixes, spelled_param, spelled_more_params, EnumeratorTree, spelled_enumerator, spelled_more_enumerators}
+use Rattle.c_tree.specs.Lists.{posted, prefixed, joined, listed, ChoiceParts, chosen, assigned, more_specs, more_members, more_declarators, suffixes_of, more_params, more_enumerators}
 use Rattle.c_tree.specs.Programs.{InitTree, spelled_init, spelled_more_inits, BegunTree, spelled_begun, spelled_more_begun, DeclarationTree, spelled_declaration, spelled_declarations, StatementTree, spelled_statement, spelled_statements, ArmTree, spelled_arm, spelled_arms, spelled_items, ItemTree, spelled_item, spelled_unit}
 use Rattle.c_tree.specs.ProgramViews.{more_inits, statements_of, arms_of, InnerTree, LabelInner, StatementInner, items_of}
 use Rattle.c_tree.specs.Statements.{spelled_inner, spelled_otherwise}
@@ -65,6 +65,10 @@ suffixes_listed f (x ∷ xs) = more (spelled_suffix (f x)) (suffixes_listed f xs
 pub params_listed : {A : Type 0} (f : A → ℕ × ParamTree) (xs : List A) → spelled_more_params (more_params (map f xs)) ≡ flat (map (λ x. punct marks.Comma (f x).0 ∷ spelled_param (f x).1) xs)
 params_listed f [] = refl
 params_listed f (x ∷ xs) = more (punct marks.Comma (f x).0 ∷ spelled_param (f x).1) (params_listed f xs)
+
+pub enumerators_listed : {A : Type 0} (f : A → ℕ × EnumeratorTree) (xs : List A) → spelled_more_enumerators (more_enumerators (map f xs)) ≡ flat (map (λ x. punct marks.Comma (f x).0 ∷ spelled_enumerator (f x).1) xs)
+enumerators_listed f [] = refl
+enumerators_listed f (x ∷ xs) = more (punct marks.Comma (f x).0 ∷ spelled_enumerator (f x).1) (enumerators_listed f xs)
 
 pub inits_listed : {A : Type 0} (f : A → ℕ × InitTree) (xs : List A) → spelled_more_inits (more_inits (map f xs)) ≡ flat (map (λ x. punct marks.Comma (f x).0 ∷ spelled_init (f x).1) xs)
 inits_listed f [] = refl

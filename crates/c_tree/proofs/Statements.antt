@@ -2,8 +2,8 @@
 use Rattle.std.proofs.Common.{◌≡◌, ℕ, [], ◌∷◌, ◌++◌, Some, map, ap, ◌∙◌}
 use Rattle.c_token.specs.declared.token.Keyword.TheVariants as words
 use Rattle.c_token.specs.declared.token.Punct.TheVariants.{LeftBrace, RightBrace, Semicolon, Comma}
-use Rattle.c_tree.specs.Words.{Symbols, key, punct, quoted, flat}
-use Rattle.c_tree.specs.Programs.{InitTree, StatementTree, ArmTree, spelled_init, spelled_comma, spelled_condition, spelled_begun, spelled_statement, spelled_statements, spelled_arm, spelled_block}
+use Rattle.c_tree.specs.Words.{Symbols, key, punct, quoted, flat, spelled_comma}
+use Rattle.c_tree.specs.Programs.{InitTree, StatementTree, ArmTree, spelled_init, spelled_condition, spelled_begun, spelled_statement, spelled_statements, spelled_arm, spelled_block}
 use Rattle.c_tree.specs.ProgramViews.{condition_of, init_of, next_init_of, begun_of, next_begun_of, declaration_of, statements_of, statement_of, switch_item_of, arm_of, else_arm_of, otherwise_in}
 use Rattle.c_tree.specs.Spelling.{spell_assign}
 use Rattle.c_tree.specs.Statements.{spelled_inner, spell_any, spell_arm, spell_block, spell_condition, spell_declaration, spell_declared, spell_else_arm, spell_for_head, spell_if_chain, spell_init, spell_init_declarator, spell_label, spell_last, spell_next_init, spell_next_init_declarator, spell_otherwise, spell_statement, spell_switch_item}

@@ -1,23 +1,25 @@
 -- The spelling of each tree from the spellings of its parts.
 use Rattle.std.proofs.Common.{◌≡◌, ℕ, [], ◌∷◌, ◌++◌, Some, None, map, ap, ◌∙◌}
 use Rattle.c_token.specs.declared.token.Keyword.TheVariants as words
-use Rattle.c_token.specs.declared.token.Punct.TheVariants.{LeftBracket, RightBracket, LeftParenthesis, RightParenthesis, LeftBrace, RightBrace, Question, Colon, Semicolon, Comma}
-use Rattle.c_tree.specs.Words.{Symbol, Symbols, key, punct, keyed, signed, named, flat, spell_constant, spell_pointers, spell_tag}
-use Rattle.c_tree.specs.Trees.{Tree, DeclaratorTree, ParamTree, spelled, spelled_post, spelled_pre, spelled_type, spelled_specs, spelled_spec, spelled_member, spelled_declarator, spelled_suffix, spelled_param}
+use Rattle.c_token.specs.declared.token.Punct.TheVariants.{LeftBracket, RightBracket, LeftParenthesis, RightParenthesis, LeftBrace, RightBrace, Question, Colon, Semicolon, Comma, Assign}
+use Rattle.c_tree.specs.Words.{Symbol, Symbols, key, punct, keyed, signed, named, flat, spell_constant, spell_pointers, spell_tag, type_named, spelled_comma}
+use Rattle.c_tree.specs.Trees.{Tree, DeclaratorTree, ParamTree, spelled, spelled_post, spelled_pre, spelled_type, spelled_specs, spelled_spec, spelled_member, spelled_declarator, spelled_suffix, spelled_param, EnumeratorTree, spelled_enumerator}
 use Rattle.c_tree.specs.Lists.{ChoiceParts}
-use Rattle.c_tree.specs.Views.{binary_of, operand_of, param_of, postfix_suffix_of, prefix_of, primary_of, spec_of, suffix_of, assign_of, choice_of, cond_of, declarator_of, member_of, next_assign_of, next_declarator_of, next_operand_of, next_param_of, specs_of, target_of}
-use Rattle.c_tree.specs.Spelling.{spell_binary, spell_operand, spell_param, spell_postfix_suffix, spell_prefix, spell_primary, spell_spec, spell_suffix, spell_assign, spell_cast, spell_choice, spell_cond, spell_declarator, spell_expr, spell_member, spell_next_assign, spell_next_declarator, spell_next_operand, spell_next_param, spell_postfix, spell_specs, spell_struct_body, spell_target, spell_type_name}
-use Rattle.c_tree.proofs.Lists.{spelled_posted, spelled_joined, spelled_listed, spelled_prefixed, spelled_chosen, spelled_assigned, specs_listed, members_listed, declarators_listed, suffixes_listed, params_listed}
-use Rattle.c_tree.proofs.Shapes.{show_binary_operand, show_binary_chain, show_operand_postfix, show_operand_sizeof_type, show_param_named, show_param_unnamed, show_postfix_suffix_index, show_postfix_suffix_call_bare, show_postfix_suffix_call, show_postfix_suffix_member, show_postfix_suffix_step, show_prefix_operator, show_prefix_sizeof, show_prefix_cast, show_primary_name, show_primary_constant, show_primary_group, show_spec_word, show_spec_reference, show_spec_body, show_suffix_array_unsized, show_suffix_array, show_suffix_empty, show_suffix_void, show_suffix_params, show_assign, show_cast, show_choice, show_cond, show_declarator, show_expr, show_member, show_next_assign, show_next_declarator, show_next_operand, show_next_param, show_postfix, show_specs, show_struct_body, show_target, show_type_name}
+use Rattle.c_tree.specs.Views.{binary_of, operand_of, param_of, postfix_suffix_of, prefix_of, primary_of, spec_of, suffix_of, assign_of, choice_of, cond_of, declarator_of, member_of, next_assign_of, next_declarator_of, next_operand_of, next_param_of, specs_of, target_of, enumerator_of, next_enumerator_of}
+use Rattle.c_tree.specs.Spelling.{spell_binary, spell_operand, spell_param, spell_postfix_suffix, spell_prefix, spell_primary, spell_spec, spell_suffix, spell_assign, spell_cast, spell_choice, spell_cond, spell_declarator, spell_expr, spell_member, spell_next_assign, spell_next_declarator, spell_next_operand, spell_next_param, spell_postfix, spell_specs, spell_struct_body, spell_target, spell_type_name, spell_enum_body, spell_enumerator, spell_next_enumerator}
+use Rattle.c_tree.proofs.Lists.{spelled_posted, spelled_joined, spelled_listed, spelled_prefixed, spelled_chosen, spelled_assigned, specs_listed, members_listed, declarators_listed, suffixes_listed, params_listed, enumerators_listed}
+use Rattle.c_tree.proofs.Shapes.{show_binary_operand, show_binary_chain, show_operand_postfix, show_operand_sizeof_type, show_param_named, show_param_unnamed, show_postfix_suffix_index, show_postfix_suffix_call_bare, show_postfix_suffix_call, show_postfix_suffix_member, show_postfix_suffix_step, show_prefix_operator, show_prefix_sizeof, show_prefix_cast, show_primary_name, show_primary_constant, show_primary_group, show_spec_word, show_spec_reference, show_spec_body, show_suffix_array_unsized, show_suffix_array, show_suffix_empty, show_suffix_void, show_suffix_params, show_assign, show_cast, show_choice, show_cond, show_declarator, show_expr, show_member, show_next_assign, show_next_declarator, show_next_operand, show_next_param, show_postfix, show_specs, show_struct_body, show_target, show_type_name, show_enumerator_bare, show_enumerator_valued, show_spec_type_name, show_spec_enum_reference, show_spec_enum_body, show_enum_body, show_next_enumerator}
 use Rattle.c_tree.specs.declared.expression.Assign.{Assign}
 use Rattle.c_tree.specs.declared.expression.Cast.{Cast}
 use Rattle.c_tree.specs.declared.expression.Choice.{Choice}
 use Rattle.c_tree.specs.declared.expression.Cond.{Cond}
 use Rattle.c_tree.specs.declared.expression.Declarator.{Declarator}
+use Rattle.c_tree.specs.declared.expression.EnumBody.{EnumBody}
 use Rattle.c_tree.specs.declared.expression.Expr.{Expr}
 use Rattle.c_tree.specs.declared.expression.Member.{Member}
 use Rattle.c_tree.specs.declared.expression.NextAssign.{NextAssign}
 use Rattle.c_tree.specs.declared.expression.NextDeclarator.{NextDeclarator}
+use Rattle.c_tree.specs.declared.expression.NextEnumerator.{NextEnumerator}
 use Rattle.c_tree.specs.declared.expression.NextOperand.{NextOperand}
 use Rattle.c_tree.specs.declared.expression.NextParam.{NextParam}
 use Rattle.c_tree.specs.declared.expression.Postfix.{Postfix}
@@ -26,6 +28,7 @@ use Rattle.c_tree.specs.declared.expression.StructBody.{StructBody}
 use Rattle.c_tree.specs.declared.expression.Target.{Target}
 use Rattle.c_tree.specs.declared.expression.TypeName.{TypeName}
 use Rattle.c_tree.specs.declared.expression.Binary.TheVariants as Binary
+use Rattle.c_tree.specs.declared.expression.Enumerator.TheVariants as Enumerator
 use Rattle.c_tree.specs.declared.expression.Operand.TheVariants as Operand
 use Rattle.c_tree.specs.declared.expression.Param.TheVariants as Param
 use Rattle.c_tree.specs.declared.expression.PostfixSuffix.TheVariants as PostfixSuffix
@@ -33,7 +36,7 @@ use Rattle.c_tree.specs.declared.expression.Prefix.TheVariants as Prefix
 use Rattle.c_tree.specs.declared.expression.Primary.TheVariants as Primary
 use Rattle.c_tree.specs.declared.expression.Spec.TheVariants as Spec
 use Rattle.c_tree.specs.declared.expression.Suffix.TheVariants as Suffix
-use Rattle.c_tree.specs.declared.expression.Binary.TheViews.{out-Assign, out-Cast, out-Choice, out-Cond, out-Declarator, out-Expr, out-Member, out-NextAssign, out-NextDeclarator, out-NextOperand, out-NextParam, out-Postfix, out-Specs, out-StructBody, out-Target, out-TypeName}
+use Rattle.c_tree.specs.declared.expression.Binary.TheViews.{out-Assign, out-Cast, out-Choice, out-Cond, out-Declarator, out-EnumBody, out-Expr, out-Member, out-NextAssign, out-NextDeclarator, out-NextEnumerator, out-NextOperand, out-NextParam, out-Postfix, out-Specs, out-StructBody, out-Target, out-TypeName}
 
 pub see_binary_operand : (operand : _) → spell_binary (Binary.Operand operand) ≡ spell_cast operand
 see_binary_operand operand = ap spelled (show_binary_operand operand)
@@ -95,6 +98,21 @@ see_spec_reference keyword tag = ap spelled_spec (show_spec_reference keyword ta
 pub see_spec_body : (body : _) → spell_spec (Spec.Body body) ≡ spell_struct_body body.value
 see_spec_body body = ap spelled_spec (show_spec_body body)
 
+pub see_spec_type_name : (name : _) → spell_spec (Spec.TypeName name) ≡ type_named name ∷ []
+see_spec_type_name name = ap spelled_spec (show_spec_type_name name)
+
+pub see_spec_enum_reference : (keyword : _) (tag : _) → spell_spec (Spec.EnumReference keyword tag) ≡ key words.Enum keyword ∷ named tag ∷ []
+see_spec_enum_reference keyword tag = ap spelled_spec (show_spec_enum_reference keyword tag)
+
+pub see_spec_enum_body : (body : _) → spell_spec (Spec.EnumBody body) ≡ spell_enum_body body.value
+see_spec_enum_body body = ap spelled_spec (show_spec_enum_body body)
+
+pub see_enumerator_bare : (name : _) → spell_enumerator (Enumerator.Bare name) ≡ named name ∷ []
+see_enumerator_bare name = ap spelled_enumerator (show_enumerator_bare name)
+
+pub see_enumerator_valued : (name : _) (equals : _) (value : _) → spell_enumerator (Enumerator.Valued name equals value) ≡ named name ∷ punct Assign equals ∷ spell_cond value.value
+see_enumerator_valued name equals value = ap spelled_enumerator (show_enumerator_valued name equals value)
+
 pub see_suffix_array_none : (opening : _) (closing : _) → spell_suffix (Suffix.Array opening None closing) ≡ punct LeftBracket opening ∷ punct RightBracket closing ∷ []
 see_suffix_array_none opening closing = ap spelled_suffix (show_suffix_array_unsized opening closing)
 
@@ -151,6 +169,12 @@ see_specs x = ap spelled_specs (show_specs x) ∙ ap (λ (l : Symbols). spelled_
 
 pub see_struct_body : (x : StructBody) → spell_struct_body x ≡ key words.Struct (out-StructBody x).keyword ∷ (spell_tag (out-StructBody x).tag ++ punct LeftBrace (out-StructBody x).opening ∷ (spell_member (out-StructBody x).first ++ (flat (map spell_member (out-StructBody x).others.items) ++ punct RightBrace (out-StructBody x).closing ∷ [])))
 see_struct_body x = ap spelled_spec (show_struct_body x) ∙ ap (λ (l : Symbols). key words.Struct (out-StructBody x).keyword ∷ (spell_tag (out-StructBody x).tag ++ punct LeftBrace (out-StructBody x).opening ∷ (spelled_member (member_of (out-StructBody x).first) ++ (l ++ punct RightBrace (out-StructBody x).closing ∷ [])))) (members_listed member_of (out-StructBody x).others.items)
+
+pub see_next_enumerator : (x : NextEnumerator) → spell_next_enumerator x ≡ punct Comma (out-NextEnumerator x).comma ∷ spell_enumerator (out-NextEnumerator x).enumerator
+see_next_enumerator x = ap (λ (n : ℕ × EnumeratorTree). punct Comma n.0 ∷ spelled_enumerator n.1) (show_next_enumerator x)
+
+pub see_enum_body : (x : EnumBody) → spell_enum_body x ≡ key words.Enum (out-EnumBody x).keyword ∷ (spell_tag (out-EnumBody x).tag ++ punct LeftBrace (out-EnumBody x).opening ∷ (spell_enumerator (out-EnumBody x).first ++ (flat (map spell_next_enumerator (out-EnumBody x).others.items) ++ (spelled_comma (out-EnumBody x).last_comma ++ punct RightBrace (out-EnumBody x).closing ∷ []))))
+see_enum_body x = ap spelled_spec (show_enum_body x) ∙ ap (λ (l : Symbols). key words.Enum (out-EnumBody x).keyword ∷ (spell_tag (out-EnumBody x).tag ++ punct LeftBrace (out-EnumBody x).opening ∷ (spelled_enumerator (enumerator_of (out-EnumBody x).first) ++ (l ++ (spelled_comma (out-EnumBody x).last_comma ++ punct RightBrace (out-EnumBody x).closing ∷ []))))) (enumerators_listed next_enumerator_of (out-EnumBody x).others.items)
 
 pub see_target : (x : Target) → spell_target x ≡ spell_cast (out-Target x).place ++ signed (out-Target x).operator ∷ []
 see_target x = ap (λ (t : Tree × Symbol). spelled t.0 ++ t.1 ∷ []) (show_target x)

@@ -66,23 +66,25 @@ number_of_word words.Continue = 5
 number_of_word words.Default = 6
 number_of_word words.Do = 7
 number_of_word words.Else = 8
-number_of_word words.For = 9
-number_of_word words.If = 10
-number_of_word words.Int = 11
-number_of_word words.Interrupt = 12
-number_of_word words.Long = 13
-number_of_word words.Register = 14
-number_of_word words.Return = 15
-number_of_word words.Short = 16
-number_of_word words.Signed = 17
-number_of_word words.Sizeof = 18
-number_of_word words.Static = 19
-number_of_word words.Struct = 20
-number_of_word words.Switch = 21
-number_of_word words.Unsigned = 22
-number_of_word words.Void = 23
-number_of_word words.Volatile = 24
-number_of_word words.While = 25
+number_of_word words.Enum = 9
+number_of_word words.For = 10
+number_of_word words.If = 11
+number_of_word words.Int = 12
+number_of_word words.Interrupt = 13
+number_of_word words.Long = 14
+number_of_word words.Register = 15
+number_of_word words.Return = 16
+number_of_word words.Short = 17
+number_of_word words.Signed = 18
+number_of_word words.Sizeof = 19
+number_of_word words.Static = 20
+number_of_word words.Struct = 21
+number_of_word words.Switch = 22
+number_of_word words.Typedef = 23
+number_of_word words.Unsigned = 24
+number_of_word words.Void = 25
+number_of_word words.Volatile = 26
+number_of_word words.While = 27
 
 abbrev pub is_punct : Punct → TokKind → Bool
 is_punct p (kinds.Punct q) = number_of q == number_of p
@@ -99,6 +101,11 @@ is_name _ = false
 abbrev pub is_text : TokKind → Bool
 is_text kinds.Text = true
 is_text _ = false
+
+-- a name that is marked as that of a type
+abbrev pub is_type_name : TokKind → Bool
+is_type_name kinds.TypeName = true
+is_type_name _ = false
 
 -- a primary expression of one token (ISO/IEC 9899:1990, 6.3.1)
 abbrev pub is_leaf : TokKind → Bool
@@ -202,6 +209,7 @@ is_qualifier _ = false
 
 -- a specifier of one word (6.5)
 abbrev pub is_specifying : Keyword → Bool
+is_specifying words.Typedef = true
 is_specifying words.Static = true
 is_specifying words.Auto = true
 is_specifying words.Register = true
@@ -224,8 +232,10 @@ is_spec_word _ = false
 -- what a specifier begins with
 abbrev pub begins_spec : Keyword → Bool
 begins_spec words.Struct = true
+begins_spec words.Enum = true
 begins_spec w = is_specifying w
 
 abbrev pub is_spec : TokKind → Bool
 is_spec (kinds.Keyword w) = begins_spec w
+is_spec kinds.TypeName = true
 is_spec _ = false

@@ -2,7 +2,7 @@
 use Rattle.std.specs.Prelude.{ℕ, List, [], ◌∷◌}
 use Rattle.c_token.specs.declared.token.Punct.TheVariants as marks
 use Rattle.c_tree.specs.Words.{Symbol, punct}
-use Rattle.c_tree.specs.Trees.{Tree, Behind, Before, Join, Choose, Assign, Post, Pre, SpecTree, MoreSpecs, NoSpec, AndSpec, MemberTree, MoreMembers, NoMember, AndMember, DeclaratorTree, MoreDeclarators, NoDeclarator, AndDeclarator, SuffixTree, SuffixTrees, NoSuffix, AndSuffix, ParamTree, MoreParams, NoParam, AndParam}
+use Rattle.c_tree.specs.Trees.{Tree, Behind, Before, Join, Choose, Assign, Post, Pre, SpecTree, MoreSpecs, NoSpec, AndSpec, MemberTree, MoreMembers, NoMember, AndMember, DeclaratorTree, MoreDeclarators, NoDeclarator, AndDeclarator, SuffixTree, SuffixTrees, NoSuffix, AndSuffix, ParamTree, MoreParams, NoParam, AndParam, EnumeratorTree, MoreEnumerators, NoEnumerator, AndEnumerator}
 
 -- an operand with the postfixes behind it
 abbrev pub posted : Tree → List Post → Tree
@@ -56,3 +56,7 @@ suffixes_of (s ∷ ss) = AndSuffix s (suffixes_of ss)
 abbrev pub more_params : List (ℕ × ParamTree) → MoreParams
 more_params [] = NoParam
 more_params (p ∷ ps) = AndParam p.0 p.1 (more_params ps)
+
+abbrev pub more_enumerators : List (ℕ × EnumeratorTree) → MoreEnumerators
+more_enumerators [] = NoEnumerator
+more_enumerators (e ∷ es) = AndEnumerator e.0 e.1 (more_enumerators es)

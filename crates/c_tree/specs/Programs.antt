@@ -4,7 +4,7 @@
 use Rattle.std.specs.Prelude.{◌≡◌, ℕ, suc, max, Bool, true, false, ◌≤◌, List, [], ◌∷◌, ◌++◌, Option, Some, None}
 use Rattle.c_token.specs.declared.token.Keyword.TheVariants as words
 use Rattle.c_token.specs.declared.token.Punct.TheVariants as marks
-use Rattle.c_tree.specs.Words.{Symbol, Symbols, key, punct}
+use Rattle.c_tree.specs.Words.{Symbol, Symbols, key, punct, spelled_comma}
 use Rattle.c_tree.specs.Kinds.{is_text}
 use Rattle.c_tree.specs.Trees.{Tree, SpecTrees, DeclaratorTree, Declares, SuffixTrees, NoSuffix, AndSuffix, SuffixTree, Unsized, Sized, Empty, VoidOnly, Params, spelled, spelled_specs, spelled_declarator, IsTree, AreSpecs, IsDeclarator, rank}
 
@@ -68,10 +68,6 @@ mutual
   pub data MoreInits : Type 0 where
     NoInit : MoreInits
     AndInit : ℕ → InitTree → MoreInits → MoreInits
-
-abbrev pub spelled_comma : Option ℕ → Symbols
-spelled_comma None = []
-spelled_comma (Some c) = punct marks.Comma c ∷ []
 
 abbrev mutual
   pub spelled_init : InitTree → Symbols

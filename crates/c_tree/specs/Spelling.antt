@@ -2,18 +2,21 @@
 use Rattle.std.specs.Prelude.{[], ◌∷◌, ◌++◌}
 use Rattle.c_token.specs.declared.token.Punct.TheVariants as marks
 use Rattle.c_tree.specs.Words.{Symbols, punct}
-use Rattle.c_tree.specs.Trees.{spelled, spelled_post, spelled_pre, spelled_type, spelled_specs, spelled_spec, spelled_member, spelled_declarator, spelled_suffix, spelled_param}
-use Rattle.c_tree.specs.Views.{binary_of, operand_of, param_of, postfix_suffix_of, prefix_of, primary_of, spec_of, suffix_of, assign_of, cast_of, cond_of, declarator_of, expr_of, member_of, postfix_of, specs_of, struct_body_of, type_name_of, choice_of, next_assign_of, next_declarator_of, next_operand_of, next_param_of, target_of}
+use Rattle.c_tree.specs.Trees.{spelled, spelled_post, spelled_pre, spelled_type, spelled_specs, spelled_spec, spelled_member, spelled_declarator, spelled_suffix, spelled_param, spelled_enumerator}
+use Rattle.c_tree.specs.Views.{binary_of, operand_of, param_of, postfix_suffix_of, prefix_of, primary_of, spec_of, suffix_of, assign_of, cast_of, cond_of, declarator_of, expr_of, member_of, postfix_of, specs_of, struct_body_of, type_name_of, choice_of, next_assign_of, next_declarator_of, next_operand_of, next_param_of, target_of, enumerator_of, enum_body_of, next_enumerator_of}
 use Rattle.c_tree.specs.declared.expression.Assign.{Assign}
 use Rattle.c_tree.specs.declared.expression.Binary.{Binary}
 use Rattle.c_tree.specs.declared.expression.Cast.{Cast}
 use Rattle.c_tree.specs.declared.expression.Choice.{Choice}
 use Rattle.c_tree.specs.declared.expression.Cond.{Cond}
 use Rattle.c_tree.specs.declared.expression.Declarator.{Declarator}
+use Rattle.c_tree.specs.declared.expression.EnumBody.{EnumBody}
+use Rattle.c_tree.specs.declared.expression.Enumerator.{Enumerator}
 use Rattle.c_tree.specs.declared.expression.Expr.{Expr}
 use Rattle.c_tree.specs.declared.expression.Member.{Member}
 use Rattle.c_tree.specs.declared.expression.NextAssign.{NextAssign}
 use Rattle.c_tree.specs.declared.expression.NextDeclarator.{NextDeclarator}
+use Rattle.c_tree.specs.declared.expression.NextEnumerator.{NextEnumerator}
 use Rattle.c_tree.specs.declared.expression.NextOperand.{NextOperand}
 use Rattle.c_tree.specs.declared.expression.NextParam.{NextParam}
 use Rattle.c_tree.specs.declared.expression.Operand.{Operand}
@@ -80,6 +83,12 @@ spell_specs x = spelled_specs (specs_of x)
 abbrev pub spell_struct_body : StructBody → Symbols
 spell_struct_body x = spelled_spec (struct_body_of x)
 
+abbrev pub spell_enum_body : EnumBody → Symbols
+spell_enum_body x = spelled_spec (enum_body_of x)
+
+abbrev pub spell_enumerator : Enumerator → Symbols
+spell_enumerator x = spelled_enumerator (enumerator_of x)
+
 abbrev pub spell_type_name : TypeName → Symbols
 spell_type_name x = spelled_type (type_name_of x)
 
@@ -92,6 +101,9 @@ spell_next_assign x = punct marks.Comma (next_assign_of x).0 ∷ spelled (next_a
 
 abbrev pub spell_next_declarator : NextDeclarator → Symbols
 spell_next_declarator x = punct marks.Comma (next_declarator_of x).0 ∷ spelled_declarator (next_declarator_of x).1
+
+abbrev pub spell_next_enumerator : NextEnumerator → Symbols
+spell_next_enumerator x = punct marks.Comma (next_enumerator_of x).0 ∷ spelled_enumerator (next_enumerator_of x).1
 
 abbrev pub spell_next_operand : NextOperand → Symbols
 spell_next_operand x = (next_operand_of x).0 ∷ spelled (next_operand_of x).1

@@ -1,11 +1,11 @@
 -- Trees of expressions and of declarators as pure data, the tokens that each is spelled with, and
 -- which of them are trees of the grammar (ISO/IEC 9899:1990, 6.3 and 6.5, in the subset).
 -- A number that stands where a token does is the line of that token.
-use Rattle.std.specs.Prelude.{◌≡◌, ℕ, Bool, true, false, ◌&&◌, if◌then◌else◌, ◌<◌, ◌≤◌, [], ◌∷◌, ◌++◌}
+use Rattle.std.specs.Prelude.{◌≡◌, ℕ, Bool, true, false, ◌&&◌, if◌then◌else◌, ◌<◌, ◌≤◌, [], ◌∷◌, ◌++◌, Option}
 use Rattle.c_token.specs.declared.token.Keyword.TheVariants as words
 use Rattle.c_token.specs.declared.token.Punct.TheVariants as marks
-use Rattle.c_tree.specs.Words.{Symbol, Symbols, key, punct}
-use Rattle.c_tree.specs.Kinds.{is_punct, is_key, is_name, is_leaf, level_of, is_assignment, is_prefix, is_step, is_field, is_qualifier, is_spec_word}
+use Rattle.c_tree.specs.Words.{Symbol, Symbols, key, punct, spelled_comma}
+use Rattle.c_tree.specs.Kinds.{is_punct, is_key, is_name, is_type_name, is_leaf, level_of, is_assignment, is_prefix, is_step, is_field, is_qualifier, is_spec_word}
 
 mutual
   -- an expression
@@ -44,11 +44,24 @@ mutual
     NoSpec : MoreSpecs
     AndSpec : SpecTree → MoreSpecs → MoreSpecs
 
-  -- a specifier: a word, `struct NAME`, or a structure with its members
+  -- a specifier: a word, a marked name, `struct NAME`, a structure with its members, `enum NAME`, or an enumeration with its enumerators and
+  -- perhaps a comma behind them
   pub data SpecTree : Type 0 where
     OneWord : Symbol → SpecTree
     Tagged : ℕ → Symbol → SpecTree
     Body : ℕ → Symbols → ℕ → MemberTree → MoreMembers → ℕ → SpecTree
+    NamedType : Symbol → SpecTree
+    EnumTagged : ℕ → Symbol → SpecTree
+    EnumBody : ℕ → Symbols → ℕ → EnumeratorTree → MoreEnumerators → Option ℕ → ℕ → SpecTree
+
+  pub data MoreEnumerators : Type 0 where
+    NoEnumerator : MoreEnumerators
+    AndEnumerator : ℕ → EnumeratorTree → MoreEnumerators → MoreEnumerators
+
+  -- a name, and `=` with its value or without one
+  pub data EnumeratorTree : Type 0 where
+    Bare : Symbol → EnumeratorTree
+    Valued : Symbol → ℕ → Tree → EnumeratorTree
 
   pub data MoreMembers : Type 0 where
     NoMember : MoreMembers
@@ -123,6 +136,17 @@ abbrev mutual
   spelled_spec (OneWord s) = s ∷ []
   spelled_spec (Tagged k n) = key words.Struct k ∷ n ∷ []
   spelled_spec (Body k tag o m ms c) = key words.Struct k ∷ (tag ++ punct marks.LeftBrace o ∷ (spelled_member m ++ (spelled_more_members ms ++ punct marks.RightBrace c ∷ [])))
+  spelled_spec (NamedType s) = s ∷ []
+  spelled_spec (EnumTagged k n) = key words.Enum k ∷ n ∷ []
+  spelled_spec (EnumBody k tag o e es last c) = key words.Enum k ∷ (tag ++ punct marks.LeftBrace o ∷ (spelled_enumerator e ++ (spelled_more_enumerators es ++ (spelled_comma last ++ punct marks.RightBrace c ∷ []))))
+
+  pub spelled_more_enumerators : MoreEnumerators → Symbols
+  spelled_more_enumerators NoEnumerator = []
+  spelled_more_enumerators (AndEnumerator c e es) = punct marks.Comma c ∷ (spelled_enumerator e ++ spelled_more_enumerators es)
+
+  pub spelled_enumerator : EnumeratorTree → Symbols
+  spelled_enumerator (Bare n) = n ∷ []
+  spelled_enumerator (Valued n q e) = n ∷ punct marks.Assign q ∷ spelled e
 
   pub spelled_more_members : MoreMembers → Symbols
   spelled_more_members NoMember = []
@@ -209,7 +233,7 @@ abbrev pub are_pointers : Symbols → Bool
 are_pointers [] = true
 are_pointers (s ∷ rest) = is_punct marks.Star s.kind && are_stars rest
 
--- the name of a structure, where it has one
+-- the name of a structure or of an enumeration, where it has one
 abbrev pub is_tag : Symbols → Bool
 is_tag [] = true
 is_tag (n ∷ []) = is_name n.kind
@@ -263,6 +287,17 @@ abbrev mutual
   IsSpec (OneWord s) = is_spec_word s.kind ≡ true
   IsSpec (Tagged k n) = is_name n.kind ≡ true
   IsSpec (Body k tag o m ms c) = (is_tag tag ≡ true) × IsMember m × AreMoreMembers ms
+  IsSpec (NamedType s) = is_type_name s.kind ≡ true
+  IsSpec (EnumTagged k n) = is_name n.kind ≡ true
+  IsSpec (EnumBody k tag o e es last c) = (is_tag tag ≡ true) × IsEnumerator e × AreMoreEnumerators es
+
+  pub AreMoreEnumerators : MoreEnumerators → Type 0
+  AreMoreEnumerators NoEnumerator = Unit {0}
+  AreMoreEnumerators (AndEnumerator c e es) = IsEnumerator e × AreMoreEnumerators es
+
+  pub IsEnumerator : EnumeratorTree → Type 0
+  IsEnumerator (Bare n) = is_name n.kind ≡ true
+  IsEnumerator (Valued n q e) = (is_name n.kind ≡ true) × IsTree e × (rank e ≤ 11)
 
   pub AreMoreMembers : MoreMembers → Type 0
   AreMoreMembers NoMember = Unit {0}

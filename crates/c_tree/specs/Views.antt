@@ -1,10 +1,11 @@
 -- The trees that the code has, as pure data.
 use Rattle.std.specs.Prelude.{ℕ, Some, None}
-use Rattle.c_tree.specs.Words.{Symbol, keyed, signed, named, spell_constant, spell_pointers, spell_tag}
+use Rattle.c_tree.specs.Words.{Symbol, keyed, signed, named, type_named, spell_constant, spell_pointers, spell_tag}
 use Rattle.c_tree.specs.Trees as tree
-use Rattle.c_tree.specs.Trees.{Tree, Post, Pre, TypeTree, SpecTrees, SpecTree, MemberTree, DeclaratorTree, SuffixTree, ParamTree}
-use Rattle.c_tree.specs.Lists.{posted, prefixed, joined, listed, ChoiceParts, chosen, assigned, more_specs, more_members, more_declarators, suffixes_of, more_params}
+use Rattle.c_tree.specs.Trees.{Tree, Post, Pre, TypeTree, SpecTrees, SpecTree, MemberTree, DeclaratorTree, SuffixTree, ParamTree, EnumeratorTree}
+use Rattle.c_tree.specs.Lists.{posted, prefixed, joined, listed, ChoiceParts, chosen, assigned, more_specs, more_members, more_declarators, suffixes_of, more_params, more_enumerators}
 use Rattle.c_tree.specs.declared.expression.Binary.{Binary}
+use Rattle.c_tree.specs.declared.expression.Enumerator.{Enumerator}
 use Rattle.c_tree.specs.declared.expression.Operand.{Operand}
 use Rattle.c_tree.specs.declared.expression.Param.{Param}
 use Rattle.c_tree.specs.declared.expression.PostfixSuffix.{PostfixSuffix}
@@ -17,10 +18,12 @@ use Rattle.c_tree.specs.declared.expression.Cast.{Cast}
 use Rattle.c_tree.specs.declared.expression.Choice.{Choice}
 use Rattle.c_tree.specs.declared.expression.Cond.{Cond}
 use Rattle.c_tree.specs.declared.expression.Declarator.{Declarator}
+use Rattle.c_tree.specs.declared.expression.EnumBody.{EnumBody}
 use Rattle.c_tree.specs.declared.expression.Expr.{Expr}
 use Rattle.c_tree.specs.declared.expression.Member.{Member}
 use Rattle.c_tree.specs.declared.expression.NextAssign.{NextAssign}
 use Rattle.c_tree.specs.declared.expression.NextDeclarator.{NextDeclarator}
+use Rattle.c_tree.specs.declared.expression.NextEnumerator.{NextEnumerator}
 use Rattle.c_tree.specs.declared.expression.NextOperand.{NextOperand}
 use Rattle.c_tree.specs.declared.expression.NextParam.{NextParam}
 use Rattle.c_tree.specs.declared.expression.Postfix.{Postfix}
@@ -29,84 +32,97 @@ use Rattle.c_tree.specs.declared.expression.StructBody.{StructBody}
 use Rattle.c_tree.specs.declared.expression.Target.{Target}
 use Rattle.c_tree.specs.declared.expression.TypeName.{TypeName}
 use Rattle.c_tree.specs.declared.expression.Binary.TheOpen as Open
-use Rattle.c_tree.specs.declared.expression.Binary.TheFolds.{fold-Binary, fold-Operand, fold-Param, fold-PostfixSuffix, fold-Prefix, fold-Primary, fold-Spec, fold-Suffix, fold-Assign, fold-Cast, fold-Choice, fold-Cond, fold-Declarator, fold-Expr, fold-Member, fold-NextAssign, fold-NextDeclarator, fold-NextOperand, fold-NextParam, fold-Postfix, fold-Specs, fold-StructBody, fold-Target, fold-TypeName}
+use Rattle.c_tree.specs.declared.expression.Binary.TheFolds.{fold-Binary, fold-Enumerator, fold-Operand, fold-Param, fold-PostfixSuffix, fold-Prefix, fold-Primary, fold-Spec, fold-Suffix, fold-Assign, fold-Cast, fold-Choice, fold-Cond, fold-Declarator, fold-EnumBody, fold-Expr, fold-Member, fold-NextAssign, fold-NextDeclarator, fold-NextEnumerator, fold-NextOperand, fold-NextParam, fold-Postfix, fold-Specs, fold-StructBody, fold-Target, fold-TypeName}
 
 -- One layer of a tree, with the pure data of each part in the place of that part.
 abbrev pub LayerBinary : Type 0
-LayerBinary = Open.Binary-F Tree Tree ParamTree Post Pre Tree SpecTree SuffixTree Tree Tree ChoiceParts Tree DeclaratorTree Tree MemberTree (ℕ × Tree) (ℕ × DeclaratorTree) (Symbol × Tree) (ℕ × ParamTree) Tree SpecTrees SpecTree (Tree × Symbol) TypeTree
+LayerBinary = Open.Binary-F Tree EnumeratorTree Tree ParamTree Post Pre Tree SpecTree SuffixTree Tree Tree ChoiceParts Tree DeclaratorTree SpecTree Tree MemberTree (ℕ × Tree) (ℕ × DeclaratorTree) (ℕ × EnumeratorTree) (Symbol × Tree) (ℕ × ParamTree) Tree SpecTrees SpecTree (Tree × Symbol) TypeTree
+
+abbrev pub LayerEnumerator : Type 0
+LayerEnumerator = Open.Enumerator-F Tree EnumeratorTree Tree ParamTree Post Pre Tree SpecTree SuffixTree Tree Tree ChoiceParts Tree DeclaratorTree SpecTree Tree MemberTree (ℕ × Tree) (ℕ × DeclaratorTree) (ℕ × EnumeratorTree) (Symbol × Tree) (ℕ × ParamTree) Tree SpecTrees SpecTree (Tree × Symbol) TypeTree
 
 abbrev pub LayerOperand : Type 0
-LayerOperand = Open.Operand-F Tree Tree ParamTree Post Pre Tree SpecTree SuffixTree Tree Tree ChoiceParts Tree DeclaratorTree Tree MemberTree (ℕ × Tree) (ℕ × DeclaratorTree) (Symbol × Tree) (ℕ × ParamTree) Tree SpecTrees SpecTree (Tree × Symbol) TypeTree
+LayerOperand = Open.Operand-F Tree EnumeratorTree Tree ParamTree Post Pre Tree SpecTree SuffixTree Tree Tree ChoiceParts Tree DeclaratorTree SpecTree Tree MemberTree (ℕ × Tree) (ℕ × DeclaratorTree) (ℕ × EnumeratorTree) (Symbol × Tree) (ℕ × ParamTree) Tree SpecTrees SpecTree (Tree × Symbol) TypeTree
 
 abbrev pub LayerParam : Type 0
-LayerParam = Open.Param-F Tree Tree ParamTree Post Pre Tree SpecTree SuffixTree Tree Tree ChoiceParts Tree DeclaratorTree Tree MemberTree (ℕ × Tree) (ℕ × DeclaratorTree) (Symbol × Tree) (ℕ × ParamTree) Tree SpecTrees SpecTree (Tree × Symbol) TypeTree
+LayerParam = Open.Param-F Tree EnumeratorTree Tree ParamTree Post Pre Tree SpecTree SuffixTree Tree Tree ChoiceParts Tree DeclaratorTree SpecTree Tree MemberTree (ℕ × Tree) (ℕ × DeclaratorTree) (ℕ × EnumeratorTree) (Symbol × Tree) (ℕ × ParamTree) Tree SpecTrees SpecTree (Tree × Symbol) TypeTree
 
 abbrev pub LayerPostfixSuffix : Type 0
-LayerPostfixSuffix = Open.PostfixSuffix-F Tree Tree ParamTree Post Pre Tree SpecTree SuffixTree Tree Tree ChoiceParts Tree DeclaratorTree Tree MemberTree (ℕ × Tree) (ℕ × DeclaratorTree) (Symbol × Tree) (ℕ × ParamTree) Tree SpecTrees SpecTree (Tree × Symbol) TypeTree
+LayerPostfixSuffix = Open.PostfixSuffix-F Tree EnumeratorTree Tree ParamTree Post Pre Tree SpecTree SuffixTree Tree Tree ChoiceParts Tree DeclaratorTree SpecTree Tree MemberTree (ℕ × Tree) (ℕ × DeclaratorTree) (ℕ × EnumeratorTree) (Symbol × Tree) (ℕ × ParamTree) Tree SpecTrees SpecTree (Tree × Symbol) TypeTree
 
 abbrev pub LayerPrefix : Type 0
-LayerPrefix = Open.Prefix-F Tree Tree ParamTree Post Pre Tree SpecTree SuffixTree Tree Tree ChoiceParts Tree DeclaratorTree Tree MemberTree (ℕ × Tree) (ℕ × DeclaratorTree) (Symbol × Tree) (ℕ × ParamTree) Tree SpecTrees SpecTree (Tree × Symbol) TypeTree
+LayerPrefix = Open.Prefix-F Tree EnumeratorTree Tree ParamTree Post Pre Tree SpecTree SuffixTree Tree Tree ChoiceParts Tree DeclaratorTree SpecTree Tree MemberTree (ℕ × Tree) (ℕ × DeclaratorTree) (ℕ × EnumeratorTree) (Symbol × Tree) (ℕ × ParamTree) Tree SpecTrees SpecTree (Tree × Symbol) TypeTree
 
 abbrev pub LayerPrimary : Type 0
-LayerPrimary = Open.Primary-F Tree Tree ParamTree Post Pre Tree SpecTree SuffixTree Tree Tree ChoiceParts Tree DeclaratorTree Tree MemberTree (ℕ × Tree) (ℕ × DeclaratorTree) (Symbol × Tree) (ℕ × ParamTree) Tree SpecTrees SpecTree (Tree × Symbol) TypeTree
+LayerPrimary = Open.Primary-F Tree EnumeratorTree Tree ParamTree Post Pre Tree SpecTree SuffixTree Tree Tree ChoiceParts Tree DeclaratorTree SpecTree Tree MemberTree (ℕ × Tree) (ℕ × DeclaratorTree) (ℕ × EnumeratorTree) (Symbol × Tree) (ℕ × ParamTree) Tree SpecTrees SpecTree (Tree × Symbol) TypeTree
 
 abbrev pub LayerSpec : Type 0
-LayerSpec = Open.Spec-F Tree Tree ParamTree Post Pre Tree SpecTree SuffixTree Tree Tree ChoiceParts Tree DeclaratorTree Tree MemberTree (ℕ × Tree) (ℕ × DeclaratorTree) (Symbol × Tree) (ℕ × ParamTree) Tree SpecTrees SpecTree (Tree × Symbol) TypeTree
+LayerSpec = Open.Spec-F Tree EnumeratorTree Tree ParamTree Post Pre Tree SpecTree SuffixTree Tree Tree ChoiceParts Tree DeclaratorTree SpecTree Tree MemberTree (ℕ × Tree) (ℕ × DeclaratorTree) (ℕ × EnumeratorTree) (Symbol × Tree) (ℕ × ParamTree) Tree SpecTrees SpecTree (Tree × Symbol) TypeTree
 
 abbrev pub LayerSuffix : Type 0
-LayerSuffix = Open.Suffix-F Tree Tree ParamTree Post Pre Tree SpecTree SuffixTree Tree Tree ChoiceParts Tree DeclaratorTree Tree MemberTree (ℕ × Tree) (ℕ × DeclaratorTree) (Symbol × Tree) (ℕ × ParamTree) Tree SpecTrees SpecTree (Tree × Symbol) TypeTree
+LayerSuffix = Open.Suffix-F Tree EnumeratorTree Tree ParamTree Post Pre Tree SpecTree SuffixTree Tree Tree ChoiceParts Tree DeclaratorTree SpecTree Tree MemberTree (ℕ × Tree) (ℕ × DeclaratorTree) (ℕ × EnumeratorTree) (Symbol × Tree) (ℕ × ParamTree) Tree SpecTrees SpecTree (Tree × Symbol) TypeTree
 
 abbrev pub LayerAssign : Type 0
-LayerAssign = Open.Assign-F Tree Tree ParamTree Post Pre Tree SpecTree SuffixTree Tree Tree ChoiceParts Tree DeclaratorTree Tree MemberTree (ℕ × Tree) (ℕ × DeclaratorTree) (Symbol × Tree) (ℕ × ParamTree) Tree SpecTrees SpecTree (Tree × Symbol) TypeTree
+LayerAssign = Open.Assign-F Tree EnumeratorTree Tree ParamTree Post Pre Tree SpecTree SuffixTree Tree Tree ChoiceParts Tree DeclaratorTree SpecTree Tree MemberTree (ℕ × Tree) (ℕ × DeclaratorTree) (ℕ × EnumeratorTree) (Symbol × Tree) (ℕ × ParamTree) Tree SpecTrees SpecTree (Tree × Symbol) TypeTree
 
 abbrev pub LayerCast : Type 0
-LayerCast = Open.Cast-F Tree Tree ParamTree Post Pre Tree SpecTree SuffixTree Tree Tree ChoiceParts Tree DeclaratorTree Tree MemberTree (ℕ × Tree) (ℕ × DeclaratorTree) (Symbol × Tree) (ℕ × ParamTree) Tree SpecTrees SpecTree (Tree × Symbol) TypeTree
+LayerCast = Open.Cast-F Tree EnumeratorTree Tree ParamTree Post Pre Tree SpecTree SuffixTree Tree Tree ChoiceParts Tree DeclaratorTree SpecTree Tree MemberTree (ℕ × Tree) (ℕ × DeclaratorTree) (ℕ × EnumeratorTree) (Symbol × Tree) (ℕ × ParamTree) Tree SpecTrees SpecTree (Tree × Symbol) TypeTree
 
 abbrev pub LayerChoice : Type 0
-LayerChoice = Open.Choice-F Tree Tree ParamTree Post Pre Tree SpecTree SuffixTree Tree Tree ChoiceParts Tree DeclaratorTree Tree MemberTree (ℕ × Tree) (ℕ × DeclaratorTree) (Symbol × Tree) (ℕ × ParamTree) Tree SpecTrees SpecTree (Tree × Symbol) TypeTree
+LayerChoice = Open.Choice-F Tree EnumeratorTree Tree ParamTree Post Pre Tree SpecTree SuffixTree Tree Tree ChoiceParts Tree DeclaratorTree SpecTree Tree MemberTree (ℕ × Tree) (ℕ × DeclaratorTree) (ℕ × EnumeratorTree) (Symbol × Tree) (ℕ × ParamTree) Tree SpecTrees SpecTree (Tree × Symbol) TypeTree
 
 abbrev pub LayerCond : Type 0
-LayerCond = Open.Cond-F Tree Tree ParamTree Post Pre Tree SpecTree SuffixTree Tree Tree ChoiceParts Tree DeclaratorTree Tree MemberTree (ℕ × Tree) (ℕ × DeclaratorTree) (Symbol × Tree) (ℕ × ParamTree) Tree SpecTrees SpecTree (Tree × Symbol) TypeTree
+LayerCond = Open.Cond-F Tree EnumeratorTree Tree ParamTree Post Pre Tree SpecTree SuffixTree Tree Tree ChoiceParts Tree DeclaratorTree SpecTree Tree MemberTree (ℕ × Tree) (ℕ × DeclaratorTree) (ℕ × EnumeratorTree) (Symbol × Tree) (ℕ × ParamTree) Tree SpecTrees SpecTree (Tree × Symbol) TypeTree
 
 abbrev pub LayerDeclarator : Type 0
-LayerDeclarator = Open.Declarator-F Tree Tree ParamTree Post Pre Tree SpecTree SuffixTree Tree Tree ChoiceParts Tree DeclaratorTree Tree MemberTree (ℕ × Tree) (ℕ × DeclaratorTree) (Symbol × Tree) (ℕ × ParamTree) Tree SpecTrees SpecTree (Tree × Symbol) TypeTree
+LayerDeclarator = Open.Declarator-F Tree EnumeratorTree Tree ParamTree Post Pre Tree SpecTree SuffixTree Tree Tree ChoiceParts Tree DeclaratorTree SpecTree Tree MemberTree (ℕ × Tree) (ℕ × DeclaratorTree) (ℕ × EnumeratorTree) (Symbol × Tree) (ℕ × ParamTree) Tree SpecTrees SpecTree (Tree × Symbol) TypeTree
+
+abbrev pub LayerEnumBody : Type 0
+LayerEnumBody = Open.EnumBody-F Tree EnumeratorTree Tree ParamTree Post Pre Tree SpecTree SuffixTree Tree Tree ChoiceParts Tree DeclaratorTree SpecTree Tree MemberTree (ℕ × Tree) (ℕ × DeclaratorTree) (ℕ × EnumeratorTree) (Symbol × Tree) (ℕ × ParamTree) Tree SpecTrees SpecTree (Tree × Symbol) TypeTree
 
 abbrev pub LayerExpr : Type 0
-LayerExpr = Open.Expr-F Tree Tree ParamTree Post Pre Tree SpecTree SuffixTree Tree Tree ChoiceParts Tree DeclaratorTree Tree MemberTree (ℕ × Tree) (ℕ × DeclaratorTree) (Symbol × Tree) (ℕ × ParamTree) Tree SpecTrees SpecTree (Tree × Symbol) TypeTree
+LayerExpr = Open.Expr-F Tree EnumeratorTree Tree ParamTree Post Pre Tree SpecTree SuffixTree Tree Tree ChoiceParts Tree DeclaratorTree SpecTree Tree MemberTree (ℕ × Tree) (ℕ × DeclaratorTree) (ℕ × EnumeratorTree) (Symbol × Tree) (ℕ × ParamTree) Tree SpecTrees SpecTree (Tree × Symbol) TypeTree
 
 abbrev pub LayerMember : Type 0
-LayerMember = Open.Member-F Tree Tree ParamTree Post Pre Tree SpecTree SuffixTree Tree Tree ChoiceParts Tree DeclaratorTree Tree MemberTree (ℕ × Tree) (ℕ × DeclaratorTree) (Symbol × Tree) (ℕ × ParamTree) Tree SpecTrees SpecTree (Tree × Symbol) TypeTree
+LayerMember = Open.Member-F Tree EnumeratorTree Tree ParamTree Post Pre Tree SpecTree SuffixTree Tree Tree ChoiceParts Tree DeclaratorTree SpecTree Tree MemberTree (ℕ × Tree) (ℕ × DeclaratorTree) (ℕ × EnumeratorTree) (Symbol × Tree) (ℕ × ParamTree) Tree SpecTrees SpecTree (Tree × Symbol) TypeTree
 
 abbrev pub LayerNextAssign : Type 0
-LayerNextAssign = Open.NextAssign-F Tree Tree ParamTree Post Pre Tree SpecTree SuffixTree Tree Tree ChoiceParts Tree DeclaratorTree Tree MemberTree (ℕ × Tree) (ℕ × DeclaratorTree) (Symbol × Tree) (ℕ × ParamTree) Tree SpecTrees SpecTree (Tree × Symbol) TypeTree
+LayerNextAssign = Open.NextAssign-F Tree EnumeratorTree Tree ParamTree Post Pre Tree SpecTree SuffixTree Tree Tree ChoiceParts Tree DeclaratorTree SpecTree Tree MemberTree (ℕ × Tree) (ℕ × DeclaratorTree) (ℕ × EnumeratorTree) (Symbol × Tree) (ℕ × ParamTree) Tree SpecTrees SpecTree (Tree × Symbol) TypeTree
 
 abbrev pub LayerNextDeclarator : Type 0
-LayerNextDeclarator = Open.NextDeclarator-F Tree Tree ParamTree Post Pre Tree SpecTree SuffixTree Tree Tree ChoiceParts Tree DeclaratorTree Tree MemberTree (ℕ × Tree) (ℕ × DeclaratorTree) (Symbol × Tree) (ℕ × ParamTree) Tree SpecTrees SpecTree (Tree × Symbol) TypeTree
+LayerNextDeclarator = Open.NextDeclarator-F Tree EnumeratorTree Tree ParamTree Post Pre Tree SpecTree SuffixTree Tree Tree ChoiceParts Tree DeclaratorTree SpecTree Tree MemberTree (ℕ × Tree) (ℕ × DeclaratorTree) (ℕ × EnumeratorTree) (Symbol × Tree) (ℕ × ParamTree) Tree SpecTrees SpecTree (Tree × Symbol) TypeTree
+
+abbrev pub LayerNextEnumerator : Type 0
+LayerNextEnumerator = Open.NextEnumerator-F Tree EnumeratorTree Tree ParamTree Post Pre Tree SpecTree SuffixTree Tree Tree ChoiceParts Tree DeclaratorTree SpecTree Tree MemberTree (ℕ × Tree) (ℕ × DeclaratorTree) (ℕ × EnumeratorTree) (Symbol × Tree) (ℕ × ParamTree) Tree SpecTrees SpecTree (Tree × Symbol) TypeTree
 
 abbrev pub LayerNextOperand : Type 0
-LayerNextOperand = Open.NextOperand-F Tree Tree ParamTree Post Pre Tree SpecTree SuffixTree Tree Tree ChoiceParts Tree DeclaratorTree Tree MemberTree (ℕ × Tree) (ℕ × DeclaratorTree) (Symbol × Tree) (ℕ × ParamTree) Tree SpecTrees SpecTree (Tree × Symbol) TypeTree
+LayerNextOperand = Open.NextOperand-F Tree EnumeratorTree Tree ParamTree Post Pre Tree SpecTree SuffixTree Tree Tree ChoiceParts Tree DeclaratorTree SpecTree Tree MemberTree (ℕ × Tree) (ℕ × DeclaratorTree) (ℕ × EnumeratorTree) (Symbol × Tree) (ℕ × ParamTree) Tree SpecTrees SpecTree (Tree × Symbol) TypeTree
 
 abbrev pub LayerNextParam : Type 0
-LayerNextParam = Open.NextParam-F Tree Tree ParamTree Post Pre Tree SpecTree SuffixTree Tree Tree ChoiceParts Tree DeclaratorTree Tree MemberTree (ℕ × Tree) (ℕ × DeclaratorTree) (Symbol × Tree) (ℕ × ParamTree) Tree SpecTrees SpecTree (Tree × Symbol) TypeTree
+LayerNextParam = Open.NextParam-F Tree EnumeratorTree Tree ParamTree Post Pre Tree SpecTree SuffixTree Tree Tree ChoiceParts Tree DeclaratorTree SpecTree Tree MemberTree (ℕ × Tree) (ℕ × DeclaratorTree) (ℕ × EnumeratorTree) (Symbol × Tree) (ℕ × ParamTree) Tree SpecTrees SpecTree (Tree × Symbol) TypeTree
 
 abbrev pub LayerPostfix : Type 0
-LayerPostfix = Open.Postfix-F Tree Tree ParamTree Post Pre Tree SpecTree SuffixTree Tree Tree ChoiceParts Tree DeclaratorTree Tree MemberTree (ℕ × Tree) (ℕ × DeclaratorTree) (Symbol × Tree) (ℕ × ParamTree) Tree SpecTrees SpecTree (Tree × Symbol) TypeTree
+LayerPostfix = Open.Postfix-F Tree EnumeratorTree Tree ParamTree Post Pre Tree SpecTree SuffixTree Tree Tree ChoiceParts Tree DeclaratorTree SpecTree Tree MemberTree (ℕ × Tree) (ℕ × DeclaratorTree) (ℕ × EnumeratorTree) (Symbol × Tree) (ℕ × ParamTree) Tree SpecTrees SpecTree (Tree × Symbol) TypeTree
 
 abbrev pub LayerSpecs : Type 0
-LayerSpecs = Open.Specs-F Tree Tree ParamTree Post Pre Tree SpecTree SuffixTree Tree Tree ChoiceParts Tree DeclaratorTree Tree MemberTree (ℕ × Tree) (ℕ × DeclaratorTree) (Symbol × Tree) (ℕ × ParamTree) Tree SpecTrees SpecTree (Tree × Symbol) TypeTree
+LayerSpecs = Open.Specs-F Tree EnumeratorTree Tree ParamTree Post Pre Tree SpecTree SuffixTree Tree Tree ChoiceParts Tree DeclaratorTree SpecTree Tree MemberTree (ℕ × Tree) (ℕ × DeclaratorTree) (ℕ × EnumeratorTree) (Symbol × Tree) (ℕ × ParamTree) Tree SpecTrees SpecTree (Tree × Symbol) TypeTree
 
 abbrev pub LayerStructBody : Type 0
-LayerStructBody = Open.StructBody-F Tree Tree ParamTree Post Pre Tree SpecTree SuffixTree Tree Tree ChoiceParts Tree DeclaratorTree Tree MemberTree (ℕ × Tree) (ℕ × DeclaratorTree) (Symbol × Tree) (ℕ × ParamTree) Tree SpecTrees SpecTree (Tree × Symbol) TypeTree
+LayerStructBody = Open.StructBody-F Tree EnumeratorTree Tree ParamTree Post Pre Tree SpecTree SuffixTree Tree Tree ChoiceParts Tree DeclaratorTree SpecTree Tree MemberTree (ℕ × Tree) (ℕ × DeclaratorTree) (ℕ × EnumeratorTree) (Symbol × Tree) (ℕ × ParamTree) Tree SpecTrees SpecTree (Tree × Symbol) TypeTree
 
 abbrev pub LayerTarget : Type 0
-LayerTarget = Open.Target-F Tree Tree ParamTree Post Pre Tree SpecTree SuffixTree Tree Tree ChoiceParts Tree DeclaratorTree Tree MemberTree (ℕ × Tree) (ℕ × DeclaratorTree) (Symbol × Tree) (ℕ × ParamTree) Tree SpecTrees SpecTree (Tree × Symbol) TypeTree
+LayerTarget = Open.Target-F Tree EnumeratorTree Tree ParamTree Post Pre Tree SpecTree SuffixTree Tree Tree ChoiceParts Tree DeclaratorTree SpecTree Tree MemberTree (ℕ × Tree) (ℕ × DeclaratorTree) (ℕ × EnumeratorTree) (Symbol × Tree) (ℕ × ParamTree) Tree SpecTrees SpecTree (Tree × Symbol) TypeTree
 
 abbrev pub LayerTypeName : Type 0
-LayerTypeName = Open.TypeName-F Tree Tree ParamTree Post Pre Tree SpecTree SuffixTree Tree Tree ChoiceParts Tree DeclaratorTree Tree MemberTree (ℕ × Tree) (ℕ × DeclaratorTree) (Symbol × Tree) (ℕ × ParamTree) Tree SpecTrees SpecTree (Tree × Symbol) TypeTree
+LayerTypeName = Open.TypeName-F Tree EnumeratorTree Tree ParamTree Post Pre Tree SpecTree SuffixTree Tree Tree ChoiceParts Tree DeclaratorTree SpecTree Tree MemberTree (ℕ × Tree) (ℕ × DeclaratorTree) (ℕ × EnumeratorTree) (Symbol × Tree) (ℕ × ParamTree) Tree SpecTrees SpecTree (Tree × Symbol) TypeTree
 
 abbrev pub binary_step : LayerBinary → Tree
 binary_step (Open.Operand operand) = operand
 binary_step (Open.Chain first others) = joined first.value others.items
+
+abbrev pub enumerator_step : LayerEnumerator → EnumeratorTree
+enumerator_step (Open.Bare name) = tree.Bare (named name)
+enumerator_step (Open.Valued name equals value) = tree.Valued (named name) equals value.value
 
 abbrev pub operand_step : LayerOperand → Tree
 operand_step (Open.Postfix postfix) = postfix
@@ -137,6 +153,9 @@ abbrev pub spec_step : LayerSpec → SpecTree
 spec_step (Open.Word word) = tree.OneWord (keyed word)
 spec_step (Open.Reference keyword tag) = tree.Tagged keyword (named tag)
 spec_step (Open.Body body) = body.value
+spec_step (Open.TypeName name) = tree.NamedType (type_named name)
+spec_step (Open.EnumReference keyword tag) = tree.EnumTagged keyword (named tag)
+spec_step (Open.EnumBody body) = body.value
 
 abbrev pub suffix_step : LayerSuffix → SuffixTree
 suffix_step (Open.Array opening None closing) = tree.Unsized opening closing
@@ -160,6 +179,9 @@ cond_step c = chosen c.choices.items c.last
 abbrev pub declarator_step : LayerDeclarator → DeclaratorTree
 declarator_step d = tree.Declares (spell_pointers d.pointers.items) (named d.name) (suffixes_of d.suffixes.items)
 
+abbrev pub enum_body_step : LayerEnumBody → SpecTree
+enum_body_step e = tree.EnumBody e.keyword (spell_tag e.tag) e.opening e.first (more_enumerators e.others.items) e.last_comma e.closing
+
 abbrev pub expr_step : LayerExpr → Tree
 expr_step e = listed e.first e.others.items
 
@@ -171,6 +193,9 @@ next_assign_step n = (n.comma, n.assign)
 
 abbrev pub next_declarator_step : LayerNextDeclarator → ℕ × DeclaratorTree
 next_declarator_step n = (n.comma, n.declarator)
+
+abbrev pub next_enumerator_step : LayerNextEnumerator → ℕ × EnumeratorTree
+next_enumerator_step n = (n.comma, n.enumerator)
 
 abbrev pub next_operand_step : LayerNextOperand → Symbol × Tree
 next_operand_step n = (signed n.operator, n.operand)
@@ -195,73 +220,82 @@ type_name_step t = tree.TypeOf t.specs (spell_pointers t.pointers.items)
 
 -- A whole tree.
 unfoldable pub binary_of : Binary → Tree
-binary_of = fold-Binary Tree Tree ParamTree Post Pre Tree SpecTree SuffixTree Tree Tree ChoiceParts Tree DeclaratorTree Tree MemberTree (ℕ × Tree) (ℕ × DeclaratorTree) (Symbol × Tree) (ℕ × ParamTree) Tree SpecTrees SpecTree (Tree × Symbol) TypeTree binary_step operand_step param_step postfix_suffix_step prefix_step primary_step spec_step suffix_step assign_step cast_step choice_step cond_step declarator_step expr_step member_step next_assign_step next_declarator_step next_operand_step next_param_step postfix_step specs_step struct_body_step target_step type_name_step
+binary_of = fold-Binary Tree EnumeratorTree Tree ParamTree Post Pre Tree SpecTree SuffixTree Tree Tree ChoiceParts Tree DeclaratorTree SpecTree Tree MemberTree (ℕ × Tree) (ℕ × DeclaratorTree) (ℕ × EnumeratorTree) (Symbol × Tree) (ℕ × ParamTree) Tree SpecTrees SpecTree (Tree × Symbol) TypeTree binary_step enumerator_step operand_step param_step postfix_suffix_step prefix_step primary_step spec_step suffix_step assign_step cast_step choice_step cond_step declarator_step enum_body_step expr_step member_step next_assign_step next_declarator_step next_enumerator_step next_operand_step next_param_step postfix_step specs_step struct_body_step target_step type_name_step
+
+unfoldable pub enumerator_of : Enumerator → EnumeratorTree
+enumerator_of = fold-Enumerator Tree EnumeratorTree Tree ParamTree Post Pre Tree SpecTree SuffixTree Tree Tree ChoiceParts Tree DeclaratorTree SpecTree Tree MemberTree (ℕ × Tree) (ℕ × DeclaratorTree) (ℕ × EnumeratorTree) (Symbol × Tree) (ℕ × ParamTree) Tree SpecTrees SpecTree (Tree × Symbol) TypeTree binary_step enumerator_step operand_step param_step postfix_suffix_step prefix_step primary_step spec_step suffix_step assign_step cast_step choice_step cond_step declarator_step enum_body_step expr_step member_step next_assign_step next_declarator_step next_enumerator_step next_operand_step next_param_step postfix_step specs_step struct_body_step target_step type_name_step
 
 unfoldable pub operand_of : Operand → Tree
-operand_of = fold-Operand Tree Tree ParamTree Post Pre Tree SpecTree SuffixTree Tree Tree ChoiceParts Tree DeclaratorTree Tree MemberTree (ℕ × Tree) (ℕ × DeclaratorTree) (Symbol × Tree) (ℕ × ParamTree) Tree SpecTrees SpecTree (Tree × Symbol) TypeTree binary_step operand_step param_step postfix_suffix_step prefix_step primary_step spec_step suffix_step assign_step cast_step choice_step cond_step declarator_step expr_step member_step next_assign_step next_declarator_step next_operand_step next_param_step postfix_step specs_step struct_body_step target_step type_name_step
+operand_of = fold-Operand Tree EnumeratorTree Tree ParamTree Post Pre Tree SpecTree SuffixTree Tree Tree ChoiceParts Tree DeclaratorTree SpecTree Tree MemberTree (ℕ × Tree) (ℕ × DeclaratorTree) (ℕ × EnumeratorTree) (Symbol × Tree) (ℕ × ParamTree) Tree SpecTrees SpecTree (Tree × Symbol) TypeTree binary_step enumerator_step operand_step param_step postfix_suffix_step prefix_step primary_step spec_step suffix_step assign_step cast_step choice_step cond_step declarator_step enum_body_step expr_step member_step next_assign_step next_declarator_step next_enumerator_step next_operand_step next_param_step postfix_step specs_step struct_body_step target_step type_name_step
 
 unfoldable pub param_of : Param → ParamTree
-param_of = fold-Param Tree Tree ParamTree Post Pre Tree SpecTree SuffixTree Tree Tree ChoiceParts Tree DeclaratorTree Tree MemberTree (ℕ × Tree) (ℕ × DeclaratorTree) (Symbol × Tree) (ℕ × ParamTree) Tree SpecTrees SpecTree (Tree × Symbol) TypeTree binary_step operand_step param_step postfix_suffix_step prefix_step primary_step spec_step suffix_step assign_step cast_step choice_step cond_step declarator_step expr_step member_step next_assign_step next_declarator_step next_operand_step next_param_step postfix_step specs_step struct_body_step target_step type_name_step
+param_of = fold-Param Tree EnumeratorTree Tree ParamTree Post Pre Tree SpecTree SuffixTree Tree Tree ChoiceParts Tree DeclaratorTree SpecTree Tree MemberTree (ℕ × Tree) (ℕ × DeclaratorTree) (ℕ × EnumeratorTree) (Symbol × Tree) (ℕ × ParamTree) Tree SpecTrees SpecTree (Tree × Symbol) TypeTree binary_step enumerator_step operand_step param_step postfix_suffix_step prefix_step primary_step spec_step suffix_step assign_step cast_step choice_step cond_step declarator_step enum_body_step expr_step member_step next_assign_step next_declarator_step next_enumerator_step next_operand_step next_param_step postfix_step specs_step struct_body_step target_step type_name_step
 
 unfoldable pub postfix_suffix_of : PostfixSuffix → Post
-postfix_suffix_of = fold-PostfixSuffix Tree Tree ParamTree Post Pre Tree SpecTree SuffixTree Tree Tree ChoiceParts Tree DeclaratorTree Tree MemberTree (ℕ × Tree) (ℕ × DeclaratorTree) (Symbol × Tree) (ℕ × ParamTree) Tree SpecTrees SpecTree (Tree × Symbol) TypeTree binary_step operand_step param_step postfix_suffix_step prefix_step primary_step spec_step suffix_step assign_step cast_step choice_step cond_step declarator_step expr_step member_step next_assign_step next_declarator_step next_operand_step next_param_step postfix_step specs_step struct_body_step target_step type_name_step
+postfix_suffix_of = fold-PostfixSuffix Tree EnumeratorTree Tree ParamTree Post Pre Tree SpecTree SuffixTree Tree Tree ChoiceParts Tree DeclaratorTree SpecTree Tree MemberTree (ℕ × Tree) (ℕ × DeclaratorTree) (ℕ × EnumeratorTree) (Symbol × Tree) (ℕ × ParamTree) Tree SpecTrees SpecTree (Tree × Symbol) TypeTree binary_step enumerator_step operand_step param_step postfix_suffix_step prefix_step primary_step spec_step suffix_step assign_step cast_step choice_step cond_step declarator_step enum_body_step expr_step member_step next_assign_step next_declarator_step next_enumerator_step next_operand_step next_param_step postfix_step specs_step struct_body_step target_step type_name_step
 
 unfoldable pub prefix_of : Prefix → Pre
-prefix_of = fold-Prefix Tree Tree ParamTree Post Pre Tree SpecTree SuffixTree Tree Tree ChoiceParts Tree DeclaratorTree Tree MemberTree (ℕ × Tree) (ℕ × DeclaratorTree) (Symbol × Tree) (ℕ × ParamTree) Tree SpecTrees SpecTree (Tree × Symbol) TypeTree binary_step operand_step param_step postfix_suffix_step prefix_step primary_step spec_step suffix_step assign_step cast_step choice_step cond_step declarator_step expr_step member_step next_assign_step next_declarator_step next_operand_step next_param_step postfix_step specs_step struct_body_step target_step type_name_step
+prefix_of = fold-Prefix Tree EnumeratorTree Tree ParamTree Post Pre Tree SpecTree SuffixTree Tree Tree ChoiceParts Tree DeclaratorTree SpecTree Tree MemberTree (ℕ × Tree) (ℕ × DeclaratorTree) (ℕ × EnumeratorTree) (Symbol × Tree) (ℕ × ParamTree) Tree SpecTrees SpecTree (Tree × Symbol) TypeTree binary_step enumerator_step operand_step param_step postfix_suffix_step prefix_step primary_step spec_step suffix_step assign_step cast_step choice_step cond_step declarator_step enum_body_step expr_step member_step next_assign_step next_declarator_step next_enumerator_step next_operand_step next_param_step postfix_step specs_step struct_body_step target_step type_name_step
 
 unfoldable pub primary_of : Primary → Tree
-primary_of = fold-Primary Tree Tree ParamTree Post Pre Tree SpecTree SuffixTree Tree Tree ChoiceParts Tree DeclaratorTree Tree MemberTree (ℕ × Tree) (ℕ × DeclaratorTree) (Symbol × Tree) (ℕ × ParamTree) Tree SpecTrees SpecTree (Tree × Symbol) TypeTree binary_step operand_step param_step postfix_suffix_step prefix_step primary_step spec_step suffix_step assign_step cast_step choice_step cond_step declarator_step expr_step member_step next_assign_step next_declarator_step next_operand_step next_param_step postfix_step specs_step struct_body_step target_step type_name_step
+primary_of = fold-Primary Tree EnumeratorTree Tree ParamTree Post Pre Tree SpecTree SuffixTree Tree Tree ChoiceParts Tree DeclaratorTree SpecTree Tree MemberTree (ℕ × Tree) (ℕ × DeclaratorTree) (ℕ × EnumeratorTree) (Symbol × Tree) (ℕ × ParamTree) Tree SpecTrees SpecTree (Tree × Symbol) TypeTree binary_step enumerator_step operand_step param_step postfix_suffix_step prefix_step primary_step spec_step suffix_step assign_step cast_step choice_step cond_step declarator_step enum_body_step expr_step member_step next_assign_step next_declarator_step next_enumerator_step next_operand_step next_param_step postfix_step specs_step struct_body_step target_step type_name_step
 
 unfoldable pub spec_of : Spec → SpecTree
-spec_of = fold-Spec Tree Tree ParamTree Post Pre Tree SpecTree SuffixTree Tree Tree ChoiceParts Tree DeclaratorTree Tree MemberTree (ℕ × Tree) (ℕ × DeclaratorTree) (Symbol × Tree) (ℕ × ParamTree) Tree SpecTrees SpecTree (Tree × Symbol) TypeTree binary_step operand_step param_step postfix_suffix_step prefix_step primary_step spec_step suffix_step assign_step cast_step choice_step cond_step declarator_step expr_step member_step next_assign_step next_declarator_step next_operand_step next_param_step postfix_step specs_step struct_body_step target_step type_name_step
+spec_of = fold-Spec Tree EnumeratorTree Tree ParamTree Post Pre Tree SpecTree SuffixTree Tree Tree ChoiceParts Tree DeclaratorTree SpecTree Tree MemberTree (ℕ × Tree) (ℕ × DeclaratorTree) (ℕ × EnumeratorTree) (Symbol × Tree) (ℕ × ParamTree) Tree SpecTrees SpecTree (Tree × Symbol) TypeTree binary_step enumerator_step operand_step param_step postfix_suffix_step prefix_step primary_step spec_step suffix_step assign_step cast_step choice_step cond_step declarator_step enum_body_step expr_step member_step next_assign_step next_declarator_step next_enumerator_step next_operand_step next_param_step postfix_step specs_step struct_body_step target_step type_name_step
 
 unfoldable pub suffix_of : Suffix → SuffixTree
-suffix_of = fold-Suffix Tree Tree ParamTree Post Pre Tree SpecTree SuffixTree Tree Tree ChoiceParts Tree DeclaratorTree Tree MemberTree (ℕ × Tree) (ℕ × DeclaratorTree) (Symbol × Tree) (ℕ × ParamTree) Tree SpecTrees SpecTree (Tree × Symbol) TypeTree binary_step operand_step param_step postfix_suffix_step prefix_step primary_step spec_step suffix_step assign_step cast_step choice_step cond_step declarator_step expr_step member_step next_assign_step next_declarator_step next_operand_step next_param_step postfix_step specs_step struct_body_step target_step type_name_step
+suffix_of = fold-Suffix Tree EnumeratorTree Tree ParamTree Post Pre Tree SpecTree SuffixTree Tree Tree ChoiceParts Tree DeclaratorTree SpecTree Tree MemberTree (ℕ × Tree) (ℕ × DeclaratorTree) (ℕ × EnumeratorTree) (Symbol × Tree) (ℕ × ParamTree) Tree SpecTrees SpecTree (Tree × Symbol) TypeTree binary_step enumerator_step operand_step param_step postfix_suffix_step prefix_step primary_step spec_step suffix_step assign_step cast_step choice_step cond_step declarator_step enum_body_step expr_step member_step next_assign_step next_declarator_step next_enumerator_step next_operand_step next_param_step postfix_step specs_step struct_body_step target_step type_name_step
 
 unfoldable pub assign_of : Assign → Tree
-assign_of = fold-Assign Tree Tree ParamTree Post Pre Tree SpecTree SuffixTree Tree Tree ChoiceParts Tree DeclaratorTree Tree MemberTree (ℕ × Tree) (ℕ × DeclaratorTree) (Symbol × Tree) (ℕ × ParamTree) Tree SpecTrees SpecTree (Tree × Symbol) TypeTree binary_step operand_step param_step postfix_suffix_step prefix_step primary_step spec_step suffix_step assign_step cast_step choice_step cond_step declarator_step expr_step member_step next_assign_step next_declarator_step next_operand_step next_param_step postfix_step specs_step struct_body_step target_step type_name_step
+assign_of = fold-Assign Tree EnumeratorTree Tree ParamTree Post Pre Tree SpecTree SuffixTree Tree Tree ChoiceParts Tree DeclaratorTree SpecTree Tree MemberTree (ℕ × Tree) (ℕ × DeclaratorTree) (ℕ × EnumeratorTree) (Symbol × Tree) (ℕ × ParamTree) Tree SpecTrees SpecTree (Tree × Symbol) TypeTree binary_step enumerator_step operand_step param_step postfix_suffix_step prefix_step primary_step spec_step suffix_step assign_step cast_step choice_step cond_step declarator_step enum_body_step expr_step member_step next_assign_step next_declarator_step next_enumerator_step next_operand_step next_param_step postfix_step specs_step struct_body_step target_step type_name_step
 
 unfoldable pub cast_of : Cast → Tree
-cast_of = fold-Cast Tree Tree ParamTree Post Pre Tree SpecTree SuffixTree Tree Tree ChoiceParts Tree DeclaratorTree Tree MemberTree (ℕ × Tree) (ℕ × DeclaratorTree) (Symbol × Tree) (ℕ × ParamTree) Tree SpecTrees SpecTree (Tree × Symbol) TypeTree binary_step operand_step param_step postfix_suffix_step prefix_step primary_step spec_step suffix_step assign_step cast_step choice_step cond_step declarator_step expr_step member_step next_assign_step next_declarator_step next_operand_step next_param_step postfix_step specs_step struct_body_step target_step type_name_step
+cast_of = fold-Cast Tree EnumeratorTree Tree ParamTree Post Pre Tree SpecTree SuffixTree Tree Tree ChoiceParts Tree DeclaratorTree SpecTree Tree MemberTree (ℕ × Tree) (ℕ × DeclaratorTree) (ℕ × EnumeratorTree) (Symbol × Tree) (ℕ × ParamTree) Tree SpecTrees SpecTree (Tree × Symbol) TypeTree binary_step enumerator_step operand_step param_step postfix_suffix_step prefix_step primary_step spec_step suffix_step assign_step cast_step choice_step cond_step declarator_step enum_body_step expr_step member_step next_assign_step next_declarator_step next_enumerator_step next_operand_step next_param_step postfix_step specs_step struct_body_step target_step type_name_step
 
 unfoldable pub choice_of : Choice → ChoiceParts
-choice_of = fold-Choice Tree Tree ParamTree Post Pre Tree SpecTree SuffixTree Tree Tree ChoiceParts Tree DeclaratorTree Tree MemberTree (ℕ × Tree) (ℕ × DeclaratorTree) (Symbol × Tree) (ℕ × ParamTree) Tree SpecTrees SpecTree (Tree × Symbol) TypeTree binary_step operand_step param_step postfix_suffix_step prefix_step primary_step spec_step suffix_step assign_step cast_step choice_step cond_step declarator_step expr_step member_step next_assign_step next_declarator_step next_operand_step next_param_step postfix_step specs_step struct_body_step target_step type_name_step
+choice_of = fold-Choice Tree EnumeratorTree Tree ParamTree Post Pre Tree SpecTree SuffixTree Tree Tree ChoiceParts Tree DeclaratorTree SpecTree Tree MemberTree (ℕ × Tree) (ℕ × DeclaratorTree) (ℕ × EnumeratorTree) (Symbol × Tree) (ℕ × ParamTree) Tree SpecTrees SpecTree (Tree × Symbol) TypeTree binary_step enumerator_step operand_step param_step postfix_suffix_step prefix_step primary_step spec_step suffix_step assign_step cast_step choice_step cond_step declarator_step enum_body_step expr_step member_step next_assign_step next_declarator_step next_enumerator_step next_operand_step next_param_step postfix_step specs_step struct_body_step target_step type_name_step
 
 unfoldable pub cond_of : Cond → Tree
-cond_of = fold-Cond Tree Tree ParamTree Post Pre Tree SpecTree SuffixTree Tree Tree ChoiceParts Tree DeclaratorTree Tree MemberTree (ℕ × Tree) (ℕ × DeclaratorTree) (Symbol × Tree) (ℕ × ParamTree) Tree SpecTrees SpecTree (Tree × Symbol) TypeTree binary_step operand_step param_step postfix_suffix_step prefix_step primary_step spec_step suffix_step assign_step cast_step choice_step cond_step declarator_step expr_step member_step next_assign_step next_declarator_step next_operand_step next_param_step postfix_step specs_step struct_body_step target_step type_name_step
+cond_of = fold-Cond Tree EnumeratorTree Tree ParamTree Post Pre Tree SpecTree SuffixTree Tree Tree ChoiceParts Tree DeclaratorTree SpecTree Tree MemberTree (ℕ × Tree) (ℕ × DeclaratorTree) (ℕ × EnumeratorTree) (Symbol × Tree) (ℕ × ParamTree) Tree SpecTrees SpecTree (Tree × Symbol) TypeTree binary_step enumerator_step operand_step param_step postfix_suffix_step prefix_step primary_step spec_step suffix_step assign_step cast_step choice_step cond_step declarator_step enum_body_step expr_step member_step next_assign_step next_declarator_step next_enumerator_step next_operand_step next_param_step postfix_step specs_step struct_body_step target_step type_name_step
 
 unfoldable pub declarator_of : Declarator → DeclaratorTree
-declarator_of = fold-Declarator Tree Tree ParamTree Post Pre Tree SpecTree SuffixTree Tree Tree ChoiceParts Tree DeclaratorTree Tree MemberTree (ℕ × Tree) (ℕ × DeclaratorTree) (Symbol × Tree) (ℕ × ParamTree) Tree SpecTrees SpecTree (Tree × Symbol) TypeTree binary_step operand_step param_step postfix_suffix_step prefix_step primary_step spec_step suffix_step assign_step cast_step choice_step cond_step declarator_step expr_step member_step next_assign_step next_declarator_step next_operand_step next_param_step postfix_step specs_step struct_body_step target_step type_name_step
+declarator_of = fold-Declarator Tree EnumeratorTree Tree ParamTree Post Pre Tree SpecTree SuffixTree Tree Tree ChoiceParts Tree DeclaratorTree SpecTree Tree MemberTree (ℕ × Tree) (ℕ × DeclaratorTree) (ℕ × EnumeratorTree) (Symbol × Tree) (ℕ × ParamTree) Tree SpecTrees SpecTree (Tree × Symbol) TypeTree binary_step enumerator_step operand_step param_step postfix_suffix_step prefix_step primary_step spec_step suffix_step assign_step cast_step choice_step cond_step declarator_step enum_body_step expr_step member_step next_assign_step next_declarator_step next_enumerator_step next_operand_step next_param_step postfix_step specs_step struct_body_step target_step type_name_step
+
+unfoldable pub enum_body_of : EnumBody → SpecTree
+enum_body_of = fold-EnumBody Tree EnumeratorTree Tree ParamTree Post Pre Tree SpecTree SuffixTree Tree Tree ChoiceParts Tree DeclaratorTree SpecTree Tree MemberTree (ℕ × Tree) (ℕ × DeclaratorTree) (ℕ × EnumeratorTree) (Symbol × Tree) (ℕ × ParamTree) Tree SpecTrees SpecTree (Tree × Symbol) TypeTree binary_step enumerator_step operand_step param_step postfix_suffix_step prefix_step primary_step spec_step suffix_step assign_step cast_step choice_step cond_step declarator_step enum_body_step expr_step member_step next_assign_step next_declarator_step next_enumerator_step next_operand_step next_param_step postfix_step specs_step struct_body_step target_step type_name_step
 
 unfoldable pub expr_of : Expr → Tree
-expr_of = fold-Expr Tree Tree ParamTree Post Pre Tree SpecTree SuffixTree Tree Tree ChoiceParts Tree DeclaratorTree Tree MemberTree (ℕ × Tree) (ℕ × DeclaratorTree) (Symbol × Tree) (ℕ × ParamTree) Tree SpecTrees SpecTree (Tree × Symbol) TypeTree binary_step operand_step param_step postfix_suffix_step prefix_step primary_step spec_step suffix_step assign_step cast_step choice_step cond_step declarator_step expr_step member_step next_assign_step next_declarator_step next_operand_step next_param_step postfix_step specs_step struct_body_step target_step type_name_step
+expr_of = fold-Expr Tree EnumeratorTree Tree ParamTree Post Pre Tree SpecTree SuffixTree Tree Tree ChoiceParts Tree DeclaratorTree SpecTree Tree MemberTree (ℕ × Tree) (ℕ × DeclaratorTree) (ℕ × EnumeratorTree) (Symbol × Tree) (ℕ × ParamTree) Tree SpecTrees SpecTree (Tree × Symbol) TypeTree binary_step enumerator_step operand_step param_step postfix_suffix_step prefix_step primary_step spec_step suffix_step assign_step cast_step choice_step cond_step declarator_step enum_body_step expr_step member_step next_assign_step next_declarator_step next_enumerator_step next_operand_step next_param_step postfix_step specs_step struct_body_step target_step type_name_step
 
 unfoldable pub member_of : Member → MemberTree
-member_of = fold-Member Tree Tree ParamTree Post Pre Tree SpecTree SuffixTree Tree Tree ChoiceParts Tree DeclaratorTree Tree MemberTree (ℕ × Tree) (ℕ × DeclaratorTree) (Symbol × Tree) (ℕ × ParamTree) Tree SpecTrees SpecTree (Tree × Symbol) TypeTree binary_step operand_step param_step postfix_suffix_step prefix_step primary_step spec_step suffix_step assign_step cast_step choice_step cond_step declarator_step expr_step member_step next_assign_step next_declarator_step next_operand_step next_param_step postfix_step specs_step struct_body_step target_step type_name_step
+member_of = fold-Member Tree EnumeratorTree Tree ParamTree Post Pre Tree SpecTree SuffixTree Tree Tree ChoiceParts Tree DeclaratorTree SpecTree Tree MemberTree (ℕ × Tree) (ℕ × DeclaratorTree) (ℕ × EnumeratorTree) (Symbol × Tree) (ℕ × ParamTree) Tree SpecTrees SpecTree (Tree × Symbol) TypeTree binary_step enumerator_step operand_step param_step postfix_suffix_step prefix_step primary_step spec_step suffix_step assign_step cast_step choice_step cond_step declarator_step enum_body_step expr_step member_step next_assign_step next_declarator_step next_enumerator_step next_operand_step next_param_step postfix_step specs_step struct_body_step target_step type_name_step
 
 unfoldable pub next_assign_of : NextAssign → ℕ × Tree
-next_assign_of = fold-NextAssign Tree Tree ParamTree Post Pre Tree SpecTree SuffixTree Tree Tree ChoiceParts Tree DeclaratorTree Tree MemberTree (ℕ × Tree) (ℕ × DeclaratorTree) (Symbol × Tree) (ℕ × ParamTree) Tree SpecTrees SpecTree (Tree × Symbol) TypeTree binary_step operand_step param_step postfix_suffix_step prefix_step primary_step spec_step suffix_step assign_step cast_step choice_step cond_step declarator_step expr_step member_step next_assign_step next_declarator_step next_operand_step next_param_step postfix_step specs_step struct_body_step target_step type_name_step
+next_assign_of = fold-NextAssign Tree EnumeratorTree Tree ParamTree Post Pre Tree SpecTree SuffixTree Tree Tree ChoiceParts Tree DeclaratorTree SpecTree Tree MemberTree (ℕ × Tree) (ℕ × DeclaratorTree) (ℕ × EnumeratorTree) (Symbol × Tree) (ℕ × ParamTree) Tree SpecTrees SpecTree (Tree × Symbol) TypeTree binary_step enumerator_step operand_step param_step postfix_suffix_step prefix_step primary_step spec_step suffix_step assign_step cast_step choice_step cond_step declarator_step enum_body_step expr_step member_step next_assign_step next_declarator_step next_enumerator_step next_operand_step next_param_step postfix_step specs_step struct_body_step target_step type_name_step
 
 unfoldable pub next_declarator_of : NextDeclarator → ℕ × DeclaratorTree
-next_declarator_of = fold-NextDeclarator Tree Tree ParamTree Post Pre Tree SpecTree SuffixTree Tree Tree ChoiceParts Tree DeclaratorTree Tree MemberTree (ℕ × Tree) (ℕ × DeclaratorTree) (Symbol × Tree) (ℕ × ParamTree) Tree SpecTrees SpecTree (Tree × Symbol) TypeTree binary_step operand_step param_step postfix_suffix_step prefix_step primary_step spec_step suffix_step assign_step cast_step choice_step cond_step declarator_step expr_step member_step next_assign_step next_declarator_step next_operand_step next_param_step postfix_step specs_step struct_body_step target_step type_name_step
+next_declarator_of = fold-NextDeclarator Tree EnumeratorTree Tree ParamTree Post Pre Tree SpecTree SuffixTree Tree Tree ChoiceParts Tree DeclaratorTree SpecTree Tree MemberTree (ℕ × Tree) (ℕ × DeclaratorTree) (ℕ × EnumeratorTree) (Symbol × Tree) (ℕ × ParamTree) Tree SpecTrees SpecTree (Tree × Symbol) TypeTree binary_step enumerator_step operand_step param_step postfix_suffix_step prefix_step primary_step spec_step suffix_step assign_step cast_step choice_step cond_step declarator_step enum_body_step expr_step member_step next_assign_step next_declarator_step next_enumerator_step next_operand_step next_param_step postfix_step specs_step struct_body_step target_step type_name_step
+
+unfoldable pub next_enumerator_of : NextEnumerator → ℕ × EnumeratorTree
+next_enumerator_of = fold-NextEnumerator Tree EnumeratorTree Tree ParamTree Post Pre Tree SpecTree SuffixTree Tree Tree ChoiceParts Tree DeclaratorTree SpecTree Tree MemberTree (ℕ × Tree) (ℕ × DeclaratorTree) (ℕ × EnumeratorTree) (Symbol × Tree) (ℕ × ParamTree) Tree SpecTrees SpecTree (Tree × Symbol) TypeTree binary_step enumerator_step operand_step param_step postfix_suffix_step prefix_step primary_step spec_step suffix_step assign_step cast_step choice_step cond_step declarator_step enum_body_step expr_step member_step next_assign_step next_declarator_step next_enumerator_step next_operand_step next_param_step postfix_step specs_step struct_body_step target_step type_name_step
 
 unfoldable pub next_operand_of : NextOperand → Symbol × Tree
-next_operand_of = fold-NextOperand Tree Tree ParamTree Post Pre Tree SpecTree SuffixTree Tree Tree ChoiceParts Tree DeclaratorTree Tree MemberTree (ℕ × Tree) (ℕ × DeclaratorTree) (Symbol × Tree) (ℕ × ParamTree) Tree SpecTrees SpecTree (Tree × Symbol) TypeTree binary_step operand_step param_step postfix_suffix_step prefix_step primary_step spec_step suffix_step assign_step cast_step choice_step cond_step declarator_step expr_step member_step next_assign_step next_declarator_step next_operand_step next_param_step postfix_step specs_step struct_body_step target_step type_name_step
+next_operand_of = fold-NextOperand Tree EnumeratorTree Tree ParamTree Post Pre Tree SpecTree SuffixTree Tree Tree ChoiceParts Tree DeclaratorTree SpecTree Tree MemberTree (ℕ × Tree) (ℕ × DeclaratorTree) (ℕ × EnumeratorTree) (Symbol × Tree) (ℕ × ParamTree) Tree SpecTrees SpecTree (Tree × Symbol) TypeTree binary_step enumerator_step operand_step param_step postfix_suffix_step prefix_step primary_step spec_step suffix_step assign_step cast_step choice_step cond_step declarator_step enum_body_step expr_step member_step next_assign_step next_declarator_step next_enumerator_step next_operand_step next_param_step postfix_step specs_step struct_body_step target_step type_name_step
 
 unfoldable pub next_param_of : NextParam → ℕ × ParamTree
-next_param_of = fold-NextParam Tree Tree ParamTree Post Pre Tree SpecTree SuffixTree Tree Tree ChoiceParts Tree DeclaratorTree Tree MemberTree (ℕ × Tree) (ℕ × DeclaratorTree) (Symbol × Tree) (ℕ × ParamTree) Tree SpecTrees SpecTree (Tree × Symbol) TypeTree binary_step operand_step param_step postfix_suffix_step prefix_step primary_step spec_step suffix_step assign_step cast_step choice_step cond_step declarator_step expr_step member_step next_assign_step next_declarator_step next_operand_step next_param_step postfix_step specs_step struct_body_step target_step type_name_step
+next_param_of = fold-NextParam Tree EnumeratorTree Tree ParamTree Post Pre Tree SpecTree SuffixTree Tree Tree ChoiceParts Tree DeclaratorTree SpecTree Tree MemberTree (ℕ × Tree) (ℕ × DeclaratorTree) (ℕ × EnumeratorTree) (Symbol × Tree) (ℕ × ParamTree) Tree SpecTrees SpecTree (Tree × Symbol) TypeTree binary_step enumerator_step operand_step param_step postfix_suffix_step prefix_step primary_step spec_step suffix_step assign_step cast_step choice_step cond_step declarator_step enum_body_step expr_step member_step next_assign_step next_declarator_step next_enumerator_step next_operand_step next_param_step postfix_step specs_step struct_body_step target_step type_name_step
 
 unfoldable pub postfix_of : Postfix → Tree
-postfix_of = fold-Postfix Tree Tree ParamTree Post Pre Tree SpecTree SuffixTree Tree Tree ChoiceParts Tree DeclaratorTree Tree MemberTree (ℕ × Tree) (ℕ × DeclaratorTree) (Symbol × Tree) (ℕ × ParamTree) Tree SpecTrees SpecTree (Tree × Symbol) TypeTree binary_step operand_step param_step postfix_suffix_step prefix_step primary_step spec_step suffix_step assign_step cast_step choice_step cond_step declarator_step expr_step member_step next_assign_step next_declarator_step next_operand_step next_param_step postfix_step specs_step struct_body_step target_step type_name_step
+postfix_of = fold-Postfix Tree EnumeratorTree Tree ParamTree Post Pre Tree SpecTree SuffixTree Tree Tree ChoiceParts Tree DeclaratorTree SpecTree Tree MemberTree (ℕ × Tree) (ℕ × DeclaratorTree) (ℕ × EnumeratorTree) (Symbol × Tree) (ℕ × ParamTree) Tree SpecTrees SpecTree (Tree × Symbol) TypeTree binary_step enumerator_step operand_step param_step postfix_suffix_step prefix_step primary_step spec_step suffix_step assign_step cast_step choice_step cond_step declarator_step enum_body_step expr_step member_step next_assign_step next_declarator_step next_enumerator_step next_operand_step next_param_step postfix_step specs_step struct_body_step target_step type_name_step
 
 unfoldable pub specs_of : Specs → SpecTrees
-specs_of = fold-Specs Tree Tree ParamTree Post Pre Tree SpecTree SuffixTree Tree Tree ChoiceParts Tree DeclaratorTree Tree MemberTree (ℕ × Tree) (ℕ × DeclaratorTree) (Symbol × Tree) (ℕ × ParamTree) Tree SpecTrees SpecTree (Tree × Symbol) TypeTree binary_step operand_step param_step postfix_suffix_step prefix_step primary_step spec_step suffix_step assign_step cast_step choice_step cond_step declarator_step expr_step member_step next_assign_step next_declarator_step next_operand_step next_param_step postfix_step specs_step struct_body_step target_step type_name_step
+specs_of = fold-Specs Tree EnumeratorTree Tree ParamTree Post Pre Tree SpecTree SuffixTree Tree Tree ChoiceParts Tree DeclaratorTree SpecTree Tree MemberTree (ℕ × Tree) (ℕ × DeclaratorTree) (ℕ × EnumeratorTree) (Symbol × Tree) (ℕ × ParamTree) Tree SpecTrees SpecTree (Tree × Symbol) TypeTree binary_step enumerator_step operand_step param_step postfix_suffix_step prefix_step primary_step spec_step suffix_step assign_step cast_step choice_step cond_step declarator_step enum_body_step expr_step member_step next_assign_step next_declarator_step next_enumerator_step next_operand_step next_param_step postfix_step specs_step struct_body_step target_step type_name_step
 
 unfoldable pub struct_body_of : StructBody → SpecTree
-struct_body_of = fold-StructBody Tree Tree ParamTree Post Pre Tree SpecTree SuffixTree Tree Tree ChoiceParts Tree DeclaratorTree Tree MemberTree (ℕ × Tree) (ℕ × DeclaratorTree) (Symbol × Tree) (ℕ × ParamTree) Tree SpecTrees SpecTree (Tree × Symbol) TypeTree binary_step operand_step param_step postfix_suffix_step prefix_step primary_step spec_step suffix_step assign_step cast_step choice_step cond_step declarator_step expr_step member_step next_assign_step next_declarator_step next_operand_step next_param_step postfix_step specs_step struct_body_step target_step type_name_step
+struct_body_of = fold-StructBody Tree EnumeratorTree Tree ParamTree Post Pre Tree SpecTree SuffixTree Tree Tree ChoiceParts Tree DeclaratorTree SpecTree Tree MemberTree (ℕ × Tree) (ℕ × DeclaratorTree) (ℕ × EnumeratorTree) (Symbol × Tree) (ℕ × ParamTree) Tree SpecTrees SpecTree (Tree × Symbol) TypeTree binary_step enumerator_step operand_step param_step postfix_suffix_step prefix_step primary_step spec_step suffix_step assign_step cast_step choice_step cond_step declarator_step enum_body_step expr_step member_step next_assign_step next_declarator_step next_enumerator_step next_operand_step next_param_step postfix_step specs_step struct_body_step target_step type_name_step
 
 unfoldable pub target_of : Target → Tree × Symbol
-target_of = fold-Target Tree Tree ParamTree Post Pre Tree SpecTree SuffixTree Tree Tree ChoiceParts Tree DeclaratorTree Tree MemberTree (ℕ × Tree) (ℕ × DeclaratorTree) (Symbol × Tree) (ℕ × ParamTree) Tree SpecTrees SpecTree (Tree × Symbol) TypeTree binary_step operand_step param_step postfix_suffix_step prefix_step primary_step spec_step suffix_step assign_step cast_step choice_step cond_step declarator_step expr_step member_step next_assign_step next_declarator_step next_operand_step next_param_step postfix_step specs_step struct_body_step target_step type_name_step
+target_of = fold-Target Tree EnumeratorTree Tree ParamTree Post Pre Tree SpecTree SuffixTree Tree Tree ChoiceParts Tree DeclaratorTree SpecTree Tree MemberTree (ℕ × Tree) (ℕ × DeclaratorTree) (ℕ × EnumeratorTree) (Symbol × Tree) (ℕ × ParamTree) Tree SpecTrees SpecTree (Tree × Symbol) TypeTree binary_step enumerator_step operand_step param_step postfix_suffix_step prefix_step primary_step spec_step suffix_step assign_step cast_step choice_step cond_step declarator_step enum_body_step expr_step member_step next_assign_step next_declarator_step next_enumerator_step next_operand_step next_param_step postfix_step specs_step struct_body_step target_step type_name_step
 
 unfoldable pub type_name_of : TypeName → TypeTree
-type_name_of = fold-TypeName Tree Tree ParamTree Post Pre Tree SpecTree SuffixTree Tree Tree ChoiceParts Tree DeclaratorTree Tree MemberTree (ℕ × Tree) (ℕ × DeclaratorTree) (Symbol × Tree) (ℕ × ParamTree) Tree SpecTrees SpecTree (Tree × Symbol) TypeTree binary_step operand_step param_step postfix_suffix_step prefix_step primary_step spec_step suffix_step assign_step cast_step choice_step cond_step declarator_step expr_step member_step next_assign_step next_declarator_step next_operand_step next_param_step postfix_step specs_step struct_body_step target_step type_name_step
+type_name_of = fold-TypeName Tree EnumeratorTree Tree ParamTree Post Pre Tree SpecTree SuffixTree Tree Tree ChoiceParts Tree DeclaratorTree SpecTree Tree MemberTree (ℕ × Tree) (ℕ × DeclaratorTree) (ℕ × EnumeratorTree) (Symbol × Tree) (ℕ × ParamTree) Tree SpecTrees SpecTree (Tree × Symbol) TypeTree binary_step enumerator_step operand_step param_step postfix_suffix_step prefix_step primary_step spec_step suffix_step assign_step cast_step choice_step cond_step declarator_step enum_body_step expr_step member_step next_assign_step next_declarator_step next_enumerator_step next_operand_step next_param_step postfix_step specs_step struct_body_step target_step type_name_step

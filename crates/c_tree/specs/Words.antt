@@ -11,7 +11,7 @@ use Rattle.c_tree.specs.declared.word.Sign.{Sign}
 use Rattle.c_tree.specs.declared.word.Pointer.{Pointer}
 use Rattle.c_tree.specs.declared.word.Constant.{Constant}
 use Rattle.c_tree.specs.declared.word.Constant.TheVariants.{Int, Char}
-use Rattle.c_token.specs.declared.token.Punct.TheVariants.{Star}
+use Rattle.c_token.specs.declared.token.Punct.TheVariants.{Star, Comma}
 
 -- A token as a tree has it: its kind, the bytes of a name or of a string (none of another token),
 -- and its line.
@@ -41,6 +41,10 @@ signed s = punct s.punct s.line
 abbrev pub named : Name → Symbol
 named n = record { kind = kinds.Name; bytes = n.bytes.items; line = n.line }
 
+-- a name that is marked as that of a type
+abbrev pub type_named : Name → Symbol
+type_named n = record { kind = kinds.TypeName; bytes = n.bytes.items; line = n.line }
+
 abbrev pub quoted : Text → Symbol
 quoted t = record { kind = kinds.Text; bytes = t.bytes.items; line = t.line }
 
@@ -62,6 +66,11 @@ spell_pointers ps = flat (map spell_pointer ps)
 abbrev pub spell_tag : Option Name → Symbols
 spell_tag None = []
 spell_tag (Some n) = named n ∷ []
+
+-- a comma that may be left out
+abbrev pub spelled_comma : Option ℕ → Symbols
+spelled_comma None = []
+spelled_comma (Some c) = punct Comma c ∷ []
 
 -- the kinds of symbols, which is what the bytes and lines leave
 abbrev pub kinds_of : Symbols → List TokKind

@@ -12,15 +12,21 @@ pub struct Specs {
     pub others: Vec<Spec>,
 }
 
-/// A specifier: a word, or a structure.
+/// A specifier: a word, the name of a type, a structure, or an enumeration.
 #[cycle(expression)]
 #[derive(Drop)]
 pub enum Spec {
     Word(Word),
+    /// A name that a `typedef` declared (ISO/IEC 9899:1990, 6.5.6)
+    TypeName(Name),
     /// `struct NAME`
     Reference { keyword: u32, tag: Name },
     /// `struct NAME { MEMBERS }`, where the name may be left out
     Body(Box<StructBody>),
+    /// `enum NAME`
+    EnumReference { keyword: u32, tag: Name },
+    /// `enum NAME { ENUMERATORS }`, where the name may be left out
+    EnumBody(Box<EnumBody>),
 }
 
 /// A structure with its members, at least one (ISO/IEC 9899:1990, 6.5.2.1).
@@ -33,6 +39,42 @@ pub struct StructBody {
     pub first: Member,
     pub others: Vec<Member>,
     pub closing: u32,
+}
+
+/// An enumeration with its enumerators, at least one, with a comma after the last or without one
+/// (ISO/IEC 9899:1990, 6.5.2.2).
+#[cycle(expression)]
+#[derive(Drop)]
+pub struct EnumBody {
+    pub keyword: u32,
+    pub tag: Option<Name>,
+    pub opening: u32,
+    pub first: Enumerator,
+    pub others: Vec<NextEnumerator>,
+    pub last_comma: Option<u32>,
+    pub closing: u32,
+}
+
+/// A comma and an enumerator.
+#[cycle(expression)]
+#[derive(Drop)]
+pub struct NextEnumerator {
+    pub comma: u32,
+    pub enumerator: Enumerator,
+}
+
+/// The name of a number, with its value or without one.
+#[cycle(expression)]
+#[derive(Drop)]
+pub enum Enumerator {
+    /// `NAME`
+    Bare(Name),
+    /// `NAME = VALUE`
+    Valued {
+        name: Name,
+        equals: u32,
+        value: Box<Cond>,
+    },
 }
 
 /// Members of one type.

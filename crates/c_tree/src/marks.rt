@@ -4,7 +4,7 @@
 
 ghost use Rattle.std.specs.Prelude.{◌≡◌, ◌++◌, ◌∷◌, [], IfOk};
 ghost use Rattle.c_token.specs.declared.token.TokKind.TheVariants as kinds;
-ghost use Rattle.c_tree.specs.Words.{kinds_of, spell_constant, spell_pointer, spell_pointers, spell_tag};
+ghost use Rattle.c_tree.specs.Words.{kinds_of, spelled_comma, spell_constant, spell_pointer, spell_pointers, spell_tag};
 
 use crate::word::{Constant, Name, Pointer};
 use c_token::{Keyword, Punct, TokKind};
@@ -29,6 +29,23 @@ pub fn name(out: &mut Vec<TokKind>) -> Result<(), AllocError>
     ensures { IfOk result (λ _. out.new.items ≡ out.old.items ++ kinds.Name ∷ []) }
 {
     Ok(out.push(TokKind::Name)?)
+}
+
+/// Puts an identifier that is marked as the name of a type.
+pub fn type_name(out: &mut Vec<TokKind>) -> Result<(), AllocError>
+    ensures { IfOk result (λ _. out.new.items ≡ out.old.items ++ kinds.TypeName ∷ []) }
+{
+    Ok(out.push(TokKind::TypeName)?)
+}
+
+/// Puts a comma, where there is one.
+pub fn comma(out: &mut Vec<TokKind>, comma: &Option<u32>) -> Result<(), AllocError>
+    ensures { IfOk result (λ _. out.new.items ≡ out.old.items ++ kinds_of (spelled_comma comma.now)) }
+{
+    match comma {
+        Some(_) => punct(out, Punct::Comma),
+        None => Ok(()),
+    }
 }
 
 /// Puts a string literal.
@@ -60,7 +77,7 @@ pub fn constant(out: &mut Vec<TokKind>, constant: Constant) -> Result<(), AllocE
     Ok(out.push(kind)?)
 }
 
-/// The name of a structure, where it has one.
+/// The name of a structure or of an enumeration, where it has one.
 pub fn tag(out: &mut Vec<TokKind>, tag: &Option<Name>) -> Result<(), AllocError>
     ensures { IfOk result (λ _. out.new.items ≡ out.old.items ++ kinds_of (spell_tag tag.now)) }
 {

@@ -5,13 +5,13 @@
 ghost use Rattle.std.specs.Prelude.{◌≡◌, ◌++◌, ◌∷◌, [], IfOk, map};
 ghost use Rattle.c_token.specs.declared.token.Punct.TheVariants.{Semicolon, RightBrace};
 ghost use Rattle.c_token.specs.declared.token.TokKind.TheVariants as kinds;
-ghost use Rattle.c_tree.specs.Words.{kinds_of, flat};
+ghost use Rattle.c_tree.specs.Words.{kinds_of, flat, spelled_comma};
 ghost use Rattle.c_tree.specs.Statements.{spell_any, spell_condition, spell_for_head, spell_label, spell_init, spell_next_init, spell_equals_init, spell_init_declarator, spell_next_init_declarator, spell_declared, spell_declaration, spell_statement, spell_switch_item, spell_arm, spell_block, spell_else_arm, spell_if_chain, spell_otherwise, spell_function, spell_item};
-ghost use Rattle.c_tree.specs.Programs.{spelled_comma, spelled_unit};
+ghost use Rattle.c_tree.specs.Programs.{spelled_unit};
 ghost use Rattle.c_tree.specs.ProgramViews.{unit_of};
 
 use crate::expression::Expr;
-use crate::marks::{punct, text, word};
+use crate::marks::{comma, punct, text, word};
 use crate::spelling::{put_assign, put_cond, put_declarator, put_expr, put_specs};
 use crate::statement::{
     Arm, Block, Condition, Declaration, Declared, ElseArm, EqualsInit, ForHead, Function, IfChain,
@@ -71,20 +71,10 @@ fn put_label(out: &mut Vec<TokKind>, label: &Label) -> Result<(), AllocError>
 }
 
 #[tactic(auto, using(std::proofs::lemmas::List::append_assoc, crate::proofs::Append::kinds_append))]
-fn put_comma(out: &mut Vec<TokKind>, comma: &Option<u32>) -> Result<(), AllocError>
-    ensures { IfOk result (λ _. out.new.items ≡ out.old.items ++ kinds_of (spelled_comma comma.now)) }
+fn put_list_end(out: &mut Vec<TokKind>, last_comma: &Option<u32>) -> Result<(), AllocError>
+    ensures { IfOk result (λ _. out.new.items ≡ out.old.items ++ (kinds_of (spelled_comma last_comma.now) ++ kinds.Punct RightBrace ∷ [])) }
 {
-    match comma {
-        Some(_) => punct(out, Punct::Comma),
-        None => Ok(()),
-    }
-}
-
-#[tactic(auto, using(std::proofs::lemmas::List::append_assoc, crate::proofs::Append::kinds_append))]
-fn put_list_end(out: &mut Vec<TokKind>, comma: &Option<u32>) -> Result<(), AllocError>
-    ensures { IfOk result (λ _. out.new.items ≡ out.old.items ++ (kinds_of (spelled_comma comma.now) ++ kinds.Punct RightBrace ∷ [])) }
-{
-    put_comma(out, comma)?;
+    comma(out, last_comma)?;
     punct(out, Punct::RightBrace)
 }
 

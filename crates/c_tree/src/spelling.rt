@@ -4,14 +4,14 @@
 
 ghost use Rattle.std.specs.Prelude.{◌≡◌, ◌++◌, IfOk, map};
 ghost use Rattle.c_tree.specs.Words.{kinds_of, flat, spell_pointers};
-ghost use Rattle.c_tree.specs.Spelling.{spell_assign, spell_binary, spell_cast, spell_choice, spell_cond, spell_declarator, spell_expr, spell_member, spell_next_assign, spell_next_declarator, spell_next_operand, spell_next_param, spell_operand, spell_param, spell_postfix, spell_postfix_suffix, spell_prefix, spell_primary, spell_spec, spell_specs, spell_struct_body, spell_suffix, spell_target, spell_type_name};
+ghost use Rattle.c_tree.specs.Spelling.{spell_assign, spell_binary, spell_cast, spell_choice, spell_cond, spell_declarator, spell_expr, spell_member, spell_next_assign, spell_next_declarator, spell_next_operand, spell_next_param, spell_operand, spell_param, spell_postfix, spell_postfix_suffix, spell_prefix, spell_primary, spell_spec, spell_specs, spell_enum_body, spell_enumerator, spell_next_enumerator, spell_struct_body, spell_suffix, spell_target, spell_type_name};
 
 use crate::expression::{
-    Assign, Binary, Cast, Choice, Cond, Declarator, Expr, Member, NextAssign, NextDeclarator,
-    NextOperand, NextParam, Operand, Param, Postfix, PostfixSuffix, Prefix, Primary, Spec, Specs,
-    StructBody, Suffix, Target, TypeName,
+    Assign, Binary, Cast, Choice, Cond, Declarator, EnumBody, Enumerator, Expr, Member, NextAssign,
+    NextDeclarator, NextEnumerator, NextOperand, NextParam, Operand, Param, Postfix, PostfixSuffix,
+    Prefix, Primary, Spec, Specs, StructBody, Suffix, Target, TypeName,
 };
-use crate::marks::{constant, name, pointers, punct, tag, word};
+use crate::marks::{comma, constant, name, pointers, punct, tag, type_name, word};
 use c_token::{Keyword, Punct, TokKind};
 use std::alloc::AllocError;
 
@@ -29,17 +29,66 @@ pub fn put_specs(out: &mut Vec<TokKind>, specs: &Specs) -> Result<(), AllocError
 }
 
 #[cycle(spelling)]
-#[tactic(auto, using(std::proofs::lemmas::List::append_assoc, crate::proofs::Append::kinds_append, crate::proofs::Views::see_spec_word, crate::proofs::Views::see_spec_reference, crate::proofs::Views::see_spec_body))]
+#[tactic(auto, using(std::proofs::lemmas::List::append_assoc, crate::proofs::Append::kinds_append, crate::proofs::Views::see_spec_word, crate::proofs::Views::see_spec_reference, crate::proofs::Views::see_spec_body, crate::proofs::Views::see_spec_type_name, crate::proofs::Views::see_spec_enum_reference, crate::proofs::Views::see_spec_enum_body))]
 fn put_spec(out: &mut Vec<TokKind>, spec: &Spec) -> Result<(), AllocError>
     ensures { IfOk result (λ _. out.new.items ≡ out.old.items ++ kinds_of (spell_spec spec.now)) }
 {
     match spec {
         Spec::Word(found) => word(out, found.keyword),
+        Spec::TypeName(_) => type_name(out),
         Spec::Reference { .. } => {
             word(out, Keyword::Struct)?;
             name(out)
         }
         Spec::Body(body) => put_struct_body(out, body),
+        Spec::EnumReference { .. } => {
+            word(out, Keyword::Enum)?;
+            name(out)
+        }
+        Spec::EnumBody(body) => put_enum_body(out, body),
+    }
+}
+
+#[cycle(spelling)]
+#[tactic(auto, using(std::proofs::lemmas::List::append_assoc, crate::proofs::Append::kinds_append, crate::proofs::Views::see_enum_body))]
+fn put_enum_body(out: &mut Vec<TokKind>, enum_body: &EnumBody) -> Result<(), AllocError>
+    ensures { IfOk result (λ _. out.new.items ≡ out.old.items ++ kinds_of (spell_enum_body enum_body.now)) }
+{
+    word(out, Keyword::Enum)?;
+    tag(out, &enum_body.tag)?;
+    punct(out, Punct::LeftBrace)?;
+    put_enumerator(out, &enum_body.first)?;
+    for next in &enum_body.others {
+        put_next_enumerator(out, next)?;
+    }
+    comma(out, &enum_body.last_comma)?;
+    punct(out, Punct::RightBrace)
+}
+
+#[cycle(spelling)]
+#[tactic(auto, using(std::proofs::lemmas::List::append_assoc, crate::proofs::Append::kinds_append, crate::proofs::Views::see_next_enumerator))]
+fn put_next_enumerator(
+    out: &mut Vec<TokKind>,
+    next_enumerator: &NextEnumerator,
+) -> Result<(), AllocError>
+    ensures { IfOk result (λ _. out.new.items ≡ out.old.items ++ kinds_of (spell_next_enumerator next_enumerator.now)) }
+{
+    punct(out, Punct::Comma)?;
+    put_enumerator(out, &next_enumerator.enumerator)
+}
+
+#[cycle(spelling)]
+#[tactic(auto, using(std::proofs::lemmas::List::append_assoc, crate::proofs::Append::kinds_append, crate::proofs::Views::see_enumerator_bare, crate::proofs::Views::see_enumerator_valued))]
+fn put_enumerator(out: &mut Vec<TokKind>, enumerator: &Enumerator) -> Result<(), AllocError>
+    ensures { IfOk result (λ _. out.new.items ≡ out.old.items ++ kinds_of (spell_enumerator enumerator.now)) }
+{
+    match enumerator {
+        Enumerator::Bare(_) => name(out),
+        Enumerator::Valued { value, .. } => {
+            name(out)?;
+            punct(out, Punct::Assign)?;
+            put_cond(out, value)
+        }
     }
 }
 

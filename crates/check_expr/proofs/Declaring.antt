@@ -1,12 +1,12 @@
 -- Declarators, part by part: each clause of the rules, and lists from their front.
-use Rattle.std.proofs.Common.{◌≡◌, ℕ, ◌+◌, ◌<◌, ◌≤◌, Bool, true, false, List, [], ◌∷◌, ◌++◌, length, drop, map, Result, Ok, Err, refl, sym, ap, subst, ◌∙◌, append_assoc, zero, suc, arith}
+use Rattle.std.proofs.Common.{◌≡◌, ℕ, ◌+◌, ◌<◌, ◌≤◌, Bool, true, false, List, [], ◌∷◌, ◌++◌, length, drop, map, Option, Result, Ok, Err, refl, sym, ap, subst, ◌∙◌, append_assoc, zero, suc, arith}
 use Rattle.std.specs.Prelude.{◌==◌}
 use Rattle.std.proofs.lemmas.Bool.{eqb-false}
 use Rattle.std.proofs.Math.ListN.{get_or}
 use Rattle.std.proofs.lemmas.List.{drop_more, drop_all, append-nil}
 use Rattle.c_tree.specs.Lists.{more_specs, more_members, more_declarators, suffixes_of, more_params}
 use Rattle.c_tree.specs.Trees as tree
-use Rattle.c_tree.specs.Trees.{Tree, SpecTrees, SpecTree, MoreSpecs, MemberTree, MoreMembers, DeclaratorTree, MoreDeclarators, SuffixTree, SuffixTrees, ParamTree, MoreParams, TypeTree}
+use Rattle.c_tree.specs.Trees.{Tree, SpecTrees, SpecTree, MoreSpecs, MemberTree, MoreMembers, DeclaratorTree, MoreDeclarators, SuffixTree, SuffixTrees, ParamTree, MoreParams, TypeTree, EnumeratorTree, MoreEnumerators}
 use Rattle.c_tree.specs.Views.{spec_of, member_of, next_declarator_of, suffix_of, next_param_of}
 use Rattle.c_tree.specs.Words.{Symbol, Symbols, keyed}
 use Rattle.c_tree.specs.declared.expression.Spec.{Spec}
@@ -21,18 +21,22 @@ use Rattle.type_rules.specs.Declarators.{Context, of_member, of_param, body_open
 use Rattle.type_rules.specs.Declarators as rule
 use Rattle.type_rules.specs.Faults as kind
 use Rattle.type_rules.specs.Faults.{Fault}
-use Rattle.type_rules.specs.Known.{Known, Rule, Open, Closed, given, go_on}
+use Rattle.type_rules.specs.Known.{Scope, Known, Rule, Open, Closed, given, tried, go_on}
 use Rattle.type_rules.specs.Names.{enter_list, leave_list, in_file}
 use Rattle.type_rules.specs.Outlines.{Param, Made, ArrayMade, FunctionMade, Outline, object_outline, outlined, param_outlined, param_rule, member_rule, declarator_line}
 use Rattle.type_rules.specs.Rows.{is_absent, progress_of, set_progress}
-use Rattle.type_rules.specs.Specifiers.{Gathered, OfTypeName, nothing_gathered, with_structure, Specified, specifiers, specs_line, spec_line}
+use Rattle.type_rules.specs.Specifiers as rule_specifiers
+use Rattle.type_rules.specs.Specifiers.{Gathered, OfTypeName, nothing_gathered, StructBase, EnumBase, with_base, Specified, specifiers, specs_line, spec_line}
+use Rattle.type_rules.specs.TypeNames as names
 use Rattle.type_rules.specs.TypeNames.{with_pointers, type_named, named_spec, more_named_specs}
 use Rattle.type_rules.specs.Constants.{array_length}
 use Rattle.c_typed.specs.declared.types.Qualified.{Qualified}
-use Rattle.check_expr.specs.Gathering.{GathersTo, kept_of, structured, worded}
-use Rattle.check_expr.specs.Lists.{body_rule}
+use Rattle.check_expr.specs.Gathering.{GathersTo, base_of, kept_of, based, worded}
+use Rattle.check_expr.specs.Lists.{body_rule, enum_rule}
+use Rattle.check_expr.specs.declared.specifiers.Base.{Base}
+use Rattle.check_expr.specs.declared.specifiers.Base.TheVariants as bases
 use Rattle.check_expr.specs.declared.specifiers.Words.{Words}
-use Rattle.check_expr.proofs.Gathering.{kept_structure, kept_word}
+use Rattle.check_expr.proofs.Gathering.{kept_base, kept_word}
 use Rattle.check_expr.proofs.Outlining.{refused_through, go_on_both}
 
 -- ---- a list at its front, and at its end
@@ -98,8 +102,11 @@ specs_end xs i context le g k = at_end spec_of (λ l. rest_specs l context g k) 
 
 -- ---- specifiers of names of types
 
+abbrev pub after_named : Symbols → Specified → Rule Qualified
+after_named pointers base = λ k. go_on (λ (x : Known). with_pointers pointers base.ty) (tried ((base.incomplete, kind.Incomplete) ∷ []) base.line k)
+
 abbrev pub finish_name : SpecTrees → Symbols → Gathered → Rule Qualified
-finish_name t pointers g = λ known. go_on (λ (base : Specified). with_pointers pointers base.ty) (specifiers OfTypeName g (specs_line t) known)
+finish_name t pointers g = λ known. go_on (after_named pointers) (specifiers OfTypeName g (specs_line t) known)
 
 abbrev pub rest_names : List SpecTree → Gathered → Rule Gathered
 rest_names ss g = more_named_specs (more_specs ss) g
@@ -120,23 +127,23 @@ names_end xs i le g k = at_end spec_of (λ l. rest_names l g k) xs i le
 
 -- ---- a specifier with a structure
 
-pub reference_given : (line : ℕ) (n : Symbol) (context : Context) (g : Gathered) (number : ℕ) (known after : Known) → structure_of context n.bytes line known ≡ Ok (number, after) → spec_rule (tree.Tagged line n) context g known ≡ Ok (with_structure number g, after)
+pub reference_given : (line : ℕ) (n : Symbol) (context : Context) (g : Gathered) (number : ℕ) (known after : Known) → structure_of context n.bytes line known ≡ Ok (number, after) → spec_rule (tree.Tagged line n) context g known ≡ Ok (with_base (StructBase number) g, after)
 unfolding spec_rule
-reference_given line n context g number known after h = ap (go_on (λ (x : ℕ). given (with_structure x g))) h
+reference_given line n context g number known after h = ap (go_on (λ (x : ℕ). given (with_base (StructBase x) g))) h
 
 pub reference_refused : (line : ℕ) (n : Symbol) (context : Context) (g : Gathered) (known : Known) (e : CheckError) → Refuses e (structure_of context n.bytes line known) → Refuses e (spec_rule (tree.Tagged line n) context g known)
 unfolding spec_rule
-reference_refused line n context g known e h = refused_through e (λ (x : ℕ). given (with_structure x g)) (structure_of context n.bytes line known) h
+reference_refused line n context g known e h = refused_through e (λ (x : ℕ). given (with_base (StructBase x) g)) (structure_of context n.bytes line known) h
 
 body_split : (line : ℕ) (tag : Symbols) (o : ℕ) (m : MemberTree) (ms : MoreMembers) (c : ℕ) (context : Context) (g : Gathered) (known : Known)
-    → spec_rule (tree.Body line tag o m ms c) context g known ≡ go_on (λ (number : ℕ) (k : Known). go_on (λ (x : Known). given (with_structure number g)) (body_rule (tree.Body line tag o m ms c) number k)) (body_opened context tag line known)
+    → spec_rule (tree.Body line tag o m ms c) context g known ≡ go_on (λ (number : ℕ) (k : Known). go_on (λ (x : Known). given (with_base (StructBase number) g)) (body_rule (tree.Body line tag o m ms c) number k)) (body_opened context tag line known)
 unfolding spec_rule
 body_split line tag o m ms c context g known = by_opened (body_opened context tag line known) where
-  by_members : (number : ℕ) (said : Result (Known × Known) Fault) → go_on (λ (x : Known) (k : Known). go_on (λ (y : Known) (j : Known). go_on (λ (z : Known). given (with_structure number g)) (set_progress number Closed j)) (rule.more_members ms number k)) said ≡ go_on (λ (x : Known). given (with_structure number g)) (go_on (λ (x : Known) (k : Known). go_on (λ (y : Known). set_progress number Closed) (rule.more_members ms number k)) said)
+  by_members : (number : ℕ) (said : Result (Known × Known) Fault) → go_on (λ (x : Known) (k : Known). go_on (λ (y : Known) (j : Known). go_on (λ (z : Known). given (with_base (StructBase number) g)) (set_progress number Closed j)) (rule.more_members ms number k)) said ≡ go_on (λ (x : Known). given (with_base (StructBase number) g)) (go_on (λ (x : Known) (k : Known). go_on (λ (y : Known). set_progress number Closed) (rule.more_members ms number k)) said)
   by_members number (Err fault) = refl
-  by_members number (Ok x) = sym (go_on_both (λ (y : Known). set_progress number Closed) (λ (z : Known). given (with_structure number g)) (rule.more_members ms number x.1))
+  by_members number (Ok x) = sym (go_on_both (λ (y : Known). set_progress number Closed) (λ (z : Known). given (with_base (StructBase number) g)) (rule.more_members ms number x.1))
 
-  by_opened : (said : Result (ℕ × Known) Fault) → go_on (λ (number : ℕ) (k : Known). go_on (λ (x : Known) (k : Known). go_on (λ (y : Known) (j : Known). go_on (λ (z : Known). given (with_structure number g)) (set_progress number Closed j)) (rule.more_members ms number k)) (members m number k)) said ≡ go_on (λ (number : ℕ) (k : Known). go_on (λ (x : Known). given (with_structure number g)) (body_rule (tree.Body line tag o m ms c) number k)) said
+  by_opened : (said : Result (ℕ × Known) Fault) → go_on (λ (number : ℕ) (k : Known). go_on (λ (x : Known) (k : Known). go_on (λ (y : Known) (j : Known). go_on (λ (z : Known). given (with_base (StructBase number) g)) (set_progress number Closed j)) (rule.more_members ms number k)) (members m number k)) said ≡ go_on (λ (number : ℕ) (k : Known). go_on (λ (x : Known). given (with_base (StructBase number) g)) (body_rule (tree.Body line tag o m ms c) number k)) said
   by_opened (Err fault) = refl
   by_opened (Ok x) = by_members x.0 (members m x.0 x.1)
 
@@ -218,10 +225,10 @@ fields_end xs i s number said here le goes = goes ∙ at_end next_declarator_of 
 pub field_split : (pointers : Symbols) (n : Symbol) (ss : SuffixTrees) (s : Specified) (number : ℕ) (known : Known) → field (tree.Declares pointers n ss) s number known ≡ go_on (λ (o : Outline). member_rule number o n.bytes (declarator_line pointers n)) (outline_of (tree.Declares pointers n ss) s false known)
 unfolding field
 field_split pointers n ss s number known = by_base (with_pointers pointers s.ty known) where
-  by_made : (base : Qualified) (said : Result (List Made × Known) Fault) → go_on (λ (made : List Made) (k : Known). go_on (λ (o : Outline). member_rule number o n.bytes (declarator_line pointers n)) (outlined made (object_outline base) k)) said ≡ go_on (λ (o : Outline). member_rule number o n.bytes (declarator_line pointers n)) (go_on (λ (made : List Made). outlined made (object_outline base)) said)
-  by_made base said = sym (go_on_both (λ (made : List Made). outlined made (object_outline base)) (λ (o : Outline). member_rule number o n.bytes (declarator_line pointers n)) said)
+  by_made : (base : Qualified) (said : Result (List Made × Known) Fault) → go_on (λ (made : List Made) (k : Known). go_on (λ (o : Outline). member_rule number o n.bytes (declarator_line pointers n)) (outlined made (object_outline base s.incomplete) k)) said ≡ go_on (λ (o : Outline). member_rule number o n.bytes (declarator_line pointers n)) (go_on (λ (made : List Made). outlined made (object_outline base s.incomplete)) said)
+  by_made base said = sym (go_on_both (λ (made : List Made). outlined made (object_outline base s.incomplete)) (λ (o : Outline). member_rule number o n.bytes (declarator_line pointers n)) said)
 
-  by_base : (said : Result (Qualified × Known) Fault) → go_on (λ (base : Qualified) (j : Known). go_on (λ (made : List Made) (k : Known). go_on (λ (o : Outline). member_rule number o n.bytes (declarator_line pointers n)) (outlined made (object_outline base) k)) (suffixes ss false j)) said ≡ go_on (λ (o : Outline). member_rule number o n.bytes (declarator_line pointers n)) (go_on (λ (base : Qualified) (j : Known). go_on (λ (made : List Made). outlined made (object_outline base)) (suffixes ss false j)) said)
+  by_base : (said : Result (Qualified × Known) Fault) → go_on (λ (base : Qualified) (j : Known). go_on (λ (made : List Made) (k : Known). go_on (λ (o : Outline). member_rule number o n.bytes (declarator_line pointers n)) (outlined made (object_outline base s.incomplete) k)) (suffixes ss false j)) said ≡ go_on (λ (o : Outline). member_rule number o n.bytes (declarator_line pointers n)) (go_on (λ (base : Qualified) (j : Known). go_on (λ (made : List Made). outlined made (object_outline base s.incomplete)) (suffixes ss false j)) said)
   by_base (Err fault) = refl
   by_base (Ok x) = by_made x.0 (suffixes ss false x.1)
 
@@ -235,17 +242,17 @@ field_refused t pointers n ss s number known e is h = subst (λ t. Refuses e (fi
 
 -- ---- what a declarator makes of a type
 
-abbrev pub after_base : SuffixTrees → Bool → Qualified → Rule Outline
-after_base ss bodies base = λ k. go_on (λ (made : List Made). outlined made (object_outline base)) (suffixes ss bodies k)
+abbrev pub after_base : SuffixTrees → Bool → Bool → Qualified → Rule Outline
+after_base ss bodies incomplete base = λ k. go_on (λ (made : List Made). outlined made (object_outline base incomplete)) (suffixes ss bodies k)
 
-pub outline_ends : (t : DeclaratorTree) (pointers : Symbols) (n : Symbol) (ss : SuffixTrees) (s : Specified) (bodies : Bool) (base : Qualified) (made : List Made) (known mid here : Known) → t ≡ tree.Declares pointers n ss → with_pointers pointers s.ty known ≡ Ok (base, mid) → suffixes ss bodies mid ≡ Ok (made, here) → outline_of t s bodies known ≡ outlined made (object_outline base) here
-outline_ends t pointers n ss s bodies base made known mid here e p m = ap (λ t. outline_of t s bodies known) e ∙ ap (go_on (after_base ss bodies)) p ∙ ap (go_on (λ (made : List Made). outlined made (object_outline base))) m
+pub outline_ends : (t : DeclaratorTree) (pointers : Symbols) (n : Symbol) (ss : SuffixTrees) (s : Specified) (bodies : Bool) (base : Qualified) (made : List Made) (known mid here : Known) → t ≡ tree.Declares pointers n ss → with_pointers pointers s.ty known ≡ Ok (base, mid) → suffixes ss bodies mid ≡ Ok (made, here) → outline_of t s bodies known ≡ outlined made (object_outline base s.incomplete) here
+outline_ends t pointers n ss s bodies base made known mid here e p m = ap (λ t. outline_of t s bodies known) e ∙ ap (go_on (after_base ss bodies s.incomplete)) p ∙ ap (go_on (λ (made : List Made). outlined made (object_outline base s.incomplete))) m
 
 pub outline_unpointed : (t : DeclaratorTree) (pointers : Symbols) (n : Symbol) (ss : SuffixTrees) (s : Specified) (bodies : Bool) (known : Known) (e : CheckError) → t ≡ tree.Declares pointers n ss → Refuses e (with_pointers pointers s.ty known) → Refuses e (outline_of t s bodies known)
-outline_unpointed t pointers n ss s bodies known e is h = subst (λ t. Refuses e (outline_of t s bodies known)) (sym is) (refused_through e (after_base ss bodies) (with_pointers pointers s.ty known) h)
+outline_unpointed t pointers n ss s bodies known e is h = subst (λ t. Refuses e (outline_of t s bodies known)) (sym is) (refused_through e (after_base ss bodies s.incomplete) (with_pointers pointers s.ty known) h)
 
 pub outline_unmade : (t : DeclaratorTree) (pointers : Symbols) (n : Symbol) (ss : SuffixTrees) (s : Specified) (bodies : Bool) (base : Qualified) (known mid : Known) (e : CheckError) → t ≡ tree.Declares pointers n ss → with_pointers pointers s.ty known ≡ Ok (base, mid) → Refuses e (suffixes ss bodies mid) → Refuses e (outline_of t s bodies known)
-outline_unmade t pointers n ss s bodies base known mid e is p h = subst (λ t. Refuses e (outline_of t s bodies known)) (sym is) (subst (Refuses e) (sym (ap (go_on (after_base ss bodies)) p)) (refused_through e (λ (made : List Made). outlined made (object_outline base)) (suffixes ss bodies mid) h))
+outline_unmade t pointers n ss s bodies base known mid e is p h = subst (λ t. Refuses e (outline_of t s bodies known)) (sym is) (subst (Refuses e) (sym (ap (go_on (after_base ss bodies s.incomplete)) p)) (refused_through e (λ (made : List Made). outlined made (object_outline base s.incomplete)) (suffixes ss bodies mid) h))
 
 -- ---- suffixes
 
@@ -303,16 +310,16 @@ pub suffix_unlengthed : (opening : ℕ) (t : Tree) (closing : ℕ) (bodies : Boo
 unfolding suffix
 suffix_unlengthed opening t closing bodies known e h = refused_through e (λ (n : ℕ). given (ArrayMade n)) (array_length t known) h
 
-pub suffix_empty : (opening closing : ℕ) (bodies : Bool) (k : Known) → suffix (tree.Empty opening closing) bodies k ≡ Ok (FunctionMade [], k)
+pub suffix_empty : (opening closing : ℕ) (bodies : Bool) (k : Known) → suffix (tree.Empty opening closing) bodies k ≡ Ok (FunctionMade [] [], k)
 unfolding suffix
 suffix_empty opening closing bodies k = refl
 
-pub suffix_void : (opening word closing : ℕ) (bodies : Bool) (k : Known) → suffix (tree.VoidOnly opening word closing) bodies k ≡ Ok (FunctionMade [], k)
+pub suffix_void : (opening word closing : ℕ) (bodies : Bool) (k : Known) → suffix (tree.VoidOnly opening word closing) bodies k ≡ Ok (FunctionMade [] [], k)
 unfolding suffix
 suffix_void opening word closing bodies k = refl
 
 abbrev pub list_closed : List Param → Rule Made
-list_closed all = λ k. go_on (λ (x : Known). given (FunctionMade all)) (leave_list k)
+list_closed all = λ k. go_on (λ (scope : Scope). given (FunctionMade all scope)) (leave_list k)
 
 abbrev pub list_more : MoreParams → Bool → List Param → Rule Made
 list_more ps bodies first = λ k. go_on list_closed (rule.more_params ps bodies first k)
@@ -324,8 +331,8 @@ params_split : (opening : ℕ) (p : ParamTree) (ps : MoreParams) (closing : ℕ)
 unfolding suffix
 params_split opening p ps closing bodies known = refl
 
-pub params_whole : (opening : ℕ) (p : ParamTree) (ps : MoreParams) (closing : ℕ) (bodies : Bool) (first all : List Param) (known inner mid end after : Known) → enter_list known ≡ Ok (inner, inner) → param p bodies [] inner ≡ Ok (first, mid) → rule.more_params ps bodies first mid ≡ Ok (all, end) → leave_list end ≡ Ok (after, after) → suffix (tree.Params opening p ps closing) bodies known ≡ Ok (FunctionMade all, after)
-params_whole opening p ps closing bodies first all known inner mid end after e f m l = params_split opening p ps closing bodies known ∙ ap (go_on (list_begun p ps bodies)) e ∙ ap (go_on (list_more ps bodies)) f ∙ ap (go_on list_closed) m ∙ ap (go_on (λ (x : Known). given (FunctionMade all))) l
+pub params_whole : (opening : ℕ) (p : ParamTree) (ps : MoreParams) (closing : ℕ) (bodies : Bool) (first all : List Param) (scope : Scope) (known inner mid end after : Known) → enter_list known ≡ Ok (inner, inner) → param p bodies [] inner ≡ Ok (first, mid) → rule.more_params ps bodies first mid ≡ Ok (all, end) → leave_list end ≡ Ok (scope, after) → suffix (tree.Params opening p ps closing) bodies known ≡ Ok (FunctionMade all scope, after)
+params_whole opening p ps closing bodies first all scope known inner mid end after e f m l = params_split opening p ps closing bodies known ∙ ap (go_on (list_begun p ps bodies)) e ∙ ap (go_on (list_more ps bodies)) f ∙ ap (go_on list_closed) m ∙ ap (go_on (λ (names : Scope). given (FunctionMade all names))) l
 
 pub params_closed : (opening : ℕ) (p : ParamTree) (ps : MoreParams) (closing : ℕ) (bodies : Bool) (known : Known) (e : CheckError) → Refuses e (enter_list known) → Refuses e (suffix (tree.Params opening p ps closing) bodies known)
 params_closed opening p ps closing bodies known e h = subst (Refuses e) (sym (params_split opening p ps closing bodies known)) (refused_through e (list_begun p ps bodies) (enter_list known) h)
@@ -376,7 +383,7 @@ abbrev pub param_ends : Shape → List Param → Specified → Outline → Rule 
 param_ends p before said o = param_rule before said o p.name (p.line said)
 
 abbrev pub param_made : Shape → List Param → Specified → Qualified → List Made → Rule (List Param)
-param_made p before said base made = λ k. go_on (param_ends p before said) (param_outlined made (object_outline base) k)
+param_made p before said base made = λ k. go_on (param_ends p before said) (param_outlined made (object_outline base said.incomplete) k)
 
 abbrev pub param_pointed : Shape → Bool → List Param → Specified → Qualified → Rule (List Param)
 param_pointed p bodies before said base = λ k. go_on (param_made p before said base) (suffixes p.suffixed bodies k)
@@ -401,7 +408,7 @@ pub param_unnamed : (s : SpecTrees) (pointers : Symbols) (ss : SuffixTrees) (bod
 unfolding param
 param_unnamed s pointers ss bodies before k = refl
 
-pub param_whole : (p : Shape) (bodies : Bool) (before : List Param) (said : Specified) (base : Qualified) (made : List Made) (o : Outline) (known one two three four : Known) → specified p.specs (of_param bodies) known ≡ Ok (said, one) → with_pointers p.pointers said.ty one ≡ Ok (base, two) → suffixes p.suffixed bodies two ≡ Ok (made, three) → param_outlined made (object_outline base) three ≡ Ok (o, four) → shaped p bodies before known ≡ param_rule before said o p.name (p.line said) four
+pub param_whole : (p : Shape) (bodies : Bool) (before : List Param) (said : Specified) (base : Qualified) (made : List Made) (o : Outline) (known one two three four : Known) → specified p.specs (of_param bodies) known ≡ Ok (said, one) → with_pointers p.pointers said.ty one ≡ Ok (base, two) → suffixes p.suffixed bodies two ≡ Ok (made, three) → param_outlined made (object_outline base said.incomplete) three ≡ Ok (o, four) → shaped p bodies before known ≡ param_rule before said o p.name (p.line said) four
 param_whole p bodies before said base made o known one two three four a b c d = ap (go_on (param_said p bodies before)) a ∙ ap (go_on (param_pointed p bodies before said)) b ∙ ap (go_on (param_made p before said base)) c ∙ ap (go_on (param_ends p before said)) d
 
 pub param_unsaid : (p : Shape) (bodies : Bool) (before : List Param) (known : Known) (e : CheckError) → Refuses e (specified p.specs (of_param bodies) known) → Refuses e (shaped p bodies before known)
@@ -413,8 +420,8 @@ param_unpointed p bodies before said known one e a h = subst (Refuses e) (sym (a
 pub param_unmade : (p : Shape) (bodies : Bool) (before : List Param) (said : Specified) (base : Qualified) (known one two : Known) (e : CheckError) → specified p.specs (of_param bodies) known ≡ Ok (said, one) → with_pointers p.pointers said.ty one ≡ Ok (base, two) → Refuses e (suffixes p.suffixed bodies two) → Refuses e (shaped p bodies before known)
 param_unmade p bodies before said base known one two e a b h = subst (Refuses e) (sym (ap (go_on (param_said p bodies before)) a ∙ ap (go_on (param_pointed p bodies before said)) b)) (refused_through e (param_made p before said base) (suffixes p.suffixed bodies two) h)
 
-pub param_unlined : (p : Shape) (bodies : Bool) (before : List Param) (said : Specified) (base : Qualified) (made : List Made) (known one two three : Known) (e : CheckError) → specified p.specs (of_param bodies) known ≡ Ok (said, one) → with_pointers p.pointers said.ty one ≡ Ok (base, two) → suffixes p.suffixed bodies two ≡ Ok (made, three) → Refuses e (param_outlined made (object_outline base) three) → Refuses e (shaped p bodies before known)
-param_unlined p bodies before said base made known one two three e a b c h = subst (Refuses e) (sym (ap (go_on (param_said p bodies before)) a ∙ ap (go_on (param_pointed p bodies before said)) b ∙ ap (go_on (param_made p before said base)) c)) (refused_through e (param_ends p before said) (param_outlined made (object_outline base) three) h)
+pub param_unlined : (p : Shape) (bodies : Bool) (before : List Param) (said : Specified) (base : Qualified) (made : List Made) (known one two three : Known) (e : CheckError) → specified p.specs (of_param bodies) known ≡ Ok (said, one) → with_pointers p.pointers said.ty one ≡ Ok (base, two) → suffixes p.suffixed bodies two ≡ Ok (made, three) → Refuses e (param_outlined made (object_outline base said.incomplete) three) → Refuses e (shaped p bodies before known)
+param_unlined p bodies before said base made known one two three e a b c h = subst (Refuses e) (sym (ap (go_on (param_said p bodies before)) a ∙ ap (go_on (param_pointed p bodies before said)) b ∙ ap (go_on (param_made p before said base)) c)) (refused_through e (param_ends p before said) (param_outlined made (object_outline base said.incomplete) three) h)
 
 -- ---- a body that opens
 
@@ -436,25 +443,59 @@ pub word_given : (t : SpecTree) (word : Word) (context : Context) (g : Gathered)
 unfolding spec_rule
 word_given t word context g w v k e h i = record { gathered = record g { words = word.keyword ∷ g.words }; kept = h ∙ ap (worded word.keyword) i ∙ kept_word word.keyword g; answers = ap (λ t. spec_rule t context g k) e }
 
-pub tag_given : (t : SpecTree) (line : ℕ) (n : Symbol) (context : Context) (g : Gathered) (number : ℕ) (w v : Words) (known after : Known) → t ≡ tree.Tagged line n → structure_of context n.bytes line known ≡ Ok (number, after) → v ≡ structured number w → w ≡ kept_of g → GathersTo v after (spec_rule t context g known)
-tag_given t line n context g number w v known after e s h i = record { gathered = with_structure number g; kept = h ∙ ap (structured number) i ∙ kept_structure number g; answers = ap (λ t. spec_rule t context g known) e ∙ reference_given line n context g number known after s }
+pub tag_given : (t : SpecTree) (line : ℕ) (n : Symbol) (context : Context) (g : Gathered) (number : ℕ) (w v : Words) (known after : Known) → t ≡ tree.Tagged line n → structure_of context n.bytes line known ≡ Ok (number, after) → v ≡ based (bases.Structure number) w → w ≡ kept_of g → GathersTo v after (spec_rule t context g known)
+tag_given t line n context g number w v known after e s h i = record { gathered = with_base (StructBase number) g; kept = h ∙ ap (based (bases.Structure number)) i ∙ kept_base (bases.Structure number) g; answers = ap (λ t. spec_rule t context g known) e ∙ reference_given line n context g number known after s }
 
 pub tag_refused : (t : SpecTree) (line : ℕ) (n : Symbol) (context : Context) (g : Gathered) (known : Known) (e : CheckError) → t ≡ tree.Tagged line n → Refuses e (structure_of context n.bytes line known) → Refuses e (spec_rule t context g known)
 tag_refused t line n context g known e is h = subst (λ t. Refuses e (spec_rule t context g known)) (sym is) (reference_refused line n context g known e h)
 
-pub body_given : (t : SpecTree) (line : ℕ) (tag : Symbols) (o : ℕ) (m : MemberTree) (ms : MoreMembers) (c number : ℕ) (context : Context) (g : Gathered) (w v : Words) (known mid after : Known) → t ≡ tree.Body line tag o m ms c → body_opened context tag line known ≡ Ok (number, mid) → body_rule t number mid ≡ Ok (after, after) → v ≡ structured number w → w ≡ kept_of g → GathersTo v after (spec_rule t context g known)
+pub body_given : (t : SpecTree) (line : ℕ) (tag : Symbols) (o : ℕ) (m : MemberTree) (ms : MoreMembers) (c number : ℕ) (context : Context) (g : Gathered) (w v : Words) (known mid after : Known) → t ≡ tree.Body line tag o m ms c → body_opened context tag line known ≡ Ok (number, mid) → body_rule t number mid ≡ Ok (after, after) → v ≡ based (bases.Structure number) w → w ≡ kept_of g → GathersTo v after (spec_rule t context g known)
 body_given t line tag o m ms c number context g w v known mid after e s b h i = record {
-  gathered = with_structure number g;
-  kept = h ∙ ap (structured number) i ∙ kept_structure number g;
-  answers = ap (λ t. spec_rule t context g known) e ∙ body_split line tag o m ms c context g known ∙ ap (go_on (λ (n : ℕ) (k : Known). go_on (λ (x : Known). given (with_structure n g)) (body_rule (tree.Body line tag o m ms c) n k))) s
-      ∙ ap (λ t. go_on (λ (x : Known). given (with_structure number g)) (body_rule t number mid)) (sym e) ∙ ap (go_on (λ (x : Known). given (with_structure number g))) b;
+  gathered = with_base (StructBase number) g;
+  kept = h ∙ ap (based (bases.Structure number)) i ∙ kept_base (bases.Structure number) g;
+  answers = ap (λ t. spec_rule t context g known) e ∙ body_split line tag o m ms c context g known ∙ ap (go_on (λ (n : ℕ) (k : Known). go_on (λ (x : Known). given (with_base (StructBase n) g)) (body_rule (tree.Body line tag o m ms c) n k))) s
+      ∙ ap (λ t. go_on (λ (x : Known). given (with_base (StructBase number) g)) (body_rule t number mid)) (sym e) ∙ ap (go_on (λ (x : Known). given (with_base (StructBase number) g))) b;
 }
 
 pub body_unopened : (t : SpecTree) (line : ℕ) (tag : Symbols) (o : ℕ) (m : MemberTree) (ms : MoreMembers) (c : ℕ) (context : Context) (g : Gathered) (known : Known) (e : CheckError) → t ≡ tree.Body line tag o m ms c → Refuses e (body_opened context tag line known) → Refuses e (spec_rule t context g known)
-body_unopened t line tag o m ms c context g known e is h = subst (Refuses e) (sym (ap (λ t. spec_rule t context g known) is ∙ body_split line tag o m ms c context g known)) (refused_through e (λ (n : ℕ) (k : Known). go_on (λ (x : Known). given (with_structure n g)) (body_rule (tree.Body line tag o m ms c) n k)) (body_opened context tag line known) h)
+body_unopened t line tag o m ms c context g known e is h = subst (Refuses e) (sym (ap (λ t. spec_rule t context g known) is ∙ body_split line tag o m ms c context g known)) (refused_through e (λ (n : ℕ) (k : Known). go_on (λ (x : Known). given (with_base (StructBase n) g)) (body_rule (tree.Body line tag o m ms c) n k)) (body_opened context tag line known) h)
 
 pub body_unclosed : (t : SpecTree) (line : ℕ) (tag : Symbols) (o : ℕ) (m : MemberTree) (ms : MoreMembers) (c number : ℕ) (context : Context) (g : Gathered) (known mid : Known) (e : CheckError) → t ≡ tree.Body line tag o m ms c → body_opened context tag line known ≡ Ok (number, mid) → Refuses e (body_rule t number mid) → Refuses e (spec_rule t context g known)
-body_unclosed t line tag o m ms c number context g known mid e is s h = subst (Refuses e) (sym (ap (λ t. spec_rule t context g known) is ∙ body_split line tag o m ms c context g known ∙ ap (go_on (λ (n : ℕ) (k : Known). go_on (λ (x : Known). given (with_structure n g)) (body_rule (tree.Body line tag o m ms c) n k))) s)) (refused_through e (λ (x : Known). given (with_structure number g)) (body_rule (tree.Body line tag o m ms c) number mid) (subst (λ t. Refuses e (body_rule t number mid)) is h))
+body_unclosed t line tag o m ms c number context g known mid e is s h = subst (Refuses e) (sym (ap (λ t. spec_rule t context g known) is ∙ body_split line tag o m ms c context g known ∙ ap (go_on (λ (n : ℕ) (k : Known). go_on (λ (x : Known). given (with_base (StructBase n) g)) (body_rule (tree.Body line tag o m ms c) n k))) s)) (refused_through e (λ (x : Known). given (with_base (StructBase number) g)) (body_rule (tree.Body line tag o m ms c) number mid) (subst (λ t. Refuses e (body_rule t number mid)) is h))
+
+-- ---- the name of a type, and enumerations
+
+abbrev pub with_base_in : Gathered → rule_specifiers.Base → Rule Gathered
+with_base_in g base = given (with_base base g)
+
+pub base_given : (said : Result (rule_specifiers.Base × Known) Fault) (g : Gathered) (base : Base) (w v : Words) (after : Known) → said ≡ Ok (base_of base, after) → v ≡ based base w → w ≡ kept_of g → GathersTo v after (go_on (with_base_in g) said)
+base_given said g base w v after b h i = record { gathered = with_base (base_of base) g; kept = h ∙ ap (based base) i ∙ kept_base base g; answers = ap (go_on (with_base_in g)) b }
+
+pub base_refused : (said : Result (rule_specifiers.Base × Known) Fault) (g : Gathered) (e : CheckError) → Refuses e said → Refuses e (go_on (with_base_in g) said)
+base_refused said g e h = refused_through e (with_base_in g) said h
+
+pub named_type_given : (s : Symbol) (context : Context) (g : Gathered) (k : Known) → spec_rule (tree.NamedType s) context g k ≡ rule_specifiers.type_name_rule s g k
+unfolding spec_rule
+named_type_given s context g k = refl
+
+pub enum_tagged_given : (line : ℕ) (n : Symbol) (context : Context) (g : Gathered) (k : Known) → spec_rule (tree.EnumTagged line n) context g k ≡ names.enum_rule n line g k
+unfolding spec_rule
+enum_tagged_given line n context g k = refl
+
+enum_split : (line : ℕ) (tag : Symbols) (o : ℕ) (e : EnumeratorTree) (es : MoreEnumerators) (last : Option ℕ) (c : ℕ) (context : Context) (g : Gathered) (k : Known)
+    → spec_rule (tree.EnumBody line tag o e es last c) context g k ≡ go_on (λ (x : Known). given (with_base EnumBase g)) (rule.enum_body context tag e es line k)
+unfolding spec_rule
+enum_split line tag o e es last c context g k = refl
+
+pub enum_given : (t : SpecTree) (line : ℕ) (tag : Symbols) (o : ℕ) (e : EnumeratorTree) (es : MoreEnumerators) (last : Option ℕ) (c : ℕ) (context : Context) (g : Gathered) (w v : Words) (known after : Known) → t ≡ tree.EnumBody line tag o e es last c → enum_rule t context.bodies known ≡ Ok (after, after) → v ≡ based bases.Enumeration w → w ≡ kept_of g → GathersTo v after (spec_rule t context g known)
+enum_given t line tag o e es last c context g w v known after is b h i = record {
+  gathered = with_base EnumBase g;
+  kept = h ∙ ap (based bases.Enumeration) i ∙ kept_base bases.Enumeration g;
+  answers = ap (λ t. spec_rule t context g known) is ∙ enum_split line tag o e es last c context g known ∙ ap (go_on (λ (x : Known). given (with_base EnumBase g))) (ap (λ t. enum_rule t context.bodies known) (sym is) ∙ b);
+}
+
+pub enum_refused : (t : SpecTree) (line : ℕ) (tag : Symbols) (o : ℕ) (e : EnumeratorTree) (es : MoreEnumerators) (last : Option ℕ) (c : ℕ) (context : Context) (g : Gathered) (known : Known) (error : CheckError) → t ≡ tree.EnumBody line tag o e es last c → Refuses error (enum_rule t context.bodies known) → Refuses error (spec_rule t context g known)
+enum_refused t line tag o e es last c context g known error is h = subst (λ t. Refuses error (spec_rule t context g known)) (sym is) (subst (Refuses error) (sym (enum_split line tag o e es last c context g known)) (refused_through error (λ (x : Known). given (with_base EnumBase g)) (rule.enum_body context tag e es line known) (subst (λ t. Refuses error (enum_rule t context.bodies known)) is h)))
 
 -- ---- a list whose last one is taken
 

@@ -6,3 +6,4 @@ mod Answering
 pub mod Gathering
 pub mod Outlining
 pub mod Declaring
+pub mod Enumerating

@@ -12,6 +12,7 @@ use Rattle.c_tree.specs.declared.word.Word.{Word}
 use Rattle.c_typed.specs.Sameness.{is_void, is_struct}
 use Rattle.c_typed.specs.declared.types.Qualified.{Qualified}
 use Rattle.c_typed.specs.declared.types.Ty.{Ty}
+use Rattle.c_typed.specs.declared.types.Ty.TheVariants.{Void, Int, Pointer, Array, Struct}
 use Rattle.c_operate.specs.Answers.{Refuses, fault_of}
 use Rattle.c_operate.specs.declared.error.CheckError.{CheckError}
 use Rattle.c_operate.specs.declared.error.CheckError.TheVariants as errors
@@ -20,11 +21,11 @@ use Rattle.type_rules.specs.Faults.{Fault}
 use Rattle.type_rules.specs.Known.{Known, Rule, given, go_on, tried, known_here}
 use Rattle.type_rules.specs.Names.{entry_of}
 use Rattle.type_rules.specs.Outlines as rule
-use Rattle.type_rules.specs.Outlines.{Param, Made, ArrayMade, FunctionMade, Declared, ObjectDeclared, FunctionDeclared, Outline, array_behind, behind, outlined, pointer_outline, param_outlined, param_tests, bind_param, param_rule, member_tests, member_rule, is_again, is_function, object_type, declarator_line}
-use Rattle.type_rules.specs.Rows.{plain, pointer_to, array_of, is_complete, fields_of, add_member}
+use Rattle.type_rules.specs.Outlines.{Param, Made, ArrayMade, FunctionMade, Declared, ObjectDeclared, FunctionDeclared, Outline, array_or_part, behind, started, array_started, outlined, pointer_outline, param_outlined, param_tests, bind_param, param_rule, member_tests, member_rule, is_again, is_function, object_type, declarator_line}
+use Rattle.type_rules.specs.Rows.{plain, like, target_of, pointer_to, array_of, is_complete, fields_of, add_member}
 use Rattle.type_rules.specs.Specifiers.{Specified}
 use Rattle.type_rules.specs.TypeNames.{with_pointers}
-use Rattle.check_expr.specs.Lists.{outermost, with_qualifier}
+use Rattle.check_expr.specs.Lists.{outermost, with_qualifier, array_of_type, array_of_declared}
 
 -- ---- one rule behind another
 
@@ -89,11 +90,32 @@ line_none ps n h = ap (λ (o : Option Pointer). line_by o n.line) h ∙ line_see
 
 -- ---- arrays and pointers that suffixes make
 
-pub array_made : (count : ℕ) (o : Outline) (element ty : Qualified) (known after : Known) → array_of element count known ≡ Ok (ty, after) → array_behind count o (ObjectDeclared element) known ≡ Ok (record { declared = ObjectDeclared ty; bad = o.bad || is_void element.ty; incomplete = o.incomplete || not (is_complete after element.ty) }, after)
-array_made count o element ty known after h = ap (go_on (λ (made : Qualified) (k : Known). Ok (record { declared = ObjectDeclared made; bad = o.bad || is_void element.ty; incomplete = o.incomplete || not (is_complete k element.ty) }, k))) h
+pub array_made : (count : ℕ) (o : Outline) (element ty : Qualified) (known after : Known) → array_of element count known ≡ Ok (ty, after) → array_or_part true count o element known ≡ Ok (record o { declared = ObjectDeclared ty; bad = o.bad || is_void element.ty }, after)
+array_made count o element ty known after h = ap (go_on (λ (made : Qualified). given (record o { declared = ObjectDeclared made; bad = o.bad || is_void element.ty }))) h
 
-pub array_refused : (count : ℕ) (o : Outline) (element : Qualified) (known : Known) (e : CheckError) → Refuses e (array_of element count known) → Refuses e (array_behind count o (ObjectDeclared element) known)
-array_refused count o element known e h = refused_through e (λ (made : Qualified) (k : Known). Ok (record { declared = ObjectDeclared made; bad = o.bad || is_void element.ty; incomplete = o.incomplete || not (is_complete k element.ty) }, k)) (array_of element count known) h
+pub array_refused : (count : ℕ) (o : Outline) (element : Qualified) (known : Known) (e : CheckError) → Refuses e (array_of element count known) → Refuses e (array_or_part true count o element known)
+array_refused count o element known e h = refused_through e (λ (made : Qualified). given (record o { declared = ObjectDeclared made; bad = o.bad || is_void element.ty })) (array_of element count known) h
+
+-- a parameter that is an array by the name of its type
+abbrev pub by_array : Outline → Option (Qualified × ℕ) → Rule Outline
+by_array o None known = Ok (o, known)
+by_array o (Some array) known = go_on (λ (made : Ty). given (record o { declared = ObjectDeclared (plain made) })) (pointer_to (like array.0 (target_of known array.1).ty) known)
+
+pub started_by : (o : Outline) (d : Declared) (known : Known) → array_started o d known ≡ by_array o (array_of_declared d) known
+started_by o (ObjectDeclared ty) known = by_type ty.ty where
+  by_type : (t : Ty) → started o ty t known ≡ by_array o (array_of_type t ty) known
+  by_type Void = refl
+  by_type (Int i) = refl
+  by_type (Pointer row) = refl
+  by_type (Array row count size) = refl
+  by_type (Struct number) = refl
+started_by o (FunctionDeclared result params scope) known = refl
+
+pub started_made : (o : Outline) (whole : Qualified) (row : ℕ) (ty : Ty) (known after : Known) → pointer_to (like whole (target_of known row).ty) known ≡ Ok (ty, after) → by_array o (Some (whole, row)) known ≡ Ok (record o { declared = ObjectDeclared (plain ty) }, after)
+started_made o whole row ty known after h = ap (go_on (λ (made : Ty). given (record o { declared = ObjectDeclared (plain made) }))) h
+
+pub started_refused : (o : Outline) (whole : Qualified) (row : ℕ) (known : Known) (e : CheckError) → Refuses e (pointer_to (like whole (target_of known row).ty) known) → Refuses e (by_array o (Some (whole, row)) known)
+started_refused o whole row known e h = refused_through e (λ (made : Ty). given (record o { declared = ObjectDeclared (plain made) })) (pointer_to (like whole (target_of known row).ty) known) h
 
 pub pointer_made : (o : Outline) (element : Qualified) (ty : Ty) (known after : Known) → pointer_to element known ≡ Ok (ty, after) → pointer_outline o (ObjectDeclared element) known ≡ Ok (record o { declared = ObjectDeclared (plain ty) }, after)
 pointer_made o element ty known after h = ap (go_on (λ (made : Ty). given (record o { declared = ObjectDeclared (plain made) }))) h
@@ -115,7 +137,7 @@ outlined_refused all ms m o known e is h = subst (Refuses e) (sym (ap (λ l. out
 
 pub param_first : (m : Made) (ms : List Made) (o : Outline) (known : Known) → param_outlined (m ∷ ms) o known ≡ go_on (outermost m) (outlined ms o known)
 param_first (ArrayMade count) ms o known = refl
-param_first (FunctionMade params) ms o known = refl
+param_first (FunctionMade params scope) ms o known = refl
 
 param_last : (x : Made) (ms : List Made) (m : Made) (o : Outline) (known : Known) → param_outlined (x ∷ (ms ++ m ∷ [])) o known ≡ go_on (param_outlined (x ∷ ms)) (behind m o known)
 param_last x ms m o known = param_first x (ms ++ m ∷ []) o known ∙ ap (go_on (outermost x)) (outlined_last ms m o known) ∙ go_on_both (outlined ms) (outermost x) (behind m o known) ∙ back (behind m o known) where

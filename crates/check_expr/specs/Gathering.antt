@@ -6,17 +6,22 @@ use Rattle.c_token.specs.declared.token.Keyword.{Keyword}
 use Rattle.c_token.specs.declared.token.Keyword.TheVariants as words
 use Rattle.c_operate.specs.Answers.{Refuses}
 use Rattle.c_operate.specs.declared.error.CheckError.{CheckError}
+use Rattle.c_typed.specs.declared.types.Qualified.{Qualified}
 use Rattle.c_typed.specs.declared.types.Ty.{Ty}
-use Rattle.c_typed.specs.declared.types.Ty.TheVariants.{Void, Struct}
+use Rattle.c_typed.specs.declared.types.Ty.TheVariants.{Void}
 use Rattle.type_rules.specs.Faults.{Fault}
 use Rattle.type_rules.specs.Known.{Known}
+use Rattle.type_rules.specs.Specifiers as rule
 use Rattle.type_rules.specs.Specifiers.{Gathered, has, is_orderly, of_int}
+use Rattle.check_expr.specs.declared.specifiers.Base.{Base}
+use Rattle.check_expr.specs.declared.specifiers.Base.TheVariants as bases
+use Rattle.check_expr.specs.declared.specifiers.NamedType.{NamedType}
 use Rattle.check_expr.specs.declared.specifiers.Site.{Site}
 use Rattle.check_expr.specs.declared.specifiers.Site.TheVariants as sites
 use Rattle.check_expr.specs.declared.specifiers.Storage.{Storage}
 use Rattle.check_expr.specs.declared.specifiers.Storage.TheVariants as storages
 use Rattle.check_expr.specs.declared.specifiers.Words.{Words}
-use Rattle.check_expr.specs.Views.{is_static, is_register}
+use Rattle.check_expr.specs.Views.{is_typedef, is_static, is_register}
 
 abbrev pub is_plain : Storage → Bool
 is_plain storages.Plain = true
@@ -28,6 +33,7 @@ is_auto _ = false
 
 -- the last word on storage, which stands first in the list
 abbrev pub storage_after : Keyword → Storage → Storage
+storage_after words.Typedef before = storages.Typedef
 storage_after words.Static before = storages.Static
 storage_after words.Auto before = storages.Auto
 storage_after words.Register before = storages.Register
@@ -37,13 +43,27 @@ abbrev pub storage_in : List Keyword → Storage
 storage_in [] = storages.Plain
 storage_in (w ∷ ws) = storage_after w (storage_in ws)
 
-abbrev pub first_of : List ℕ → Option ℕ
+-- what names a type without a word, as the rules have it, and as the code has it
+abbrev pub base_of : Base → rule.Base
+base_of (bases.Structure number) = rule.StructBase number
+base_of bases.Enumeration = rule.EnumBase
+base_of (bases.Named ty incomplete) = rule.NamedBase ty incomplete
+
+abbrev pub base_kept : rule.Base → Base
+base_kept (rule.StructBase number) = bases.Structure number
+base_kept rule.EnumBase = bases.Enumeration
+base_kept (rule.NamedBase ty incomplete) = bases.Named ty incomplete
+
+abbrev pub first_of : List rule.Base → Option Base
 first_of [] = None
-first_of (n ∷ ns) = Some n
+first_of (b ∷ bs) = Some (base_kept b)
+
+abbrev pub named_of : NamedType → rule.Named
+named_of n = record { ty = n.ty; incomplete = n.incomplete }
 
 -- What is kept of the specifiers so far.
 abbrev pub kept_of : Gathered → Words
-kept_of g = record { void = has g.words words.Void; char = has g.words words.Char; short = has g.words words.Short; int = has g.words words.Int; long = has g.words words.Long; signed = has g.words words.Signed; unsigned = has g.words words.Unsigned; structure = first_of g.structures; constant = has g.words words.Const; volatile = has g.words words.Volatile; storage = storage_in g.words; interrupt = has g.words words.Interrupt; bad = not (is_orderly g) }
+kept_of g = record { void = has g.words words.Void; char = has g.words words.Char; short = has g.words words.Short; int = has g.words words.Int; long = has g.words words.Long; signed = has g.words words.Signed; unsigned = has g.words words.Unsigned; base = first_of g.bases; constant = has g.words words.Const; volatile = has g.words words.Volatile; storage = storage_in g.words; interrupt = has g.words words.Interrupt; bad = not (is_orderly g) }
 
 -- ---- a word more
 
@@ -58,6 +78,7 @@ is_said words.Signed w = w.signed
 is_said words.Unsigned w = w.unsigned
 is_said words.Const w = w.constant
 is_said words.Volatile w = w.volatile
+is_said words.Typedef w = not (is_plain w.storage)
 is_said words.Static w = not (is_plain w.storage)
 is_said words.Auto w = not (is_plain w.storage)
 is_said words.Register w = not (is_plain w.storage)
@@ -73,6 +94,7 @@ with_flag words.Signed w = record w { signed = true }
 with_flag words.Unsigned w = record w { unsigned = true }
 with_flag words.Const w = record w { constant = true }
 with_flag words.Volatile w = record w { volatile = true }
+with_flag words.Typedef w = record w { storage = storages.Typedef }
 with_flag words.Static w = record w { storage = storages.Static }
 with_flag words.Auto w = record w { storage = storages.Auto }
 with_flag words.Register w = record w { storage = storages.Register }
@@ -82,8 +104,8 @@ with_flag _ w = w
 abbrev pub worded : Keyword → Words → Words
 worded k w = with_flag k (record w { bad = w.bad || is_said k w })
 
-abbrev pub structured : ℕ → Words → Words
-structured number w = record w { structure = Some number; bad = w.bad || is_some w.structure }
+abbrev pub based : Base → Words → Words
+based base w = record w { base = Some base; bad = w.bad || is_some w.base }
 
 -- ---- the type that they name together, by what is kept
 
@@ -114,18 +136,21 @@ word_type w =
     else if has_int_word w then of_int (int_type w)
     else None
 
-abbrev pub base_type : Words → Option ℕ → Option Ty
-base_type w None = word_type w
-base_type w (Some number) = if w.void || (w.char || has_int_word w) then None else Some (Struct number)
+abbrev pub base_type : Words → Option Base → Option rule.Named
+base_type w None = rule.by_words (word_type w)
+base_type w (Some base) = if w.void || (w.char || has_int_word w) then None else Some (rule.named_by (base_of base))
+
+abbrev pub qualifies_once : Words → Qualified → Bool
+qualifies_once w ty = not (w.constant && ty.constant) && not (w.volatile && ty.volatile)
 
 -- ---- where they may stand
 
 abbrev pub fits : Words → Site → Bool → Bool
 fits w sites.File in_file = not (is_auto w.storage || is_register w.storage)
-fits w sites.Block in_file = true
+fits w sites.Block in_file = not (is_typedef w.storage)
 fits w sites.Member in_file = is_plain w.storage && not w.interrupt
 fits w sites.Param in_file = (is_plain w.storage || is_register w.storage) && not w.interrupt
-fits w sites.TypeName in_file = not (is_static w.storage) && (not w.interrupt && not ((is_auto w.storage || is_register w.storage) && in_file))
+fits w sites.TypeName in_file = not (is_typedef w.storage || is_static w.storage) && (not w.interrupt && not ((is_auto w.storage || is_register w.storage) && in_file))
 
 -- ---- what a call answers that reads specifiers: what is kept of those that the rules gather
 

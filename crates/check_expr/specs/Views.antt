@@ -6,6 +6,7 @@ use Rattle.type_rules.specs.Known.{Known}
 use Rattle.type_rules.specs.Outlines as rule
 use Rattle.type_rules.specs.Specifiers as rule_specifiers
 use Rattle.type_rules.specs.Terms.{Term}
+use Rattle.c_operate.specs.Tables.{scope_of}
 use Rattle.check_expr.specs.declared.declarator.Context.{Context}
 use Rattle.check_expr.specs.declared.outline.Declared.{Declared}
 use Rattle.check_expr.specs.declared.outline.Declared.TheVariants as declared
@@ -37,6 +38,10 @@ site_of sites.TypeName = rule_specifiers.OfTypeName
 abbrev pub context_of : Context → rule_declarators.Context
 context_of c = record { site = site_of c.site; bodies = c.bodies }
 
+abbrev pub is_typedef : Storage → Bool
+is_typedef storages.Typedef = true
+is_typedef _ = false
+
 abbrev pub is_static : Storage → Bool
 is_static storages.Static = true
 is_static _ = false
@@ -46,7 +51,7 @@ is_register storages.Register = true
 is_register _ = false
 
 abbrev pub specified_of : Specified → rule_specifiers.Specified
-specified_of s = record { ty = s.ty; fixed = is_static s.storage; register = is_register s.storage; interrupt = s.interrupt; line = s.line }
+specified_of s = record { ty = s.ty; incomplete = s.incomplete; is_typedef = is_typedef s.storage; fixed = is_static s.storage; register = is_register s.storage; interrupt = s.interrupt; line = s.line }
 
 -- ---- declarators
 
@@ -55,11 +60,11 @@ param_of p = record { name = p.name.items; ty = p.ty; fixed = p.fixed; line = p.
 
 abbrev pub made_of : Made → rule.Made
 made_of (made.Array length) = rule.ArrayMade length
-made_of (made.Function list) = rule.FunctionMade (map param_of list.params.items)
+made_of (made.Function list) = rule.FunctionMade (map param_of list.params.items) (scope_of list.names)
 
 abbrev pub declared_of : Declared → rule.Declared
 declared_of (declared.Object ty) = rule.ObjectDeclared ty
-declared_of (declared.Function result params) = rule.FunctionDeclared result (map param_of params.items)
+declared_of (declared.Function result params names) = rule.FunctionDeclared result (map param_of params.items) (scope_of names)
 
 abbrev pub outline_of : Outline → rule.Outline
 outline_of o = record { declared = declared_of o.declared; bad = o.bad; incomplete = o.incomplete }

@@ -1,4 +1,4 @@
-//! Specifiers, structures, declarators and parameters, from the tree's root down (ISO/IEC 9899:1990, 6.5).
+//! Specifiers, structures, enumerations, declarators and parameters, from the tree's root down (ISO/IEC 9899:1990, 6.5).
 
 ghost use Rattle.std.specs.Prelude.{◌≡◌, Ok, map};
 ghost use Rattle.c_tree.specs.Lists.{more_params, suffixes_of};
@@ -17,18 +17,19 @@ ghost use Rattle.check_expr.specs.Views as views;
 ghost use Rattle.check_expr.specs.Views.{context_of, made_of, outline_of, specified_of};
 
 use crate::constants::array_length;
+use crate::enumerators::enumeration;
 use crate::outline::{
-    Made, Outline, ParamList, add_field, add_param, line_of, outlined, param_outlined,
+    Made, Outline, ParamList, add_field, add_param, line_of, object, outlined, param_outlined,
 };
-use crate::specifiers::{self, Site, Specified, Words};
-use crate::type_name;
+use crate::specifiers::{self, Base, Site, Specified, Words};
+use crate::type_name::{self, base_named, enumeration_of};
 use c_operate::checker::Checker;
 use c_operate::error::{CheckError, Kind, refused};
-use c_operate::types::{Progress, Types};
+use c_operate::types::{Progress, Tag, Types};
 use c_tree::expression::{Declarator, Member, NextParam, Param, Spec, Specs, StructBody, Suffix};
 use c_tree::word::Name;
 
-/// Where a declaration stands, and whether a structure may get its body there.
+/// Where a declaration stands, and whether a structure or an enumeration may get its body there.
 #[derive(Clone, Copy)]
 pub struct Context {
     pub site: Site,
@@ -68,7 +69,8 @@ fn structure_of(
     ensures { (known : Known) → Answers (λ number. number) result (types_in types.new known) (rule.structure_of (context_of context) tag.now line (types_in types.old known)) }
 {
     match types.tagged(tag) {
-        Some(structure) => Ok(structure),
+        Some(Tag::Structure(structure)) => Ok(structure),
+        Some(Tag::Enumeration) => refused(Kind::Again, line),
         None => {
             if declares_tags(context.site) {
                 types.declare_tag(tag)
@@ -151,14 +153,26 @@ fn specifier(
 {
     match spec {
         Spec::Word(word) => Ok(words.with_word(word.keyword)),
+        Spec::TypeName(name) => {
+            let base = base_named(name, &checker.scopes)?;
+            Ok(words.with_base(base))
+        }
         Spec::Reference { keyword, tag } => {
             let structure = structure_of(&tag.bytes, &mut checker.types, context, *keyword)?;
-            Ok(words.with_structure(structure))
+            Ok(words.with_base(Base::Structure(structure)))
         }
         Spec::Body(body) => {
             let structure = opened(&body.tag, &mut checker.types, context, body.keyword)?;
             structure_body(body, checker, structure)?;
-            Ok(words.with_structure(structure))
+            Ok(words.with_base(Base::Structure(structure)))
+        }
+        Spec::EnumReference { keyword, tag } => {
+            let base = enumeration_of(tag, &checker.types, *keyword)?;
+            Ok(words.with_base(base))
+        }
+        Spec::EnumBody(body) => {
+            enumeration(body, checker, context.bodies)?;
+            Ok(words.with_base(Base::Enumeration))
         }
     }
 }
@@ -219,7 +233,7 @@ pub fn outline(
 {
     let base = type_name::pointers(&declarator.pointers, checker, specified.ty)?;
     let made = suffixes(&declarator.suffixes, checker, bodies)?;
-    outlined(&mut checker.types, base, made)
+    outlined(&mut checker.types, object(base, specified.incomplete), made)
 }
 
 #[cycle(declarator)]
@@ -253,7 +267,7 @@ fn suffix(suffix: &Suffix, checker: &mut Checker, bodies: bool) -> Result<Made, 
             checker.scopes.enter_list()?;
             param(first, checker, bodies, &mut list)?;
             params(others, checker, bodies, &mut list)?;
-            checker.scopes.leave_list();
+            list.names = checker.scopes.leave_list();
             Ok(Made::Function(list))
         }
     }
@@ -288,7 +302,8 @@ fn param(
             let specified = specified(specs, checker, param_context(bodies))?;
             let base = type_name::pointers(&declarator.pointers, checker, specified.ty)?;
             let made = self::suffixes(&declarator.suffixes, checker, bodies)?;
-            let outline = param_outlined(&mut checker.types, base, made)?;
+            let object = object(base, specified.incomplete);
+            let outline = param_outlined(&mut checker.types, object, made)?;
             let line = line_of(declarator);
             let name = &declarator.name.bytes;
             add_param(checker, list, specified, outline, name, line)
@@ -301,7 +316,8 @@ fn param(
             let specified = specified(specs, checker, param_context(bodies))?;
             let base = type_name::pointers(pointers, checker, specified.ty)?;
             let made = self::suffixes(suffixes, checker, bodies)?;
-            let outline = param_outlined(&mut checker.types, base, made)?;
+            let object = object(base, specified.incomplete);
+            let outline = param_outlined(&mut checker.types, object, made)?;
             add_param(checker, list, specified, outline, &[], specified.line)
         }
     }

@@ -8,6 +8,7 @@
 
 pub mod constants;
 pub mod declarator;
+mod enumerators;
 pub mod expression;
 pub mod outline;
 mod prefixes;

@@ -2,21 +2,22 @@
 
 ghost use Rattle.std.specs.Prelude.{◌≡◌, ◌||◌, true, [], map, IfErr, IfOk};
 ghost use Rattle.c_operate.specs.Answers.{Answers, Learns};
-ghost use Rattle.c_operate.specs.Tables.{known_of, scopes_in, types_in};
+ghost use Rattle.c_operate.specs.Tables.{known_of, scope_of, scopes_in, types_in};
 ghost use Rattle.c_operate.specs.declared.error.CheckError.TheVariants.{NoMemory};
 ghost use Rattle.c_tree.specs.Views.{declarator_of};
 ghost use Rattle.c_typed.specs.Sameness as sameness;
 ghost use Rattle.type_rules.specs.Declarators.{line_in};
 ghost use Rattle.type_rules.specs.Known.{Known, tried};
 ghost use Rattle.type_rules.specs.Outlines as rule;
-ghost use Rattle.check_expr.specs.Lists.{Lists, outermost};
+ghost use Rattle.type_rules.specs.Rows.{is_complete};
+ghost use Rattle.check_expr.specs.Lists.{Lists, array_of_declared, outermost};
 ghost use Rattle.check_expr.specs.Views.{declared_of, made_of, outline_of, param_of, specified_of};
 
 use crate::specifiers::{Specified, is_register};
 use c_operate::checker::Checker;
 use c_operate::error::{CheckError, Kind, copied, number, refused};
-use c_operate::scope::{Binding, Scopes};
-use c_operate::types::{Types, plain};
+use c_operate::scope::{Binding, Names, Scopes};
+use c_operate::types::{Types, like, plain};
 use c_tree::expression::Declarator;
 use c_typed::{Object, Qualified, Ty, is_void};
 use std::alloc::Global;
@@ -30,10 +31,11 @@ pub struct ParamShape {
     pub line: u32,
 }
 
-/// The parameters of a function.
+/// The parameters of a function, and what their list declares.
 #[derive(Drop)]
 pub(crate) struct ParamList {
     pub params: Vec<ParamShape>,
+    pub names: Names,
 }
 
 /// What a suffix makes: an array of a length, 0 where it isn't known, or a function.
@@ -50,6 +52,7 @@ pub enum Declared {
     Function {
         result: Qualified,
         params: Vec<ParamShape>,
+        names: Names,
     },
 }
 
@@ -65,10 +68,12 @@ pub struct Outline {
 impl ParamList {
     /// A list without parameters.
     pub fn new(alloc: Global) -> ParamList
-        ensures { result.params.items ≡ [] }
+        ensures params { result.params.items ≡ [] }
+        ensures names { scope_of result.names ≡ [] }
     {
         ParamList {
             params: Vec::new(alloc),
+            names: Names::none(alloc),
         }
     }
 }
@@ -108,39 +113,63 @@ fn no_object(ty: Qualified, outline: &Outline) -> Outline
     }
 }
 
+// The array of an element. Of what isn't complete no type is made: it would have the wrong size once its element is complete.
+fn array_or_part(
+    types: &mut Types,
+    length: u32,
+    outline: &Outline,
+    element: Qualified,
+) -> Result<Outline, CheckError>
+    ensures { (known : Known) → Answers outline_of result (types_in types.new known) (rule.array_or_part (is_complete (types_in types.old known) element.ty) length (outline_of outline.now) element (types_in types.old known)) }
+{
+    let bad = either(outline.bad, is_void(element.ty));
+    if types.is_complete(element.ty) {
+        let ty = types.array_of(element, length)?;
+        Ok(Outline {
+            declared: Declared::Object(ty),
+            bad,
+            incomplete: outline.incomplete,
+        })
+    } else {
+        Ok(Outline {
+            declared: Declared::Object(element),
+            bad,
+            incomplete: true,
+        })
+    }
+}
+
 fn array_outline(types: &mut Types, length: u32, outline: &Outline) -> Result<Outline, CheckError>
     ensures { (known : Known) → Answers outline_of result (types_in types.new known) (rule.array_behind length (outline_of outline.now) (declared_of outline.now.declared) (types_in types.old known)) }
 {
     match &outline.declared {
-        Declared::Object(element) => {
-            let ty = types.array_of(*element, length)?;
-            Ok(Outline {
-                declared: Declared::Object(ty),
-                bad: either(outline.bad, is_void(element.ty)),
-                incomplete: either(outline.incomplete, !types.is_complete(element.ty)),
-            })
-        }
+        Declared::Object(element) => array_or_part(types, length, outline, *element),
         Declared::Function { result, .. } => Ok(no_object(*result, outline)),
     }
 }
 
 fn function_outline(list: ParamList, outline: &Outline) -> Outline
-    ensures { outline_of result ≡ rule.function_behind (map param_of list.params.items) (outline_of outline.now) (declared_of outline.now.declared) }
+    ensures { outline_of result ≡ rule.function_behind (map param_of list.params.items) (scope_of list.names) (outline_of outline.now) (declared_of outline.now.declared) }
 {
-    let ParamList { params } = list;
+    let ParamList { params, names } = list;
     match &outline.declared {
         Declared::Object(result) => Outline {
             declared: Declared::Function {
                 result: *result,
                 params,
+                names,
             },
-            bad: either(outline.bad, has_no_result(result.ty)),
+            bad: either(
+                outline.bad,
+                either(outline.incomplete, has_no_result(result.ty)),
+            ),
             incomplete: outline.incomplete,
         },
         Declared::Function { result, .. } => Outline {
             declared: Declared::Function {
                 result: *result,
                 params,
+                names,
             },
             bad: true,
             incomplete: outline.incomplete,
@@ -158,26 +187,27 @@ fn behind(types: &mut Types, suffix: Made, outline: &Outline) -> Result<Outline,
     }
 }
 
-fn object(ty: Qualified) -> Outline
-    ensures { outline_of result ≡ rule.object_outline ty }
+/// An object of a type, which may have arrays of what wasn't complete.
+pub(crate) fn object(ty: Qualified, incomplete: bool) -> Outline
+    ensures { outline_of result ≡ rule.object_outline ty incomplete }
 {
     Outline {
         declared: Declared::Object(ty),
         bad: false,
-        incomplete: false,
+        incomplete,
     }
 }
 
 /// What suffixes, the first the outermost, make of a type.
 pub(crate) fn outlined(
     types: &mut Types,
-    base: Qualified,
+    base: Outline,
     made: Vec<Made>,
 ) -> Result<Outline, CheckError>
-    ensures { (known : Known) → Answers outline_of result (types_in types.new known) (rule.outlined (map made_of made.items) (rule.object_outline base) (types_in types.old known)) }
+    ensures { (known : Known) → Answers outline_of result (types_in types.new known) (rule.outlined (map made_of made.items) (outline_of base) (types_in types.old known)) }
 {
     let mut left = made;
-    let mut outline = object(base);
+    let mut outline = base;
     while let Some(suffix) = left.pop() {
         outline = behind(types, suffix, &outline)?;
     }
@@ -215,16 +245,48 @@ fn outermost_outline(
     }
 }
 
+// What is declared where it is an array, and the row of its elements.
+fn array_in(declared: &Declared) -> Option<(Qualified, u32)>
+    ensures { result ≡ array_of_declared (declared_of declared.now) }
+{
+    match declared {
+        Declared::Object(whole) => match whole.ty {
+            Ty::Array { element, .. } => Some((*whole, element)),
+            Ty::Void | Ty::Int(_) | Ty::Pointer(_) | Ty::Struct(_) => None,
+        },
+        Declared::Function { .. } => None,
+    }
+}
+
+// A parameter without suffixes, which may be an array by the name of its type.
+fn array_started(types: &mut Types, outline: Outline) -> Result<Outline, CheckError>
+    ensures { (known : Known) → Answers outline_of result (types_in types.new known) (rule.array_started (outline_of outline) (outline_of outline).declared (types_in types.old known)) }
+{
+    let Some((whole, element)) = array_in(&outline.declared) else {
+        return Ok(outline);
+    };
+    let target = like(whole, types.target(element).ty);
+    let to = types.pointer_to(target)?;
+    Ok(Outline {
+        declared: Declared::Object(plain(to)),
+        bad: outline.bad,
+        incomplete: outline.incomplete,
+    })
+}
+
 /// What suffixes make of the type of a parameter, where an array is a pointer to its element.
 pub(crate) fn param_outlined(
     types: &mut Types,
-    base: Qualified,
+    base: Outline,
     made: Vec<Made>,
 ) -> Result<Outline, CheckError>
-    ensures { (known : Known) → Answers outline_of result (types_in types.new known) (rule.param_outlined (map made_of made.items) (rule.object_outline base) (types_in types.old known)) }
+    ensures { (known : Known) → Answers outline_of result (types_in types.new known) (rule.param_outlined (map made_of made.items) (outline_of base) (types_in types.old known)) }
 {
+    if made.is_empty() {
+        return array_started(types, base);
+    }
     let mut left = made;
-    let mut outline = object(base);
+    let mut outline = base;
     while let Some(suffix) = left.pop() {
         if left.is_empty() {
             return outermost_outline(types, suffix, &outline);

@@ -1,6 +1,7 @@
 //! Specifiers of declarations (ISO/IEC 9899:1990, 6.5.1 to 6.5.3).
 
 ghost use Rattle.std.specs.Prelude.{◌≡◌, ◌&&◌, ◌||◌, not, []};
+ghost use Rattle.std.specs.Option.{option_map};
 ghost use Rattle.c_operate.specs.Answers.{Answers};
 ghost use Rattle.c_tree.specs.Views.{specs_of};
 ghost use Rattle.type_rules.specs.Known.{Known};
@@ -8,11 +9,12 @@ ghost use Rattle.type_rules.specs.Names as names;
 ghost use Rattle.type_rules.specs.Specifiers as rule;
 ghost use Rattle.type_rules.specs.Specifiers.{Gathered, specs_line};
 ghost use Rattle.check_expr.specs.Gathering as gathering;
-ghost use Rattle.check_expr.specs.Gathering.{kept_of};
+ghost use Rattle.check_expr.specs.Gathering.{base_of, kept_of, named_of};
 ghost use Rattle.check_expr.specs.Views as views;
 
 use c_ints::IntTy;
 use c_operate::error::{CheckError, Kind, refused};
+use c_operate::types::plain;
 use c_token::Keyword;
 use c_tree::expression::{Spec, Specs};
 use c_typed::{Qualified, Ty};
@@ -27,13 +29,23 @@ pub enum Site {
     TypeName,
 }
 
-/// A word on storage, or none.
+/// A word on storage, or none. `typedef` counts as one (ISO/IEC 9899:1990, 6.5.1).
 #[derive(Clone, Copy, PartialEq, Eq)]
 pub enum Storage {
     Plain,
+    Typedef,
     Static,
     Auto,
     Register,
+}
+
+/// What names a type without a word: the structure of a number, an enumeration, or the name of a type, of which `incomplete` says that
+/// it has arrays of what wasn't complete.
+#[derive(Clone, Copy)]
+pub enum Base {
+    Structure(u32),
+    Enumeration,
+    Named { ty: Qualified, incomplete: bool },
 }
 
 /// The specifiers that were read so far. `bad` says that no declaration has them.
@@ -46,7 +58,7 @@ pub struct Words {
     long: bool,
     signed: bool,
     unsigned: bool,
-    structure: Option<u32>,
+    base: Option<Base>,
     constant: bool,
     volatile: bool,
     storage: Storage,
@@ -54,11 +66,12 @@ pub struct Words {
     bad: bool,
 }
 
-/// What specifiers say: a type, a word on storage, and whether `interrupt` stands among them. `line` is that
-/// of the first.
+/// What specifiers say: a type, whether it has arrays of what wasn't complete, a word on storage, and whether `interrupt` stands among
+/// them. `line` is that of the first.
 #[derive(Clone, Copy)]
 pub struct Specified {
     pub ty: Qualified,
+    pub incomplete: bool,
     pub storage: Storage,
     pub interrupt: bool,
     pub line: u32,
@@ -69,7 +82,7 @@ fn is_plain(storage: Storage) -> bool
 {
     match storage {
         Storage::Plain => true,
-        Storage::Static | Storage::Auto | Storage::Register => false,
+        Storage::Typedef | Storage::Static | Storage::Auto | Storage::Register => false,
     }
 }
 
@@ -78,7 +91,7 @@ fn is_static(storage: Storage) -> bool
 {
     match storage {
         Storage::Static => true,
-        Storage::Plain | Storage::Auto | Storage::Register => false,
+        Storage::Plain | Storage::Typedef | Storage::Auto | Storage::Register => false,
     }
 }
 
@@ -87,7 +100,17 @@ pub(crate) fn is_register(storage: Storage) -> bool
 {
     match storage {
         Storage::Register => true,
-        Storage::Plain | Storage::Static | Storage::Auto => false,
+        Storage::Plain | Storage::Typedef | Storage::Static | Storage::Auto => false,
+    }
+}
+
+/// Whether it is `typedef`.
+pub fn is_typedef(storage: Storage) -> bool
+    ensures { result ≡ views.is_typedef storage }
+{
+    match storage {
+        Storage::Typedef => true,
+        Storage::Plain | Storage::Static | Storage::Auto | Storage::Register => false,
     }
 }
 
@@ -96,7 +119,7 @@ fn is_automatic(storage: Storage) -> bool
 {
     match storage {
         Storage::Auto | Storage::Register => true,
-        Storage::Plain | Storage::Static => false,
+        Storage::Plain | Storage::Typedef | Storage::Static => false,
     }
 }
 
@@ -106,6 +129,32 @@ fn of_int(ty: Option<IntTy>) -> Option<Ty>
     match ty {
         Some(ty) => Some(Ty::Int(ty)),
         None => None,
+    }
+}
+
+// The type that specifiers name: with its own qualifiers, and whether it has arrays of what wasn't complete.
+#[derive(Clone, Copy)]
+struct NamedType {
+    ty: Qualified,
+    incomplete: bool,
+}
+
+fn plainly(ty: Ty) -> NamedType
+    ensures { named_of result ≡ rule.plainly ty }
+{
+    NamedType {
+        ty: plain(ty),
+        incomplete: false,
+    }
+}
+
+fn named_by(base: Base) -> NamedType
+    ensures { named_of result ≡ rule.named_by (base_of base) }
+{
+    match base {
+        Base::Structure(number) => plainly(Ty::Struct(number)),
+        Base::Enumeration => plainly(Ty::Int(IntTy::Int)),
+        Base::Named { ty, incomplete } => NamedType { ty, incomplete },
     }
 }
 
@@ -122,7 +171,7 @@ impl Words {
             long: false,
             signed: false,
             unsigned: false,
-            structure: None,
+            base: None,
             constant: false,
             volatile: false,
             storage: Storage::Plain,
@@ -145,7 +194,9 @@ impl Words {
             Keyword::Unsigned => self.unsigned,
             Keyword::Const => self.constant,
             Keyword::Volatile => self.volatile,
-            Keyword::Static | Keyword::Auto | Keyword::Register => !is_plain(self.storage),
+            Keyword::Typedef | Keyword::Static | Keyword::Auto | Keyword::Register => {
+                !is_plain(self.storage)
+            }
             _ => false,
         }
     }
@@ -164,6 +215,7 @@ impl Words {
             Keyword::Unsigned => self.unsigned = true,
             Keyword::Const => self.constant = true,
             Keyword::Volatile => self.volatile = true,
+            Keyword::Typedef => self.storage = Storage::Typedef,
             Keyword::Static => self.storage = Storage::Static,
             Keyword::Auto => self.storage = Storage::Auto,
             Keyword::Register => self.storage = Storage::Register,
@@ -182,13 +234,13 @@ impl Words {
         words
     }
 
-    /// These specifiers with a structure more.
-    pub fn with_structure(self, structure: u32) -> Words
-        ensures { result ≡ gathering.structured structure self }
+    /// These specifiers with a type more that needs no word.
+    pub fn with_base(self, base: Base) -> Words
+        ensures { result ≡ gathering.based base self }
     {
         let mut words = self;
-        words.bad = self.bad || self.structure.is_some();
-        words.structure = Some(structure);
+        words.bad = self.bad || self.base.is_some();
+        words.base = Some(base);
         words
     }
 
@@ -245,7 +297,7 @@ impl Words {
         }
     }
 
-    // The type that the words name where no structure is among them.
+    // The type that the words name where nothing else names one.
     fn word_type(&self) -> Option<Ty>
         ensures { result ≡ gathering.word_type self.now }
     {
@@ -265,19 +317,26 @@ impl Words {
     }
 
     // The type that the specifiers name together (ISO/IEC 9899:1990, 6.5.2).
-    fn base(&self) -> Option<Ty>
-        ensures { result ≡ gathering.base_type self.now self.now.structure }
+    fn named(&self) -> Option<NamedType>
+        ensures { option_map named_of result ≡ gathering.base_type self.now self.now.base }
     {
-        match self.structure {
-            Some(structure) => {
+        match self.base {
+            Some(base) => {
                 if self.void || self.char || self.has_int_word() {
                     None
                 } else {
-                    Some(Ty::Struct(structure))
+                    Some(named_by(base))
                 }
             }
-            None => self.word_type(),
+            None => Some(plainly(self.word_type()?)),
         }
+    }
+
+    // Whether no qualifier stands both beside a type's name and in the type.
+    fn qualifies_once(&self, ty: Qualified) -> bool
+        ensures { result ≡ gathering.qualifies_once self.now ty }
+    {
+        !(self.constant && ty.constant) && !(self.volatile && ty.volatile)
     }
 
     // Whether the words on storage, and `interrupt`, may stand at a site.
@@ -286,13 +345,13 @@ impl Words {
     {
         match site {
             Site::File => !is_automatic(self.storage),
-            Site::Block => true,
+            Site::Block => !is_typedef(self.storage),
             Site::Member => is_plain(self.storage) && !self.interrupt,
             Site::Param => {
                 (is_plain(self.storage) || is_register(self.storage)) && !self.interrupt
             }
             Site::TypeName => {
-                !is_static(self.storage)
+                !(is_typedef(self.storage) || is_static(self.storage))
                     && !self.interrupt
                     && !(is_automatic(self.storage) && in_file)
             }
@@ -300,10 +359,10 @@ impl Words {
     }
 
     // Whether no declaration has them together, or they may not stand at a site.
-    fn is_refused(&self, site: Site, in_file: bool) -> bool
-        ensures { result ≡ (self.now.bad || not (gathering.fits self.now site in_file)) }
+    fn is_refused(&self, ty: Qualified, site: Site, in_file: bool) -> bool
+        ensures { result ≡ (self.now.bad || (not (gathering.qualifies_once self.now ty) || not (gathering.fits self.now site in_file))) }
     {
-        self.bad || !self.fits(site, in_file)
+        self.bad || (!self.qualifies_once(ty) || !self.fits(site, in_file))
     }
 
     /// What the specifiers say at a site. `line` is that of the first of them, and `in_file` says that no
@@ -311,18 +370,20 @@ impl Words {
     pub fn finished(self, site: Site, in_file: bool, line: u32) -> Result<Specified, CheckError>
         ensures { (g : Gathered) (known : Known) → self ≡ kept_of g → in_file ≡ names.in_file known → Answers views.specified_of result known (rule.specifiers (views.site_of site) g line known) }
     {
-        let Some(ty) = self.base() else {
+        let Some(named) = self.named() else {
             return refused(Kind::Declare, line);
         };
-        if self.is_refused(site, in_file) {
+        let NamedType { ty, incomplete } = named;
+        if self.is_refused(ty, site, in_file) {
             return refused(Kind::Declare, line);
         }
         Ok(Specified {
             ty: Qualified {
-                ty,
-                constant: self.constant,
-                volatile: self.volatile,
+                ty: ty.ty,
+                constant: self.constant || ty.constant,
+                volatile: self.volatile || ty.volatile,
             },
+            incomplete,
             storage: self.storage,
             interrupt: self.interrupt,
             line,
@@ -336,7 +397,10 @@ pub fn line_of(specs: &Specs) -> u32
 {
     match &specs.first {
         Spec::Word(word) => word.line,
+        Spec::TypeName(name) => name.line,
         Spec::Reference { keyword, .. } => *keyword,
         Spec::Body(body) => body.keyword,
+        Spec::EnumReference { keyword, .. } => *keyword,
+        Spec::EnumBody(body) => body.keyword,
     }
 }

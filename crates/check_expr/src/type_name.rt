@@ -6,22 +6,26 @@ ghost use Rattle.c_token.specs.declared.token.TokKind.TheVariants as kinds;
 ghost use Rattle.c_tree.specs.Kinds.{is_key};
 ghost use Rattle.c_tree.specs.Views.{spec_of, type_name_of};
 ghost use Rattle.c_tree.specs.Words.{Symbols, keyed, named, spell_pointers, spell_tag};
-ghost use Rattle.type_rules.specs.Known.{Known};
-ghost use Rattle.type_rules.specs.Specifiers.{Gathered};
+ghost use Rattle.type_rules.specs.Faults as faults;
+ghost use Rattle.type_rules.specs.Known.{Known, wanted};
+ghost use Rattle.type_rules.specs.Names.{meaning_of};
+ghost use Rattle.type_rules.specs.Rows.{tagged};
+ghost use Rattle.type_rules.specs.Specifiers.{Gathered, named_base};
 ghost use Rattle.type_rules.specs.TypeNames as rule;
 ghost use Rattle.c_operate.specs.Answers.{Answers, kind_of};
-ghost use Rattle.c_operate.specs.Tables.{known_of, types_in};
+ghost use Rattle.c_operate.specs.Tables.{known_of, scopes_in, types_in};
 ghost use Rattle.c_operate.specs.Terms.{term_of};
-ghost use Rattle.check_expr.specs.Gathering.{Gathers, kept_of};
+ghost use Rattle.check_expr.specs.Gathering.{Gathers, base_of, kept_of};
 ghost use Rattle.check_expr.specs.Lists as lists;
 ghost use Rattle.check_expr.specs.Lists.{sized_name};
 
-use crate::specifiers::{Site, Words, line_of};
+use crate::specifiers::{Base, Site, Words, line_of};
 use c_operate::checker::Checker;
 use c_operate::error::{CheckError, Kind, refused};
 use c_operate::places::size_of_type;
+use c_operate::scope::{Binding, Scopes};
 use c_operate::term::Term;
-use c_operate::types::{Types, plain};
+use c_operate::types::{Tag, Types, plain};
 use c_token::Keyword;
 use c_tree::expression::{Spec, TypeName};
 use c_tree::word::{Name, Pointer, Word};
@@ -63,7 +67,7 @@ fn with_qualifiers(ty: Qualified, words: &[Word]) -> Qualified
     ty
 }
 
-// Why the body of a structure can't stand in the name of a type.
+// Why the body of a structure can't stand in the name of a type, nor a structure of a tag, nor the body of an enumeration.
 fn refused_body(tag: &Option<Name>, types: &Types) -> Kind
     ensures { (known : Known) → kind_of result ≡ rule.body_kind (types_in types.now known) (spell_tag tag.now) }
 {
@@ -71,18 +75,52 @@ fn refused_body(tag: &Option<Name>, types: &Types) -> Kind
         return Kind::Declare;
     };
     match types.tagged(&tag.bytes) {
-        Some(structure) => types.second_body(structure),
+        Some(Tag::Structure(structure)) => types.second_body(structure),
+        Some(Tag::Enumeration) => Kind::Again,
         None => Kind::Name,
     }
 }
 
-// Why a structure of a tag can't stand in the name of a type.
 fn refused_tag(tag: &Name, types: &Types) -> Kind
     ensures { (known : Known) → kind_of result ≡ rule.tag_kind (types_in types.now known) (named tag.now) }
 {
     match types.tagged(&tag.bytes) {
-        Some(_) => Kind::Declare,
+        Some(Tag::Structure(_)) => Kind::Declare,
+        Some(Tag::Enumeration) => Kind::Again,
         None => Kind::Name,
+    }
+}
+
+fn refused_enum_body(tag: &Option<Name>, types: &Types) -> Kind
+    ensures { (known : Known) → kind_of result ≡ rule.enum_body_kind (types_in types.now known) (spell_tag tag.now) }
+{
+    let Some(tag) = tag else {
+        return Kind::Declare;
+    };
+    match types.tagged(&tag.bytes) {
+        Some(_) => Kind::Again,
+        None => Kind::Declare,
+    }
+}
+
+/// The enumeration of a tag, which is declared; `line` is that of `enum`.
+pub(crate) fn enumeration_of(tag: &Name, types: &Types, line: u32) -> Result<Base, CheckError>
+    ensures { (known : Known) → Answers base_of result (types_in types.now known) (rule.enum_of (tagged (types_in types.now known) tag.now.bytes.items) line (types_in types.now known)) }
+{
+    match types.tagged(&tag.bytes) {
+        Some(Tag::Enumeration) => Ok(Base::Enumeration),
+        Some(Tag::Structure(_)) => refused(Kind::Again, line),
+        None => refused(Kind::Name, line),
+    }
+}
+
+/// What a marked name names. It is that of a type that is declared.
+pub(crate) fn base_named(name: &Name, scopes: &Scopes) -> Result<Base, CheckError>
+    ensures { (known : Known) → Answers base_of result (scopes_in scopes.now known) (wanted faults.Name name.now.line (named_base (meaning_of (scopes_in scopes.now known) name.now.bytes.items)) (scopes_in scopes.now known)) }
+{
+    match scopes.find(&name.bytes) {
+        Some(Binding::TypeName { ty, incomplete }) => Ok(Base::Named { ty, incomplete }),
+        _ => refused(Kind::Name, name.line),
     }
 }
 
@@ -91,8 +129,17 @@ fn type_word(spec: &Spec, checker: &Checker, words: Words) -> Result<Words, Chec
 {
     match spec {
         Spec::Word(word) => Ok(words.with_word(word.keyword)),
+        Spec::TypeName(name) => {
+            let base = base_named(name, &checker.scopes)?;
+            Ok(words.with_base(base))
+        }
         Spec::Reference { keyword, tag } => refused(refused_tag(tag, &checker.types), *keyword),
         Spec::Body(body) => refused(refused_body(&body.tag, &checker.types), body.keyword),
+        Spec::EnumReference { keyword, tag } => {
+            let base = enumeration_of(tag, &checker.types, *keyword)?;
+            Ok(words.with_base(base))
+        }
+        Spec::EnumBody(body) => refused(refused_enum_body(&body.tag, &checker.types), body.keyword),
     }
 }
 
@@ -122,6 +169,9 @@ pub(crate) fn type_named(name: &TypeName, checker: &mut Checker) -> Result<Quali
     }
     let in_file = checker.scopes.is_file();
     let base = words.finished(Site::TypeName, in_file, line_of(&name.specs))?;
+    if base.incomplete {
+        return refused(Kind::Incomplete, base.line);
+    }
     pointers(&name.pointers, checker, base.ty)
 }
 

@@ -15,3 +15,5 @@ mod initial_values;
 mod statements;
 #[cfg(test)]
 mod trees;
+#[cfg(test)]
+mod type_names;

@@ -1,16 +1,17 @@
 -- At any depth of brackets each tree is read again from its spelling, if it has no more tokens than brackets may be entered.
 use Rattle.std.proofs.Common.{ℕ, zero, suc, length-append, arith}
 use Rattle.c_tree.specs.Words.{Symbols}
-use Rattle.c_tree.specs.Trees.{spelled, spelled_type, spelled_specs, spelled_member, spelled_more_members, spelled_declarator, spelled_param, spelled_more_params, IsTree, IsType, AreSpecs, IsDeclarator}
-use Rattle.c_tree.specs.Lists.{more_members, more_params}
+use Rattle.c_tree.specs.Trees.{spelled, spelled_type, spelled_specs, spelled_member, spelled_more_members, spelled_declarator, spelled_param, spelled_more_params, spelled_enumerator, spelled_more_enumerators, IsTree, IsType, AreSpecs, IsDeclarator}
+use Rattle.c_tree.specs.Lists.{more_members, more_params, more_enumerators}
 use Rattle.parse_expr.specs.Reader.{Reader}
 use Rattle.parse_expr.specs.Reading.{at, expr_by, assign_by, cond_by, specs_by, type_name_by, declarator_by}
 use Rattle.parse_expr.proofs.Knots.{Stops, StopsType, IsCond, IsAssign, Again, CompleteInner}
-use Rattle.parse_expr.proofs.Starts.{type_has_token, member_has_token, param_has_token}
+use Rattle.parse_expr.proofs.Starts.{type_has_token, member_has_token, param_has_token, enumerator_has_token}
 use Rattle.parse_expr.proofs.AgainOperands.{has_token}
 use Rattle.parse_expr.proofs.AgainExpressions.{expr_again_by, assign_again_by, cond_again_by}
 use Rattle.parse_expr.proofs.AgainSpecifiers.{StopsSpecs, specs_again_by, type_name_again_by}
 use Rattle.parse_expr.proofs.AgainDeclarators.{StopsSuffixes, declarator_again_by, members_again_by, params_again_by}
+use Rattle.parse_expr.proofs.AgainEnumerations.{enumerators_again_by}
 
 -- no tree is spelled with no token
 nothing_spelled : CompleteInner zero (at zero)
@@ -20,6 +21,7 @@ nothing_spelled = record {
   type_name = λ a le is rest stop. absurd (omega (arith, type_has_token a));
   members = λ a le is rest stop. absurd (omega (arith, member_has_token a.0, length-append (spelled_member a.0) (spelled_more_members (more_members a.1))));
   params = λ a le is rest stop. absurd (omega (arith, param_has_token a.0, length-append (spelled_param a.0) (spelled_more_params (more_params a.1))));
+  enumerators = λ a le is rest stop. absurd (omega (arith, enumerator_has_token a.0, length-append (spelled_enumerator a.0) (spelled_more_enumerators (more_enumerators a.1))));
 }
 
 pub at_complete : (n : ℕ) → CompleteInner n (at n)
@@ -33,6 +35,7 @@ at_complete (suc n) =
       type_name = type_name_again_by n (at n) inner;
       members = members_again_by n (at n) inner;
       params = params_again_by n (at n) inner;
+      enumerators = enumerators_again_by n (at n) inner;
     }
 
 -- a token less

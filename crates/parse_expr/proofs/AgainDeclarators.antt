@@ -6,13 +6,13 @@ use Rattle.c_token.specs.declared.token.Keyword.TheVariants as words
 use Rattle.c_token.specs.declared.token.Punct.TheVariants as marks
 use Rattle.c_tree.specs.Words.{Symbol, Symbols, punct}
 use Rattle.c_tree.specs.Kinds.{is_punct, is_key, is_name, is_spec}
-use Rattle.c_tree.specs.Trees.{Tree, SpecTrees, Specified, NoSpec, AndSpec, OneWord, Tagged, Body, MemberTree, Members, MoreMembers, NoMember, AndMember, DeclaratorTree, Declares, MoreDeclarators, NoDeclarator, AndDeclarator, SuffixTrees, NoSuffix, AndSuffix, SuffixTree, Unsized, Sized, Empty, VoidOnly, Params, MoreParams, NoParam, AndParam, ParamTree, Named, Unnamed, spelled, spelled_specs, spelled_more_specs, spelled_spec, spelled_member, spelled_more_members, spelled_more_declarators, spelled_declarator, spelled_suffixes, spelled_suffix, spelled_more_params, spelled_param, AreSpecs, IsMember, AreMoreMembers, IsDeclarator, AreMoreDeclarators, AreSuffixes, IsSuffix, IsParam, AreMoreParams, are_stars, are_pointers, is_void, is_bare_void}
+use Rattle.c_tree.specs.Trees.{Tree, SpecTrees, Specified, NoSpec, AndSpec, OneWord, Tagged, Body, NamedType, EnumTagged, EnumBody, MemberTree, Members, MoreMembers, NoMember, AndMember, DeclaratorTree, Declares, MoreDeclarators, NoDeclarator, AndDeclarator, SuffixTrees, NoSuffix, AndSuffix, SuffixTree, Unsized, Sized, Empty, VoidOnly, Params, MoreParams, NoParam, AndParam, ParamTree, Named, Unnamed, spelled, spelled_specs, spelled_more_specs, spelled_spec, spelled_member, spelled_more_members, spelled_more_declarators, spelled_declarator, spelled_suffixes, spelled_suffix, spelled_more_params, spelled_param, AreSpecs, IsMember, AreMoreMembers, IsDeclarator, AreMoreDeclarators, AreSuffixes, IsSuffix, IsParam, AreMoreParams, are_stars, are_pointers, is_void, is_bare_void}
 use Rattle.c_tree.specs.Lists.{more_members, more_declarators, suffixes_of, more_params}
 use Rattle.parse_expr.specs.Reader.{front_is, symbol_at, punct_at, key_at, all_that, collect, pointers_at}
 use Rattle.parse_expr.specs.Reading.{Inner, length_by, array_by, void_at, list_by, function_by, suffix_by, named_by, declarator_by, next_declarator_by, member_by, next_member_by, members_by, unnamed_by, named_param_by, param_behind, param_by, next_param_by, params_by}
 use Rattle.parse_expr.proofs.Knots.{begins_expr, goes_on_pointers, goes_on_specs, goes_on_suffixes, StopsMembers, StopsParams, IsCond, spelled_members, AreMembers, spelled_params, AreParams, Again, CompleteInner}
 use Rattle.parse_expr.proofs.Collects.{and_both, neither, true_or_false, front_not, punct_none, collect_ends, collect_more, pointers_again}
-use Rattle.parse_expr.proofs.Starts.{spec_token, name_token, star_token, begins_declarator, declarator_token, suffix_token, ends_param, param_end, spec_starts, member_starts, member_has_token, declarator_starts, suffix_starts, suffix_has_token, param_starts}
+use Rattle.parse_expr.proofs.Starts.{spec_token, type_name_token, name_token, star_token, begins_declarator, declarator_token, suffix_token, ends_param, param_end, spec_starts, member_starts, member_has_token, declarator_starts, suffix_starts, suffix_has_token, param_starts}
 use Rattle.parse_expr.proofs.AgainKinds.{no_bracket}
 use Rattle.parse_expr.proofs.AgainOperands.{expr_starts}
 use Rattle.parse_expr.proofs.AgainSpecifiers.{AgainStep, StopsSpecs, member_items, pointers_begin, specs_again_by}
@@ -68,10 +68,13 @@ unfolding void_at key_at
 no_void (Specified (OneWord s) NoSpec) is more f = void_behind s more f
 no_void (Specified (OneWord s) (AndSpec t ss)) is more f =
     let behind = spelled_more_specs ss ++ more in
-    let begin = front_not is_spec (is_punct marks.RightParenthesis) (λ k. spec_token k (is_punct marks.RightParenthesis) (λ w. refl)) (spelled_spec t ++ behind) (spec_starts t is.1.0 behind) in
+    let begin = front_not is_spec (is_punct marks.RightParenthesis) (λ k. spec_token k (is_punct marks.RightParenthesis) (λ w. refl) refl) (spelled_spec t ++ behind) (spec_starts t is.1.0 behind) in
     void_behind s ((spelled_spec t ++ spelled_more_specs ss) ++ more) (λ h. ap (front_is (is_punct marks.RightParenthesis)) (append_assoc (spelled_spec t) (spelled_more_specs ss) more) ∙ begin)
 no_void (Specified (Tagged k n) ss) is more f = refl
 no_void (Specified (Body k tag o m ms c) ss) is more f = refl
+no_void (Specified (NamedType s) ss) is more f = rw (type_name_token s.kind (is_key words.Void) refl is.0) refl
+no_void (Specified (EnumTagged k n) ss) is more f = refl
+no_void (Specified (EnumBody k tag o e es last c) ss) is more f = refl
 
 -- behind the specifiers of a parameter that is not `void` alone no `)` comes, where they are `void`
 param_no_void : (p : ParamTree) → IsParam p → (more : Symbols) → void_at (spelled_param p ++ more) ≡ None
@@ -104,7 +107,7 @@ list_again n inner complete o p ps c le is are rest =
     let behind = spelled_more_params ps ++ close in
     let regrouped : (spelled_param p ++ (spelled_more_params ps ++ punct marks.RightParenthesis c ∷ [])) ++ rest ≡ whole = simp append_assoc in
     let grouped = append_assoc (spelled_param p) (spelled_more_params ps) close in
-    let begin = front_not is_spec (is_punct marks.RightParenthesis) (λ k. spec_token k (is_punct marks.RightParenthesis) (λ w. refl)) (spelled_param p ++ behind) (param_starts p is behind) in
+    let begin = front_not is_spec (is_punct marks.RightParenthesis) (λ k. spec_token k (is_punct marks.RightParenthesis) (λ w. refl) refl) (spelled_param p ++ behind) (param_starts p is behind) in
     let is_read : inner.params whole ≡ Some ((p, param_items ps), close) = rw back at (complete.params (p, param_items ps) (rw back fits) (is, rw back are) close refl) in
     let first : punct_at marks.RightParenthesis whole ≡ None = rw grouped (punct_none marks.RightParenthesis (spelled_param p ++ behind) begin) in
     let second : void_at whole ≡ None = rw grouped (param_no_void p is behind) in

@@ -7,7 +7,7 @@ use Rattle.c_token.specs.declared.token.Keyword.{Keyword}
 use Rattle.c_token.specs.declared.token.Keyword.TheVariants as words
 use Rattle.c_token.specs.declared.token.Punct.TheVariants as marks
 use Rattle.c_tree.specs.Words.{Symbol, Symbols, punct}
-use Rattle.c_tree.specs.Kinds.{is_punct, is_key, is_leaf, level_of, is_assignment, is_prefix, is_step, is_field, is_spec, is_spec_word, is_specifying, begins_spec}
+use Rattle.c_tree.specs.Kinds.{is_punct, is_key, is_leaf, level_of, is_assignment, is_prefix, is_step, is_field, is_spec, is_spec_word, is_specifying, begins_spec, is_type_name}
 use Rattle.parse_expr.specs.Reader.{front_is, spells}
 use Rattle.parse_expr.proofs.Knots.{goes_on, begins_expr, Stops}
 
@@ -251,8 +251,13 @@ step_only _ h = absurd cc
 
 word_begins : (w : Keyword) → is_specifying w ≡ true → begins_spec w ≡ true
 word_begins words.Struct h = refl
+word_begins words.Enum h = refl
 word_begins _ h = h
 
 pub spec_word : (t : TokKind) → is_spec_word t ≡ true → is_spec t ≡ true
 spec_word (kinds.Keyword w) h = word_begins w h
 spec_word _ h = absurd cc
+
+pub type_name_begins : (t : TokKind) → is_type_name t ≡ true → is_spec t ≡ true
+type_name_begins kinds.TypeName h = refl
+type_name_begins _ h = absurd cc

@@ -5,12 +5,12 @@ use Rattle.c_token.specs.declared.token.Punct.{Punct}
 use Rattle.c_token.specs.declared.token.Punct.TheVariants as marks
 use Rattle.c_tree.specs.Words.{Symbol, Symbols, key, punct}
 use Rattle.c_tree.specs.Kinds.{is_punct, is_leaf, is_step, is_spec}
-use Rattle.c_tree.specs.Trees.{Tree, Leaf, Group, Behind, Before, Measure, Join, Choose, Assign, Post, Index, CallBare, Call, Field, Step, Pre, Sign, Sizeof, Cast, TypeTree, TypeOf, Specified, SpecTree, OneWord, Tagged, Body, spelled, spelled_post, spelled_pre, spelled_type, spelled_more_specs, spelled_spec, rank, is_postfix, is_unary, may_follow, IsTree, IsPost, IsPre, IsType, IsSpec}
+use Rattle.c_tree.specs.Trees.{Tree, Leaf, Group, Behind, Before, Measure, Join, Choose, Assign, Post, Index, CallBare, Call, Field, Step, Pre, Sign, Sizeof, Cast, TypeTree, TypeOf, Specified, SpecTree, OneWord, Tagged, Body, NamedType, EnumTagged, EnumBody, spelled, spelled_post, spelled_pre, spelled_type, spelled_more_specs, spelled_spec, rank, is_postfix, is_unary, may_follow, IsTree, IsPost, IsPre, IsType, IsSpec}
 use Rattle.c_tree.specs.Lists.{posted, prefixed}
 use Rattle.parse_expr.specs.Reader.{◌>>=◌, Reader, front_is, symbol_at, punct_at, key_at, specs_come, type_opens, collect}
 use Rattle.parse_expr.specs.Reading.{Inner, group_by, primary_by, index_by, call_by, field_by, post_by, postfix_by, bracketed_by, cast_by, prefix_by, operand_by, unary_by}
 use Rattle.parse_expr.proofs.Knots.{begins_expr, Stops, CompleteInner}
-use Rattle.parse_expr.proofs.AgainKinds.{quiet, front_not, no_spec, no_closing, no_bracket, begins_primary, primary, leaf_opens, prefix_opens, prefix_begins, field_only, step_only, spec_word}
+use Rattle.parse_expr.proofs.AgainKinds.{quiet, front_not, no_spec, no_closing, no_bracket, begins_primary, primary, leaf_opens, prefix_opens, prefix_begins, field_only, step_only, spec_word, type_name_begins}
 use Rattle.parse_expr.proofs.AgainLoops.{Chained, first, further, ends, collect_stops}
 
 -- ---- first tokens
@@ -56,6 +56,9 @@ spec_starts : (s : SpecTree) → IsSpec s → (rest : Symbols) → front_is is_s
 spec_starts (OneWord s) is rest = spec_word s.kind is
 spec_starts (Tagged k n) is rest = refl
 spec_starts (Body k tag o m ms c) is rest = refl
+spec_starts (NamedType s) is rest = type_name_begins s.kind is
+spec_starts (EnumTagged k n) is rest = refl
+spec_starts (EnumBody k tag o e es last c) is rest = refl
 
 pub type_starts : (t : TypeTree) → IsType t → (rest : Symbols) → front_is is_spec (spelled_type t ++ rest) ≡ true
 type_starts (TypeOf (Specified s ss) ps) is rest =

@@ -4,7 +4,7 @@ use Rattle.c_tree.specs.Words.{Symbols}
 use Rattle.parse_expr.specs.declared.error.ParseError.{ParseError}
 use Rattle.parse_expr.specs.declared.error.ParseError.TheVariants as errors
 use Rattle.parse_expr.specs.Reader.{Fails, Gives}
-use Rattle.parse_expr.specs.Reading.{Inner, at, expr_by, cond_by, type_name_by, members_by, params_by}
+use Rattle.parse_expr.specs.Reading.{Inner, at, expr_by, cond_by, type_name_by, members_by, params_by, enumerators_by}
 
 -- where reading gives nothing, an error that says so is right
 pub fails : {Y : Type 0} (e : ParseError) (read : Option Y) → Fails {Y = ℕ} e None → read ≡ None → Fails e read
@@ -39,7 +39,11 @@ pub no_params : (n : ℕ) (toks : Symbols) → n ≡ 0 → (at n).params toks �
 unfolding at
 no_params n toks h = rw h refl
 
-less : (n m : ℕ) → n ≡ suc m → at n ≡ record { expr = expr_by (at m); size = cond_by (at m); type_name = type_name_by (at m); members = members_by (at m); params = params_by (at m) }
+pub no_enumerators : (n : ℕ) (toks : Symbols) → n ≡ 0 → (at n).enumerators toks ≡ None
+unfolding at
+no_enumerators n toks h = rw h refl
+
+less : (n m : ℕ) → n ≡ suc m → at n ≡ record { expr = expr_by (at m); size = cond_by (at m); type_name = type_name_by (at m); members = members_by (at m); params = params_by (at m); enumerators = enumerators_by (at m) }
 unfolding at
 less n m h = rw h refl
 
@@ -57,3 +61,6 @@ less_members n toks h = ap (λ (i : Inner). i.members toks) (less n (n - 1) (one
 
 pub less_params : (n : ℕ) (toks : Symbols) → (n ≡ 0 → ⊥) → (at n).params toks ≡ params_by (at (n - 1)) toks
 less_params n toks h = ap (λ (i : Inner). i.params toks) (less n (n - 1) (one_more n h))
+
+pub less_enumerators : (n : ℕ) (toks : Symbols) → (n ≡ 0 → ⊥) → (at n).enumerators toks ≡ enumerators_by (at (n - 1)) toks
+less_enumerators n toks h = ap (λ (i : Inner). i.enumerators toks) (less n (n - 1) (one_more n h))

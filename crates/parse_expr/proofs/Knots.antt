@@ -3,16 +3,16 @@ use Rattle.std.proofs.Common.{◌≡◌, ℕ, suc, ◌≤◌, Bool, true, false,
 use Rattle.c_token.specs.declared.token.TokKind.{TokKind}
 use Rattle.c_token.specs.declared.token.Keyword.TheVariants as words
 use Rattle.c_token.specs.declared.token.Punct.TheVariants as marks
-use Rattle.c_tree.specs.Words.{Symbol, Symbols}
+use Rattle.c_tree.specs.Words.{Symbol, Symbols, punct, spelled_comma}
 use Rattle.c_tree.specs.Kinds.{is_punct, is_key, is_leaf, is_prefix, level_of, is_assignment, is_step, is_field, is_spec, is_qualifier}
-use Rattle.c_tree.specs.Trees.{Tree, TypeTree, MemberTree, ParamTree, spelled, spelled_type, spelled_member, spelled_more_members, spelled_param, spelled_more_params, IsTree, IsType, IsMember, AreMoreMembers, IsParam, AreMoreParams, rank}
-use Rattle.c_tree.specs.Lists.{more_members, more_params}
+use Rattle.c_tree.specs.Trees.{Tree, TypeTree, MemberTree, ParamTree, spelled, spelled_type, spelled_member, spelled_more_members, spelled_param, spelled_more_params, IsTree, IsType, IsMember, AreMoreMembers, IsParam, AreMoreParams, EnumeratorTree, spelled_enumerator, spelled_more_enumerators, IsEnumerator, AreMoreEnumerators, rank}
+use Rattle.c_tree.specs.Lists.{more_members, more_params, more_enumerators}
 use Rattle.parse_expr.specs.Reader.{Reader, Step, front_is, spells}
 use Rattle.parse_expr.specs.Reading.{Inner}
 
 -- ---- what is read is a tree, and spells the tokens taken
 
--- Only names and texts have bytes. So it is with the symbols of any tokens (`symbols_plain`).
+-- Only names, marked or not, and texts have bytes. So it is with the symbols of any tokens (`symbols_plain`).
 abbrev pub IsPlain : Symbol → Type 0
 IsPlain s = spells s.kind ≡ false → s.bytes ≡ []
 
@@ -50,12 +50,19 @@ spelled_params p = spelled_param p.0 ++ spelled_more_params (more_params p.1)
 abbrev pub AreParams : ParamTree × List (ℕ × ParamTree) → Type 0
 AreParams p = IsParam p.0 × AreMoreParams (more_params p.1)
 
+abbrev pub spelled_enumerators : EnumeratorTree × List (ℕ × EnumeratorTree) → Symbols
+spelled_enumerators e = spelled_enumerator e.0 ++ spelled_more_enumerators (more_enumerators e.1)
+
+abbrev pub AreEnumerators : EnumeratorTree × List (ℕ × EnumeratorTree) → Type 0
+AreEnumerators e = IsEnumerator e.0 × AreMoreEnumerators (more_enumerators e.1)
+
 pub record SoundInner (inner : Inner) : Type 0 where
   pub expr : Sound spelled IsTree inner.expr
   pub size : Sound spelled IsCond inner.size
   pub type_name : Sound spelled_type IsType inner.type_name
   pub members : Sound spelled_members AreMembers inner.members
   pub params : Sound spelled_params AreParams inner.params
+  pub enumerators : Sound spelled_enumerators AreEnumerators inner.enumerators
 
 -- ---- what is spelled is read, where what follows doesn't go on with it
 
@@ -98,6 +105,16 @@ StopsMembers rest = front_is is_spec rest ≡ false
 abbrev pub StopsParams : Symbols → Type 0
 StopsParams rest = front_is (is_punct marks.RightParenthesis) rest ≡ true
 
+-- behind enumerators comes `}`, or a comma and `}`
+abbrev pub list_end : Option ℕ → ℕ → Symbols → Symbols
+list_end last c rest = spelled_comma last ++ punct marks.RightBrace c ∷ rest
+
+pub record EndsList (rest : Symbols) : Type 0 where
+  pub last : Option ℕ
+  pub close : ℕ
+  pub after : Symbols
+  pub is : rest ≡ list_end last close after
+
 -- A reader gives each tree of its class, spelled with at most n tokens, and what follows.
 abbrev pub Again : {A : Type 0} → ℕ → (A → Symbols) → (A → Type 0) → (Symbols → Type 0) → Reader A → Type 0
 Again n spell Is Stop reader = (a : _) → length (spell a) ≤ n → Is a → (rest : Symbols) → Stop rest → reader (spell a ++ rest) ≡ Some (a, rest)
@@ -108,3 +125,4 @@ pub record CompleteInner (n : ℕ) (inner : Inner) : Type 0 where
   pub type_name : Again n spelled_type IsType StopsType inner.type_name
   pub members : Again n spelled_members AreMembers StopsMembers inner.members
   pub params : Again n spelled_params AreParams StopsParams inner.params
+  pub enumerators : Again n spelled_enumerators AreEnumerators EndsList inner.enumerators

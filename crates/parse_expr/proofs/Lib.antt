@@ -4,6 +4,7 @@ pub mod TakesLists
 pub mod TakesOperands
 pub mod TakesOperators
 pub mod TakesDeclarators
+pub mod TakesEnumerations
 pub mod Takes
 pub mod Collects
 pub mod Starts
@@ -13,6 +14,7 @@ pub mod AgainOperands
 pub mod AgainExpressions
 pub mod AgainSpecifiers
 pub mod AgainDeclarators
+pub mod AgainEnumerations
 pub mod AgainAll
 pub mod Names
 pub mod Unary

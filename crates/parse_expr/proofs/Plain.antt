@@ -1,4 +1,4 @@
--- What tells a symbol that is no name and no text: its kind and its line.
+-- What tells a symbol that is no name, marked or not, and no text: its kind and its line.
 use Rattle.std.proofs.Common.{◌≡◌, ℕ, zero, suc, Bool, true, false, List, [], ◌∷◌, Option, Some, None, refl, sym, ap, ◌∙◌, if◌then◌else◌}
 use Rattle.std.proofs.lemmas.Bool.{eqb-true}
 use Rattle.std.proofs.lemmas.Option.{same_Some}
@@ -30,7 +30,7 @@ mark_at marks.LeftBracket = refl
 mark_at _ = refl
 
 abbrev all_words : List Keyword
-all_words = words.Auto ∷ words.Break ∷ words.Case ∷ words.Char ∷ words.Const ∷ words.Continue ∷ words.Default ∷ words.Do ∷ words.Else ∷ words.For ∷ words.If ∷ words.Int ∷ words.Interrupt ∷ words.Long ∷ words.Register ∷ words.Return ∷ words.Short ∷ words.Signed ∷ words.Sizeof ∷ words.Static ∷ words.Struct ∷ words.Switch ∷ words.Unsigned ∷ words.Void ∷ words.Volatile ∷ words.While ∷ []
+all_words = words.Auto ∷ words.Break ∷ words.Case ∷ words.Char ∷ words.Const ∷ words.Continue ∷ words.Default ∷ words.Do ∷ words.Else ∷ words.Enum ∷ words.For ∷ words.If ∷ words.Int ∷ words.Interrupt ∷ words.Long ∷ words.Register ∷ words.Return ∷ words.Short ∷ words.Signed ∷ words.Sizeof ∷ words.Static ∷ words.Struct ∷ words.Switch ∷ words.Typedef ∷ words.Unsigned ∷ words.Void ∷ words.Volatile ∷ words.While ∷ []
 
 word_at : (w : Keyword) → nth (number_of_word w) all_words ≡ Some w
 word_at words.Auto = refl

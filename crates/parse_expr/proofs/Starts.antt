@@ -6,18 +6,19 @@ use Rattle.c_token.specs.declared.token.Keyword.{Keyword}
 use Rattle.c_token.specs.declared.token.Keyword.TheVariants as words
 use Rattle.c_token.specs.declared.token.Punct.TheVariants as marks
 use Rattle.c_tree.specs.Words.{Symbols, punct}
-use Rattle.c_tree.specs.Kinds.{is_punct, is_name, is_spec, is_spec_word, is_specifying, begins_spec}
-use Rattle.c_tree.specs.Trees.{TypeTree, TypeOf, SpecTrees, Specified, SpecTree, OneWord, Tagged, Body, MemberTree, Members, DeclaratorTree, Declares, SuffixTree, Unsized, Sized, Empty, VoidOnly, Params, ParamTree, Named, Unnamed, spelled_type, spelled_specs, spelled_more_specs, spelled_spec, spelled_member, spelled_more_declarators, spelled_declarator, spelled_suffixes, spelled_suffix, spelled_param, AreSpecs, IsSpec, IsMember, IsDeclarator, IsParam}
+use Rattle.c_tree.specs.Kinds.{is_punct, is_name, is_type_name, is_spec, is_spec_word, is_specifying, begins_spec}
+use Rattle.c_tree.specs.Trees.{TypeTree, TypeOf, SpecTrees, Specified, SpecTree, OneWord, Tagged, Body, NamedType, EnumTagged, EnumBody, EnumeratorTree, Bare, Valued, MemberTree, Members, DeclaratorTree, Declares, SuffixTree, Unsized, Sized, Empty, VoidOnly, Params, ParamTree, Named, Unnamed, spelled_type, spelled_specs, spelled_more_specs, spelled_spec, spelled_member, spelled_more_declarators, spelled_declarator, spelled_suffixes, spelled_suffix, spelled_param, AreSpecs, IsSpec, IsMember, IsDeclarator, IsParam, spelled_enumerator, IsEnumerator}
 use Rattle.parse_expr.specs.Reader.{front_is}
 use Rattle.parse_expr.proofs.Knots.{goes_on_suffixes}
 use Rattle.parse_expr.proofs.Collects.{and_both}
 
 -- ---- tokens that pass a test, and what other tests say of them
 
--- a token that begins a specifier is a keyword
-pub spec_token : (k : TokKind) (test : TokKind → Bool) → ((w : Keyword) → test (kinds.Keyword w) ≡ false) → is_spec k ≡ true → test k ≡ false
-spec_token (kinds.Keyword w) test none h = none w
-spec_token _ test none h = absurd cc
+-- a token that begins a specifier is a keyword or a marked name
+pub spec_token : (k : TokKind) (test : TokKind → Bool) → ((w : Keyword) → test (kinds.Keyword w) ≡ false) → test kinds.TypeName ≡ false → is_spec k ≡ true → test k ≡ false
+spec_token (kinds.Keyword w) test none marked h = none w
+spec_token kinds.TypeName test none marked h = marked
+spec_token _ test none marked h = absurd cc
 
 pub name_token : (k : TokKind) → is_name k ≡ true → k ≡ kinds.Name
 name_token kinds.Name h = refl
@@ -52,11 +53,21 @@ param_end _ test comma close h = absurd cc
 
 word_begins : (w : Keyword) → is_specifying w ≡ true → begins_spec w ≡ true
 word_begins words.Struct h = refl
+word_begins words.Enum h = refl
 word_begins w h = h
 
 spec_word_begins : (k : TokKind) → is_spec_word k ≡ true → is_spec k ≡ true
 spec_word_begins (kinds.Keyword w) h = word_begins w h
 spec_word_begins _ h = absurd cc
+
+type_name_begins : (k : TokKind) → is_type_name k ≡ true → is_spec k ≡ true
+type_name_begins kinds.TypeName h = refl
+type_name_begins _ h = absurd cc
+
+-- a marked name is no keyword
+pub type_name_token : (k : TokKind) (test : TokKind → Bool) → test kinds.TypeName ≡ false → is_type_name k ≡ true → test k ≡ false
+type_name_token kinds.TypeName test none h = none
+type_name_token _ test none h = absurd cc
 
 -- ---- specifiers
 
@@ -64,6 +75,9 @@ pub spec_starts : (s : SpecTree) → IsSpec s → (rest : Symbols) → front_is 
 spec_starts (OneWord s) is rest = spec_word_begins s.kind is
 spec_starts (Tagged k n) is rest = refl
 spec_starts (Body k tag o m ms c) is rest = refl
+spec_starts (NamedType s) is rest = type_name_begins s.kind is
+spec_starts (EnumTagged k n) is rest = refl
+spec_starts (EnumBody k tag o e es last c) is rest = refl
 
 pub specs_start : (s : SpecTrees) → AreSpecs s → (rest : Symbols) → front_is is_spec (spelled_specs s ++ rest) ≡ true
 specs_start (Specified s ss) is rest = ap (front_is is_spec) (append_assoc (spelled_spec s) (spelled_more_specs ss) rest) ∙ spec_starts s is.0 (spelled_more_specs ss ++ rest)
@@ -72,6 +86,9 @@ pub spec_has_token : (s : SpecTree) → 0 < length (spelled_spec s)
 spec_has_token (OneWord s) = omega arith
 spec_has_token (Tagged k n) = omega arith
 spec_has_token (Body k tag o m ms c) = omega arith
+spec_has_token (NamedType s) = omega arith
+spec_has_token (EnumTagged k n) = omega arith
+spec_has_token (EnumBody k tag o e es last c) = omega arith
 
 pub specs_have_token : (s : SpecTrees) → 0 < length (spelled_specs s)
 specs_have_token (Specified s ss) = omega (arith, spec_has_token s, length-append (spelled_spec s) (spelled_more_specs ss))
@@ -116,3 +133,13 @@ param_starts (Unnamed s ps ss) is rest = ap (front_is is_spec) (append_assoc (sp
 pub param_has_token : (p : ParamTree) → 0 < length (spelled_param p)
 param_has_token (Named s d) = omega (arith, specs_have_token s, length-append (spelled_specs s) (spelled_declarator d))
 param_has_token (Unnamed s ps ss) = omega (arith, specs_have_token s, length-append (spelled_specs s) (ps ++ spelled_suffixes ss))
+
+-- ---- enumerators
+
+pub enumerator_starts : (e : EnumeratorTree) → IsEnumerator e → (rest : Symbols) → front_is is_name (spelled_enumerator e ++ rest) ≡ true
+enumerator_starts (Bare n) is rest = is
+enumerator_starts (Valued n q e) is rest = is.0
+
+pub enumerator_has_token : (e : EnumeratorTree) → 0 < length (spelled_enumerator e)
+enumerator_has_token (Bare n) = omega arith
+enumerator_has_token (Valued n q e) = omega arith

@@ -2,15 +2,15 @@
 use Rattle.std.proofs.Common.{◌≡◌, ℕ, true, List, [], ◌∷◌, ◌++◌, Some, refl, sym, ap, subst, ◌∙◌, append_assoc}
 use Rattle.c_token.specs.declared.token.Keyword.TheVariants as words
 use Rattle.c_token.specs.declared.token.Punct.TheVariants as marks
-use Rattle.c_tree.specs.Words.{Symbols, key, punct}
-use Rattle.c_tree.specs.Kinds.{is_punct, is_key, is_name, is_spec_word}
-use Rattle.c_tree.specs.Trees.{TypeOf, SpecTrees, Specified, SpecTree, OneWord, Tagged, Body, MemberTree, Members, DeclaratorTree, Declares, SuffixTree, Unsized, Sized, Empty, VoidOnly, Params, ParamTree, Named, Unnamed, is_bare_void, are_pointers, is_tag, spelled_type, spelled_specs, spelled_more_specs, spelled_spec, spelled_more_members, spelled_member, spelled_more_declarators, spelled_declarator, spelled_suffixes, spelled_suffix, spelled_more_params, spelled_param, IsType, AreSpecs, AreMoreSpecs, IsSpec, AreMoreMembers, IsMember, AreMoreDeclarators, IsDeclarator, AreSuffixes, IsSuffix, AreMoreParams, IsParam}
-use Rattle.c_tree.specs.Lists.{more_specs, more_members, more_declarators, suffixes_of, more_params}
-use Rattle.parse_expr.specs.Reader.{◌>>=◌, Reader, front_is, symbol_at, punct_at, specs_come, all_that, pointers_at}
-use Rattle.parse_expr.specs.Reading.{Inner, body_by, struct_on, struct_by, spec_by, next_spec_by, specs_by, type_name_by, length_by, array_on, array_by, void_at, list_by, void_on, function_on, function_by, suffix_by, named_by, declarator_by, next_declarator_by, member_by, next_member_by, members_by, unnamed_by, named_param_by, param_behind, param_by, next_param_by, params_by}
+use Rattle.c_tree.specs.Words.{Symbols, key, punct, spelled_comma}
+use Rattle.c_tree.specs.Kinds.{is_punct, is_key, is_name, is_type_name, is_spec_word}
+use Rattle.c_tree.specs.Trees.{TypeOf, SpecTrees, Specified, SpecTree, OneWord, Tagged, Body, NamedType, EnumTagged, EnumBody, spelled_enumerator, spelled_more_enumerators, MemberTree, Members, DeclaratorTree, Declares, SuffixTree, Unsized, Sized, Empty, VoidOnly, Params, ParamTree, Named, Unnamed, is_bare_void, are_pointers, is_tag, spelled_type, spelled_specs, spelled_more_specs, spelled_spec, spelled_more_members, spelled_member, spelled_more_declarators, spelled_declarator, spelled_suffixes, spelled_suffix, spelled_more_params, spelled_param, IsType, AreSpecs, AreMoreSpecs, IsSpec, AreMoreMembers, IsMember, AreMoreDeclarators, IsDeclarator, AreSuffixes, IsSuffix, AreMoreParams, IsParam}
+use Rattle.c_tree.specs.Lists.{more_specs, more_members, more_declarators, suffixes_of, more_params, more_enumerators}
+use Rattle.parse_expr.specs.Reader.{◌>>=◌, Reader, front_is, symbol_at, punct_at, comma_at, specs_come, all_that, pointers_at}
+use Rattle.parse_expr.specs.Reading.{Inner, body_by, struct_on, struct_by, enum_body_by, enum_on, enum_by, spec_by, next_spec_by, specs_by, type_name_by, length_by, array_on, array_by, void_at, list_by, void_on, function_on, function_by, suffix_by, named_by, declarator_by, next_declarator_by, member_by, next_member_by, members_by, unnamed_by, named_param_by, param_behind, param_by, next_param_by, params_by}
 use Rattle.parse_expr.proofs.Knots.{ArePlain, Takes, Sound, SoundStep, SoundInner, spelled_members, AreMembers, spelled_params, AreParams}
 use Rattle.parse_expr.proofs.Plain.{punct_is, key_is}
-use Rattle.parse_expr.proofs.TakesLists.{Splits, join, splits_as, part, one, taken_as, take, bind_ok, sound_then, cases_if, cases_option, got_ok, symbol_takes, punct_takes, key_takes, Nothing, Each, spelled_all, all_take, pointers_take}
+use Rattle.parse_expr.proofs.TakesLists.{Splits, join, splits_as, part, one, taken_as, take, bind_ok, sound_then, cases_if, cases_option, got_ok, symbol_takes, punct_takes, comma_takes, key_takes, Nothing, Each, spelled_all, all_take, pointers_take}
 
 -- ---- specifiers
 
@@ -36,14 +36,42 @@ struct_takes inner sound k toks plain x e = cases_option (symbol_at is_name toks
     (λ brace e3. take (Tagged k z.0) (join (one (key words.Struct k) toks) (part n)) n.tree n.plain e3) e2)
     (λ is e2. body_takes inner sound k [] toks refl plain x e2) e
 
+-- an enumeration, behind its keyword and its tag
+enum_body_takes : (inner : Inner) → SoundInner inner → (k : ℕ) (tag toks : Symbols) → is_tag tag ≡ true → ArePlain toks → (x : SpecTree × Symbols) → enum_body_by inner k tag toks ≡ Some x → Takes spelled_spec IsSpec (key words.Enum k ∷ (tag ++ toks)) x
+unfolding enum_body_by
+enum_body_takes inner sound k tag toks is plain x e =
+    let o = sound_then (punct_takes marks.LeftBrace) toks plain _ x e in
+    let m = sound_then sound.enumerators o.read.1 o.takes.plain _ x o.on in
+    let last = comma_takes m.read.1 m.takes.plain in
+    let c = sound_then (punct_takes marks.RightBrace) (comma_at m.read.1).1 last.plain _ x m.on in
+    let more = spelled_more_enumerators (more_enumerators m.read.0.1) in
+    let end = spelled_comma (comma_at m.read.1).0 ++ punct marks.RightBrace c.read.0 ∷ [] in
+    let behind : Splits toks (punct marks.LeftBrace o.read.0 ∷ (spelled_enumerator m.read.0.0 ++ (more ++ end))) c.read.1
+    = splits_as (join (part o.takes) (join (part m.takes) (join (part last) (part c.takes)))) (ap (λ (l : Symbols). punct marks.LeftBrace o.read.0 ∷ l) (sym (append_assoc (spelled_enumerator m.read.0.0) more end))) in
+    take (EnumBody k tag o.read.0 m.read.0.0 (more_enumerators m.read.0.1) (comma_at m.read.1).0 c.read.0) (join (one (key words.Enum k) (tag ++ toks)) (join (record { is = refl }) behind)) (is, m.takes.tree.0, m.takes.tree.1) c.takes.plain c.on
+
+enum_takes : (inner : Inner) → SoundInner inner → (k : ℕ) (toks : Symbols) → ArePlain toks → (x : SpecTree × Symbols) → enum_by inner k toks ≡ Some x → Takes spelled_spec IsSpec (key words.Enum k ∷ toks) x
+unfolding enum_by
+enum_takes inner sound k toks plain x e = cases_option (symbol_at is_name toks) (enum_on inner k toks) (Some x)
+    (λ z is e2.
+    let n = symbol_takes is_name toks plain z is in
+    cases_if (front_is (is_punct marks.LeftBrace) z.1) _ _ (Some x)
+    (λ brace e3. subst (λ (l : Symbols). Takes spelled_spec IsSpec (key words.Enum k ∷ l) x) (sym n.parts) (enum_body_takes inner sound k (z.0 ∷ []) z.1 n.tree n.plain x e3))
+    (λ brace e3. take (EnumTagged k z.0) (join (one (key words.Enum k) toks) (part n)) n.tree n.plain e3) e2)
+    (λ is e2. enum_body_takes inner sound k [] toks refl plain x e2) e
+
 spec_takes : (inner : Inner) → SoundInner inner → Sound spelled_spec IsSpec (spec_by inner)
 unfolding spec_by
 spec_takes inner sound [] plain x e = absurd cc
 spec_takes inner sound (s ∷ rest) plain x e = cases_if (is_spec_word s.kind) _ _ (Some x)
     (λ is e2. take (OneWord s) (one s rest) is plain.1 e2)
-    (λ is e2. cases_if (is_key words.Struct s.kind) _ _ (Some x)
-    (λ is e3. taken_as s (key words.Struct s.line) rest (key_is words.Struct s plain.0 is) (struct_takes inner sound s.line rest plain.1 x e3))
-    (λ is e3. absurd cc) e2) e
+    (λ is e2. cases_if (is_type_name s.kind) _ _ (Some x)
+    (λ is e3. take (NamedType s) (one s rest) is plain.1 e3)
+    (λ is e3. cases_if (is_key words.Struct s.kind) _ _ (Some x)
+    (λ is e4. taken_as s (key words.Struct s.line) rest (key_is words.Struct s plain.0 is) (struct_takes inner sound s.line rest plain.1 x e4))
+    (λ is e4. cases_if (is_key words.Enum s.kind) _ _ (Some x)
+    (λ is e5. taken_as s (key words.Enum s.line) rest (key_is words.Enum s plain.0 is) (enum_takes inner sound s.line rest plain.1 x e5))
+    (λ is e5. absurd cc) e4) e3) e2) e
 
 next_spec_takes : (inner : Inner) → SoundInner inner → SoundStep spelled_spec IsSpec (next_spec_by inner)
 unfolding next_spec_by

@@ -6,10 +6,10 @@ use Rattle.c_token.specs.declared.token.TokKind.{TokKind}
 use Rattle.c_token.specs.declared.token.Keyword.{Keyword}
 use Rattle.c_token.specs.declared.token.Punct.{Punct}
 use Rattle.c_token.specs.declared.token.Punct.TheVariants as marks
-use Rattle.c_tree.specs.Words.{Symbol, Symbols, key, punct, flat}
+use Rattle.c_tree.specs.Words.{Symbol, Symbols, key, punct, flat, spelled_comma}
 use Rattle.c_tree.specs.Kinds.{is_punct, is_key, is_qualifier}
 use Rattle.c_tree.specs.Trees.{are_stars, are_pointers}
-use Rattle.parse_expr.specs.Reader.{◌>>=◌, Reader, Step, symbol_at, punct_at, key_at, got, collect_on, collect, all_that, with_symbol, stars_at, pointers_at}
+use Rattle.parse_expr.specs.Reader.{◌>>=◌, Reader, Step, symbol_at, punct_at, key_at, comma_on, comma_at, got, collect_on, collect, all_that, with_symbol, stars_at, pointers_at}
 use Rattle.parse_expr.proofs.Knots.{ArePlain, Takes, Sound, SoundStep}
 use Rattle.parse_expr.proofs.Plain.{punct_is, key_is}
 
@@ -100,6 +100,14 @@ key_takes w [] plain x e = absurd cc
 key_takes w (s ∷ rest) plain x e = cases_if (is_key w s.kind) (Some (s.line, rest)) None (Some x)
     (λ is e2. take s.line (record { is = ap (λ (t : Symbol). t ∷ rest) (key_is w s plain.0 is) }) tt plain.1 e2)
     (λ is e2. absurd cc) e
+
+-- a comma, or none
+pub comma_takes : (toks : Symbols) → ArePlain toks → Takes spelled_comma Nothing toks (comma_at toks)
+unfolding comma_at
+comma_takes toks plain = elim (punct_at marks.Comma toks) as (λ q. punct_at marks.Comma toks ≡ q → Takes spelled_comma Nothing toks (comma_on toks q)) [
+  | None ↦ λ is. record { parts = refl; tree = tt; plain = plain }
+  | Some c ↦ λ is. let t = punct_takes marks.Comma toks plain c is in record { parts = t.parts; tree = tt; plain = t.plain }
+] refl
 
 -- ---- lists
 

@@ -7,7 +7,7 @@ use Rattle.c_token.specs.declared.token.Punct.{Punct}
 use Rattle.c_token.specs.declared.token.Punct.TheVariants as marks
 use Rattle.c_pre.specs.Words.{word_of}
 use Rattle.c_tree.specs.Words.{Symbol, Symbols}
-use Rattle.c_tree.specs.Kinds.{is_punct, is_key, is_name, is_text, is_spec, is_qualifier}
+use Rattle.c_tree.specs.Kinds.{is_punct, is_key, is_name, is_type_name, is_text, is_spec, is_qualifier}
 use Rattle.parse_expr.specs.declared.error.ParseError.{ParseError}
 use Rattle.parse_expr.specs.declared.error.ParseError.TheVariants as errors
 
@@ -45,7 +45,7 @@ over f None = None
 
 -- the symbols of a list of tokens in a text
 abbrev pub spells : TokKind → Bool
-spells k = if is_name k then true else is_text k
+spells k = if is_name k then true else if is_type_name k then true else is_text k
 
 abbrev pub symbol_in : List ℕ → Tok → Symbol
 symbol_in text t = record { kind = t.kind; bytes = if spells t.kind then word_of text t else []; line = t.line }
@@ -63,6 +63,11 @@ unfoldable pub symbol_at : (TokKind → Bool) → Reader Symbol
 symbol_at test [] = None
 symbol_at test (s ∷ rest) = if test s.kind then Some (s, rest) else None
 
+-- a comma in front, where one comes
+abbrev pub comma_on : Symbols → Option (ℕ × Symbols) → Option ℕ × Symbols
+comma_on toks None = (None, toks)
+comma_on toks (Some c) = (Some c.0, c.1)
+
 -- the line of a punctuator, of a keyword, that has to come
 unfoldable pub punct_at : Punct → Reader ℕ
 punct_at p [] = None
@@ -71,6 +76,9 @@ punct_at p (s ∷ rest) = if is_punct p s.kind then Some (s.line, rest) else Non
 unfoldable pub key_at : Keyword → Reader ℕ
 key_at w [] = None
 key_at w (s ∷ rest) = if is_key w s.kind then Some (s.line, rest) else None
+
+unfoldable pub comma_at : Symbols → Option ℕ × Symbols
+comma_at toks = comma_on toks (punct_at marks.Comma toks)
 
 abbrev pub specs_come : Symbols → Bool
 specs_come toks = front_is is_spec toks

@@ -3,10 +3,10 @@ use Rattle.std.specs.Prelude.{ℕ, zero, suc, ◌&&◌, ◌==◌, if◌then◌el
 use Rattle.c_token.specs.declared.token.Keyword.TheVariants as words
 use Rattle.c_token.specs.declared.token.Punct.TheVariants as marks
 use Rattle.c_tree.specs.Words.{Symbol, Symbols}
-use Rattle.c_tree.specs.Kinds.{is_punct, is_key, is_name, is_leaf, level_of, is_assignment, is_prefix, is_step, is_field, is_spec_word}
-use Rattle.c_tree.specs.Trees.{Tree, Leaf, Group, Measure, Choose, Assign, Post, Index, CallBare, Call, Field, Step, Pre, Sign, Sizeof, Cast, TypeTree, TypeOf, SpecTrees, Specified, SpecTree, OneWord, Tagged, Body, MemberTree, Members, DeclaratorTree, Declares, SuffixTree, Unsized, Sized, Empty, VoidOnly, Params, ParamTree, Named, Unnamed, is_unary, is_bare_void}
-use Rattle.c_tree.specs.Lists.{posted, prefixed, joined, listed, more_specs, more_members, more_declarators, suffixes_of, more_params}
-use Rattle.parse_expr.specs.Reader.{◌>>=◌, Reader, front_is, symbol_at, punct_at, key_at, specs_come, type_opens, got, all_that, pointers_at}
+use Rattle.c_tree.specs.Kinds.{is_punct, is_key, is_name, is_leaf, level_of, is_assignment, is_prefix, is_step, is_field, is_spec_word, is_type_name}
+use Rattle.c_tree.specs.Trees.{Tree, Leaf, Group, Measure, Choose, Assign, Post, Index, CallBare, Call, Field, Step, Pre, Sign, Sizeof, Cast, TypeTree, TypeOf, SpecTrees, Specified, SpecTree, OneWord, Tagged, Body, NamedType, EnumTagged, EnumBody, EnumeratorTree, Bare, Valued, MemberTree, Members, DeclaratorTree, Declares, SuffixTree, Unsized, Sized, Empty, VoidOnly, Params, ParamTree, Named, Unnamed, is_unary, is_bare_void}
+use Rattle.c_tree.specs.Lists.{posted, prefixed, joined, listed, more_specs, more_members, more_declarators, suffixes_of, more_params, more_enumerators}
+use Rattle.parse_expr.specs.Reader.{◌>>=◌, Reader, front_is, symbol_at, punct_at, key_at, specs_come, comma_at, type_opens, got, all_that, pointers_at}
 use Rattle.parse_expr.specs.Reader as reader
 
 -- What may stand in brackets, and between `?` and `:`. Each is read with one bracket less to go.
@@ -16,6 +16,7 @@ pub record Inner : Type 0 where
   pub type_name : Reader TypeTree
   pub members : Reader (MemberTree × List MemberTree)
   pub params : Reader (ParamTree × List (ℕ × ParamTree))
+  pub enumerators : Reader (EnumeratorTree × List (ℕ × EnumeratorTree))
 
 -- ---- operands
 
@@ -188,11 +189,31 @@ struct_on inner k toks (Some n) =
 unfoldable pub struct_by : Inner → ℕ → Reader SpecTree
 struct_by inner k toks = struct_on inner k toks (symbol_at is_name toks)
 
+-- `}` behind the enumerators, where a comma may stand before it
+unfoldable pub enum_body_by : Inner → ℕ → Symbols → Reader SpecTree
+enum_body_by inner k tag toks = do
+  o ← punct_at marks.LeftBrace toks
+  e ← inner.enumerators o.1
+  c ← punct_at marks.RightBrace (comma_at e.1).1
+  Some (EnumBody k tag o.0 e.0.0 (more_enumerators e.0.1) (comma_at e.1).0 c.0, c.1)
+
+-- behind `enum`
+abbrev pub enum_on : Inner → ℕ → Symbols → Option (Symbol × Symbols) → Option (SpecTree × Symbols)
+enum_on inner k toks None = enum_body_by inner k [] toks
+enum_on inner k toks (Some n) =
+    if front_is (is_punct marks.LeftBrace) n.1 then enum_body_by inner k (n.0 ∷ []) n.1
+    else Some (EnumTagged k n.0, n.1)
+
+unfoldable pub enum_by : Inner → ℕ → Reader SpecTree
+enum_by inner k toks = enum_on inner k toks (symbol_at is_name toks)
+
 unfoldable pub spec_by : Inner → Reader SpecTree
 spec_by inner [] = None
 spec_by inner (s ∷ rest) =
     if is_spec_word s.kind then Some (OneWord s, rest)
+    else if is_type_name s.kind then Some (NamedType s, rest)
     else if is_key words.Struct s.kind then struct_by inner s.line rest
+    else if is_key words.Enum s.kind then enum_by inner s.line rest
     else None
 
 unfoldable pub next_spec_by : Inner → reader.Step SpecTree
@@ -289,6 +310,38 @@ members_by inner toks = do
   ms ← all_that (next_member_by inner) m.1
   Some ((m.0, ms.0), ms.1)
 
+-- ---- enumerators
+
+-- behind the name of an enumerator
+abbrev pub valued_on : Inner → Symbol → Symbols → Option (ℕ × Symbols) → Option (EnumeratorTree × Symbols)
+valued_on inner n toks None = Some (Bare n, toks)
+valued_on inner n toks (Some q) = do
+  e ← cond_by inner q.1
+  Some (Valued n q.0 e.0, e.1)
+
+unfoldable pub valued_by : Inner → Symbol → Reader EnumeratorTree
+valued_by inner n toks = valued_on inner n toks (punct_at marks.Assign toks)
+
+unfoldable pub enumerator_by : Inner → Reader EnumeratorTree
+enumerator_by inner toks = do
+  n ← symbol_at is_name toks
+  valued_by inner n.0 n.1
+
+-- a comma that an enumerator follows, and not the end of the list
+unfoldable pub next_enumerator_by : Inner → reader.Step (ℕ × EnumeratorTree)
+next_enumerator_by inner [] = Some None
+next_enumerator_by inner (s ∷ rest) =
+    if is_punct marks.Comma s.kind then (if front_is (is_punct marks.RightBrace) rest then Some None else got (enumerator_by inner rest >>= λ e. Some ((s.line, e.0), e.1)))
+    else Some None
+
+unfoldable pub enumerators_by : Inner → Reader (EnumeratorTree × List (ℕ × EnumeratorTree))
+enumerators_by inner toks = do
+  e ← enumerator_by inner toks
+  es ← all_that (next_enumerator_by inner) e.1
+  Some ((e.0, es.0), es.1)
+
+-- ---- parameters
+
 -- a parameter without a name, behind its pointers
 abbrev pub unnamed_on : SpecTrees → Symbols → List SuffixTree × Symbols → Option (ParamTree × Symbols)
 unnamed_on s ps ss = if is_bare_void s ps (suffixes_of ss.0) then None else Some (Unnamed s ps (suffixes_of ss.0), ss.1)
@@ -325,5 +378,5 @@ params_by inner toks = do
 
 -- What is read where n brackets may still be entered.
 unfoldable pub at : ℕ → Inner
-at zero = record { expr = λ toks. None; size = λ toks. None; type_name = λ toks. None; members = λ toks. None; params = λ toks. None }
-at (suc n) = record { expr = expr_by (at n); size = cond_by (at n); type_name = type_name_by (at n); members = members_by (at n); params = params_by (at n) }
+at zero = record { expr = λ toks. None; size = λ toks. None; type_name = λ toks. None; members = λ toks. None; params = λ toks. None; enumerators = λ toks. None }
+at (suc n) = record { expr = expr_by (at n); size = cond_by (at n); type_name = type_name_by (at n); members = members_by (at n); params = params_by (at n); enumerators = enumerators_by (at n) }

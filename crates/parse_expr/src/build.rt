@@ -4,15 +4,15 @@
 //! ran out.
 
 ghost use Rattle.std.specs.Prelude.{◌≡◌, ℕ, List, [], ◌∷◌, Some, None, true, IfOk, map};
-ghost use Rattle.c_tree.specs.Words.{Symbol, signed, keyed, named, spell_constant, spell_pointers, spell_tag};
+ghost use Rattle.c_tree.specs.Words.{Symbol, signed, keyed, named, type_named, spell_constant, spell_pointers, spell_tag};
 ghost use Rattle.c_tree.specs.Trees as tree;
-ghost use Rattle.c_tree.specs.Lists.{posted, prefixed, joined, listed, chosen, assigned, more_specs, more_members, more_declarators, suffixes_of, more_params};
-ghost use Rattle.c_tree.specs.Views.{binary_of, operand_of, param_of, postfix_suffix_of, prefix_of, primary_of, spec_of, suffix_of, assign_of, cast_of, choice_of, cond_of, declarator_of, expr_of, member_of, next_assign_of, next_declarator_of, next_operand_of, next_param_of, postfix_of, specs_of, struct_body_of, target_of, type_name_of};
+ghost use Rattle.c_tree.specs.Lists.{posted, prefixed, joined, listed, chosen, assigned, more_specs, more_members, more_declarators, suffixes_of, more_params, more_enumerators};
+ghost use Rattle.c_tree.specs.Views.{binary_of, operand_of, param_of, postfix_suffix_of, prefix_of, primary_of, spec_of, suffix_of, assign_of, cast_of, choice_of, cond_of, declarator_of, expr_of, member_of, next_assign_of, next_declarator_of, next_operand_of, next_param_of, postfix_of, specs_of, struct_body_of, target_of, type_name_of, enumerator_of, enum_body_of, next_enumerator_of};
 
 use c_tree::expression::{
-    Assign, Binary, Cast, Choice, Cond, Declarator, Expr, Member, NextAssign, NextDeclarator,
-    NextOperand, NextParam, Operand, Param, Postfix, PostfixSuffix, Prefix, Primary, Spec, Specs,
-    StructBody, Suffix, Target, TypeName,
+    Assign, Binary, Cast, Choice, Cond, Declarator, EnumBody, Enumerator, Expr, Member, NextAssign,
+    NextDeclarator, NextEnumerator, NextOperand, NextParam, Operand, Param, Postfix, PostfixSuffix,
+    Prefix, Primary, Spec, Specs, StructBody, Suffix, Target, TypeName,
 };
 use c_tree::word::{Constant, Name, Pointer, Sign, Word};
 use std::alloc::{AllocError, Global};
@@ -300,6 +300,77 @@ pub fn word_spec(word: Word) -> Spec
     ensures { spec_of result ≡ tree.OneWord (keyed word) }
 {
     Spec::Word(word)
+}
+
+/// A marked name as a specifier (ISO/IEC 9899:1990, 6.5.6).
+#[tactic(auto, using(c_tree::proofs::Shapes::show_spec_type_name))]
+pub fn named_type(name: Name) -> Spec
+    ensures { spec_of result ≡ tree.NamedType (type_named name) }
+{
+    Spec::TypeName(name)
+}
+
+/// `enum tag` (ISO/IEC 9899:1990, 6.5.2.3).
+#[tactic(auto, using(c_tree::proofs::Shapes::show_spec_enum_reference))]
+pub fn enum_reference(keyword: u32, tag: Name) -> Spec
+    ensures { spec_of result ≡ tree.EnumTagged keyword (named tag) }
+{
+    Spec::EnumReference { keyword, tag }
+}
+
+/// An enumeration with its enumerators; `braces` are the lines of the braces (ISO/IEC 9899:1990, 6.5.2.2).
+#[tactic(auto, using(c_tree::proofs::Shapes::show_spec_enum_body, c_tree::proofs::Shapes::made_enum_body))]
+pub fn enum_body(
+    alloc: Global,
+    keyword: u32,
+    tag: Option<Name>,
+    braces: (u32, u32),
+    enumerators: (Enumerator, Vec<NextEnumerator>),
+    last_comma: Option<u32>,
+) -> Result<Spec, AllocError>
+    ensures { IfOk result (λ s. spec_of s ≡ tree.EnumBody keyword (spell_tag tag) braces.0 (enumerator_of enumerators.0) (more_enumerators (map next_enumerator_of enumerators.1.items)) last_comma braces.1) }
+{
+    let (opening, closing) = braces;
+    let (first, others) = enumerators;
+    let body = EnumBody {
+        keyword,
+        tag,
+        opening,
+        first,
+        others,
+        last_comma,
+        closing,
+    };
+    Ok(Spec::EnumBody(Box::new(alloc, body)?))
+}
+
+/// A comma, and the enumerator after it (ISO/IEC 9899:1990, 6.5.2.2).
+#[tactic(auto, using(c_tree::proofs::Shapes::made_next_enumerator))]
+pub fn next_enumerator(comma: u32, enumerator: Enumerator) -> NextEnumerator
+    ensures { next_enumerator_of result ≡ (comma, enumerator_of enumerator) }
+{
+    NextEnumerator { comma, enumerator }
+}
+
+/// An enumerator without a value (ISO/IEC 9899:1990, 6.5.2.2).
+#[tactic(auto, using(c_tree::proofs::Shapes::show_enumerator_bare))]
+pub fn bare(name: Name) -> Enumerator
+    ensures { enumerator_of result ≡ tree.Bare (named name) }
+{
+    Enumerator::Bare(name)
+}
+
+/// `name = value` (ISO/IEC 9899:1990, 6.5.2.2).
+#[tactic(auto, using(c_tree::proofs::Shapes::show_enumerator_valued))]
+pub fn valued(alloc: Global, name: Name, equals: u32, value: Cond) -> Result<Enumerator, AllocError>
+    ensures { IfOk result (λ e. enumerator_of e ≡ tree.Valued (named name) equals (cond_of value)) }
+{
+    let value = Box::new(alloc, value)?;
+    Ok(Enumerator::Valued {
+        name,
+        equals,
+        value,
+    })
 }
 
 /// `struct tag` (ISO/IEC 9899:1990, 6.5.2.3).

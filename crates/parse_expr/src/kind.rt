@@ -1,7 +1,7 @@
 //! Tests on the kind of a token.
 
 ghost use Rattle.std.specs.Prelude.{◌≡◌, Bool};
-ghost use Rattle.c_tree.specs.Kinds.{number_of, number_of_word, is_punct, is_key, is_name, is_assign_mark, is_prefix_mark, is_step_mark, is_field_mark, tier_of, is_qualifying, is_specifying, begins_spec, is_spec};
+ghost use Rattle.c_tree.specs.Kinds.{number_of, number_of_word, is_punct, is_key, is_name, is_type_name, is_assign_mark, is_prefix_mark, is_step_mark, is_field_mark, tier_of, is_qualifying, is_specifying, begins_spec, is_spec};
 
 use c_token::{Keyword, Punct, TokKind};
 
@@ -42,6 +42,13 @@ pub fn is_name(kind: TokKind) -> bool
     ensures { result ≡ is_name kind }
 {
     matches!(kind, TokKind::Name)
+}
+
+/// Whether it is an identifier that is marked as the name of a type.
+pub fn is_type_name(kind: TokKind) -> bool
+    ensures { result ≡ is_type_name kind }
+{
+    matches!(kind, TokKind::TypeName)
 }
 
 /// Whether it is an assignment operator (ISO/IEC 9899:1990, 6.3.16).
@@ -128,7 +135,8 @@ pub fn is_specifying(keyword: Keyword) -> bool
     ensures { result ≡ is_specifying keyword }
 {
     match keyword {
-        Keyword::Static
+        Keyword::Typedef
+        | Keyword::Static
         | Keyword::Auto
         | Keyword::Register
         | Keyword::Const
@@ -150,7 +158,8 @@ pub fn is_spec(kind: TokKind) -> bool
     ensures { result ≡ is_spec kind }
 {
     match kind {
-        TokKind::Keyword(Keyword::Struct) => true,
+        TokKind::Keyword(Keyword::Struct | Keyword::Enum) => true,
+        TokKind::TypeName => true,
         TokKind::Keyword(keyword) => is_specifying(keyword),
         _ => false,
     }

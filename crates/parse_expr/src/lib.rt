@@ -8,6 +8,7 @@
 
 mod build;
 pub mod declarator;
+mod enumeration;
 mod error;
 pub mod expression;
 pub mod kind;

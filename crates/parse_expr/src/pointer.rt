@@ -93,14 +93,17 @@ pub fn behind_void<'s>(toks: &'s [Tok]) -> Option<((u32, u32), &'s [Tok])>
     Some(((void, closing), rest))
 }
 
-#[tactic(auto, using(c_tree::proofs::Shapes::show_spec_word, c_tree::proofs::Shapes::show_spec_reference, c_tree::proofs::Shapes::show_spec_body, c_tree::proofs::Shapes::show_struct_body))]
+#[tactic(auto, using(c_tree::proofs::Shapes::show_spec_word, c_tree::proofs::Shapes::show_spec_reference, c_tree::proofs::Shapes::show_spec_body, c_tree::proofs::Shapes::show_struct_body, c_tree::proofs::Shapes::show_spec_type_name, c_tree::proofs::Shapes::show_spec_enum_reference, c_tree::proofs::Shapes::show_spec_enum_body, c_tree::proofs::Shapes::show_enum_body))]
 fn is_void_word(spec: &Spec) -> bool
     ensures { result ≡ is_void (Specified (spec_of spec.now) NoSpec) }
 {
     match spec {
         Spec::Word(word) => is_keyword(Keyword::Void, TokKind::Keyword(word.keyword)),
+        Spec::TypeName(_) => false,
         Spec::Reference { .. } => false,
         Spec::Body(_) => false,
+        Spec::EnumReference { .. } => false,
+        Spec::EnumBody(_) => false,
     }
 }
 

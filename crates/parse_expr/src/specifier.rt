@@ -8,9 +8,10 @@ ghost use Rattle.parse_expr.specs.Reading.{at, type_name_by, specs_by, next_spec
 
 use crate::build;
 use crate::declarator::declarator;
+use crate::enumeration::enumeration;
 use crate::kind::{is_keyword, is_punct, is_specifying};
 use crate::pointer::pointers;
-use crate::take::{Read, Step, behind_name, punct, punct_comes, specs_come, stopped};
+use crate::take::{Read, Step, behind_name, punct, punct_comes, specs_come, stopped, type_named};
 use c_token::{Keyword, Punct, Tok, TokKind};
 use c_tree::expression::{Member, NextDeclarator, Spec, Specs, TypeName};
 use c_tree::word::{Name, Word};
@@ -111,7 +112,7 @@ fn next_spec<'s>(
     }
 }
 
-/// A word, or a structure.
+/// A word, a marked name, a structure or an enumeration.
 #[cycle(parse)]
 #[tactic(auto, unfolding(crate::specs::Reading::spec_by))]
 fn spec<'s>(alloc: Global, text: &[u8], last: u32, fuel: usize, toks: &'s [Tok]) -> Read<'s, Spec>
@@ -125,10 +126,13 @@ fn spec<'s>(alloc: Global, text: &[u8], last: u32, fuel: usize, toks: &'s [Tok])
                     Ok((build::word_spec(Word { keyword, line }), rest))
                 } else if is_keyword(Keyword::Struct, first.kind) {
                     structure(alloc, text, last, fuel, line, rest)
+                } else if is_keyword(Keyword::Enum, first.kind) {
+                    enumeration(alloc, text, last, fuel, line, rest)
                 } else {
                     Err(stopped(last, toks))
                 }
             }
+            TokKind::TypeName => Ok((build::named_type(type_named(alloc, text, first)?), rest)),
             _ => Err(stopped(last, toks)),
         },
         [] => Err(stopped(last, toks)),

@@ -1,9 +1,9 @@
 //! The token in front of a list.
 
 ghost use Rattle.std.specs.Prelude.{◌≡◌, ◌+◌, ℕ, suc, List, Some, None, true, IfOk};
-ghost use Rattle.c_tree.specs.Words.{named};
-ghost use Rattle.c_tree.specs.Kinds.{is_punct, is_name, is_key, is_spec};
-ghost use Rattle.parse_expr.specs.Reader.{Fails, Gives, Shows, symbol_in, symbols_in, front_is, symbol_at, punct_at, key_at, specs_come, type_opens};
+ghost use Rattle.c_tree.specs.Words.{named, type_named};
+ghost use Rattle.c_tree.specs.Kinds.{is_punct, is_name, is_type_name, is_key, is_spec};
+ghost use Rattle.parse_expr.specs.Reader.{Fails, Gives, Shows, symbol_in, symbols_in, front_is, symbol_at, punct_at, key_at, comma_at, specs_come, type_opens};
 
 use crate::error::ParseError;
 use crate::kind::{is_keyword, is_name, is_punct, is_spec};
@@ -69,6 +69,17 @@ pub fn behind_punct<'s>(wanted: Punct, toks: &'s [Tok]) -> Option<(u32, &'s [Tok
     }
 }
 
+/// The line of a comma, where one comes, and what is after it.
+#[tactic(auto, unfolding(crate::specs::Reader::comma_at))]
+pub fn behind_comma<'s>(toks: &'s [Tok]) -> (Option<u32>, &'s [Tok])
+    ensures { (text : List ℕ) → (result.0, symbols_in text result.1.now) ≡ comma_at (symbols_in text toks.now) }
+{
+    match behind_punct(Punct::Comma, toks) {
+        Some((comma, rest)) => (Some(comma), rest),
+        None => (None, toks),
+    }
+}
+
 /// The line of a keyword that has to come, and what is after it.
 #[tactic(auto, unfolding(crate::specs::Reader::key_at))]
 pub fn keyword<'s>(last: u32, wanted: Keyword, toks: &'s [Tok]) -> Read<'s, u32>
@@ -108,6 +119,19 @@ pub fn behind_keyword<'s>(wanted: Keyword, toks: &'s [Tok]) -> Option<(u32, &'s 
 pub fn named(alloc: Global, text: &[u8], tok: &Tok) -> Result<Name, AllocError>
     requires { is_name tok.now.kind ≡ true }
     ensures { IfOk result (λ n. named n ≡ symbol_in text.now tok.now) }
+{
+    let bytes = word_of(text, *tok).to_vec(alloc)?;
+    Ok(Name {
+        bytes,
+        line: tok.line,
+    })
+}
+
+/// A marked name with a copy of its bytes.
+#[tactic(auto, using(crate::proofs::Names::type_name_is))]
+pub fn type_named(alloc: Global, text: &[u8], tok: &Tok) -> Result<Name, AllocError>
+    requires { is_type_name tok.now.kind ≡ true }
+    ensures { IfOk result (λ n. type_named n ≡ symbol_in text.now tok.now) }
 {
     let bytes = word_of(text, *tok).to_vec(alloc)?;
     Ok(Name {

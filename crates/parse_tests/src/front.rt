@@ -1,6 +1,6 @@
 //! The way from a text to its tree.
 
-use c_parse::{ParseError, parse};
+use c_parse::{ParseError, mark, parse};
 use c_pre::{PreError, tokens};
 use c_token::{LexError, Tok, TokKind, raw};
 use c_tree::spell;
@@ -34,7 +34,7 @@ pub fn becomes(alloc: Global, text: &[u8]) -> Result<Outcome, Fail> {
         Err(error) => return Ok(Outcome::Lex(error)),
     };
     match tokens(alloc, text, &raw) {
-        Ok(toks) => parsed(alloc, text, &toks),
+        Ok(toks) => parsed(alloc, text, &mark(alloc, text, &toks)?),
         Err(error) => Ok(Outcome::Pre(error)),
     }
 }

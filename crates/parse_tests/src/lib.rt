@@ -9,3 +9,5 @@ mod cases;
 mod front;
 #[cfg(test)]
 mod limits;
+#[cfg(test)]
+mod type_names;

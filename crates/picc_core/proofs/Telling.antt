@@ -17,6 +17,7 @@ use Rattle.parse_expr.specs.declared.error.ParseError.{ParseError}
 use Rattle.parse_expr.specs.declared.error.ParseError.TheVariants as parse
 use Rattle.c_parse.specs.Limits.{open_after, run_after, judged, first_over, IsLimit}
 use Rattle.picc_core.specs.Errors.{of_lex, of_pre, of_parse}
+use Rattle.c_parse.specs.Marks.{marked}
 use Rattle.picc_core.specs.Texts.{behind_directives, behind_tokens, tokens_left, limited, within_limits, program_tokens, HasTree, HasNoTree}
 use Rattle.picc_core.specs.Typed.{IsTreeOf, IsTypedAs}
 use Rattle.picc_core.proofs.Trees.{typed_tree, mistyped_tree, refused_tree}
@@ -45,17 +46,17 @@ lex_told text lex.NoMemory h f = tt
 lex_told text (lex.Bad line) h f = ap within_limits (short_left text h ∙ ap (behind_tokens text) f)
 lex_told text (lex.Identifier line) h f = ap within_limits (short_left text h ∙ ap (behind_tokens text) f)
 
-raw_left : (text : List ℕ) (raw : List Tok) → length text ≤ 262144 → tokens_of text ≡ Ok raw → tokens_left text ≡ behind_directives (program_of text raw)
+raw_left : (text : List ℕ) (raw : List Tok) → length text ≤ 262144 → tokens_of text ≡ Ok raw → tokens_left text ≡ behind_directives text (program_of text raw)
 raw_left text raw h is = short_left text h ∙ ap (behind_tokens text) is
 
 pub pre_told : (text : List ℕ) (raw : List Tok) (e : PreError) → length text ≤ 262144 → tokens_of text ≡ Ok raw → IsError e (program_of text raw) → TellsError text (of_pre e)
 pre_told text raw pre.NoMemory h is f = tt
-pre_told text raw (pre.Word line) h is f = ap within_limits (raw_left text raw h is ∙ ap behind_directives f)
-pre_told text raw (pre.Directive line) h is f = ap within_limits (raw_left text raw h is ∙ ap behind_directives f)
-pre_told text raw (pre.Tokens line) h is f = ap within_limits (raw_left text raw h is ∙ ap behind_directives f)
+pre_told text raw (pre.Word line) h is f = ap within_limits (raw_left text raw h is ∙ ap (behind_directives text) f)
+pre_told text raw (pre.Directive line) h is f = ap within_limits (raw_left text raw h is ∙ ap (behind_directives text) f)
+pre_told text raw (pre.Tokens line) h is f = ap within_limits (raw_left text raw h is ∙ ap (behind_directives text) f)
 
-pub all_left : (text : List ℕ) (raw toks : List Tok) → length text ≤ 262144 → tokens_of text ≡ Ok raw → program_of text raw ≡ Ok toks → tokens_left text ≡ Ok toks
-all_left text raw toks h is all = raw_left text raw h is ∙ ap behind_directives all
+pub all_left : (text : List ℕ) (raw toks out : List Tok) → length text ≤ 262144 → tokens_of text ≡ Ok raw → program_of text raw ≡ Ok toks → out ≡ marked text toks → tokens_left text ≡ Ok out
+all_left text raw toks out h is all named = raw_left text raw h is ∙ ap (behind_directives text) all ∙ ap (λ (l : List Tok). Ok l) (sym named)
 
 -- ---- the first limit that is passed tells of a limit
 limit_here : (tall long : Bool) (line : ℕ) (later : Option ParseError) (e : ParseError) → ((f : ParseError) → later ≡ Some f → IsLimit f)

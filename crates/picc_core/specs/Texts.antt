@@ -9,6 +9,7 @@ use Rattle.c_tree.specs.Programs.{ItemTree, IsUnit, spelled_unit}
 use Rattle.parse_expr.specs.Reader.{symbols_in}
 use Rattle.parse_expr.specs.declared.error.ParseError.{ParseError}
 use Rattle.c_parse.specs.Limits.{first_over}
+use Rattle.c_parse.specs.Marks.{marked}
 use Rattle.picc_core.specs.Errors.{of_lex, of_pre, of_parse}
 use Rattle.picc_core.specs.declared.refusal.CompileError.{CompileError}
 use Rattle.picc_core.specs.declared.refusal.CompileError.TheVariants.{Refused}
@@ -20,13 +21,13 @@ abbrev pub longest : ℕ
 longest = 262144
 
 -- ---- the tokens of a program (ISO/IEC 9899:1990, 6.1 and 6.8)
--- behind directives and the replacement of names
-abbrev pub behind_directives : Result (List Tok) PreError → Result (List Tok) CompileError
-behind_directives (Ok toks) = Ok toks
-behind_directives (Err e) = Err (of_pre e)
+-- behind directives and the replacement of names, with the names of types marked
+abbrev pub behind_directives : List ℕ → Result (List Tok) PreError → Result (List Tok) CompileError
+behind_directives text (Ok toks) = Ok (marked text toks)
+behind_directives text (Err e) = Err (of_pre e)
 
 abbrev pub behind_tokens : List ℕ → Result (List Tok) LexError → Result (List Tok) CompileError
-behind_tokens text (Ok raw) = behind_directives (program_of text raw)
+behind_tokens text (Ok raw) = behind_directives text (program_of text raw)
 behind_tokens text (Err e) = Err (of_lex e)
 
 unfoldable pub tokens_left : List ℕ → Result (List Tok) CompileError

@@ -29,7 +29,7 @@ use crate::code_order::code_order;
 use crate::known::Front;
 use crate::refusal::{CompileError, LimitKind, Refusal, limit};
 use c_check::{Typed, check};
-use c_parse::parse;
+use c_parse::{mark, parse};
 use c_pre::tokens;
 use c_token::{Tok, raw};
 use c_tree::statement::Unit;
@@ -47,7 +47,7 @@ const PAGE_WORDS: u64 = 2048;
 /// The most blocks that have numbers. There is no memory for more.
 const MOST_BLOCKS: usize = 4_294_967_295;
 
-/// The tokens that directives and the replacement of names leave.
+/// The tokens that directives and the replacement of names leave, with the names of types marked.
 #[tactic(auto, using(crate::proofs::Telling::long_told, crate::proofs::Telling::lex_told, crate::proofs::Telling::pre_told, crate::proofs::Telling::all_left))]
 fn tokens_in(alloc: Global, text: &[u8]) -> Result<Vec<Tok>, CompileError>
     ensures answer { MatchResult result (λ toks. tokens_left text.now ≡ Ok toks.items) (TellsError text.now) }
@@ -57,7 +57,8 @@ fn tokens_in(alloc: Global, text: &[u8]) -> Result<Vec<Tok>, CompileError>
         return Err(limit(LimitKind::Text, 0));
     }
     let raw = raw(alloc, text)?;
-    Ok(tokens(alloc, text, &raw)?)
+    let left = tokens(alloc, text, &raw)?;
+    Ok(mark(alloc, text, &left)?)
 }
 
 fn tree_of(alloc: Global, text: &[u8]) -> Result<Unit, CompileError>

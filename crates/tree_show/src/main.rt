@@ -13,7 +13,7 @@ mod kinds;
 
 use crate::kinds::of_kind;
 use c_check::{CheckError, Kind, Typed, check};
-use c_parse::parse;
+use c_parse::{mark, parse};
 use c_pre::tokens;
 use c_token::raw;
 use host_io::{Host, HostError, RealHost, read_whole};
@@ -51,6 +51,9 @@ fn meaning_of(alloc: Global, text: &[u8]) -> Found {
     };
     let Ok(toks) = tokens(alloc, text, &raw) else {
         return Found::Nothing;
+    };
+    let Ok(toks) = mark(alloc, text, &toks) else {
+        return Found::NoMemory;
     };
     let Ok(unit) = parse(alloc, text, &toks) else {
         return Found::Nothing;

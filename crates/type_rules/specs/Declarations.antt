@@ -8,11 +8,11 @@ use Rattle.c_typed.specs.declared.types.Qualified.{Qualified}
 use Rattle.c_typed.specs.declared.types.Ty.{Ty}
 use Rattle.type_rules.specs.Faults as kind
 use Rattle.type_rules.specs.Faults.{Tests}
-use Rattle.type_rules.specs.Known.{Binding, FunctionName, Signature, Known, Rule, given, broken, known_here, learn, tried, ◌>>=◌}
+use Rattle.type_rules.specs.Known.{Binding, FunctionName, TypeNamed, Signature, Known, Rule, given, broken, known_here, learn, tried, ◌>>=◌}
 use Rattle.type_rules.specs.Names.{innermost_in, is_declared, bind}
 use Rattle.type_rules.specs.Rows.{changed_at}
 use Rattle.type_rules.specs.Specifiers.{Specified}
-use Rattle.type_rules.specs.Outlines.{Param, Declared, ObjectDeclared, FunctionDeclared, Outline}
+use Rattle.type_rules.specs.Outlines.{Param, Declared, ObjectDeclared, FunctionDeclared, Outline, is_function, object_type}
 use Rattle.type_rules.specs.Declarators.{in_file, in_block, specified, outline_of, name_in, line_in}
 use Rattle.type_rules.specs.Slots.{nothing_begun}
 use Rattle.type_rules.specs.Initializers.{begins}
@@ -94,15 +94,33 @@ file_object said o init name line = do
   static_rule init name name ty line
 
 abbrev pub file_declared : Declared → Specified → Outline → Option InitTree → List ℕ → ℕ → Rule Known
-file_declared (FunctionDeclared result params) said o init name line = do
+file_declared (FunctionDeclared result params scope) said o init name line = do
   _ ← function_rule name result params o.bad false line
   no_value init line
 file_declared (ObjectDeclared ty) said o init name line = file_object said o init name line
 
+-- ---- the names of types (6.5.6): a type is no object, so it may be incomplete and of any size
+
+abbrev pub type_tests : Known → Specified → Outline → Bool → List ℕ → Tests
+type_tests known said o begun name =
+    (is_declared known name, kind.Again) ∷
+    (o.bad || (is_function o.declared || (begun || said.interrupt)), kind.Declare) ∷ []
+
+abbrev pub type_rule : Specified → Outline → Bool → List ℕ → ℕ → Rule Known
+type_rule said o begun name line = do
+  known ← known_here
+  _ ← tried (type_tests known said o begun name) line
+  bind name (TypeNamed (object_type o.declared) o.incomplete)
+
+abbrev pub declared_as : Specified → Outline → Option InitTree → List ℕ → ℕ → Rule Known
+declared_as said o init name line =
+    if said.is_typedef then type_rule said o (is_some init) name line
+    else file_declared o.declared said o init name line
+
 abbrev pub file_declarator : BegunTree → Specified → Rule Known
 file_declarator b said = do
   o ← outline_of b.declarator said true
-  file_declared o.declared said o (init_in b.init) (name_in b.declarator) (line_in b.declarator)
+  declared_as said o (init_in b.init) (name_in b.declarator) (line_in b.declarator)
 
 abbrev pub more_in_file : List (ℕ × BegunTree) → Specified → Rule Known
 more_in_file [] said = known_here
@@ -110,9 +128,9 @@ more_in_file (b ∷ bs) said = do
   _ ← file_declarator b.1 said
   more_in_file bs said
 
--- where nothing is declared, `interrupt` marks no function
+-- where nothing is declared, `interrupt` marks no function, and `typedef` names no type
 abbrev pub nothing_declared : Specified → Rule Known
-nothing_declared said = tried ((said.interrupt, kind.Declare) ∷ []) said.line
+nothing_declared said = tried ((said.interrupt || said.is_typedef, kind.Declare) ∷ []) said.line
 
 abbrev pub declared_in_file : Option DeclaredTrees → Specified → Rule Known
 declared_in_file None said = nothing_declared said

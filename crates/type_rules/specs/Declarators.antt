@@ -1,18 +1,19 @@
--- Specifiers with structures, declarators and parameters (ISO/IEC 9899:1990, 6.5): one clause for each part, from left to right.
-use Rattle.std.specs.Prelude.{ℕ, Bool, true, false, not, if◌then◌else◌, List, [], ◌∷◌, Option, Some, None}
-use Rattle.c_tree.specs.Trees.{SpecTrees, MoreSpecs, SpecTree, MemberTree, MoreMembers, MoreDeclarators, DeclaratorTree, SuffixTrees, SuffixTree, MoreParams, ParamTree}
+-- Specifiers with structures and enumerations, declarators and parameters (ISO/IEC 9899:1990, 6.5): one clause for each part, from left to right.
+use Rattle.std.specs.Prelude.{ℕ, Bool, true, false, not, if◌then◌else◌, List, [], ◌∷◌, Option, Some, None, is_some}
+use Rattle.c_tree.specs.Trees.{SpecTrees, MoreSpecs, SpecTree, MemberTree, MoreMembers, MoreDeclarators, DeclaratorTree, SuffixTrees, SuffixTree, MoreParams, ParamTree, EnumeratorTree, MoreEnumerators}
 use Rattle.c_tree.specs.Trees as tree
 use Rattle.c_tree.specs.Words.{Symbols}
 use Rattle.type_rules.specs.Faults as kind
-use Rattle.type_rules.specs.Known.{Open, Closed, Known, Rule, given, broken, known_here, tried, ◌>>=◌}
+use Rattle.type_rules.specs.Known.{Tag, StructTag, EnumTag, Open, Closed, Known, Rule, given, broken, known_here, tried, ◌>>=◌}
 use Rattle.type_rules.specs.Names.{enter_list, leave_list}
-use Rattle.type_rules.specs.Rows.{tagged, new_tag, new_structure, set_progress, is_absent, progress_of}
-use Rattle.type_rules.specs.Specifiers.{Site, InFile, InBlock, OfMember, OfParam, Gathered, nothing_gathered, with_word_of, with_structure, Specified, specifiers, spec_line}
-use Rattle.type_rules.specs.TypeNames.{with_pointers}
+use Rattle.type_rules.specs.Rows.{tagged, new_tag, new_enum_tag, new_structure, set_progress, is_absent, progress_of}
+use Rattle.type_rules.specs.Specifiers.{Site, InFile, InBlock, OfMember, OfParam, StructBase, EnumBase, Gathered, nothing_gathered, with_word_of, with_base, type_name_rule, Specified, specifiers, spec_line}
+use Rattle.type_rules.specs.TypeNames.{with_pointers, enum_rule}
 use Rattle.type_rules.specs.Constants.{array_length}
+use Rattle.type_rules.specs.Enumerators.{enumerators}
 use Rattle.type_rules.specs.Outlines.{Param, Made, ArrayMade, FunctionMade, Outline, object_outline, outlined, param_outlined, param_rule, member_rule, declarator_line}
 
--- Where specifiers stand, and whether a structure may get its body there: in the file, and not inside another body.
+-- Where specifiers stand, and whether a structure or an enumeration may have its body there: in the file, and not inside another body.
 pub record Context : Type 0 where
   pub site : Site
   pub bodies : Bool
@@ -36,8 +37,9 @@ declares_tags InFile = true
 declares_tags OfMember = true
 declares_tags _ = false
 
-abbrev pub tag_or_new : Option ℕ → Context → List ℕ → ℕ → Rule ℕ
-tag_or_new (Some number) context tag line = given number
+abbrev pub tag_or_new : Option Tag → Context → List ℕ → ℕ → Rule ℕ
+tag_or_new (Some (StructTag number)) context tag line = given number
+tag_or_new (Some EnumTag) context tag line = broken kind.Again line
 tag_or_new None context tag line = if declares_tags context.site then new_tag tag else broken kind.Name line
 
 abbrev pub structure_of : Context → List ℕ → ℕ → Rule ℕ
@@ -58,6 +60,27 @@ body_opened context tag line = do
   _ ← set_progress number Open
   given number
 
+-- The tag of an enumeration with a body isn't declared before.
+abbrev pub is_tagged : Known → Symbols → Bool
+is_tagged known [] = false
+is_tagged known (n ∷ ns) = is_some (tagged known n.bytes)
+
+abbrev pub enum_opened : Context → Symbols → ℕ → Rule Known
+enum_opened context tag line = do
+  known ← known_here
+  tried ((is_tagged known tag, kind.Again) ∷ (not context.bodies, kind.Declare) ∷ []) line
+
+-- It is declared behind the body.
+abbrev pub enum_closed : Symbols → Rule Known
+enum_closed [] = known_here
+enum_closed (n ∷ ns) = new_enum_tag n.bytes
+
+abbrev pub enum_body : Context → Symbols → EnumeratorTree → MoreEnumerators → ℕ → Rule Known
+enum_body context tag e es line = do
+  _ ← enum_opened context tag line
+  _ ← enumerators e es
+  enum_closed tag
+
 -- ---- the recursion
 
 unfoldable mutual
@@ -77,13 +100,18 @@ unfoldable mutual
   spec_rule (tree.OneWord s) context g = given (with_word_of s.kind g)
   spec_rule (tree.Tagged line n) context g = do
     number ← structure_of context n.bytes line
-    given (with_structure number g)
+    given (with_base (StructBase number) g)
   spec_rule (tree.Body line tag opening m ms closing) context g = do
     number ← body_opened context tag line
     _ ← members m number
     _ ← more_members ms number
     _ ← set_progress number Closed
-    given (with_structure number g)
+    given (with_base (StructBase number) g)
+  spec_rule (tree.NamedType s) context g = type_name_rule s g
+  spec_rule (tree.EnumTagged line n) context g = enum_rule n line g
+  spec_rule (tree.EnumBody line tag opening e es last closing) context g = do
+    _ ← enum_body context tag e es line
+    given (with_base EnumBase g)
 
   pub members : MemberTree → ℕ → Rule Known
   members (tree.Members s d ds semicolon) number = do
@@ -107,7 +135,7 @@ unfoldable mutual
   field (tree.Declares pointers n ss) said number = do
     base ← with_pointers pointers said.ty
     made ← suffixes ss false
-    o ← outlined made (object_outline base)
+    o ← outlined made (object_outline base said.incomplete)
     member_rule number o n.bytes (declarator_line pointers n)
 
   -- Suffixes are tried first, from left to right.
@@ -123,14 +151,14 @@ unfoldable mutual
   suffix (tree.Sized opening e closing) bodies = do
     count ← array_length e
     given (ArrayMade count)
-  suffix (tree.Empty opening closing) bodies = given (FunctionMade [])
-  suffix (tree.VoidOnly opening word closing) bodies = given (FunctionMade [])
+  suffix (tree.Empty opening closing) bodies = given (FunctionMade [] [])
+  suffix (tree.VoidOnly opening word closing) bodies = given (FunctionMade [] [])
   suffix (tree.Params opening p ps closing) bodies = do
     _ ← enter_list
     first ← param p bodies []
     all ← more_params ps bodies first
-    _ ← leave_list
-    given (FunctionMade all)
+    scope ← leave_list
+    given (FunctionMade all scope)
 
   pub more_params : MoreParams → Bool → List Param → Rule (List Param)
   more_params tree.NoParam bodies before = given before
@@ -143,13 +171,13 @@ unfoldable mutual
     said ← specified s (of_param bodies)
     base ← with_pointers pointers said.ty
     made ← suffixes ss bodies
-    o ← param_outlined made (object_outline base)
+    o ← param_outlined made (object_outline base said.incomplete)
     param_rule before said o n.bytes (declarator_line pointers n)
   param (tree.Unnamed s pointers ss) bodies before = do
     said ← specified s (of_param bodies)
     base ← with_pointers pointers said.ty
     made ← suffixes ss bodies
-    o ← param_outlined made (object_outline base)
+    o ← param_outlined made (object_outline base said.incomplete)
     param_rule before said o [] said.line
 
 -- What a declarator makes of what its specifiers say.
@@ -157,7 +185,7 @@ abbrev pub outline_of : DeclaratorTree → Specified → Bool → Rule Outline
 outline_of (tree.Declares pointers n ss) said bodies = do
   base ← with_pointers pointers said.ty
   made ← suffixes ss bodies
-  outlined made (object_outline base)
+  outlined made (object_outline base said.incomplete)
 
 abbrev pub name_in : DeclaratorTree → List ℕ
 name_in (tree.Declares pointers n ss) = n.bytes

@@ -12,9 +12,9 @@ use Rattle.c_typed.specs.Trees as typed
 use Rattle.c_typed.specs.declared.expression.StepOp.{StepOp}
 use Rattle.c_typed.specs.declared.expression.StepOp.TheVariants as steps
 use Rattle.type_rules.specs.Faults as kind
-use Rattle.type_rules.specs.Known.{Binding, ObjectName, BitName, FunctionName, Rule, given, known_here, wanted, ◌>>=◌}
+use Rattle.type_rules.specs.Known.{Binding, ObjectName, BitName, FunctionName, TypeNamed, EnumeratorName, Rule, given, known_here, wanted, ◌>>=◌}
 use Rattle.type_rules.specs.Names.{meaning_of}
-use Rattle.type_rules.specs.Terms.{Reach, Form, FunctionForm, Term, Operand, value_term, place_term, number_of_type, used, no_table}
+use Rattle.type_rules.specs.Terms.{Reach, Form, FunctionForm, TypeForm, Term, Operand, value_term, place_term, number_of_type, used, no_table}
 use Rattle.type_rules.specs.TypeNames.{type_named}
 use Rattle.type_rules.specs.Operators.{between, choice, cast, arithmetic, negation}
 use Rattle.type_rules.specs.Places.{dereference, before_index, element, address, member, pointed_member, size_of_type, size_of_term}
@@ -25,10 +25,13 @@ use Rattle.type_rules.specs.Writes.{assignment, stepped, called, call}
 abbrev pub unreached : Bool → Reach
 unreached fixed = record { through = false; fixed = fixed }
 
+-- An enumerator is a constant of type int, and no null constant.
 abbrev pub named_term : Binding → ℕ → Term
 named_term (ObjectName object ty fixed) line = place_term (typed.Name object ty line) (unreached fixed) line
 named_term (BitName register bit) line = place_term (typed.Bit register bit line) (unreached true) line
 named_term (FunctionName number) line = record { form = FunctionForm number true; null = false; line = line; start = line; into = None; listed = [] }
+named_term (TypeNamed ty incomplete) line = record { form = TypeForm; null = false; line = line; start = line; into = None; listed = [] }
+named_term (EnumeratorName n) line = value_term (typed.Constant (record { ty = int.Int; number = n }) line) line
 
 abbrev pub name_rule : List ℕ → ℕ → Rule Term
 name_rule name line = do

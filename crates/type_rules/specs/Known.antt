@@ -1,5 +1,5 @@
 -- What is known of a unit at a place of its text, and rules: what a part of the text is there, or the first rule that it breaks.
-use Rattle.std.specs.Prelude.{ℕ, Bool, List, [], ◌∷◌, Option, Some, None, Result, Ok, Err}
+use Rattle.std.specs.Prelude.{ℕ, ℤ, Bool, List, [], ◌∷◌, Option, Some, None, Result, Ok, Err}
 use Rattle.c_typed.specs.Trees.{StaticTree, VariableTree}
 use Rattle.c_typed.specs.declared.expression.Object.{Object}
 use Rattle.c_typed.specs.declared.types.Qualified.{Qualified}
@@ -8,15 +8,23 @@ use Rattle.c_typed.specs.declared.types.Ty.TheVariants.{Void}
 use Rattle.type_rules.specs.Faults.{Kind, Fault, Tests, first_broken}
 
 -- What a name stands for (ISO/IEC 9899:1990, 6.1.2): an object or a register of the device, of which `fixed` says that no address can
--- be taken; a bit of a register; a function, by its number among those that are declared.
+-- be taken; a bit of a register; a function, by its number among those that are declared; a type, of which `incomplete` says that it has arrays of what
+-- wasn't complete where it was named (6.5.6); a number (6.5.2.2).
 pub data Binding : Type 0 where
   ObjectName : Object → Qualified → Bool → Binding
   BitName : ℕ → ℕ → Binding
   FunctionName : ℕ → Binding
+  TypeNamed : Qualified → Bool → Binding
+  EnumeratorName : ℤ → Binding
 
 -- names, and what each stands for
 abbrev pub Scope : Type 0
 Scope = List (List ℕ × Binding)
+
+-- What a tag is that of (6.5.2.3): a structure, by its number, or an enumeration.
+pub data Tag : Type 0 where
+  StructTag : ℕ → Tag
+  EnumTag : Tag
 
 -- A member of a structure, and how many bytes stand before it.
 pub record Field : Type 0 where
@@ -50,13 +58,13 @@ pub record Body : Type 0 where
   pub locals : List VariableTree
   pub declarators : ℕ
 
--- What is known at a place: the rows of types that are pointed to or that arrays are made of, the structures, their tags, the open scopes
+-- What is known at a place: the rows of types that are pointed to or that arrays are made of, the structures, the tags of both sorts, the open scopes
 -- with the innermost first, how many of them are those of lists of parameters, the functions that are declared, the names of those that the unit
 -- defines, the static objects, and the function whose body is read.
 pub record Known : Type 0 where
   pub targets : List Qualified
   pub shapes : List Shape
-  pub tags : List (List ℕ × ℕ)
+  pub tags : List (List ℕ × Tag)
   pub scopes : List Scope
   pub lists : ℕ
   pub signatures : List Signature

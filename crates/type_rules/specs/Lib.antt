@@ -12,6 +12,7 @@ pub mod Specifiers
 pub mod TypeNames
 pub mod Expressions
 pub mod Constants
+pub mod Enumerators
 pub mod Outlines
 pub mod Declarators
 pub mod Slots

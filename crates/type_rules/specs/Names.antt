@@ -1,5 +1,5 @@
 -- Names and scopes (ISO/IEC 9899:1990, 6.1.2.1).
-use Rattle.std.specs.Prelude.{ℕ, ◌+◌, ◌-◌, Bool, true, false, if◌then◌else◌, nat_le, List, [], ◌∷◌, length, Option, Some, None, is_some}
+use Rattle.std.specs.Prelude.{ℕ, ◌+◌, ◌-◌, Bool, true, false, if◌then◌else◌, nat_le, List, [], ◌∷◌, length, Option, Some, None, is_some, Ok}
 use Rattle.std.specs.Str.{bytes_eq}
 use Rattle.c_ints.specs.declared.types.IntTy.TheVariants.{UChar}
 use Rattle.c_typed.specs.declared.expression.Object.TheVariants as object
@@ -69,8 +69,16 @@ leave = learn (λ known. record known { scopes = without_first known.scopes })
 abbrev pub enter_list : Rule Known
 enter_list = learn (λ known. record known { scopes = [] ∷ known.scopes; lists = known.lists + 1 })
 
-abbrev pub leave_list : Rule Known
-leave_list = learn (λ known. record known { scopes = without_first known.scopes; lists = known.lists - 1 })
+abbrev pub first_scope : List Scope → Scope
+first_scope [] = []
+first_scope (scope ∷ scopes) = scope
+
+-- What a list of parameters declares goes on in the body of its function.
+abbrev pub leave_list : Rule Scope
+leave_list = λ known. Ok (first_scope known.scopes, record known { scopes = without_first known.scopes; lists = known.lists - 1 })
+
+abbrev pub enter_with : Scope → Rule Known
+enter_with scope = learn (λ known. record known { scopes = scope ∷ known.scopes })
 
 -- No block is open.
 abbrev pub in_file : Known → Bool

@@ -4,11 +4,13 @@ use Rattle.c_tree.specs.Words.{Symbol, Symbols}
 use Rattle.c_typed.specs.Sameness.{is_void, is_array, is_struct}
 use Rattle.c_typed.specs.declared.expression.Object.TheVariants as object
 use Rattle.c_typed.specs.declared.types.Qualified.{Qualified}
+use Rattle.c_typed.specs.declared.types.Ty.{Ty}
+use Rattle.c_typed.specs.declared.types.Ty.TheVariants.{Array}
 use Rattle.type_rules.specs.Faults as kind
 use Rattle.type_rules.specs.Faults.{Tests}
-use Rattle.type_rules.specs.Known.{ObjectName, Known, Rule, given, known_here, tried, ◌>>=◌}
+use Rattle.type_rules.specs.Known.{ObjectName, Scope, Known, Rule, given, known_here, tried, ◌>>=◌}
 use Rattle.type_rules.specs.Names.{entry_of, is_declared, bind}
-use Rattle.type_rules.specs.Rows.{plain, pointer_to, array_of, is_complete, fields_of, add_member}
+use Rattle.type_rules.specs.Rows.{plain, like, pointer_to, target_of, array_of, is_complete, fields_of, add_member}
 use Rattle.type_rules.specs.Specifiers.{Specified}
 
 -- A parameter: its name, which may be missing, its type, whether it is declared `register`, and its line.
@@ -18,14 +20,14 @@ pub record Param : Type 0 where
   pub fixed : Bool
   pub line : ℕ
 
--- a suffix: an array of a length, 0 where it isn't known, or a function
+-- a suffix: an array of a length, 0 where it isn't known, or a function, with what the list of its parameters declares
 pub data Made : Type 0 where
   ArrayMade : ℕ → Made
-  FunctionMade : List Param → Made
+  FunctionMade : List Param → Scope → Made
 
 pub data Declared : Type 0 where
   ObjectDeclared : Qualified → Declared
-  FunctionDeclared : Qualified → List Param → Declared
+  FunctionDeclared : Qualified → List Param → Scope → Declared
 
 -- What is declared; `bad` says that no declaration has such a type, `incomplete` that it has parts of a type that isn't complete.
 pub record Outline : Type 0 where
@@ -33,25 +35,31 @@ pub record Outline : Type 0 where
   pub bad : Bool
   pub incomplete : Bool
 
-abbrev pub object_outline : Qualified → Outline
-object_outline ty = record { declared = ObjectDeclared ty; bad = false; incomplete = false }
+abbrev pub object_outline : Qualified → Bool → Outline
+object_outline ty incomplete = record { declared = ObjectDeclared ty; bad = false; incomplete = incomplete }
 
--- An array of functions or of void is none; one of what isn't complete isn't complete.
+-- An array of functions or of void is none. One of what isn't complete isn't complete, and no type is made of it: it would have the wrong size once its
+-- element is complete.
+abbrev pub array_or_part : Bool → ℕ → Outline → Qualified → Rule Outline
+array_or_part false count o element = given (record o { bad = o.bad || is_void element.ty; incomplete = true })
+array_or_part true count o element = do
+  ty ← array_of element count
+  given (record o { declared = ObjectDeclared ty; bad = o.bad || is_void element.ty })
+
 abbrev pub array_behind : ℕ → Outline → Declared → Rule Outline
 array_behind count o (ObjectDeclared element) = do
-  ty ← array_of element count
   known ← known_here
-  given (record { declared = ObjectDeclared ty; bad = o.bad || is_void element.ty; incomplete = o.incomplete || not (is_complete known element.ty) })
-array_behind count o (FunctionDeclared result params) = given (record o { declared = ObjectDeclared result; bad = true })
+  array_or_part (is_complete known element.ty) count o element
+array_behind count o (FunctionDeclared result params scope) = given (record o { declared = ObjectDeclared result; bad = true })
 
--- A function with an array, a structure or a function as its result is none.
-abbrev pub function_behind : List Param → Outline → Declared → Outline
-function_behind params o (ObjectDeclared result) = record o { declared = FunctionDeclared result params; bad = o.bad || (is_array result.ty || is_struct result.ty) }
-function_behind params o (FunctionDeclared result inner) = record o { declared = FunctionDeclared result params; bad = true }
+-- A function with an array, a structure or a function as its result is none, nor is one with a result that has arrays of what isn't complete.
+abbrev pub function_behind : List Param → Scope → Outline → Declared → Outline
+function_behind params scope o (ObjectDeclared result) = record o { declared = FunctionDeclared result params scope; bad = o.bad || (o.incomplete || (is_array result.ty || is_struct result.ty)) }
+function_behind params scope o (FunctionDeclared result inner names) = record o { declared = FunctionDeclared result params scope; bad = true }
 
 abbrev pub behind : Made → Outline → Rule Outline
 behind (ArrayMade count) o = array_behind count o o.declared
-behind (FunctionMade params) o = given (function_behind params o o.declared)
+behind (FunctionMade params scope) o = given (function_behind params scope o o.declared)
 
 -- Suffixes, the outermost first: the last one stands next to the type.
 abbrev pub outlined : List Made → Outline → Rule Outline
@@ -66,24 +74,36 @@ abbrev pub pointer_outline : Outline → Declared → Rule Outline
 pointer_outline o (ObjectDeclared element) = do
   ty ← pointer_to element
   given (record o { declared = ObjectDeclared (plain ty) })
-pointer_outline o (FunctionDeclared result params) = given (record o { declared = ObjectDeclared result; bad = true })
+pointer_outline o (FunctionDeclared result params scope) = given (record o { declared = ObjectDeclared result; bad = true })
+
+-- It may be an array by the name of its type, too.
+abbrev pub started : Outline → Qualified → Ty → Rule Outline
+started o whole (Array row count size) = do
+  known ← known_here
+  ty ← pointer_to (like whole (target_of known row).ty)
+  given (record o { declared = ObjectDeclared (plain ty) })
+started o whole _ = given o
+
+abbrev pub array_started : Outline → Declared → Rule Outline
+array_started o (ObjectDeclared ty) = started o ty ty.ty
+array_started o (FunctionDeclared result params scope) = given o
 
 abbrev pub param_outlined : List Made → Outline → Rule Outline
-param_outlined [] o = given o
+param_outlined [] o = array_started o o.declared
 param_outlined (ArrayMade count ∷ ms) o = do
   element ← outlined ms o
   pointer_outline element element.declared
-param_outlined (FunctionMade params ∷ ms) o = do
+param_outlined (FunctionMade params scope ∷ ms) o = do
   inner ← outlined ms o
-  behind (FunctionMade params) inner
+  behind (FunctionMade params scope) inner
 
 abbrev pub is_function : Declared → Bool
 is_function (ObjectDeclared ty) = false
-is_function (FunctionDeclared result params) = true
+is_function (FunctionDeclared result params scope) = true
 
 abbrev pub object_type : Declared → Qualified
 object_type (ObjectDeclared ty) = ty
-object_type (FunctionDeclared result params) = result
+object_type (FunctionDeclared result params scope) = result
 
 -- ---- the rule of a parameter, whose list's scope is open
 

@@ -13,7 +13,7 @@ use Rattle.c_typed.specs.declared.types.Ty.TheVariants.{Pointer, Struct}
 use Rattle.type_rules.specs.Faults as kind
 use Rattle.type_rules.specs.Known.{Field, Known, Rule, given, broken, known_here, tried, wanted, ◌>>=◌}
 use Rattle.type_rules.specs.Rows.{target_of, pointer_to, bytes_of, is_complete, fields_of}
-use Rattle.type_rules.specs.Terms.{Reach, by_pointer, Form, ValueForm, PlaceForm, FunctionForm, Term, Operand, side_of, value_term, place_term, as_term, number_of_type, no_table, indexed, used, is_addressable, first_into}
+use Rattle.type_rules.specs.Terms.{Reach, by_pointer, Form, ValueForm, PlaceForm, FunctionForm, TypeForm, Term, Operand, side_of, value_term, place_term, as_term, number_of_type, no_table, indexed, used, is_addressable, first_into}
 use Rattle.type_rules.specs.Conversions.{converted}
 use Rattle.type_rules.specs.Operations.{Operation, operation_of}
 
@@ -129,11 +129,12 @@ abbrev pub is_bit : Place → Bool
 is_bit (typed.Bit register bit line) = true
 is_bit _ = false
 
--- the type of what is measured: no bit and no function
+-- the type of what is measured: no bit, no function and no type
 abbrev pub measured : Form → Option Ty
 measured (ValueForm value) = Some (type_of value)
 measured (PlaceForm place reach) = if is_bit place then None else Some (place_type place).ty
 measured (FunctionForm number bare) = None
+measured TypeForm = None
 
 abbrev pub size_of_term : Term → ℕ → Rule Term
 size_of_term t line = do

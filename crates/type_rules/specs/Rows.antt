@@ -6,7 +6,7 @@ use Rattle.c_typed.specs.Types.{type_bytes}
 use Rattle.c_typed.specs.declared.types.Qualified.{Qualified}
 use Rattle.c_typed.specs.declared.types.Ty.{Ty}
 use Rattle.c_typed.specs.declared.types.Ty.TheVariants.{Void, Int, Pointer, Array, Struct}
-use Rattle.type_rules.specs.Known.{Field, Progress, Absent, Closed, Shape, Known, Rule, given, known_here, learn, ◌>>=◌}
+use Rattle.type_rules.specs.Known.{Tag, StructTag, EnumTag, Field, Progress, Absent, Closed, Shape, Known, Rule, given, known_here, learn, ◌>>=◌}
 use Rattle.type_rules.specs.Names.{entry_of, with_entry}
 
 abbrev pub plain : Ty → Qualified
@@ -93,13 +93,17 @@ no_members = record { fields = []; size = 0; body = Absent }
 
 -- the structure of a tag that isn't declared yet
 abbrev pub new_tag : List ℕ → Rule ℕ
-new_tag tag = λ known. Ok (length known.shapes, record known { shapes = known.shapes ++ no_members ∷ []; tags = with_entry known.tags tag (length known.shapes) })
+new_tag tag = λ known. Ok (length known.shapes, record known { shapes = known.shapes ++ no_members ∷ []; tags = with_entry known.tags tag (StructTag (length known.shapes)) })
 
 -- a structure without a tag
 abbrev pub new_structure : Rule ℕ
 new_structure = λ known. Ok (length known.shapes, record known { shapes = known.shapes ++ no_members ∷ [] })
 
-abbrev pub tagged : Known → List ℕ → Option ℕ
+-- The tag of an enumeration is declared.
+abbrev pub new_enum_tag : List ℕ → Rule Known
+new_enum_tag tag = learn (λ known. record known { tags = with_entry known.tags tag EnumTag })
+
+abbrev pub tagged : Known → List ℕ → Option Tag
 tagged known tag = entry_of known.tags tag
 
 -- the members of a structure

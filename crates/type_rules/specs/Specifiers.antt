@@ -1,5 +1,5 @@
 -- Specifiers (ISO/IEC 9899:1990, 6.5.1 to 6.5.3): which combinations there are, what each says, and where it may stand.
-use Rattle.std.specs.Prelude.{ℕ, suc, ◌+◌, Bool, true, not, ◌&&◌, ◌||◌, if◌then◌else◌, nat_eq, nat_le, nat_lt, List, [], ◌∷◌, length, Option, Some, None}
+use Rattle.std.specs.Prelude.{ℕ, suc, ◌+◌, Bool, true, false, not, ◌&&◌, ◌||◌, if◌then◌else◌, nat_eq, nat_le, nat_lt, List, [], ◌∷◌, length, Option, Some, None}
 use Rattle.c_ints.specs.declared.types.IntTy.{IntTy}
 use Rattle.c_ints.specs.declared.types.IntTy.TheVariants as int
 use Rattle.c_token.specs.declared.token.Keyword.{Keyword}
@@ -9,12 +9,14 @@ use Rattle.c_token.specs.declared.token.TokKind.TheVariants as kinds
 use Rattle.c_tree.specs.Kinds.{number_of_word}
 use Rattle.c_tree.specs.Trees.{SpecTrees, SpecTree}
 use Rattle.c_tree.specs.Trees as tree
+use Rattle.c_tree.specs.Words.{Symbol}
 use Rattle.c_typed.specs.declared.types.Qualified.{Qualified}
 use Rattle.c_typed.specs.declared.types.Ty.{Ty}
 use Rattle.c_typed.specs.declared.types.Ty.TheVariants.{Void, Int, Struct}
 use Rattle.type_rules.specs.Faults as kind
-use Rattle.type_rules.specs.Known.{Known, Rule, given, known_here, tried, wanted, ◌>>=◌}
-use Rattle.type_rules.specs.Names.{in_file}
+use Rattle.type_rules.specs.Known.{Binding, TypeNamed, Known, Rule, given, known_here, tried, wanted, ◌>>=◌}
+use Rattle.type_rules.specs.Names.{meaning_of, in_file}
+use Rattle.type_rules.specs.Rows.{plain}
 
 -- where specifiers stand
 pub data Site : Type 0 where
@@ -24,20 +26,26 @@ pub data Site : Type 0 where
   OfParam : Site
   OfTypeName : Site
 
--- The specifiers of a list: the words, and the structures.
+-- What names a type without a word: a structure, an enumeration, which is an int, or the name of a type.
+pub data Base : Type 0 where
+  StructBase : ℕ → Base
+  EnumBase : Base
+  NamedBase : Qualified → Bool → Base
+
+-- The specifiers of a list: the words, and what names a type without a word.
 pub record Gathered : Type 0 where
   pub words : List Keyword
-  pub structures : List ℕ
+  pub bases : List Base
 
 abbrev pub nothing_gathered : Gathered
-nothing_gathered = record { words = []; structures = [] }
+nothing_gathered = record { words = []; bases = [] }
 
 abbrev pub with_word_of : TokKind → Gathered → Gathered
 with_word_of (kinds.Keyword w) g = record g { words = w ∷ g.words }
 with_word_of _ g = g
 
-abbrev pub with_structure : ℕ → Gathered → Gathered
-with_structure number g = record g { structures = number ∷ g.structures }
+abbrev pub with_base : Base → Gathered → Gathered
+with_base base g = record g { bases = base ∷ g.bases }
 
 -- how often a word stands in a list
 abbrev pub times : Keyword → List Keyword → ℕ
@@ -56,10 +64,10 @@ abbrev pub single_words : List Keyword
 single_words = words.Void ∷ words.Char ∷ words.Short ∷ words.Int ∷ words.Long ∷ words.Signed ∷ words.Unsigned ∷ words.Const ∷ words.Volatile ∷ []
 
 abbrev pub storage_words : List Keyword → ℕ
-storage_words ws = times words.Static ws + (times words.Auto ws + times words.Register ws)
+storage_words ws = times words.Typedef ws + (times words.Static ws + (times words.Auto ws + times words.Register ws))
 
 abbrev pub is_orderly : Gathered → Bool
-is_orderly g = once_each g.words single_words && (nat_le (storage_words g.words) 1 && nat_le (length g.structures) 1)
+is_orderly g = once_each g.words single_words && (nat_le (storage_words g.words) 1 && nat_le (length g.bases) 1)
 
 -- ---- the type that the words name together (6.5.2)
 
@@ -96,9 +104,30 @@ of_words ws =
     else if has_int_word ws then of_int (int_type ws)
     else None
 
-abbrev pub base_type : List Keyword → List ℕ → Option Ty
-base_type ws [] = of_words ws
-base_type ws (number ∷ numbers) = if has ws words.Void || (has ws words.Char || has_int_word ws) then None else Some (Struct number)
+-- The type that specifiers name: with its own qualifiers, and whether it has arrays of what wasn't complete.
+pub record Named : Type 0 where
+  pub ty : Qualified
+  pub incomplete : Bool
+
+abbrev pub plainly : Ty → Named
+plainly ty = record { ty = plain ty; incomplete = false }
+
+abbrev pub named_by : Base → Named
+named_by (StructBase number) = plainly (Struct number)
+named_by EnumBase = plainly (Int int.Int)
+named_by (NamedBase ty incomplete) = record { ty = ty; incomplete = incomplete }
+
+abbrev pub by_words : Option Ty → Option Named
+by_words None = None
+by_words (Some ty) = Some (plainly ty)
+
+abbrev pub base_type : List Keyword → List Base → Option Named
+base_type ws [] = by_words (of_words ws)
+base_type ws (base ∷ bases) = if has ws words.Void || (has ws words.Char || has_int_word ws) then None else Some (named_by base)
+
+-- No qualifier stands both beside a type's name and in the type.
+abbrev pub qualifies_once : List Keyword → Qualified → Bool
+qualifies_once ws ty = not (has ws words.Const && ty.constant) && not (has ws words.Volatile && ty.volatile)
 
 -- ---- where words on storage and `interrupt` may stand
 
@@ -107,35 +136,56 @@ is_automatic ws = has ws words.Auto || has ws words.Register
 
 abbrev pub may_stand : Known → Site → List Keyword → Bool
 may_stand known InFile ws = not (is_automatic ws)
-may_stand known InBlock ws = true
+may_stand known InBlock ws = not (has ws words.Typedef)
 may_stand known OfMember ws = nat_eq (storage_words ws) 0 && not (has ws words.Interrupt)
-may_stand known OfParam ws = not (has ws words.Static || has ws words.Auto) && not (has ws words.Interrupt)
-may_stand known OfTypeName ws = not (has ws words.Static) && (not (has ws words.Interrupt) && not (is_automatic ws && in_file known))
+may_stand known OfParam ws = not (has ws words.Typedef || (has ws words.Static || has ws words.Auto)) && not (has ws words.Interrupt)
+may_stand known OfTypeName ws = not (has ws words.Typedef || has ws words.Static) && (not (has ws words.Interrupt) && not (is_automatic ws && in_file known))
 
--- What specifiers say: a type, whether it is static or `register`, whether `interrupt` stands there, and the line of the first.
+-- What specifiers say: a type, whether it has arrays of what wasn't complete, whether `typedef` stands there, whether it is static or `register`, whether
+-- `interrupt` stands there, and the line of the first.
 pub record Specified : Type 0 where
   pub ty : Qualified
+  pub incomplete : Bool
+  pub is_typedef : Bool
   pub fixed : Bool
   pub register : Bool
   pub interrupt : Bool
   pub line : ℕ
 
-abbrev pub said : List Keyword → Ty → ℕ → Specified
-said ws ty line = record { ty = record { ty = ty; constant = has ws words.Const; volatile = has ws words.Volatile }; fixed = has ws words.Static; register = has ws words.Register; interrupt = has ws words.Interrupt; line = line }
+-- A qualifier beside the name of a type qualifies that type.
+abbrev pub qualified_by : List Keyword → Qualified → Qualified
+qualified_by ws ty = record ty { constant = has ws words.Const || ty.constant; volatile = has ws words.Volatile || ty.volatile }
+
+abbrev pub said : List Keyword → Named → ℕ → Specified
+said ws named line = record { ty = qualified_by ws named.ty; incomplete = named.incomplete; is_typedef = has ws words.Typedef; fixed = has ws words.Static; register = has ws words.Register; interrupt = has ws words.Interrupt; line = line }
 
 -- The rule of a list of specifiers at a site.
 abbrev pub specifiers : Site → Gathered → ℕ → Rule Specified
 specifiers site g line = do
   known ← known_here
-  ty ← wanted kind.Declare line (base_type g.words g.structures)
-  _ ← tried ((not (is_orderly g && may_stand known site g.words), kind.Declare) ∷ []) line
-  given (said g.words ty line)
+  named ← wanted kind.Declare line (base_type g.words g.bases)
+  _ ← tried ((not (is_orderly g && (qualifies_once g.words named.ty && may_stand known site g.words)), kind.Declare) ∷ []) line
+  given (said g.words named line)
+
+-- A marked name is that of a type that is declared.
+abbrev pub named_base : Option Binding → Option Base
+named_base (Some (TypeNamed ty incomplete)) = Some (NamedBase ty incomplete)
+named_base _ = None
+
+abbrev pub type_name_rule : Symbol → Gathered → Rule Gathered
+type_name_rule s g = do
+  known ← known_here
+  base ← wanted kind.Name s.line (named_base (meaning_of known s.bytes))
+  given (with_base base g)
 
 -- the line of the first token of a specifier, and of specifiers
 abbrev pub spec_line : SpecTree → ℕ
 spec_line (tree.OneWord s) = s.line
 spec_line (tree.Tagged k n) = k
 spec_line (tree.Body k tag o m ms c) = k
+spec_line (tree.NamedType s) = s.line
+spec_line (tree.EnumTagged k n) = k
+spec_line (tree.EnumBody k tag o e es last c) = k
 
 abbrev pub specs_line : SpecTrees → ℕ
 specs_line (tree.Specified s ss) = spec_line s

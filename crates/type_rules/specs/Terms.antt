@@ -22,11 +22,12 @@ pub record Reach : Type 0 where
 abbrev pub by_pointer : Reach
 by_pointer = record { through = true; fixed = false }
 
--- A value, a place, or the name of a function, without brackets round it or with them.
+-- A value, a place, the name of a function, without brackets round it or with them, or the name of a type.
 pub data Form : Type 0 where
   ValueForm : Expression → Form
   PlaceForm : Place → Reach → Form
   FunctionForm : ℕ → Bool → Form
+  TypeForm : Form
 
 -- an expression whose value is used
 pub record Operand : Type 0 where
@@ -115,11 +116,12 @@ value_in t (PlaceForm place reach) = do
   value ← value_at place (place_type place).ty t.line
   given (as_operand t value (in_place place reach))
 value_in t (FunctionForm number bare) = broken kind.Operand t.line
+value_in t TypeForm = broken kind.Operand t.line
 
 abbrev pub indexed : Term → Rule Operand
 indexed t = value_in t t.form
 
--- The value of an expression. A function has none.
+-- The value of an expression. A function has none, nor has a type.
 abbrev pub used : Term → Rule Operand
 used t = do
   _ ← no_table t

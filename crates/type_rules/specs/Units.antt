@@ -1,5 +1,5 @@
 -- Functions and whole units (ISO/IEC 9899:1990, 6.7): the typed program of a unit, or the first rule that it breaks.
-use Rattle.std.specs.Prelude.{ℕ, Bool, true, if◌then◌else◌, suc, List, [], ◌∷◌, ◌++◌, map, Result, Ok, Err}
+use Rattle.std.specs.Prelude.{ℕ, Bool, true, if◌then◌else◌, List, [], ◌∷◌, ◌++◌, map, Result, Ok, Err}
 use Rattle.std.specs.List.{list_any}
 use Rattle.std.specs.Str.{bytes_eq}
 use Rattle.c_tree.specs.Programs.{ItemTree, BlockTree}
@@ -9,10 +9,10 @@ use Rattle.c_typed.specs.Trees.{VariableTree, FunctionTree, StructureTree, Membe
 use Rattle.c_typed.specs.declared.types.Ty.{Ty}
 use Rattle.type_rules.specs.Faults as kind
 use Rattle.type_rules.specs.Faults.{Fault}
-use Rattle.type_rules.specs.Known.{Shape, Field, Known, known_first, no_body, Rule, given, broken, known_here, learn, tried, ◌>>=◌}
-use Rattle.type_rules.specs.Names.{is_declared, enter, leave}
+use Rattle.type_rules.specs.Known.{Scope, Shape, Field, Known, known_first, no_body, Rule, given, broken, known_here, learn, tried, ◌>>=◌}
+use Rattle.type_rules.specs.Names.{is_declared, enter_with, leave}
 use Rattle.type_rules.specs.Specifiers.{Specified}
-use Rattle.type_rules.specs.Outlines.{Param, Declared, ObjectDeclared, FunctionDeclared, Outline, bind_param}
+use Rattle.type_rules.specs.Outlines.{Param, Declared, ObjectDeclared, FunctionDeclared, Outline}
 use Rattle.type_rules.specs.Declarators.{in_file, specified, outline_of, name_in, line_in}
 use Rattle.type_rules.specs.Declarations.{function_rule, file_declaration}
 use Rattle.type_rules.specs.Statements.{body_statements}
@@ -31,13 +31,6 @@ defined_in (tree.Declaration d ∷ is) names = defined_in is names
 
 -- ---- functions
 
--- The parameters and the outermost block of a function are one scope.
-abbrev pub bind_params : List Param → ℕ → Rule Known
-bind_params [] n = known_here
-bind_params (p ∷ ps) n = do
-  _ ← bind_param p.name n p.ty p.fixed
-  bind_params ps (suc n)
-
 abbrev pub body_begun : List ℕ → Ty → Rule Known
 body_begun name result = learn (λ known. record known { body = record { name = name; result = result; locals = []; declarators = 0 } })
 
@@ -47,11 +40,11 @@ body_ended = learn (λ known. record known { body = no_body })
 abbrev pub variable_of : Param → VariableTree
 variable_of p = record { name = p.name; ty = p.ty; line = p.line }
 
-abbrev pub function_body : BlockTree → Specified → List ℕ → Ty → List Param → Rule FunctionTree
-function_body b said name result params = do
+-- The parameters and the outermost block of a function are one scope, with the enumerators that stand among the parameters.
+abbrev pub function_body : BlockTree → Specified → List ℕ → Ty → List Param → Scope → Rule FunctionTree
+function_body b said name result params scope = do
   _ ← body_begun name result
-  _ ← enter
-  _ ← bind_params params 0
+  _ ← enter_with scope
   statements ← body_statements b
   _ ← leave
   known ← known_here
@@ -59,17 +52,19 @@ function_body b said name result params = do
   given (record { name = name; result = result; params = map variable_of params; locals = (known.body).locals; body = statements; interrupt = said.interrupt; line = said.line })
 
 abbrev pub function_declared : Declared → BlockTree → Specified → Outline → List ℕ → ℕ → Rule FunctionTree
-function_declared (FunctionDeclared result params) b said o name line = do
+function_declared (FunctionDeclared result params scope) b said o name line = do
   _ ← function_rule name result params o.bad true line
-  function_body b said name result.ty params
+  function_body b said name result.ty params scope
 function_declared (ObjectDeclared ty) b said o name line = do
   known ← known_here
   _ ← tried ((is_declared known name, kind.Again) ∷ []) line
   broken kind.Declare line
 
+-- A `typedef` stands in declarations alone.
 abbrev pub function : SpecTrees → DeclaratorTree → BlockTree → Rule FunctionTree
 function s d b = do
   said ← specified s in_file
+  _ ← tried ((said.is_typedef, kind.Declare) ∷ []) said.line
   o ← outline_of d said true
   function_declared o.declared b said o (name_in d) (line_in d)
 

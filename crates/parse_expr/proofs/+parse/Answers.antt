@@ -1,11 +1,11 @@
 use Rattle.std.proofs.Common.{◌-◌, suc, length, map, refl}
 use Rattle.std.proofs.lemmas.List.{length-map}
 use Rattle.std.proofs.lemmas.Result.{err_from_is_err_and}
-use Rattle.c_tree.specs.Views.{binary_of, postfix_suffix_of, prefix_of, spec_of, suffix_of, choice_of, cond_of, expr_of, type_name_of, member_of, param_of, next_assign_of, next_declarator_of, next_operand_of, next_param_of, target_of}
+use Rattle.c_tree.specs.Views.{binary_of, postfix_suffix_of, prefix_of, spec_of, suffix_of, choice_of, cond_of, expr_of, type_name_of, member_of, param_of, next_assign_of, next_declarator_of, next_operand_of, next_param_of, target_of, enumerator_of, next_enumerator_of}
 use Rattle.parse_expr.specs.Reader.{symbol_in, symbols_in, all_that}
-use Rattle.parse_expr.specs.Reading.{at, cond_by, assign_by, comma_by, right_by, tier_by, post_by, prefix_by, next_spec_by, next_member_by, next_declarator_by, suffix_by, next_param_by, expr_by, type_name_by, members_by, params_by}
+use Rattle.parse_expr.specs.Reading.{at, cond_by, assign_by, comma_by, right_by, tier_by, post_by, prefix_by, next_spec_by, next_member_by, next_declarator_by, suffix_by, next_param_by, expr_by, type_name_by, members_by, params_by, next_enumerator_by, enumerators_by}
 use Rattle.parse_expr.proofs.Loops.{collect_first, collect_more, collect_ends, collect_out, collect_err, choices_first, choices_more, choices_end, choices_out, choices_err, choice_err, assigns_first, assigns_more, assigns_end, assigns_out, assigns_err}
-use Rattle.parse_expr.proofs.Fuel.{fails, gives, no_expr, no_size, no_type_name, no_members, no_params, less_expr, less_size, less_type_name, less_members, less_params}
+use Rattle.parse_expr.proofs.Fuel.{fails, gives, no_expr, no_size, no_type_name, no_members, no_params, no_enumerators, less_expr, less_size, less_type_name, less_members, less_params, less_enumerators}
 use Rattle.parse_expr.proofs.+parse.Goals as goal
 
 pub expression::commas-returns-in_err-next : goal.expression::commas-returns-in_err-next
@@ -231,3 +231,26 @@ declarator::inner_params-returns-then-fuel-eq0 t c = fails c.stopped.result ((at
 
 pub declarator::inner_params-returns : goal.declarator::inner_params-returns
 declarator::inner_params-returns t c = gives (λ x. ((param_of x.0.0, map next_param_of x.0.1.items), symbols_in c.args.text.now x.1.now)) c.params.result ((at c.args.fuel).params (symbols_in c.args.text.now c.args.toks.now)) (params_by (at (c.args.fuel - 1)) (symbols_in c.args.text.now c.args.toks.now)) (less_params c.args.fuel (symbols_in c.args.text.now c.args.toks.now) c.if-fuel-eq0.false) c.params.ensures
+
+pub enumeration::more_enumerators-returns-in_err-next : goal.enumeration::more_enumerators-returns-in_err-next
+enumeration::more_enumerators-returns-in_err-next t c =
+    let p = err_from_is_err_and c.from_residual.result c.from_residual.ensures.1 in
+    rw (p.1, p.2) (collect_err c.in_err-next.field-0.0 (next_enumerator_by (at c.args.fuel)) (length c.args.toks.now) c.loop.counter (map next_enumerator_of c.loop.found.items) (symbols_in c.args.text.now c.loop.rest.now) (all_that (next_enumerator_by (at c.args.fuel)) (symbols_in c.args.text.now c.args.toks.now)) c.loop-test.true c.in_err-next.ensures c.loop.invariant)
+
+pub enumeration::more_enumerators-returns-in-None : goal.enumeration::more_enumerators-returns-in-None
+enumeration::more_enumerators-returns-in-None t c = collect_ends (next_enumerator_by (at c.args.fuel)) (length c.args.toks.now) c.loop.counter (map next_enumerator_of c.loop.found.items) (symbols_in c.args.text.now c.loop.rest.now) (all_that (next_enumerator_by (at c.args.fuel)) (symbols_in c.args.text.now c.args.toks.now)) c.loop-test.true (rw c.in-None.is at c.in_ok-next.ensures) c.loop.invariant
+
+pub enumeration::more_enumerators-loop-preserved : goal.enumeration::more_enumerators-loop-preserved
+enumeration::more_enumerators-loop-preserved t c = rw c.in_ok-push-in-Some.ensures.items (collect_more next_enumerator_of (next_enumerator_by (at c.args.fuel)) (length c.args.toks.now) c.loop.counter c.loop.found.items c.in-Some.next (symbols_in c.args.text.now c.loop.rest.now) (symbols_in c.args.text.now c.in-Some.after.now) (all_that (next_enumerator_by (at c.args.fuel)) (symbols_in c.args.text.now c.args.toks.now)) c.loop-test.true (rw c.in-Some.is at c.in_ok-next.ensures) c.loop.invariant)
+
+pub enumeration::more_enumerators-returns : goal.enumeration::more_enumerators-returns
+enumeration::more_enumerators-returns t c = collect_out (next_enumerator_by (at c.args.fuel)) (length c.args.toks.now) c.loop.counter (map next_enumerator_of c.loop.found.items) (symbols_in c.args.text.now c.loop.rest.now) (all_that (next_enumerator_by (at c.args.fuel)) (symbols_in c.args.text.now c.args.toks.now)) c.loop-test.false c.loop.invariant
+
+pub enumeration::more_enumerators-loop-init : goal.enumeration::more_enumerators-loop-init
+enumeration::more_enumerators-loop-init t c = rw c.new-found.ensures.items (collect_first (next_enumerator_by (at c.args.fuel)) (length c.args.toks.now) (symbols_in c.args.text.now c.args.toks.now) (length-map c.args.toks.now (symbol_in c.args.text.now)))
+
+pub enumeration::inner_enumerators-returns-then-fuel-eq0 : goal.enumeration::inner_enumerators-returns-then-fuel-eq0
+enumeration::inner_enumerators-returns-then-fuel-eq0 t c = fails c.stopped.result ((at c.args.fuel).enumerators (symbols_in c.args.text.now c.args.toks.now)) c.stopped.ensures (no_enumerators c.args.fuel (symbols_in c.args.text.now c.args.toks.now) c.if-fuel-eq0.true)
+
+pub enumeration::inner_enumerators-returns : goal.enumeration::inner_enumerators-returns
+enumeration::inner_enumerators-returns t c = gives (λ x. ((enumerator_of x.0.0, map next_enumerator_of x.0.1.items), symbols_in c.args.text.now x.1.now)) c.enumerators.result ((at c.args.fuel).enumerators (symbols_in c.args.text.now c.args.toks.now)) (enumerators_by (at (c.args.fuel - 1)) (symbols_in c.args.text.now c.args.toks.now)) (less_enumerators c.args.fuel (symbols_in c.args.text.now c.args.toks.now) c.if-fuel-eq0.false) c.enumerators.ensures

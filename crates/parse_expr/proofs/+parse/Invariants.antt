@@ -1,7 +1,7 @@
 use Rattle.std.proofs.Common.{◌≡◌, ◌+◌, ◌-◌, ◌*◌, suc, length, map}
-use Rattle.c_tree.specs.Views.{postfix_suffix_of, prefix_of, spec_of, suffix_of, choice_of, member_of, next_assign_of, next_declarator_of, next_operand_of, next_param_of, target_of}
+use Rattle.c_tree.specs.Views.{postfix_suffix_of, prefix_of, spec_of, suffix_of, choice_of, member_of, next_assign_of, next_declarator_of, next_operand_of, next_param_of, target_of, next_enumerator_of}
 use Rattle.parse_expr.specs.Reader.{symbols_in, collect, all_that}
-use Rattle.parse_expr.specs.Reading.{at, choices, cond_by, assigns, assign_by, comma_by, right_by, tier_by, post_by, prefix_by, next_spec_by, next_member_by, next_declarator_by, suffix_by, next_param_by}
+use Rattle.parse_expr.specs.Reading.{at, choices, cond_by, assigns, assign_by, comma_by, right_by, tier_by, post_by, prefix_by, next_spec_by, next_member_by, next_declarator_by, suffix_by, next_param_by, next_enumerator_by}
 use Rattle.parse_expr.proofs.Loops.{fronted, chosen_in, assigned_in}
 use Rattle.parse_expr.proofs.+parse.Given as goal
 
@@ -113,6 +113,30 @@ decreases-specifier::more_members l = 64 * l.fuel + 11
 abbrev pub decreases-specifier::members : goal.decreases-specifier::members
 decreases-specifier::members l = 64 * l.fuel + 12
 
+abbrev pub decreases-enumeration::inner_enumerators : goal.decreases-enumeration::inner_enumerators
+decreases-enumeration::inner_enumerators l = 64 * l.fuel
+
+abbrev pub decreases-enumeration::body : goal.decreases-enumeration::body
+decreases-enumeration::body l = 64 * l.fuel + 1
+
+abbrev pub decreases-enumeration::enumeration : goal.decreases-enumeration::enumeration
+decreases-enumeration::enumeration l = 64 * l.fuel + 2
+
+abbrev pub decreases-enumeration::valued : goal.decreases-enumeration::valued
+decreases-enumeration::valued l = 64 * l.fuel + 40
+
+abbrev pub decreases-enumeration::enumerator : goal.decreases-enumeration::enumerator
+decreases-enumeration::enumerator l = 64 * l.fuel + 41
+
+abbrev pub decreases-enumeration::next_enumerator : goal.decreases-enumeration::next_enumerator
+decreases-enumeration::next_enumerator l = 64 * l.fuel + 42
+
+abbrev pub decreases-enumeration::more_enumerators : goal.decreases-enumeration::more_enumerators
+decreases-enumeration::more_enumerators l = 64 * l.fuel + 43
+
+abbrev pub decreases-enumeration::enumerators : goal.decreases-enumeration::enumerators
+decreases-enumeration::enumerators l = 64 * l.fuel + 44
+
 abbrev pub decreases-declarator::inner_params : goal.decreases-declarator::inner_params
 decreases-declarator::inner_params l = 64 * l.fuel
 
@@ -199,3 +223,6 @@ invariant-expression::cond-loop l = chosen_in (map choice_of l.choices.items) (c
 
 abbrev pub invariant-expression::assign-loop : goal.invariant-expression::assign-loop
 invariant-expression::assign-loop l = assigned_in (map target_of l.targets.items) (assigns (at l.fuel) (length l.toks - l.counter) (symbols_in l.text l.rest)) ≡ assign_by (at l.fuel) (symbols_in l.text l.toks)
+
+abbrev pub invariant-enumeration::more_enumerators-loop : goal.invariant-enumeration::more_enumerators-loop
+invariant-enumeration::more_enumerators-loop l = fronted (map next_enumerator_of l.found.items) (collect (next_enumerator_by (at l.fuel)) (length l.toks - l.counter) (symbols_in l.text l.rest)) ≡ all_that (next_enumerator_by (at l.fuel)) (symbols_in l.text l.toks)

@@ -1,8 +1,7 @@
 use Rattle.std.proofs.Common.{List, [], ◌∷◌, ◌++◌, map, sym, ap, ◌∙◌}
 use Rattle.c_token.specs.declared.token.TokKind.TheVariants as kinds
 use Rattle.c_token.specs.declared.token.Punct.TheVariants.{LeftBrace, RightBrace}
-use Rattle.c_tree.specs.Words.{Symbols, flat, kinds_of, punct}
-use Rattle.c_tree.specs.Programs.{spelled_comma}
+use Rattle.c_tree.specs.Words.{Symbols, flat, kinds_of, punct, spelled_comma}
 use Rattle.c_tree.specs.Statements.{spell_init, spell_next_init}
 use Rattle.c_tree.specs.declared.statement.Init.{Init}
 use Rattle.c_tree.specs.declared.statement.NextInit.{NextInit}

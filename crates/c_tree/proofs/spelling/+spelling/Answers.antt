@@ -1,8 +1,8 @@
-use Rattle.std.proofs.Common.{◌∷◌, []}
+use Rattle.std.proofs.Common.{◌∷◌, [], ◌++◌}
 use Rattle.c_token.specs.declared.token.Punct.TheVariants.{RightParenthesis, RightBrace, Semicolon}
-use Rattle.c_tree.specs.Words.{punct}
-use Rattle.c_tree.specs.Spelling.{spell_binary, spell_choice, spell_cond, spell_member, spell_next_assign, spell_next_declarator, spell_next_operand, spell_next_param, spell_operand, spell_postfix_suffix, spell_prefix, spell_spec, spell_suffix, spell_target}
-use Rattle.c_tree.specs.declared.expression.Binary.TheViews.{out-Assign, out-Cond, out-Cast}
+use Rattle.c_tree.specs.Words.{punct, spelled_comma}
+use Rattle.c_tree.specs.Spelling.{spell_binary, spell_choice, spell_cond, spell_member, spell_next_assign, spell_next_declarator, spell_next_enumerator, spell_next_operand, spell_next_param, spell_operand, spell_postfix_suffix, spell_prefix, spell_spec, spell_suffix, spell_target}
+use Rattle.c_tree.specs.declared.expression.Binary.TheViews.{out-Assign, out-Cond, out-Cast, out-EnumBody}
 use Rattle.c_tree.proofs.Append.{one_more, one_more_before}
 use Rattle.c_tree.proofs.spelling.+spelling.Goals as goal
 
@@ -11,6 +11,9 @@ put_specs-loop-spec-preserved t c = one_more spell_spec _ _ c.spec-item.result _
 
 pub put_struct_body-loop-member-preserved : goal.put_struct_body-loop-member-preserved
 put_struct_body-loop-member-preserved t c = one_more_before spell_member _ _ c.member-item.result (punct RightBrace 0 ∷ []) _ _ _ c.loop-member-test.true c.member-item.is c.in_ok-put_member-2.ensures c.loop-member.invariant
+
+pub put_enum_body-loop-next-preserved : goal.put_enum_body-loop-next-preserved
+put_enum_body-loop-next-preserved t c = one_more_before spell_next_enumerator _ _ c.next-item.result (spelled_comma (out-EnumBody c.args.enum_body.now).last_comma ++ punct RightBrace 0 ∷ []) _ _ _ c.loop-next-test.true c.next-item.is c.in_ok-put_next_enumerator.ensures c.loop-next.invariant
 
 pub put_member-loop-next-preserved : goal.put_member-loop-next-preserved
 put_member-loop-next-preserved t c = one_more_before spell_next_declarator _ _ c.next-item.result (punct Semicolon 0 ∷ []) _ _ _ c.loop-next-test.true c.next-item.is c.in_ok-put_next_declarator.ensures c.loop-next.invariant

@@ -1,8 +1,8 @@
 use Rattle.std.proofs.Common.{◌≡◌, ◌++◌, ◌∷◌, [], drop, map}
 use Rattle.c_token.specs.declared.token.Punct.TheVariants.{RightParenthesis, RightBrace, Semicolon}
-use Rattle.c_tree.specs.Words.{kinds_of, flat, punct}
-use Rattle.c_tree.specs.Spelling.{spell_assign, spell_binary, spell_cast, spell_choice, spell_cond, spell_declarator, spell_expr, spell_member, spell_next_assign, spell_next_declarator, spell_next_operand, spell_next_param, spell_operand, spell_param, spell_postfix, spell_postfix_suffix, spell_prefix, spell_spec, spell_specs, spell_struct_body, spell_suffix, spell_target}
-use Rattle.c_tree.specs.declared.expression.Binary.TheViews.{out-Assign, out-Cond, out-Cast}
+use Rattle.c_tree.specs.Words.{kinds_of, flat, punct, spelled_comma}
+use Rattle.c_tree.specs.Spelling.{spell_assign, spell_binary, spell_cast, spell_choice, spell_cond, spell_declarator, spell_enum_body, spell_expr, spell_member, spell_next_assign, spell_next_declarator, spell_next_enumerator, spell_next_operand, spell_next_param, spell_operand, spell_param, spell_postfix, spell_postfix_suffix, spell_prefix, spell_spec, spell_specs, spell_struct_body, spell_suffix, spell_target}
+use Rattle.c_tree.specs.declared.expression.Binary.TheViews.{out-Assign, out-Cond, out-Cast, out-EnumBody}
 use Rattle.c_tree.proofs.spelling.+spelling.Given as goal
 
 abbrev pub invariant-put_specs-loop-spec : goal.invariant-put_specs-loop-spec
@@ -10,6 +10,9 @@ invariant-put_specs-loop-spec l = l.out.items ++ kinds_of (flat (map spell_spec 
 
 abbrev pub invariant-put_struct_body-loop-member : goal.invariant-put_struct_body-loop-member
 invariant-put_struct_body-loop-member l = l.out.items ++ kinds_of (flat (map spell_member (drop l.member-index l.member-items)) ++ punct RightBrace 0 ∷ []) ≡ l.fn.out.items ++ kinds_of (spell_struct_body l.struct_body)
+
+abbrev pub invariant-put_enum_body-loop-next : goal.invariant-put_enum_body-loop-next
+invariant-put_enum_body-loop-next l = l.out.items ++ kinds_of (flat (map spell_next_enumerator (drop l.next-index l.next-items)) ++ (spelled_comma (out-EnumBody l.enum_body).last_comma ++ punct RightBrace 0 ∷ [])) ≡ l.fn.out.items ++ kinds_of (spell_enum_body l.enum_body)
 
 abbrev pub invariant-put_member-loop-next : goal.invariant-put_member-loop-next
 invariant-put_member-loop-next l = l.out.items ++ kinds_of (flat (map spell_next_declarator (drop l.next-index l.next-items)) ++ punct Semicolon 0 ∷ []) ≡ l.fn.out.items ++ kinds_of (spell_member l.member)

@@ -1,13 +1,18 @@
 use Rattle.std.proofs.Common.{◌+◌, [], map, drop, sym, ap}
 use Rattle.std.proofs.lemmas.Result.{err_from_is_err_and}
-use Rattle.c_tree.specs.Lists.{suffixes_of, more_members, more_params}
-use Rattle.c_tree.specs.Views.{cond_of, declarator_of, member_of, next_declarator_of, next_param_of, param_of, spec_of, specs_of, struct_body_of, suffix_of}
-use Rattle.c_tree.specs.Words.{named, spell_pointers, spell_tag}
-use Rattle.c_tree.specs.declared.expression.Binary.TheViews.{out-Declarator, out-Member, out-NextDeclarator, out-NextParam, out-Specs, out-StructBody}
-use Rattle.c_tree.proofs.Shapes.{show_declarator, show_member, show_next_declarator, show_next_param, show_param_named, show_param_unnamed, show_spec_word, show_spec_reference, show_spec_body, show_specs, show_struct_body, show_suffix_array, show_suffix_array_unsized, show_suffix_empty, show_suffix_params, show_suffix_void}
+use Rattle.c_tree.specs.Lists.{suffixes_of, more_members, more_params, more_enumerators}
+use Rattle.c_tree.specs.Views.{cond_of, declarator_of, member_of, next_declarator_of, next_param_of, param_of, spec_of, specs_of, struct_body_of, suffix_of, enumerator_of, next_enumerator_of}
+use Rattle.c_tree.specs.Words.{named, type_named, spell_pointers, spell_tag}
+use Rattle.c_tree.specs.declared.expression.Binary.TheViews.{out-Declarator, out-Member, out-NextDeclarator, out-NextParam, out-Specs, out-StructBody, out-EnumBody}
+use Rattle.c_tree.proofs.Shapes.{show_declarator, show_member, show_next_declarator, show_next_param, show_param_named, show_param_unnamed, show_spec_word, show_spec_reference, show_spec_body, show_spec_type_name, show_spec_enum_reference, show_spec_enum_body, show_enum_body, show_specs, show_struct_body, show_suffix_array, show_suffix_array_unsized, show_suffix_empty, show_suffix_params, show_suffix_void}
 use Rattle.c_operate.specs.Tables.{known_of}
 use Rattle.type_rules.specs.Declarators.{members, spec_rule, specified}
-use Rattle.type_rules.specs.Specifiers.{nothing_gathered, specs_line}
+use Rattle.type_rules.specs.Faults as kind
+use Rattle.type_rules.specs.Known.{wanted}
+use Rattle.type_rules.specs.Names.{meaning_of}
+use Rattle.type_rules.specs.Rows.{tagged}
+use Rattle.type_rules.specs.TypeNames.{enum_of}
+use Rattle.type_rules.specs.Specifiers.{named_base, nothing_gathered, specs_line}
 use Rattle.check_expr.specs.Lists.{body_rule}
 use Rattle.check_expr.specs.Views as views
 use Rattle.check_expr.specs.Views.{context_of, made_of, outline_of, specified_of}
@@ -57,7 +62,7 @@ outline-returns-in_err-made t c =
     rw (p.1, p.2) (steps.outline_unmade (declarator_of c.args.declarator.now) (spell_pointers (out-Declarator c.args.declarator.now).pointers.items) (named (out-Declarator c.args.declarator.now).name) (suffixes_of (map suffix_of (out-Declarator c.args.declarator.now).suffixes.items)) (specified_of c.args.specified) c.args.bodies c.in_ok-base.base (known_of c.args.checker.now) (known_of c.pointers.new.checker) c.in_err-made.field-0.0 (show_declarator c.args.declarator.now) (rw c.deref.ensures.value at c.in_ok-base.ensures) (rw c.deref-2.ensures.value at c.in_err-made.ensures))
 
 pub outline-returns : goal.outline-returns
-outline-returns t c = rw (steps.outline_ends (declarator_of c.args.declarator.now) (spell_pointers (out-Declarator c.args.declarator.now).pointers.items) (named (out-Declarator c.args.declarator.now).name) (suffixes_of (map suffix_of (out-Declarator c.args.declarator.now).suffixes.items)) (specified_of c.args.specified) c.args.bodies c.in_ok-base.base (map made_of c.in_ok-made.made.items) (known_of c.args.checker.now) (known_of c.pointers.new.checker) (known_of c.suffixes.new.checker) (show_declarator c.args.declarator.now) (rw c.deref.ensures.value at c.in_ok-base.ensures) (rw c.deref-2.ensures.value at c.in_ok-made.ensures)) (c.outlined.ensures (known_of c.suffixes.new.checker))
+outline-returns t c = rw (steps.outline_ends (declarator_of c.args.declarator.now) (spell_pointers (out-Declarator c.args.declarator.now).pointers.items) (named (out-Declarator c.args.declarator.now).name) (suffixes_of (map suffix_of (out-Declarator c.args.declarator.now).suffixes.items)) (specified_of c.args.specified) c.args.bodies c.in_ok-base.base (map made_of c.in_ok-made.made.items) (known_of c.args.checker.now) (known_of c.pointers.new.checker) (known_of c.suffixes.new.checker) (show_declarator c.args.declarator.now) (rw c.deref.ensures.value at c.in_ok-base.ensures) (rw c.deref-2.ensures.value at c.in_ok-made.ensures)) (rw c.object.ensures at (c.outlined.ensures (known_of c.suffixes.new.checker)))
 
 pub specified-returns-in_err-words : goal.specified-returns-in_err-words
 specified-returns-in_err-words t c =
@@ -85,11 +90,11 @@ specifier-returns-in-Word t c g e = steps.word_given (spec_of c.args.spec.now) c
 
 pub specifier-returns-in_err-structure-in-Reference : goal.specifier-returns-in_err-structure-in-Reference
 specifier-returns-in_err-structure-in-Reference t c g e =
-    let p = err_from_is_err_and c.from_residual.result c.from_residual.ensures.1 in
+    let p = err_from_is_err_and c.from_residual-in_err-structure-in-Reference.result c.from_residual-in_err-structure-in-Reference.ensures.1 in
     rw (p.1, p.2) (steps.tag_refused (spec_of c.args.spec.now) c.in-Reference.keyword (named c.in-Reference.tag) (context_of c.args.context) g (known_of c.args.checker.now) c.in_err-structure-in-Reference.field-0.0 (rw c.in-Reference.is (show_spec_reference c.in-Reference.keyword c.in-Reference.tag)) (rw c.deref.ensures.value at (c.in_err-structure-in-Reference.ensures (known_of c.args.checker.now))))
 
 pub specifier-returns-in_ok-structure-in-Reference : goal.specifier-returns-in_ok-structure-in-Reference
-specifier-returns-in_ok-structure-in-Reference t c g e = steps.tag_given (spec_of c.args.spec.now) c.in-Reference.keyword (named c.in-Reference.tag) (context_of c.args.context) g c.in_ok-structure-in-Reference.structure c.args.words c.with_structure.result (known_of c.args.checker.now) _ (rw c.in-Reference.is (show_spec_reference c.in-Reference.keyword c.in-Reference.tag)) (rw c.deref.ensures.value at (c.in_ok-structure-in-Reference.ensures (known_of c.args.checker.now))) c.with_structure.ensures e
+specifier-returns-in_ok-structure-in-Reference t c g e = steps.tag_given (spec_of c.args.spec.now) c.in-Reference.keyword (named c.in-Reference.tag) (context_of c.args.context) g c.in_ok-structure-in-Reference.structure c.args.words c.with_base-in-Reference.result (known_of c.args.checker.now) _ (rw c.in-Reference.is (show_spec_reference c.in-Reference.keyword c.in-Reference.tag)) (rw c.deref.ensures.value at (c.in_ok-structure-in-Reference.ensures (known_of c.args.checker.now))) c.with_base-in-Reference.ensures e
 
 pub specifier-returns-in_err-structure-in-Body : goal.specifier-returns-in_err-structure-in-Body
 specifier-returns-in_err-structure-in-Body t c g e =
@@ -102,7 +107,40 @@ specifier-returns-in_err-structure_body-in-Body t c g e =
     rw (p.1, p.2) (steps.body_unclosed (spec_of c.args.spec.now) (out-StructBody c.in-Body.body.value).keyword (spell_tag (out-StructBody c.in-Body.body.value).tag) (out-StructBody c.in-Body.body.value).opening (member_of (out-StructBody c.in-Body.body.value).first) (more_members (map member_of (out-StructBody c.in-Body.body.value).others.items)) (out-StructBody c.in-Body.body.value).closing c.in_ok-structure-in-Body.structure (context_of c.args.context) g (known_of c.args.checker.now) _ c.in_err-structure_body-in-Body.field-0.0 (rw (c.in-Body.is, show_spec_body c.in-Body.body) (show_struct_body c.in-Body.body.value)) (rw (c.deref-in-Body.ensures, c.deref-in-Body-2.ensures) at (c.in_ok-structure-in-Body.ensures (known_of c.args.checker.now))) (rw (c.in-Body.is, show_spec_body c.in-Body.body) (rw c.deref-in-Body-3.ensures at c.in_err-structure_body-in-Body.ensures)))
 
 pub specifier-returns-in_ok-structure_body-in-Body : goal.specifier-returns-in_ok-structure_body-in-Body
-specifier-returns-in_ok-structure_body-in-Body t c g e = steps.body_given (spec_of c.args.spec.now) (out-StructBody c.in-Body.body.value).keyword (spell_tag (out-StructBody c.in-Body.body.value).tag) (out-StructBody c.in-Body.body.value).opening (member_of (out-StructBody c.in-Body.body.value).first) (more_members (map member_of (out-StructBody c.in-Body.body.value).others.items)) (out-StructBody c.in-Body.body.value).closing c.in_ok-structure-in-Body.structure (context_of c.args.context) g c.args.words c.with_structure-in-Body.result (known_of c.args.checker.now) _ _ (rw (c.in-Body.is, show_spec_body c.in-Body.body) (show_struct_body c.in-Body.body.value)) (rw (c.deref-in-Body.ensures, c.deref-in-Body-2.ensures) at (c.in_ok-structure-in-Body.ensures (known_of c.args.checker.now))) (rw (c.in-Body.is, show_spec_body c.in-Body.body) (rw c.deref-in-Body-3.ensures at c.in_ok-structure_body-in-Body.ensures)) c.with_structure-in-Body.ensures e
+specifier-returns-in_ok-structure_body-in-Body t c g e = steps.body_given (spec_of c.args.spec.now) (out-StructBody c.in-Body.body.value).keyword (spell_tag (out-StructBody c.in-Body.body.value).tag) (out-StructBody c.in-Body.body.value).opening (member_of (out-StructBody c.in-Body.body.value).first) (more_members (map member_of (out-StructBody c.in-Body.body.value).others.items)) (out-StructBody c.in-Body.body.value).closing c.in_ok-structure-in-Body.structure (context_of c.args.context) g c.args.words c.with_base-in-Body.result (known_of c.args.checker.now) _ _ (rw (c.in-Body.is, show_spec_body c.in-Body.body) (show_struct_body c.in-Body.body.value)) (rw (c.deref-in-Body.ensures, c.deref-in-Body-2.ensures) at (c.in_ok-structure-in-Body.ensures (known_of c.args.checker.now))) (rw (c.in-Body.is, show_spec_body c.in-Body.body) (rw c.deref-in-Body-3.ensures at c.in_ok-structure_body-in-Body.ensures)) c.with_base-in-Body.ensures e
+
+pub specifier-returns-in_err-base-in-TypeName : goal.specifier-returns-in_err-base-in-TypeName
+specifier-returns-in_err-base-in-TypeName t c g e =
+    let p = err_from_is_err_and c.from_residual.result c.from_residual.ensures.1 in
+    let known = known_of c.args.checker.now in
+    rw (p.1, p.2, c.in-TypeName.is, show_spec_type_name c.in-TypeName.name, steps.named_type_given (type_named c.in-TypeName.name) (context_of c.args.context) g known) (steps.base_refused (wanted kind.Name c.in-TypeName.name.line (named_base (meaning_of known c.in-TypeName.name.bytes.items)) known) g c.in_err-base-in-TypeName.field-0.0 (c.in_err-base-in-TypeName.ensures known))
+
+pub specifier-returns-in_ok-base-in-TypeName : goal.specifier-returns-in_ok-base-in-TypeName
+specifier-returns-in_ok-base-in-TypeName t c g e =
+    let known = known_of c.args.checker.now in
+    rw (c.in-TypeName.is, show_spec_type_name c.in-TypeName.name, steps.named_type_given (type_named c.in-TypeName.name) (context_of c.args.context) g known) (steps.base_given (wanted kind.Name c.in-TypeName.name.line (named_base (meaning_of known c.in-TypeName.name.bytes.items)) known) g c.in_ok-base-in-TypeName.base c.args.words c.with_base.result known (c.in_ok-base-in-TypeName.ensures known) c.with_base.ensures e)
+
+pub specifier-returns-in_err-base-in-EnumReference : goal.specifier-returns-in_err-base-in-EnumReference
+specifier-returns-in_err-base-in-EnumReference t c g e =
+    let p = err_from_is_err_and c.from_residual-in_err-base-in-EnumReference.result c.from_residual-in_err-base-in-EnumReference.ensures.1 in
+    let known = known_of c.args.checker.now in
+    rw (p.1, p.2, c.in-EnumReference.is, show_spec_enum_reference c.in-EnumReference.keyword c.in-EnumReference.tag, steps.enum_tagged_given c.in-EnumReference.keyword (named c.in-EnumReference.tag) (context_of c.args.context) g known) (steps.base_refused (enum_of (tagged known c.in-EnumReference.tag.bytes.items) c.in-EnumReference.keyword known) g c.in_err-base-in-EnumReference.field-0.0 (c.in_err-base-in-EnumReference.ensures known))
+
+pub specifier-returns-in_ok-base-in-EnumReference : goal.specifier-returns-in_ok-base-in-EnumReference
+specifier-returns-in_ok-base-in-EnumReference t c g e =
+    let known = known_of c.args.checker.now in
+    rw (c.in-EnumReference.is, show_spec_enum_reference c.in-EnumReference.keyword c.in-EnumReference.tag, steps.enum_tagged_given c.in-EnumReference.keyword (named c.in-EnumReference.tag) (context_of c.args.context) g known) (steps.base_given (enum_of (tagged known c.in-EnumReference.tag.bytes.items) c.in-EnumReference.keyword known) g c.in_ok-base-in-EnumReference.base c.args.words c.with_base-in-EnumReference.result known (c.in_ok-base-in-EnumReference.ensures known) c.with_base-in-EnumReference.ensures e)
+
+pub specifier-returns-in_err-enumeration-in-EnumBody : goal.specifier-returns-in_err-enumeration-in-EnumBody
+specifier-returns-in_err-enumeration-in-EnumBody t c g e =
+    let p = err_from_is_err_and c.from_residual-in_err-enumeration-in-EnumBody.result c.from_residual-in_err-enumeration-in-EnumBody.ensures.1 in
+    let body = c.in-EnumBody.body.value in
+    rw (p.1, p.2) (steps.enum_refused (spec_of c.args.spec.now) (out-EnumBody body).keyword (spell_tag (out-EnumBody body).tag) (out-EnumBody body).opening (enumerator_of (out-EnumBody body).first) (more_enumerators (map next_enumerator_of (out-EnumBody body).others.items)) (out-EnumBody body).last_comma (out-EnumBody body).closing (context_of c.args.context) g (known_of c.args.checker.now) c.in_err-enumeration-in-EnumBody.field-0.0 (rw (c.in-EnumBody.is, show_spec_enum_body c.in-EnumBody.body) (show_enum_body body)) (rw (c.in-EnumBody.is, show_spec_enum_body c.in-EnumBody.body) (rw c.deref-in-EnumBody.ensures at c.in_err-enumeration-in-EnumBody.ensures)))
+
+pub specifier-returns-in_ok-enumeration-in-EnumBody : goal.specifier-returns-in_ok-enumeration-in-EnumBody
+specifier-returns-in_ok-enumeration-in-EnumBody t c g e =
+    let body = c.in-EnumBody.body.value in
+    steps.enum_given (spec_of c.args.spec.now) (out-EnumBody body).keyword (spell_tag (out-EnumBody body).tag) (out-EnumBody body).opening (enumerator_of (out-EnumBody body).first) (more_enumerators (map next_enumerator_of (out-EnumBody body).others.items)) (out-EnumBody body).last_comma (out-EnumBody body).closing (context_of c.args.context) g c.args.words c.with_base-in-EnumBody.result (known_of c.args.checker.now) _ (rw (c.in-EnumBody.is, show_spec_enum_body c.in-EnumBody.body) (show_enum_body body)) (rw (c.in-EnumBody.is, show_spec_enum_body c.in-EnumBody.body) (rw c.deref-in-EnumBody.ensures at c.in_ok-enumeration-in-EnumBody.ensures)) c.with_base-in-EnumBody.ensures e
 
 pub structure_body-returns-in_err-members : goal.structure_body-returns-in_err-members
 structure_body-returns-in_err-members t c =
@@ -175,7 +213,7 @@ suffix-returns-in_err-params-in-Params t c =
     rw (p.1, p.2, c.in-Params.is, show_suffix_params c.in-Params.opening c.in-Params.first c.in-Params.others c.in-Params.closing) (steps.params_others c.in-Params.opening (param_of c.in-Params.first.value) (more_params (map next_param_of c.in-Params.others.items)) c.in-Params.closing c.args.bodies _ (known_of c.args.checker.now) _ _ c.in_err-params-in-Params.field-0.0 (c.in_ok-enter_list-in-Params.ensures (known_of c.args.checker.now)) (rw (c.new-list.ensures, c.deref-in-Params.ensures) at c.in_ok-param-in-Params.ensures) (rw c.deref-in-Params-2.ensures.value at c.in_err-params-in-Params.ensures))
 
 pub suffix-returns-in_ok-params-in-Params : goal.suffix-returns-in_ok-params-in-Params
-suffix-returns-in_ok-params-in-Params t c = rw (c.in-Params.is, show_suffix_params c.in-Params.opening c.in-Params.first c.in-Params.others c.in-Params.closing) (steps.params_whole c.in-Params.opening (param_of c.in-Params.first.value) (more_params (map next_param_of c.in-Params.others.items)) c.in-Params.closing c.args.bodies _ _ (known_of c.args.checker.now) _ _ _ _ (c.in_ok-enter_list-in-Params.ensures (known_of c.args.checker.now)) (rw (c.new-list.ensures, c.deref-in-Params.ensures) at c.in_ok-param-in-Params.ensures) (rw c.deref-in-Params-2.ensures.value at c.in_ok-params-in-Params.ensures) (c.leave_list.ensures (known_of c.params.new.checker)))
+suffix-returns-in_ok-params-in-Params t c = rw (c.in-Params.is, show_suffix_params c.in-Params.opening c.in-Params.first c.in-Params.others c.in-Params.closing) (steps.params_whole c.in-Params.opening (param_of c.in-Params.first.value) (more_params (map next_param_of c.in-Params.others.items)) c.in-Params.closing c.args.bodies _ _ _ (known_of c.args.checker.now) _ _ _ _ (c.in_ok-enter_list-in-Params.ensures (known_of c.args.checker.now)) (rw (c.new-list.ensures, c.deref-in-Params.ensures) at c.in_ok-param-in-Params.ensures) (rw c.deref-in-Params-2.ensures.value at c.in_ok-params-in-Params.ensures) (c.leave_list.ensures (known_of c.params.new.checker)))
 
 pub param-returns-in_err-specified-in-Named : goal.param-returns-in_err-specified-in-Named
 param-returns-in_err-specified-in-Named t c =
@@ -195,10 +233,10 @@ param-returns-in_err-made-in-Named t c =
 pub param-returns-in_err-outline-in-Named : goal.param-returns-in_err-outline-in-Named
 param-returns-in_err-outline-in-Named t c =
     let p = err_from_is_err_and c.from_residual-in_err-outline-in-Named.result c.from_residual-in_err-outline-in-Named.ensures.1 in
-    rw (p.1, p.2, c.in-Named.is, show_param_named c.in-Named.specs c.in-Named.declarator, show_declarator c.in-Named.declarator, steps.param_named (specs_of c.in-Named.specs) (spell_pointers (out-Declarator c.in-Named.declarator).pointers.items) (named (out-Declarator c.in-Named.declarator).name) (suffixes_of (map suffix_of (out-Declarator c.in-Named.declarator).suffixes.items)) c.args.bodies (map views.param_of c.args.list.now.params.items) (known_of c.args.checker.now)) (steps.param_unlined (steps.named_shape (specs_of c.in-Named.specs) (spell_pointers (out-Declarator c.in-Named.declarator).pointers.items) (named (out-Declarator c.in-Named.declarator).name) (suffixes_of (map suffix_of (out-Declarator c.in-Named.declarator).suffixes.items))) c.args.bodies (map views.param_of c.args.list.now.params.items) (specified_of c.in_ok-specified-in-Named.specified) c.in_ok-base-in-Named.base (map made_of c.in_ok-made-in-Named.made.items) (known_of c.args.checker.now) _ _ _ c.in_err-outline-in-Named.field-0.0 (rw c.param_context.ensures at c.in_ok-specified-in-Named.ensures) (rw c.deref.ensures.value at c.in_ok-base-in-Named.ensures) (rw c.deref-in-Named.ensures.value at c.in_ok-made-in-Named.ensures) (c.in_err-outline-in-Named.ensures (known_of c.suffixes.new.checker)))
+    rw (p.1, p.2, c.in-Named.is, show_param_named c.in-Named.specs c.in-Named.declarator, show_declarator c.in-Named.declarator, steps.param_named (specs_of c.in-Named.specs) (spell_pointers (out-Declarator c.in-Named.declarator).pointers.items) (named (out-Declarator c.in-Named.declarator).name) (suffixes_of (map suffix_of (out-Declarator c.in-Named.declarator).suffixes.items)) c.args.bodies (map views.param_of c.args.list.now.params.items) (known_of c.args.checker.now)) (steps.param_unlined (steps.named_shape (specs_of c.in-Named.specs) (spell_pointers (out-Declarator c.in-Named.declarator).pointers.items) (named (out-Declarator c.in-Named.declarator).name) (suffixes_of (map suffix_of (out-Declarator c.in-Named.declarator).suffixes.items))) c.args.bodies (map views.param_of c.args.list.now.params.items) (specified_of c.in_ok-specified-in-Named.specified) c.in_ok-base-in-Named.base (map made_of c.in_ok-made-in-Named.made.items) (known_of c.args.checker.now) _ _ _ c.in_err-outline-in-Named.field-0.0 (rw c.param_context.ensures at c.in_ok-specified-in-Named.ensures) (rw c.deref.ensures.value at c.in_ok-base-in-Named.ensures) (rw c.deref-in-Named.ensures.value at c.in_ok-made-in-Named.ensures) (rw c.object.ensures at (c.in_err-outline-in-Named.ensures (known_of c.suffixes.new.checker))))
 
 pub param-returns-in_ok-outline-in-Named : goal.param-returns-in_ok-outline-in-Named
-param-returns-in_ok-outline-in-Named t c = rw (c.in-Named.is, show_param_named c.in-Named.specs c.in-Named.declarator, show_declarator c.in-Named.declarator, steps.param_named (specs_of c.in-Named.specs) (spell_pointers (out-Declarator c.in-Named.declarator).pointers.items) (named (out-Declarator c.in-Named.declarator).name) (suffixes_of (map suffix_of (out-Declarator c.in-Named.declarator).suffixes.items)) c.args.bodies (map views.param_of c.args.list.now.params.items) (known_of c.args.checker.now), steps.param_whole (steps.named_shape (specs_of c.in-Named.specs) (spell_pointers (out-Declarator c.in-Named.declarator).pointers.items) (named (out-Declarator c.in-Named.declarator).name) (suffixes_of (map suffix_of (out-Declarator c.in-Named.declarator).suffixes.items))) c.args.bodies (map views.param_of c.args.list.now.params.items) (specified_of c.in_ok-specified-in-Named.specified) c.in_ok-base-in-Named.base (map made_of c.in_ok-made-in-Named.made.items) (outline_of c.in_ok-outline-in-Named.outline) (known_of c.args.checker.now) _ _ _ (known_of (record c.suffixes.new.checker { types = c.param_outlined.new.types })) (rw c.param_context.ensures at c.in_ok-specified-in-Named.ensures) (rw c.deref.ensures.value at c.in_ok-base-in-Named.ensures) (rw c.deref-in-Named.ensures.value at c.in_ok-made-in-Named.ensures) (c.in_ok-outline-in-Named.ensures (known_of c.suffixes.new.checker))) (rw (c.deref-in-Named-2.ensures.value, c.line_of-line.ensures, show_declarator c.in-Named.declarator) at c.add_param.ensures)
+param-returns-in_ok-outline-in-Named t c = rw (c.in-Named.is, show_param_named c.in-Named.specs c.in-Named.declarator, show_declarator c.in-Named.declarator, steps.param_named (specs_of c.in-Named.specs) (spell_pointers (out-Declarator c.in-Named.declarator).pointers.items) (named (out-Declarator c.in-Named.declarator).name) (suffixes_of (map suffix_of (out-Declarator c.in-Named.declarator).suffixes.items)) c.args.bodies (map views.param_of c.args.list.now.params.items) (known_of c.args.checker.now), steps.param_whole (steps.named_shape (specs_of c.in-Named.specs) (spell_pointers (out-Declarator c.in-Named.declarator).pointers.items) (named (out-Declarator c.in-Named.declarator).name) (suffixes_of (map suffix_of (out-Declarator c.in-Named.declarator).suffixes.items))) c.args.bodies (map views.param_of c.args.list.now.params.items) (specified_of c.in_ok-specified-in-Named.specified) c.in_ok-base-in-Named.base (map made_of c.in_ok-made-in-Named.made.items) (outline_of c.in_ok-outline-in-Named.outline) (known_of c.args.checker.now) _ _ _ (known_of (record c.suffixes.new.checker { types = c.param_outlined.new.types })) (rw c.param_context.ensures at c.in_ok-specified-in-Named.ensures) (rw c.deref.ensures.value at c.in_ok-base-in-Named.ensures) (rw c.deref-in-Named.ensures.value at c.in_ok-made-in-Named.ensures) (rw c.object.ensures at (c.in_ok-outline-in-Named.ensures (known_of c.suffixes.new.checker)))) (rw (c.deref-in-Named-2.ensures.value, c.line_of-line.ensures, show_declarator c.in-Named.declarator) at c.add_param.ensures)
 
 pub param-returns-in_err-specified-in-Unnamed : goal.param-returns-in_err-specified-in-Unnamed
 param-returns-in_err-specified-in-Unnamed t c =
@@ -218,10 +256,10 @@ param-returns-in_err-made-in-Unnamed t c =
 pub param-returns-in_err-outline-in-Unnamed : goal.param-returns-in_err-outline-in-Unnamed
 param-returns-in_err-outline-in-Unnamed t c =
     let p = err_from_is_err_and c.from_residual-in_err-outline-in-Unnamed.result c.from_residual-in_err-outline-in-Unnamed.ensures.1 in
-    rw (p.1, p.2, c.in-Unnamed.is, show_param_unnamed c.in-Unnamed.specs c.in-Unnamed.pointers c.in-Unnamed.suffixes, steps.param_unnamed (specs_of c.in-Unnamed.specs) (spell_pointers c.in-Unnamed.pointers.items) (suffixes_of (map suffix_of c.in-Unnamed.suffixes.items)) c.args.bodies (map views.param_of c.args.list.now.params.items) (known_of c.args.checker.now)) (steps.param_unlined (steps.unnamed_shape (specs_of c.in-Unnamed.specs) (spell_pointers c.in-Unnamed.pointers.items) (suffixes_of (map suffix_of c.in-Unnamed.suffixes.items))) c.args.bodies (map views.param_of c.args.list.now.params.items) (specified_of c.in_ok-specified-in-Unnamed.specified) c.in_ok-base-in-Unnamed.base (map made_of c.in_ok-made-in-Unnamed.made.items) (known_of c.args.checker.now) _ _ _ c.in_err-outline-in-Unnamed.field-0.0 (rw c.param_context-in-Unnamed.ensures at c.in_ok-specified-in-Unnamed.ensures) (rw c.deref-in-Unnamed.ensures.value at c.in_ok-base-in-Unnamed.ensures) (rw c.deref-in-Unnamed-2.ensures.value at c.in_ok-made-in-Unnamed.ensures) (c.in_err-outline-in-Unnamed.ensures (known_of c.suffixes-in-Unnamed.new.checker)))
+    rw (p.1, p.2, c.in-Unnamed.is, show_param_unnamed c.in-Unnamed.specs c.in-Unnamed.pointers c.in-Unnamed.suffixes, steps.param_unnamed (specs_of c.in-Unnamed.specs) (spell_pointers c.in-Unnamed.pointers.items) (suffixes_of (map suffix_of c.in-Unnamed.suffixes.items)) c.args.bodies (map views.param_of c.args.list.now.params.items) (known_of c.args.checker.now)) (steps.param_unlined (steps.unnamed_shape (specs_of c.in-Unnamed.specs) (spell_pointers c.in-Unnamed.pointers.items) (suffixes_of (map suffix_of c.in-Unnamed.suffixes.items))) c.args.bodies (map views.param_of c.args.list.now.params.items) (specified_of c.in_ok-specified-in-Unnamed.specified) c.in_ok-base-in-Unnamed.base (map made_of c.in_ok-made-in-Unnamed.made.items) (known_of c.args.checker.now) _ _ _ c.in_err-outline-in-Unnamed.field-0.0 (rw c.param_context-in-Unnamed.ensures at c.in_ok-specified-in-Unnamed.ensures) (rw c.deref-in-Unnamed.ensures.value at c.in_ok-base-in-Unnamed.ensures) (rw c.deref-in-Unnamed-2.ensures.value at c.in_ok-made-in-Unnamed.ensures) (rw c.object-in-Unnamed.ensures at (c.in_err-outline-in-Unnamed.ensures (known_of c.suffixes-in-Unnamed.new.checker))))
 
 pub param-returns-in_ok-outline-in-Unnamed : goal.param-returns-in_ok-outline-in-Unnamed
-param-returns-in_ok-outline-in-Unnamed t c = rw (c.in-Unnamed.is, show_param_unnamed c.in-Unnamed.specs c.in-Unnamed.pointers c.in-Unnamed.suffixes, steps.param_unnamed (specs_of c.in-Unnamed.specs) (spell_pointers c.in-Unnamed.pointers.items) (suffixes_of (map suffix_of c.in-Unnamed.suffixes.items)) c.args.bodies (map views.param_of c.args.list.now.params.items) (known_of c.args.checker.now), steps.param_whole (steps.unnamed_shape (specs_of c.in-Unnamed.specs) (spell_pointers c.in-Unnamed.pointers.items) (suffixes_of (map suffix_of c.in-Unnamed.suffixes.items))) c.args.bodies (map views.param_of c.args.list.now.params.items) (specified_of c.in_ok-specified-in-Unnamed.specified) c.in_ok-base-in-Unnamed.base (map made_of c.in_ok-made-in-Unnamed.made.items) (outline_of c.in_ok-outline-in-Unnamed.outline) (known_of c.args.checker.now) _ _ _ (known_of (record c.suffixes-in-Unnamed.new.checker { types = c.param_outlined-in-Unnamed.new.types })) (rw c.param_context-in-Unnamed.ensures at c.in_ok-specified-in-Unnamed.ensures) (rw c.deref-in-Unnamed.ensures.value at c.in_ok-base-in-Unnamed.ensures) (rw c.deref-in-Unnamed-2.ensures.value at c.in_ok-made-in-Unnamed.ensures) (c.in_ok-outline-in-Unnamed.ensures (known_of c.suffixes-in-Unnamed.new.checker))) c.add_param-in-Unnamed.ensures
+param-returns-in_ok-outline-in-Unnamed t c = rw (c.in-Unnamed.is, show_param_unnamed c.in-Unnamed.specs c.in-Unnamed.pointers c.in-Unnamed.suffixes, steps.param_unnamed (specs_of c.in-Unnamed.specs) (spell_pointers c.in-Unnamed.pointers.items) (suffixes_of (map suffix_of c.in-Unnamed.suffixes.items)) c.args.bodies (map views.param_of c.args.list.now.params.items) (known_of c.args.checker.now), steps.param_whole (steps.unnamed_shape (specs_of c.in-Unnamed.specs) (spell_pointers c.in-Unnamed.pointers.items) (suffixes_of (map suffix_of c.in-Unnamed.suffixes.items))) c.args.bodies (map views.param_of c.args.list.now.params.items) (specified_of c.in_ok-specified-in-Unnamed.specified) c.in_ok-base-in-Unnamed.base (map made_of c.in_ok-made-in-Unnamed.made.items) (outline_of c.in_ok-outline-in-Unnamed.outline) (known_of c.args.checker.now) _ _ _ (known_of (record c.suffixes-in-Unnamed.new.checker { types = c.param_outlined-in-Unnamed.new.types })) (rw c.param_context-in-Unnamed.ensures at c.in_ok-specified-in-Unnamed.ensures) (rw c.deref-in-Unnamed.ensures.value at c.in_ok-base-in-Unnamed.ensures) (rw c.deref-in-Unnamed-2.ensures.value at c.in_ok-made-in-Unnamed.ensures) (rw c.object-in-Unnamed.ensures at (c.in_ok-outline-in-Unnamed.ensures (known_of c.suffixes-in-Unnamed.new.checker)))) c.add_param-in-Unnamed.ensures
 
 pub suffix-returns-in-Empty : goal.suffix-returns-in-Empty
 suffix-returns-in-Empty t c = rw (c.in-Empty.is, show_suffix_empty c.in-Empty.opening c.in-Empty.closing, c.new.ensures) (steps.suffix_empty c.in-Empty.opening c.in-Empty.closing c.args.bodies (known_of c.args.checker.now))

@@ -6,7 +6,7 @@ use Rattle.check_expr.specs.Views.{made_of, outline_of}
 use Rattle.check_expr.proofs.outline.outlined.Given as goal
 
 abbrev pub invariant-loop-suffix : goal.invariant-loop-suffix
-invariant-loop-suffix l = (known : Known) → rule.outlined (map made_of l.fn.made.items) (rule.object_outline l.fn.base) (types_in l.fn.types known) ≡ rule.outlined (map made_of l.left.items) (outline_of l.outline) (types_in l.types known)
+invariant-loop-suffix l = (known : Known) → rule.outlined (map made_of l.fn.made.items) (outline_of l.fn.base) (types_in l.fn.types known) ≡ rule.outlined (map made_of l.left.items) (outline_of l.outline) (types_in l.types known)
 
 abbrev pub decreases-loop-suffix : goal.decreases-loop-suffix
 decreases-loop-suffix l = length l.left.items

@@ -1,0 +1,12 @@
+use Rattle.std.proofs.Common.{arith}
+use Rattle.c_parse.specs.MarkViews.{marking_of}
+use Rattle.c_parse.proofs.Names.{marked_goes_on, marked_ends}
+use Rattle.c_parse.proofs.marks.mark.Goals as goal
+
+pub loop-tok-preserved : goal.loop-tok-preserved
+loop-tok-preserved c =
+    let on = marked_goes_on c.args.text.now c.args.toks.now c.loop-tok.tok-index _ c.token-tok.result (marking_of c.loop-tok.marking) (marking_of c.pass.new.self) c.loop-tok.out.items _ c.loop-tok-test.true c.token-tok.ensures c.in_ok-pass.ensures.exact c.loop-tok.invariant.0 in
+    (rw c.in_ok-push.ensures.items on, omega (arith, c.in_ok-pass.ensures.by_one, c.loop-tok.invariant.1))
+
+pub returns : goal.returns
+returns c = marked_ends c.args.text.now c.args.toks.now c.loop-tok.tok-index (marking_of c.loop-tok.marking) c.loop-tok.out.items _ c.loop-tok-test.false c.loop-tok.invariant.0

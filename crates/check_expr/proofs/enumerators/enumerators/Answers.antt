@@ -1,0 +1,19 @@
+use Rattle.std.proofs.Common.{map}
+use Rattle.std.proofs.lemmas.Result.{err_from_is_err_and}
+use Rattle.c_tree.specs.Views.{next_enumerator_of, enumerator_of}
+use Rattle.c_tree.specs.declared.expression.Binary.TheViews.{out-NextEnumerator}
+use Rattle.c_tree.proofs.Shapes.{show_next_enumerator}
+use Rattle.c_operate.specs.Tables.{known_of}
+use Rattle.check_expr.proofs.Enumerating.{rest_enumerators, enumerators_more, enumerators_refused, enumerators_end}
+use Rattle.check_expr.proofs.enumerators.enumerators.Goals as goal
+
+pub returns-in_err-next : goal.returns-in_err-next
+returns-in_err-next c =
+    let p = err_from_is_err_and c.from_residual.result c.from_residual.ensures.1 in
+    rw (p.1, p.2) (enumerators_refused c.args.others.now c.loop-other.other-index c.other-item.result (out-NextEnumerator c.other-item.result).comma (enumerator_of (out-NextEnumerator c.other-item.result).enumerator) c.loop-other.next (rest_enumerators (map next_enumerator_of c.args.others.now) c.args.next (known_of c.args.checker.now)) (known_of c.loop-other.checker) c.in_err-next.field-0.0 c.loop-other-test.true c.other-item.is (show_next_enumerator c.other-item.result) c.loop-other.invariant c.in_err-next.ensures)
+
+pub loop-other-preserved : goal.loop-other-preserved
+loop-other-preserved c = enumerators_more c.args.others.now c.loop-other.other-index c.other-item.result (out-NextEnumerator c.other-item.result).comma (enumerator_of (out-NextEnumerator c.other-item.result).enumerator) c.loop-other.next _ (rest_enumerators (map next_enumerator_of c.args.others.now) c.args.next (known_of c.args.checker.now)) (known_of c.loop-other.checker) _ c.loop-other-test.true c.other-item.is (show_next_enumerator c.other-item.result) c.loop-other.invariant c.in_ok-next.ensures
+
+pub returns : goal.returns
+returns c = enumerators_end c.args.others.now c.loop-other.other-index c.loop-other.next (rest_enumerators (map next_enumerator_of c.args.others.now) c.args.next (known_of c.args.checker.now)) (known_of c.loop-other.checker) c.loop-other-test.false c.loop-other.invariant
