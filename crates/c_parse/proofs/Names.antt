@@ -30,6 +30,10 @@ name_added old new k name is put =
     let names : List (Vec ℕ Global) → List (List ℕ) = map (λ (n : Vec ℕ Global). n.items) in
     ap names put ∙ name_put (λ (n : Vec ℕ Global). n.items) old k ∙ ap (λ n. rule.with_name n (names old)) is
 
+pub name_known : (ks : List (Vec ℕ Global)) (name : List ℕ) → list_any (λ (k : Vec ℕ Global). bytes_eq name k.items) ks ≡ rule.is_among name (map (λ (k : Vec ℕ Global). k.items) ks)
+name_known [] name = refl
+name_known (k ∷ ks) name = ap (λ b. bytes_eq name k.items || b) (name_known ks name)
+
 -- a name more is put
 pub names_go_on : (text : List ℕ) (xs : List Tok) (i : ℕ) (d : Tok) (old new total : List (List ℕ)) → i < length xs → new ≡ rule.with_name (word_of text (get_or xs i d)) old → with_names text (drop i xs) old ≡ total → with_names text (drop (i + 1) xs) new ≡ total
 names_go_on text xs i d old new total lt put so_far =

@@ -1,6 +1,6 @@
 //! The names of types in a list of tokens.
 
-ghost use Rattle.std.specs.Prelude.{◌≡◌, ◌≤◌, ◌<◌, ◌+◌, ◌++◌, ◌∷◌, [], map, IfOk};
+ghost use Rattle.std.specs.Prelude.{◌≡◌, ◌≤◌, ◌<◌, ◌+◌, ◌++◌, ◌∷◌, [], map, false, IfOk};
 ghost use Rattle.c_parse.specs.Limits.{open_after};
 ghost use Rattle.c_parse.specs.Marks as rule;
 ghost use Rattle.c_parse.specs.Marks.{nothing_marked};
@@ -9,7 +9,7 @@ ghost use Rattle.c_parse.specs.MarkViews.{marking_of};
 use c_pre::word_of;
 use c_token::{Keyword, Punct, Tok, TokKind};
 use indexmap::IndexSet;
-use parse_expr::kind::is_name;
+use parse_expr::kind::{is_keyword, is_name, is_punct};
 use std::alloc::{AllocError, Global};
 use std::mem;
 
@@ -51,14 +51,6 @@ fn hides(kind: TokKind) -> bool
         TokKind::Punct(Punct::Dot | Punct::Arrow) => true,
         _ => is_tag_word(kind),
     }
-}
-
-fn is_typedef(kind: TokKind) -> bool {
-    matches!(kind, TokKind::Keyword(Keyword::Typedef))
-}
-
-fn is_semicolon(kind: TokKind) -> bool {
-    matches!(kind, TokKind::Punct(Punct::Semicolon))
 }
 
 // How many brackets are open after a token.
@@ -103,11 +95,23 @@ fn put_names(
 }
 
 impl Marking {
+    fn knows(&self, name: &[u8]) -> bool
+        ensures { result ≡ rule.is_among name.now (marking_of self.now).known }
+    {
+        self.known.contains(name)
+    }
+
+    fn marks(&self, text: &[u8], tok: Tok) -> bool
+        ensures { result ≡ rule.is_marked text.now (marking_of self.now) tok }
+    {
+        is_name(tok.kind) && !hides(self.before) && self.knows(word_of(text, tok))
+    }
+
     // The token, marked where it is the name of a type.
     fn token(&self, text: &[u8], tok: Tok) -> Tok
         ensures { result ≡ rule.marked_token text.now (marking_of self.now) tok }
     {
-        if is_name(tok.kind) && !hides(self.before) && self.known.contains(word_of(text, tok)) {
+        if self.marks(text, tok) {
             Tok {
                 kind: TokKind::TypeName,
                 start: tok.start,
@@ -123,13 +127,13 @@ impl Marking {
     fn begins(&self, kind: TokKind) -> bool
         ensures { result ≡ rule.begins (marking_of self.now) kind }
     {
-        self.depth == 0 && is_typedef(kind)
+        self.depth == 0 && is_keyword(Keyword::Typedef, kind)
     }
 
     fn ends(&self, kind: TokKind) -> bool
         ensures { result ≡ rule.ends (marking_of self.now) kind }
     {
-        self.inside && self.depth == 0 && is_semicolon(kind)
+        self.inside && self.depth == 0 && is_punct(Punct::Semicolon, kind)
     }
 
     fn declares(&self, kind: TokKind) -> bool
