@@ -1,5 +1,8 @@
 mod Counting
 mod Names
+mod MarkedNames
+mod MarkedSteps
+mod MarkedPlaces
 pub mod AgainFronts
 pub mod AgainDeclarations
 pub mod AgainStatements

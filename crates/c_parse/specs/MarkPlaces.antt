@@ -1,5 +1,5 @@
 -- The same marks as `marked` gives, said of places of the list and not from the left to the right: what a program's names of types are.
-use Rattle.std.specs.Prelude.{◌≡◌, ◌<◌, ℕ, zero, suc, Bool, true, false, not, ◌&&◌, nat_eq, List, [], ◌∷◌, length, take, Option, Some, None, slice_get}
+use Rattle.std.specs.Prelude.{◌≡◌, ◌<◌, ℕ, zero, suc, Bool, true, false, ◌&&◌, nat_eq, List, [], ◌∷◌, length, take, Option, Some, None, slice_get}
 use Rattle.c_token.specs.declared.token.Tok.{Tok}
 use Rattle.c_token.specs.declared.token.TokKind.{TokKind}
 use Rattle.c_token.specs.declared.token.TokKind.TheVariants as kinds
@@ -8,7 +8,7 @@ use Rattle.c_token.specs.declared.token.Punct.TheVariants as marks
 use Rattle.c_pre.specs.Words.{word_of}
 use Rattle.c_tree.specs.Kinds.{is_punct, is_key, is_name}
 use Rattle.c_parse.specs.Limits.{open_after}
-use Rattle.c_parse.specs.Marks.{is_tag_word, hides}
+use Rattle.c_parse.specs.Marks.{is_tag_word, hides, marked}
 
 -- how many brackets are open behind tokens
 abbrev pub depth_behind : ℕ → List Tok → ℕ
@@ -71,3 +71,7 @@ pub record IsMarked (text : List ℕ) (toks marked : List Tok) : Type 0 where
   pub as_many : length marked ≡ length toks
   pub marks : (k : ℕ) (t : Tok) → slice_get toks k ≡ Some t → IsMarkedAt text toks k t → slice_get marked k ≡ Some (record t { kind = kinds.TypeName })
   pub keeps : (k : ℕ) (t : Tok) → slice_get toks k ≡ Some t → (IsMarkedAt text toks k t → ⊥) → slice_get marked k ≡ Some t
+
+-- Marking from the left to the right gives these marks.
+abbrev pub GivesMarks : List ℕ → Type 0
+GivesMarks text = (toks : List Tok) → IsMarked text toks (marked text toks)

@@ -22,5 +22,5 @@ mod unit;
 
 pub use entry::parse;
 pub use limits::over;
-pub use marks::mark;
+pub use marks::{mark, marks_are_types};
 pub use parse_expr::ParseError;

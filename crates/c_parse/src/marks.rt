@@ -1,9 +1,10 @@
 //! The names of types in a list of tokens.
 
-ghost use Rattle.std.specs.Prelude.{◌≡◌, ◌≤◌, ◌<◌, ◌+◌, ◌++◌, ◌∷◌, [], map, false, IfOk};
+ghost use Rattle.std.specs.Prelude.{ℕ, List, ◌≡◌, ◌≤◌, ◌<◌, ◌+◌, ◌++◌, ◌∷◌, [], map, false, IfOk};
 ghost use Rattle.c_parse.specs.Limits.{open_after};
 ghost use Rattle.c_parse.specs.Marks as rule;
 ghost use Rattle.c_parse.specs.Marks.{nothing_marked};
+ghost use Rattle.c_parse.specs.MarkPlaces.{GivesMarks};
 ghost use Rattle.c_parse.specs.MarkViews.{marking_of};
 
 use c_pre::word_of;
@@ -186,3 +187,8 @@ pub fn mark(alloc: Global, text: &[u8], toks: &[Tok]) -> Result<Vec<Tok>, AllocE
     }
     Ok(out)
 }
+
+/// The names that are marked are those that such a declaration before them has, and no others: said of places.
+pub fn marks_are_types()
+    ensures { (text : List ℕ) → GivesMarks text }
+{}
