@@ -1,6 +1,6 @@
 //! Names, constants and brackets (ISO/IEC 9899:1990, 6.3.1).
 
-ghost use Rattle.std.specs.Prelude.{◌≡◌, Ok, None, []};
+ghost use Rattle.std.specs.Prelude.{◌≡◌, false, Ok, None, []};
 ghost use Rattle.c_tree.specs.Words.{spell_constant};
 ghost use Rattle.type_rules.specs.Expressions as rule;
 ghost use Rattle.type_rules.specs.Known.{Known};
