@@ -10,3 +10,4 @@ pub mod LongestElements
 pub mod LongestPunctuators
 pub mod Longest
 pub mod LongestTokens
+pub mod Gaps

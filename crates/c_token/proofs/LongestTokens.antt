@@ -33,7 +33,7 @@ token_is (Some x) k n e =
     choice (is_too_long x.0 x.1) TooLong (Token x.0 x.1) (Token k n) (λ g. absurd cc)
     (λ g. let same : x.0 ≡ k = cc in let size : x.1 ≡ n = cc in ap (λ (j : TokKind). Some (j, x.1)) same ∙ ap (λ (m : ℕ). Some (k, m)) size) e
 
-piece_token : (b : ℕ) (rest : List ℕ) (k : TokKind) (n : ℕ) → piece_at (b ∷ rest) ≡ Token k n → token_at (b ∷ rest) ≡ Some (k, n)
+pub piece_token : (b : ℕ) (rest : List ℕ) (k : TokKind) (n : ℕ) → piece_at (b ∷ rest) ≡ Token k n → token_at (b ∷ rest) ≡ Some (k, n)
 unfolding piece_at
 piece_token b rest k n e =
     let tokens = token_piece (token_at (b ∷ rest)) in

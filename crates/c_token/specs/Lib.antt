@@ -4,3 +4,4 @@ pub mod Constant
 pub mod Token
 pub mod Text
 pub mod Longest
+pub mod Gaps
