@@ -1,7 +1,8 @@
 -- The spelling of each tree from the spellings of its parts.
 use Rattle.std.proofs.Common.{◌≡◌, ℕ, [], ◌∷◌, ◌++◌, Some, None, map, ap, ◌∙◌}
 use Rattle.c_token.specs.declared.token.Keyword.TheVariants as words
-use Rattle.c_token.specs.declared.token.Punct.TheVariants.{LeftBracket, RightBracket, LeftParenthesis, RightParenthesis, LeftBrace, RightBrace, Question, Colon, Semicolon, Comma, Assign}
+use Rattle.c_token.specs.declared.token.Punct.TheVariants.{LeftBracket, RightBracket, LeftParenthesis, RightParenthesis, LeftBrace, RightBrace, Question, Colon, Semicolon, Comma}
+use Rattle.c_token.specs.declared.token.Punct.TheVariants as marks
 use Rattle.c_tree.specs.Words.{Symbol, Symbols, key, punct, keyed, signed, named, flat, spell_constant, spell_pointers, spell_tag, type_named, spelled_comma}
 use Rattle.c_tree.specs.Trees.{Tree, DeclaratorTree, ParamTree, spelled, spelled_post, spelled_pre, spelled_type, spelled_specs, spelled_spec, spelled_member, spelled_declarator, spelled_suffix, spelled_param, EnumeratorTree, spelled_enumerator}
 use Rattle.c_tree.specs.Lists.{ChoiceParts}
@@ -110,7 +111,7 @@ see_spec_enum_body body = ap spelled_spec (show_spec_enum_body body)
 pub see_enumerator_bare : (name : _) → spell_enumerator (Enumerator.Bare name) ≡ named name ∷ []
 see_enumerator_bare name = ap spelled_enumerator (show_enumerator_bare name)
 
-pub see_enumerator_valued : (name : _) (equals : _) (value : _) → spell_enumerator (Enumerator.Valued name equals value) ≡ named name ∷ punct Assign equals ∷ spell_cond value.value
+pub see_enumerator_valued : (name : _) (equals : _) (value : _) → spell_enumerator (Enumerator.Valued name equals value) ≡ named name ∷ punct marks.Assign equals ∷ spell_cond value.value
 see_enumerator_valued name equals value = ap spelled_enumerator (show_enumerator_valued name equals value)
 
 pub see_suffix_array_none : (opening : _) (closing : _) → spell_suffix (Suffix.Array opening None closing) ≡ punct LeftBracket opening ∷ punct RightBracket closing ∷ []
