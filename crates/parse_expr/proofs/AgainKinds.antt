@@ -107,6 +107,7 @@ is_operator _ h = absurd cc
 -- an operator is neither a name nor a text, and so has no bytes in a text
 pub operator_spells : (t : TokKind) → 0 < level_of t → spells t ≡ false
 operator_spells kinds.Name h = absurd (omega arith)
+operator_spells kinds.TypeName h = absurd (omega arith)
 operator_spells kinds.Text h = absurd (omega arith)
 operator_spells _ h = refl
 
