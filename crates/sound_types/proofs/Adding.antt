@@ -7,15 +7,15 @@ use Rattle.c_typed.specs.Trees.{VariableTree, StaticTree}
 use Rattle.c_typed.specs.declared.expression.Object.TheVariants as object
 use Rattle.c_typed.specs.declared.types.Qualified.{Qualified}
 use Rattle.type_rules.specs.Faults.{Fault}
-use Rattle.type_rules.specs.Known.{Binding, ObjectName, BitName, FunctionName, Scope, Known, Rule, go_on}
+use Rattle.type_rules.specs.Known.{Binding, ObjectName, BitName, FunctionName, TypeNamed, EnumeratorName, Scope, Known, Rule, go_on}
 use Rattle.type_rules.specs.Names.{with_entry, bound_in}
 use Rattle.type_rules.specs.Rows.{place_of_row}
 use Rattle.sound_types.specs.Going.{Goes}
 use Rattle.sound_types.specs.Living.{IsNamed, AreNamed, Steps}
 use Rattle.sound_types.specs.Spreading.{Grows}
-use Rattle.sound_types.specs.Tables.{at, Adds, Each, AreBound, IsThere, Orderly}
+use Rattle.sound_types.specs.Tables.{at, Adds, Each, AreBound, IsTag, Orderly}
 use Rattle.sound_types.proofs.Lists.{all_more}
-use Rattle.sound_types.proofs.Spreading.{stands_grows, shape_grows, results_grow}
+use Rattle.sound_types.proofs.Spreading.{stands_grows, shape_grows, tags_grow, results_grow}
 
 -- A rule that adds rows stands before one of a function's body.
 pub goes_then : (inner : Bool) (params : List VariableTree) {A B : Type 0} (P : List Qualified → A → Type 0) (Q : B → Known → Type 0) (base known : Known) (ts : List Qualified) (r : Result (A × Known) Fault) (second : A → Rule B)
@@ -31,7 +31,7 @@ orderly_other before after g o rows shapes tags signatures scopes = record {
   distinct = λ row q h. ap (λ l. place_of_row l q) rows ∙ o.distinct row q (ap (λ l. slice_get l row) (sym rows) ∙ h);
   shapes = λ n s h. shape_grows before after g o s (o.shapes n s (ap (λ l. slice_get l n) (sym shapes) ∙ h));
   scopes = scopes;
-  tags = subst (Each (λ e. IsThere after e.1)) (sym tags) (all_more before.tags (λ e h. (h.0, ap (λ l. slice_get l e.1) shapes ∙ h.1)) o.tags);
+  tags = subst (Each (λ e. IsTag after e.1)) (sym tags) (tags_grow before after g before.tags o.tags);
   results = λ n s h. results_grow before after g o s (o.results n s (ap (λ l. slice_get l n) (sym signatures) ∙ h));
 }
 
@@ -46,6 +46,8 @@ named_more params before after statics locals (ObjectName (object.Local n) q fix
 named_more params before after statics locals (ObjectName (object.Register n) q fixed) h = h
 named_more params before after statics locals (BitName register bit) h = h
 named_more params before after statics locals (FunctionName n) h = h
+named_more params before after statics locals (TypeNamed q incomplete) h = h
+named_more params before after statics locals (EnumeratorName n) h = h
 
 pub names_more : (params : List VariableTree) (before after : Known) → ((n : ℕ) (s : StaticTree) → slice_get before.statics n ≡ Some s → slice_get after.statics n ≡ Some s)
     → ((n : ℕ) (v : VariableTree) → slice_get (before.body).locals n ≡ Some v → slice_get (after.body).locals n ≡ Some v) → (scopes : List Scope) → Each (AreNamed params before) scopes → Each (AreNamed params after) scopes

@@ -15,10 +15,9 @@ use Rattle.c_token.specs.declared.token.TokKind.TheVariants as kinds
 use Rattle.c_tree.specs.Kinds.{is_punct, is_key}
 use Rattle.c_tree.specs.Trees as tree
 use Rattle.c_tree.specs.Trees.{Tree, Post, Pre, TypeTree, SpecTrees, MoreSpecs, SpecTree}
-use Rattle.c_tree.specs.Words.{Symbols}
+use Rattle.c_tree.specs.Words.{Symbol, Symbols}
 use Rattle.c_typed.specs.Fits.{is_null, is_no_register, place_fits, place_rule_holds}
 use Rattle.c_typed.specs.Rules.{is_zero}
-use Rattle.c_typed.specs.Sameness.{is_array}
 use Rattle.c_typed.specs.Sound.{is_changeable}
 use Rattle.c_typed.specs.Trees as typed
 use Rattle.c_typed.specs.Trees.{FunctionTree, Program}
@@ -26,25 +25,26 @@ use Rattle.c_typed.specs.declared.expression.Object.{Object}
 use Rattle.c_typed.specs.declared.standing.Standing.TheVariants.{Used}
 use Rattle.c_typed.specs.declared.types.Qualified.{Qualified}
 use Rattle.c_typed.specs.declared.types.Ty.{Ty}
-use Rattle.c_typed.specs.declared.types.Ty.TheVariants.{Void, Int, Pointer, Struct}
+use Rattle.c_typed.specs.declared.types.Ty.TheVariants.{Void, Int, Pointer}
 use Rattle.type_rules.specs.Expressions.{named_term, name_rule, constant_term, leaf, bracketed_form, bracketed, with_value, signed, selected, step_behind, one_at_least, listed_by, arguments_in, judged, judged_behind, value_of}
 use Rattle.type_rules.specs.Faults as kind
-use Rattle.type_rules.specs.Known.{Binding, ObjectName, BitName, FunctionName, Known, Rule, given, go_on}
+use Rattle.type_rules.specs.Known.{Binding, ObjectName, BitName, FunctionName, TypeNamed, EnumeratorName, Tag, StructTag, EnumTag, Known, Rule, given, go_on}
 use Rattle.type_rules.specs.Names.{meaning_of}
 use Rattle.type_rules.specs.Operators.{arithmetic, negation}
 use Rattle.type_rules.specs.Places.{dereference}
-use Rattle.type_rules.specs.Rows.{plain, pointer_to}
-use Rattle.type_rules.specs.Specifiers.{Site, OfTypeName, Gathered, nothing_gathered, with_word_of, of_int, char_type, int_type, of_words, base_type, has, has_int_word, is_orderly, may_stand, specifiers, specs_line}
-use Rattle.type_rules.specs.Terms.{Reach, Form, ValueForm, PlaceForm, FunctionForm, Operand, Term, number_of_type}
-use Rattle.type_rules.specs.TypeNames.{with_pointers, named_spec, more_named_specs, named_specs, type_named}
+use Rattle.type_rules.specs.Rows.{plain, pointer_to, tagged}
+use Rattle.type_rules.specs.Specifiers.{Site, OfTypeName, Base, StructBase, EnumBase, NamedBase, Gathered, nothing_gathered, with_word_of, with_base, of_int, char_type, int_type, of_words, Named, plainly, named_by, by_words, base_type, has, has_int_word, is_orderly, qualifies_once, may_stand, specifiers, named_base, type_name_rule, specs_line}
+use Rattle.type_rules.specs.Terms.{Reach, Form, ValueForm, PlaceForm, FunctionForm, TypeForm, Operand, Term, number_of_type}
+use Rattle.type_rules.specs.TypeNames.{with_pointers, enum_of, enum_rule, named_spec, more_named_specs, named_specs, type_named}
 use Rattle.sound_types.specs.Going.{Goes}
-use Rattle.sound_types.specs.Tables.{at, Each, Stands, IsBase, IsBound, Orderly, BindingFits, Leads}
+use Rattle.sound_types.specs.Tables.{at, Each, Stands, IsBase, IsBound, IsNamedBase, Orderly, BindingFits, Leads}
 use Rattle.sound_types.specs.Terms.{IsForm, IsOperand, IsTerm}
 use Rattle.sound_types.proofs.Lists.{none_is}
 use Rattle.sound_types.proofs.Elements.{before_goes, element_goes}
 use Rattle.sound_types.proofs.Growing.{pointer_goes, stands_more, operand_more, term_more}
 use Rattle.sound_types.proofs.Operators.{between_goes, choice_goes, cast_goes, arithmetic_goes, negation_goes}
-use Rattle.sound_types.proofs.Places.{goes_no_table, used_goes, dereference_goes, address_goes, member_goes, pointed_member_goes, size_of_type_goes, size_of_term_goes, number_is}
+use Rattle.sound_types.proofs.Places.{goes_no_table, used_goes, dereference_goes, address_goes, member_goes, pointed_member_goes, size_of_type_goes, size_of_term_goes, constant_is, number_is}
+use Rattle.sound_types.proofs.Making.{value_is}
 use Rattle.sound_types.proofs.Same.{each_int, same_nat}
 use Rattle.sound_types.proofs.Steps.{goes_given, goes_broken, goes_on, goes_test, goes_wanted}
 use Rattle.sound_types.proofs.Scopes.{bound_name}
@@ -66,31 +66,34 @@ words_stand known ws ty = by_word known (has ws words.Void) _ _ ty
     (by_word known (has ws words.Char || has_int_word ws) None (Some Void) ty (λ h. absurd (none_is h)) (λ h. subst (Stands known) (same_Some Void ty h) tt))
     (by_word known (has ws words.Char) _ _ ty (int_stands known (char_type ws) ty) (by_word known (has_int_word ws) _ None ty (int_stands known (int_type ws) ty) (λ h. absurd (none_is h))))
 
-pub base_stands : (known : Known) (ws : List Keyword) (structures : List ℕ) (ty : Ty) → Each (λ n. Stands known (Struct n)) structures → base_type ws structures ≡ Some ty → Stands known ty
-base_stands known ws [] ty all h = words_stand known ws ty h
-base_stands known ws (n ∷ ns) ty all h = by_word known (has ws words.Void || (has ws words.Char || has_int_word ws)) None (Some (Struct n)) ty (λ e. absurd (none_is e)) (λ e. subst (Stands known) (same_Some (Struct n) ty e) all.0) h
+named_from : (known : Known) (found : Option Ty) (named : Named) → ((ty : Ty) → found ≡ Some ty → Stands known ty) → by_words found ≡ Some named → Stands known (named.ty).ty
+named_from known None named stands h = absurd (none_is h)
+named_from known (Some ty) named stands h = subst (λ (z : Named). Stands known (z.ty).ty) (same_Some (plainly ty) named h) (stands ty refl)
 
-single_int : (found : Option IntTy) (ty : Ty) → of_int found ≡ Some ty → is_array ty ≡ false
-single_int None ty h = absurd (none_is h)
-single_int (Some i) ty h = ap is_array (sym (same_Some (Int i) ty h))
+named_stands : (known : Known) (base : Base) → IsNamedBase known base → Stands known ((named_by base).ty).ty
+named_stands known (StructBase number) h = h
+named_stands known EnumBase h = tt
+named_stands known (NamedBase q incomplete) h = h
 
-single_by : (b : Bool) (x y : Option Ty) (ty : Ty) → (x ≡ Some ty → is_array ty ≡ false) → (y ≡ Some ty → is_array ty ≡ false) → (if b then x else y) ≡ Some ty → is_array ty ≡ false
-single_by true x y ty f g h = f h
-single_by false x y ty f g h = g h
+named_alone : (known : Known) (b : Bool) (base : Base) (named : Named) → IsNamedBase known base → (if b then None else Some (named_by base)) ≡ Some named → Stands known (named.ty).ty
+named_alone known true base named h is = absurd (none_is is)
+named_alone known false base named h is = subst (λ (z : Named). Stands known (z.ty).ty) (same_Some (named_by base) named is) (named_stands known base h)
 
--- specifiers name no array
-base_single : (ws : List Keyword) (structures : List ℕ) (ty : Ty) → base_type ws structures ≡ Some ty → is_array ty ≡ false
-base_single ws [] ty h = single_by (has ws words.Void) _ _ ty
-    (single_by (has ws words.Char || has_int_word ws) None (Some Void) ty (λ h. absurd (none_is h)) (λ h. ap is_array (sym (same_Some Void ty h))))
-    (single_by (has ws words.Char) _ _ ty (single_int (char_type ws) ty) (single_by (has_int_word ws) _ None ty (single_int (int_type ws) ty) (λ h. absurd (none_is h)))) h
-base_single ws (n ∷ ns) ty h = single_by (has ws words.Void || (has ws words.Char || has_int_word ws)) None (Some (Struct n)) ty (λ e. absurd (none_is e)) (λ e. ap is_array (sym (same_Some (Struct n) ty e))) h
+base_stands : (known : Known) (ws : List Keyword) (bases : List Base) (named : Named) → Each (IsNamedBase known) bases → base_type ws bases ≡ Some named → Stands known (named.ty).ty
+base_stands known ws [] named all h = named_from known (of_words ws) named (words_stand known ws) h
+base_stands known ws (base ∷ bases) named all h = named_alone known (has ws words.Void || (has ws words.Char || has_int_word ws)) base named all.0 h
+
+-- a marked name is that of a type that is there
+named_there : (known : Known) (found : Option Binding) (base : Base) → ((b : Binding) → found ≡ Some b → IsBound known b) → named_base found ≡ Some base → IsNamedBase known base
+named_there known (Some (TypeNamed q incomplete)) base bound h = subst (IsNamedBase known) (same_Some (NamedBase q incomplete) base h) (bound (TypeNamed q incomplete) refl)
+named_there known _ base bound h = absurd (none_is h)
 
 module _ (known : Known) where
   -- what specifiers say has a type that is there
-  pub specifiers_goes : (ts : List Qualified) → Orderly (at known ts) → (site : Site) (g : Gathered) (line : ℕ) → Each (λ n. Stands (at known ts) (Struct n)) g.structures → Goes known ts (λ us s. IsBase (at known us) s.ty) (specifiers site g line (at known ts))
-  specifiers_goes ts o site g line all = goes_wanted known _ ts (base_type g.words g.structures) kind.Declare line _
-      (λ ty is. goes_test known _ ts (not (is_orderly g && may_stand (at known ts) site g.words)) kind.Declare line _
-      (λ h. goes_given known _ _ ts o (base_stands (at known ts) g.words g.structures ty all is, base_single g.words g.structures ty is)))
+  pub specifiers_goes : (ts : List Qualified) → Orderly (at known ts) → (site : Site) (g : Gathered) (line : ℕ) → Each (IsNamedBase (at known ts)) g.bases → Goes known ts (λ us s. IsBase (at known us) s.ty) (specifiers site g line (at known ts))
+  specifiers_goes ts o site g line all = goes_wanted known _ ts (base_type g.words g.bases) kind.Declare line _
+      (λ named is. goes_test known _ ts (not (is_orderly g && (qualifies_once g.words named.ty && may_stand (at known ts) site g.words))) kind.Declare line _
+      (λ h. goes_given known _ _ ts o (base_stands (at known ts) g.words g.bases named all is)))
 
   pub pointers_go : (ss : Symbols) (ts : List Qualified) → Orderly (at known ts) → (ty : Qualified) → IsBase (at known ts) ty → Goes known ts (λ us q. IsBase (at known us) q) (with_pointers ss ty (at known ts))
   pointers_go [] ts o ty stands = goes_given known _ _ ts o stands
@@ -100,31 +103,47 @@ module _ (known : Known) where
       by_sign : (b c : Bool) → ((us : List Qualified) → Orderly (at known us) → (q : Qualified) → IsBase (at known us) q → Goes known us (λ us q. IsBase (at known us) q) (with_pointers ss q (at known us)))
           → Goes known ts (λ us q. IsBase (at known us) q)
           ((if b then (λ k. go_on (λ pointer. with_pointers ss (plain pointer)) (pointer_to ty k)) else if c then with_pointers ss (record ty { constant = true }) else with_pointers ss (record ty { volatile = true })) (at known ts))
-      by_sign true c rest = goes_on known (λ us p. (row : ℕ) × (p ≡ Pointer row) × (slice_get us row ≡ Some ty)) (λ us q. IsBase (at known us) q) ts (pointer_to ty (at known ts)) (λ pointer. with_pointers ss (plain pointer)) (pointer_goes known ts ty o stands.0)
-          (λ p us adds ordered found. rest us ordered (plain p) (subst (Stands (at known us)) (sym found.1) (ty, found.2), ap is_array found.1))
+      by_sign true c rest = goes_on known (λ us p. (row : ℕ) × (p ≡ Pointer row) × (slice_get us row ≡ Some ty)) (λ us q. IsBase (at known us) q) ts (pointer_to ty (at known ts)) (λ pointer. with_pointers ss (plain pointer)) (pointer_goes known ts ty o stands)
+          (λ p us adds ordered found. rest us ordered (plain p) (subst (Stands (at known us)) (sym found.1) (ty, found.2)))
       by_sign false true rest = rest ts o (record ty { constant = true }) stands
       by_sign false false rest = rest ts o (record ty { volatile = true }) stands
 
-  worded : (k : TokKind) (g : Gathered) → (with_word_of k g).structures ≡ g.structures
+  pub worded : (k : TokKind) (g : Gathered) → (with_word_of k g).bases ≡ g.bases
   worded (kinds.Keyword w) g = refl
   worded _ g = refl
 
-  named_spec_goes : (ts : List Qualified) → Orderly (at known ts) → (s : SpecTree) (g : Gathered) → g.structures ≡ [] → Goes known ts (λ us h. h.structures ≡ []) (named_spec s g (at known ts))
-  named_spec_goes ts o (tree.OneWord s) g none = goes_given known _ _ ts o (worded s.kind g ∙ none)
-  named_spec_goes ts o (tree.Tagged k n) g none = goes_broken known _ ts _
-  named_spec_goes ts o (tree.Body k tag op m ms c) g none = goes_broken known _ ts _
+  pub type_name_goes : (s : Symbol) (g : Gathered) (ts : List Qualified) → Orderly (at known ts) → Each (IsNamedBase (at known ts)) g.bases → Goes known ts (λ us h. Each (IsNamedBase (at known us)) h.bases) (type_name_rule s g (at known ts))
+  type_name_goes s g ts o all = goes_wanted known _ ts (named_base (meaning_of (at known ts) s.bytes)) kind.Name s.line _
+      (λ base is. goes_given known _ _ ts o (named_there (at known ts) (meaning_of (at known ts) s.bytes) base (bound_name known ts o s.bytes) is, all))
 
-  more_named_go : (ss : MoreSpecs) (ts : List Qualified) → Orderly (at known ts) → (g : Gathered) → g.structures ≡ [] → Goes known ts (λ us h. h.structures ≡ []) (more_named_specs ss g (at known ts))
-  more_named_go tree.NoSpec ts o g none = goes_given known _ _ ts o none
-  more_named_go (tree.AndSpec s ss) ts o g none = goes_on known _ _ ts _ _ (named_spec_goes ts o s g none) (λ h us adds ordered n. more_named_go ss us ordered h n)
+  enum_found : (found : Option Tag) (line : ℕ) (g : Gathered) (ts : List Qualified) → Orderly (at known ts) → Each (IsNamedBase (at known ts)) g.bases
+      → Goes known ts (λ us h. Each (IsNamedBase (at known us)) h.bases) (go_on (λ base. given (with_base base g)) (enum_of found line (at known ts)))
+  enum_found None line g ts o all = goes_broken known _ ts _
+  enum_found (Some (StructTag number)) line g ts o all = goes_broken known _ ts _
+  enum_found (Some EnumTag) line g ts o all = goes_given known _ _ ts o (tt, all)
 
-  named_go : (s : SpecTrees) (ts : List Qualified) → Orderly (at known ts) → Goes known ts (λ us h. h.structures ≡ []) (named_specs s (at known ts))
-  named_go (tree.Specified s ss) ts o = goes_on known _ _ ts _ _ (named_spec_goes ts o s nothing_gathered refl) (λ h us adds ordered n. more_named_go ss us ordered h n)
+  pub enum_goes : (n : Symbol) (line : ℕ) (g : Gathered) (ts : List Qualified) → Orderly (at known ts) → Each (IsNamedBase (at known ts)) g.bases → Goes known ts (λ us h. Each (IsNamedBase (at known us)) h.bases) (enum_rule n line g (at known ts))
+  enum_goes n line g ts o all = enum_found (tagged (at known ts) n.bytes) line g ts o all
+
+  named_spec_goes : (ts : List Qualified) → Orderly (at known ts) → (s : SpecTree) (g : Gathered) → Each (IsNamedBase (at known ts)) g.bases → Goes known ts (λ us h. Each (IsNamedBase (at known us)) h.bases) (named_spec s g (at known ts))
+  named_spec_goes ts o (tree.OneWord s) g all = goes_given known _ _ ts o (subst (Each (IsNamedBase (at known ts))) (sym (worded s.kind g)) all)
+  named_spec_goes ts o (tree.Tagged k n) g all = goes_broken known _ ts _
+  named_spec_goes ts o (tree.Body k tag op m ms c) g all = goes_broken known _ ts _
+  named_spec_goes ts o (tree.NamedType s) g all = type_name_goes s g ts o all
+  named_spec_goes ts o (tree.EnumTagged k n) g all = enum_goes n k g ts o all
+  named_spec_goes ts o (tree.EnumBody k tag op e es last c) g all = goes_broken known _ ts _
+
+  more_named_go : (ss : MoreSpecs) (ts : List Qualified) → Orderly (at known ts) → (g : Gathered) → Each (IsNamedBase (at known ts)) g.bases → Goes known ts (λ us h. Each (IsNamedBase (at known us)) h.bases) (more_named_specs ss g (at known ts))
+  more_named_go tree.NoSpec ts o g all = goes_given known _ _ ts o all
+  more_named_go (tree.AndSpec s ss) ts o g all = goes_on known _ _ ts _ _ (named_spec_goes ts o s g all) (λ h us adds ordered n. more_named_go ss us ordered h n)
+
+  named_go : (s : SpecTrees) (ts : List Qualified) → Orderly (at known ts) → Goes known ts (λ us h. Each (IsNamedBase (at known us)) h.bases) (named_specs s (at known ts))
+  named_go (tree.Specified s ss) ts o = goes_on known _ _ ts _ _ (named_spec_goes ts o s nothing_gathered tt) (λ h us adds ordered n. more_named_go ss us ordered h n)
 
   pub type_goes : (t : TypeTree) (ts : List Qualified) → Orderly (at known ts) → Goes known ts (λ us q. IsBase (at known us) q) (type_named t (at known ts))
   type_goes (tree.TypeOf specs pointers) ts o = goes_on known _ _ ts _ _ (named_go specs ts o)
-      (λ g us adds ordered none. goes_on known _ _ us _ _ (specifiers_goes us ordered OfTypeName g (specs_line specs) (subst (Each (λ n. Stands (at known us) (Struct n))) (sym none) tt))
-      (λ base vs adds2 ordered2 stands. pointers_go pointers vs ordered2 base.ty stands))
+      (λ g us adds ordered all. goes_on known _ _ us _ _ (specifiers_goes us ordered OfTypeName g (specs_line specs) all)
+      (λ base vs adds2 ordered2 stands. goes_test known _ vs base.incomplete kind.Incomplete base.line _ (λ e. pointers_go pointers vs ordered2 base.ty stands)))
 
 -- ---- names and constants
 
@@ -151,6 +170,8 @@ module _ (known : Known) (ts : List Qualified) (o : Orderly (at known ts)) where
 
   binding_is : (name : List ℕ) (b : Binding) (line : ℕ) → meaning_of (at known ts) name ≡ Some b → IsBound (at known ts) b → ((p : Program) (f : FunctionTree) → Leads (at known ts) p f → BindingFits p f b) → IsTerm (at known ts) (named_term b line)
   binding_is name (FunctionName n) line is h fitting = record { form = tt; list = tt }
+  binding_is name (TypeNamed q incomplete) line is h fitting = record { form = tt; list = tt }
+  binding_is name (EnumeratorName n) line is h fitting = value_is (at known ts) _ line (constant_is known ts o (record { ty = int.Int; number = n }) line)
   binding_is name (BitName register bit) line is h fitting = record {
     form = (
       record {
@@ -200,6 +221,7 @@ module _ (known : Known) (ts : List Qualified) (o : Orderly (at known ts)) where
   in_brackets (ValueForm e) zero into h = h
   in_brackets (PlaceForm place reach) zero into h = h
   in_brackets (FunctionForm n bare) zero into h = tt
+  in_brackets TypeForm zero into h = tt
 
   bracketed_is : (t : Term) (opening : ℕ) → IsTerm (at known ts) t → IsTerm (at known ts) (bracketed t opening)
   bracketed_is t opening h = record { form = in_brackets t.form t.null t.into h.form; list = tt }
@@ -255,7 +277,7 @@ module _ (known : Known) where
     judged_goes (tree.Before (tree.Cast line ty closing) e) ts o = goes_on known _ _ ts _ _ (type_goes known ty ts o)
         (λ to us adds ordered stands. goes_on known _ _ us _ _ (judged_goes e us ordered)
         (λ t vs adds2 ordered2 h. goes_on known _ _ vs _ _ (used_goes known vs ordered2 t h)
-        (λ x ws adds3 ordered3 hx. cast_goes known ws ordered3 x hx to.ty line (stands_more known vs ws adds3 to.ty (stands_more known us vs adds2 to.ty stands.0)))))
+        (λ x ws adds3 ordered3 hx. cast_goes known ws ordered3 x hx to.ty line (stands_more known vs ws adds3 to.ty (stands_more known us vs adds2 to.ty stands)))))
     judged_goes (tree.Measure line opening ty closing) ts o = goes_on known _ _ ts _ _ (type_goes known ty ts o) (λ of us adds ordered stands. size_of_type_goes known us ordered of.ty line)
     judged_goes (tree.Join s a b) ts o = goes_on known _ _ ts _ _ (judged_goes a ts o)
         (λ left us adds ordered hl. goes_on known _ _ us _ _ (used_goes known us ordered left hl)

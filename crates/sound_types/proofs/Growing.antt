@@ -8,12 +8,12 @@ use Rattle.c_typed.specs.declared.standing.Standing.{Standing}
 use Rattle.c_typed.specs.declared.types.Qualified.{Qualified}
 use Rattle.c_typed.specs.declared.types.Ty.{Ty}
 use Rattle.c_typed.specs.declared.types.Ty.TheVariants.{Void, Int, Pointer, Array, Struct}
-use Rattle.type_rules.specs.Known.{Binding, ObjectName, BitName, FunctionName, Scope, Field, Shape, Signature, Known}
+use Rattle.type_rules.specs.Known.{Binding, ObjectName, BitName, FunctionName, TypeNamed, EnumeratorName, Scope, Tag, StructTag, EnumTag, Field, Shape, Signature, Known}
 use Rattle.type_rules.specs.Places.{reach_behind}
 use Rattle.type_rules.specs.Rows.{place_of_row, with_row, row_of, pointer_to, bytes_of}
-use Rattle.type_rules.specs.Terms.{Reach, Form, ValueForm, PlaceForm, FunctionForm, Operand, Term}
+use Rattle.type_rules.specs.Terms.{Reach, Form, ValueForm, PlaceForm, FunctionForm, TypeForm, Operand, Term}
 use Rattle.sound_types.specs.Going.{Goes}
-use Rattle.sound_types.specs.Tables.{at, Adds, Each, IsElement, Stands, IsMember, AreMembers, IsShape, IsBound, AreBound, Orderly, Leads}
+use Rattle.sound_types.specs.Tables.{at, Adds, Each, IsElement, Stands, IsMember, AreMembers, IsShape, IsBound, AreBound, IsTag, Orderly, Leads}
 use Rattle.sound_types.specs.Terms.{Reaches, IsValue, IsPlace, IsForm, IsOperand, IsTerm}
 use Rattle.sound_types.proofs.Lists.{same_answer, all_more}
 use Rattle.sound_types.proofs.RowLists.{row_there, rows_kept, new_row, distinct_more}
@@ -43,6 +43,12 @@ module _ (known : Known) (ts us : List Qualified) (adds : Adds ts us) where
   bound_more (ObjectName object q fixed) h = record { stands = stands_more q.ty h.stands; whole = h.whole; register = h.register; static = h.static }
   bound_more (BitName register bit) h = tt
   bound_more (FunctionName number) h = tt
+  bound_more (TypeNamed q incomplete) h = stands_more q.ty h
+  bound_more (EnumeratorName n) h = tt
+
+  tag_more : (tag : Tag) → IsTag (at known ts) tag → IsTag (at known us) tag
+  tag_more (StructTag number) h = h
+  tag_more EnumTag h = tt
 
   scope_more : (scope : Scope) → AreBound (at known ts) scope → AreBound (at known us) scope
   scope_more scope h = all_more scope (λ e. bound_more e.1) h
@@ -89,6 +95,7 @@ module _ (known : Known) (ts us : List Qualified) (adds : Adds ts us) where
   form_more (ValueForm e) zero into h = value_more _ e zero into h
   form_more (PlaceForm place reach) zero into h = (place_more place reach h.0, h.1)
   form_more (FunctionForm number bare) zero into h = tt
+  form_more TypeForm zero into h = tt
 
   pub term_more : (t : Term) → IsTerm (at known ts) t → IsTerm (at known us) t
   term_more t h = record { form = form_more t.form t.null t.into h.form; list = all_more t.listed (operand_more _) h.list }
@@ -99,7 +106,7 @@ module _ (known : Known) (ts us : List Qualified) (adds : Adds ts us) where
     distinct = distinct;
     shapes = λ n s h. shape_more s (o.shapes n s h);
     scopes = all_more known.scopes scope_more o.scopes;
-    tags = o.tags;
+    tags = all_more known.tags (λ e. tag_more e.1) o.tags;
     results = λ n s h. results_more s (o.results n s h);
   }
 

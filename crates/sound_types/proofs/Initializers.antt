@@ -39,7 +39,7 @@ use Rattle.sound_types.specs.Tables.{at, Adds, Stands, Orderly, Leads}
 use Rattle.sound_types.specs.Terms.{IsAssigned, IsOperand}
 use Rattle.sound_types.proofs.Assigning.{assigned_goes}
 use Rattle.sound_types.proofs.Chains.{IsPart, extends_none, extends_join, extends_higher, extends_at, extends_of, extends_more, bytes_in, initials_higher, low_length, kept_exact, upto_none, only_left}
-use Rattle.sound_types.proofs.Declarators.{number_goes}
+use Rattle.sound_types.proofs.Enumerators.{number_goes}
 use Rattle.sound_types.proofs.Expressions.{value_of_goes}
 use Rattle.sound_types.proofs.Growing.{stands_more}
 use Rattle.sound_types.proofs.Lists.{none_is}

@@ -4,6 +4,7 @@ pub mod RowLists
 pub mod Steps
 pub mod Growing
 pub mod Scopes
+pub mod Enumerating
 pub mod Meeting
 pub mod Standings
 pub mod Operating
@@ -17,6 +18,7 @@ pub mod Expressions
 pub mod Spreading
 pub mod Structures
 pub mod Outlines
+pub mod Enumerators
 pub mod Declarators
 pub mod Chains
 pub mod Parts

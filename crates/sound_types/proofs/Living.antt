@@ -12,7 +12,7 @@ use Rattle.c_typed.specs.declared.types.Qualified.{Qualified}
 use Rattle.c_typed.specs.declared.types.Ty.{Ty}
 use Rattle.pic_world.specs.Registers.{register_named, bit_named}
 use Rattle.type_rules.specs.Faults.{Kind, Fault, Tests}
-use Rattle.type_rules.specs.Known.{Binding, ObjectName, BitName, FunctionName, Scope, Known, Rule, tried, wanted, go_on}
+use Rattle.type_rules.specs.Known.{Binding, ObjectName, BitName, FunctionName, TypeNamed, EnumeratorName, Scope, Known, Rule, tried, wanted, go_on}
 use Rattle.type_rules.specs.Names.{bit_binding, device_binding, without_first}
 use Rattle.type_rules.specs.Rows.{bytes_of}
 use Rattle.sound_types.specs.Chains.{InitialsIn, IsByte}
@@ -42,6 +42,8 @@ binding_fits params known p f l (ObjectName (object.Local n) q fixed) h = let w 
 binding_fits params known p f l (ObjectName (object.Register n) q fixed) h = ap (λ b. is_named false (if◌then◌else◌ b (Some register_type) None) q) h.0 ∙ named_as false register_type q (sym h.1)
 binding_fits params known p f l (BitName register bit) h = h
 binding_fits params known p f l (FunctionName n) h = tt
+binding_fits params known p f l (TypeNamed q incomplete) h = tt
+binding_fits params known p f l (EnumeratorName n) h = tt
 
 module _ (params : List VariableTree) (known : Known) where
   bit_named_is : (name : List ℕ) (found : Option (ℕ × ℕ)) (b : Binding) → bit_named name ≡ found → bit_binding found ≡ Some b → IsNamed params known b

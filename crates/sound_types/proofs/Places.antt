@@ -1,9 +1,10 @@
 -- Values of places, and `* & [] . ->` and `sizeof`: what the rules give fits.
 use Rattle.std.proofs.Common.{◌≡◌, ℕ, zero, suc, ◌+◌, ◌%◌, Bool, true, false, not, ◌&&◌, ◌||◌, List, [], ◌∷◌, Option, Some, None, nat_eq, ◌⊎◌, inl, inr, refl, sym, ap, ap₂, ◌∙◌, subst, true≢false, add-zero, arith}
-use Rattle.std.specs.Prelude.{slice_get}
+use Rattle.std.specs.Prelude.{pos, slice_get}
 use Rattle.std.specs.Str.{bytes_eq}
 use Rattle.std.proofs.lemmas.Bool.{and_from, or_left, or_right, false≢true}
 use Rattle.std.proofs.lemmas.Option.{same_Some}
+use Rattle.c_ints.specs.Range.{cut}
 use Rattle.c_ints.specs.declared.types.IntTy.{IntTy}
 use Rattle.c_ints.specs.declared.types.IntTy.TheVariants as int
 use Rattle.c_typed.specs.Fits.{is_converted, is_memory, is_reached, reached_by, array_reach, is_indexed, leads_fits, member_at, fits, place_fits, rule_holds, place_rule_holds, if_array}
@@ -24,7 +25,7 @@ use Rattle.type_rules.specs.Known.{Field, Shape, Known, Rule, given, go_on, trie
 use Rattle.type_rules.specs.Places.{object_pointed, reach_behind, dereference, address_of, address, member_from, member_in, part_type, member_of, member, pointed_member, size_of_type, measured, size_of_term}
 use Rattle.type_rules.specs.Rows.{like, or_void, target_of, bytes_of, fields_in, is_complete, is_closed, progress_in}
 use Rattle.type_rules.specs.Slots.{static_name}
-use Rattle.type_rules.specs.Terms.{Reach, Form, ValueForm, PlaceForm, FunctionForm, Operand, Term, value_term, place_term, number_of_type, is_table, table_tests, array_start, value_at, into_array, in_place, value_in, indexed, used, is_addressable}
+use Rattle.type_rules.specs.Terms.{Reach, Form, ValueForm, PlaceForm, FunctionForm, TypeForm, Operand, Term, value_term, place_term, number_of_type, is_table, table_tests, array_start, value_at, into_array, in_place, value_in, indexed, used, is_addressable}
 use Rattle.type_rules.specs.Units.{member_tree}
 use Rattle.sound_types.specs.Going.{Goes}
 use Rattle.sound_types.specs.Tables.{at, Stands, IsMember, AreMembers, Orderly, Begins, Leads}
@@ -74,6 +75,7 @@ abbrev NoTable : Form → Type 0
 NoTable (ValueForm e) = Unit {0}
 NoTable (PlaceForm place reach) = is_table place reach ≡ false
 NoTable (FunctionForm number bare) = Unit {0}
+NoTable TypeForm = Unit {0}
 
 module _ (known : Known) where
   pub goes_no_table : {B : Type 0} (Q : List Qualified → B → Type 0) (ts : List Qualified) (form : Form) (line : ℕ) (second : Known → Rule B)
@@ -81,6 +83,7 @@ module _ (known : Known) where
   goes_no_table Q ts (ValueForm e) line second more = more tt
   goes_no_table Q ts (PlaceForm place reach) line second more = goes_test known Q ts (is_table place reach) kind.Address line second more
   goes_no_table Q ts (FunctionForm number bare) line second more = more tt
+  goes_no_table Q ts TypeForm line second more = more tt
 
 -- ---- the value of a place
 
@@ -216,6 +219,7 @@ module _ (known : Known) (ts : List Qualified) (o : Orderly (at known ts)) where
   used_in t (PlaceForm place reach) h free = goes_on known _ _ ts _ _ (value_goes known ts o Used (inl refl) place reach h.0 (place_type place).ty t.line refl (table_open place reach free))
       (λ e us adds ordered value. goes_given known _ _ us ordered (null_is us Used e t.null (in_place place reach) h.1 value))
   used_in t (FunctionForm number bare) h free = goes_broken known _ ts _
+  used_in t TypeForm h free = goes_broken known _ ts _
 
   pub used_goes : (t : Term) → IsTerm (at known ts) t → Goes known ts (λ us x. IsOperand (at known us) Used x) (used t (at known ts))
   used_goes t h = goes_no_table known _ ts t.form t.line _ (λ free. used_in t t.form h.form free)
@@ -233,6 +237,7 @@ module _ (known : Known) (ts : List Qualified) (o : Orderly (at known ts)) where
   indexed_in t (PlaceForm place reach) h = goes_on known _ _ ts _ _ (value_goes known ts o Indexed (inr refl) place reach h.0 (place_type place).ty t.line refl (λ array. inl refl))
       (λ e us adds ordered value. goes_given known _ _ us ordered (null_is us Indexed e t.null (in_place place reach) h.1 value))
   indexed_in t (FunctionForm number bare) h = goes_broken known _ ts _
+  indexed_in t TypeForm h = goes_broken known _ ts _
 
   -- what is indexed, where a table may stand
   pub indexed_goes : (t : Term) → IsTerm (at known ts) t → Goes known ts (λ us x. IsOperand (at known us) Indexed x) (indexed t (at known ts))
@@ -339,6 +344,7 @@ module _ (known : Known) (ts : List Qualified) (o : Orderly (at known ts)) where
   address_in : (form : Form) (null : Bool) (into : Option Reach) (line : ℕ) → IsForm (at known ts) form null into → Goes known ts (λ us t. IsTerm (at known us) t) (address_of form line (at known ts))
   address_in (ValueForm e) null into line h = goes_broken known _ ts _
   address_in (FunctionForm number bare) null into line h = goes_broken known _ ts _
+  address_in TypeForm null into line h = goes_broken known _ ts _
   address_in (PlaceForm place reach) null into line h = goes_test known _ ts (not (is_addressable place reach)) kind.Address line _
       (λ free. goes_on known _ _ ts _ (λ ty. given (value_term (tree.Address place ty line) line)) (pointer_goes known ts (place_type place) o (h.0).stands)
       (λ ty us adds ordered found. goes_given known _ _ us ordered
@@ -442,6 +448,7 @@ module _ (known : Known) (ts : List Qualified) (o : Orderly (at known ts)) where
   member_of_goes : (form : Form) (null : Bool) (into : Option Reach) (name : List ℕ) (line : ℕ) → IsForm (at known ts) form null into → Goes known ts (λ us t. IsTerm (at known us) t) (member_of form name line (at known ts))
   member_of_goes (ValueForm e) null into name line h = goes_broken known _ ts _
   member_of_goes (FunctionForm number bare) null into name line h = goes_broken known _ ts _
+  member_of_goes TypeForm null into name line h = goes_broken known _ ts _
   member_of_goes (PlaceForm place reach) null into name line h = goes_wanted known _ ts (member_in (at known ts) (place_type place).ty name) kind.Member line _
       (λ found is. goes_given known _ _ ts o (place_is known ts o _ reach line (member_place place reach (place_type place).ty name line found.0 found.1 h.0 refl is)))
 
@@ -450,9 +457,12 @@ module _ (known : Known) (ts : List Qualified) (o : Orderly (at known ts)) where
 
   -- ---- `sizeof`
 
-  pub number_is : (ty : IntTy) (n line : ℕ) → IsValue (at known ts) Used (number_of_type ty n line) false None
+  pub constant_is : (value : Quantity) (line : ℕ) → IsValue (at known ts) Used (tree.Constant value line) false None
   unfolding is_converted reached_by array_reach
-  number_is ty n line = simple (at known ts) (number_of_type ty n line) tt refl refl refl refl (λ p f l. constant_by p f _ line)
+  constant_is value line = simple (at known ts) (tree.Constant value line) tt refl refl refl refl (λ p f l. constant_by p f value line)
+
+  pub number_is : (ty : IntTy) (n line : ℕ) → IsValue (at known ts) Used (number_of_type ty n line) false None
+  number_is ty n line = constant_is (record { ty = ty; number = cut ty (pos n) }) line
 
   pub size_of_type_goes : (ty : Ty) (line : ℕ) → Goes known ts (λ us t. IsTerm (at known us) t) (size_of_type ty line (at known ts))
   size_of_type_goes ty line = goes_test known _ ts (not (is_complete (at known ts) ty)) kind.Incomplete line _

@@ -8,14 +8,14 @@ use Rattle.c_typed.specs.declared.types.Qualified.{Qualified}
 use Rattle.c_typed.specs.declared.types.Ty.{Ty}
 use Rattle.c_typed.specs.declared.types.Ty.TheVariants.{Void, Int, Pointer, Array, Struct}
 use Rattle.type_rules.specs.Faults.{Kind, Fault, Tests}
-use Rattle.type_rules.specs.Known.{Binding, ObjectName, BitName, FunctionName, Scope, Field, Shape, Signature, Known, Rule, tried, wanted, go_on}
+use Rattle.type_rules.specs.Known.{Binding, ObjectName, BitName, FunctionName, TypeNamed, EnumeratorName, Scope, Tag, StructTag, EnumTag, Field, Shape, Signature, Known, Rule, tried, wanted, go_on}
 use Rattle.type_rules.specs.Rows.{bytes_of, is_complete, is_closed, progress_in}
 use Rattle.sound_types.specs.Going.{Goes}
-use Rattle.sound_types.specs.Spreading.{Grows, Scoped, Spreads, Runs}
-use Rattle.sound_types.specs.Tables.{at, Adds, Each, IsElement, Stands, IsMember, AreMembers, IsShape, IsBound, AreBound, Orderly, Begins}
+use Rattle.sound_types.specs.Spreading.{Grows, Enumerated, Widened, Spreads, Runs}
+use Rattle.sound_types.specs.Tables.{at, Adds, Each, IsElement, Stands, IsMember, AreMembers, IsShape, IsBound, AreBound, IsTag, Orderly, Begins}
+use Rattle.sound_types.proofs.Enumerating.{enumerated_none, enumerated_on, enumerated_outside}
 use Rattle.sound_types.proofs.Lists.{numbered_at, all_more}
 use Rattle.sound_types.proofs.Same.{same_nat, same_nat_refl}
-use Rattle.type_rules.specs.Names.{without_first}
 use Rattle.c_typed.specs.Sameness.{is_array}
 
 -- ---- equal numbers or not
@@ -40,33 +40,33 @@ grows_on a b c g h = record {
 }
 
 pub spreads_itself : (known : Known) → Spreads None false known known
-spreads_itself known = record { grows = grows_itself known; spared = λ n s h body free. h; scopes = refl; signatures = refl; definitions = refl; statics = refl; body = refl }
+spreads_itself known = record { grows = grows_itself known; spared = λ n s h body free. h; scopes = enumerated_none known.scopes known.scopes refl; signatures = refl; definitions = refl; statics = refl; body = refl }
 
-scoped_on : (inner : Bool) (a b c : List Scope) → Scoped inner a b → Scoped inner b c → Scoped inner a c
-scoped_on true a b c g h = h ∙ g
-scoped_on false a b c g h = h ∙ g
+widened_on : (inner : Bool) (a b c : List Scope) → Widened inner a b → Widened inner b c → Widened inner a c
+widened_on true a b c g h = h ∙ g
+widened_on false a b c g h = enumerated_on a b c g h
 
 pub spreads_on : (skip : Option ℕ) (inner : Bool) (a b c : Known) → Spreads skip inner a b → Spreads skip inner b c → Spreads skip inner a c
 spreads_on skip inner a b c g h = record {
   grows = grows_on a b c g.grows h.grows;
   spared = λ n s there body free. h.spared n s (g.spared n s there body free) body free;
-  scopes = scoped_on inner a.scopes b.scopes c.scopes g.scopes h.scopes;
+  scopes = widened_on inner a.scopes b.scopes c.scopes g.scopes h.scopes;
   signatures = h.signatures ∙ g.signatures;
   definitions = h.definitions ∙ g.definitions;
   statics = h.statics ∙ g.statics;
   body = h.body ∙ g.body;
 }
 
-scoped_less : (inner : Bool) (a b : List Scope) → b ≡ a → Scoped inner a b
-scoped_less true a b h = ap without_first h
-scoped_less false a b h = h
+widened_less : (inner : Bool) (a b : List Scope) → Enumerated a b → Widened inner a b
+widened_less true a b h = enumerated_outside a b h
+widened_less false a b h = h
 
 -- a rule that leaves more as it is leaves less as it is too
 pub spreads_less : (skip : Option ℕ) (inner : Bool) (a b : Known) → Spreads None false a b → Spreads skip inner a b
 spreads_less skip inner a b g = record {
   grows = g.grows;
   spared = λ n s there body free. g.spared n s there body tt;
-  scopes = scoped_less inner a.scopes b.scopes g.scopes;
+  scopes = widened_less inner a.scopes b.scopes g.scopes;
   signatures = g.signatures;
   definitions = g.definitions;
   statics = g.statics;
@@ -135,9 +135,21 @@ module _ (before after : Known) (g : Grows before after) where
   }
   bound_grows o (BitName register bit) h = tt
   bound_grows o (FunctionName n) h = tt
+  bound_grows o (TypeNamed q incomplete) h = stands_grows o q.ty h
+  bound_grows o (EnumeratorName n) h = tt
+
+  pub scope_grows : (o : Orderly before) (scope : Scope) → AreBound before scope → AreBound after scope
+  scope_grows o scope h = all_more scope (λ e. bound_grows o e.1) h
 
   pub scopes_grow : (o : Orderly before) (scopes : List Scope) → Each (AreBound before) scopes → Each (AreBound after) scopes
-  scopes_grow o scopes h = all_more scopes (λ scope all. all_more scope (λ e. bound_grows o e.1) all) h
+  scopes_grow o scopes h = all_more scopes (scope_grows o) h
+
+  tag_grows : (tag : Tag) → IsTag before tag → IsTag after tag
+  tag_grows (StructTag number) h = let t = g.shapes number h.0 h.1 in (t.0, t.1)
+  tag_grows EnumTag h = tt
+
+  pub tags_grow : (tags : List (List ℕ × Tag)) → Each (λ e. IsTag before e.1) tags → Each (λ e. IsTag after e.1) tags
+  tags_grow tags h = all_more tags (λ e. tag_grows e.1) h
 
   pub results_grow : (o : Orderly before) (s : Signature) → Stands before (s.result).ty × Each (Stands before) s.params → Stands after (s.result).ty × Each (Stands after) s.params
   results_grow o s h = (stands_grows o (s.result).ty h.0, all_more s.params (stands_grows o) h.1)
@@ -195,7 +207,7 @@ rows_spread : (known : Known) (ts us : List Qualified) → Adds ts us → Spread
 rows_spread known ts us adds = record {
   grows = record { rows = adds; shapes = λ n s h. (s, h, λ e. refl); statics = λ n s h. (s, h, refl) };
   spared = λ n s h body free. h;
-  scopes = refl;
+  scopes = enumerated_none known.scopes known.scopes refl;
   signatures = refl;
   definitions = refl;
   statics = refl;

@@ -40,7 +40,7 @@ use Rattle.sound_types.specs.Terms.{IsAssigned, IsOperand}
 use Rattle.sound_types.proofs.Adding.{orderly_other, names_more}
 use Rattle.sound_types.proofs.Assigning.{assigned_goes}
 use Rattle.sound_types.proofs.Declarations.{block_declarations_run, fits_join}
-use Rattle.sound_types.proofs.Declarators.{number_goes}
+use Rattle.sound_types.proofs.Enumerators.{constant_goes}
 use Rattle.sound_types.proofs.Expressions.{value_of_goes}
 use Rattle.sound_types.proofs.Lists.{none_is}
 use Rattle.sound_types.proofs.Living.{lives_leads, sized_grows, static_grows, steps_given, steps_on, steps_test, steps_wanted, steps_less, from_rows}
@@ -236,7 +236,7 @@ module _ (params : List VariableTree) where
   body_grows flow ty body before after m h = record { cases = h.cases; default = h.default; statements = λ declares p f l. h.statements declares p f (m.lives p f l) }
 
   number_steps : (e : Tree) (known : Known) → Steady params known → Steps false params known (λ v k. Unit {0}) (constant_value e known)
-  number_steps e known y = from_rows params (λ v k. Unit {0}) known _ y (goes_on known _ _ known.targets _ _ (value_of_goes known e known.targets y.orderly) (λ x us adds ordered h. number_goes known (folded x.value) x.line us ordered))
+  number_steps e known y = from_rows params (λ v k. Unit {0}) known _ y (constant_goes known e known.targets y.orderly)
 
   label_steps : (l : LabelTree) (flow : Flow) (ty : IntTy) (body : SwitchBody) (known : Known) → Steady params known → IsBody flow ty body known → Steps false params known (λ b k. IsBody flow ty b k) (label_rule l ty body known)
   label_steps (tree.Case line e colon) flow ty body known y h = steps_on params false _ _ known _ _ (number_steps e known y)

@@ -10,15 +10,16 @@ use Rattle.c_typed.specs.Sound.{kept}
 use Rattle.c_typed.specs.declared.types.Qualified.{Qualified}
 use Rattle.c_typed.specs.declared.types.Ty.{Ty}
 use Rattle.c_typed.specs.declared.types.Ty.TheVariants.{Void, Int, Pointer, Array, Struct}
-use Rattle.type_rules.specs.Known.{Field, Progress, Absent, Open, Closed, Shape, Known, given}
+use Rattle.type_rules.specs.Known.{Tag, Field, Progress, Absent, Open, Closed, Shape, Known, given}
 use Rattle.type_rules.specs.Names.{entry_of, with_entry}
 use Rattle.type_rules.specs.Rows.{plain, like, place_of_row, array_of, bytes_of, is_complete, is_closed, is_absent, progress_in, changed_at, no_members, tagged, set_progress, with_member, add_member, fields_in, fields_of}
 use Rattle.sound_types.specs.Going.{Goes}
 use Rattle.sound_types.specs.Spreading.{Grows, Spared, Spreads, Runs, HasFields, IsOpen}
-use Rattle.sound_types.specs.Tables.{at, Each, IsElement, Stands, IsMember, AreMembers, HasSome, IsShape, IsThere, Orderly}
+use Rattle.sound_types.specs.Tables.{at, Each, IsElement, Stands, IsMember, AreMembers, HasSome, IsShape, IsTag, Orderly}
+use Rattle.sound_types.proofs.Enumerating.{enumerated_none}
 use Rattle.sound_types.proofs.Growing.{row_goes, row_exact, stands_more}
-use Rattle.sound_types.proofs.Lists.{none_is, same_answer, got_left, got_last, got_either, numbered_at, all_more, changed_same, changed_other, changed_from}
-use Rattle.sound_types.proofs.Spreading.{equal_or_not, stands_grows, members_grow, shape_grows, scopes_grow, results_grow}
+use Rattle.sound_types.proofs.Lists.{none_is, same_answer, got_left, got_last, got_either, numbered_at, changed_same, changed_other, changed_from}
+use Rattle.sound_types.proofs.Spreading.{equal_or_not, stands_grows, members_grow, shape_grows, scopes_grow, tags_grow, results_grow}
 use Rattle.sound_types.proofs.Steps.{goes_given, goes_on}
 use Rattle.c_ints.specs.Range as range
 
@@ -89,8 +90,8 @@ module _ (known : Known) (ts : List Qualified) (o : Orderly (at known ts)) where
 
 -- ---- a structure more
 
-pub shaped_orderly : (known : Known) (shapes : List Shape) (tags : List (List ℕ × ℕ)) → Orderly known → Grows known (record known { shapes = shapes; tags = tags })
-    → ((n : ℕ) (s : Shape) → slice_get shapes n ≡ Some s → IsShape (record known { shapes = shapes; tags = tags }) s) → Each (λ e. IsThere (record known { shapes = shapes; tags = tags }) e.1) tags → Orderly (record known { shapes = shapes; tags = tags })
+pub shaped_orderly : (known : Known) (shapes : List Shape) (tags : List (List ℕ × Tag)) → Orderly known → Grows known (record known { shapes = shapes; tags = tags })
+    → ((n : ℕ) (s : Shape) → slice_get shapes n ≡ Some s → IsShape (record known { shapes = shapes; tags = tags }) s) → Each (λ e. IsTag (record known { shapes = shapes; tags = tags }) e.1) tags → Orderly (record known { shapes = shapes; tags = tags })
 shaped_orderly known shapes tags o g all tagged = record {
   rows = λ row q h. stands_grows known (record known { shapes = shapes; tags = tags }) g o q.ty (o.rows row q h);
   distinct = o.distinct;
@@ -100,7 +101,7 @@ shaped_orderly known shapes tags o g all tagged = record {
   results = λ n s h. results_grow known (record known { shapes = shapes; tags = tags }) g o s (o.results n s h);
 }
 
-module _ (known : Known) (o : Orderly known) (tags : List (List ℕ × ℕ)) (all_there : Each (λ e. IsThere (record known { shapes = known.shapes ++ no_members ∷ []; tags = tags }) e.1) tags) where
+module _ (known : Known) (o : Orderly known) (tags : List (List ℕ × Tag)) (all_there : Each (λ e. IsTag (record known { shapes = known.shapes ++ no_members ∷ []; tags = tags }) e.1) tags) where
   more_grows : Grows known (record known { shapes = known.shapes ++ no_members ∷ []; tags = tags })
   more_grows = record { rows = λ row q h. h; shapes = λ n s h. (s, got_left known.shapes (no_members ∷ []) n s h, λ e. refl); statics = λ n s h. (s, h, refl) }
 
@@ -118,7 +119,7 @@ module _ (known : Known) (o : Orderly known) (tags : List (List ℕ × ℕ)) (al
     spreads = record {
       grows = more_grows;
       spared = λ n s h body free. got_left known.shapes (no_members ∷ []) n s h;
-      scopes = refl;
+      scopes = enumerated_none known.scopes known.scopes refl;
       signatures = refl;
       definitions = refl;
       statics = refl;
@@ -148,7 +149,7 @@ module _ (known : Known) (o : Orderly known) (number : ℕ) (s : Shape) (there :
       shapes n x h = at_one n x h (equal_or_not number n)
 
   pub changed_orderly : IsShape (record known { shapes = changed_at known.shapes number change }) (change s) → Orderly (record known { shapes = changed_at known.shapes number change })
-  changed_orderly own = shaped_orderly known (changed_at known.shapes number change) known.tags o changed_grows all (all_more known.tags (λ e h. let t = changed_grows.shapes e.1 h.0 h.1 in (t.0, t.1)) o.tags)
+  changed_orderly own = shaped_orderly known (changed_at known.shapes number change) known.tags o changed_grows all (tags_grow known (record known { shapes = changed_at known.shapes number change }) changed_grows known.tags o.tags)
     where
       all : (n : ℕ) (x : Shape) → slice_get (changed_at known.shapes number change) n ≡ Some x → IsShape (record known { shapes = changed_at known.shapes number change }) x
       all n x h = by_cases (changed_from known.shapes number n change x h)
@@ -163,7 +164,7 @@ module _ (known : Known) (o : Orderly known) (number : ℕ) (s : Shape) (there :
     grows = changed_grows;
     spared = λ n x h body free. changed_other known.shapes number n change
         (λ e. own n free (subst (λ (z : Shape). is_absent z.body ≡ false) (sym (same_answer (slice_get known.shapes n) s x (ap (slice_get known.shapes) (sym e) ∙ there) h)) body) e) ∙ h;
-    scopes = refl;
+    scopes = enumerated_none known.scopes known.scopes refl;
     signatures = refl;
     definitions = refl;
     statics = refl;

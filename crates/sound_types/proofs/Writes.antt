@@ -30,7 +30,7 @@ use Rattle.type_rules.specs.Faults.{Kind}
 use Rattle.type_rules.specs.Known.{Signature, Known, tried, given, go_on}
 use Rattle.type_rules.specs.Operations.{operation_of, compound_of, counts_in, element_bytes}
 use Rattle.type_rules.specs.Rows.{bytes_of, is_complete}
-use Rattle.type_rules.specs.Terms.{Reach, Form, ValueForm, PlaceForm, FunctionForm, Operand, Term, side_of, value_term, is_written}
+use Rattle.type_rules.specs.Terms.{Reach, Form, ValueForm, PlaceForm, FunctionForm, TypeForm, Operand, Term, side_of, value_term, is_written}
 use Rattle.type_rules.specs.Writes.{written_place, structure_read, copy, simple_assignment, keeps_type, compound_assignment, assignment_by, sign_operator, assignment, counted, stepped, function_named, signature_in, called, passed, call}
 use Rattle.sound_types.specs.Going.{Goes}
 use Rattle.sound_types.specs.Tables.{at, Each, Stands, Orderly, Begins, type_in, Leads, Adds}
@@ -70,6 +70,7 @@ written_by known true q place reach e h is =
 written_is : (known : Known) (form : Form) (zero : Bool) (into : Option Reach) (place : Place) → IsForm known form zero into → written_place form ≡ Some place → IsWritten known place
 written_is known (ValueForm e) zero into place h is = absurd (none_is is)
 written_is known (FunctionForm number bare) zero into place h is = absurd (none_is is)
+written_is known TypeForm zero into place h is = absurd (none_is is)
 written_is known (PlaceForm q reach) zero into place h is = written_by known (is_written (PlaceForm q reach)) q place reach refl h.0 is
 
 assign_is : (known : Known) (place : Place) (ty : Ty) → IsWritten known place → (place_type place).ty ≡ ty → assign_fits (place_type place) ty ≡ true

@@ -8,7 +8,7 @@ use Rattle.c_typed.specs.declared.expression.Object.TheVariants as object
 use Rattle.c_typed.specs.declared.types.Qualified.{Qualified}
 use Rattle.c_typed.specs.declared.types.Ty.{Ty}
 use Rattle.type_rules.specs.Faults.{Fault}
-use Rattle.type_rules.specs.Known.{Binding, ObjectName, BitName, FunctionName, Scope, Known}
+use Rattle.type_rules.specs.Known.{Binding, ObjectName, BitName, FunctionName, TypeNamed, EnumeratorName, Scope, Known}
 use Rattle.type_rules.specs.Rows.{bytes_of, is_complete}
 use Rattle.type_rules.specs.Statements.{statements_of}
 use Rattle.sound_types.specs.Chains.{InitialsIn}
@@ -38,6 +38,8 @@ abbrev pub IsNamed : List VariableTree → Known → Binding → Type 0
 IsNamed params known (ObjectName object q fixed) = IsNamedObject params known object q
 IsNamed params known (BitName register bit) = (is_device register && nat_lt bit 8) ≡ true
 IsNamed params known (FunctionName n) = Unit {0}
+IsNamed params known (TypeNamed q incomplete) = Unit {0}
+IsNamed params known (EnumeratorName n) = Unit {0}
 
 abbrev pub AreNamed : List VariableTree → Known → Scope → Type 0
 AreNamed params known scope = Each (λ e. IsNamed params known e.1) scope

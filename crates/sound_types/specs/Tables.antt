@@ -8,10 +8,11 @@ use Rattle.c_typed.specs.declared.expression.Object.{Object}
 use Rattle.c_typed.specs.declared.types.Qualified.{Qualified}
 use Rattle.c_typed.specs.declared.types.Ty.{Ty}
 use Rattle.c_typed.specs.declared.types.Ty.TheVariants.{Void, Int, Pointer, Array, Struct}
-use Rattle.type_rules.specs.Known.{Binding, ObjectName, BitName, FunctionName, Scope, Field, Shape, Signature, Known}
+use Rattle.type_rules.specs.Known.{Binding, ObjectName, BitName, FunctionName, TypeNamed, EnumeratorName, Scope, Tag, StructTag, EnumTag, Field, Shape, Signature, Known}
 use Rattle.type_rules.specs.Names.{found_in}
 use Rattle.type_rules.specs.Rows.{place_of_row, bytes_of, is_closed, is_complete}
 use Rattle.type_rules.specs.Slots.{static_number}
+use Rattle.type_rules.specs.Specifiers.{Base, StructBase, EnumBase, NamedBase}
 use Rattle.type_rules.specs.Units.{structure_tree}
 
 -- the same tables with these rows of types
@@ -45,9 +46,9 @@ Stands known (Pointer row) = (q : Qualified) × (slice_get known.targets row ≡
 Stands known (Array row count size) = (q : Qualified) × (slice_get known.targets row ≡ Some q) × IsElement known q count size
 Stands known (Struct number) = (s : Shape) × (slice_get known.shapes number ≡ Some s)
 
--- the type that specifiers and pointers name: no array
+-- the type that specifiers and pointers name
 abbrev pub IsBase : Known → Qualified → Type 0
-IsBase known q = Stands known q.ty × (is_array q.ty ≡ false)
+IsBase known q = Stands known q.ty
 
 -- Members stand one behind the other; each is complete and not const.
 pub record IsMember (known : Known) (m : Field) (before : ℕ) : Type 0 where
@@ -83,6 +84,8 @@ abbrev pub IsBound : Known → Binding → Type 0
 IsBound known (ObjectName object q fixed) = IsObject known object q fixed
 IsBound known (BitName register bit) = Unit {0}
 IsBound known (FunctionName number) = Unit {0}
+IsBound known (TypeNamed q incomplete) = Stands known q.ty
+IsBound known (EnumeratorName n) = Unit {0}
 
 abbrev pub AreBound : Known → Scope → Type 0
 AreBound known scope = Each (λ e. IsBound known e.1) scope
@@ -91,6 +94,17 @@ AreBound known scope = Each (λ e. IsBound known e.1) scope
 abbrev pub IsThere : Known → ℕ → Type 0
 IsThere known number = (s : Shape) × (slice_get known.shapes number ≡ Some s)
 
+-- what a tag is that of
+abbrev pub IsTag : Known → Tag → Type 0
+IsTag known (StructTag number) = IsThere known number
+IsTag known EnumTag = Unit {0}
+
+-- What names a type without a word names one that is there.
+abbrev pub IsNamedBase : Known → Base → Type 0
+IsNamedBase known (StructBase number) = IsThere known number
+IsNamedBase known EnumBase = Unit {0}
+IsNamedBase known (NamedBase q incomplete) = Stands known q.ty
+
 -- ---- tables in order
 
 pub record Orderly (known : Known) : Type 0 where
@@ -98,7 +112,7 @@ pub record Orderly (known : Known) : Type 0 where
   pub distinct : (row : ℕ) (q : Qualified) → slice_get known.targets row ≡ Some q → place_of_row known.targets q ≡ row
   pub shapes : (n : ℕ) (s : Shape) → slice_get known.shapes n ≡ Some s → IsShape known s
   pub scopes : Each (AreBound known) known.scopes
-  pub tags : Each (λ e. IsThere known e.1) known.tags
+  pub tags : Each (λ e. IsTag known e.1) known.tags
   pub results : (n : ℕ) (s : Signature) → slice_get known.signatures n ≡ Some s → Stands known (s.result).ty × Each (Stands known) s.params
 
 -- ---- the tables of the whole program
@@ -122,6 +136,8 @@ abbrev pub BindingFits : Program → FunctionTree → Binding → Type 0
 BindingFits p f (ObjectName object q fixed) = is_named (names_local object) (declared_type p f object) q ≡ true
 BindingFits p f (BitName register bit) = (is_device register && nat_lt bit 8) ≡ true
 BindingFits p f (FunctionName number) = Unit {0}
+BindingFits p f (TypeNamed q incomplete) = Unit {0}
+BindingFits p f (EnumeratorName n) = Unit {0}
 
 pub record Leads (known : Known) (p : Program) (f : FunctionTree) : Type 0 where
   pub begins : Begins known p

@@ -13,7 +13,7 @@ use Rattle.c_typed.specs.declared.types.Ty.TheVariants.{Pointer}
 use Rattle.type_rules.specs.Known.{Known}
 use Rattle.type_rules.specs.Rows.{is_complete}
 use Rattle.type_rules.specs.Slots.{static_name, static_address}
-use Rattle.type_rules.specs.Terms.{Reach, Form, ValueForm, PlaceForm, FunctionForm, Operand, Term}
+use Rattle.type_rules.specs.Terms.{Reach, Form, ValueForm, PlaceForm, FunctionForm, TypeForm, Operand, Term}
 use Rattle.type_rules.specs.Places.{reach_behind}
 use Rattle.sound_types.specs.Tables.{Each, Stands, Leads}
 
@@ -49,6 +49,7 @@ abbrev pub IsForm : Known → Form → Bool → Option Reach → Type 0
 IsForm known (ValueForm e) zero into = IsValue known Used e zero into
 IsForm known (PlaceForm place reach) zero into = IsPlace known place reach × (zero ≡ false)
 IsForm known (FunctionForm number bare) zero into = Unit {0}
+IsForm known TypeForm zero into = Unit {0}
 
 abbrev pub IsOperand : Known → Standing → Operand → Type 0
 IsOperand known standing x = IsValue known standing x.value x.null x.into
