@@ -1,5 +1,5 @@
 -- Declarations in blocks: their statements fit, and what is known goes on.
-use Rattle.std.proofs.Common.{◌≡◌, ℕ, ◌+◌, ◌≤◌, Bool, true, false, not, ◌&&◌, ◌||◌, if◌then◌else◌, nat_lt, List, [], ◌∷◌, ◌++◌, Option, Some, None, is_some, Result, Ok, Err, ◌⊎◌, inl, inr, refl, sym, ap, ◌∙◌, subst, arith, true≢false}
+use Rattle.std.proofs.Common.{◌≡◌, ℕ, ◌+◌, ◌≤◌, Bool, true, false, not, ◌&&◌, ◌||◌, if◌then◌else◌, nat_lt, List, [], ◌∷◌, ◌++◌, Option, Some, None, is_some, Result, Ok, Err, inl, inr, refl, sym, ap, ◌∙◌, subst, arith, true≢false}
 use Rattle.std.specs.Prelude.{slice_get}
 use Rattle.std.proofs.lemmas.Bool.{and_parts, and_from, or_parts, or_left, false≢true}
 use Rattle.std.proofs.lemmas.Grind.{common_steps}
@@ -12,18 +12,19 @@ use Rattle.type_rules.specs.Declarations.{init_in, block_object, block_declarato
 use Rattle.type_rules.specs.Declarators.{in_block, name_in, line_in}
 use Rattle.type_rules.specs.Faults as kind
 use Rattle.type_rules.specs.Faults.{Kind, Fault}
-use Rattle.type_rules.specs.Known.{Scope, Known, Rule, given, tried, go_on, Body}
-use Rattle.type_rules.specs.Names.{is_declared, without_first}
+use Rattle.type_rules.specs.Known.{Known, Rule, given, tried, go_on, Body}
+use Rattle.type_rules.specs.Names.{is_declared}
 use Rattle.type_rules.specs.Objects.{object_rule, static_rule, block_name, local_rule}
 use Rattle.type_rules.specs.Outlines.{Declared, ObjectDeclared, FunctionDeclared, Outline, is_function, object_type}
 use Rattle.type_rules.specs.Rows.{bytes_of, is_complete}
 use Rattle.type_rules.specs.Specifiers.{Specified}
 use Rattle.type_rules.specs.Statements.{statements_of}
-use Rattle.sound_types.specs.Living.{AreNamed, Steady, Moves, Steps, AreDeclared}
+use Rattle.sound_types.specs.Living.{IsNamed, Steady, Moves, Steps, AreDeclared}
 use Rattle.sound_types.specs.Objects.{IsDeclaredAs}
-use Rattle.sound_types.specs.Spreading.{Scoped, Spreads, Runs, IsRefused, IsDeclared, Doomed, Fates}
-use Rattle.sound_types.specs.Tables.{Each, Stands, IsBase, Orderly}
+use Rattle.sound_types.specs.Spreading.{Spreads, Runs, IsRefused, IsDeclared, Doomed, Fates}
+use Rattle.sound_types.specs.Tables.{Stands, IsBase, Orderly}
 use Rattle.sound_types.proofs.Adding.{orderly_other, names_more}
+use Rattle.sound_types.proofs.Enumerating.{enumerated_outside, enumerated_all}
 use Rattle.sound_types.proofs.Declarators.{specified_runs, outline_fates, base_grows}
 use Rattle.sound_types.proofs.Living.{sized_grows, static_grows, steps_given, steps_broken, steps_wider, steps_on, steps_test}
 use Rattle.sound_types.proofs.Locals.{local_runs}
@@ -34,12 +35,8 @@ use Rattle.sound_types.proofs.Statics.{static_runs}
 -- ---- what declares types leaves all else
 
 module _ (params : List VariableTree) where
-  scoped_false : (inner : Bool) (a b : List Scope) → b ≡ a → Scoped inner a b
-  scoped_false true a b h = ap without_first h
-  scoped_false false a b h = h
-
-  pub spread_moves : (inner : Bool) (a b : Known) → Spreads None false a b → Moves inner params a b
-  spread_moves inner a b s = record {
+  pub spread_moves : (a b : Known) → Spreads None false a b → Moves true params a b
+  spread_moves a b s = record {
     grows = s.grows;
     lives = λ p f l. record {
       begins = begins_back a b s.grows s.signatures p l.begins;
@@ -49,7 +46,7 @@ module _ (params : List VariableTree) where
       result = l.result ∙ ap (λ (z : Body). z.result) s.body;
     };
     statics = λ n x h. ap (λ z. slice_get z n) s.statics ∙ h;
-    scopes = scoped_false inner a.scopes b.scopes s.scopes;
+    scopes = enumerated_outside a.scopes b.scopes s.scopes;
     signatures = s.signatures;
     definitions = s.definitions;
     result = ap (λ (z : Body). z.result) s.body;
@@ -58,29 +55,30 @@ module _ (params : List VariableTree) where
   pub spread_steady : (a b : Known) → Steady params a → Spreads None false a b → Orderly b → Steady params b
   spread_steady a b y s o = record {
     orderly = o;
-    named = subst (Each (AreNamed params b)) (sym s.scopes) (names_more params a b (λ n x h. ap (λ z. slice_get z n) s.statics ∙ h) (λ n v h. ap (λ (z : Body). slice_get z.locals n) s.body ∙ h) a.scopes y.named);
+    named = enumerated_all (IsNamed params b) (λ n. tt) a.scopes b.scopes s.scopes
+        (names_more params a b (λ n x h. ap (λ z. slice_get z n) s.statics ∙ h) (λ n v h. ap (λ (z : Body). slice_get z.locals n) s.body ∙ h) a.scopes y.named);
     statics = λ n x h. static_grows a b s.grows y.orderly x (y.statics n x (ap (λ z. slice_get z n) (sym s.statics) ∙ h));
     locals = λ n v h. sized_grows a b s.grows y.orderly (v.ty).ty (y.locals n v (ap (λ (z : Body). slice_get z.locals n) (sym s.body) ∙ h));
     result = subst (Stands b) (ap (λ (z : Body). z.result) (sym s.body)) (stands_grows a b s.grows y.orderly (a.body).result y.result);
   }
 
-  pub from_spread : (inner : Bool) {A B : Type 0} (P : A → Known → Type 0) (Q : B → Known → Type 0) (before : Known) (r : Result (A × Known) Fault) (second : A → Rule B) → Steady params before → Runs None false before P r
-      → ((x : A) (mid : Known) → Moves inner params before mid → Steady params mid → P x mid → Steps inner params mid Q (second x mid)) → Steps inner params before Q (go_on second r)
+  pub from_spread : {A B : Type 0} (P : A → Known → Type 0) (Q : B → Known → Type 0) (before : Known) (r : Result (A × Known) Fault) (second : A → Rule B) → Steady params before → Runs None false before P r
+      → ((x : A) (mid : Known) → Moves true params before mid → Steady params mid → P x mid → Steps true params mid Q (second x mid)) → Steps true params before Q (go_on second r)
   unfolding Runs Steps
-  from_spread inner P Q before (Ok x) second y g more = steps_wider params inner Q before x.1 (second x.0 x.1) (spread_moves inner before x.1 g.spreads) (more x.0 x.1 (spread_moves inner before x.1 g.spreads) (spread_steady before x.1 y g.spreads g.orderly) g.holds)
-  from_spread inner P Q before (Err fault) second y g more = tt
+  from_spread P Q before (Ok x) second y g more = steps_wider params true Q before x.1 (second x.0 x.1) (spread_moves before x.1 g.spreads) (more x.0 x.1 (spread_moves before x.1 g.spreads) (spread_steady before x.1 y g.spreads g.orderly) g.holds)
+  from_spread P Q before (Err fault) second y g more = tt
 
-  refused_steps : (inner : Bool) {B : Type 0} (Q : B → Known → Type 0) (before : Known) (r : Result (B × Known) Fault) → IsRefused r → Steps inner params before Q r
+  refused_steps : {B : Type 0} (Q : B → Known → Type 0) (before : Known) (r : Result (B × Known) Fault) → IsRefused r → Steps true params before Q r
   unfolding Steps
-  refused_steps inner Q before (Ok x) h = absurd h
-  refused_steps inner Q before (Err fault) h = tt
+  refused_steps Q before (Ok x) h = absurd h
+  refused_steps Q before (Err fault) h = tt
 
-  pub from_fates : (inner : Bool) (D : Outline → Type 0) (P : Outline → Known → Type 0) {B : Type 0} (Q : B → Known → Type 0) (before : Known) (r : Result (Outline × Known) Fault) (second : Outline → Rule B) → Steady params before → Fates before D P r
-      → ((o : Outline) (mid : Known) → D o → IsRefused (second o mid)) → ((o : Outline) (mid : Known) → Moves inner params before mid → Steady params mid → P o mid → Steps inner params mid Q (second o mid)) → Steps inner params before Q (go_on second r)
+  pub from_fates : (D : Outline → Type 0) (P : Outline → Known → Type 0) {B : Type 0} (Q : B → Known → Type 0) (before : Known) (r : Result (Outline × Known) Fault) (second : Outline → Rule B) → Steady params before → Fates before D P r
+      → ((o : Outline) (mid : Known) → D o → IsRefused (second o mid)) → ((o : Outline) (mid : Known) → Moves true params before mid → Steady params mid → P o mid → Steps true params mid Q (second o mid)) → Steps true params before Q (go_on second r)
   unfolding Fates
-  from_fates inner D P Q before (Err fault) second y g refused more = steps_broken params inner Q before fault
-  from_fates inner D P Q before (Ok x) second y (inl d) refused more = refused_steps inner Q before (second x.0 x.1) (refused x.0 x.1 d)
-  from_fates inner D P Q before (Ok x) second y (inr g) refused more = steps_wider params inner Q before x.1 (second x.0 x.1) (spread_moves inner before x.1 g.spreads) (more x.0 x.1 (spread_moves inner before x.1 g.spreads) (spread_steady before x.1 y g.spreads g.orderly) g.holds)
+  from_fates D P Q before (Err fault) second y g refused more = steps_broken params true Q before fault
+  from_fates D P Q before (Ok x) second y (inl d) refused more = refused_steps Q before (second x.0 x.1) (refused x.0 x.1 d)
+  from_fates D P Q before (Ok x) second y (inr g) refused more = steps_wider params true Q before x.1 (second x.0 x.1) (spread_moves before x.1 g.spreads) (more x.0 x.1 (spread_moves before x.1 g.spreads) (spread_steady before x.1 y g.spreads g.orderly) g.holds)
 
 -- ---- the rule of an object
 
@@ -88,23 +86,16 @@ pub refused_on : {A B : Type 0} (r : Result (A × Known) Fault) (second : A → 
 refused_on (Ok x) second h = absurd h
 refused_on (Err fault) second h = tt
 
-refused_tests : {B : Type 0} (a b c : Bool) (k l m : Kind) (line : ℕ) (second : Known → Rule B) (known : Known) → (a ≡ true) ⊎ (c ≡ true) → IsRefused (go_on second (tried ((a, k) ∷ (b, l) ∷ (c, m) ∷ []) line known))
+refused_tests : {B : Type 0} (a b c : Bool) (k l m : Kind) (line : ℕ) (second : Known → Rule B) (known : Known) → a ≡ true → IsRefused (go_on second (tried ((a, k) ∷ (b, l) ∷ (c, m) ∷ []) line known))
 refused_tests true b c k l m line second known h = tt
-refused_tests false true c k l m line second known h = tt
-refused_tests false false true k l m line second known h = tt
-refused_tests false false false k l m line second known (inl h) = absurd (false≢true h)
-refused_tests false false false k l m line second known (inr h) = absurd (false≢true h)
+refused_tests false b c k l m line second known h = absurd (false≢true h)
 
 pub object_refused : (said : Specified) (o : Outline) (begun : Bool) (line : ℕ) (known : Known) → Doomed o → IsRefused (object_rule said o begun line known)
-object_refused said o begun line known d = refused_tests (o.bad || (is_function o.declared || said.interrupt)) (nat_lt 65535 (bytes_of known (object_type o.declared).ty)) (o.incomplete || not ((begun && is_array (object_type o.declared).ty) || is_complete known (object_type o.declared).ty)) kind.Declare kind.Size kind.Incomplete line _ known (either d)
-  where
-    either : Doomed o → ((o.bad || (is_function o.declared || said.interrupt)) ≡ true) ⊎ ((o.incomplete || not ((begun && is_array (object_type o.declared).ty) || is_complete known (object_type o.declared).ty)) ≡ true)
-    either (inl bad) = inl (or_left o.bad (is_function o.declared || said.interrupt) bad)
-    either (inr h) = inr (or_left o.incomplete (not ((begun && is_array (object_type o.declared).ty) || is_complete known (object_type o.declared).ty)) h.0)
+object_refused said o begun line known d = refused_tests (o.bad || (is_function o.declared || said.interrupt)) (nat_lt 65535 (bytes_of known (object_type o.declared).ty)) (o.incomplete || not ((begun && is_array (object_type o.declared).ty) || is_complete known (object_type o.declared).ty)) kind.Declare kind.Size kind.Incomplete line _ known (or_left o.bad (is_function o.declared || said.interrupt) d)
 
 pub declared_as : (known : Known) (begun interrupt : Bool) (declared : Declared) → IsDeclared known declared → (is_function declared || interrupt) ≡ false → nat_lt 65535 (bytes_of known (object_type declared).ty) ≡ false
     → ((begun && is_array (object_type declared).ty) || is_complete known (object_type declared).ty) ≡ true → IsDeclaredAs known begun (object_type declared)
-declared_as known begun interrupt (FunctionDeclared result ps) h object small whole = absurd (true≢false object)
+declared_as known begun interrupt (FunctionDeclared result ps scope) h object small whole = absurd (true≢false object)
 declared_as known begun interrupt (ObjectDeclared q) h object small whole = record { stands = h; whole = whole; small = few (bytes_of known q.ty) small }
   where
     few : (n : ℕ) → nat_lt 65535 n ≡ false → n ≤ 65535
@@ -174,7 +165,7 @@ module _ (params : List VariableTree) where
   base_too known (Err fault) said y base g = tt
 
   pub block_declarator_runs : (b : BegunTree) (said : Specified) (known : Known) → Steady params known → IsBase known said.ty → Steps true params known (λ ss k. AreDeclared params k ss × IsBase k said.ty) (block_declarator b said known)
-  block_declarator_runs b said known y base = base_too known _ said y base (from_fates params true Doomed (λ x k. IsDeclared k x.declared) _ known _ _ y (outline_fates b.declarator said false known y.orderly base)
+  block_declarator_runs b said known y base = base_too known _ said y base (from_fates params Doomed (λ x k. IsDeclared k x.declared) _ known _ _ y (outline_fates b.declarator said false known y.orderly base)
       (λ o mid d. again_refused (is_declared mid (name_in b.declarator)) (line_in b.declarator) _ mid (refused_on (object_rule said o (is_some b.init) (line_in b.declarator) mid) _ (object_refused said o (is_some b.init) (line_in b.declarator) mid d)))
       (λ o mid m y2 declared. steps_test params true _ mid (is_declared mid (name_in b.declarator)) kind.Again [] (line_in b.declarator) _ (λ new.
       steps_on params true _ _ mid _ _ (object_runs true said o (is_some b.init) (line_in b.declarator) mid y2 declared)
@@ -197,13 +188,13 @@ module _ (params : List VariableTree) where
       (λ others after m2 y3 h2. steps_given params true _ after (first ++ others) y3 (join_declared mid after first others m2 h.0 h2)))
 
   declared_runs : (d : Option DeclaredTrees) (said : Specified) (known : Known) → Steady params known → IsBase known said.ty → Steps true params known (λ ss k. AreDeclared params k ss) (declared_in_block d said known)
-  declared_runs None said known y base = steps_test params true _ known said.interrupt kind.Declare [] said.line (λ u. given []) (λ e. steps_given params true _ known [] y (none_fit known))
+  declared_runs None said known y base = steps_test params true _ known (said.interrupt || said.is_typedef) kind.Declare [] said.line (λ u. given []) (λ e. steps_given params true _ known [] y (none_fit known))
   declared_runs (Some d) said known y base = steps_on params true _ _ known _ _ (block_declarator_runs d.0 said known y base)
       (λ first mid m y2 h. steps_on params true _ _ mid _ (λ others. given (first ++ others)) (more_runs d.1 said mid y2 h.1)
       (λ others after m2 y3 h2. steps_given params true _ after (first ++ others) y3 (join_declared mid after first others m2 h.0 h2)))
 
   block_declaration_runs : (d : DeclarationTree) (known : Known) → Steady params known → Steps true params known (λ ss k. AreDeclared params k ss) (block_declaration d known)
-  block_declaration_runs d known y = from_spread params true (λ s k. IsBase k s.ty) _ known _ _ y (specified_runs d.specs in_block known y.orderly) (λ said mid m y2 base. declared_runs d.declared said mid y2 base)
+  block_declaration_runs d known y = from_spread params (λ s k. IsBase k s.ty) _ known _ _ y (specified_runs d.specs in_block known y.orderly) (λ said mid m y2 base. declared_runs d.declared said mid y2 base)
 
   -- What the declarations of a block do.
   pub block_declarations_run : (ds : List DeclarationTree) (known : Known) → Steady params known → Steps true params known (λ ss k. AreDeclared params k ss) (block_declarations ds known)

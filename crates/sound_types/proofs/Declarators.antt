@@ -14,7 +14,7 @@ use Rattle.type_rules.specs.Names.{leave_list, without_first, first_scope, with_
 use Rattle.type_rules.specs.Outlines.{Param, Made, FunctionMade, object_outline, declarator_line}
 use Rattle.type_rules.specs.Rows.{is_absent, progress_in, progress_of, tagged, set_progress, new_structure, no_members, new_tag, new_enum_tag}
 use Rattle.type_rules.specs.Specifiers.{Base, StructBase, EnumBase, NamedBase, Gathered, nothing_gathered, with_base, Specified, spec_line}
-use Rattle.sound_types.specs.Spreading.{Grows, Spreads, Runs, IsOpen, IsParam, AreParams, IsMade, IsDeclared, Doomed, Fates, IsNoParam, IsParamDeclared}
+use Rattle.sound_types.specs.Spreading.{Grows, Spreads, Runs, IsOpen, AreParams, IsMade, IsDeclared, Doomed, Fates, IsNoParam, IsParamDeclared}
 use Rattle.sound_types.specs.Tables.{Each, IsBase, IsBound, AreBound, IsThere, IsTag, IsNamedBase, Orderly}
 use Rattle.sound_types.proofs.Enumerating.{enumerated_none, enumerated_on, first_of}
 use Rattle.sound_types.proofs.Enumerators.{length_goes, enumerators_run}

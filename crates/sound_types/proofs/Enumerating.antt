@@ -1,5 +1,5 @@
 -- Scopes that got enumerators: what holds of all their names still does, and all but the innermost stay.
-use Rattle.std.proofs.Common.{◌≡◌, ℕ, ℤ, Bool, false, List, [], ◌∷◌, ◌++◌, refl, sym, ap, ◌∙◌, subst}
+use Rattle.std.proofs.Common.{◌≡◌, ℕ, ℤ, false, List, [], ◌∷◌, ◌++◌, refl, sym, ap, ◌∙◌, subst}
 use Rattle.std.specs.Prelude.{is_some}
 use Rattle.type_rules.specs.Known.{Binding, EnumeratorName, Scope}
 use Rattle.type_rules.specs.Names.{innermost_in, bound_in, without_first, first_scope}

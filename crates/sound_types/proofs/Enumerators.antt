@@ -1,5 +1,5 @@
 -- Constant expressions and enumerators: the tables stay in order, and the innermost scope gets the enumerators alone.
-use Rattle.std.proofs.Common.{◌≡◌, ℕ, ℤ, Bool, false, not, List, [], ◌∷◌, Option, None, Result, Ok, Err, refl}
+use Rattle.std.proofs.Common.{◌≡◌, ℕ, ℤ, false, not, List, [], ◌∷◌, None, refl}
 use Rattle.std.specs.Prelude.{pos, ◌+ℤ◌}
 use Rattle.c_tree.specs.Trees as tree
 use Rattle.c_tree.specs.Trees.{Tree, EnumeratorTree, MoreEnumerators}
@@ -14,7 +14,7 @@ use Rattle.type_rules.specs.Faults as kind
 use Rattle.type_rules.specs.Known.{EnumeratorName, Known, given, go_on}
 use Rattle.type_rules.specs.Names.{is_declared, bind, bound_in}
 use Rattle.sound_types.specs.Going.{Goes}
-use Rattle.sound_types.specs.Spreading.{Spreads, Runs}
+use Rattle.sound_types.specs.Spreading.{Runs}
 use Rattle.sound_types.specs.Tables.{at, IsBound, Orderly}
 use Rattle.sound_types.proofs.Expressions.{value_of_goes}
 use Rattle.sound_types.proofs.Outlines.{scoped_orderly, scoped_grows}

@@ -1,5 +1,5 @@
 -- Declarations in the file: names of functions keep their types.
-use Rattle.std.proofs.Common.{◌≡◌, ℕ, Bool, true, false, not, ◌&&◌, ◌||◌, if◌then◌else◌, nat_lt, List, [], ◌∷◌, ◌++◌, length, Option, Some, None, is_some, Result, Ok, Err, ◌⊎◌, inl, inr, refl, sym, ap, ap₂, ◌∙◌, subst, true≢false}
+use Rattle.std.proofs.Common.{◌≡◌, ℕ, Bool, true, false, not, ◌&&◌, ◌||◌, if◌then◌else◌, nat_lt, ℤ, List, [], ◌∷◌, ◌++◌, length, Option, Some, None, is_some, Result, Ok, Err, ◌⊎◌, inl, inr, refl, sym, ap, ap₂, ◌∙◌, subst, true≢false}
 use Rattle.std.specs.Prelude.{slice_get}
 use Rattle.std.specs.Str.{bytes_eq}
 use Rattle.std.proofs.lemmas.Bool.{and_parts, or_parts, or_left, false≢true}
@@ -11,12 +11,12 @@ use Rattle.c_typed.specs.Trees.{StaticTree, VariableTree, FunctionTree, Program}
 use Rattle.c_typed.specs.declared.expression.Object.TheVariants as object
 use Rattle.c_typed.specs.declared.types.Qualified.{Qualified}
 use Rattle.c_typed.specs.declared.types.Ty.{Ty}
-use Rattle.type_rules.specs.Declarations.{param_types, same_types, definition_from, is_same, function_number, signature_at, function_added, set_defined, function_rule, init_in, no_value, file_object, file_declared, file_declarator, more_in_file, declared_in_file, file_declaration}
+use Rattle.type_rules.specs.Declarations.{param_types, same_types, definition_from, is_same, function_number, signature_at, function_added, set_defined, function_rule, init_in, no_value, file_object, file_declared, type_rule, file_declarator, more_in_file, declared_in_file, file_declaration}
 use Rattle.type_rules.specs.Declarators.{in_file, name_in, line_in}
 use Rattle.type_rules.specs.Faults as kind
 use Rattle.type_rules.specs.Faults.{Kind, Fault, Tests}
-use Rattle.type_rules.specs.Known.{Binding, ObjectName, BitName, FunctionName, Scope, Signature, Known, Rule, given, tried, go_on, broken}
-use Rattle.type_rules.specs.Names.{entry_of, with_entry, innermost_in, is_declared, bound_in}
+use Rattle.type_rules.specs.Known.{Binding, ObjectName, BitName, FunctionName, TypeNamed, EnumeratorName, Scope, Signature, Known, Rule, given, tried, go_on, broken}
+use Rattle.type_rules.specs.Names.{entry_of, with_entry, innermost_in, is_declared, bound_in, bind}
 use Rattle.type_rules.specs.Objects.{object_rule, static_rule}
 use Rattle.type_rules.specs.Outlines.{Param, Declared, ObjectDeclared, FunctionDeclared, Outline, is_function, object_type}
 use Rattle.type_rules.specs.Rows.{bytes_of, is_complete, changed_at}
@@ -24,18 +24,21 @@ use Rattle.type_rules.specs.Specifiers.{Specified}
 use Rattle.sound_types.specs.Files.{Holds, Files, Turns}
 use Rattle.sound_types.specs.Living.{LocalTo, Lives, IsNamed, AreNamed, Steady, Moves, Steps}
 use Rattle.sound_types.specs.Objects.{IsDeclaredAs, IsBoundAs}
-use Rattle.sound_types.specs.Spreading.{Grows, Spreads, Runs, IsRefused, IsParam, IsDeclared, Doomed, Fates, IsArrayDeclared}
+use Rattle.sound_types.specs.Spreading.{Grows, with_enumerators, AreNew, Spreads, Runs, IsRefused, IsParam, IsDeclared, Doomed, Fates}
 use Rattle.sound_types.specs.Tables.{Each, Stands, IsBase, IsBound, AreBound, Orderly}
 use Rattle.sound_types.proofs.Adding.{names_more}
 use Rattle.sound_types.proofs.Declarations.{spread_moves, spread_steady, refused_on, object_refused, declared_as}
 use Rattle.sound_types.proofs.Declarators.{specified_runs, outline_fates, base_grows}
+use Rattle.sound_types.proofs.Enumerating.{enumerators_keep, enumerated_none}
 use Rattle.sound_types.proofs.Lists.{none_is, same_answer, all_more, got_left, got_last, got_either, changed_same, changed_from, changed_other}
 use Rattle.sound_types.proofs.Living.{sized_grows, static_grows}
 use Rattle.sound_types.proofs.Names.{bytes_same, same_bytes, put_entry}
 use Rattle.sound_types.proofs.Operators.{not_false}
+use Rattle.sound_types.proofs.Outlines.{scoped_orderly, scoped_grows}
 use Rattle.sound_types.proofs.Same.{same_type_is, same_qualified_is, same_qualified_refl}
 use Rattle.sound_types.proofs.Scopes.{bound_holds}
-use Rattle.sound_types.proofs.Spreading.{stands_grows, shape_grows, scopes_grow, equal_or_not}
+use Rattle.sound_types.proofs.Spreading.{stands_grows, shape_grows, scopes_grow, tags_grow, equal_or_not}
+use Rattle.sound_types.proofs.Statements.{rescoped}
 use Rattle.sound_types.proofs.Statics.{static_runs}
 use Rattle.type_rules.specs.Slots.{nothing_begun, Begun}
 use Rattle.type_rules.specs.Initializers as initializers
@@ -96,22 +99,13 @@ any_lives params known p h = record { begins = h.begins; statics = h.statics; pa
 pub holds_back : (inner : Bool) (params : List VariableTree) (before after : Known) → Moves inner params before after → (p : Program) → Holds after p → Holds before p
 holds_back inner params before after m p h = let l = m.lives p (any_function params after) (any_lives params after p h) in record { begins = l.begins; statics = l.statics }
 
+-- the tables with other scopes
+bound_before : (known : Known) (scopes : List Scope) (p : Program) → Holds (record known { scopes = scopes }) p → Holds known p
+bound_before known scopes p h = record { begins = record { rows = (h.begins).rows; structures = (h.begins).structures; closed = (h.begins).closed; functions = (h.begins).functions }; statics = h.statics }
+
 -- ---- what leaves functions and their names as they are
 
 module _ (names : List (List ℕ)) (done : List FunctionTree) where
-  pub files_spread : (a b : Known) → Files names done a → Spreads None false a b → Orderly b → Files names done b
-  files_spread a b y s o = record {
-    steady = spread_steady [] a b y.steady s o;
-    idle = s.body ∙ y.idle;
-    definitions = s.definitions ∙ y.definitions;
-    scope = y.scope;
-    only = s.scopes ∙ y.only;
-    named = λ name n e. let r = y.named name n e in (r.0, ap (λ l. slice_get l n) s.signatures ∙ r.1, r.2);
-    signed = λ n x e. y.signed n x (ap (λ l. slice_get l n) (sym s.signatures) ∙ e);
-    made = λ i g e. let r = y.made i g e in (r.0, r.1, r.2, ap (λ l. slice_get l r.0) s.signatures ∙ r.3, r.4);
-    fitting = λ i g e p h. y.fitting i g e p (holds_back false [] a b (spread_moves [] false a b s) p h);
-  }
-
   object_by : (b : Bool) (x : Binding) (o : Option Binding) (n : ℕ) → (x ≡ FunctionName n → ⊥) → (if b then Some x else o) ≡ Some (FunctionName n) → o ≡ Some (FunctionName n)
   object_by true x o n other h = absurd (other (same_Some x (FunctionName n) h))
   object_by false x o n other h = h
@@ -129,6 +123,55 @@ module _ (names : List (List ℕ)) (done : List FunctionTree) where
 
   pub undeclared : (known : Known) (y : Files names done known) (name : List ℕ) → is_declared known name ≡ false → entry_of y.scope name ≡ None
   undeclared known y name h = nothing_in (entry_of y.scope name) (ap (λ s. is_some (innermost_in s name)) (sym y.only) ∙ h)
+
+  -- a name more, which isn't that of a function
+  files_bound : (known : Known) (name : List ℕ) (x : Binding) → Files names done known → is_declared known name ≡ false → ((n : ℕ) → x ≡ FunctionName n → ⊥) → IsBound known x → IsNamed [] known x
+      → Files names done (record known { scopes = bound_in known.scopes name x })
+  files_bound known name x y new other bound named = record {
+    steady = rescoped [] known y.steady (bound_in known.scopes name x) (bound_holds (IsBound known) known.scopes name x bound ((y.steady).orderly).scopes) (bound_holds (IsNamed [] known) known.scopes name x named (y.steady).named);
+    idle = y.idle;
+    definitions = y.definitions;
+    scope = with_entry y.scope name x;
+    only = ap (λ s. bound_in s name x) y.only;
+    named = λ m n e. y.named m n (object_by (bytes_eq name m) x (entry_of y.scope m) n (other n) (sym (put_entry y.scope name m x) ∙ e));
+    signed = λ n s e. let r = y.signed n s e in (r.0, put_entry y.scope name r.0 x ∙ not_new y.scope name r.0 x n (undeclared known y name new) r.1);
+    made = λ i g e. let r = y.made i g e in (r.0, r.1, put_entry y.scope name g.name x ∙ not_new y.scope name g.name x r.0 (undeclared known y name new) r.2, r.3, r.4);
+    fitting = λ i g e p h. y.fitting i g e p (bound_before known (bound_in known.scopes name x) p h);
+  }
+
+  files_numbered : (known : Known) (es : List (List ℕ × ℤ)) → Files names done known → AreNew known.scopes es → Files names done (record known { scopes = with_enumerators known.scopes es })
+  files_numbered known es y new = enumerators_keep (λ s. Files names done (record known { scopes = s })) (λ s name n free h. files_bound (record known { scopes = s }) name (EnumeratorName n) h free (λ m e. absurd (cc e)) tt tt) es known.scopes new y
+
+  -- what leaves the scopes as they are
+  files_kept : (a b : Known) → Files names done a → Spreads None false a b → Orderly b → b.scopes ≡ a.scopes → Files names done b
+  files_kept a b y s o same = record {
+    steady = spread_steady [] a b y.steady s o;
+    idle = s.body ∙ y.idle;
+    definitions = s.definitions ∙ y.definitions;
+    scope = y.scope;
+    only = same ∙ y.only;
+    named = λ name n e. let r = y.named name n e in (r.0, ap (λ l. slice_get l n) s.signatures ∙ r.1, r.2);
+    signed = λ n x e. y.signed n x (ap (λ l. slice_get l n) (sym s.signatures) ∙ e);
+    made = λ i g e. let r = y.made i g e in (r.0, r.1, r.2, ap (λ l. slice_get l r.0) s.signatures ∙ r.3, r.4);
+    fitting = λ i g e p h. y.fitting i g e p (holds_back true [] a b (spread_moves [] a b s) p h);
+  }
+
+  -- the tables behind, with the scopes before
+  without_new : (a b : Known) → Spreads None false a b → Spreads None false a (record b { scopes = a.scopes })
+  without_new a b s = record {
+    grows = record { rows = (s.grows).rows; shapes = (s.grows).shapes; statics = (s.grows).statics };
+    spared = s.spared;
+    scopes = enumerated_none a.scopes a.scopes refl;
+    signatures = s.signatures;
+    definitions = s.definitions;
+    statics = s.statics;
+    body = s.body;
+  }
+
+  pub files_spread : (a b : Known) → Files names done a → Spreads None false a b → Orderly b → Files names done b
+  files_spread a b y s o = subst (λ z. Files names done (record b { scopes = z })) (sym (s.scopes).1)
+      (files_numbered (record b { scopes = a.scopes }) (s.scopes).0
+      (files_kept a (record b { scopes = a.scopes }) y (without_new a b s) (scoped_orderly b a.scopes b.lists o (scopes_grow a b s.grows (y.steady).orderly a.scopes ((y.steady).orderly).scopes)) refl) (s.scopes).2)
 
   -- a static object more
   files_static : (a b : Known) (name : List ℕ) → Files names done a → Moves true [] a b → Steady [] b → IsBoundAs a name b → is_declared a name ≡ false → Files names done b
@@ -164,7 +207,7 @@ module _ (names : List (List ℕ)) (done : List FunctionTree) where
       distinct = (y.orderly).distinct;
       shapes = λ n s h. shape_grows known _ g y.orderly s ((y.orderly).shapes n s h);
       scopes = scopes_grow known _ g y.orderly scopes bound;
-      tags = (y.orderly).tags;
+      tags = tags_grow known (record known { signatures = ss; scopes = scopes }) g known.tags (y.orderly).tags;
       results = λ n s h. let r = results n s h in (stands_grows known _ g y.orderly (s.result).ty r.0, all_more s.params (stands_grows known _ g y.orderly) r.1);
     };
     named = names_more [] known (record known { signatures = ss; scopes = scopes }) (λ n s h. h) (λ n v h. h) scopes named;
@@ -356,6 +399,16 @@ module _ (names : List (List ℕ)) (done : List FunctionTree) where
       no_other : (b : Bool) → (b || true) ≡ false → ⊥
       no_other true h = true≢false h
       no_other false h = true≢false h
+  found_turns (Some (TypeNamed q incomplete)) known y name result params bad defines e stands all h = absurd (no_other bad h)
+    where
+      no_other : (b : Bool) → (b || true) ≡ false → ⊥
+      no_other true h = true≢false h
+      no_other false h = true≢false h
+  found_turns (Some (EnumeratorName n)) known y name result params bad defines e stands all h = absurd (no_other bad h)
+    where
+      no_other : (b : Bool) → (b || true) ≡ false → ⊥
+      no_other true h = true≢false h
+      no_other false h = true≢false h
   found_turns (Some (FunctionName n)) known y name result params bad defines e stands all h =
       let r = y.named name n e in
       let same = not_false (is_same (signature_at known (Some n)) result params defines) (or_parts bad (not (is_same (signature_at known (Some n)) result params defines)) h).1 in
@@ -391,7 +444,7 @@ module _ (names : List (List ℕ)) (done : List FunctionTree) where
       by_tests false false k l line second known h = absurd (false≢true h)
 
   pub ruled_base : (before after : Known) (name : List ℕ) (result : Qualified) (params : List Ty) (defines : Bool) → Orderly before → IsRuled before name result params defines after → (q : Qualified) → IsBase before q → IsBase after q
-  ruled_base before after name result params defines o r q base = subst (λ k. IsBase k q) (sym r.is) (stands_grows before _ (signed_grows before r.signatures r.scopes) o q.ty base.0, base.1)
+  ruled_base before after name result params defines o r q base = subst (λ k. IsBase k q) (sym r.is) (stands_grows before _ (signed_grows before r.signatures r.scopes) o q.ty base)
 
   -- ---- declarators in the file
 
@@ -436,27 +489,61 @@ module _ (names : List (List ℕ)) (done : List FunctionTree) where
       by_test true why line second k h = tt
       by_test false why line second k h = h
 
-  declared_refused : (declared : Declared) (said : Specified) (o : Outline) (init : Option InitTree) (name : List ℕ) (line : ℕ) (known : Known) → (o.bad ≡ true) ⊎ ((o.incomplete ≡ true) × IsArrayDeclared declared) → Doomed o → IsRefused (file_declared declared said o init name line known)
-  declared_refused (FunctionDeclared result params) said o init name line known (inl bad) d = refused_on (function_rule name result params o.bad false line known) _ (function_refused known name result params o.bad false line bad)
-  declared_refused (FunctionDeclared result params) said o init name line known (inr h) d = absurd h.1
-  declared_refused (ObjectDeclared q) said o init name line known h d = object_file_refused said o init name line known d
+  declared_refused : (declared : Declared) (said : Specified) (o : Outline) (init : Option InitTree) (name : List ℕ) (line : ℕ) (known : Known) → Doomed o → IsRefused (file_declared declared said o init name line known)
+  declared_refused (FunctionDeclared result params scope) said o init name line known d = refused_on (function_rule name result params o.bad false line known) _ (function_refused known name result params o.bad false line d)
+  declared_refused (ObjectDeclared q) said o init name line known d = object_file_refused said o init name line known d
 
   declared_turns : (declared : Declared) (said : Specified) (o : Outline) (init : Option InitTree) (name : List ℕ) (line : ℕ) (known : Known) → o.declared ≡ declared → Files names done known → IsDeclared known declared → IsBase known said.ty → Turns (λ u k. Files names done k × IsBase k said.ty) (file_declared declared said o init name line known)
-  declared_turns (FunctionDeclared result params) said o init name line known is y h base = turns_on _ _ _ (λ u. no_value init line) (function_rule_turns known y name result params o.bad false line h.0 h.2)
+  declared_turns (FunctionDeclared result params scope) said o init name line known is y h base = turns_on _ _ _ (λ u. no_value init line) (function_rule_turns known y name result params o.bad false line h.0 (h.2).params)
       (λ u k r. always_refused init line k (subst (Files names done) (sym r.is) (r.function).files) said.ty (ruled_base known k name result (param_types params) false (y.steady).orderly r said.ty base))
   declared_turns (ObjectDeclared q) said o init name line known is y h base = object_turns said o init name line known y (subst (IsDeclared known) (sym is) h) base
 
+  -- ---- the names of types
+
+  type_refused : (said : Specified) (o : Outline) (begun : Bool) (name : List ℕ) (line : ℕ) (known : Known) → Doomed o → IsRefused (type_rule said o begun name line known)
+  type_refused said o begun name line known d = by_tests (is_declared known name) (o.bad || (is_function o.declared || (begun || said.interrupt))) kind.Again kind.Declare line _ known (or_left o.bad (is_function o.declared || (begun || said.interrupt)) d)
+    where
+      by_tests : {B : Type 0} (a b : Bool) (k l : Kind) (line : ℕ) (second : Known → Rule B) (known : Known) → b ≡ true → IsRefused (go_on second (tried ((a, k) ∷ (b, l) ∷ []) line known))
+      by_tests true b k l line second known h = tt
+      by_tests false true k l line second known h = tt
+      by_tests false false k l line second known h = absurd (false≢true h)
+
+  declared_type : (known : Known) (declared : Declared) → IsDeclared known declared → is_function declared ≡ false → Stands known (object_type declared).ty
+  declared_type known (ObjectDeclared q) h object = h
+  declared_type known (FunctionDeclared result params scope) h object = absurd (true≢false object)
+
+  type_turns : (said : Specified) (o : Outline) (begun : Bool) (name : List ℕ) (line : ℕ) (known : Known) → Files names done known → IsDeclared known o.declared → IsBase known said.ty → Turns (λ u k. Files names done k × IsBase k said.ty) (type_rule said o begun name line known)
+  type_turns said o begun name line known y h base =
+      turns_test _ known (is_declared known name) kind.Again ((o.bad || (is_function o.declared || (begun || said.interrupt)), kind.Declare) ∷ []) line (λ u. bind name (TypeNamed (object_type o.declared) o.incomplete)) (λ new.
+      turns_test _ known (o.bad || (is_function o.declared || (begun || said.interrupt))) kind.Declare [] line (λ u. bind name (TypeNamed (object_type o.declared) o.incomplete)) (λ e.
+      turns_given _ _ _ (
+        files_bound known name (TypeNamed (object_type o.declared) o.incomplete) y new (λ n e. absurd (cc e))
+            (declared_type known o.declared h (or_parts (is_function o.declared) (begun || said.interrupt) (or_parts o.bad (is_function o.declared || (begun || said.interrupt)) e).1).0) tt,
+        base_grows known _ (scoped_grows known (bound_in known.scopes name (TypeNamed (object_type o.declared) o.incomplete)) known.lists) (y.steady).orderly said.ty base,
+      )))
+
+  -- ---- declarators, whether of a typedef or not
+
+  as_refused : (t : Bool) (said : Specified) (o : Outline) (init : Option InitTree) (name : List ℕ) (line : ℕ) (known : Known) → Doomed o → IsRefused ((if t then type_rule said o (is_some init) name line else file_declared o.declared said o init name line) known)
+  as_refused true said o init name line known d = type_refused said o (is_some init) name line known d
+  as_refused false said o init name line known d = declared_refused o.declared said o init name line known d
+
+  as_turns : (t : Bool) (said : Specified) (o : Outline) (init : Option InitTree) (name : List ℕ) (line : ℕ) (known : Known) → Files names done known → IsDeclared known o.declared → IsBase known said.ty
+      → Turns (λ u k. Files names done k × IsBase k said.ty) ((if t then type_rule said o (is_some init) name line else file_declared o.declared said o init name line) known)
+  as_turns true said o init name line known y h base = type_turns said o (is_some init) name line known y h base
+  as_turns false said o init name line known y h base = declared_turns o.declared said o init name line known refl y h base
+
   declarator_turns : (b : BegunTree) (said : Specified) (known : Known) → Files names done known → IsBase known said.ty → Turns (λ u k. Files names done k × IsBase k said.ty) (file_declarator b said known)
   declarator_turns b said known y base = turns_fates (λ x k. IsDeclared k x.declared) _ known _ _ (outline_fates b.declarator said true known (y.steady).orderly base)
-      (λ o k d. declared_refused o.declared said o (init_in b.init) (name_in b.declarator) (line_in b.declarator) k d d)
-      (λ o k s ordered declared. declared_turns o.declared said o (init_in b.init) (name_in b.declarator) (line_in b.declarator) k refl (files_spread known k y s ordered) declared (base_grows known k s.grows (y.steady).orderly said.ty base))
+      (λ o k d. as_refused said.is_typedef said o (init_in b.init) (name_in b.declarator) (line_in b.declarator) k d)
+      (λ o k s ordered declared. as_turns said.is_typedef said o (init_in b.init) (name_in b.declarator) (line_in b.declarator) k (files_spread known k y s ordered) declared (base_grows known k s.grows (y.steady).orderly said.ty base))
 
   more_turns : (bs : List (ℕ × BegunTree)) (said : Specified) (known : Known) → Files names done known → IsBase known said.ty → Turns (λ u k. Files names done k) (more_in_file bs said known)
   more_turns [] said known y base = turns_given _ known known y
   more_turns (b ∷ bs) said known y base = turns_on _ _ _ (λ u. more_in_file bs said) (declarator_turns b.1 said known y base) (λ u k h. more_turns bs said k h.0 h.1)
 
   list_turns : (d : Option DeclaredTrees) (said : Specified) (known : Known) → Files names done known → IsBase known said.ty → Turns (λ u k. Files names done k) (declared_in_file d said known)
-  list_turns None said known y base = by_test said.interrupt
+  list_turns None said known y base = by_test (said.interrupt || said.is_typedef)
     where
       by_test : (t : Bool) → Turns (λ u k. Files names done k) (tried ((t, kind.Declare) ∷ []) said.line known)
       by_test true = turns_broken _ _

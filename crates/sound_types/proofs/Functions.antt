@@ -1,8 +1,8 @@
 -- Functions: their bodies fit, and what is known of the unit goes on behind them.
-use Rattle.std.proofs.Common.{◌≡◌, ℕ, zero, suc, ◌+◌, Bool, true, false, ◌&&◌, ◌||◌, List, [], ◌∷◌, ◌++◌, length, map, Some, Result, Ok, Err, ◌⊎◌, inl, inr, refl, sym, ap, ◌∙◌, subst, arith, true≢false}
+use Rattle.std.proofs.Common.{◌≡◌, ℕ, zero, suc, Bool, true, false, ◌&&◌, ◌||◌, List, [], ◌∷◌, ◌++◌, length, map, Some, Result, Ok, Err, ◌⊎◌, inl, inr, refl, sym, ap, ◌∙◌, subst}
 use Rattle.std.specs.Prelude.{slice_get}
 use Rattle.std.specs.List.{list_all}
-use Rattle.std.proofs.lemmas.Bool.{and_from, or_left, false≢true}
+use Rattle.std.proofs.lemmas.Bool.{and_from}
 use Rattle.std.proofs.lemmas.Option.{same_Some}
 use Rattle.c_tree.specs.Programs.{BlockTree}
 use Rattle.c_tree.specs.Trees.{SpecTrees, DeclaratorTree}
@@ -10,85 +10,50 @@ use Rattle.c_typed.specs.Sameness.{is_array, is_struct, is_scalar}
 use Rattle.c_typed.specs.Sound.{type_is_there, param_fits, local_fits, result_fits, statements_fit, function_fits}
 use Rattle.c_typed.specs.Trees as typed
 use Rattle.c_typed.specs.Trees.{StaticTree, VariableTree, FunctionTree, Program}
+use Rattle.c_typed.specs.declared.expression.Object.{Object}
 use Rattle.c_typed.specs.declared.expression.Object.TheVariants as object
 use Rattle.c_typed.specs.declared.types.Qualified.{Qualified}
-use Rattle.c_typed.specs.declared.types.Ty.{Ty}
-use Rattle.c_typed.specs.declared.types.Ty.TheVariants.{Void, Int, Pointer, Array, Struct}
 use Rattle.type_rules.specs.Declarations.{param_types, function_rule}
-use Rattle.type_rules.specs.Declarators.{in_file, name_in, line_in}
+use Rattle.type_rules.specs.Declarators.{in_file, outline_of, name_in, line_in}
 use Rattle.type_rules.specs.Faults as kind
 use Rattle.type_rules.specs.Faults.{Kind, Fault}
-use Rattle.type_rules.specs.Known.{Binding, ObjectName, BitName, FunctionName, Scope, Signature, Body, Known, no_body, tried, broken, go_on}
-use Rattle.type_rules.specs.Names.{bound_in, without_first, is_declared, entry_of, bind}
-use Rattle.type_rules.specs.Outlines.{Param, Declared, ObjectDeclared, FunctionDeclared, Outline, bind_param}
-use Rattle.type_rules.specs.Rows.{is_complete}
+use Rattle.type_rules.specs.Known.{Binding, ObjectName, BitName, FunctionName, TypeNamed, EnumeratorName, Scope, Signature, Body, Known, no_body, tried, broken, go_on}
+use Rattle.type_rules.specs.Names.{without_first, is_declared, entry_of}
+use Rattle.type_rules.specs.Outlines.{Param, Declared, ObjectDeclared, FunctionDeclared, Outline}
 use Rattle.type_rules.specs.Specifiers.{Specified}
 use Rattle.type_rules.specs.Statements.{body_statements}
-use Rattle.type_rules.specs.Units.{bind_params, variable_of, function_body, function_declared, function}
+use Rattle.type_rules.specs.Units.{variable_of, function_body, function_declared, function}
 use Rattle.sound_types.specs.Files.{Holds, Matches, Files, Turns}
-use Rattle.sound_types.specs.Living.{Lives, IsNamed, AreNamed, Steady, Moves, Steps}
-use Rattle.sound_types.specs.Spreading.{Grows, IsRefused, IsParam, IsDeclared, IsArrayDeclared}
-use Rattle.sound_types.specs.Tables.{Each, Stands, IsBase, IsBound, AreBound, type_in, Begins}
+use Rattle.sound_types.specs.Living.{Lives, IsNamedObject, IsNamed, AreNamed, Steady, Moves}
+use Rattle.sound_types.specs.Spreading.{Grows, IsRefused, IsParam, IsListedObject, IsListed, IsList, IsDeclared, Doomed}
+use Rattle.sound_types.specs.Tables.{Each, Stands, IsBase, IsBound, type_in, Begins}
 use Rattle.sound_types.proofs.Adding.{orderly_other}
 use Rattle.sound_types.proofs.Declarations.{refused_on}
 use Rattle.sound_types.proofs.Declarators.{specified_runs, outline_fates}
-use Rattle.sound_types.proofs.Files.{IsFunction, IsFresh, turns_on, turns_given, turns_broken, turns_runs, turns_fates, turns_steps, holds_back, files_spread, signed_grows, function_rule_turns, function_refused, local_itself}
+use Rattle.sound_types.proofs.Files.{IsFunction, IsFresh, turns_on, turns_given, turns_broken, turns_test, turns_runs, turns_fates, turns_steps, holds_back, files_spread, signed_grows, function_rule_turns, function_refused, local_itself}
 use Rattle.sound_types.proofs.Lists.{none_is, all_more, mapped_at, got_either}
-use Rattle.sound_types.proofs.Living.{static_grows, moves_on, steps_given, steps_on}
-use Rattle.sound_types.proofs.Outlines.{params_grow}
+use Rattle.sound_types.proofs.Living.{static_grows}
+use Rattle.sound_types.proofs.Outlines.{list_grows}
 use Rattle.sound_types.proofs.Programs.{all_at, stands_there, sized_fits, result_there, mapped_from}
-use Rattle.sound_types.proofs.Scopes.{bound_holds, bound_outside, inner_left}
+use Rattle.sound_types.proofs.Scopes.{inner_left}
 use Rattle.sound_types.proofs.Spreading.{stands_grows, scopes_grow}
-use Rattle.sound_types.proofs.Statements.{rescoped, rescoped_grows, lives_rescoped, body_steps}
+use Rattle.sound_types.proofs.Statements.{body_steps}
 
--- ---- parameters
+-- ---- names of parameters
 
-scalar_complete : (known : Known) (ty : Ty) → is_scalar ty ≡ true → is_complete known ty ≡ true
-scalar_complete known Void h = absurd (false≢true h)
-scalar_complete known (Int i) h = refl
-scalar_complete known (Pointer row) h = refl
-scalar_complete known (Array row n s) h = absurd (false≢true h)
-scalar_complete known (Struct n) h = absurd (false≢true h)
+-- What a list of parameters declares is known by its name.
+object_named : (ps : List Param) (known : Known) (object : Object) (q : Qualified) → IsListedObject ps object q → IsNamedObject (map variable_of ps) known object q
+object_named ps known (object.Param n) q h = (variable_of h.0, mapped_at variable_of ps n h.0 h.1, h.2)
+object_named ps known (object.Static n) q h = absurd h
+object_named ps known (object.Local n) q h = absurd h
+object_named ps known (object.Register n) q h = absurd h
 
-module _ (params : List VariableTree) where
-  -- a parameter's name is bound
-  bound_steps : (known : Known) → Steady params known → (name : List ℕ) (n : ℕ) (p : Param) → IsParam known p → slice_get params n ≡ Some (variable_of p) → Steps true params known (λ u k. Unit {0}) (bind name (ObjectName (object.Param n) p.ty p.fixed) known)
-  unfolding Steps
-  bound_steps known y name n p h there = record {
-    moves = record {
-      grows = rescoped_grows params known y (bound_in known.scopes name (ObjectName (object.Param n) p.ty p.fixed)) bound named;
-      lives = λ q f l. lives_rescoped params known (bound_in known.scopes name (ObjectName (object.Param n) p.ty p.fixed)) q f l;
-      statics = λ m s e. e;
-      scopes = bound_outside known.scopes name (ObjectName (object.Param n) p.ty p.fixed);
-      signatures = refl;
-      definitions = refl;
-      result = refl;
-    };
-    steady = rescoped params known y (bound_in known.scopes name (ObjectName (object.Param n) p.ty p.fixed)) bound named;
-    holds = tt;
-  }
-    where
-      bound : Each (AreBound known) (bound_in known.scopes name (ObjectName (object.Param n) p.ty p.fixed))
-      bound = bound_holds (IsBound known) known.scopes name (ObjectName (object.Param n) p.ty p.fixed)
-          (record { stands = h.0; whole = or_left (is_complete known (p.ty).ty) (is_array (p.ty).ty) (scalar_complete known (p.ty).ty h.1); register = λ e. absurd (true≢false e); static = λ m e. absurd (none_is e) }) ((y.orderly).scopes)
-
-      named : Each (AreNamed params known) (bound_in known.scopes name (ObjectName (object.Param n) p.ty p.fixed))
-      named = bound_holds (IsNamed params known) known.scopes name (ObjectName (object.Param n) p.ty p.fixed) (variable_of p, there, refl) y.named
-
-  param_steps : (known : Known) → Steady params known → (name : List ℕ) (n : ℕ) (p : Param) → IsParam known p → slice_get params n ≡ Some (variable_of p) → Steps true params known (λ u k. Unit {0}) (bind_param name n p.ty p.fixed known)
-  param_steps known y [] n p h there = steps_given params true _ known known y tt
-  param_steps known y (b ∷ bs) n p h there = bound_steps known y (b ∷ bs) n p h there
-
-  params_steps : (ps : List Param) (n : ℕ) (known : Known) → Steady params known → Each (IsParam known) ps → ((m : ℕ) (p : Param) → slice_get ps m ≡ Some p → slice_get params (n + m) ≡ Some (variable_of p)) → Steps true params known (λ u k. Unit {0}) (bind_params ps n known)
-  params_steps [] n known y all at_place = steps_given params true _ known known y tt
-  params_steps (p ∷ ps) n known y all at_place = steps_on params true (λ u k. Unit {0}) _ known _ (λ u. bind_params ps (suc n)) (param_steps known y p.name n p all.0 (ap (slice_get params) (first n) ∙ at_place 0 p refl))
-      (λ u mid m y2 h. params_steps ps (suc n) mid y2 (params_grow known mid m.grows y.orderly ps all.1) (λ k q e. ap (slice_get params) (next n k) ∙ at_place (suc k) q e))
-    where
-      first : (n : ℕ) → n ≡ n + 0
-      first n = omega arith
-
-      next : (n k : ℕ) → suc n + k ≡ n + suc k
-      next n k = omega arith
+listed_named : (ps : List Param) (known : Known) (b : Binding) → IsListed ps b → IsNamed (map variable_of ps) known b
+listed_named ps known (ObjectName object q fixed) h = object_named ps known object q h
+listed_named ps known (EnumeratorName n) h = tt
+listed_named ps known (BitName r n) h = absurd h
+listed_named ps known (FunctionName n) h = absurd h
+listed_named ps known (TypeNamed q incomplete) h = absurd h
 
 -- ---- names of the file in a function
 
@@ -99,6 +64,8 @@ file_named params a b idle statics (ObjectName (object.Local n) q fixed) h = abs
 file_named params a b idle statics (ObjectName (object.Register n) q fixed) h = h
 file_named params a b idle statics (BitName r n) h = h
 file_named params a b idle statics (FunctionName n) h = h
+file_named params a b idle statics (TypeNamed q incomplete) h = h
+file_named params a b idle statics (EnumeratorName n) h = h
 
 files_named : (params : List VariableTree) (a b : Known) → a.body ≡ no_body → ((n : ℕ) (s : StaticTree) → slice_get a.statics n ≡ Some s → slice_get b.statics n ≡ Some s) → (scopes : List Scope) → Each (AreNamed [] a) scopes → Each (AreNamed params b) scopes
 files_named params a b idle statics scopes h = all_more scopes (λ scope all. all_more scope (λ e. file_named params a b idle statics e.1) all) h
@@ -109,22 +76,22 @@ types_of (p ∷ ps) = ap (λ l. (p.ty).ty ∷ l) (types_of ps)
 
 -- ---- a function's body
 
-module _ (names : List (List ℕ)) (done : List FunctionTree) (k : Known) (name : List ℕ) (result : Qualified) (ps : List Param) (n : ℕ) (s : Signature) (said : Specified)
-    (f : IsFunction names done k name result (param_types ps) n s) (defined : s.defined ≡ true) (all : Each (IsParam k) ps) (stands : Stands k result.ty) (other : (is_array result.ty || is_struct result.ty) ≡ false) where
+module _ (names : List (List ℕ)) (done : List FunctionTree) (k : Known) (name : List ℕ) (result : Qualified) (ps : List Param) (scope : Scope) (n : ℕ) (s : Signature) (said : Specified)
+    (f : IsFunction names done k name result (param_types ps) n s) (defined : s.defined ≡ true) (list : IsList k ps scope) (stands : Stands k result.ty) (other : (is_array result.ty || is_struct result.ty) ≡ false) where
   abbrev variables : List VariableTree
   variables = map variable_of ps
 
   -- the tables as the body begins
   abbrev inside : Known
-  inside = record k { body = record { name = name; result = result.ty; locals = []; declarators = 0 }; scopes = [] ∷ k.scopes }
+  inside = record k { body = record { name = name; result = result.ty; locals = []; declarators = 0 }; scopes = scope ∷ k.scopes }
 
   inside_grows : Grows k inside
   inside_grows = record { rows = λ row q h. h; shapes = λ m x h. (x, h, λ e. refl); statics = λ m x h. (x, h, refl) }
 
   inside_steady : Steady variables inside
   inside_steady = record {
-    orderly = orderly_other k inside inside_grows ((f.files).steady).orderly refl refl refl refl (tt, scopes_grow k inside inside_grows ((f.files).steady).orderly k.scopes (((f.files).steady).orderly).scopes);
-    named = (tt, files_named variables k inside (f.files).idle (λ m x h. h) k.scopes ((f.files).steady).named);
+    orderly = orderly_other k inside inside_grows ((f.files).steady).orderly refl refl refl refl (scopes_grow k inside inside_grows ((f.files).steady).orderly (scope ∷ k.scopes) (list.bound, (((f.files).steady).orderly).scopes));
+    named = (all_more scope (λ e. listed_named ps inside e.1) list.listed, files_named variables k inside (f.files).idle (λ m x h. h) k.scopes ((f.files).steady).named);
     statics = λ m x h. static_grows k inside inside_grows ((f.files).steady).orderly x (((f.files).steady).statics m x h);
     locals = λ m x h. absurd (none_is h);
     result = stands_grows k inside inside_grows ((f.files).steady).orderly result.ty stands;
@@ -160,7 +127,7 @@ module _ (names : List (List ℕ)) (done : List FunctionTree) (k : Known) (name 
         let o = ((f.files).steady).orderly in
         and_from (result_fits p result.ty) (list_all (param_fits p) variables && (list_all (local_fits p) (last.body).locals && statements_fit p made true false false body)) (result_there k o p before result.ty stands other)
         (and_from (list_all (param_fits p) variables) (list_all (local_fits p) (last.body).locals && statements_fit p made true false false body)
-        (all_at (param_fits p) variables (λ i v e. let x = mapped_from variable_of ps i v e in subst (λ (z : VariableTree). param_fits p z ≡ true) x.2 (param_there p before x.0 (each_at ps i x.0 x.1 all))))
+        (all_at (param_fits p) variables (λ i v e. let x = mapped_from variable_of ps i v e in subst (λ (z : VariableTree). param_fits p z ≡ true) x.2 (param_there p before x.0 (each_at ps i x.0 x.1 list.params))))
         (and_from (list_all (local_fits p) (last.body).locals) (statements_fit p made true false false body)
         (all_at (local_fits p) (last.body).locals (λ i v e. sized_fits last y.orderly p b (v.ty).ty (y.locals i v e)))
         (fitting p made (made_lives p h))))
@@ -205,15 +172,10 @@ module _ (names : List (List ℕ)) (done : List FunctionTree) (k : Known) (name 
         fitting_at i g (inr e) p h = subst (λ z. function_fits p z ≡ true) e.1 (made_fits p h)
 
   -- What a function's body makes.
-  body_turns : (b : BlockTree) → Turns (λ g z. Files names (done ++ g ∷ []) z × (g.name ≡ name)) (function_body b said name result.ty ps k)
-  body_turns b = turns_steps true variables (λ u z. Unit {0}) _ inside (bind_params ps 0 inside) (λ u. λ z. go_on (λ ss. λ w. Ok (ended ss w)) (body_statements b z)) (params_steps variables ps 0 inside inside_steady (params_grow k inside inside_grows ((f.files).steady).orderly ps all)
-      (λ i p e. ap (slice_get variables) (start i) ∙ mapped_at variable_of ps i p e))
-      (λ u z m1 y1 t. turns_steps true variables (λ ss w. (p : Program) (g : FunctionTree) → Lives variables w p g → statements_fit p g true false false ss ≡ true) _ z (body_statements b z) (λ ss. λ w. Ok (ended ss w)) (body_steps variables b z y1)
-      (λ ss w m2 y2 fitting. turns_given _ _ _ (body_files w ss (moves_on variables true inside z w m1 m2) y2 fitting, refl)))
+  body_turns : (b : BlockTree) → Turns (λ g z. Files names (done ++ g ∷ []) z × (g.name ≡ name)) (function_body b said name result.ty ps scope k)
+  body_turns b = turns_steps true variables (λ ss w. (p : Program) (g : FunctionTree) → Lives variables w p g → statements_fit p g true false false ss ≡ true) _ inside (body_statements b inside) (λ ss. λ w. Ok (ended ss w)) (body_steps variables b inside inside_steady)
+      (λ ss w m y fitting. turns_given _ _ _ (body_files w ss m y fitting, refl))
     where
-      start : (i : ℕ) → 0 + i ≡ i
-      start i = omega arith
-
       ended : typed.Statements → Known → FunctionTree × Known
       ended ss w = (record { name = name; result = result.ty; params = map variable_of ps; locals = (w.body).locals; body = ss; interrupt = said.interrupt; line = said.line }, record w { scopes = without_first w.scopes; body = no_body })
 
@@ -236,19 +198,19 @@ module _ (names : List (List ℕ)) (done : List FunctionTree) where
   declared_turns : (declared : Declared) (b : BlockTree) (said : Specified) (o : Outline) (name : List ℕ) (line : ℕ) (known : Known) → Files names done known → IsDeclared known declared
       → Turns (λ g z. Files names (done ++ g ∷ []) z × (g.name ≡ name) × IsFresh names done name) (function_declared declared b said o name line known)
   declared_turns (ObjectDeclared q) b said o name line known y h = never _ (is_declared known name) kind.Again line known
-  declared_turns (FunctionDeclared result ps) b said o name line known y h = turns_on _ _ _ (λ u. function_body b said name result.ty ps) (function_rule_turns names done known y name result ps o.bad true line h.0 h.2)
-      (λ u k r. subst (λ z. Turns (λ g w. Files names (done ++ g ∷ []) w × (g.name ≡ name) × IsFresh names done name) (function_body b said name result.ty ps z)) (sym r.is)
-      (turns_with name _ (r.fresh refl) (body_turns names done _ name result ps r.n r.signature said r.function (r.defined refl)
-      (params_grow known _ (signed_grows names done known r.signatures r.scopes) (y.steady).orderly ps h.2) (stands_grows known _ (signed_grows names done known r.signatures r.scopes) (y.steady).orderly result.ty h.0) h.1 b)))
+  declared_turns (FunctionDeclared result ps scope) b said o name line known y h = turns_on _ _ _ (λ u. function_body b said name result.ty ps scope) (function_rule_turns names done known y name result ps o.bad true line h.0 (h.2).params)
+      (λ u k r. subst (λ z. Turns (λ g w. Files names (done ++ g ∷ []) w × (g.name ≡ name) × IsFresh names done name) (function_body b said name result.ty ps scope z)) (sym r.is)
+      (turns_with name _ (r.fresh refl) (body_turns names done _ name result ps scope r.n r.signature said r.function (r.defined refl)
+      (list_grows known _ (signed_grows names done known r.signatures r.scopes) (y.steady).orderly ps scope h.2) (stands_grows known _ (signed_grows names done known r.signatures r.scopes) (y.steady).orderly result.ty h.0) h.1 b)))
 
-  refused : (declared : Declared) (b : BlockTree) (said : Specified) (o : Outline) (name : List ℕ) (line : ℕ) (known : Known) → (o.bad ≡ true) ⊎ ((o.incomplete ≡ true) × IsArrayDeclared declared) → IsRefused (function_declared declared b said o name line known)
+  refused : (declared : Declared) (b : BlockTree) (said : Specified) (o : Outline) (name : List ℕ) (line : ℕ) (known : Known) → Doomed o → IsRefused (function_declared declared b said o name line known)
   refused (ObjectDeclared q) b said o name line known d = never_refused FunctionTree (is_declared known name) kind.Again line known
-  refused (FunctionDeclared result ps) b said o name line known (inl bad) = refused_on (function_rule name result ps o.bad true line known) _ (function_refused names done known name result ps o.bad true line bad)
-  refused (FunctionDeclared result ps) b said o name line known (inr h) = absurd h.1
+  refused (FunctionDeclared result ps scope) b said o name line known d = refused_on (function_rule name result ps o.bad true line known) _ (function_refused names done known name result ps o.bad true line d)
 
   -- A function that a unit defines.
   pub function_turns : (s : SpecTrees) (d : DeclaratorTree) (b : BlockTree) (known : Known) → Files names done known → Turns (λ g z. Files names (done ++ g ∷ []) z × (g.name ≡ name_in d) × IsFresh names done (name_in d)) (function s d b known)
   function_turns s d b known y = turns_runs (λ x k. IsBase k x.ty) _ known _ _ (specified_runs s in_file known (y.steady).orderly)
-      (λ said k spread ordered base. turns_fates (λ x z. IsDeclared z x.declared) _ k _ _ (outline_fates d said true k ordered base)
+      (λ said k spread ordered base. turns_test _ k said.is_typedef kind.Declare [] said.line (λ u. λ z. go_on (λ o. function_declared o.declared b said o (name_in d) (line_in d)) (outline_of d said true z)) (λ plain.
+      turns_fates (λ x z. IsDeclared z x.declared) _ k _ _ (outline_fates d said true k ordered base)
       (λ o z doomed. refused o.declared b said o (name_in d) (line_in d) z doomed)
-      (λ o z spread2 ordered2 declared. declared_turns o.declared b said o (name_in d) (line_in d) z (files_spread names done k z (files_spread names done known k y spread ordered) spread2 ordered2) declared))
+      (λ o z spread2 ordered2 declared. declared_turns o.declared b said o (name_in d) (line_in d) z (files_spread names done k z (files_spread names done known k y spread ordered) spread2 ordered2) declared)))

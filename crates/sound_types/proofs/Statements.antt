@@ -49,11 +49,9 @@ use Rattle.sound_types.proofs.Operators.{not_false}
 use Rattle.sound_types.proofs.Same.{same_int_refl, promoted_again}
 use Rattle.sound_types.proofs.Spreading.{stands_grows, scopes_grow}
 use Rattle.sound_types.proofs.Standings.{fits_alone}
-use Rattle.sound_types.proofs.Steps.{goes_on}
 use Rattle.type_rules.specs.Expressions.{value_of}
 use Rattle.sound_types.proofs.Scopes.{inner_left}
 use Rattle.sound_types.specs.Meets.{Meets}
-use Rattle.c_typed.specs.Folding.{folded}
 use Rattle.std.specs.Prelude.{ℤ}
 
 -- ---- what fits in each program that goes on from here

@@ -6,7 +6,7 @@ use Rattle.c_typed.specs.declared.expression.Object.{Object}
 use Rattle.c_typed.specs.declared.expression.Object.TheVariants as object
 use Rattle.c_typed.specs.declared.types.Qualified.{Qualified}
 use Rattle.type_rules.specs.Faults.{Fault}
-use Rattle.type_rules.specs.Known.{Binding, ObjectName, BitName, FunctionName, TypeNamed, EnumeratorName, Scope, Field, Shape, Open, Known}
+use Rattle.type_rules.specs.Known.{Binding, ObjectName, EnumeratorName, Scope, Field, Shape, Open, Known}
 use Rattle.type_rules.specs.Names.{innermost_in, bound_in, without_first, first_scope}
 use Rattle.type_rules.specs.Outlines.{Param, Made, ArrayMade, FunctionMade, Declared, ObjectDeclared, FunctionDeclared, Outline}
 use Rattle.type_rules.specs.Rows.{is_closed, is_absent}
