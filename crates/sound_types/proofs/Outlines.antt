@@ -102,8 +102,8 @@ array_fates count o (ObjectDeclared element) known ordered own h = by_test (is_c
     by_test : (c : Bool) → is_complete known element.ty ≡ c → Fates known Doomed (λ x k. IsDeclared k x.declared) (array_or_part c count o element known)
     by_test false e = fates_given _ _ known _ (inr (ordered, own))
     by_test true e = fates_after _ _ _ known _ (λ ty. given (record o { declared = ObjectDeclared ty; bad = o.bad || is_void element.ty }))
-        (from_goes (λ q k. (is_array q.ty ≡ true) × (q.constant ≡ element.constant) × (q.volatile ≡ element.volatile) × (is_complete k element.ty ≡ true → Stands k q.ty)) known _ (array_goes known known.targets ordered element count h))
-        (λ q mid s o2 facts. fates_given _ _ mid _ (inr (o2, facts.3 (complete_grows known mid s.grows element.ty h e).0)))
+        (from_goes (λ q k. is_complete k element.ty ≡ true → Stands k q.ty) known _ (array_goes known known.targets ordered element count h))
+        (λ q mid s o2 stands. fates_given _ _ mid _ (inr (o2, stands (complete_grows known mid s.grows element.ty h e).0)))
 array_fates count o (FunctionDeclared result params scope) known ordered own h = fates_given _ _ known _ (inl refl)
 
 function_declared : (params : List Param) (scope : Scope) (o : Outline) (declared : Declared) (known : Known) → Orderly known → IsDeclared known declared → IsList known params scope

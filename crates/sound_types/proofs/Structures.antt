@@ -5,7 +5,6 @@ use Rattle.std.specs.Str.{bytes_eq}
 use Rattle.std.proofs.lemmas.Bool.{false≢true}
 use Rattle.c_ints.specs.declared.types.IntTy.{IntTy}
 use Rattle.c_ints.specs.declared.types.IntTy.TheVariants as int
-use Rattle.c_typed.specs.Sameness.{is_array}
 use Rattle.c_typed.specs.Sound.{kept}
 use Rattle.c_typed.specs.declared.types.Qualified.{Qualified}
 use Rattle.c_typed.specs.declared.types.Ty.{Ty}
@@ -69,14 +68,10 @@ some_bytes known o (Struct number) stands h =
 -- An array of what is complete stands.
 module _ (known : Known) (ts : List Qualified) (o : Orderly (at known ts)) where
   pub array_goes : (element : Qualified) (count : ℕ) → Stands (at known ts) element.ty
-      → Goes known ts (λ us q. (is_array q.ty ≡ true) × (q.constant ≡ element.constant) × (q.volatile ≡ element.volatile) × (is_complete (at known us) element.ty ≡ true → Stands (at known us) q.ty)) (array_of element count (at known ts))
+      → Goes known ts (λ us q. is_complete (at known us) element.ty ≡ true → Stands (at known us) q.ty) (array_of element count (at known ts))
   array_goes element count stands = goes_on known _ _ ts _ (λ row. given (like element (Array row count (kept (count * bytes_of (at known ts) element.ty))))) (row_goes known ts (plain element.ty) o stands)
-      (λ row us adds ordered there. goes_given known _ _ us ordered (
-        refl,
-        refl,
-        refl,
-        (λ complete. (plain element.ty, there, record { constant = refl; volatile = refl; stands = complete; some = some_bytes (at known us) ordered element.ty (stands_more known ts us adds element.ty stands) complete; whole = refl })),
-      ))
+      (λ row us adds ordered there. goes_given known _ _ us ordered
+      (λ complete. (plain element.ty, there, record { constant = refl; volatile = refl; stands = complete; some = some_bytes (at known us) ordered element.ty (stands_more known ts us adds element.ty stands) complete; whole = refl })))
 
   -- the array itself
   pub array_exact : (element : Qualified) (count : ℕ) → Stands (at known ts) element.ty
