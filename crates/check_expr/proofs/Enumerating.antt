@@ -1,22 +1,85 @@
--- Enumerations: their enumerators from the front of the list, and the tag.
-use Rattle.std.proofs.Common.{◌≡◌, ℕ, ◌+◌, ◌<◌, ◌≤◌, ℤ, pos, Unit, Bool, List, [], ◌∷◌, drop, length, map, Option, Result, Ok, Err, refl, sym, ap, subst, ◌∙◌}
+-- Enumerations: an enumerator, the enumerators from the front of the list, and the tag.
+use Rattle.std.proofs.Common.{◌≡◌, ℕ, ◌+◌, ◌<◌, ◌≤◌, ℤ, pos, ◌+ℤ◌, Unit, Bool, true, false, not, List, [], ◌∷◌, drop, length, map, Option, Result, Ok, Err, refl, sym, ap, subst, ◌∙◌}
+use Rattle.std.proofs.lemmas.Bool.{true≢false}
 use Rattle.std.proofs.Math.ListN.{get_or}
+use Rattle.c_ints.specs.Quantity.{Quantity}
 use Rattle.c_tree.specs.Lists.{more_enumerators}
 use Rattle.c_tree.specs.Trees as tree
-use Rattle.c_tree.specs.Trees.{SpecTree, EnumeratorTree}
+use Rattle.c_tree.specs.Trees.{Tree, SpecTree, EnumeratorTree}
 use Rattle.c_tree.specs.Views.{next_enumerator_of}
-use Rattle.c_tree.specs.Words.{Symbols}
+use Rattle.c_tree.specs.Words.{Symbol, Symbols}
 use Rattle.c_tree.specs.declared.expression.NextEnumerator.{NextEnumerator}
 use Rattle.c_operate.specs.Answers.{Refuses, Learns}
 use Rattle.c_operate.specs.declared.error.CheckError.{CheckError}
+use Rattle.c_operate.specs.declared.error.CheckError.TheVariants as errors
+use Rattle.type_rules.specs.Constants.{constant_value}
 use Rattle.type_rules.specs.Declarators.{Context, enum_opened, enum_closed}
 use Rattle.type_rules.specs.Enumerators as rule
+use Rattle.type_rules.specs.Faults as kind
 use Rattle.type_rules.specs.Faults.{Fault}
-use Rattle.type_rules.specs.Known.{Known, Rule, go_on}
+use Rattle.type_rules.specs.Known.{EnumeratorName, Known, Rule, given, tried, go_on}
+use Rattle.type_rules.specs.Names.{is_declared, bind, tests_of_new}
 use Rattle.type_rules.specs.Specifiers.{InFile}
 use Rattle.check_expr.specs.Lists.{enum_rule}
 use Rattle.check_expr.proofs.Declaring.{at_front, at_end}
 use Rattle.check_expr.proofs.Outlining.{refused_through}
+
+-- ---- the number of an enumerator
+
+-- whether a rule is met
+is_met : {A : Type 0} → Result (A × Known) Fault → Bool
+is_met (Ok x) = true
+is_met (Err fault) = false
+
+-- both rules of the name where the first is broken, and where it is met
+first_broken : (b c : Bool) (line : ℕ) (k : Known) (e : CheckError) → Refuses e (tried ((b, kind.Again) ∷ []) line k) → Refuses e (tried ((b, kind.Again) ∷ (c, kind.Constant) ∷ []) line k)
+unfolding is_met
+first_broken true c line k e h = h
+first_broken false c line k errors.NoMemory h = tt
+first_broken false c line k (errors.Kind kind at) h = absurd (true≢false (ap is_met h))
+
+first_met : (b c : Bool) (line : ℕ) (k after : Known) → tried ((b, kind.Again) ∷ []) line k ≡ Ok (after, after) → tried ((b, kind.Again) ∷ (c, kind.Constant) ∷ []) line k ≡ tried ((c, kind.Constant) ∷ []) line k
+unfolding is_met
+first_met true c line k after h = absurd (true≢false (sym (ap is_met h)))
+first_met false c line k after h = refl
+
+too_wide : (c : Bool) (line : ℕ) (k : Known) → c ≡ false → tried ((not c, kind.Constant) ∷ []) line k ≡ Err (record { kind = kind.Constant; line = line })
+too_wide c line k e = rw e refl
+
+fits : (c : Bool) (line : ℕ) (k : Known) → c ≡ true → tried ((not c, kind.Constant) ∷ []) line k ≡ Ok (k, k)
+fits c line k e = rw e refl
+
+abbrev after_bound : ℤ → Known → Rule ℤ
+after_bound n x = given (n +ℤ pos 1)
+
+abbrev after_tests : Symbol → ℤ → Known → Rule ℤ
+after_tests name n x k = go_on (after_bound n) (bind name.bytes (EnumeratorName n) k)
+
+pub number_again : (name : Symbol) (n : ℤ) (k : Known) (e : CheckError) → Refuses e (tests_of_new k name.bytes name.line k) → Refuses e (rule.numbered name n k)
+number_again name n k e h = refused_through e (after_tests name n) (tried (rule.enumerator_tests k name n) name.line k) (first_broken (is_declared k name.bytes) (not (rule.is_int n)) name.line k e h)
+
+pub number_wide : (name : Symbol) (n : ℤ) (k after : Known) → tests_of_new k name.bytes name.line k ≡ Ok (after, after) → rule.is_int n ≡ false → rule.numbered name n k ≡ Err (record { kind = kind.Constant; line = name.line })
+number_wide name n k after h i = ap (go_on (after_tests name n)) (first_met (is_declared k name.bytes) (not (rule.is_int n)) name.line k after h ∙ too_wide (rule.is_int n) name.line k i)
+
+tests_met : (name : Symbol) (n : ℤ) (k after : Known) → tests_of_new k name.bytes name.line k ≡ Ok (after, after) → rule.is_int n ≡ true → rule.numbered name n k ≡ after_tests name n k k
+tests_met name n k after h i = ap (go_on (after_tests name n)) (first_met (is_declared k name.bytes) (not (rule.is_int n)) name.line k after h ∙ fits (rule.is_int n) name.line k i)
+
+pub number_unbound : (name : Symbol) (n : ℤ) (k after : Known) (e : CheckError) → tests_of_new k name.bytes name.line k ≡ Ok (after, after) → rule.is_int n ≡ true → Refuses e (bind name.bytes (EnumeratorName n) k) → Refuses e (rule.numbered name n k)
+number_unbound name n k after e h i b = subst (Refuses e) (sym (tests_met name n k after h i)) (refused_through e (after_bound n) (bind name.bytes (EnumeratorName n) k) b)
+
+pub number_given : (name : Symbol) (n : ℤ) (k after bound : Known) → tests_of_new k name.bytes name.line k ≡ Ok (after, after) → rule.is_int n ≡ true → bind name.bytes (EnumeratorName n) k ≡ Ok (bound, bound) → rule.numbered name n k ≡ Ok (n +ℤ pos 1, bound)
+number_given name n k after bound h i b = tests_met name n k after h i ∙ ap (go_on (after_bound n)) b
+
+-- ---- an enumerator with a value
+
+abbrev with_number : Symbol → Quantity → Rule ℤ
+with_number name v = rule.numbered name v.number
+
+pub valued_refused : (name : Symbol) (equals : ℕ) (e : Tree) (next : ℤ) (k : Known) (error : CheckError) → Refuses error (constant_value e k) → Refuses error (rule.enumerator (tree.Valued name equals e) next k)
+valued_refused name equals e next k error h = refused_through error (with_number name) (constant_value e k) h
+
+pub valued_given : (name : Symbol) (equals : ℕ) (e : Tree) (next : ℤ) (v : Quantity) (k after : Known) → constant_value e k ≡ Ok (v, after) → rule.enumerator (tree.Valued name equals e) next k ≡ rule.numbered name v.number after
+valued_given name equals e next v k after h = ap (go_on (with_number name)) h
 
 -- ---- the enumerators behind the first
 

@@ -316,7 +316,7 @@ ends_badly site g line known w f named e i h b = rw (← base_by g.words g.bases
 
 -- What they say where they may.
 pub ends_well : (site : Site) (g : Gathered) (line : ℕ) (known : Known) (w : Words) (f : Bool) (named : rule.Named) → w ≡ kept_of g → f ≡ in_file known → base_type w w.base ≡ Some named → w.bad || (not (gathering.qualifies_once w named.ty) || not (fits w site f)) ≡ false → specifiers (site_of site) g line known ≡ Ok (specified_of (record { ty = record { ty = named.ty.ty; constant = w.constant || named.ty.constant; volatile = w.volatile || named.ty.volatile }; incomplete = named.incomplete; storage = w.storage; interrupt = w.interrupt; line = line }), known)
-ends_well site g line known w f named e i h b = rw (← base_by g.words g.bases, by_kept, stands site g (qualifies_once g.words named.ty) known, by_test, e, words_on.0, words_on.1.0, words_on.1.1) refl where
+ends_well site g line known w f named e i h b = rw (← base_by g.words g.bases, by_kept, stands site g (qualifies_once g.words named.ty) known, by_test, e, words_on.0, words_on.1, words_on.2) refl where
   by_kept : base_type (kept_of g) (first_of g.bases) ≡ Some named
   by_kept = rw e at h
 

@@ -12,7 +12,7 @@ use Rattle.c_tree.specs.declared.word.Word.{Word}
 use Rattle.c_typed.specs.Sameness.{is_void, is_struct}
 use Rattle.c_typed.specs.declared.types.Qualified.{Qualified}
 use Rattle.c_typed.specs.declared.types.Ty.{Ty}
-use Rattle.c_typed.specs.declared.types.Ty.TheVariants.{Void, Int, Pointer, Array, Struct}
+use Rattle.c_typed.specs.declared.types.Ty.TheVariants as types
 use Rattle.c_operate.specs.Answers.{Refuses, fault_of}
 use Rattle.c_operate.specs.declared.error.CheckError.{CheckError}
 use Rattle.c_operate.specs.declared.error.CheckError.TheVariants as errors
@@ -104,11 +104,11 @@ by_array o (Some array) known = go_on (λ (made : Ty). given (record o { declare
 pub started_by : (o : Outline) (d : Declared) (known : Known) → array_started o d known ≡ by_array o (array_of_declared d) known
 started_by o (ObjectDeclared ty) known = by_type ty.ty where
   by_type : (t : Ty) → started o ty t known ≡ by_array o (array_of_type t ty) known
-  by_type Void = refl
-  by_type (Int i) = refl
-  by_type (Pointer row) = refl
-  by_type (Array row count size) = refl
-  by_type (Struct number) = refl
+  by_type types.Void = refl
+  by_type (types.Int i) = refl
+  by_type (types.Pointer row) = refl
+  by_type (types.Array row count size) = refl
+  by_type (types.Struct number) = refl
 started_by o (FunctionDeclared result params scope) known = refl
 
 pub started_made : (o : Outline) (whole : Qualified) (row : ℕ) (ty : Ty) (known after : Known) → pointer_to (like whole (target_of known row).ty) known ≡ Ok (ty, after) → by_array o (Some (whole, row)) known ≡ Ok (record o { declared = ObjectDeclared (plain ty) }, after)

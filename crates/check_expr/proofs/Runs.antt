@@ -2,7 +2,7 @@
 use Rattle.std.proofs.Common.{◌≡◌, List, [], Result, Ok, Err, refl, sym, ap, ◌∙◌}
 use Rattle.type_rules.specs.Faults.{Fault}
 use Rattle.type_rules.specs.Known.{Known, Rule, given, go_on, ◌>>=◌}
-use Rattle.type_rules.specs.Terms.{Term, Operand, Form, ValueForm, PlaceForm, FunctionForm, used, indexed, value_in}
+use Rattle.type_rules.specs.Terms.{Term, Operand, Form, ValueForm, PlaceForm, FunctionForm, TypeForm, used, indexed, value_in}
 use Rattle.check_expr.specs.Folds.{bare}
 use Rattle.check_expr.specs.Views.{unlisted}
 
@@ -45,6 +45,7 @@ value_bare : (form : Form) (t : Term) (k : Known) → value_in (bare t) form k �
 value_bare (ValueForm value) t k = refl
 value_bare (PlaceForm place reach) t k = refl
 value_bare (FunctionForm number b) t k = refl
+value_bare TypeForm t k = refl
 
 pub used_bare : (t : Term) (k : Known) → used (bare t) k ≡ used t k
 used_bare t k = same_behind _ _ (λ _ k. value_bare t.form t k) _

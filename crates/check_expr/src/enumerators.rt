@@ -84,14 +84,25 @@ fn enumerators(
     Ok(next)
 }
 
+// Whether the tag of an enumeration is declared.
+fn is_tagged(tag: &Option<Name>, types: &Types) -> bool
+    ensures { (known : Known) → result ≡ declarators.is_tagged (types_in types.now known) (spell_tag tag.now) }
+{
+    let Some(tag) = tag else {
+        return false;
+    };
+    match types.tagged(&tag.bytes) {
+        Some(_) => true,
+        None => false,
+    }
+}
+
 // The tag of an enumeration isn't declared before its body, which stands where bodies may stand.
 fn refuse_body(tag: &Option<Name>, types: &Types, bodies: bool, line: u32) -> Result<(), CheckError>
     ensures { (known : Known) → Learns result (types_in types.now known) (declarators.enum_opened (record { site = InFile; bodies = bodies }) (spell_tag tag.now) line (types_in types.now known)) }
 {
-    if let Some(tag) = tag {
-        if types.tagged(&tag.bytes).is_some() {
-            return refused(Kind::Again, line);
-        }
+    if is_tagged(tag, types) {
+        return refused(Kind::Again, line);
     }
     if bodies {
         Ok(())

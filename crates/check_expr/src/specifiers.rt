@@ -339,6 +339,17 @@ impl Words {
         !(self.constant && ty.constant) && !(self.volatile && ty.volatile)
     }
 
+    // The type with the qualifiers that stand beside it.
+    fn qualified(&self, ty: Qualified) -> Qualified
+        ensures { result ≡ record { ty = ty.ty; constant = self.now.constant || ty.constant; volatile = self.now.volatile || ty.volatile } }
+    {
+        Qualified {
+            ty: ty.ty,
+            constant: self.constant || ty.constant,
+            volatile: self.volatile || ty.volatile,
+        }
+    }
+
     // Whether the words on storage, and `interrupt`, may stand at a site.
     fn fits(&self, site: Site, in_file: bool) -> bool
         ensures { result ≡ gathering.fits self.now site in_file }
@@ -378,11 +389,7 @@ impl Words {
             return refused(Kind::Declare, line);
         }
         Ok(Specified {
-            ty: Qualified {
-                ty: ty.ty,
-                constant: self.constant || ty.constant,
-                volatile: self.volatile || ty.volatile,
-            },
+            ty: self.qualified(ty),
             incomplete,
             storage: self.storage,
             interrupt: self.interrupt,

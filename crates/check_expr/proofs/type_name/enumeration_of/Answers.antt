@@ -1,10 +1,14 @@
 use Rattle.check_expr.proofs.type_name.enumeration_of.Goals as goal
 
-pub returns-in-Enumeration-in-Some : goal.returns-in-Enumeration-in-Some
-returns-in-Enumeration-in-Some c known = rw (← c.deref.ensures.value, ← c.in-Enumeration-in-Some.ensures known)
+pub returns-in-Some-Enumeration : goal.returns-in-Some-Enumeration
+returns-in-Some-Enumeration c known =
+    let found = rw c.in-Some-Enumeration.field-0-is at (c.in-Some-Enumeration.ensures known) in
+    rw (← c.deref.ensures.value, ← found)
 
-pub returns-in-Structure-in-Some : goal.returns-in-Structure-in-Some
-returns-in-Structure-in-Some c known = rw (c.refused.ensures, ← c.deref.ensures.value, ← c.in-Structure-in-Some.ensures known)
+pub returns-in-Some-Structure : goal.returns-in-Some-Structure
+returns-in-Some-Structure c known =
+    let found = rw c.in-Some-Structure.field-0-is at (c.in-Some-Structure.ensures known) in
+    rw (c.refused.ensures, ← c.deref.ensures.value, ← found)
 
 pub returns-in-None : goal.returns-in-None
 returns-in-None c known = rw (c.refused-in-None.ensures, ← c.deref.ensures.value, ← c.in-None.ensures known)
