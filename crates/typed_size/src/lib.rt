@@ -1,0 +1,15 @@
+//! The rules on names and types make few nodes of a text.
+//!
+//! In: nothing; the crate has laws alone. Out: nothing.
+//! The promise: the typed program that the rules give a tree is at most three times as large as the tree's spelling. What the rules say of a tree is
+//! judged_unit of type_rules, and the tokens of a tree are spelled_unit of c_tree.
+#![tactic(auto)]
+
+ghost use Rattle.typed_size.specs.Laws.{JudgedSmall, JudgedBounded};
+
+/// Where the rules on names and types give a tree a typed program, its nodes, static objects, parameters and locals are together at most three
+/// times as many as the tokens that the tree is spelled with. So a text of at most 262,144 tokens has at most 2 to the 20 of them.
+pub fn judged_small()
+    ensures small { JudgedSmall }
+    ensures bounded { JudgedBounded }
+{}
