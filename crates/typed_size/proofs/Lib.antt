@@ -5,3 +5,6 @@ pub mod Places
 pub mod Writes
 pub mod TypeNames
 pub mod Expressions
+pub mod Enumerators
+pub mod Outlines
+pub mod Declarators

@@ -63,6 +63,9 @@ kept h x k within = record { light = omega arith; within = within }
 pub met_kept : {A : Type 0} (h : ℕ) (x : A) (k : Known) → held k ≤ h → Met (Costs h 0 nothing) (Ok (x, k))
 met_kept h x k within = met_given (Costs h 0 nothing) x k (kept h x k within)
 
+pub only_kept : {A : Type 0} (h n : ℕ) (weight : A → ℕ) (r : Result (A × Known) Fault) → Met (Costs h n weight) r → Met (Costs h 0 nothing) r
+only_kept h n weight r = met_weaker (Costs h n weight) (Costs h 0 nothing) r (λ x k g. kept h x k g.within)
+
 -- ---- lists
 
 pub changed_length : {A : Type 0} (xs : List A) (n : ℕ) (change : A → A) → length (changed_at xs n change) ≡ length xs

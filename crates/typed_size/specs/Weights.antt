@@ -66,6 +66,10 @@ declared_params (FunctionDeclared result params scope) = length params
 abbrev pub outline_params : Outline → ℕ
 outline_params o = declared_params o.declared
 
+-- a name, and the parameters behind it
+abbrev pub outline_size : Outline → ℕ
+outline_size o = 1 + outline_params o
+
 abbrev pub begun_nodes : Begun → ℕ
 begun_nodes b = items_nodes b.items
 
