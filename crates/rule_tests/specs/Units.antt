@@ -226,8 +226,10 @@ abbrev pub measures_type : List ItemTree
 measures_type =
     unit.Declaration (record {
       specs = two_words words.Typedef words.Int;
-      declared = Some (record { declarator = object (codes "t"); init = None },
-      (1, record { declarator = array (codes "a") (tree.Before (tree.Sizeof 1) (variable (codes "t"))); init = None }) ∷ []);
+      declared = Some (
+        record { declarator = object (codes "t"); init = None },
+        (1, record { declarator = array (codes "a") (tree.Before (tree.Sizeof 1) (variable (codes "t"))); init = None }) ∷ [],
+      );
       semicolon = 1;
     }) ∷ []
 
