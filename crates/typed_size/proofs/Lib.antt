@@ -8,3 +8,5 @@ pub mod Expressions
 pub mod Enumerators
 pub mod Outlines
 pub mod Declarators
+pub mod Initializers
+pub mod Objects
