@@ -10,3 +10,6 @@ pub mod Outlines
 pub mod Declarators
 pub mod Initializers
 pub mod Objects
+pub mod Declarations
+pub mod Statements
+pub mod Units

@@ -33,6 +33,9 @@ nothing x = 0
 abbrev pub operand_nodes : Operand → ℕ
 operand_nodes x = nodes_in x.value + 1
 
+abbrev pub value_size : Expression → ℕ
+value_size e = nodes_in e + 1
+
 abbrev pub listed_nodes : List Operand → ℕ
 listed_nodes [] = 0
 listed_nodes (x ∷ xs) = operand_nodes x + listed_nodes xs
