@@ -1,28 +1,26 @@
 -- Declarations in the file and in blocks: an object for each declarator at most.
-use Rattle.std.proofs.Common.{◌≡◌, ℕ, ◌+◌, ◌*◌, ◌≤◌, Bool, true, false, not, ◌&&◌, ◌||◌, if◌then◌else◌, List, [], ◌∷◌, ◌++◌, length, Option, Some, None, is_some, refl, arith, length-append}
-use Rattle.c_tree.specs.Programs.{InitTree, BegunTree, DeclaredTrees, DeclarationTree, spelled_equals, spelled_begun, spelled_more_begun, spelled_declared, spelled_declaration, spelled_declarations}
-use Rattle.c_tree.specs.Trees.{spelled_declarator, spelled_specs}
+use Rattle.std.proofs.Common.{◌≡◌, ℕ, ◌+◌, ◌*◌, ◌≤◌, Bool, true, false, ◌||◌, if◌then◌else◌, List, [], ◌∷◌, ◌++◌, length, Option, Some, None, is_some, refl, arith, length-append}
+use Rattle.c_tree.specs.Programs.{InitTree, BegunTree, DeclaredTrees, DeclarationTree, spelled_equals, spelled_begun, spelled_more_begun, spelled_declared, spelled_declaration, spelled_declarations, spelled_init}
+use Rattle.c_tree.specs.Trees.{spelled_declarator}
 use Rattle.c_tree.specs.Words.{Symbol}
 use Rattle.c_typed.specs.TreeNodes.{statement_nodes, nodes_of_body, arm_nodes, arms_nodes, last_nodes}
 use Rattle.c_typed.specs.Trees.{Statement}
 use Rattle.c_typed.specs.declared.types.Qualified.{Qualified}
 use Rattle.c_typed.specs.declared.types.Ty.{Ty}
-use Rattle.type_rules.specs.Declarations.{param_types, function_number, function_tests, new_function, function_added, set_defined, function_rule, init_in, no_value, file_object, file_declared, type_tests, type_rule, declared_as, file_declarator, more_in_file, nothing_declared, declared_in_file, file_declaration, block_object, block_declarator, more_in_block, declared_in_block, block_declaration, block_declarations}
+use Rattle.type_rules.specs.Declarations.{param_types, function_number, function_tests, function_added, set_defined, function_rule, init_in, no_value, file_object, file_declared, type_tests, type_rule, declared_as, file_declarator, more_in_file, declared_in_file, file_declaration, block_object, block_declarator, more_in_block, declared_in_block, block_declaration, block_declarations}
 use Rattle.type_rules.specs.Declarators.{in_file, in_block, name_in, line_in}
 use Rattle.type_rules.specs.Faults as kind
-use Rattle.type_rules.specs.Known.{FunctionName, Known, Rule, given, broken, go_on}
-use Rattle.type_rules.specs.Names.{innermost_in, is_declared, bind}
+use Rattle.type_rules.specs.Known.{Known, given, go_on}
+use Rattle.type_rules.specs.Names.{innermost_in, is_declared}
 use Rattle.type_rules.specs.Objects.{static_rule, block_name, next_declarator, local_rule}
 use Rattle.type_rules.specs.Outlines.{Param, Declared, ObjectDeclared, FunctionDeclared, Outline}
 use Rattle.type_rules.specs.Slots.{nothing_begun}
 use Rattle.type_rules.specs.Specifiers.{Specified}
-use Rattle.type_rules.specs.Statements.{statements_of}
 use Rattle.typed_size.specs.Weights.{Met, held, Costs, nothing, begun_nodes, outline_size, Spends, body_nodes}
 use Rattle.typed_size.proofs.Declarators.{specified_met, outline_met}
 use Rattle.typed_size.proofs.Initializers.{begins_met}
 use Rattle.typed_size.proofs.Objects.{object_met, static_met, begun_most, local_met}
-use Rattle.typed_size.proofs.Steps.{met_given, met_broken, met_on, met_tests, met_tried, met_weaker, met_kept, costs_more, kept}
-use Rattle.c_tree.specs.Programs.{spelled_init}
+use Rattle.typed_size.proofs.Steps.{met_given, met_broken, met_on, met_tests, met_tried, met_weaker, met_kept, kept}
 
 -- the statements of two lists, one behind the other
 pub joined_nodes : (xs ys : List Statement) → body_nodes (xs ++ ys) ≡ body_nodes xs + body_nodes ys

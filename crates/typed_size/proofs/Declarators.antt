@@ -1,19 +1,19 @@
 -- Specifiers and declarators declare no object, and each parameter of a declarator has a token of its own.
-use Rattle.std.proofs.Common.{◌≡◌, ℕ, ◌+◌, ◌≤◌, Bool, true, false, not, if◌then◌else◌, List, [], ◌∷◌, ◌++◌, length, Option, Some, None, arith, length-append}
+use Rattle.std.proofs.Common.{ℕ, ◌+◌, ◌≤◌, Bool, true, false, not, if◌then◌else◌, List, [], ◌∷◌, length, Option, Some, None, arith, length-append}
 use Rattle.c_tree.specs.Trees as tree
 use Rattle.c_tree.specs.Trees.{SpecTrees, MoreSpecs, SpecTree, MemberTree, MoreMembers, MoreDeclarators, DeclaratorTree, SuffixTrees, SuffixTree, MoreParams, ParamTree, EnumeratorTree, MoreEnumerators, spelled_declarator, spelled_suffixes, spelled_suffix, spelled_more_params, spelled_param}
 use Rattle.c_tree.specs.Words.{Symbol, Symbols}
-use Rattle.type_rules.specs.Declarators.{Context, of_member, of_param, declares_tags, tag_or_new, structure_of, structure_in, body_opened, is_tagged, enum_opened, enum_closed, enum_body, specified, more_specs, spec_rule, members, more_members, more_fields, field, suffixes, suffix, more_params, param, outline_of}
+use Rattle.type_rules.specs.Declarators.{Context, of_member, of_param, declares_tags, tag_or_new, structure_of, structure_in, body_opened, is_tagged, enum_closed, enum_body, specified, more_specs, spec_rule, members, more_members, more_fields, field, suffixes, suffix, more_params, param, outline_of}
 use Rattle.type_rules.specs.Faults as kind
-use Rattle.type_rules.specs.Known.{Tag, StructTag, EnumTag, Open, Closed, Known, Rule, given, broken, go_on}
+use Rattle.type_rules.specs.Known.{Tag, StructTag, EnumTag, Known, Rule, given, broken, go_on}
 use Rattle.type_rules.specs.Names.{enter_list, leave_list}
-use Rattle.type_rules.specs.Outlines.{Param, Made, FunctionMade, Outline, object_outline, declarator_line}
-use Rattle.type_rules.specs.Rows.{tagged, new_tag, new_structure, is_absent, progress_of}
+use Rattle.type_rules.specs.Outlines.{Param, Made, FunctionMade, object_outline, declarator_line}
+use Rattle.type_rules.specs.Rows.{tagged, new_tag, is_absent, progress_of}
 use Rattle.type_rules.specs.Specifiers.{Gathered, nothing_gathered, Specified, spec_line}
 use Rattle.typed_size.specs.Weights.{Met, held, Costs, nothing, made_params, all_params, outline_params, outline_size}
 use Rattle.typed_size.proofs.Enumerators.{array_length_met, enumerators_met}
 use Rattle.typed_size.proofs.Outlines.{outlined_met, param_outlined_met, param_met, member_met}
-use Rattle.typed_size.proofs.Steps.{met_given, met_broken, met_on, met_tests, met_tried, met_weaker, met_kept, costs_more}
+use Rattle.typed_size.proofs.Steps.{met_given, met_broken, met_on, met_tried, met_weaker, met_kept, costs_more}
 use Rattle.typed_size.proofs.TypeNames.{pointers_met, specifiers_met, type_name_met, enum_met}
 
 -- ---- tags and bodies

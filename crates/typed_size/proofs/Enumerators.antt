@@ -1,5 +1,5 @@
 -- Constant expressions and enumerators declare no object.
-use Rattle.std.proofs.Common.{◌≡◌, ℕ, ◌≤◌, not, [], ◌∷◌}
+use Rattle.std.proofs.Common.{ℕ, ◌≤◌, not, [], ◌∷◌, ◌*◌, length}
 use Rattle.std.specs.Prelude.{ℤ, pos}
 use Rattle.c_tree.specs.Trees as tree
 use Rattle.c_tree.specs.Trees.{Tree, EnumeratorTree, MoreEnumerators, spelled}
@@ -15,7 +15,6 @@ use Rattle.type_rules.specs.Terms.{Operand}
 use Rattle.typed_size.specs.Weights.{Met, held, Costs, nothing, operand_nodes}
 use Rattle.typed_size.proofs.Expressions.{value_of_met}
 use Rattle.typed_size.proofs.Steps.{met_broken, met_on, met_tried, met_kept}
-use Rattle.std.proofs.Common.{◌*◌, length}
 
 number_in_met : (h : ℕ) (f : Folded) (line : ℕ) (known : Known) → held known ≤ h → Met (Costs h 0 nothing) (number_in f line known)
 number_in_met h (folding.Value v) line known within = met_kept h v known within

@@ -15,8 +15,8 @@ use Rattle.c_typed.specs.declared.types.Ty.TheVariants.{Void, Int, Pointer, Arra
 use Rattle.type_rules.specs.Conversions.{may_be_assigned, assigned}
 use Rattle.type_rules.specs.Faults as kind
 use Rattle.type_rules.specs.Initializers.{value_rule, text_rule, items_in, is_unsized, with_items, has_more, begins, more_begins}
-use Rattle.type_rules.specs.Known.{Known, Rule, given, broken, go_on}
-use Rattle.type_rules.specs.Slots.{Slot, Begun, part, bytes_at, with_initial, static_address, begin_pointer, begin_static, with_item, begin_structure, begin_local, value_line, begin_value, text_of, char_array, text_size, with_count, with_text, begin_characters, static_text, refused_text, begin_text_by, begin_text}
+use Rattle.type_rules.specs.Known.{Known, Rule, given, go_on}
+use Rattle.type_rules.specs.Slots.{Slot, Begun, part, bytes_at, with_initial, static_address, begin_pointer, begin_static, with_item, begin_structure, begin_local, value_line, begin_value, text_of, char_array, text_size, with_count, with_text, static_text, refused_text, begin_text_by}
 use Rattle.type_rules.specs.Terms.{Operand, side_of}
 use Rattle.type_rules.specs.Writes.{structure_read}
 use Rattle.typed_size.specs.Weights.{Met, held, Costs, nothing, operand_nodes, begun_nodes}

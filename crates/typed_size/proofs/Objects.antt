@@ -1,5 +1,5 @@
 -- Objects: one of each declarator, with what it begins as.
-use Rattle.std.proofs.Common.{◌≡◌, ℕ, ◌+◌, ◌*◌, ◌≤◌, Bool, true, false, not, ◌||◌, if◌then◌else◌, nat_eq, List, [], ◌∷◌, ◌++◌, length, Option, Some, None, Result, Ok, arith, length-append}
+use Rattle.std.proofs.Common.{ℕ, ◌+◌, ◌*◌, ◌≤◌, Bool, true, false, not, ◌||◌, if◌then◌else◌, nat_eq, List, [], ◌∷◌, length, Option, Some, None, arith, length-append}
 use Rattle.c_tree.specs.Programs.{InitTree, spelled_init}
 use Rattle.c_typed.specs.Sameness.{is_scalar}
 use Rattle.c_typed.specs.TreeNodes.{nodes_in, nodes_at, nodes_of_all, statement_nodes, nodes_of_body, arm_nodes, arms_nodes, last_nodes, items_nodes}
@@ -11,14 +11,14 @@ use Rattle.c_typed.specs.declared.types.Qualified.{Qualified}
 use Rattle.c_typed.specs.declared.types.Ty.{Ty}
 use Rattle.c_typed.specs.declared.types.Ty.TheVariants.{Array}
 use Rattle.type_rules.specs.Faults as kind
-use Rattle.type_rules.specs.Known.{Binding, ObjectName, Known, Rule, given, broken, go_on, tried}
+use Rattle.type_rules.specs.Known.{Binding, ObjectName, Known, Rule, given, go_on, tried}
 use Rattle.type_rules.specs.Names.{bind}
 use Rattle.type_rules.specs.Objects.{object_tests, object_rule, sized, closed_array, closed_by, closed, whole_slot, add_static, complete_static, static_begun, static_rule, add_local, complete_local, is_expression, begun_as_one, local_statements, local_begun, local_rule}
 use Rattle.type_rules.specs.Outlines.{Outline}
-use Rattle.type_rules.specs.Rows.{like, target_of, array_of, changed_at}
+use Rattle.type_rules.specs.Rows.{like, target_of, array_of}
 use Rattle.type_rules.specs.Slots.{Begun, nothing_begun}
 use Rattle.type_rules.specs.Specifiers.{Specified}
-use Rattle.typed_size.specs.Weights.{Met, held, Costs, nothing, begun_nodes, Spends, body_nodes}
+use Rattle.typed_size.specs.Weights.{Met, held, Costs, nothing, begun_nodes, body_nodes}
 use Rattle.typed_size.proofs.Initializers.{begins_met}
 use Rattle.typed_size.proofs.Steps.{met_given, met_broken, met_on, met_tried, met_wanted, met_kept, costs_more, changed_length}
 

@@ -1,13 +1,13 @@
 -- What declarators make of types: of the parameters of a function that is declared there are no more than its lists have.
-use Rattle.std.proofs.Common.{◌≡◌, ℕ, ◌+◌, ◌≤◌, Bool, true, false, List, [], ◌∷◌, ◌++◌, length, refl, arith, length-append}
+use Rattle.std.proofs.Common.{◌≡◌, ℕ, ◌+◌, ◌≤◌, Bool, true, false, List, [], ◌∷◌, length, refl, arith, length-append}
 use Rattle.c_typed.specs.declared.types.Qualified.{Qualified}
 use Rattle.c_typed.specs.declared.types.Ty.{Ty}
 use Rattle.c_typed.specs.declared.types.Ty.TheVariants.{Array}
-use Rattle.type_rules.specs.Known.{Scope, Known, given}
+use Rattle.type_rules.specs.Known.{Scope, Known}
 use Rattle.type_rules.specs.Outlines.{Param, Made, ArrayMade, FunctionMade, Declared, ObjectDeclared, FunctionDeclared, Outline, array_or_part, array_behind, function_behind, behind, outlined, pointer_outline, started, array_started, param_outlined, param_tests, param_rule, member_tests, member_rule}
 use Rattle.type_rules.specs.Rows.{is_complete}
 use Rattle.type_rules.specs.Specifiers.{Specified}
-use Rattle.typed_size.specs.Weights.{Met, held, Costs, nothing, made_params, all_params, declared_params, outline_params}
+use Rattle.typed_size.specs.Weights.{Met, held, Costs, nothing, made_params, all_params, outline_params}
 use Rattle.typed_size.proofs.Steps.{met_given, met_on, met_tried, met_kept, costs_more, only_kept}
 
 -- ---- one suffix

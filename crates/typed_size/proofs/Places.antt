@@ -1,5 +1,5 @@
 -- Operators on places: `* & [] . ->` and `sizeof`.
-use Rattle.std.proofs.Common.{◌≡◌, ℕ, ◌+◌, ◌*◌, ◌≤◌, ◌%◌, Bool, true, false, not, if◌then◌else◌, List, [], ◌∷◌, arith}
+use Rattle.std.proofs.Common.{ℕ, ◌+◌, ◌≤◌, ◌%◌, Bool, true, false, not, if◌then◌else◌, List, [], ◌∷◌, arith}
 use Rattle.c_ints.specs.declared.operators.BinOp.TheVariants as binop
 use Rattle.c_ints.specs.declared.types.IntTy.TheVariants as int
 use Rattle.c_typed.specs.TreeNodes.{nodes_in, nodes_of_all, nodes_at}
@@ -12,7 +12,7 @@ use Rattle.type_rules.specs.Conversions.{converted}
 use Rattle.type_rules.specs.Faults as kind
 use Rattle.type_rules.specs.Known.{Known, given, go_on}
 use Rattle.type_rules.specs.Operations.{Operation, operation_of}
-use Rattle.type_rules.specs.Places.{pointed_type, object_pointed, reach_behind, dereference, keeps_place, before_index, element_at, element, address_of, address, member_in, part_type, member_of, member, pointed_member, size_of_type, measured, size_of_term}
+use Rattle.type_rules.specs.Places.{pointed_type, object_pointed, reach_behind, dereference, keeps_place, before_index, element, address_of, address, member_in, part_type, member_of, member, pointed_member, size_of_type, measured, size_of_term}
 use Rattle.type_rules.specs.Rows.{bytes_of, is_complete}
 use Rattle.type_rules.specs.Terms.{Form, ValueForm, PlaceForm, FunctionForm, TypeForm, Operand, Term, side_of, as_term, number_of_type, table_tests, used, is_addressable, first_into}
 use Rattle.typed_size.specs.Weights.{Met, held, Costs, operand_nodes, form_nodes, IsTerm}

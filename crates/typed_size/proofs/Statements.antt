@@ -1,5 +1,5 @@
 -- Statements: at most three nodes, static objects and locals for each token.
-use Rattle.std.proofs.Common.{◌≡◌, ℕ, ◌+◌, ◌*◌, ◌≤◌, not, List, [], ◌∷◌, ◌++◌, length, Option, Some, None, is_some, Result, Ok, refl, arith, length-append}
+use Rattle.std.proofs.Common.{◌≡◌, ℕ, ◌+◌, ◌*◌, ◌≤◌, not, List, [], ◌∷◌, ◌++◌, length, Option, Some, None, is_some, refl, arith, length-append}
 use Rattle.c_ints.specs.Conversions.{promoted}
 use Rattle.c_ints.specs.Operators.{cut_to}
 use Rattle.c_ints.specs.declared.types.IntTy.{IntTy}
@@ -17,11 +17,10 @@ use Rattle.c_typed.specs.declared.statement.LoopForm.TheVariants as loops
 use Rattle.c_typed.specs.declared.statement.TCase.{TCase}
 use Rattle.c_typed.specs.declared.types.Ty.TheVariants.{Int}
 use Rattle.type_rules.specs.Conversions.{converted, assigned}
-use Rattle.type_rules.specs.Expressions.{value_of}
 use Rattle.type_rules.specs.Faults as kind
-use Rattle.type_rules.specs.Known.{Known, Rule, given, go_on}
+use Rattle.type_rules.specs.Known.{Known, given, go_on}
 use Rattle.type_rules.specs.Names.{enter, leave}
-use Rattle.type_rules.specs.Statements.{Flow, outside, in_loop, in_switch, condition, value_if_any, condition_if_any, plain_statement, return_statement, int_of, SwitchBody, no_items, stands_already, case_added, label_rule, statements_of, arms_of, last_of, Others, arm_line, statement, block_statement, statements, arm, other_arms, items, body_statements}
+use Rattle.type_rules.specs.Statements.{Flow, outside, in_loop, in_switch, condition, value_if_any, condition_if_any, plain_statement, return_statement, int_of, SwitchBody, no_items, stands_already, case_added, label_rule, statements_of, arms_of, last_of, arm_line, statement, block_statement, statements, arm, other_arms, items, body_statements}
 use Rattle.type_rules.specs.Terms.{Operand}
 use Rattle.typed_size.specs.Weights.{Met, held, Costs, nothing, operand_nodes, value_size, Spends, body_nodes, others_nodes, switch_nodes}
 use Rattle.typed_size.proofs.Declarations.{joined_nodes, no_nodes, block_declarations_met}

@@ -1,5 +1,5 @@
 -- Rules one behind the other, and what they declare.
-use Rattle.std.proofs.Common.{◌≡◌, ℕ, zero, suc, ◌+◌, ◌≤◌, Bool, List, [], ◌∷◌, ◌++◌, length, Option, Some, None, Result, Ok, Err, refl, ap, arith, length-append}
+use Rattle.std.proofs.Common.{◌≡◌, ℕ, zero, suc, ◌≤◌, List, [], ◌∷◌, length, Option, Some, None, Result, Ok, Err, refl, ap, arith}
 use Rattle.type_rules.specs.Faults.{Kind, Fault, Tests, first_broken}
 use Rattle.type_rules.specs.Known.{Known, Rule, told, tried, wanted, go_on}
 use Rattle.type_rules.specs.Rows.{changed_at}

@@ -1,19 +1,18 @@
 -- Units: the typed program of a unit is at most three times as large as the unit's spelling.
-use Rattle.std.proofs.Common.{◌≡◌, ℕ, ◌+◌, ◌*◌, ◌^◌, ◌≤◌, true, List, [], ◌∷◌, ◌++◌, length, map, Result, Ok, Err, refl, subst, arith, length-append}
+use Rattle.std.proofs.Common.{◌≡◌, ℕ, ◌+◌, ◌*◌, ◌^◌, ◌≤◌, true, List, [], ◌∷◌, length, map, Result, Ok, Err, subst, arith, length-append}
 use Rattle.std.proofs.lemmas.List.{length-map}
 use Rattle.c_tree.specs.Programs as tree
 use Rattle.c_tree.specs.Programs.{ItemTree, BlockTree, spelled_declaration, spelled_block, spelled_item, spelled_unit}
-use Rattle.c_tree.specs.Trees.{SpecTrees, DeclaratorTree, spelled_specs, spelled_declarator}
+use Rattle.c_tree.specs.Trees.{SpecTrees, DeclaratorTree, spelled_declarator}
 use Rattle.c_tree.specs.Words.{Symbol}
 use Rattle.c_typed.specs.TreeNodes.{nodes_of_body, functions_nodes}
 use Rattle.c_typed.specs.Trees as typed
 use Rattle.c_typed.specs.Trees.{FunctionTree, Program}
 use Rattle.c_typed.specs.declared.types.Ty.{Ty}
-use Rattle.type_rules.specs.Declarations.{file_declaration}
 use Rattle.type_rules.specs.Declarators.{in_file, name_in, line_in}
 use Rattle.type_rules.specs.Faults as kind
 use Rattle.type_rules.specs.Faults.{Fault}
-use Rattle.type_rules.specs.Known.{Scope, Known, known_first, no_body, given, broken, go_on}
+use Rattle.type_rules.specs.Known.{Scope, Known, known_first, no_body, given, broken}
 use Rattle.type_rules.specs.Names.{is_declared, without_first}
 use Rattle.type_rules.specs.Outlines.{Param, Declared, ObjectDeclared, FunctionDeclared, Outline}
 use Rattle.type_rules.specs.Specifiers.{Specified}
@@ -24,7 +23,7 @@ use Rattle.typed_size.specs.Weights.{Met, held, Costs, nothing, declared_params,
 use Rattle.typed_size.proofs.Declarations.{function_rule_met, file_declaration_met}
 use Rattle.typed_size.proofs.Declarators.{specified_met, outline_met}
 use Rattle.typed_size.proofs.Statements.{body_met}
-use Rattle.typed_size.proofs.Steps.{met_given, met_broken, met_on, met_tried, met_weaker, met_kept}
+use Rattle.typed_size.proofs.Steps.{met_given, met_broken, met_on, met_tried, met_weaker}
 
 -- ---- functions
 

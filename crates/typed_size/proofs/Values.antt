@@ -1,5 +1,5 @@
 -- Values of expressions, and conversions: a node each.
-use Rattle.std.proofs.Common.{◌≡◌, ℕ, ◌+◌, ◌≤◌, Bool, true, false, not, if◌then◌else◌, [], ◌∷◌, arith}
+use Rattle.std.proofs.Common.{ℕ, ◌+◌, ◌≤◌, Bool, true, false, not, if◌then◌else◌, [], ◌∷◌, arith}
 use Rattle.c_typed.specs.Sameness.{same_type}
 use Rattle.c_typed.specs.TreeNodes.{nodes_in, nodes_of_all, nodes_at}
 use Rattle.c_typed.specs.Trees as typed

@@ -19,7 +19,7 @@ use Rattle.type_rules.specs.Rows.{bytes_of}
 use Rattle.type_rules.specs.Terms.{Form, ValueForm, PlaceForm, FunctionForm, TypeForm, Operand, Term, side_of, value_term, table_tests, is_written}
 use Rattle.type_rules.specs.Writes.{written_place, structure_read, copy, simple_assignment, keeps_type, compound_assignment, assignment_by, sign_operator, assignment, counted, stepped, function_named, signature_in, definition_in, called, passed, call}
 use Rattle.typed_size.specs.Weights.{Met, held, Costs, nothing, operand_nodes, listed_nodes, form_nodes, IsTerm}
-use Rattle.typed_size.proofs.Steps.{met_given, met_broken, met_on, met_tests, met_tried, met_wanted}
+use Rattle.typed_size.proofs.Steps.{met_given, met_on, met_tests, met_tried, met_wanted}
 use Rattle.typed_size.proofs.Values.{value_is, converted_nodes, assigned_met}
 
 -- ---- what is written, and what is read

@@ -1,5 +1,5 @@
 -- The laws, as they are read.
-use Rattle.std.specs.Prelude.{◌≡◌, ◌≤◌, ℕ, ◌*◌, ◌^◌, List, length, Ok}
+use Rattle.std.specs.Prelude.{◌≡◌, ◌≤◌, ◌*◌, ◌^◌, List, length, Ok}
 use Rattle.c_tree.specs.Programs.{ItemTree, spelled_unit}
 use Rattle.c_typed.specs.Trees.{Program}
 use Rattle.type_rules.specs.Units.{judged_unit}
@@ -9,6 +9,6 @@ use Rattle.typed_size.specs.Sizes.{size_of}
 abbrev pub JudgedSmall : Type 0
 JudgedSmall = (unit : List ItemTree) (p : Program) → judged_unit unit ≡ Ok p → size_of p ≤ 3 * length (spelled_unit unit)
 
--- So the program of a unit of at most 262,144 tokens has a bound that no unit comes near to what a typed program may have.
+-- So a unit of at most 262,144 tokens comes to at most 2 to the 20 of them, and a typed program may have 2 to the 28.
 abbrev pub JudgedBounded : Type 0
 JudgedBounded = (unit : List ItemTree) (p : Program) → judged_unit unit ≡ Ok p → length (spelled_unit unit) ≤ 262144 → size_of p ≤ 2 ^ 20

@@ -1,5 +1,5 @@
 -- How many nodes, static objects and locals the parts of a unit come to, and what is so of a rule that is met.
-use Rattle.std.specs.Prelude.{ℕ, ◌+◌, ◌≤◌, List, [], ◌∷◌, length, Option, Some, None, Result, Ok, Err}
+use Rattle.std.specs.Prelude.{ℕ, ◌+◌, ◌≤◌, List, [], ◌∷◌, length, Result, Ok, Err}
 use Rattle.c_typed.specs.TreeNodes.{nodes_in, nodes_at, nodes_of_body, arms_nodes, last_nodes, items_nodes}
 use Rattle.c_typed.specs.Trees.{Expression, Statement, FunctionTree}
 use Rattle.type_rules.specs.Faults.{Fault}
@@ -8,7 +8,6 @@ use Rattle.type_rules.specs.Outlines.{Made, ArrayMade, FunctionMade, Declared, O
 use Rattle.type_rules.specs.Slots.{Begun}
 use Rattle.type_rules.specs.Statements.{statements_of, arms_of, last_of, SwitchBody, Others}
 use Rattle.type_rules.specs.Terms.{Form, ValueForm, PlaceForm, FunctionForm, TypeForm, Operand, Term}
-use Rattle.typed_size.specs.Sizes.{variables_in}
 
 -- What holds behind a rule, where it is met.
 unfoldable pub Met : {A : Type 0} → (A → Known → Type 0) → Result (A × Known) Fault → Type 0
