@@ -13,3 +13,4 @@ pub mod Objects
 pub mod Declarations
 pub mod Statements
 pub mod Units
+pub mod Examples
