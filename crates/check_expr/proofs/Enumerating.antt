@@ -1,6 +1,7 @@
 -- Enumerations: an enumerator, the enumerators from the front of the list, and the tag.
-use Rattle.std.proofs.Common.{◌≡◌, ℕ, ◌+◌, ◌<◌, ◌≤◌, ℤ, pos, ◌+ℤ◌, Unit, Bool, true, false, not, List, [], ◌∷◌, drop, length, map, Option, Result, Ok, Err, refl, sym, ap, subst, ◌∙◌}
+use Rattle.std.proofs.Common.{◌≡◌, ℕ, ◌+◌, ◌-◌, ◌^◌, ◌<◌, ◌≤◌, ℤ, pos, negsuc, ◌+ℤ◌, ◌≤ℤ◌, ◌<ℤ◌, to_z, of_z, w64, Bool, true, false, not, List, [], ◌∷◌, drop, length, map, Option, Result, Ok, Err, refl, sym, ap, subst, ◌∙◌, arith}
 use Rattle.std.proofs.lemmas.Bool.{true≢false}
+use Rattle.std.proofs.lemmas.Int.{to_z-of_z}
 use Rattle.std.proofs.Math.ListN.{get_or}
 use Rattle.c_ints.specs.Quantity.{Quantity}
 use Rattle.c_tree.specs.Lists.{more_enumerators}
@@ -71,6 +72,10 @@ pub number_given : (name : Symbol) (n : ℤ) (k after bound : Known) → tests_o
 number_given name n k after bound h i b = tests_met name n k after h i ∙ ap (go_on (after_bound n)) b
 
 -- ---- an enumerator with a value
+
+-- a value's number as the machine keeps it
+pub kept_number : (x : ℤ) → negsuc (2 ^ 31 - 1) ≤ℤ x → x <ℤ pos (2 ^ 32) → to_z w64 (of_z w64 x) ≡ x
+kept_number x low high = grind (arith, to_z-of_z)
 
 abbrev with_number : Symbol → Quantity → Rule ℤ
 with_number name v = rule.numbered name v.number

@@ -96,6 +96,10 @@ array_made count o element ty known after h = ap (go_on (λ (made : Qualified). 
 pub array_refused : (count : ℕ) (o : Outline) (element : Qualified) (known : Known) (e : CheckError) → Refuses e (array_of element count known) → Refuses e (array_or_part true count o element known)
 array_refused count o element known e h = refused_through e (λ (made : Qualified). given (record o { declared = ObjectDeclared made; bad = o.bad || is_void element.ty })) (array_of element count known) h
 
+-- what isn't complete
+pub part_made : (count : ℕ) (o : Outline) (element : Qualified) (known : Known) → o.declared ≡ ObjectDeclared element → array_or_part false count o element known ≡ Ok (record { declared = ObjectDeclared element; bad = o.bad || is_void element.ty; incomplete = true }, known)
+part_made count o element known object = ap (λ (d : Declared). Ok (record { declared = d; bad = o.bad || is_void element.ty; incomplete = true }, known)) object
+
 -- a parameter that is an array by the name of its type
 abbrev pub by_array : Outline → Option (Qualified × ℕ) → Rule Outline
 by_array o None known = Ok (o, known)

@@ -1,6 +1,6 @@
 //! Specifiers, structures, enumerations, declarators and parameters, from the tree's root down (ISO/IEC 9899:1990, 6.5).
 
-ghost use Rattle.std.specs.Prelude.{◌≡◌, Ok, map};
+ghost use Rattle.std.specs.Prelude.{◌≡◌, ℕ, List, Some, Ok, map};
 ghost use Rattle.c_tree.specs.Lists.{more_params, suffixes_of};
 ghost use Rattle.c_tree.specs.Views.{declarator_of, member_of, next_param_of, param_of, spec_of, specs_of, struct_body_of, suffix_of};
 ghost use Rattle.c_tree.specs.Words.{spell_tag};
@@ -59,6 +59,16 @@ fn declares_tags(site: Site) -> bool
     }
 }
 
+// The structure that a tag is that of.
+fn of_structure(found: Tag, line: u32) -> Result<u32, CheckError>
+    ensures { (context : rule.Context) (tag : List ℕ) (known : Known) → Answers (λ number. number) result known (rule.tag_or_new (Some (tables.tag_of found)) context tag line known) }
+{
+    match found {
+        Tag::Structure(structure) => Ok(structure),
+        Tag::Enumeration => refused(Kind::Again, line),
+    }
+}
+
 // The structure of a tag, which is declared here where the place may do so.
 fn structure_of(
     tag: &[u8],
@@ -69,8 +79,7 @@ fn structure_of(
     ensures { (known : Known) → Answers (λ number. number) result (types_in types.new known) (rule.structure_of (context_of context) tag.now line (types_in types.old known)) }
 {
     match types.tagged(tag) {
-        Some(Tag::Structure(structure)) => Ok(structure),
-        Some(Tag::Enumeration) => refused(Kind::Again, line),
+        Some(found) => of_structure(found, line),
         None => {
             if declares_tags(context.site) {
                 types.declare_tag(tag)

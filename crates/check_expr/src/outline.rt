@@ -120,7 +120,7 @@ fn array_or_part(
     outline: &Outline,
     element: Qualified,
 ) -> Result<Outline, CheckError>
-    ensures { (known : Known) → Answers outline_of result (types_in types.new known) (rule.array_or_part (is_complete (types_in types.old known) element.ty) length (outline_of outline.now) element (types_in types.old known)) }
+    ensures { (known : Known) → declared_of outline.now.declared ≡ rule.ObjectDeclared element → Answers outline_of result (types_in types.new known) (rule.array_or_part (is_complete (types_in types.old known) element.ty) length (outline_of outline.now) element (types_in types.old known)) }
 {
     let bad = either(outline.bad, is_void(element.ty));
     if types.is_complete(element.ty) {
@@ -282,9 +282,6 @@ pub(crate) fn param_outlined(
 ) -> Result<Outline, CheckError>
     ensures { (known : Known) → Answers outline_of result (types_in types.new known) (rule.param_outlined (map made_of made.items) (outline_of base) (types_in types.old known)) }
 {
-    if made.is_empty() {
-        return array_started(types, base);
-    }
     let mut left = made;
     let mut outline = base;
     while let Some(suffix) = left.pop() {
@@ -293,7 +290,7 @@ pub(crate) fn param_outlined(
         }
         outline = behind(types, suffix, &outline)?;
     }
-    Ok(outline)
+    array_started(types, outline)
 }
 
 // Whether a parameter's name is that of another one of its list. An empty name is none.

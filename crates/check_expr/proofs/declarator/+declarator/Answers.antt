@@ -205,15 +205,15 @@ suffix-returns-in_err-enter_list-in-Params t c =
 pub suffix-returns-in_err-param-in-Params : goal.suffix-returns-in_err-param-in-Params
 suffix-returns-in_err-param-in-Params t c =
     let p = err_from_is_err_and c.from_residual-in_err-param-in-Params.result c.from_residual-in_err-param-in-Params.ensures.1 in
-    rw (p.1, p.2, c.in-Params.is, show_suffix_params c.in-Params.opening c.in-Params.first c.in-Params.others c.in-Params.closing) (steps.params_first c.in-Params.opening (param_of c.in-Params.first.value) (more_params (map next_param_of c.in-Params.others.items)) c.in-Params.closing c.args.bodies (known_of c.args.checker.now) _ c.in_err-param-in-Params.field-0.0 (c.in_ok-enter_list-in-Params.ensures (known_of c.args.checker.now)) (rw (c.new-list.ensures, c.deref-in-Params.ensures) at c.in_err-param-in-Params.ensures))
+    rw (p.1, p.2, c.in-Params.is, show_suffix_params c.in-Params.opening c.in-Params.first c.in-Params.others c.in-Params.closing) (steps.params_first c.in-Params.opening (param_of c.in-Params.first.value) (more_params (map next_param_of c.in-Params.others.items)) c.in-Params.closing c.args.bodies (known_of c.args.checker.now) _ c.in_err-param-in-Params.field-0.0 (c.in_ok-enter_list-in-Params.ensures (known_of c.args.checker.now)) (rw (c.new-list.ensures.params, c.deref-in-Params.ensures) at c.in_err-param-in-Params.ensures))
 
 pub suffix-returns-in_err-params-in-Params : goal.suffix-returns-in_err-params-in-Params
 suffix-returns-in_err-params-in-Params t c =
     let p = err_from_is_err_and c.from_residual-in_err-params-in-Params.result c.from_residual-in_err-params-in-Params.ensures.1 in
-    rw (p.1, p.2, c.in-Params.is, show_suffix_params c.in-Params.opening c.in-Params.first c.in-Params.others c.in-Params.closing) (steps.params_others c.in-Params.opening (param_of c.in-Params.first.value) (more_params (map next_param_of c.in-Params.others.items)) c.in-Params.closing c.args.bodies _ (known_of c.args.checker.now) _ _ c.in_err-params-in-Params.field-0.0 (c.in_ok-enter_list-in-Params.ensures (known_of c.args.checker.now)) (rw (c.new-list.ensures, c.deref-in-Params.ensures) at c.in_ok-param-in-Params.ensures) (rw c.deref-in-Params-2.ensures.value at c.in_err-params-in-Params.ensures))
+    rw (p.1, p.2, c.in-Params.is, show_suffix_params c.in-Params.opening c.in-Params.first c.in-Params.others c.in-Params.closing) (steps.params_others c.in-Params.opening (param_of c.in-Params.first.value) (more_params (map next_param_of c.in-Params.others.items)) c.in-Params.closing c.args.bodies _ (known_of c.args.checker.now) _ _ c.in_err-params-in-Params.field-0.0 (c.in_ok-enter_list-in-Params.ensures (known_of c.args.checker.now)) (rw (c.new-list.ensures.params, c.deref-in-Params.ensures) at c.in_ok-param-in-Params.ensures) (rw c.deref-in-Params-2.ensures.value at c.in_err-params-in-Params.ensures))
 
 pub suffix-returns-in_ok-params-in-Params : goal.suffix-returns-in_ok-params-in-Params
-suffix-returns-in_ok-params-in-Params t c = rw (c.in-Params.is, show_suffix_params c.in-Params.opening c.in-Params.first c.in-Params.others c.in-Params.closing) (steps.params_whole c.in-Params.opening (param_of c.in-Params.first.value) (more_params (map next_param_of c.in-Params.others.items)) c.in-Params.closing c.args.bodies _ _ _ (known_of c.args.checker.now) _ _ _ _ (c.in_ok-enter_list-in-Params.ensures (known_of c.args.checker.now)) (rw (c.new-list.ensures, c.deref-in-Params.ensures) at c.in_ok-param-in-Params.ensures) (rw c.deref-in-Params-2.ensures.value at c.in_ok-params-in-Params.ensures) (c.leave_list.ensures (known_of c.params.new.checker)))
+suffix-returns-in_ok-params-in-Params t c = rw (c.in-Params.is, show_suffix_params c.in-Params.opening c.in-Params.first c.in-Params.others c.in-Params.closing) (steps.params_whole c.in-Params.opening (param_of c.in-Params.first.value) (more_params (map next_param_of c.in-Params.others.items)) c.in-Params.closing c.args.bodies _ _ _ (known_of c.args.checker.now) _ _ _ _ (c.in_ok-enter_list-in-Params.ensures (known_of c.args.checker.now)) (rw (c.new-list.ensures.params, c.deref-in-Params.ensures) at c.in_ok-param-in-Params.ensures) (rw c.deref-in-Params-2.ensures.value at c.in_ok-params-in-Params.ensures) (c.leave_list.ensures (known_of c.params.new.checker)))
 
 pub param-returns-in_err-specified-in-Named : goal.param-returns-in_err-specified-in-Named
 param-returns-in_err-specified-in-Named t c =
@@ -233,10 +233,10 @@ param-returns-in_err-made-in-Named t c =
 pub param-returns-in_err-outline-in-Named : goal.param-returns-in_err-outline-in-Named
 param-returns-in_err-outline-in-Named t c =
     let p = err_from_is_err_and c.from_residual-in_err-outline-in-Named.result c.from_residual-in_err-outline-in-Named.ensures.1 in
-    rw (p.1, p.2, c.in-Named.is, show_param_named c.in-Named.specs c.in-Named.declarator, show_declarator c.in-Named.declarator, steps.param_named (specs_of c.in-Named.specs) (spell_pointers (out-Declarator c.in-Named.declarator).pointers.items) (named (out-Declarator c.in-Named.declarator).name) (suffixes_of (map suffix_of (out-Declarator c.in-Named.declarator).suffixes.items)) c.args.bodies (map views.param_of c.args.list.now.params.items) (known_of c.args.checker.now)) (steps.param_unlined (steps.named_shape (specs_of c.in-Named.specs) (spell_pointers (out-Declarator c.in-Named.declarator).pointers.items) (named (out-Declarator c.in-Named.declarator).name) (suffixes_of (map suffix_of (out-Declarator c.in-Named.declarator).suffixes.items))) c.args.bodies (map views.param_of c.args.list.now.params.items) (specified_of c.in_ok-specified-in-Named.specified) c.in_ok-base-in-Named.base (map made_of c.in_ok-made-in-Named.made.items) (known_of c.args.checker.now) _ _ _ c.in_err-outline-in-Named.field-0.0 (rw c.param_context.ensures at c.in_ok-specified-in-Named.ensures) (rw c.deref.ensures.value at c.in_ok-base-in-Named.ensures) (rw c.deref-in-Named.ensures.value at c.in_ok-made-in-Named.ensures) (rw c.object.ensures at (c.in_err-outline-in-Named.ensures (known_of c.suffixes.new.checker))))
+    rw (p.1, p.2, c.in-Named.is, show_param_named c.in-Named.specs c.in-Named.declarator, show_declarator c.in-Named.declarator, steps.param_named (specs_of c.in-Named.specs) (spell_pointers (out-Declarator c.in-Named.declarator).pointers.items) (named (out-Declarator c.in-Named.declarator).name) (suffixes_of (map suffix_of (out-Declarator c.in-Named.declarator).suffixes.items)) c.args.bodies (map views.param_of c.args.list.now.params.items) (known_of c.args.checker.now)) (steps.param_unlined (steps.named_shape (specs_of c.in-Named.specs) (spell_pointers (out-Declarator c.in-Named.declarator).pointers.items) (named (out-Declarator c.in-Named.declarator).name) (suffixes_of (map suffix_of (out-Declarator c.in-Named.declarator).suffixes.items))) c.args.bodies (map views.param_of c.args.list.now.params.items) (specified_of c.in_ok-specified-in-Named.specified) c.in_ok-base-in-Named.base (map made_of c.in_ok-made-in-Named.made.items) (known_of c.args.checker.now) _ _ _ c.in_err-outline-in-Named.field-0.0 (rw c.param_context.ensures at c.in_ok-specified-in-Named.ensures) (rw c.deref.ensures.value at c.in_ok-base-in-Named.ensures) (rw c.deref-in-Named.ensures.value at c.in_ok-made-in-Named.ensures) (rw c.object-object.ensures at (c.in_err-outline-in-Named.ensures (known_of c.suffixes.new.checker))))
 
 pub param-returns-in_ok-outline-in-Named : goal.param-returns-in_ok-outline-in-Named
-param-returns-in_ok-outline-in-Named t c = rw (c.in-Named.is, show_param_named c.in-Named.specs c.in-Named.declarator, show_declarator c.in-Named.declarator, steps.param_named (specs_of c.in-Named.specs) (spell_pointers (out-Declarator c.in-Named.declarator).pointers.items) (named (out-Declarator c.in-Named.declarator).name) (suffixes_of (map suffix_of (out-Declarator c.in-Named.declarator).suffixes.items)) c.args.bodies (map views.param_of c.args.list.now.params.items) (known_of c.args.checker.now), steps.param_whole (steps.named_shape (specs_of c.in-Named.specs) (spell_pointers (out-Declarator c.in-Named.declarator).pointers.items) (named (out-Declarator c.in-Named.declarator).name) (suffixes_of (map suffix_of (out-Declarator c.in-Named.declarator).suffixes.items))) c.args.bodies (map views.param_of c.args.list.now.params.items) (specified_of c.in_ok-specified-in-Named.specified) c.in_ok-base-in-Named.base (map made_of c.in_ok-made-in-Named.made.items) (outline_of c.in_ok-outline-in-Named.outline) (known_of c.args.checker.now) _ _ _ (known_of (record c.suffixes.new.checker { types = c.param_outlined.new.types })) (rw c.param_context.ensures at c.in_ok-specified-in-Named.ensures) (rw c.deref.ensures.value at c.in_ok-base-in-Named.ensures) (rw c.deref-in-Named.ensures.value at c.in_ok-made-in-Named.ensures) (rw c.object.ensures at (c.in_ok-outline-in-Named.ensures (known_of c.suffixes.new.checker)))) (rw (c.deref-in-Named-2.ensures.value, c.line_of-line.ensures, show_declarator c.in-Named.declarator) at c.add_param.ensures)
+param-returns-in_ok-outline-in-Named t c = rw (c.in-Named.is, show_param_named c.in-Named.specs c.in-Named.declarator, show_declarator c.in-Named.declarator, steps.param_named (specs_of c.in-Named.specs) (spell_pointers (out-Declarator c.in-Named.declarator).pointers.items) (named (out-Declarator c.in-Named.declarator).name) (suffixes_of (map suffix_of (out-Declarator c.in-Named.declarator).suffixes.items)) c.args.bodies (map views.param_of c.args.list.now.params.items) (known_of c.args.checker.now), steps.param_whole (steps.named_shape (specs_of c.in-Named.specs) (spell_pointers (out-Declarator c.in-Named.declarator).pointers.items) (named (out-Declarator c.in-Named.declarator).name) (suffixes_of (map suffix_of (out-Declarator c.in-Named.declarator).suffixes.items))) c.args.bodies (map views.param_of c.args.list.now.params.items) (specified_of c.in_ok-specified-in-Named.specified) c.in_ok-base-in-Named.base (map made_of c.in_ok-made-in-Named.made.items) (outline_of c.in_ok-outline-in-Named.outline) (known_of c.args.checker.now) _ _ _ (known_of (record c.suffixes.new.checker { types = c.param_outlined.new.types })) (rw c.param_context.ensures at c.in_ok-specified-in-Named.ensures) (rw c.deref.ensures.value at c.in_ok-base-in-Named.ensures) (rw c.deref-in-Named.ensures.value at c.in_ok-made-in-Named.ensures) (rw c.object-object.ensures at (c.in_ok-outline-in-Named.ensures (known_of c.suffixes.new.checker)))) (rw (c.deref-in-Named-2.ensures.value, c.line_of-line.ensures, show_declarator c.in-Named.declarator) at c.add_param.ensures)
 
 pub param-returns-in_err-specified-in-Unnamed : goal.param-returns-in_err-specified-in-Unnamed
 param-returns-in_err-specified-in-Unnamed t c =
@@ -256,13 +256,13 @@ param-returns-in_err-made-in-Unnamed t c =
 pub param-returns-in_err-outline-in-Unnamed : goal.param-returns-in_err-outline-in-Unnamed
 param-returns-in_err-outline-in-Unnamed t c =
     let p = err_from_is_err_and c.from_residual-in_err-outline-in-Unnamed.result c.from_residual-in_err-outline-in-Unnamed.ensures.1 in
-    rw (p.1, p.2, c.in-Unnamed.is, show_param_unnamed c.in-Unnamed.specs c.in-Unnamed.pointers c.in-Unnamed.suffixes, steps.param_unnamed (specs_of c.in-Unnamed.specs) (spell_pointers c.in-Unnamed.pointers.items) (suffixes_of (map suffix_of c.in-Unnamed.suffixes.items)) c.args.bodies (map views.param_of c.args.list.now.params.items) (known_of c.args.checker.now)) (steps.param_unlined (steps.unnamed_shape (specs_of c.in-Unnamed.specs) (spell_pointers c.in-Unnamed.pointers.items) (suffixes_of (map suffix_of c.in-Unnamed.suffixes.items))) c.args.bodies (map views.param_of c.args.list.now.params.items) (specified_of c.in_ok-specified-in-Unnamed.specified) c.in_ok-base-in-Unnamed.base (map made_of c.in_ok-made-in-Unnamed.made.items) (known_of c.args.checker.now) _ _ _ c.in_err-outline-in-Unnamed.field-0.0 (rw c.param_context-in-Unnamed.ensures at c.in_ok-specified-in-Unnamed.ensures) (rw c.deref-in-Unnamed.ensures.value at c.in_ok-base-in-Unnamed.ensures) (rw c.deref-in-Unnamed-2.ensures.value at c.in_ok-made-in-Unnamed.ensures) (rw c.object-in-Unnamed.ensures at (c.in_err-outline-in-Unnamed.ensures (known_of c.suffixes-in-Unnamed.new.checker))))
+    rw (p.1, p.2, c.in-Unnamed.is, show_param_unnamed c.in-Unnamed.specs c.in-Unnamed.pointers c.in-Unnamed.suffixes, steps.param_unnamed (specs_of c.in-Unnamed.specs) (spell_pointers c.in-Unnamed.pointers.items) (suffixes_of (map suffix_of c.in-Unnamed.suffixes.items)) c.args.bodies (map views.param_of c.args.list.now.params.items) (known_of c.args.checker.now)) (steps.param_unlined (steps.unnamed_shape (specs_of c.in-Unnamed.specs) (spell_pointers c.in-Unnamed.pointers.items) (suffixes_of (map suffix_of c.in-Unnamed.suffixes.items))) c.args.bodies (map views.param_of c.args.list.now.params.items) (specified_of c.in_ok-specified-in-Unnamed.specified) c.in_ok-base-in-Unnamed.base (map made_of c.in_ok-made-in-Unnamed.made.items) (known_of c.args.checker.now) _ _ _ c.in_err-outline-in-Unnamed.field-0.0 (rw c.param_context-in-Unnamed.ensures at c.in_ok-specified-in-Unnamed.ensures) (rw c.deref-in-Unnamed.ensures.value at c.in_ok-base-in-Unnamed.ensures) (rw c.deref-in-Unnamed-2.ensures.value at c.in_ok-made-in-Unnamed.ensures) (rw c.object-object-in-Unnamed.ensures at (c.in_err-outline-in-Unnamed.ensures (known_of c.suffixes-in-Unnamed.new.checker))))
 
 pub param-returns-in_ok-outline-in-Unnamed : goal.param-returns-in_ok-outline-in-Unnamed
-param-returns-in_ok-outline-in-Unnamed t c = rw (c.in-Unnamed.is, show_param_unnamed c.in-Unnamed.specs c.in-Unnamed.pointers c.in-Unnamed.suffixes, steps.param_unnamed (specs_of c.in-Unnamed.specs) (spell_pointers c.in-Unnamed.pointers.items) (suffixes_of (map suffix_of c.in-Unnamed.suffixes.items)) c.args.bodies (map views.param_of c.args.list.now.params.items) (known_of c.args.checker.now), steps.param_whole (steps.unnamed_shape (specs_of c.in-Unnamed.specs) (spell_pointers c.in-Unnamed.pointers.items) (suffixes_of (map suffix_of c.in-Unnamed.suffixes.items))) c.args.bodies (map views.param_of c.args.list.now.params.items) (specified_of c.in_ok-specified-in-Unnamed.specified) c.in_ok-base-in-Unnamed.base (map made_of c.in_ok-made-in-Unnamed.made.items) (outline_of c.in_ok-outline-in-Unnamed.outline) (known_of c.args.checker.now) _ _ _ (known_of (record c.suffixes-in-Unnamed.new.checker { types = c.param_outlined-in-Unnamed.new.types })) (rw c.param_context-in-Unnamed.ensures at c.in_ok-specified-in-Unnamed.ensures) (rw c.deref-in-Unnamed.ensures.value at c.in_ok-base-in-Unnamed.ensures) (rw c.deref-in-Unnamed-2.ensures.value at c.in_ok-made-in-Unnamed.ensures) (rw c.object-in-Unnamed.ensures at (c.in_ok-outline-in-Unnamed.ensures (known_of c.suffixes-in-Unnamed.new.checker)))) c.add_param-in-Unnamed.ensures
+param-returns-in_ok-outline-in-Unnamed t c = rw (c.in-Unnamed.is, show_param_unnamed c.in-Unnamed.specs c.in-Unnamed.pointers c.in-Unnamed.suffixes, steps.param_unnamed (specs_of c.in-Unnamed.specs) (spell_pointers c.in-Unnamed.pointers.items) (suffixes_of (map suffix_of c.in-Unnamed.suffixes.items)) c.args.bodies (map views.param_of c.args.list.now.params.items) (known_of c.args.checker.now), steps.param_whole (steps.unnamed_shape (specs_of c.in-Unnamed.specs) (spell_pointers c.in-Unnamed.pointers.items) (suffixes_of (map suffix_of c.in-Unnamed.suffixes.items))) c.args.bodies (map views.param_of c.args.list.now.params.items) (specified_of c.in_ok-specified-in-Unnamed.specified) c.in_ok-base-in-Unnamed.base (map made_of c.in_ok-made-in-Unnamed.made.items) (outline_of c.in_ok-outline-in-Unnamed.outline) (known_of c.args.checker.now) _ _ _ (known_of (record c.suffixes-in-Unnamed.new.checker { types = c.param_outlined-in-Unnamed.new.types })) (rw c.param_context-in-Unnamed.ensures at c.in_ok-specified-in-Unnamed.ensures) (rw c.deref-in-Unnamed.ensures.value at c.in_ok-base-in-Unnamed.ensures) (rw c.deref-in-Unnamed-2.ensures.value at c.in_ok-made-in-Unnamed.ensures) (rw c.object-object-in-Unnamed.ensures at (c.in_ok-outline-in-Unnamed.ensures (known_of c.suffixes-in-Unnamed.new.checker)))) c.add_param-in-Unnamed.ensures
 
 pub suffix-returns-in-Empty : goal.suffix-returns-in-Empty
-suffix-returns-in-Empty t c = rw (c.in-Empty.is, show_suffix_empty c.in-Empty.opening c.in-Empty.closing, c.new.ensures) (steps.suffix_empty c.in-Empty.opening c.in-Empty.closing c.args.bodies (known_of c.args.checker.now))
+suffix-returns-in-Empty t c = rw (c.in-Empty.is, show_suffix_empty c.in-Empty.opening c.in-Empty.closing, c.new.ensures.params, c.new.ensures.names) (steps.suffix_empty c.in-Empty.opening c.in-Empty.closing c.args.bodies (known_of c.args.checker.now))
 
 pub suffix-returns-in-Void : goal.suffix-returns-in-Void
-suffix-returns-in-Void t c = rw (c.in-Void.is, show_suffix_void c.in-Void.opening c.in-Void.void c.in-Void.closing, c.new-in-Void.ensures) (steps.suffix_void c.in-Void.opening c.in-Void.void c.in-Void.closing c.args.bodies (known_of c.args.checker.now))
+suffix-returns-in-Void t c = rw (c.in-Void.is, show_suffix_void c.in-Void.opening c.in-Void.void c.in-Void.closing, c.new-in-Void.ensures.params, c.new-in-Void.ensures.names) (steps.suffix_void c.in-Void.opening c.in-Void.void c.in-Void.closing c.args.bodies (known_of c.args.checker.now))

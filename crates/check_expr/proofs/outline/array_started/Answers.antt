@@ -4,9 +4,6 @@ use Rattle.check_expr.specs.Views.{outline_of}
 use Rattle.check_expr.proofs.Outlining.{started_by, started_made, started_refused}
 use Rattle.check_expr.proofs.outline.array_started.Goals as goal
 
-pub returns-in-None : goal.returns-in-None
-returns-in-None c known = rw (started_by (outline_of c.args.outline) (outline_of c.args.outline).declared (types_in c.args.types.now known), ← c.in-None.ensures)
-
 pub returns-in_err-to : goal.returns-in_err-to
 returns-in_err-to c known =
     let p = err_from_is_err_and c.from_residual.result c.from_residual.ensures.1 in

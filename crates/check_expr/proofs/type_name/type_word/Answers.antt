@@ -46,4 +46,4 @@ returns-in_ok-base-in-EnumReference c g e =
     rw (c.in-EnumReference.is, show_spec_enum_reference c.in-EnumReference.keyword c.in-EnumReference.tag) (base_given (enum_of (tagged known c.in-EnumReference.tag.bytes.items) c.in-EnumReference.keyword known) g c.in_ok-base-in-EnumReference.base c.args.words c.with_base-in-EnumReference.result known (c.in_ok-base-in-EnumReference.ensures known) c.with_base-in-EnumReference.ensures e)
 
 pub returns-in-EnumBody : goal.returns-in-EnumBody
-returns-in-EnumBody c g e = rw (c.refused-in-EnumBody.ensures, c.in-EnumBody.is, show_spec_enum_body c.in-EnumBody.body, show_enum_body c.in-EnumBody.body.value, c.deref-in-EnumBody.ensures) (ap (λ (k : Kind). Err (record { kind = k; line = (out-EnumBody c.in-EnumBody.body.value).keyword })) (sym (rw c.deref-in-EnumBody.ensures at c.refused_enum_body.ensures (known_of c.args.checker.now))))
+returns-in-EnumBody c g e = rw (c.refused-in-EnumBody.ensures, c.in-EnumBody.is, show_spec_enum_body c.in-EnumBody.body, show_enum_body c.in-EnumBody.body.value, c.deref-in-EnumBody-2.ensures) (ap (λ (k : Kind). Err (record { kind = k; line = (out-EnumBody c.in-EnumBody.body.value).keyword })) (sym (rw c.deref-in-EnumBody.ensures at c.refused_enum_body.ensures (known_of c.args.checker.now))))
