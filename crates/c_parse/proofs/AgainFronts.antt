@@ -146,6 +146,7 @@ statement_no_spec (kinds.Keyword words.Break) h = refl
 statement_no_spec (kinds.Keyword words.Continue) h = refl
 statement_no_spec (kinds.Keyword words.Return) h = refl
 statement_no_spec (kinds.Keyword _) h = absurd cc
+statement_no_spec kinds.TypeName h = absurd cc
 statement_no_spec _ h = refl
 
 plain_no_if : (e : Option Tree) (c : ℕ) → IsAny e → (rest : Symbols) → front_is (is_key words.If) ((spelled_any e ++ punct marks.Semicolon c ∷ []) ++ rest) ≡ false

@@ -1,5 +1,5 @@
 mod Counting
-mod Names
+pub mod Names
 mod MarkedNames
 mod MarkedSteps
 mod MarkedPlaces

@@ -1,9 +1,10 @@
 use Rattle.std.proofs.Common.{length, map}
 use Rattle.std.proofs.lemmas.Result.{err_from_is_err_and}
-use Rattle.c_tree.specs.ProgramViews.{statement_of, else_arm_of, switch_item_of}
+use Rattle.c_tree.specs.ProgramViews.{condition_of, statement_of, else_arm_of, switch_item_of}
 use Rattle.c_parse.specs.Reading.{next_statement_by, next_arm_by, inner_by, statement_at}
 use Rattle.parse_expr.specs.Reader.{all_that, symbols_in}
 use Rattle.parse_expr.proofs.Loops.{collect_more, collect_ends, collect_out, collect_err}
+use Rattle.c_parse.proofs.Failing.{do_err}
 use Rattle.c_parse.proofs.statement.+statement.Goals as goal
 
 pub statements-returns-in_err-item : goal.statements-returns-in_err-item
@@ -80,3 +81,11 @@ inners-returns t c =
     let text = c.args.text.now in
     let step = inner_by c.args.fuel (statement_at c.args.fuel c.args.room) in
     collect_out step (length c.args.toks.now) c.loop.counter (map switch_item_of c.loop.found.items) (symbols_in text c.loop.rest.now) (all_that step (symbols_in text c.args.toks.now)) c.loop-test.false c.loop.invariant
+
+-- the drops of the body and of the condition leave many cases there
+pub do_loop-returns-in_err-semicolon : goal.do_loop-returns-in_err-semicolon
+do_loop-returns-in_err-semicolon t c =
+    let text = c.args.text.now in
+    let from = c.from_residual-in_err-semicolon in
+    let p = err_from_is_err_and from.result from.ensures.1 in
+    rw (p.1, p.2) (do_err c.in_err-semicolon.field-0.0 c.args.fuel (statement_at c.args.fuel c.args.room) c.args.line (symbols_in text c.args.toks.now) (statement_of c.in_ok-body.body, symbols_in text c.in_ok-body.rest.now) (c.in_ok-while_keyword.while_keyword, symbols_in text c.in_ok-while_keyword.rest.now) (condition_of c.in_ok-condition.condition, symbols_in text c.in_ok-condition.rest.now) c.in_ok-body.ensures (c.in_ok-while_keyword.ensures text) c.in_ok-condition.ensures (c.in_err-semicolon.ensures text))
