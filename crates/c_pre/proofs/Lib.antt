@@ -10,3 +10,4 @@ pub mod Defining
 pub mod Walking
 pub mod LookingUp
 pub mod Finishing
+pub mod Few

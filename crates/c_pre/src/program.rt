@@ -238,10 +238,8 @@ fn replace_all<'a>(
     Ok(output.tokens)
 }
 
-/// The tokens of a program (ISO/IEC 9899:1990, 6.8): those of the text outside directive lines, where
-/// each defined name is replaced. `raw` has the text's tokens, as `c_token::raw` gives them. A token
-/// that came from a name has its own span and that name's line.
-pub fn tokens(alloc: Global, text: &[u8], raw: &[Tok]) -> Result<Vec<Tok>, PreError>
+// The same, by the tokens and definitions of each line.
+fn tokens_left(alloc: Global, text: &[u8], raw: &[Tok]) -> Result<Vec<Tok>, PreError>
     ensures { Gives result (program_of text.now raw.now) }
 {
     let Walked {
@@ -253,4 +251,15 @@ pub fn tokens(alloc: Global, text: &[u8], raw: &[Tok]) -> Result<Vec<Tok>, PreEr
         return Err(PreError::Directive { line });
     }
     replace_all(alloc, text, &definitions, &free)
+}
+
+/// The tokens of a program (ISO/IEC 9899:1990, 6.8): those of the text outside directive lines, where
+/// each defined name is replaced. `raw` has the text's tokens, as `c_token::raw` gives them. A token
+/// that came from a name has its own span and that name's line.
+pub fn tokens(alloc: Global, text: &[u8], raw: &[Tok]) -> Result<Vec<Tok>, PreError>
+    ensures given { Gives result (program_of text.now raw.now) }
+    // They are few.
+    ensures few { IfOk result (λ toks. length toks.items ≤ 262144) }
+{
+    tokens_left(alloc, text, raw)
 }
