@@ -5,7 +5,7 @@ use Rattle.c_typed.specs.Trees.{Statement}
 use Rattle.c_typed.specs.declared.types.Qualified.{Qualified}
 use Rattle.c_typed.specs.declared.types.Ty.{Ty}
 use Rattle.type_rules.specs.Declarations as rule
-use Rattle.type_rules.specs.Declarators.{in_block, in_file, line_in, name_in, outline_of, specified}
+use Rattle.type_rules.specs.Declarators.{Context, in_block, in_file, line_in, name_in, outline_of, specified}
 use Rattle.type_rules.specs.Faults as kind
 use Rattle.type_rules.specs.Faults.{Fault}
 use Rattle.type_rules.specs.Known.{Binding, ObjectName, BitName, FunctionName, TypeNamed, EnumeratorName, Known, Rule, given, known_here, tried, go_on, ◌>>=◌}
@@ -100,6 +100,13 @@ in_block_more n b bs said known mid made e = ap (go_on (λ first. rule.more_in_b
 
 pub declaration_more : (d : DeclarationTree) (ds : List DeclarationTree) (known mid : Known) (made : List Statement) → rule.block_declaration d known ≡ Ok (made, mid) → rule.block_declarations (d ∷ ds) known ≡ behind made (rule.block_declarations ds) mid
 declaration_more d ds known mid made e = ap (go_on (λ first. rule.block_declarations ds >>= (λ others. given (first ++ others)))) e
+
+-- specifiers of the file that declare nothing else
+pub nothing_last : (d : DeclarationTree) (said : Specified) (context : Context) (known mid : Known) (result : Result Unit CheckError) → context ≡ in_file → specified d.specs context known ≡ Ok (said, mid) → d.declared ≡ None
+    → Learns result mid (rule.nothing_declared said mid) → Learns result mid (rule.file_declaration d known)
+nothing_last d said context known mid result where_ have none h =
+    let begins : specified d.specs in_file known ≡ Ok (said, mid) = ap (λ c. specified d.specs c known) (sym where_) ∙ have in
+    subst (Learns result mid) (sym (ap (go_on (rule.declared_in_file d.declared)) begins ∙ ap (λ o. rule.declared_in_file o said mid) none)) h
 
 -- ---- objects of the file
 

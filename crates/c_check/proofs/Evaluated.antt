@@ -19,6 +19,7 @@ same_value : (t : rule.Term) (form : rule.Form) (known : Known) → rule.value_i
 same_value t (rule.ValueForm value) known = refl
 same_value t (rule.PlaceForm place reach) known = refl
 same_value t (rule.FunctionForm number bare) known = refl
+same_value t rule.TypeForm known = refl
 
 same_behind : (t : rule.Term) (said : Result (Known × Known) Fault) → go_on (λ _. rule.value_in (bare t) t.form) said ≡ go_on (λ _. rule.value_in t t.form) said
 same_behind t (Ok x) = same_value t t.form x.1

@@ -1,6 +1,6 @@
 //! Declarations in the file and in blocks (ISO/IEC 9899:1990, 6.5 and 6.7).
 
-ghost use Rattle.std.specs.Prelude.{◌≡◌, [], ◌∷◌, map, Some, None, is_some, IfOk};
+ghost use Rattle.std.specs.Prelude.{◌≡◌, ◌||◌, [], ◌∷◌, map, Some, None, is_some, IfOk};
 ghost use Rattle.c_tree.specs.ProgramViews.{begun_of, declaration_of, declared_of, equals_of};
 ghost use Rattle.c_tree.specs.Views.{declarator_of};
 ghost use Rattle.c_typed.specs.Views.{statement_of};
