@@ -14,3 +14,7 @@ pub mod Declarations
 pub mod Statements
 pub mod Units
 pub mod Examples
+pub mod InTurn
+pub mod Firsts
+pub mod Ordered
+pub mod FirstFaults

@@ -1,3 +1,5 @@
 pub mod Sizes
 pub mod Weights
+pub mod Nodes
+pub mod Firsts
 pub mod Laws
