@@ -105,7 +105,7 @@ module _ (text : List ℕ) where
         ⊎_elim
         (λ e. inl (subst (λ n. is_among n m.known ≡ true) spelled (and_parts (not (hides m.before)) (is_among (word_of text t) m.known) (and_parts (is_name t.kind) (not (hides m.before) && is_among (word_of text t) m.known) e).1).1))
         (λ e. let other : marked_token text m t ≡ t = is_other t (is_marked text m t) e in
-          inr (and_from (nat_eq m.depth 0) (is_name (marked_token text m t).kind && not (is_tag_word m.before)) (sym outside ∙ out) (and_from (is_name (marked_token text m t).kind) (not (is_tag_word m.before)) (subst (λ (u : Tok). is_name u.kind ≡ true) (sym other) is) (not_from_false (is_tag_word m.before) (s.tags ∙ no_tag))), (bytes_eq-Decides name (word_of text (marked_token text m t))).1 (sym spelled ∙ ap (word_of text) (sym other))))
+        inr (and_from (nat_eq m.depth 0) (is_name (marked_token text m t).kind && not (is_tag_word m.before)) (sym outside ∙ out) (and_from (is_name (marked_token text m t).kind) (not (is_tag_word m.before)) (subst (λ (u : Tok). is_name u.kind ≡ true) (sym other) is) (not_from_false (is_tag_word m.before) (s.tags ∙ no_tag))), (bytes_eq-Decides name (word_of text (marked_token text m t))).1 (sym spelled ∙ ap (word_of text) (sym other))))
         (cases_Bool (is_marked text m t))
 
     token : Token text toks k m.known (marked_token text m t) (begins m (marked_token text m t).kind) (nat_eq m.depth 0 && is_punct marks.Semicolon (marked_token text m t).kind) (nat_eq m.depth 0 && (is_name (marked_token text m t).kind && not (is_tag_word m.before)))
@@ -117,8 +117,8 @@ module _ (text : List ℕ) where
       apart = λ h. and_right (is_outside toks k) (is_punct marks.Semicolon (kind_at toks k)) (typedef_apart (kind_at toks k) h);
       declares = declares_one;
       all_declare = λ from name h is.
-        let same : t ≡ h.token = same_some t h.token (sym at ∙ sym (ap (slice_get toks) is) ∙ h.at) in
-        declares_all name (subst (λ (u : Tok). is_name u.kind ≡ true) (sym same) h.is) (subst (λ i. is_outside toks i ≡ true) is h.outside) (subst (λ i. is_tag_word (kind_before toks i) ≡ false) is h.no_tag) (ap (word_of text) same ∙ h.spelled);
+          let same : t ≡ h.token = same_some t h.token (sym at ∙ sym (ap (slice_get toks) is) ∙ h.at) in
+          declares_all name (subst (λ (u : Tok). is_name u.kind ≡ true) (sym same) h.is) (subst (λ i. is_outside toks i ≡ true) is h.outside) (subst (λ i. is_tag_word (kind_before toks i) ≡ false) is h.no_tag) (ap (word_of text) same ∙ h.spelled);
     }
 
     at_next : At toks (suc k) (known_behind text m (marked_token text m t))

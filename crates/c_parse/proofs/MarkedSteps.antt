@@ -156,9 +156,9 @@ module _ (text : List ℕ) (toks : List Tok) where
         all_coming = λ from name o h. absurd (none from o);
         known_are = λ name h. ⊎_elim (λ e. named_later k name (s.known_are name e)) (λ e. named here.from k (suc k) name (ended here.from k here.opened at.within at.ends) (omega arith) (here.declared name e)) (put_are text coming known name h);
         all_known = λ name h. ⊎_elim (λ lt. put_keeps text coming known name (s.all_known name (named_before k name h lt)))
-          (λ is. ⊎_elim (λ e. put_all text coming known name e) (λ e. put_keeps text coming known name e)
+            (λ is. ⊎_elim (λ e. put_all text coming known name e) (λ e. put_keeps text coming known name e)
             (s.all_coming h.from name (subst (λ i. Opened toks h.from i) is (under_way h.from h.to h.typedef)) (subst (λ i. Declared text toks h.from i name) is (declared_in (suc k) name h))))
-          (last h.to k h.before);
+            (last h.to k h.before);
       }
 
   -- one goes on: with no name more, or with one
@@ -178,13 +178,13 @@ module _ (text : List ℕ) (toks : List Tok) where
         };
         all_open = λ from o. refl;
         all_coming = λ from name o h. ⊎_elim
-          (λ lt. ⊎_elim (λ e. inl (kept name e)) (λ e. inr e) (s.all_coming from name (opened_before from k o (let l = h.behind in omega (arith, l, lt))) (declared_before from k name h lt)))
-          (λ is. ⊎_elim (λ e. inr e) (λ e. inl (new name e.0 e.1)) (at.all_declare from name h is))
-          (last h.place k h.within);
+            (λ lt. ⊎_elim (λ e. inl (kept name e)) (λ e. inr e) (s.all_coming from name (opened_before from k o (let l = h.behind in omega (arith, l, lt))) (declared_before from k name h lt)))
+            (λ is. ⊎_elim (λ e. inr e) (λ e. inl (new name e.0 e.1)) (at.all_declare from name h is))
+            (last h.place k h.within);
         known_are = λ name h. named_later k name (s.known_are name h);
         all_known = λ name h. ⊎_elim (λ lt. s.all_known name (named_before k name h lt))
-          (λ is. absurd (one_of (ends_at toks k) (subst (λ i. ends_at toks i ≡ true) is h.typedef.ends) at.ends))
-          (last h.to k h.before);
+            (λ is. absurd (one_of (ends_at toks k) (subst (λ i. ends_at toks i ≡ true) is h.typedef.ends) at.ends))
+            (last h.to k h.before);
       }
 
   -- all together

@@ -15,6 +15,8 @@ use Rattle.c_typed.specs.Trees.{FunctionTree, Program}
 use Rattle.parse_expr.specs.Reader.{symbol_in}
 use Rattle.parse_expr.specs.declared.error.ParseError.{ParseError}
 use Rattle.c_parse.specs.Limits.{first_over}
+use Rattle.c_parse.specs.Marks.{nothing_marked, marked}
+use Rattle.c_parse.proofs.Names.{as_many}
 use Rattle.type_rules.specs.Declarations.{file_declaration}
 use Rattle.type_rules.specs.Faults.{Fault}
 use Rattle.type_rules.specs.Known.{Known, known_first, given, go_on, ◌>>=◌}
@@ -53,12 +55,16 @@ program_few text raw toks is =
     limited_few 262144 (flat_map (events_of text) (free_tokens (items text raw 0 []))) toks
     (judged_ok (first_word text (items text raw 0 [])) (first_bad (items text raw 0 [])) (limited 262144 (flat_map (events_of text) (free_tokens (items text raw 0 [])))) toks is)
 
-directives_ok : (r : Result (List Tok) PreError) (toks : List Tok) → behind_directives r ≡ Ok toks → r ≡ Ok toks
-directives_ok (Ok ts) toks is = ap Ok (ok_is (behind_directives (Ok ts)) ts toks refl is)
-directives_ok (Err e) toks is = absurd (cc)
+directives_few : (text : List ℕ) (r : Result (List Tok) PreError) (toks : List Tok) → ((ts : List Tok) → r ≡ Ok ts → length ts ≤ 262144) → behind_directives text r ≡ Ok toks → length toks ≤ 262144
+directives_few text (Ok ts) toks few is =
+    let low = few ts refl in
+    let marks = as_many text nothing_marked ts in
+    let same = ap length (ok_is (behind_directives text (Ok ts)) (marked text ts) toks refl is) in
+    omega (arith, low, marks, same)
+directives_few text (Err e) toks few is = absurd (cc)
 
 scanned_few : (text : List ℕ) (scanned : Result (List Tok) LexError) (toks : List Tok) → behind_tokens text scanned ≡ Ok toks → length toks ≤ 262144
-scanned_few text (Ok raw) toks is = program_few text raw toks (directives_ok (program_of text raw) toks is)
+scanned_few text (Ok raw) toks is = directives_few text (program_of text raw) toks (λ ts left. program_few text raw ts left) is
 scanned_few text (Err e) toks is = absurd (cc)
 
 left_few : (text : List ℕ) (toks : List Tok) → tokens_left text ≡ Ok toks → length toks ≤ 262144
