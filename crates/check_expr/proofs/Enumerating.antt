@@ -1,7 +1,7 @@
 -- Enumerations: an enumerator, the enumerators from the front of the list, and the tag.
 use Rattle.std.proofs.Common.{◌≡◌, ℕ, ◌+◌, ◌-◌, ◌^◌, ◌<◌, ◌≤◌, ℤ, pos, negsuc, ◌+ℤ◌, ◌≤ℤ◌, ◌<ℤ◌, to_z, of_z, w64, Bool, true, false, not, List, [], ◌∷◌, drop, length, map, Option, Result, Ok, Err, refl, sym, ap, subst, ◌∙◌, arith}
 use Rattle.std.proofs.lemmas.Bool.{true≢false}
-use Rattle.std.proofs.lemmas.Int.{to_z-of_z}
+use Rattle.std.proofs.lemmas.Int.{ints, to_z-of_z}
 use Rattle.std.proofs.Math.ListN.{get_or}
 use Rattle.c_ints.specs.Quantity.{Quantity}
 use Rattle.c_tree.specs.Lists.{more_enumerators}
@@ -70,6 +70,10 @@ number_unbound name n k after e h i b = subst (Refuses e) (sym (tests_met name n
 
 pub number_given : (name : Symbol) (n : ℤ) (k after bound : Known) → tests_of_new k name.bytes name.line k ≡ Ok (after, after) → rule.is_int n ≡ true → bind name.bytes (EnumeratorName n) k ≡ Ok (bound, bound) → rule.numbered name n k ≡ Ok (n +ℤ pos 1, bound)
 number_given name n k after bound h i b = tests_met name n k after h i ∙ ap (go_on (after_bound n)) b
+
+-- the number of the next one as the machine keeps it
+pub next_kept : (n : ℤ) → rule.is_int n ≡ true → to_z w64 (of_z w64 (n +ℤ pos 1)) ≡ n +ℤ pos 1
+next_kept n int = grind (arith, ints, to_z-of_z)
 
 -- ---- an enumerator with a value
 

@@ -1,4 +1,5 @@
-use Rattle.std.proofs.Common.{map}
+use Rattle.std.proofs.Common.{map, w64}
+use Rattle.std.proofs.lemmas.Int.{to_z-of_z}
 use Rattle.std.proofs.lemmas.Result.{err_from_is_err_and}
 use Rattle.c_tree.specs.Views.{enum_body_of, enumerator_of, next_enumerator_of}
 use Rattle.c_tree.specs.Words.{spell_tag}
@@ -21,7 +22,12 @@ returns-in_err-next c =
 pub returns-in_err-_next : goal.returns-in_err-_next
 returns-in_err-_next c =
     let p = err_from_is_err_and c.from_residual-in_err-_next.result c.from_residual-in_err-_next.ensures.1 in
-    rw (p.1, p.2) (rest_unnumbered (enum_body_of c.args.body.now) (out-EnumBody c.args.body.now).keyword (spell_tag (out-EnumBody c.args.body.now).tag) (out-EnumBody c.args.body.now).opening (enumerator_of (out-EnumBody c.args.body.now).first) (map next_enumerator_of (out-EnumBody c.args.body.now).others.items) (out-EnumBody c.args.body.now).last_comma (out-EnumBody c.args.body.now).closing c.args.bodies (known_of c.args.checker.now) (show_enum_body c.args.body.now) (c.in_ok-refuse_body.ensures (known_of c.args.checker.now)) c.in_ok-next.next _ c.in_ok-next.ensures c.in_err-_next.field-0.0 (rw c.deref.ensures.value at c.in_err-_next.ensures))
+    let told = rw c.in_ok-next.was at c.enumerator.type_inv in
+    let same = to_z-of_z w64 c.in_ok-next.next (record { sfits = told.1.1.1.1.0.1 }) in
+    rw (p.1, p.2) (rest_unnumbered (enum_body_of c.args.body.now) (out-EnumBody c.args.body.now).keyword (spell_tag (out-EnumBody c.args.body.now).tag) (out-EnumBody c.args.body.now).opening (enumerator_of (out-EnumBody c.args.body.now).first) (map next_enumerator_of (out-EnumBody c.args.body.now).others.items) (out-EnumBody c.args.body.now).last_comma (out-EnumBody c.args.body.now).closing c.args.bodies (known_of c.args.checker.now) (show_enum_body c.args.body.now) (c.in_ok-refuse_body.ensures (known_of c.args.checker.now)) c.in_ok-next.next _ c.in_ok-next.ensures c.in_err-_next.field-0.0 (rw (c.deref.ensures.value, same) at c.in_err-_next.ensures))
 
 pub returns : goal.returns
-returns c = enumeration_closes (enum_body_of c.args.body.now) (out-EnumBody c.args.body.now).keyword (spell_tag (out-EnumBody c.args.body.now).tag) (out-EnumBody c.args.body.now).opening (enumerator_of (out-EnumBody c.args.body.now).first) (map next_enumerator_of (out-EnumBody c.args.body.now).others.items) (out-EnumBody c.args.body.now).last_comma (out-EnumBody c.args.body.now).closing c.args.bodies (known_of c.args.checker.now) (show_enum_body c.args.body.now) (c.in_ok-refuse_body.ensures (known_of c.args.checker.now)) c.in_ok-next.next _ c.in_ok-next.ensures c.in_ok-_next._next _ _ c.close.result (rw c.deref.ensures.value at c.in_ok-_next.ensures) (c.close.ensures (known_of c.enumerators.new.checker))
+returns c =
+    let told = rw c.in_ok-next.was at c.enumerator.type_inv in
+    let same = to_z-of_z w64 c.in_ok-next.next (record { sfits = told.1.1.1.1.0.1 }) in
+    enumeration_closes (enum_body_of c.args.body.now) (out-EnumBody c.args.body.now).keyword (spell_tag (out-EnumBody c.args.body.now).tag) (out-EnumBody c.args.body.now).opening (enumerator_of (out-EnumBody c.args.body.now).first) (map next_enumerator_of (out-EnumBody c.args.body.now).others.items) (out-EnumBody c.args.body.now).last_comma (out-EnumBody c.args.body.now).closing c.args.bodies (known_of c.args.checker.now) (show_enum_body c.args.body.now) (c.in_ok-refuse_body.ensures (known_of c.args.checker.now)) c.in_ok-next.next _ c.in_ok-next.ensures c.in_ok-_next._next _ _ c.close.result (rw (c.deref.ensures.value, same) at c.in_ok-_next.ensures) (c.close.ensures (known_of c.enumerators.new.checker))

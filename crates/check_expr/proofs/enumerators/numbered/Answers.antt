@@ -3,7 +3,7 @@ use Rattle.std.proofs.lemmas.Int.{to_z-of_z}
 use Rattle.std.proofs.lemmas.Result.{err_from_is_err_and}
 use Rattle.c_tree.specs.Words.{named}
 use Rattle.c_operate.specs.Tables.{known_of}
-use Rattle.check_expr.proofs.Enumerating.{number_again, number_wide, number_unbound, number_given}
+use Rattle.check_expr.proofs.Enumerating.{number_again, number_wide, number_unbound, number_given, next_kept}
 use Rattle.check_expr.proofs.enumerators.numbered.Goals as goal
 
 pub returns-in_err-refuse_again : goal.returns-in_err-refuse_again
@@ -29,4 +29,5 @@ pub returns : goal.returns
 returns c =
     let known = known_of c.args.checker.now in
     let same = to_z-of_z w64 c.args.number c.ranges.number in
-    ?
+    let int = sym (rw same at c.if-not-is_int.ensures) in
+    rw (same, next_kept c.args.number int) (number_given (named c.args.name.now) c.args.number known known _ (rw c.deref.ensures.value at (c.in_ok-refuse_again.ensures known)) int (rw (c.deref-2.ensures.value, c.bits_of.ensures, same) at (c.in_ok-bind.ensures known)))
