@@ -16,7 +16,8 @@ use Rattle.type_rules.specs.Statements.{Flow, SwitchBody, statements, items}
 use Rattle.type_rules.specs.Units.{functions_of}
 use Rattle.typed_size.specs.Nodes.{Placed}
 
--- An element of a list breaks a rule, where all before it are fine: these lead from one state to another, and there the element breaks the rule.
+-- An element of a list breaks a rule, where all before it are fine: these lead from one state to another, and there the element breaks the
+-- rule.
 pub record FirstBroken {A S : Type 0} (run : List A → S → Result S Fault) (all : List A) (start : S) (fault : Fault) : Type 0 where
   pub before : List A
   pub broken : A

@@ -23,9 +23,10 @@ JudgedSmall = (unit : List ItemTree) (p : Program) → judged_unit unit ≡ Ok p
 abbrev pub JudgedBounded : Type 0
 JudgedBounded = (unit : List ItemTree) (p : Program) → judged_unit unit ≡ Ok p → length (spelled_unit unit) ≤ 262144 → size_of p ≤ 2 ^ 20
 
--- The rule that is told as broken is the first in the order of the text. Of an expression: its nodes end one behind the other; it is met exactly where each of
--- its nodes is fine, and then it is what the last of them is; and it breaks a rule exactly where the first node that isn't fine breaks that. Of a list of
--- declarations, declarators, members, enumerators, parameters, statements or labels: it breaks a rule exactly where the first of them that isn't fine breaks that.
+-- The rule that is told as broken is the first in the order of the text. Of an expression: its nodes end one behind the other; it is met
+-- exactly where each of its nodes is fine, and then it is what the last of them is; and it breaks a rule exactly where the first node that
+-- isn't fine breaks that. Of a list of declarations, declarators, members, enumerators, parameters, statements or labels: it breaks a rule
+-- exactly where the first of them that isn't fine breaks that.
 pub record FirstFault : Type 0 where
   pub order : (e : Tree) (from : ℕ) → InOrder from (nodes_of e from) (from + length (spelled e))
   pub met : (e : Tree) (from : ℕ) (known : Known) (t : Term) (behind : Known) → Exactly (judged e known ≡ Ok (t, behind)) (read (nodes_of e from) ([], known) ≡ Ok (TermPart t ∷ [], behind))

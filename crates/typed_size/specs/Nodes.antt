@@ -14,8 +14,8 @@ use Rattle.type_rules.specs.Terms.{Operand, Term, used, no_table}
 use Rattle.type_rules.specs.TypeNames.{type_named}
 use Rattle.type_rules.specs.Writes.{assignment, stepped, called, call}
 
--- A node, without its parts. A node of its own is also an operand whose value is used, where another operand follows; the left side of an assignment; what
--- stands before `[`; and what is called.
+-- A node, without its parts. A node of its own is also an operand whose value is used, where another operand follows; the left side of an
+-- assignment; what stands before `[`; and what is called.
 pub data Node : Type 0 where
   LeafNode : Symbol → Node
   GroupNode : ℕ → Node
