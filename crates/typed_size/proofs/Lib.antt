@@ -13,6 +13,7 @@ pub mod Objects
 pub mod Declarations
 pub mod Statements
 pub mod Units
+pub mod Counts
 pub mod Examples
 pub mod InTurn
 pub mod Firsts
