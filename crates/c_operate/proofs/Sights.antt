@@ -1,5 +1,5 @@
 -- Tables as the rules see them: what a function finds there, and what is known behind it.
-use Rattle.std.proofs.Common.{◌≡◌, ℕ, zero, suc, ◌+◌, ◌*◌, ◌<◌, ◌≤◌, Bool, false, not, bytes_eq, is_some, position, List, [], ◌∷◌, ◌++◌, map, length, get_or, slice_index, slice_get, Option, Some, None, option_map, Result, Ok, Err, Vec, Global, IfOk, IfErr, refl, sym, ap, subst, ◌∙◌, arith, mul_comm, append-nil}
+use Rattle.std.proofs.Common.{◌≡◌, ℕ, zero, suc, ◌+◌, ◌*◌, ◌<◌, ◌≤◌, Bool, false, not, bytes_eq, is_some, position, List, [], ◌∷◌, ◌++◌, map, length, get_or, slice_index, slice_get, Some, None, option_map, Result, Ok, Err, Vec, Global, IfOk, IfErr, refl, sym, ap, subst, ◌∙◌, arith, mul_comm, append-nil}
 use Rattle.std.specs.Map.{lookup, keys_of}
 use Rattle.indexmap.specs.IndexMap.{insert_entry}
 use Rattle.c_typed.specs.Sound.{kept}

@@ -1,5 +1,5 @@
 -- What a call of the checker answers, and what the rules say of the same place: the same, unless memory runs out.
-use Rattle.std.specs.Prelude.{◌≡◌, ℕ, Option, Some, None, Result, Ok, Err, ⊤}
+use Rattle.std.specs.Prelude.{◌≡◌, ℕ, Result, Ok, Err, ⊤}
 use Rattle.type_rules.specs.Faults as rule
 use Rattle.type_rules.specs.Faults.{Fault}
 use Rattle.type_rules.specs.Known.{Known}

@@ -1,5 +1,5 @@
 -- The tables of the checker, as the rules speak of them: what is known at a place.
-use Rattle.std.specs.Prelude.{ℕ, pos, List, [], ◌∷◌, map, reverse, Option}
+use Rattle.std.specs.Prelude.{pos, List, [], map, reverse}
 use Rattle.c_ints.specs.Range.{cut}
 use Rattle.c_ints.specs.declared.types.IntTy.TheVariants as int
 use Rattle.c_typed.specs.Views.{static_of, variable_of}

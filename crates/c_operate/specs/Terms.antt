@@ -1,5 +1,5 @@
 -- The terms and operands of the checker, as the rules speak of them.
-use Rattle.std.specs.Prelude.{ℕ, List, [], Option, Some, None}
+use Rattle.std.specs.Prelude.{ℕ, [], Option, Some, None}
 use Rattle.std.specs.Option.{option_map}
 use Rattle.c_typed.specs.Trees.{Place}
 use Rattle.c_typed.specs.declared.expression.TExpr.{TExpr}

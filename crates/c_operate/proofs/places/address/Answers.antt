@@ -1,5 +1,5 @@
-use Rattle.std.proofs.Common.{Ok, refl, sym, ap, ◌∙◌}
-use Rattle.c_typed.specs.Views.{expression_of, place_of}
+use Rattle.std.proofs.Common.{refl, sym, ap, ◌∙◌}
+use Rattle.c_typed.specs.Views.{place_of}
 use Rattle.type_rules.specs.Places as rule
 use Rattle.type_rules.specs.Rows.{pointer_to}
 use Rattle.c_operate.specs.Tables.{types_in}

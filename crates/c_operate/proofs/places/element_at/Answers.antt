@@ -1,9 +1,8 @@
-use Rattle.std.proofs.Common.{Ok, refl, ap, sym, ◌∙◌}
-use Rattle.std.specs.Option.{option_map}
+use Rattle.std.proofs.Common.{refl, ap, ◌∙◌}
 use Rattle.type_rules.specs.Conversions.{converted}
 use Rattle.type_rules.specs.Known.{given}
 use Rattle.type_rules.specs.Places as rule
-use Rattle.c_operate.specs.Terms.{operand_of, operation_of, reach_of, term_of}
+use Rattle.c_operate.specs.Terms.{operand_of, operation_of, term_of}
 use Rattle.c_operate.proofs.PlaceSteps.{element_as}
 use Rattle.c_operate.proofs.Refusing.{made, only_memory, given_is}
 use Rattle.c_operate.proofs.Steps.{passed_on}

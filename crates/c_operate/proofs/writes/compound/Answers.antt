@@ -1,7 +1,7 @@
 use Rattle.std.proofs.Common.{false, refl, sym, ap, ◌∙◌}
 use Rattle.c_typed.specs.Trees as typed
 use Rattle.c_typed.specs.Types.{place_type}
-use Rattle.c_typed.specs.Views.{expression_of, place_of}
+use Rattle.c_typed.specs.Views.{place_of}
 use Rattle.type_rules.specs.Conversions.{converted}
 use Rattle.type_rules.specs.Known.{given}
 use Rattle.type_rules.specs.Operations as operations

@@ -1,7 +1,7 @@
 use Rattle.std.proofs.Common.{sym, ap, ◌∙◌}
 use Rattle.c_typed.specs.Sameness.{same_type}
 use Rattle.c_typed.specs.Trees as typed
-use Rattle.c_typed.specs.Types.{type_of, place_type}
+use Rattle.c_typed.specs.Types.{type_of}
 use Rattle.c_typed.specs.Views.{expression_of, place_of}
 use Rattle.type_rules.specs.Rows.{bytes_of}
 use Rattle.type_rules.specs.Terms.{value_term}

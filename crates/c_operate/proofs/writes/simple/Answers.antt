@@ -1,4 +1,4 @@
-use Rattle.std.proofs.Common.{sym, ap, subst, ◌≡◌, Ok, ◌∙◌}
+use Rattle.std.proofs.Common.{sym, ap, subst, ◌∙◌}
 use Rattle.c_typed.specs.Sameness.{is_struct}
 use Rattle.c_typed.specs.Trees as typed
 use Rattle.c_typed.specs.Types.{place_type}

@@ -1,6 +1,5 @@
 use Rattle.std.proofs.Common.{sym, ap, ◌∙◌}
 use Rattle.c_typed.specs.Trees as typed
-use Rattle.c_typed.specs.Types.{place_type}
 use Rattle.c_typed.specs.Views.{place_of}
 use Rattle.type_rules.specs.Writes as rule
 use Rattle.c_operate.specs.Tables.{types_in}
