@@ -1,14 +1,13 @@
 -- A text has few functions: a token at least is spelled for each, and a text has at most 262,144 tokens.
-use Rattle.std.proofs.Common.{◌≡◌, ℕ, zero, suc, ◌≤◌, Bool, true, false, List, [], ◌∷◌, ◌++◌, length, Option, Some, None, Result, Ok, Err, refl, sym, ap, ◌∙◌, arith}
+use Rattle.std.proofs.Common.{◌≡◌, ℕ, suc, ◌≤◌, Bool, true, false, List, [], ◌∷◌, ◌++◌, length, Option, Some, None, Result, Ok, Err, refl, sym, ap, ◌∙◌, arith}
 use Rattle.std.specs.Prelude.{nat_lt, if◌then◌else◌}
-use Rattle.std.specs.List.{flat_map}
 use Rattle.std.proofs.lemmas.List.{length-append, length-map}
 use Rattle.c_token.specs.Text.{tokens_of}
 use Rattle.c_token.specs.declared.token.LexError.{LexError}
 use Rattle.c_token.specs.declared.token.Tok.{Tok}
-use Rattle.c_pre.specs.Items.{items, first_word, first_bad, free_tokens, judged, program_of}
-use Rattle.c_pre.specs.Replace.{Event, Left, Replaced, events_of, with_token, limited}
+use Rattle.c_pre.specs.Items.{program_of}
 use Rattle.c_pre.specs.declared.PreError.{PreError}
+use Rattle.c_pre.proofs.Few.{program_few}
 use Rattle.c_tree.specs.Programs.{ItemTree, Function, Declaration, BlockTree, Block, spelled_block, spelled_item, spelled_unit}
 use Rattle.c_tree.specs.Trees.{SpecTrees, DeclaratorTree, spelled_specs, spelled_declarator}
 use Rattle.c_typed.specs.Trees.{FunctionTree, Program}
@@ -32,28 +31,6 @@ use Rattle.picc_core.specs.declared.refusal.Refusal.TheVariants.{Limit}
 -- ---- tokens
 ok_is : {A E : Type 0} (r : Result A E) (x y : A) → r ≡ Ok x → r ≡ Ok y → x ≡ y
 ok_is r x y here there = let both = sym here ∙ there in cc
-
-limited_few : (room : ℕ) (es : List Event) (toks : List Tok) → limited room es ≡ Ok toks → length toks ≤ room
-unfolding limited
-limited_few room [] toks is = let none = ap length (ok_is (limited room []) [] toks refl is) in omega (arith, none)
-limited_few zero (Left t ∷ es) toks is = absurd (cc)
-limited_few zero (Replaced line ∷ es) toks is = absurd (cc)
-limited_few (suc room) (Left t ∷ es) toks is = by (limited room es) (λ ts. limited_few room es ts) is
-  where
-    by : (r : Result (List Tok) PreError) → ((ts : List Tok) → r ≡ Ok ts → length ts ≤ room) → with_token t r ≡ Ok toks → length toks ≤ suc room
-    by (Ok ts) few all = let low = few ts refl in let long = ap length (ok_is (with_token t (Ok ts)) (t ∷ ts) toks refl all) in omega (arith, low, long)
-    by (Err e) few all = absurd (cc)
-limited_few (suc room) (Replaced line ∷ es) toks is = let low = limited_few room es toks is in omega (arith, low)
-
-judged_ok : (word bad : Option ℕ) (r : Result (List Tok) PreError) (toks : List Tok) → judged word bad r ≡ Ok toks → r ≡ Ok toks
-judged_ok (Some line) bad r toks is = absurd (cc)
-judged_ok None (Some line) r toks is = absurd (cc)
-judged_ok None None r toks is = is
-
-program_few : (text : List ℕ) (raw toks : List Tok) → program_of text raw ≡ Ok toks → length toks ≤ 262144
-program_few text raw toks is =
-    limited_few 262144 (flat_map (events_of text) (free_tokens (items text raw 0 []))) toks
-    (judged_ok (first_word text (items text raw 0 [])) (first_bad (items text raw 0 [])) (limited 262144 (flat_map (events_of text) (free_tokens (items text raw 0 [])))) toks is)
 
 directives_few : (text : List ℕ) (r : Result (List Tok) PreError) (toks : List Tok) → ((ts : List Tok) → r ≡ Ok ts → length ts ≤ 262144) → behind_directives text r ≡ Ok toks → length toks ≤ 262144
 directives_few text (Ok ts) toks few is =
