@@ -1,10 +1,11 @@
 -- What the answer tells of the trees that the tokens spell.
-use Rattle.std.proofs.Common.{◌≡◌, ℕ, List, [], ◌∷◌, Option, Some, None, Result, Ok, Err, IfOk, Bool, true, false, nat_lt, cond, refl, sym, ap, subst, ◌∙◌}
+use Rattle.std.proofs.Common.{◌≡◌, ℕ, List, [], ◌∷◌, Option, Some, None, Result, Ok, Err, IfOk, Bool, true, false, length, nat_lt, cond, refl, sym, ap, subst, ◌∙◌}
 use Rattle.c_token.specs.declared.token.Tok.{Tok}
 use Rattle.c_tree.specs.Programs.{ItemTree, IsUnit, spelled_unit}
 use Rattle.parse_expr.specs.declared.error.ParseError.{ParseError}
 use Rattle.parse_expr.specs.declared.error.ParseError.TheVariants.{NoMemory, Nesting, Run, Syntax}
-use Rattle.parse_expr.specs.Reader.{Gives, Fails, symbols_in}
+use Rattle.std.proofs.lemmas.List.{length-map}
+use Rattle.parse_expr.specs.Reader.{Gives, Fails, symbol_in, symbols_in}
 use Rattle.parse_expr.proofs.Plain.{symbols_plain}
 use Rattle.c_parse.specs.Limits.{open_after, run_after, judged, first_over, IsLimit}
 use Rattle.c_parse.specs.Reading.{unit_by}
@@ -28,6 +29,11 @@ found view text toks (Err e) limit within = tt
 
 pub only : {X : Type 0} (view : X → List ItemTree) (text : List ℕ) (toks : List Tok) (r : Result X ParseError) → Within view text toks r → (u : List ItemTree) → IsUnit u → symbols_in text toks ≡ spelled_unit u → first_over 0 0 toks ≡ None → Gives view r (Some u)
 only view text toks r within u is e none = subst (λ q. Gives view r q) (ap unit_by e ∙ unit_again u is) (within none)
+
+-- a tree has as many tokens as it was read of
+pub as_long : {X : Type 0} (view : X → List ItemTree) (text : List ℕ) (toks : List Tok) (r : Result X ParseError) → IfOk r (λ u. (symbols_in text toks ≡ spelled_unit (view u)) × IsUnit (view u)) → IfOk r (λ u. length (spelled_unit (view u)) ≡ length toks)
+as_long view text toks (Ok u) is = sym (ap length is.0) ∙ length-map toks (symbol_in text)
+as_long view text toks (Err e) is = tt
 
 -- a limit's error is none of reading
 not_read : (e : ParseError) (read : Option (List ItemTree)) → IsLimit e → Fails e read → ⊥

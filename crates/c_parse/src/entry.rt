@@ -1,6 +1,6 @@
 //! Parsing a whole text.
 
-ghost use Rattle.std.specs.Prelude.{◌≡◌, List, ℕ, Some, None, Err, IfOk};
+ghost use Rattle.std.specs.Prelude.{◌≡◌, List, ℕ, length, Some, None, Err, IfOk};
 ghost use Rattle.c_tree.specs.Programs.{ItemTree, IsUnit, spelled_unit};
 ghost use Rattle.c_tree.specs.ProgramViews.{unit_of};
 ghost use Rattle.parse_expr.specs.declared.error.ParseError.TheVariants.{Syntax};
@@ -65,6 +65,8 @@ pub fn parse(alloc: Global, text: &[u8], toks: &[Tok]) -> Result<Unit, ParseErro
     ensures limit_only { (e : ParseError) → result ≡ Err e → IsLimit e → first_over 0 0 toks.now ≡ Some e }
     // What is given is a tree of the grammar, and it is spelled by exactly these tokens.
     ensures found { IfOk result (λ u. (symbols_in text.now toks.now ≡ spelled_unit (unit_of u)) × IsUnit (unit_of u)) }
+    // So it has as many tokens.
+    ensures many { IfOk result (λ u. length (spelled_unit (unit_of u)) ≡ length toks.now) }
     // Each tree that these tokens spell is the one that is given, unless memory runs out: there is one at most.
     ensures only { (u : List ItemTree) → IsUnit u → symbols_in text.now toks.now ≡ spelled_unit u → first_over 0 0 toks.now ≡ None → Gives unit_of result (Some u) }
     // An error of syntax comes only where there is no tree.

@@ -1,6 +1,6 @@
 //! The names of types in a list of tokens.
 
-ghost use Rattle.std.specs.Prelude.{ℕ, List, ◌≡◌, ◌≤◌, ◌<◌, ◌+◌, ◌++◌, ◌∷◌, [], map, false, IfOk};
+ghost use Rattle.std.specs.Prelude.{ℕ, List, ◌≡◌, ◌≤◌, ◌<◌, ◌+◌, ◌++◌, ◌∷◌, [], length, map, false, IfOk};
 ghost use Rattle.c_parse.specs.Limits.{open_after};
 ghost use Rattle.c_parse.specs.Marks as rule;
 ghost use Rattle.c_parse.specs.Marks.{nothing_marked};
@@ -176,7 +176,9 @@ impl Marking {
 /// after its declaration on, except directly after `.`, `->`, `struct` or `enum`. `toks` are the tokens that are left
 /// of the text after directives and replacement.
 pub fn mark(alloc: Global, text: &[u8], toks: &[Tok]) -> Result<Vec<Tok>, AllocError>
-    ensures { IfOk result (λ v. v.items ≡ rule.marked text.now toks.now) }
+    ensures marked { IfOk result (λ v. v.items ≡ rule.marked text.now toks.now) }
+    // They are as many.
+    ensures many { IfOk result (λ v. length v.items ≡ length toks.now) }
 {
     let mut marking = begun(alloc);
     let mut out = Vec::new(alloc);

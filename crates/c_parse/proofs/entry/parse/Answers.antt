@@ -1,5 +1,5 @@
 use Rattle.c_tree.specs.ProgramViews.{unit_of}
-use Rattle.c_parse.proofs.Whole.{found, only, limit_only, no_tree}
+use Rattle.c_parse.proofs.Whole.{found, as_long, only, limit_only, no_tree}
 use Rattle.c_parse.proofs.entry.parse.Goals as goal
 
 pub returns : goal.returns
@@ -12,6 +12,7 @@ returns c =
       limit = k.limit;
       limit_only = limit_only unit_of text toks r k.limit k.within;
       found = found unit_of text toks r k.limit k.within;
+      many = as_long unit_of text toks r (found unit_of text toks r k.limit k.within);
       only = only unit_of text toks r k.within;
       no_tree = no_tree unit_of text toks r k.limit k.within;
     }

@@ -1,6 +1,7 @@
-use Rattle.std.proofs.Common.{arith}
+use Rattle.std.proofs.Common.{ap, arith, length, ◌∙◌}
+use Rattle.c_parse.specs.Marks.{nothing_marked}
 use Rattle.c_parse.specs.MarkViews.{marking_of}
-use Rattle.c_parse.proofs.Names.{marked_goes_on, marked_ends}
+use Rattle.c_parse.proofs.Names.{marked_goes_on, marked_ends, as_many}
 use Rattle.c_parse.proofs.marks.mark.Goals as goal
 
 pub loop-tok-preserved : goal.loop-tok-preserved
@@ -9,4 +10,6 @@ loop-tok-preserved c =
     (rw c.in_ok-push.ensures.items on, omega (arith, c.in_ok-pass.ensures.by_one, c.loop-tok.invariant.1))
 
 pub returns : goal.returns
-returns c = marked_ends c.args.text.now c.args.toks.now c.loop-tok.tok-index (marking_of c.loop-tok.marking) c.loop-tok.out.items _ c.loop-tok-test.false c.loop-tok.invariant.0
+returns c =
+    let exact = marked_ends c.args.text.now c.args.toks.now c.loop-tok.tok-index (marking_of c.loop-tok.marking) c.loop-tok.out.items _ c.loop-tok-test.false c.loop-tok.invariant.0 in
+    record { marked = exact; many = ap length exact ∙ as_many c.args.text.now nothing_marked c.args.toks.now }
