@@ -9,5 +9,5 @@ pub returns-clause-answer : goal.returns-clause-answer
 returns-clause-answer c =
     let text = c.args.text.now in
     let all = subst (λ (l : List Tok). program_of text l ≡ Ok c.in_ok-left.left.items) c.deref.ensures.value c.in_ok-left.ensures.given in
-    let named = c.in_ok-mark.ensures ∙ ap (marked text) c.deref-2.ensures.value in
+    let named = c.in_ok-mark.ensures.marked ∙ ap (marked text) c.deref-2.ensures.value in
     all_left text c.in_ok-raw.raw.items c.in_ok-left.left.items c.in_ok-mark.field-0.items c.if-text-gt-LONGEST.false c.in_ok-raw.ensures.tokens all named
