@@ -2,23 +2,25 @@
 use Rattle.std.proofs.Common.{◌≡◌, ℕ, suc, ◌+◌, ◌<◌, ◌≤◌, Bool, true, false, ◌||◌, if◌then◌else◌, List, [], ◌∷◌, ◌++◌, map, length, drop, get_or, Option, Some, None, Result, Ok, Err, refl, sym, ap, subst, ◌∙◌, append-nil, append_assoc, bytes_eq, Vec, Global, arith}
 use Rattle.std.proofs.lemmas.List.{length-map, map-append}
 use Rattle.std.specs.List.{list_any}
-use Rattle.std.specs.Prelude.{IfSome}
+use Rattle.std.specs.Prelude.{◌^◌}
 use Rattle.indexmap.specs.IndexSet.{insert_key}
 use Rattle.c_tree.specs.ProgramViews.{block_of, declaration_of, item_of}
 use Rattle.c_tree.specs.Programs as tree
-use Rattle.c_tree.specs.Programs.{BlockTree, DeclarationTree, ItemTree}
+use Rattle.c_tree.specs.Programs.{BlockTree, DeclarationTree, ItemTree, spelled_unit}
 use Rattle.c_tree.specs.Trees.{DeclaratorTree, SpecTrees}
 use Rattle.c_tree.specs.Views.{declarator_of, specs_of}
 use Rattle.c_tree.specs.declared.statement.Declaration.{Declaration}
 use Rattle.c_tree.specs.declared.statement.Function as code
 use Rattle.c_tree.specs.declared.statement.Item.{Item}
 use Rattle.c_tree.specs.declared.statement.Item.TheVariants as node
+use Rattle.c_typed.specs.Nodes.{program_size}
+use Rattle.c_typed.specs.Shown as made
+use Rattle.c_typed.specs.Sound.{is_sound}
 use Rattle.c_typed.specs.Trees as typed
 use Rattle.c_typed.specs.Trees.{FunctionTree, Program, Statement, StaticTree, StructureTree, VariableTree}
 use Rattle.c_typed.specs.Views as shown
 use Rattle.c_typed.specs.declared.program.Function.{Function}
 use Rattle.c_typed.specs.declared.program.Static.{Static}
-use Rattle.c_typed.specs.declared.program.Typed.{Typed}
 use Rattle.c_typed.specs.declared.program.Variable.{Variable}
 use Rattle.c_typed.specs.declared.types.Structure.{Structure}
 use Rattle.c_typed.specs.declared.types.Qualified.{Qualified}
@@ -31,6 +33,10 @@ use Rattle.type_rules.specs.Outlines.{Param}
 use Rattle.type_rules.specs.Specifiers.{Specified}
 use Rattle.type_rules.specs.Statements as statements
 use Rattle.type_rules.specs.Units as rule
+use Rattle.sound_types.proofs.Units.{judged_sound}
+use Rattle.typed_size.specs.Sizes.{size_of}
+use Rattle.typed_size.proofs.Counts.{size_counts}
+use Rattle.typed_size.proofs.Units.{judged_bounded}
 use Rattle.c_operate.specs.Answers.{Learns, Refuses}
 use Rattle.c_operate.specs.Tables.{known_of}
 use Rattle.c_operate.specs.declared.checker.Checker.{Checker}
@@ -214,18 +220,26 @@ program_is known targets structures functions same h =
     ∙ ap (λ s. program known.targets s (map shown.size_of structures) known.statics functions) h
     ∙ ap (λ n. program known.targets (map rule.structure_tree known.shapes) n known.statics functions) (sizes_are structures (map rule.structure_tree known.shapes) h ∙ sizes_of known.shapes)
 
--- what a program that is made of these tables shows
-pub typed_is : (result : Option Typed) (known : Known) (targets : Vec Qualified Global) (structures : Vec Structure Global) (statics : Vec Static Global) (functions : Vec Function Global) →
-    IfSome result (λ p. (p.targets ≡ targets) × (p.structures ≡ structures) × (p.statics ≡ statics) × (p.functions ≡ functions)) → targets.items ≡ known.targets → map shown.structure_of structures.items ≡ map rule.structure_tree known.shapes → map shown.static_of statics.items ≡ known.statics
-    → IfSome result (λ p. shown.program_of p ≡ rule.program_from known (map shown.function_of functions.items))
-typed_is None known targets structures statics functions kept same h held = tt
-typed_is (Some p) known targets structures statics functions kept same h held =
-    ap (λ (t : Vec Qualified Global). shown.program_from t.items p.structures.items p.statics.items p.functions.items) kept.0
-    ∙ ap (λ (t : Vec Structure Global). shown.program_from targets.items t.items p.statics.items p.functions.items) kept.1
-    ∙ ap (λ (t : Vec Static Global). shown.program_from targets.items structures.items t.items p.functions.items) kept.2
-    ∙ ap (λ (t : Vec Function Global). shown.program_from targets.items structures.items statics.items t.items) kept.3
-    ∙ ap (λ l. program targets.items (map shown.structure_of structures.items) (map shown.size_of structures.items) l (map shown.function_of functions.items)) held
-    ∙ program_is known targets.items structures.items (map shown.function_of functions.items) same h
+-- what a program of these tables shows
+pub is_given : (known : Known) (targets : List Qualified) (structures : List Structure) (statics : List Static) (functions : List Function)
+    → targets ≡ known.targets → map shown.structure_of structures ≡ map rule.structure_tree known.shapes → map shown.static_of statics ≡ known.statics
+    → made.program_from targets structures statics functions ≡ rule.program_from known (map shown.function_of functions)
+is_given known targets structures statics functions same h held =
+    ap (λ l. program targets (map shown.structure_of structures) (map shown.size_of structures) l (map shown.function_of functions)) held
+    ∙ program_is known targets structures (map shown.function_of functions) same h
+
+-- The rules make it sound, and small.
+pub is_kept : (unit : List ItemTree) (p : Program) (targets : List Qualified) (structures : List Structure) (statics : List Static) (functions : List Function)
+    → rule.judged_unit unit ≡ Ok p → made.program_from targets structures statics functions ≡ p → is_sound (made.program_from targets structures statics functions) ≡ true
+is_kept unit p targets structures statics functions judged is = ap is_sound is ∙ judged_sound unit p judged
+
+pub is_few : (unit : List ItemTree) (p : Program) (targets : List Qualified) (structures : List Structure) (statics : List Static) (functions : List Function)
+    → rule.judged_unit unit ≡ Ok p → made.program_from targets structures statics functions ≡ p → length (spelled_unit unit) ≤ 262144 → program_size statics functions ≤ 2 ^ 28
+is_few unit p targets structures statics functions judged is few =
+    let size = ap size_of is in
+    let counts = size_counts targets structures statics functions in
+    let low = judged_bounded unit p judged few in
+    omega (arith, size, counts, low)
 
 -- ---- the whole unit
 

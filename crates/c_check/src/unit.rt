@@ -1,7 +1,8 @@
 //! Functions, and the whole unit (ISO/IEC 9899:1990, 6.7).
 
-ghost use Rattle.std.specs.Prelude.{◌≡◌, [], ◌∷◌, map, Ok, IfOk, IfErr, IfSome, OnOk};
+ghost use Rattle.std.specs.Prelude.{◌≡◌, ◌≤◌, [], ◌∷◌, length, map, Ok, IfOk, IfErr, OnOk};
 ghost use Rattle.c_tree.specs.ProgramViews.{block_of, unit_of};
+ghost use Rattle.c_tree.specs.Programs.{spelled_unit};
 ghost use Rattle.c_tree.specs.Views.{declarator_of, specs_of};
 ghost use Rattle.c_typed.specs.Views.{function_of, program_of, statement_of, variable_of};
 ghost use Rattle.type_rules.specs.Declarators.{line_in, name_in};
@@ -211,18 +212,24 @@ fn functions(unit: &Unit, checker: &mut Checker) -> Result<Vec<TypedFunction>, C
     Ok(functions)
 }
 
-// The typed tree of a unit whose functions and declarations are all checked. A tree in which something
-// doesn't fit would be a fault of the checker's own, for which there is no refusal.
-fn typed(checker: Checker, functions: Vec<TypedFunction>) -> Option<Typed>
-    ensures { IfSome result (λ p. program_of p ≡ rule.program_from (known_of checker) (map function_of functions.items)) }
+// The typed tree of a unit whose functions and declarations are all checked. What the rules on names and types give is sound, and
+// small, since the unit is.
+fn typed(unit: &Unit, checker: Checker, functions: Vec<TypedFunction>) -> Result<Typed, CheckError>
+    requires judged { rule.judged_unit (unit_of unit.now) ≡ Ok (rule.program_from (known_of checker) (map function_of functions.items)) }
+    requires few { length (spelled_unit (unit_of unit.now)) ≤ 262144 }
+    ensures ok { IfOk result (λ p. program_of p ≡ rule.program_from (known_of checker) (map function_of functions.items)) }
+    ensures err { IfErr result (λ e. e ≡ NoMemory) }
 {
     let Checker { types, statics, .. } = checker;
-    match types.into_tables() {
-        Ok((targets, structures)) => {
-            Typed::new(targets, structures, statics.into_entries(), functions)
-        }
-        Err(_) => None,
-    }
+    let Ok((targets, structures)) = types.into_tables() else {
+        return Err(CheckError::NoMemory);
+    };
+    Ok(Typed {
+        targets,
+        structures,
+        statics: statics.into_entries(),
+        functions,
+    })
 }
 
 // What is known at the beginning of a unit.
@@ -239,15 +246,13 @@ fn begun(alloc: Global, unit: &Unit) -> Result<Checker, CheckError>
 
 /// The typed tree of a unit (ISO/IEC 9899:1990, 6.1 to 6.7, in the subset), or the first node that breaks a
 /// rule on names and types: from left to right, operands before their operator, and at one node the first
-/// kind.
+/// kind. The unit is spelled with at most 262,144 tokens.
 #[tactic(auto, using(crate::proofs::Units::judged, crate::proofs::Units::misjudged))]
 pub fn check(alloc: Global, unit: &Unit) -> Result<Typed, CheckError>
+    requires { length (spelled_unit (unit_of unit.now)) ≤ 262144 }
     ensures { Checks result (rule.judged_unit (unit_of unit.now)) }
 {
     let mut checker = begun(alloc, unit)?;
     let functions = functions(unit, &mut checker)?;
-    match typed(checker, functions) {
-        Some(typed) => Ok(typed),
-        None => Err(CheckError::NoMemory),
-    }
+    typed(unit, checker, functions)
 }

@@ -22,7 +22,7 @@ use Rattle.type_rules.specs.Known.{Known, known_first, given, go_on, ◌>>=◌}
 use Rattle.type_rules.specs.Units.{defined_in, function, functions_of, program_from, program_in, judged_unit}
 use Rattle.picc_core.specs.Texts as texts
 use Rattle.picc_core.specs.Texts.{longest, behind_directives, behind_tokens, tokens_left, within_limits, program_tokens}
-use Rattle.picc_core.specs.Typed.{IsTypedAs}
+use Rattle.picc_core.specs.Typed.{IsTreeOf, IsTypedAs}
 use Rattle.picc_core.specs.declared.refusal.CompileError.{CompileError}
 use Rattle.picc_core.specs.declared.refusal.CompileError.TheVariants.{Refused}
 use Rattle.picc_core.specs.declared.refusal.LimitKind.TheVariants.{Text}
@@ -111,10 +111,16 @@ unfolding judged_unit
 unit_spelled unit p is =
     program_spelled unit (functions_of unit (known_first (defined_in unit []))) p (λ fs after all. functions_spelled unit (known_first (defined_in unit [])) after fs all) is
 
+-- so a text's tree is spelled with few
+pub tree_few : (text : List ℕ) (tree : List ItemTree) → IsTreeOf text tree → length (spelled_unit tree) ≤ 262144
+tree_few text tree of_text =
+    let same = ap length of_text.spelled in
+    let size = length-map of_text.toks (symbol_in text) in
+    let low = tokens_few text of_text.toks of_text.tokens in
+    omega (arith, same, size, low)
+
 pub few_functions : (text : List ℕ) (p : Program) → IsTypedAs text p → length p.functions ≤ 0x10000000
 few_functions text p typed =
     let spelled = unit_spelled typed.tree p typed.judged in
-    let same = ap length typed.of_text.spelled in
-    let size = length-map typed.of_text.toks (symbol_in text) in
-    let low = tokens_few text typed.of_text.toks typed.of_text.tokens in
-    omega (arith, spelled, same, size, low)
+    let low = tree_few text typed.tree typed.of_text in
+    omega (arith, spelled, low)

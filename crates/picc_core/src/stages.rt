@@ -76,7 +76,7 @@ fn parsed(alloc: Global, text: &[u8], toks: &[Tok]) -> Result<Unit, CompileError
     Ok(parse(alloc, text, toks)?)
 }
 
-#[tactic(auto, using(crate::proofs::Told::typed_told, crate::proofs::Told::check_told))]
+#[tactic(auto, using(crate::proofs::FewFunctions::tree_few, crate::proofs::Told::typed_told, crate::proofs::Told::check_told))]
 fn typed_of(alloc: Global, text: &[u8]) -> Result<Typed, CompileError>
     ensures answer { MatchResult result (λ typed. IsTypedAs text.now (program_of typed)) (TellsError text.now) }
     ensures long { 262144 < length text.now → result ≡ Err (Refused (refusals.Limit kinds.Text 0)) }

@@ -1,8 +1,24 @@
 use Rattle.std.proofs.Common.{ap, map}
-use Rattle.c_typed.specs.Views.{static_of}
+use Rattle.c_tree.specs.ProgramViews.{unit_of}
+use Rattle.c_typed.specs.Views.{function_of, static_of}
+use Rattle.type_rules.specs.Units as rule
 use Rattle.c_operate.specs.Tables.{known_of}
-use Rattle.c_check.proofs.Units.{typed_is}
+use Rattle.c_check.proofs.Units.{is_given, is_kept, is_few}
 use Rattle.c_check.proofs.unit.typed.Goals as goal
 
-pub returns-in-Ok : goal.returns-in-Ok
-returns-in-Ok c = typed_is c.new.result (known_of c.args.checker) c.in-Ok.targets c.in-Ok.structures c.into_entries.result c.args.functions c.new.ensures.kept (c.in-Ok.ensures.targets (known_of c.args.checker)) (c.in-Ok.ensures.structures (known_of c.args.checker)) (ap (λ v. map static_of v.items) c.into_entries.ensures)
+pub invariant_of-result : goal.invariant_of-result
+invariant_of-result c =
+    let unit = unit_of c.args.unit.now in
+    let known = known_of c.args.checker in
+    let p = rule.program_from known (map function_of c.args.functions.items) in
+    let ts = c.in-Ok.targets.items in
+    let ss = c.in-Ok.structures.items in
+    let os = c.into_entries.result.items in
+    let fs = c.args.functions.items in
+    let is = is_given known ts ss os fs (c.in-Ok.ensures.targets known) (c.in-Ok.ensures.structures known) (ap (λ v. map static_of v.items) c.into_entries.ensures) in
+    record { sound = is_kept unit p ts ss os fs c.requires.judged is; small = is_few unit p ts ss os fs c.requires.judged is c.requires.few }
+
+pub returns-clause-ok : goal.returns-clause-ok
+returns-clause-ok c =
+    let known = known_of c.args.checker in
+    is_given known c.in-Ok.targets.items c.in-Ok.structures.items c.into_entries.result.items c.args.functions.items (c.in-Ok.ensures.targets known) (c.in-Ok.ensures.structures known) (ap (λ v. map static_of v.items) c.into_entries.ensures)
