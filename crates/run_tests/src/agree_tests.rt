@@ -33,6 +33,12 @@ const DIVIDES_BEHIND: &str = "void interrupt h(void){INTF=0;}
 void main(void){unsigned int i;unsigned char z=0;INTCON=0x90;for(i=0;i<600;i++);PORTB=1;
 PORTC=1/z;}";
 
+// The handler's first run puts a number where a byte of a pointer was, and its second one puts the pointer back. Main reads it behind a loop.
+const REPAIRS: &str = "unsigned char a,n;unsigned char*q;
+void interrupt h(void){INTF=0;if(n)q=&a;else{n=1;*(unsigned char*)&q=1;}}
+void main(void){unsigned char i;INTCON=0x90;q=&a;for(i=0;i<200;i++);
+PORTB=*q;for(;;);}";
+
 // Handlers that never give control back, or only for no time.
 const NEVER_ENDS: &str = "void interrupt h(void){for(;;);}void main(void){INTCON=0x90;for(;;);}";
 
@@ -244,6 +250,23 @@ fn undefined_behind_the_next_event(rt: HostRuntime) -> Result<(), Fail> {
     }
     let answer = answer(alloc, &program, &script_of(alloc, &arrivals)?, 60_000)?;
     assert!(rt; is_undefined(answer, Undef::Division, 3));
+    Ok(())
+}
+
+// The source run up to the second arrival, and no other one, reads what was a pointer.
+#[test]
+fn undefined_between_two_calls(rt: HostRuntime) -> Result<(), Fail> {
+    let alloc = rt.alloc();
+    let program = built(alloc, REPAIRS)?;
+    let mut arrivals = Vec::new(alloc);
+    for t in &[600, 1_200] {
+        arrivals.push(Arrival {
+            t: *t,
+            flag: Flag::Intf,
+        })?;
+    }
+    let answer = answer(alloc, &program, &script_of(alloc, &arrivals)?, 1_500)?;
+    assert!(rt; is_undefined(answer, Undef::Bytes, 4));
     Ok(())
 }
 
