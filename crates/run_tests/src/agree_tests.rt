@@ -1,5 +1,7 @@
 //! What `agree` answers of programs whose runs are known.
 
+ghost use Rattle.run_tests.specs.Compiled.{IsCompiled};
+
 use crate::chip_run::chip_run;
 use crate::comparing::built;
 use crate::interrupts::{IDLE, KEY, TWO_COPIES};
@@ -10,9 +12,6 @@ use std::test::Fail;
 
 /// The most instructions of a test.
 const MOST: u32 = 100_000;
-
-/// The most objects of a program.
-const MOST_OBJECTS: usize = 65_536;
 
 // A sum that has no room in a char.
 const WIDE: &str = "void main(void){unsigned char a=200;unsigned char b=100;PORTB=(a+b)>>1;}";
@@ -62,9 +61,11 @@ fn script_of(alloc: Global, arrivals: &[Arrival]) -> Result<Script, AllocError> 
     ))
 }
 
-fn answer(alloc: Global, program: &Built, script: &Script, n: u32) -> Result<Agreed, Fail> {
-    if n > MOST || program.map.objects.len() > MOST_OBJECTS {
-        return Err(Fail::new("too many instructions or objects"));
+fn answer(alloc: Global, program: &Built, script: &Script, n: u32) -> Result<Agreed, Fail>
+    requires compiled { IsCompiled program.now }
+{
+    if n > MOST {
+        return Err(Fail::new("too many instructions"));
     }
     Ok(agree(alloc, program, script, n)?)
 }
