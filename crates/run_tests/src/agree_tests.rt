@@ -197,7 +197,7 @@ fn arrivals_at_each_instruction(rt: HostRuntime) -> Result<(), Fail> {
     let alloc = rt.alloc();
     let mut arrivals = Vec::new(alloc);
     let mut calls: u32 = 0;
-    for t in 1_000..19_000u32 {
+    for t in 1_000..4_000u32 {
         for flag in &[Flag::Rbif, Flag::Tmr0if] {
             arrivals.push(Arrival { t, flag: *flag })?;
         }
@@ -210,10 +210,10 @@ fn arrivals_at_each_instruction(rt: HostRuntime) -> Result<(), Fail> {
         }
     }
     let program = built(alloc, IDLE)?;
-    let got = answer(alloc, &program, &script_of(alloc, &arrivals)?, 20_000)?;
+    let got = answer(alloc, &program, &script_of(alloc, &arrivals)?, 5_000)?;
     // the write to INTCON, and the handler's three accesses at each call
-    assert_eq!(rt; calls, 90);
-    assert!(rt; is_same(got, 271));
+    assert_eq!(rt; calls, 15);
+    assert!(rt; is_same(got, 46));
     Ok(())
 }
 
