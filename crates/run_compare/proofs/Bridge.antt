@@ -1,5 +1,5 @@
 -- Steps and micro-steps: where no step among the first ones is undefined, no micro-step of them is.
-use Rattle.std.proofs.Common.{◌≡◌, ◌≤◌, ◌<◌, ◌⊎◌, inl, inr, ⊎_elim, ℕ, zero, suc, ◌+◌, ◌-◌, Bool, true, false, not, ◌&&◌, ◌||◌, Option, Some, None, List, length, map, refl, sym, ap, ◌∙◌, subst, arith}
+use Rattle.std.proofs.Common.{◌≡◌, ◌≤◌, ◌<◌, ⊎_elim, ℕ, zero, suc, ◌+◌, Bool, true, false, not, ◌&&◌, ◌||◌, Option, Some, None, length, refl, sym, ap, ◌∙◌, subst, arith}
 use Rattle.std.proofs.lemmas.Bool.{false≢true, cases_order}
 use Rattle.std.specs.Prelude.{if◌then◌else◌}
 use Rattle.pic_world.specs.World.{Happening}
@@ -10,7 +10,7 @@ use Rattle.src_rules.specs.Laws.{IsProper, IsOfBytes, IsReadyBehind}
 use Rattle.src_rules.specs.Runs.{Fault, after, fault_after, fault_of, gone, is_ready, is_taken, moment, one_if, ready, ready_within, run, steps_by, take}
 use Rattle.src_rules.specs.Standing.{Stands}
 use Rattle.src_rules.specs.State.{State, Outcome, Went, Undefined, Idle, Lost}
-use Rattle.src_rules.specs.Step.{counts, start, step}
+use Rattle.src_rules.specs.Step.{counts, step}
 use Rattle.src_rules.specs.Weights.{weight}
 use Rattle.src_values.specs.Memory.{Setting}
 use Rattle.src_values.specs.declared.objects.Byte.{Byte}

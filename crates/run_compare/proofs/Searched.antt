@@ -1,5 +1,5 @@
 -- The search, one arrival after the other, and its answer.
-use Rattle.std.proofs.Common.{◌≡◌, ◌≤◌, ◌<◌, ◌⊎◌, inl, inr, ⊎_elim, ℕ, zero, suc, ◌+◌, ◌-◌, ◌*◌, Bool, true, false, ◌&&◌, nat_lt, nat_le, Option, Some, None, IfNone, IfOk, Result, Ok, Err, is_some, List, [], ◌∷◌, ◌++◌, length, take, slice_index, slice_index_or, refl, sym, ap, ◌∙◌, subst, arith, take_all}
+use Rattle.std.proofs.Common.{◌≡◌, ◌≤◌, ◌<◌, inl, inr, ⊎_elim, ℕ, suc, ◌+◌, ◌-◌, ◌*◌, Bool, true, false, nat_lt, Option, Some, None, IfNone, IfOk, Result, Ok, Err, is_some, List, [], ◌∷◌, ◌++◌, length, take, slice_index, slice_index_or, refl, sym, ap, ◌∙◌, subst, arith}
 use Rattle.std.proofs.lemmas.Bool.{cases_lt}
 use Rattle.std.proofs.lemmas.List.{get_or_default, take_more}
 use Rattle.std.specs.Prelude.{if◌then◌else◌}
@@ -16,13 +16,13 @@ use Rattle.pic_world.specs.declared.Flag.TheVariants.{Rbif}
 use Rattle.pic_world.specs.declared.script.Script.{Script}
 use Rattle.run_compare.proofs.Arrived.{before_at, before_next, off_count, off_few, rising_take, same_schedule, upto_more, upto_past, upto_short}
 use Rattle.run_compare.proofs.Segments.{Told, clean, is_given, told, under_taken}
-use Rattle.run_compare.specs.Agreement.{IsEnd, IsFirstFault, Meets, run_under}
+use Rattle.run_compare.specs.Agreement.{IsEnd, Meets, run_under}
 use Rattle.run_compare.specs.Looking.{IsEndOf, IsRun, Looked, MeetsFault, Met, fault_in}
 use Rattle.run_compare.specs.Searching.{Answers, Found, IsArrivalAt, IsDefinedTo, IsOffOf, IsRunBy, IsSearched, MayBeRunBy, Ran, RanBy, upto}
 use Rattle.run_compare.specs.declared.searching.Search.{Search}
 use Rattle.run_compare.specs.declared.source_run.Fault.{Fault}
 use Rattle.run_compare.specs.declared.source_run.SourceRun.{SourceRun}
-use Rattle.schedule.specs.Off.{lengths_before, read_off, runs_begun}
+use Rattle.schedule.specs.Off.{lengths_before, read_off}
 use Rattle.schedule.specs.Watching.{traces}
 use Rattle.schedule.specs.declared.off.Off.{Off}
 use Rattle.src_machine.specs.Steps.{IsGiven}

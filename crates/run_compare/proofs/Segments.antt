@@ -1,19 +1,18 @@
 -- What is looked at under one schedule, and the moments for which it counts.
-use Rattle.std.proofs.Common.{◌≡◌, ◌≤◌, ◌<◌, ◌⊎◌, inl, inr, ⊎_elim, ℕ, zero, suc, ◌+◌, ◌-◌, ◌*◌, Bool, true, false, not, ◌&&◌, nat_lt, nat_le, Option, Some, None, List, length, map, take, refl, sym, ap, ◌∙◌, subst, arith}
+use Rattle.std.proofs.Common.{◌≡◌, ◌≤◌, ◌<◌, ⊎_elim, ℕ, zero, suc, ◌+◌, ◌-◌, ◌*◌, Bool, true, false, not, ◌&&◌, nat_lt, nat_le, Option, Some, None, List, length, take, refl, sym, ap, ◌∙◌, subst, arith}
 use Rattle.std.proofs.lemmas.Bool.{cases_lt, and_parts, and_cases, and_from, ltb-true, ltb-false, lt-ltb, leb-true, leb-false, le-leb}
 use Rattle.std.proofs.lemmas.List.{length-map}
 use Rattle.std.proofs.lemmas.Nat.{mul-le}
 use Rattle.std.specs.List.{All}
-use Rattle.std.specs.Prelude.{if◌then◌else◌}
 use Rattle.c_typed.specs.TreeNodes.{nodes_of}
 use Rattle.c_typed.specs.Trees.{Program}
 use Rattle.call_graph.specs.declared.types.FnCopy.{FnCopy}
-use Rattle.headline.specs.Headline.{IsClean, trace_at}
+use Rattle.headline.specs.Headline.{IsClean}
 use Rattle.headline.specs.SourceOf.{is_undefined, setting_of, source_of}
 use Rattle.pic_chip.specs.Run.{Setting}
 use Rattle.pic_map.specs.MapContent.{MapContent}
 use Rattle.pic_world.specs.World.{Outside, outside_of}
-use Rattle.run_compare.proofs.Arrived.{off_count, off_same, upto_more}
+use Rattle.run_compare.proofs.Arrived.{off_same}
 use Rattle.run_compare.proofs.Bridge.{none_undefined}
 use Rattle.run_compare.proofs.Steps.{trace_longer}
 use Rattle.run_compare.specs.Agreement.{Counts, IsFirstFault, run_under}
@@ -21,12 +20,11 @@ use Rattle.run_compare.specs.Looking.{IsFirst, Looked, fault_in}
 use Rattle.run_compare.specs.Searching.{IsDefinedTo, IsOffOf, upto}
 use Rattle.run_compare.specs.declared.source_run.Fault.{Fault}
 use Rattle.schedule.proofs.Moments as chip
-use Rattle.schedule.specs.Off.{read_off}
 use Rattle.schedule.specs.Watching.{traces}
 use Rattle.schedule.specs.declared.off.Off.{Off}
 use Rattle.src_machine.specs.Steps.{IsGiven}
 use Rattle.src_memory.specs.Shown.{address_of, shown}
-use Rattle.src_rules.specs.Runs.{after, fault_after, moment, steps_by}
+use Rattle.src_rules.specs.Runs.{after, fault_after, moment}
 use Rattle.src_rules.specs.State.{Outcome, Went, Undefined, Idle, Lost}
 use Rattle.src_rules.specs.Step.{step}
 use Rattle.src_values.specs.Memory.{Setting as SourceSetting}

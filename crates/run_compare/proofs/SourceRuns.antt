@@ -1,10 +1,10 @@
 -- A run of the code, step by step, as the definition has it.
-use Rattle.std.proofs.Common.{◌≡◌, ◌≤◌, ◌<◌, ◌⊎◌, inl, inr, ⊎_elim, ℕ, zero, suc, ◌+◌, ◌*◌, Bool, true, false, Option, Some, None, option_to_list, option_map, is_some, List, [], ◌∷◌, ◌++◌, length, refl, sym, ap, ◌∙◌, subst, arith, append-nil, length-append}
+use Rattle.std.proofs.Common.{◌≡◌, ◌≤◌, ◌<◌, inl, inr, ⊎_elim, ℕ, zero, suc, ◌+◌, ◌*◌, Bool, true, false, Option, Some, None, option_to_list, option_map, is_some, List, ◌++◌, length, refl, sym, ap, ◌∙◌, subst, arith, append-nil, length-append}
 use Rattle.std.proofs.lemmas.Bool.{cases_lt, false≢true}
 use Rattle.std.specs.Prelude.{if◌then◌else◌}
 use Rattle.pic_map.specs.MapContent.{MapContent}
 use Rattle.pic_world.proofs.WorldLaws.{arrived_trace}
-use Rattle.pic_world.specs.World.{Happening, world_at_start}
+use Rattle.pic_world.specs.World.{Happening}
 use Rattle.pic_world.specs.declared.Event.{Event}
 use Rattle.run_compare.proofs.Steps.{faulty_busy, idle_stays, idle_without_fault, main_steps_more, no_run_begins, runs_more, stays_here, taken_defined, trace_longer}
 use Rattle.run_compare.specs.Looking.{IsEndOf, IsFirst, IsRun, Looked, MeetsFault, Met}
@@ -18,7 +18,7 @@ use Rattle.src_memory.specs.Shown.{address_of, shown}
 use Rattle.src_rules.proofs.Changes.{trace_grows, events_count}
 use Rattle.src_rules.proofs.Readies.{comes, are_moments}
 use Rattle.src_rules.specs.Laws.{Adds, IsReadyBehind}
-use Rattle.src_rules.specs.Runs.{Fault as Faults, run, gone, is_taken, ready, take, after, fault_after, is_idle_after, main_steps_after, runs_after}
+use Rattle.src_rules.specs.Runs.{Fault as Faults, run, gone, is_taken, ready, take, after, fault_after, is_idle_after}
 use Rattle.src_rules.specs.State.{State, Outcome, Went, Undefined, Idle, Lost}
 use Rattle.src_rules.specs.Step.{step, counts, start}
 use Rattle.src_values.specs.Memory.{Setting}

@@ -1,11 +1,11 @@
 -- A run of the source step by step: what stays once it stands, and what only grows.
-use Rattle.std.proofs.Common.{◌≡◌, ◌≤◌, ◌<◌, ◌⊎◌, inl, inr, ⊎_elim, ℕ, zero, suc, ◌+◌, ◌-◌, Bool, true, false, not, ◌&&◌, ◌||◌, Option, Some, None, List, [], ◌∷◌, ◌++◌, length, refl, sym, ap, ◌∙◌, subst, arith, length-append}
+use Rattle.std.proofs.Common.{◌≡◌, ◌≤◌, ◌⊎◌, inl, inr, ⊎_elim, ℕ, zero, suc, ◌+◌, ◌-◌, Bool, true, false, ◌&&◌, Option, Some, None, List, [], ◌∷◌, length, refl, sym, ap, ◌∙◌, arith, length-append}
 use Rattle.std.proofs.lemmas.Bool.{false≢true, cases_lt}
 use Rattle.std.specs.Prelude.{if◌then◌else◌}
 use Rattle.pic_world.specs.World.{Happening}
 use Rattle.src_rules.proofs.Changes.{trace_grows}
 use Rattle.src_rules.specs.Laws.{Adds}
-use Rattle.src_rules.specs.Runs.{Fault, after, begun_run, by_main, fault_after, fault_of, gone, is_idle, is_idle_after, is_ready, is_taken, main_step, main_steps_after, one_if, ready, ready_within, runs_after, take}
+use Rattle.src_rules.specs.Runs.{Fault, after, fault_after, fault_of, gone, is_idle, is_idle_after, is_ready, is_taken, main_steps_after, one_if, ready, ready_within, runs_after, take}
 use Rattle.src_rules.specs.State.{State, Outcome, Went, Undefined, Idle, Lost}
 use Rattle.src_rules.specs.Step.{enters, step}
 use Rattle.src_rules.specs.Weights.{weight}

@@ -1,8 +1,7 @@
 -- The search for undefined steps along the arrivals of a run on the chip: what it is given, and how far it is.
-use Rattle.std.specs.Prelude.{ℕ, suc, ◌+◌, ◌*◌, ◌≡◌, ◌<◌, ◌≤◌, ◌⊎◌, nat_le, if◌then◌else◌, List, [], ◌∷◌, length, take, slice_index_or, Option, Some, None}
+use Rattle.std.specs.Prelude.{ℕ, suc, ◌≡◌, ◌<◌, ◌≤◌, ◌⊎◌, nat_le, if◌then◌else◌, List, [], ◌∷◌, length, take, slice_index_or, Option, Some, None}
 use Rattle.std.specs.List.{All}
 use Rattle.c_typed.specs.Chains.{graph_of}
-use Rattle.c_typed.specs.TreeNodes.{nodes_of}
 use Rattle.c_typed.specs.Trees.{Program}
 use Rattle.call_graph.specs.Levels.{IsAcyclic}
 use Rattle.call_graph.specs.declared.types.FnCopy.{FnCopy}

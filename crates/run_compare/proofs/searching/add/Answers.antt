@@ -1,5 +1,3 @@
-use Rattle.std.proofs.Common.{refl, ◌∙◌, sym, ap, ◌++◌, ◌∷◌, []}
-use Rattle.pic_world.specs.Arrivals.{arriving}
 use Rattle.run_compare.proofs.Arrived.{same_arriving_now}
 use Rattle.run_compare.proofs.searching.add.Goals as goal
 

@@ -1,7 +1,5 @@
-use Rattle.std.proofs.Common.{◌≡◌, ◌<◌, ◌≤◌, ℕ, ◌+◌, ◌*◌, ap, sym, ◌∙◌, arith}
+use Rattle.std.proofs.Common.{◌<◌, ◌≤◌, ℕ, ◌+◌, ◌*◌, ap, sym, ◌∙◌, arith}
 use Rattle.std.proofs.lemmas.Nat.{mul-le}
-use Rattle.c_typed.specs.TreeNodes.{nodes_of}
-use Rattle.c_typed.specs.Views.{program_of}
 use Rattle.run_compare.proofs.searching.steps_at.Goals as goal
 use Rattle.source_room.proofs.NodeCounts.{few_nodes, program_counts}
 

@@ -1,4 +1,4 @@
-use Rattle.std.proofs.Common.{refl, ◌∙◌, sym, ap, subst, arith}
+use Rattle.std.proofs.Common.{refl, sym, subst}
 use Rattle.c_typed.specs.Views.{program_of}
 use Rattle.pic_map.specs.MapView.{content_of}
 use Rattle.run_compare.proofs.Searched.{looked_by}

@@ -1,4 +1,4 @@
-use Rattle.std.proofs.Common.{refl, ◌∙◌, sym, ap, subst, arith}
+use Rattle.std.proofs.Common.{sym, subst}
 use Rattle.run_compare.proofs.Searched.{kept_run}
 use Rattle.run_compare.proofs.searching.Search.take.Goals as goal
 use Rattle.run_compare.specs.Searching.{MayBeRunBy}

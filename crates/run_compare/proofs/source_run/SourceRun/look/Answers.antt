@@ -1,4 +1,3 @@
-use Rattle.std.proofs.Common.{arith}
 use Rattle.run_compare.proofs.SourceRuns.{looked_all, looked_fault, looked_idle, looked_long}
 use Rattle.run_compare.proofs.source_run.SourceRun.look.Goals as goal
 use Rattle.run_compare.specs.Looking.{fault_in}

@@ -1,4 +1,4 @@
-use Rattle.std.proofs.Common.{◌∙◌, sym, subst, arith}
+use Rattle.std.proofs.Common.{arith}
 use Rattle.run_compare.proofs.SourceRuns.{met_all, met_fault, met_idle, met_main, met_runs}
 use Rattle.run_compare.proofs.source_run.SourceRun.to_end.Goals as goal
 use Rattle.run_compare.specs.Looking.{fault_in}
