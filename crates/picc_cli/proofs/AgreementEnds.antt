@@ -11,7 +11,7 @@ use Rattle.picc_core.specs.Decided.{IsAcceptedText}
 use Rattle.picc_core.specs.declared.known.Built.{Built}
 use Rattle.run_compare.specs.Agreement.{Tells}
 use Rattle.run_compare.specs.declared.comparing.Agreed.{Agreed}
-use Rattle.run_compare.specs.declared.comparing.Agreed.TheVariants as agreed
+use Rattle.run_compare.specs.declared.comparing.Agreed.TheVariants as answers
 use Rattle.schedule.specs.Off.{last_free}
 use Rattle.schedule.specs.ScriptFile.{ScriptContent, content_of as script_content}
 use Rattle.schedule.specs.Watching.{run_of}
@@ -80,8 +80,8 @@ module _ (asked : Compared) where
 
   exact_at : (o : Contents) (ended : Ended) (bytes : List ℕ) (content : ScriptContent) → IsRead asked.input 262145 bytes o → IsFile o asked.script (IsScriptInput content)
       → EndTells bytes content asked.instructions ended → IsExact asked o ended
-  exact_at o (Same events) bytes content read file tells = files_tell o bytes content (agreed.Same events) read file tells
-  exact_at o (Undefined kind line) bytes content read file tells = files_tell o bytes content (agreed.Undefined kind line) read file tells
+  exact_at o (Same events) bytes content read file tells = files_tell o bytes content (answers.Same events) read file tells
+  exact_at o (Undefined kind line) bytes content read file tells = files_tell o bytes content (answers.Undefined kind line) read file tells
   exact_at o (Refused refusal) bytes content read file tells = tt
   exact_at o CannotReadText bytes content read file tells = tt
   exact_at o (NoScript end) bytes content read file tells = tt
