@@ -1,8 +1,20 @@
 -- What is known of a comparison by its end.
 use Rattle.std.proofs.Common.{◌≡◌, ℕ, Option, Some, None, IfSome, List, sym, ◌∙◌, subst}
+use Rattle.c_typed.specs.Views.{program_of}
+use Rattle.call_graph.specs.declared.types.FnCopy.{FnCopy}
 use Rattle.host_io.specs.Host.{Kind, Contents, IsRead}
+use Rattle.pic_map.specs.MapView.{content_of as map_content}
+use Rattle.pic_world.specs.declared.script.Script.{Script}
+use Rattle.picc_core.proofs.Trees.{typed_tree}
+use Rattle.picc_core.specs.Compiled.{IsCompiledTo}
 use Rattle.picc_core.specs.Decided.{IsAcceptedText}
-use Rattle.schedule.specs.ScriptFile.{ScriptContent}
+use Rattle.picc_core.specs.declared.known.Built.{Built}
+use Rattle.run_compare.specs.Agreement.{Tells}
+use Rattle.run_compare.specs.declared.comparing.Agreed.{Agreed}
+use Rattle.run_compare.specs.declared.comparing.Agreed.TheVariants as answers
+use Rattle.schedule.specs.Off.{last_free}
+use Rattle.schedule.specs.ScriptFile.{ScriptContent, content_of as script_content}
+use Rattle.schedule.specs.Watching.{run_of}
 use Rattle.picc_cli.specs.declared.building.Outcome.TheVariants as outcomes
 use Rattle.picc_cli.specs.declared.comparing.Ended.{Ended}
 use Rattle.picc_cli.specs.declared.comparing.Ended.TheVariants.{Same, Undefined, Refused, CannotReadText, NoScript, NoMemory}
@@ -11,12 +23,31 @@ use Rattle.picc_cli.specs.Agreement.{Knows, RunKnows, files_of, last_line, statu
 use Rattle.picc_cli.specs.Command.{Compared, Agree}
 use Rattle.picc_cli.specs.Finished.{HasTold}
 use Rattle.picc_cli.specs.Inputs.{IsScriptInput, HasNoScript}
+use Rattle.picc_cli.specs.RunsTold.{EndTells, FilesTell, IsExact, RunsTell}
 use Rattle.picc_cli.specs.Said.{Says}
 use Rattle.picc_cli.specs.ScriptInput.{IsFile, IsScript}
 use Rattle.picc_cli.specs.Trace.{Reads}
 use Rattle.picc_cli.proofs.Files.{content_of, take_all}
 use Rattle.picc_cli.proofs.SimulationEnds.{said_last}
-use Rattle.picc_cli.proofs.Whole.{why_whole, accepted_whole}
+use Rattle.picc_cli.proofs.Whole.{why_whole, accepted_whole, tree_whole}
+
+-- what a text is compiled to, and what is told of its run
+pub compiled_tell : (text : List ℕ) (built : Built) (script : Script) (n : ℕ) (agreed : Agreed) → IsCompiledTo text built
+    → ((copies : List FnCopy) → Tells (program_of built.typed) copies (map_content built.map) (run_of built.image built.map script) (last_free (run_of built.image built.map script) n) agreed)
+    → RunsTell text (script_content script) n agreed
+compiled_tell text built script n agreed is tells = record {
+  accepted = is.taken;
+  program = program_of built.typed;
+  typed = is.typed;
+  roots = is.roots;
+  acyclic = is.recursion;
+  image = built.image;
+  content = map_content built.map;
+  placed = is.lines;
+  translated = is.translated;
+  faithful = is.faithful;
+  told = tells;
+}
 
 module _ (asked : Compared) where
   reads : (o : Contents) (text script : List ℕ) (content : ScriptContent) (Of : List ℕ → Type 0) → o asked.input ≡ Some text → o asked.script ≡ Some script → IsScriptInput content script → Of text
@@ -39,6 +70,42 @@ module _ (asked : Compared) where
   compared_at o (NoScript end) bytes content read file none = absurd none
   compared_at o NoMemory bytes content read file none = tt
 
+  -- ---- what is told of the runs
+  files_tell : (o : Contents) (bytes : List ℕ) (content : ScriptContent) (agreed : Agreed) → IsRead asked.input 262145 bytes o → IsFile o asked.script (IsScriptInput content)
+      → RunsTell bytes content asked.instructions agreed → FilesTell asked o agreed
+  files_tell o bytes content agreed read file tells =
+      let text = content_of 262145 (o asked.input) bytes read in
+      let whole = tree_whole text.0 bytes text.2 (typed_tree bytes tells.program tells.typed) in
+      record { text = text.0; script = content; has_text = text.1; script_file = file; runs = subst (λ t. RunsTell t content asked.instructions agreed) whole tells }
+
+  exact_at : (o : Contents) (ended : Ended) (bytes : List ℕ) (content : ScriptContent) → IsRead asked.input 262145 bytes o → IsFile o asked.script (IsScriptInput content)
+      → EndTells bytes content asked.instructions ended → IsExact asked o ended
+  exact_at o (Same events) bytes content read file tells = files_tell o bytes content (answers.Same events) read file tells
+  exact_at o (Undefined kind line) bytes content read file tells = files_tell o bytes content (answers.Undefined kind line) read file tells
+  exact_at o (Refused refusal) bytes content read file tells = tt
+  exact_at o CannotReadText bytes content read file tells = tt
+  exact_at o (NoScript end) bytes content read file tells = tt
+  exact_at o NoMemory bytes content read file tells = tt
+
+  pub runs_exact : (old middle : Option Contents) (ended : Ended) (bytes text : List ℕ) (content : ScriptContent) → IfSome old (IsRead asked.input 262145 bytes) → middle ≡ old
+      → IfSome middle (λ o. IsFile o asked.script (IsScriptInput content)) → text ≡ bytes → EndTells text content asked.instructions ended → IfSome old (λ o. IsExact asked o ended)
+  runs_exact None middle ended bytes text content read same file e tells = tt
+  runs_exact (Some o) middle ended bytes text content read same file e tells =
+      exact_at o ended bytes content read (subst (λ c. IfSome c (λ o. IsFile o asked.script (IsScriptInput content))) same file) (subst (λ t. EndTells t content asked.instructions ended) e tells)
+
+  -- where the runs weren't compared nothing is to be told of them
+  pub unread_exact : (old : Option Contents) → IfSome old (λ o. IsExact asked o CannotReadText)
+  unread_exact None = tt
+  unread_exact (Some o) = tt
+
+  pub unheld_exact : (old : Option Contents) → IfSome old (λ o. IsExact asked o NoMemory)
+  unheld_exact None = tt
+  unheld_exact (Some o) = tt
+
+  pub unscripted_exact : (old : Option Contents) (end : FileEnd) → IfSome old (λ o. IsExact asked o (NoScript end))
+  unscripted_exact None end = tt
+  unscripted_exact (Some o) end = tt
+
   -- the text and the script were read, and the runs compared
   pub runs_known : (old middle : Option Contents) (ended : Ended) (bytes text : List ℕ) (content : ScriptContent) → IfSome old (IsRead asked.input 262145 bytes) → middle ≡ old
       → IfSome middle (λ o. IsFile o asked.script (IsScriptInput content)) → text ≡ bytes → RunKnows text ended → IfSome old (λ o. Knows asked o ended)
@@ -51,9 +118,9 @@ module _ (asked : Compared) where
   none_known None middle end same none = tt
   none_known (Some o) middle end same none = subst (λ c. IfSome c (λ o. HasNoScript o asked.script end)) same none
 
-  pub agreement_told : (ended : Ended) (old new : Option Contents) (kind : Kind) (first later : ℕ) (p middle q : Option (List ℕ)) (result : ℕ) → IfSome old (λ o. Knows asked o ended) → middle ≡ p
+  pub agreement_told : (ended : Ended) (old new : Option Contents) (kind : Kind) (first later : ℕ) (p middle q : Option (List ℕ)) (result : ℕ) → IfSome old (λ o. Knows asked o ended) → IfSome old (λ o. IsExact asked o ended) → middle ≡ p
       → Says kind first later middle q (last_line asked ended) (status_of ended) result → IfSome old (λ o. HasTold (Some (Agree asked)) o new p q result)
-  agreement_told ended None new kind first later p middle q result knows same says = tt
-  agreement_told ended (Some o) new kind first later p middle q result knows same says =
+  agreement_told ended None new kind first later p middle q result knows exact same says = tt
+  agreement_told ended (Some o) new kind first later p middle q result knows exact same says =
       let alike = subst (λ x. Says kind first later x q (last_line asked ended) (status_of ended) result) same says in
-      record { ended = ended; knows = knows; last = said_last kind first later p q (last_line asked ended) (status_of ended) result alike }
+      record { ended = ended; knows = knows; exact = exact; last = said_last kind first later p q (last_line asked ended) (status_of ended) result alike }

@@ -11,6 +11,7 @@ pub mod Trace
 pub mod HexReasons
 pub mod Inputs
 pub mod Chip
+pub mod RunsTold
 pub mod Agreement
 pub mod Simulation
 pub mod Summary

@@ -6,7 +6,9 @@ ghost use Rattle.picc_cli.specs.Agreement.{FailsWithoutFiles, IsRunEnd, Knows, R
 ghost use Rattle.picc_cli.specs.Command.{Agree};
 ghost use Rattle.picc_cli.specs.CommandView.{compared_of};
 ghost use Rattle.picc_cli.specs.Finished.{HasFaults, HasPrinted, HasStatus, HasTold, IsComplete};
+ghost use Rattle.picc_cli.specs.RunsTold.{EndTells, IsExact};
 ghost use Rattle.picc_cli.specs.Said.{Says, HasOutcomeCause};
+ghost use Rattle.schedule.specs.ScriptFile as script_file;
 
 use crate::building::TEXT_LIMIT;
 use crate::command::Compared;
@@ -104,7 +106,7 @@ fn agree_line(alloc: Global, events: u32) -> Result<Vec<u8>, AllocError>
 }
 
 /// Reads the text and the script, and compares the runs.
-#[tactic(auto, using(crate::proofs::Sound::text_fails, crate::proofs::Sound::memory_fails, crate::proofs::Sound::compared_no_script, crate::proofs::Sound::compared_runs, crate::proofs::Sound::no_fault, crate::proofs::AgreementEnds::none_known, crate::proofs::AgreementEnds::runs_known))]
+#[tactic(auto, using(crate::proofs::Sound::text_fails, crate::proofs::Sound::memory_fails, crate::proofs::Sound::compared_no_script, crate::proofs::Sound::compared_runs, crate::proofs::Sound::no_fault, crate::proofs::AgreementEnds::none_known, crate::proofs::AgreementEnds::runs_known, crate::proofs::AgreementEnds::unread_exact, crate::proofs::AgreementEnds::unheld_exact, crate::proofs::AgreementEnds::unscripted_exact))]
 fn compared<H: Host>(alloc: Global, host: &mut H, asked: Compared<'_>) -> Ended
     requires few { asked.instructions < 2 ^ 31 }
     requires closed { H.open_file host.old ≡ Closed }
@@ -113,6 +115,7 @@ fn compared<H: Host>(alloc: Global, host: &mut H, asked: Compared<'_>) -> Ended
     ensures same_contents { H.contents host.new ≡ H.contents host.old }
     ensures same_printed { H.printed host.new ≡ H.printed host.old }
     ensures knows { IfSome (H.contents host.old) (λ old. Knows (compared_of asked.entry) old result) }
+    ensures exact { IfSome (H.contents host.old) (λ old. IsExact (compared_of asked.entry) old result) }
     ensures cause { HasOutcomeCause (H.kind host.old) (H.faults host.old) (H.faults host.new) (is_fault result) }
     ensures sound { FailsWithoutFiles (H.kind host.old) (H.contents host.old) (compared_of asked.entry) result }
 {
@@ -133,6 +136,7 @@ fn runs(alloc: Global, text: &[u8], script: &Script, instructions: u32) -> Ended
     requires { instructions < 2 ^ 31 }
     ensures end { IsRunEnd result }
     ensures knows { RunKnows text.now result }
+    ensures exact { EndTells text.now (script_file.content_of script.now) instructions result }
 {
     let built = match compile(alloc, text) {
         Ok(built) => built,

@@ -4,7 +4,6 @@ pub mod Typed
 pub mod Answers
 pub mod Blocks
 pub mod Compiled
-pub mod Agreement
 pub mod Accepted
 pub mod CodeAnswers
 pub mod Coded

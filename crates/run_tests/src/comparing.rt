@@ -1,5 +1,8 @@
 //! A program's run on the chip beside that of its source.
 
+ghost use Rattle.std.specs.Prelude.{IfOk};
+ghost use Rattle.run_tests.specs.Compiled.{IsCompiled};
+
 use crate::chip_run::chip_run;
 use pic_chip::Image;
 use pic_world::{Arrival, Event, Script};
@@ -40,7 +43,9 @@ pub fn real_words(image: &Image) -> u32 {
 }
 
 /// What a text is compiled to. Its words are at most those that are stated.
-pub fn built(alloc: Global, text: &str) -> Result<Built, Fail> {
+pub fn built(alloc: Global, text: &str) -> Result<Built, Fail>
+    ensures { IfOk result IsCompiled }
+{
     let Ok(built) = compile(alloc, text.as_bytes()) else {
         return Err(Fail::new("not built"));
     };

@@ -19,7 +19,7 @@ returns-clause-printed g c =
     prints_line agreement.status_of (agreement.IsText (compared_of c.args.asked)) c.compared-ended.result _ _ _ _ _ _ _ _ refl c.compared-ended.ensures.same_printed c.report.ensures.said
 
 pub returns-clause-told : goal.returns-clause-told
-returns-clause-told g c = agreement_told (compared_of c.args.asked) c.compared-ended.result _ (g.H.Host.contents c.report.new.host) _ _ _ _ _ _ _ c.compared-ended.ensures.knows c.compared-ended.ensures.same_printed c.report.ensures.said
+returns-clause-told g c = agreement_told (compared_of c.args.asked) c.compared-ended.result _ (g.H.Host.contents c.report.new.host) _ _ _ _ _ _ _ c.compared-ended.ensures.knows c.compared-ended.ensures.exact c.compared-ended.ensures.same_printed c.report.ensures.said
 
 pub returns-clause-complete : goal.returns-clause-complete
 returns-clause-complete g c = agree_complete (compared_of c.args.asked) (g.H.Host.kind c.args.host.now) (g.H.Host.faults c.args.host.now) _ (g.H.Host.contents c.args.host.now) (g.H.Host.contents c.report.new.host) c.report.result _ _ (returns-clause-faults g c) (returns-clause-status g c) (returns-clause-told g c)

@@ -12,8 +12,8 @@ use Rattle.src_rules.specs.Runs.{Fault, after, fault_after, is_idle_after, main_
 use Rattle.src_values.specs.Memory.{Setting as SourceSetting}
 use Rattle.headline.specs.Headline.{Source, trace_at, run_at, IsClean}
 use Rattle.headline.specs.SourceOf.{setting_of, source_of}
-use Rattle.picc_core.specs.declared.agreeing.Agreed.{Agreed}
-use Rattle.picc_core.specs.declared.agreeing.Agreed.TheVariants.{Same, Undefined}
+use Rattle.run_compare.specs.declared.comparing.Agreed.{Agreed}
+use Rattle.run_compare.specs.declared.comparing.Agreed.TheVariants.{Same, Undefined}
 
 -- the length of the chip's trace, where it is told
 abbrev pub events_in : Agreed → ℕ
