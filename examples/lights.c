@@ -9,14 +9,14 @@
 #define LAMPS  8
 #define ROUNDS 2
 
-struct picture { unsigned char lamps; unsigned int length; };
+typedef struct picture { unsigned char lamps; unsigned int length; } Picture;
 
 static const unsigned char patterns[6] = { 0x81, 0xC3, 0xE7, 0xFF, 0x18, 0x00 };
 
 /* A quarter wave: 255 times the sine of 0, 15 .. 90 degrees. */
 static const unsigned char wave[7] = { 0, 66, 128, 180, 221, 246, 255 };
 
-static void show(struct picture *p)
+static void show(Picture *p)
 {
     volatile unsigned int left;
 
@@ -33,7 +33,7 @@ static unsigned char bar(unsigned char level)
     return (1 << lit) - 1;
 }
 
-static void run(struct picture *p)
+static void run(Picture *p)
 {
     signed char place;
 
@@ -49,7 +49,7 @@ static void run(struct picture *p)
 
 void main(void)
 {
-    struct picture now;
+    Picture now;
     unsigned char round, i;
 
     TRISB = 0;

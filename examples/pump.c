@@ -17,9 +17,7 @@
 #define PUMP     0x01           /* outputs at port C */
 #define ALARM    0x02
 
-#define IDLE     0              /* states */
-#define PUMPING  1
-#define BLOCKED  2
+enum { IDLE, PUMPING, BLOCKED };        /* states */
 
 #define LONGEST  3              /* ticks that a run may last */
 
