@@ -1,7 +1,7 @@
 -- Whether a byte is in a set, and what it holds, by the entry of its number.
-use Rattle.std.proofs.Common.{◌≡◌, ℕ, zero, suc, ◌+◌, ◌<◌, Bool, true, false, ◌||◌, if◌then◌else◌, List, [], ◌∷◌, Option, Some, None, slice_get, refl, sym, ap, ◌∙◌, subst, arith}
+use Rattle.std.proofs.Common.{◌≡◌, ℕ, zero, suc, ◌+◌, ◌<◌, Bool, true, false, ◌&&◌, ◌||◌, if◌then◌else◌, List, [], ◌∷◌, Option, Some, None, slice_get, refl, sym, ap, ◌∙◌, subst, arith}
 use Rattle.std.specs.Prelude.{nat_eq}
-use Rattle.lean_code.specs.Checked.{among, KnownByte, number_in}
+use Rattle.lean_code.specs.Checked.{among, KnownByte, number_in, gives_number, gives_known}
 use Rattle.lean_pass.specs.Views.{trues, set_of, knowns, entry, known_entry}
 use Rattle.lean_pass.specs.declared.rows.ByteSet.{ByteSet}
 
@@ -45,3 +45,16 @@ known_from (None ∷ bs) i a (suc k) e = known_from bs (i + 1) a k (omega arith)
 
 pub number_known : (bs : List (Option ℕ)) (a : ℕ) → number_in a (knowns 0 bs) ≡ known_entry (slice_get bs a)
 number_known bs a = known_from bs 0 a a (omega arith)
+
+-- ---- tests
+pub known_on : (has : ℕ → Option ℕ) (i : ℕ) (n : Option ℕ) (rest : List (Option ℕ)) → gives_number (has i) n ≡ true → gives_known has (knowns i (n ∷ rest)) ≡ gives_known has (knowns (i + 1) rest)
+known_on has i None rest e = refl
+known_on has i (Some n) rest e = ap (λ (b : Bool). b && gives_known has (knowns (i + 1) rest)) e
+
+pub known_off : (has : ℕ → Option ℕ) (i : ℕ) (n : Option ℕ) (rest : List (Option ℕ)) → gives_number (has i) n ≡ false → gives_known has (knowns i (n ∷ rest)) ≡ false
+known_off has i None rest e = sym e
+known_off has i (Some n) rest e = ap (λ (b : Bool). b && gives_known has (knowns (i + 1) rest)) e
+
+pub and_three : (a b c d : Bool) → (a && ((b && c) && d)) ≡ (a && (b && (c && d)))
+and_three a true c d = refl
+and_three a false c d = refl

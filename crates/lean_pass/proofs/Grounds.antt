@@ -1,5 +1,6 @@
 -- Whose bytes are, and where operands lead, by what the code looks at.
-use Rattle.std.proofs.Common.{◌≡◌, ℕ, zero, suc, ◌+◌, ◌-◌, ◌*◌, ◌/◌, ◌%◌, ◌<◌, ◌≤◌, Bool, true, false, not, ◌&&◌, ◌||◌, if◌then◌else◌, List, [], ◌∷◌, map, Option, Some, None, slice_get, refl, sym, ap, ◌∙◌, subst, arith}
+use Rattle.std.proofs.Common.{◌≡◌, ℕ, zero, suc, ◌+◌, ◌-◌, ◌*◌, ◌/◌, ◌%◌, ◌<◌, ◌≤◌, Bool, true, false, not, ◌&&◌, ◌||◌, if◌then◌else◌, List, [], ◌∷◌, ◌++◌, length, map, Option, Some, None, slice_get, refl, sym, ap, ◌∙◌, subst, arith}
+use Rattle.std.proofs.lemmas.Option.{none-some}
 use Rattle.std.specs.Prelude.{nat_eq, nat_le, nat_lt, slice_index_or}
 use Rattle.pic_chip.specs.Address as chip
 use Rattle.pic_chip.specs.Run.{Range, covers, object_at}
@@ -18,7 +19,7 @@ use Rattle.sym_code.specs.declared.code.Operand.TheVariants as operands
 use Rattle.sym_code.specs.declared.code.Register.TheVariants.{Indf, Status, Fsr, Pclath}
 use Rattle.lean_pass.specs.Layouts.{range_of, frame_of}
 use Rattle.lean_code.specs.Changes as changes
-use Rattle.lean_pass.specs.Owners.{kind, is_watched, own_by, near_by, access_by, general_aim, byte_aim, is_core, first_general, general_by, object_address, frame_address}
+use Rattle.lean_pass.specs.Owners.{AreOwners, kind, is_watched, own_by, near_by, access_by, general_aim, byte_aim, is_core, first_general, general_by, object_address, frame_address, owner_in}
 use Rattle.lean_pass.specs.declared.owners.Whose.{Whose}
 use Rattle.lean_pass.specs.declared.owners.Whose.TheVariants as whose
 
@@ -71,19 +72,29 @@ frame_is [] n = refl
 frame_is (line ∷ lines) zero = refl
 frame_is (line ∷ lines) (suc n) = frame_is lines n
 
+general_cases : (c2 c3 c4 c10 c11 c12 bank_0 high general register : Bool) (x y d : ℕ)
+    → general_in (if c2 then chip.Pcl else if c3 then chip.Status else if c4 then chip.Fsr else if c10 then chip.Pclath else if c11 then chip.Intcon else if c12 then (if bank_0 then chip.Pir1 else chip.Pie1) else if high then chip.General x else if general then chip.General y else if register then chip.Device d else chip.Nothing)
+    ≡ (if c2 || (c3 || (c4 || (c10 || (c11 || c12)))) then None else (if high then Some x else (if general then Some y else None)))
+general_cases true c3 c4 c10 c11 c12 b h g r x y d = refl
+general_cases false true c4 c10 c11 c12 b h g r x y d = refl
+general_cases false false true c10 c11 c12 b h g r x y d = refl
+general_cases false false false true c11 c12 b h g r x y d = refl
+general_cases false false false false true c12 b h g r x y d = refl
+general_cases false false false false false true true h g r x y d = refl
+general_cases false false false false false true false h g r x y d = refl
+general_cases false false false false false false b true g r x y d = refl
+general_cases false false false false false false b false true r x y d = refl
+general_cases false false false false false false b false false true x y d = refl
+general_cases false false false false false false b false false false x y d = refl
+
 pub general_is : (address : ℕ) → general_at address ≡ general_by (address / 128) (address % 128)
 unfolding general_at
 general_is address = by_place (address / 128) (address % 128)
   where
-    last : (b c low : ℕ) → general_in (if is_register b then chip.Device c else chip.Nothing) ≡ None
-    last b c low = by_case (is_register b)
-      where
-        by_case : (h : Bool) → general_in (if h then chip.Device c else chip.Nothing) ≡ None
-        by_case true = refl
-        by_case false = refl
-
     by_place : (bank low : ℕ) → general_in (chip.place bank low) ≡ general_by bank low
-    by_place bank low = grind (last)
+    by_place bank low =
+        general_cases (nat_eq low 2) (nat_eq low 3) (nat_eq low 4) (nat_eq low 10) (nat_eq low 11) (nat_eq low 12 && nat_lt bank 2) (nat_eq bank 0) (nat_le 0x70 low) (nat_le (first_general bank) low)
+        (is_register (0x80 * bank + low)) (low - 0x20) (0x60 * bank + low - 0x20) (lowest (0x80 * bank + low))
 
 -- ---- operands
 access_kind : (inside writes : Bool) (k : ℕ) (o : Owner) → changes.aim_of (effects.access_by inside writes k o) ≡ access_by inside writes k (kind o)
@@ -106,3 +117,26 @@ byte_is l inside writes (bytes.Static n offset) = general_kind l inside writes (
 byte_is l inside writes (bytes.Frame c offset) = general_kind l inside writes (general_at (layouts.address_of l (bytes.Frame c offset)))
 byte_is l inside writes (bytes.Result root k) = general_kind l inside writes (general_at (layouts.address_of l (bytes.Result root k)))
 byte_is l inside writes (bytes.Device address) = refl
+
+-- ---- the table of owners
+pub owner_is : (l : DataLayout) (list : List Whose) (k : ℕ) → AreOwners l list → owner_in l k (slice_get list k) ≡ kind (owner l k)
+owner_is l list k all = by_entry (slice_get list k) refl
+  where
+    by_entry : (o : Option Whose) → slice_get list k ≡ o → owner_in l k o ≡ kind (owner l k)
+    by_entry None is = refl
+    by_entry (Some w) is = all.listed k w is
+
+pub owners_none : (l : DataLayout) (list : List Whose) → list ≡ [] → AreOwners l list
+owners_none l list none = record { listed = λ k w got. absurd (none-some w (ap (λ (x : List Whose). slice_get x k) (sym none) ∙ got)) }
+
+same_whose : (v w : Whose) → Some v ≡ Some w → w ≡ v
+same_whose v w e = cc
+
+push_is : (f : ℕ → Whose) (list : List Whose) (w : Whose) → w ≡ f (length list) → ((j : ℕ) (u : Whose) → slice_get list j ≡ Some u → u ≡ f j) → (k : ℕ) (v : Whose) → slice_get (list ++ w ∷ []) k ≡ Some v → v ≡ f k
+push_is f [] w is before zero v got = same_whose w v got ∙ is
+push_is f [] w is before (suc k) v got = absurd (none-some v got)
+push_is f (x ∷ list) w is before zero v got = before 0 v got
+push_is f (x ∷ list) w is before (suc k) v got = push_is (λ j. f (suc j)) list w is (λ j u h. before (suc j) u h) k v got
+
+pub owners_more : (l : DataLayout) (list new : List Whose) (w : Whose) (n : ℕ) → new ≡ list ++ w ∷ [] → length list ≡ n → w ≡ kind (owner l n) → AreOwners l list → AreOwners l new
+owners_more l list new w n put is so before = record { listed = λ k v got. push_is (λ j. kind (owner l j)) list w (so ∙ ap (λ j. kind (owner l j)) (sym is)) before.listed k v (ap (λ (x : List Whose). slice_get x k) (sym put) ∙ got) }

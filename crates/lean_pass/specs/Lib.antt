@@ -3,3 +3,6 @@ pub mod Ways
 pub mod Layouts
 pub mod Owners
 pub mod Behind
+pub mod Rules
+pub mod Tests
+pub mod Made

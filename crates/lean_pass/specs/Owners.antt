@@ -29,8 +29,8 @@ is_watched [] address = false
 is_watched (r ∷ rs) address = if not r.constant && covers r address then true else is_watched rs address
 
 -- of each number that is listed whose that byte is
-abbrev pub AreOwners : DataLayout → List Whose → Type 0
-AreOwners l list = (k : ℕ) (w : Whose) → slice_get list k ≡ Some w → w ≡ kind (owner l k)
+pub record AreOwners (l : DataLayout) (list : List Whose) : Type 0 where
+  pub listed : (k : ℕ) (w : Whose) → slice_get list k ≡ Some w → w ≡ kind (owner l k)
 
 abbrev pub own_by : Bool → Whose → Bool
 own_by inside whose.Main = not inside
@@ -91,3 +91,7 @@ object_address (Some line) = line.address
 abbrev pub frame_address : Option FrameLine → ℕ
 frame_address None = 0
 frame_address (Some line) = line.address
+
+abbrev pub owner_in : DataLayout → ℕ → Option Whose → Whose
+owner_in l k None = kind (owner l k)
+owner_in l k (Some w) = w

@@ -1,6 +1,6 @@
 //! Whose each general byte is, and where operands lead.
 
-ghost use Rattle.std.specs.Prelude.{◌≡◌, ◌<◌, ◌+◌, ◌^◌, ℕ, length, map, if◌then◌else◌};
+ghost use Rattle.std.specs.Prelude.{◌≡◌, ◌<◌, ◌+◌, ◌^◌, ℕ, length, map, IfOk, slice_get, [], ◌∷◌, ◌++◌, if◌then◌else◌};
 ghost use Rattle.pic_chip.specs.Address as chip;
 ghost use Rattle.pic_chip.specs.Run as objects;
 ghost use Rattle.sym_code.specs.Layout as layouts;
@@ -11,12 +11,12 @@ ghost use Rattle.lean_pass.specs.Owners as stated;
 ghost use Rattle.lean_pass.specs.Owners.{AreOwners, kind, aim_of};
 ghost use Rattle.lean_pass.specs.Views.{block_of};
 
-use crate::rows::LeanBlock;
+use crate::rows::{Apart, ByteSet, Facts, LeanBlock, Note};
 use core_code::Byte;
 use pic_map::{FrameLine, ObjLine, Placed};
 use pic_world::Root;
 use std::alloc::{AllocError, Global};
-use sym_code::{Operand, Register};
+use sym_code::{BlockName, Operand, Register};
 
 /// How many general bytes the chip has.
 const BYTES: usize = 368;
@@ -44,6 +44,7 @@ pub enum Aim {
 }
 
 /// Where objects and frames stand, and of each general byte whose it is.
+#[derive(Drop)]
 pub struct Ground<'a> {
     pub placed: &'a Placed,
     pub owners: Vec<Whose>,
@@ -272,13 +273,20 @@ fn access(inside: bool, writes: bool, number: usize, whose: Whose) -> Aim
 }
 
 impl<'a> Ground<'a> {
-    fn owner(&self, number: usize) -> Whose
-        ensures { result ≡ kind (layouts.owner (layout_of self.now.placed.now) number) }
+    fn listed(&self, number: usize) -> Whose
+        ensures { result ≡ stated.owner_in (layout_of self.now.placed.now) number (slice_get self.now.owners.items number) }
     {
         match self.owners.get(number) {
             Some(whose) => *whose,
             None => kind_of(self.placed, number),
         }
+    }
+
+    #[tactic(auto, using(crate::proofs::Grounds::owner_is))]
+    fn owner(&self, number: usize) -> Whose
+        ensures { result ≡ kind (layouts.owner (layout_of self.now.placed.now) number) }
+    {
+        self.listed(number)
     }
 
     /// Whether a byte is the thread's own.
@@ -333,4 +341,64 @@ impl<'a> Ground<'a> {
             Operand::Saved(_) => Aim::Nowhere,
         }
     }
+}
+
+// ---- the ground of a test
+
+/// A block that isn't there.
+pub fn no_block(alloc: Global) -> LeanBlock
+    ensures { block_of result ≡ listed.no_block }
+{
+    LeanBlock {
+        name: BlockName::Start,
+        rows: Vec::new(alloc),
+        inside: false,
+        ends: Note {
+            facts: Facts {
+                number: None,
+                held: ByteSet { has: Vec::new(alloc) },
+                zero: false,
+                known: Vec::new(alloc),
+            },
+            apart: Apart {
+                w: true,
+                z: true,
+                dc: true,
+                c: true,
+                bytes: ByteSet { has: Vec::new(alloc) },
+            },
+            carry: None,
+        },
+        outer: ByteSet { has: Vec::new(alloc) },
+    }
+}
+
+fn put_owner(owners: &mut Vec<Whose>, whose: Whose) -> Result<(), AllocError>
+    ensures { IfOk result (λ _. owners.new.items ≡ owners.old.items ++ (whose ∷ [])) }
+{
+    owners.push(whose)?;
+    Ok(())
+}
+
+#[tactic(auto, using(crate::proofs::Grounds::owners_none, crate::proofs::Grounds::owners_more))]
+fn owners_of(alloc: Global, placed: &Placed) -> Result<Vec<Whose>, AllocError>
+    ensures { IfOk result (λ owners. AreOwners (layout_of placed.now) owners.items) }
+{
+    let mut owners = Vec::new(alloc);
+    for number in 0..BYTES {
+        put_owner(&mut owners, kind_of(placed, number))?;
+    }
+    Ok(owners)
+}
+
+/// The ground of a test.
+pub fn grounded<'a>(alloc: Global, placed: &'a Placed) -> Result<Ground<'a>, AllocError>
+    ensures { IfOk result (λ ground. ground.placed.now ≡ placed.now) }
+{
+    let owners = owners_of(alloc, placed)?;
+    Ok(Ground {
+        placed,
+        owners,
+        none: no_block(alloc),
+    })
 }

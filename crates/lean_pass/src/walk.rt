@@ -28,7 +28,8 @@ pub fn is_dropped(row: &Row) -> bool
 }
 
 #[tactic(auto, using(crate::proofs::Along::out_is))]
-fn stays_out(sym: Sym, act: Act) -> bool
+/// Whether an instruction that becomes this is left out. A label always stays.
+pub fn stays_out(sym: Sym, act: Act) -> bool
     ensures { result ≡ stated.stays_out sym act }
 {
     match act {
@@ -97,8 +98,9 @@ pub fn goes_on(rows: &[Row]) -> bool
     }
 }
 
-// The first row of a list and the others.
-fn first_row(rows: &[Row]) -> Option<(&Row, &[Row])>
+
+/// The first row of a list and the others.
+pub fn first_row(rows: &[Row]) -> Option<(&Row, &[Row])>
     ensures { MatchOption result (rows.now ≡ []) (λ x. rows.now ≡ x.0.now ∷ x.1.now) }
 {
     match rows {
@@ -107,7 +109,8 @@ fn first_row(rows: &[Row]) -> Option<(&Row, &[Row])>
     }
 }
 
-fn same_label(a: Label, b: Label) -> bool
+/// Whether two labels are one.
+pub fn same_label(a: Label, b: Label) -> bool
     ensures { result ≡ programs.same_label a b }
 {
     match a {
