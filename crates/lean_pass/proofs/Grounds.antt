@@ -17,7 +17,7 @@ use Rattle.sym_code.specs.Layout.{DataLayout, Owner, owner, owner_by, covers_any
 use Rattle.sym_code.specs.declared.code.Operand.{Operand}
 use Rattle.sym_code.specs.declared.code.Operand.TheVariants as operands
 use Rattle.sym_code.specs.declared.code.Register.TheVariants.{Indf, Status, Fsr, Pclath}
-use Rattle.lean_pass.specs.Layouts.{range_of, frame_of}
+use Rattle.code_place.specs.Layouts.{range_of, frame_of}
 use Rattle.lean_code.specs.Changes as changes
 use Rattle.lean_pass.specs.Owners.{AreOwners, kind, is_watched, own_by, near_by, access_by, general_aim, byte_aim, is_core, first_general, general_by, object_address, frame_address, owner_in}
 use Rattle.lean_pass.specs.declared.owners.Whose.{Whose}

@@ -3,4 +3,4 @@ pub mod Along
 pub mod Grounds
 pub mod Cuts
 pub mod Whole
-pub mod Making
+pub mod Putting

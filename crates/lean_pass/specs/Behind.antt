@@ -4,7 +4,7 @@ use Rattle.sym_code.specs.declared.code.FileOperation.{FileOperation}
 use Rattle.lean_code.specs.Rows.{Facts, Apart}
 use Rattle.lean_code.specs.Changes as changes
 use Rattle.lean_code.specs.Checked as listed
-use Rattle.lean_pass.specs.Layouts.{layout_of}
+use Rattle.code_place.specs.Layouts.{layout_of}
 use Rattle.lean_pass.specs.Views.{note_of, block_of, sketch_of, set_of}
 use Rattle.lean_pass.specs.declared.behind.Behind.{Behind}
 use Rattle.lean_pass.specs.declared.behind.Bytes.{Bytes}

@@ -1,6 +1,5 @@
 pub mod Views
 pub mod Ways
-pub mod Layouts
 pub mod Owners
 pub mod Behind
 pub mod Rules

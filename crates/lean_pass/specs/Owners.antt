@@ -8,7 +8,7 @@ use Rattle.core_code.specs.declared.code.Byte.TheVariants as bytes
 use Rattle.pic_world.specs.declared.Root.TheVariants.{Main, Isr}
 use Rattle.sym_code.specs.Layout as layouts
 use Rattle.sym_code.specs.Layout.{DataLayout, Owner, owner}
-use Rattle.lean_pass.specs.Layouts.{layout_of}
+use Rattle.code_place.specs.Layouts.{layout_of}
 use Rattle.lean_code.specs.Changes as changes
 use Rattle.lean_pass.specs.declared.owners.Aim.{Aim}
 use Rattle.lean_pass.specs.declared.owners.Aim.TheVariants as aims

@@ -101,10 +101,26 @@ pub struct Here<'a> {
 pub fn flags_in(op: FileOperation) -> Flags
     ensures { flags_of result ≡ changes.flags_in op }
 {
-    let all = Flags { z: true, dc: true, c: true };
-    let zero = Flags { z: true, dc: false, c: false };
-    let carry = Flags { z: false, dc: false, c: true };
-    let none = Flags { z: false, dc: false, c: false };
+    let all = Flags {
+        z: true,
+        dc: true,
+        c: true,
+    };
+    let zero = Flags {
+        z: true,
+        dc: false,
+        c: false,
+    };
+    let carry = Flags {
+        z: false,
+        dc: false,
+        c: true,
+    };
+    let none = Flags {
+        z: false,
+        dc: false,
+        c: false,
+    };
     match op {
         FileOperation::Addwf => all,
         FileOperation::Subwf => all,
@@ -159,9 +175,21 @@ pub fn may_skip(op: FileOperation) -> bool
 pub fn literal_flags(op: LiteralOperation) -> Flags
     ensures { flags_of result ≡ changes.literal_flags op }
 {
-    let all = Flags { z: true, dc: true, c: true };
-    let zero = Flags { z: true, dc: false, c: false };
-    let none = Flags { z: false, dc: false, c: false };
+    let all = Flags {
+        z: true,
+        dc: true,
+        c: true,
+    };
+    let zero = Flags {
+        z: true,
+        dc: false,
+        c: false,
+    };
+    let none = Flags {
+        z: false,
+        dc: false,
+        c: false,
+    };
     match op {
         LiteralOperation::Addlw => all,
         LiteralOperation::Sublw => all,
@@ -326,7 +354,11 @@ impl<'a> Here<'a> {
         let marks = self.marks();
         self.differing(Marks {
             w: if held { marks.w } else { true },
-            z: if held && self.note.facts.zero { marks.z } else { true },
+            z: if held && self.note.facts.zero {
+                marks.z
+            } else {
+                true
+            },
             dc: marks.dc,
             c: marks.c,
         })
@@ -389,11 +421,20 @@ impl<'a> Here<'a> {
     {
         let marks = self.marks();
         if bit == 0 {
-            self.differing(Marks { c: differs, ..marks })
+            self.differing(Marks {
+                c: differs,
+                ..marks
+            })
         } else if bit == 1 {
-            self.differing(Marks { dc: differs, ..marks })
+            self.differing(Marks {
+                dc: differs,
+                ..marks
+            })
         } else if bit == 2 {
-            self.differing(Marks { z: differs, ..marks })
+            self.differing(Marks {
+                z: differs,
+                ..marks
+            })
         } else {
             self.differing(marks)
         }
@@ -447,7 +488,11 @@ impl<'a> Here<'a> {
         let marks = self.marks();
         self.differing(Marks {
             w: false,
-            z: if self.is_held(byte) && self.note.facts.zero { marks.z } else { true },
+            z: if self.is_held(byte) && self.note.facts.zero {
+                marks.z
+            } else {
+                true
+            },
             dc: marks.dc,
             c: marks.c,
         })

@@ -12,8 +12,8 @@ ghost use Rattle.lean_pass.specs.Rules as rules;
 ghost use Rattle.lean_pass.specs.Views.{act_of, apart_of, block_of, note_of, rows_of, set_of};
 
 use crate::behind::{
-    Differs, Here, Marks, both_set, flags_in, is_number, is_retlw, literal_for, may_skip, one_sets, uses_w,
-    with_w,
+    Differs, Here, Marks, both_set, flags_in, is_number, is_retlw, literal_for, may_skip, one_sets,
+    uses_w, with_w,
 };
 use crate::keeping::is_status;
 use crate::owners::Aim;
@@ -47,73 +47,71 @@ fn carry_but(byte: usize, carry: Option<usize>) -> Option<usize>
     }
 }
 
+fn is_addlw(op: LiteralOperation) -> bool
+    ensures { result ≡ listed.same_operation LiteralOperation.Addlw op }
+{
+    match op {
+        LiteralOperation::Addlw => true,
+        _ => false,
+    }
+}
+
+fn is_andlw(op: LiteralOperation) -> bool
+    ensures { result ≡ listed.same_operation LiteralOperation.Andlw op }
+{
+    match op {
+        LiteralOperation::Andlw => true,
+        _ => false,
+    }
+}
+
+fn is_iorlw(op: LiteralOperation) -> bool
+    ensures { result ≡ listed.same_operation LiteralOperation.Iorlw op }
+{
+    match op {
+        LiteralOperation::Iorlw => true,
+        _ => false,
+    }
+}
+
+fn is_movlw(op: LiteralOperation) -> bool
+    ensures { result ≡ listed.same_operation LiteralOperation.Movlw op }
+{
+    match op {
+        LiteralOperation::Movlw => true,
+        _ => false,
+    }
+}
+
+fn is_sublw(op: LiteralOperation) -> bool
+    ensures { result ≡ listed.same_operation LiteralOperation.Sublw op }
+{
+    match op {
+        LiteralOperation::Sublw => true,
+        _ => false,
+    }
+}
+
+fn is_xorlw(op: LiteralOperation) -> bool
+    ensures { result ≡ listed.same_operation LiteralOperation.Xorlw op }
+{
+    match op {
+        LiteralOperation::Xorlw => true,
+        _ => false,
+    }
+}
+
 fn is_the_operation(one: LiteralOperation, other: LiteralOperation) -> bool
     ensures { result ≡ listed.same_operation one other }
 {
     match one {
-        LiteralOperation::Addlw => match other {
-            LiteralOperation::Addlw => true,
-            LiteralOperation::Andlw => false,
-            LiteralOperation::Iorlw => false,
-            LiteralOperation::Movlw => false,
-            LiteralOperation::Retlw => false,
-            LiteralOperation::Sublw => false,
-            LiteralOperation::Xorlw => false,
-        },
-        LiteralOperation::Andlw => match other {
-            LiteralOperation::Addlw => false,
-            LiteralOperation::Andlw => true,
-            LiteralOperation::Iorlw => false,
-            LiteralOperation::Movlw => false,
-            LiteralOperation::Retlw => false,
-            LiteralOperation::Sublw => false,
-            LiteralOperation::Xorlw => false,
-        },
-        LiteralOperation::Iorlw => match other {
-            LiteralOperation::Addlw => false,
-            LiteralOperation::Andlw => false,
-            LiteralOperation::Iorlw => true,
-            LiteralOperation::Movlw => false,
-            LiteralOperation::Retlw => false,
-            LiteralOperation::Sublw => false,
-            LiteralOperation::Xorlw => false,
-        },
-        LiteralOperation::Movlw => match other {
-            LiteralOperation::Addlw => false,
-            LiteralOperation::Andlw => false,
-            LiteralOperation::Iorlw => false,
-            LiteralOperation::Movlw => true,
-            LiteralOperation::Retlw => false,
-            LiteralOperation::Sublw => false,
-            LiteralOperation::Xorlw => false,
-        },
-        LiteralOperation::Retlw => match other {
-            LiteralOperation::Addlw => false,
-            LiteralOperation::Andlw => false,
-            LiteralOperation::Iorlw => false,
-            LiteralOperation::Movlw => false,
-            LiteralOperation::Retlw => false,
-            LiteralOperation::Sublw => false,
-            LiteralOperation::Xorlw => false,
-        },
-        LiteralOperation::Sublw => match other {
-            LiteralOperation::Addlw => false,
-            LiteralOperation::Andlw => false,
-            LiteralOperation::Iorlw => false,
-            LiteralOperation::Movlw => false,
-            LiteralOperation::Retlw => false,
-            LiteralOperation::Sublw => true,
-            LiteralOperation::Xorlw => false,
-        },
-        LiteralOperation::Xorlw => match other {
-            LiteralOperation::Addlw => false,
-            LiteralOperation::Andlw => false,
-            LiteralOperation::Iorlw => false,
-            LiteralOperation::Movlw => false,
-            LiteralOperation::Retlw => false,
-            LiteralOperation::Sublw => false,
-            LiteralOperation::Xorlw => true,
-        },
+        LiteralOperation::Addlw => is_addlw(other),
+        LiteralOperation::Andlw => is_andlw(other),
+        LiteralOperation::Iorlw => is_iorlw(other),
+        LiteralOperation::Movlw => is_movlw(other),
+        LiteralOperation::Sublw => is_sublw(other),
+        LiteralOperation::Xorlw => is_xorlw(other),
+        LiteralOperation::Retlw => false,
     }
 }
 
@@ -140,7 +138,12 @@ impl<'a> Here<'a> {
         let facts = self.moved(Aim::ToByte(byte));
         if carry == byte {
             let marks = self.marks();
-            let apart = self.differing(Marks { w: false, z: true, dc: marks.dc, c: marks.c });
+            let apart = self.differing(Marks {
+                w: false,
+                z: true,
+                dc: marks.dc,
+                c: marks.c,
+            });
             self.expects(rest, facts, apart)
         } else {
             self.expects_by(Some(carry), rest, facts, self.one_moves(byte), None)
@@ -209,7 +212,14 @@ impl<'a> Here<'a> {
             Aim::ToByte(byte) => {
                 let apart = self.one_writes(byte, one_sets(flags_in(op), self.marks()));
                 let facts = self.lost(aim, false);
-                self.passes(carry_but(byte, self.note.carry), rest, may_skip(op), facts, apart, Some(byte))
+                self.passes(
+                    carry_but(byte, self.note.carry),
+                    rest,
+                    may_skip(op),
+                    facts,
+                    apart,
+                    Some(byte),
+                )
             }
             Aim::ToFsr => false,
             Aim::ToEvent => false,
@@ -223,7 +233,13 @@ impl<'a> Here<'a> {
     {
         match aim {
             Aim::ToByte(byte) => {
-                self.expects_by(carry_but(byte, self.note.carry), rest, self.stored(aim), self.one_stores(byte), Some(byte))
+                self.expects_by(
+                    carry_but(byte, self.note.carry),
+                    rest,
+                    self.stored(aim),
+                    self.one_stores(byte),
+                    Some(byte),
+                )
             }
             Aim::ToFsr => false,
             Aim::ToEvent => false,
@@ -237,7 +253,13 @@ impl<'a> Here<'a> {
     {
         match aim {
             Aim::ToByte(byte) => {
-                self.expects_by(carry_but(byte, self.note.carry), rest, self.cleared(aim), self.one_clears(byte), Some(byte))
+                self.expects_by(
+                    carry_but(byte, self.note.carry),
+                    rest,
+                    self.cleared(aim),
+                    self.one_clears(byte),
+                    Some(byte),
+                )
             }
             Aim::ToFsr => false,
             Aim::ToEvent => false,
@@ -252,7 +274,13 @@ impl<'a> Here<'a> {
         match aim {
             Aim::ToByte(byte) => {
                 let facts = self.lost(aim, self.note.facts.zero);
-                self.expects_by(carry_but(byte, self.note.carry), rest, facts, self.one_writes(byte, self.marks()), Some(byte))
+                self.expects_by(
+                    carry_but(byte, self.note.carry),
+                    rest,
+                    facts,
+                    self.one_writes(byte, self.marks()),
+                    Some(byte),
+                )
             }
             Aim::ToFsr => false,
             Aim::ToEvent => false,
@@ -265,7 +293,14 @@ impl<'a> Here<'a> {
         ensures { result ≡ rules.drops_skip (sketch_at self.now) (block_at self.now) (note_at self.now) (rows_of rest.now) }
     {
         let facts = self.unchanged(self.note.facts.zero);
-        self.passes(self.note.carry, rest, true, facts, self.differing(self.marks()), None)
+        self.passes(
+            self.note.carry,
+            rest,
+            true,
+            facts,
+            self.differing(self.marks()),
+            None,
+        )
     }
 
     fn drops_test(&self, rest: &[Row], aim: Aim) -> bool
@@ -283,7 +318,14 @@ impl<'a> Here<'a> {
     fn drops_flag(&self, rest: &[Row], bit: u8) -> bool
         ensures { result ≡ rules.drops_flag (sketch_at self.now) (block_at self.now) (note_at self.now) (rows_of rest.now) bit }
     {
-        bit < 3 && self.expects_by(self.note.carry, rest, self.unchanged(false), self.with_flag(bit, true), None)
+        bit < 3
+            && self.expects_by(
+                self.note.carry,
+                rest,
+                self.unchanged(false),
+                self.with_flag(bit, true),
+                None,
+            )
     }
 
     #[tactic(auto, using(crate::proofs::Cuts::drops_bit_is))]
@@ -292,10 +334,26 @@ impl<'a> Here<'a> {
     {
         let status = is_status(operand);
         match op {
-            BitOperation::Bcf => if status { self.drops_flag(rest, bit) } else { self.drops_change(rest, self.write(operand)) },
-            BitOperation::Bsf => if status { self.drops_flag(rest, bit) } else { self.drops_change(rest, self.write(operand)) },
-            BitOperation::Btfsc => if status { self.drops_skip(rest) } else { self.drops_test(rest, self.read(operand)) },
-            BitOperation::Btfss => if status { self.drops_skip(rest) } else { self.drops_test(rest, self.read(operand)) },
+            BitOperation::Bcf => if status {
+                self.drops_flag(rest, bit)
+            } else {
+                self.drops_change(rest, self.write(operand))
+            },
+            BitOperation::Bsf => if status {
+                self.drops_flag(rest, bit)
+            } else {
+                self.drops_change(rest, self.write(operand))
+            },
+            BitOperation::Btfsc => if status {
+                self.drops_skip(rest)
+            } else {
+                self.drops_test(rest, self.read(operand))
+            },
+            BitOperation::Btfss => if status {
+                self.drops_skip(rest)
+            } else {
+                self.drops_test(rest, self.read(operand))
+            },
         }
     }
 
@@ -303,7 +361,12 @@ impl<'a> Here<'a> {
         ensures { result ≡ listed.drops_plain (sketch_at self.now) (block_at self.now) (note_at self.now) (rows_of rest.now) PlainOperation.Clrw }
     {
         let marks = self.marks();
-        let apart = self.differing(Marks { w: true, z: true, dc: marks.dc, c: marks.c });
+        let apart = self.differing(Marks {
+            w: true,
+            z: true,
+            dc: marks.dc,
+            c: marks.c,
+        });
         self.expects_by(self.note.carry, rest, self.cleared_w(), apart, None)
     }
 
@@ -314,7 +377,13 @@ impl<'a> Here<'a> {
             PlainOperation::Clrw => self.drops_clrw(rest),
             PlainOperation::Nop => {
                 let facts = self.unchanged(self.note.facts.zero);
-                self.expects_by(self.note.carry, rest, facts, self.differing(self.marks()), None)
+                self.expects_by(
+                    self.note.carry,
+                    rest,
+                    facts,
+                    self.differing(self.marks()),
+                    None,
+                )
             }
             PlainOperation::Retfie => false,
             PlainOperation::Return => false,
@@ -338,7 +407,8 @@ impl<'a> Here<'a> {
         match target {
             Target::Block(_) => false,
             Target::Label(label) => match label {
-                Label::Inner(_) => self.expects_label(self.note.carry, label) && self.is_here(at, label),
+                Label::Inner(_) => self.expects_label(self.note.carry, label)
+                    && self.is_here(at, label),
                 Label::Halt => false,
                 Label::Restore => false,
             },
@@ -349,7 +419,13 @@ impl<'a> Here<'a> {
         ensures { result ≡ rules.drops_literal (sketch_at self.now) (block_at self.now) (note_at self.now) (rows_of rest.now) op value }
     {
         !is_retlw(op)
-            && self.expects_by(self.note.carry, rest, self.after_literal(op, value), self.dropped_literal(op, value), None)
+            && self.expects_by(
+                self.note.carry,
+                rest,
+                self.after_literal(op, value),
+                self.dropped_literal(op, value),
+                None,
+            )
     }
 
     fn drops_file(&self, rest: &[Row], op: FileOperation, operand: Operand, into: Into) -> bool
@@ -380,7 +456,14 @@ impl<'a> Here<'a> {
         }
     }
 
-    fn puts_for(&self, rest: &[Row], op: FileOperation, aim: Aim, new: LiteralOperation, value: u8) -> bool
+    fn puts_for(
+        &self,
+        rest: &[Row],
+        op: FileOperation,
+        aim: Aim,
+        new: LiteralOperation,
+        value: u8,
+    ) -> bool
         ensures { result ≡ listed.puts_for (sketch_at self.now) (block_at self.now) (note_at self.now) (rows_of rest.now) op (aim_of aim) new value }
     {
         match aim {
@@ -388,7 +471,11 @@ impl<'a> Here<'a> {
                 is_operation(literal_for(op), new)
                     && (is_number(self.number_of(byte), value)
                         && (!(uses_w(op) && self.note.apart.w)
-                            && self.expects(rest, self.after_to_w(op, aim), self.literal_apart(op, byte))))
+                            && self.expects(
+                                rest,
+                                self.after_to_w(op, aim),
+                                self.literal_apart(op, byte),
+                            )))
             }
             Aim::ToFsr => false,
             Aim::ToEvent => false,
@@ -418,7 +505,13 @@ impl<'a> Here<'a> {
             && (self.is_same(aim)
                 && (!may_skip(op)
                     && (other == byte
-                        && self.expects_by(Some(byte), rest, self.lost(aim, false), self.narrowed(op, byte), Some(byte)))))
+                        && self.expects_by(
+                            Some(byte),
+                            rest,
+                            self.lost(aim, false),
+                            self.narrowed(op, byte),
+                            Some(byte),
+                        ))))
     }
 
     #[tactic(auto, using(crate::proofs::Cuts::narrows_is))]

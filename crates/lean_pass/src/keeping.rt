@@ -79,14 +79,17 @@ impl<'a> Here<'a> {
         ensures { result ≡ rules.keeps_to_w (sketch_at self.now) (block_at self.now) (note_at self.now) (rows_of rest.now) op (aim_of aim) }
     {
         let apart = self.differing(with_w(false, both_set(flags_in(op), self.marks())));
-        self.uses(op) && (self.is_same(aim) && self.leads(rest, may_skip(op), self.after_to_w(op, aim), apart))
+        self.uses(op)
+            && (self.is_same(aim)
+                && self.leads(rest, may_skip(op), self.after_to_w(op, aim), apart))
     }
 
     fn keeps_to_file(&self, rest: &[Row], op: FileOperation, aim: Aim) -> bool
         ensures { result ≡ rules.keeps_to_file (sketch_at self.now) (block_at self.now) (note_at self.now) (rows_of rest.now) op (aim_of aim) }
     {
         let apart = self.both_write(aim, both_set(flags_in(op), self.marks()));
-        self.uses(op) && (self.is_same(aim) && self.leads(rest, may_skip(op), self.lost(aim, false), apart))
+        self.uses(op)
+            && (self.is_same(aim) && self.leads(rest, may_skip(op), self.lost(aim, false), apart))
     }
 
     fn keeps_file(&self, rest: &[Row], op: FileOperation, operand: Operand, into: Into) -> bool
@@ -102,14 +105,23 @@ impl<'a> Here<'a> {
         ensures { result ≡ rules.keeps_change (sketch_at self.now) (block_at self.now) (note_at self.now) (rows_of rest.now) (aim_of aim) }
     {
         self.is_same(aim)
-            && self.expects(rest, self.lost(aim, self.note.facts.zero), self.differing(self.marks()))
+            && self.expects(
+                rest,
+                self.lost(aim, self.note.facts.zero),
+                self.differing(self.marks()),
+            )
     }
 
     fn keeps_test(&self, rest: &[Row], aim: Aim) -> bool
         ensures { result ≡ rules.keeps_test (sketch_at self.now) (block_at self.now) (note_at self.now) (rows_of rest.now) (aim_of aim) }
     {
         self.is_same(aim)
-            && self.leads(rest, true, self.unchanged(self.note.facts.zero), self.differing(self.marks()))
+            && self.leads(
+                rest,
+                true,
+                self.unchanged(self.note.facts.zero),
+                self.differing(self.marks()),
+            )
     }
 
     fn keeps_flag(&self, rest: &[Row], bit: u8) -> bool
@@ -122,7 +134,12 @@ impl<'a> Here<'a> {
         ensures { result ≡ rules.keeps_flag_test (sketch_at self.now) (block_at self.now) (note_at self.now) (rows_of rest.now) bit }
     {
         !self.flag_apart(bit)
-            && self.leads(rest, true, self.unchanged(self.note.facts.zero), self.differing(self.marks()))
+            && self.leads(
+                rest,
+                true,
+                self.unchanged(self.note.facts.zero),
+                self.differing(self.marks()),
+            )
     }
 
     #[tactic(auto, using(crate::proofs::Cuts::keeps_bit_is))]
@@ -131,10 +148,26 @@ impl<'a> Here<'a> {
     {
         let status = is_status(operand);
         match op {
-            BitOperation::Bcf => if status { self.keeps_flag(rest, bit) } else { self.keeps_change(rest, self.write(operand)) },
-            BitOperation::Bsf => if status { self.keeps_flag(rest, bit) } else { self.keeps_change(rest, self.write(operand)) },
-            BitOperation::Btfsc => if status { self.keeps_flag_test(rest, bit) } else { self.keeps_test(rest, self.read(operand)) },
-            BitOperation::Btfss => if status { self.keeps_flag_test(rest, bit) } else { self.keeps_test(rest, self.read(operand)) },
+            BitOperation::Bcf => if status {
+                self.keeps_flag(rest, bit)
+            } else {
+                self.keeps_change(rest, self.write(operand))
+            },
+            BitOperation::Bsf => if status {
+                self.keeps_flag(rest, bit)
+            } else {
+                self.keeps_change(rest, self.write(operand))
+            },
+            BitOperation::Btfsc => if status {
+                self.keeps_flag_test(rest, bit)
+            } else {
+                self.keeps_test(rest, self.read(operand))
+            },
+            BitOperation::Btfss => if status {
+                self.keeps_flag_test(rest, bit)
+            } else {
+                self.keeps_test(rest, self.read(operand))
+            },
         }
     }
 
@@ -142,13 +175,26 @@ impl<'a> Here<'a> {
         ensures { result ≡ listed.keeps_plain (sketch_at self.now) (block_at self.now) (note_at self.now) (rows_of rest.now) PlainOperation.Clrw }
     {
         let marks = self.marks();
-        self.expects(rest, self.cleared_w(), self.differing(Marks { w: false, z: false, dc: marks.dc, c: marks.c }))
+        self.expects(
+            rest,
+            self.cleared_w(),
+            self.differing(Marks {
+                w: false,
+                z: false,
+                dc: marks.dc,
+                c: marks.c,
+            }),
+        )
     }
 
     fn keeps_same(&self, rest: &[Row]) -> bool
         ensures { result ≡ listed.keeps_plain (sketch_at self.now) (block_at self.now) (note_at self.now) (rows_of rest.now) PlainOperation.Nop }
     {
-        self.expects(rest, self.unchanged(self.note.facts.zero), self.differing(self.marks()))
+        self.expects(
+            rest,
+            self.unchanged(self.note.facts.zero),
+            self.differing(self.marks()),
+        )
     }
 
     fn keeps_return(&self, rest: &[Row]) -> bool
@@ -194,7 +240,8 @@ impl<'a> Here<'a> {
             Target::Block(_) => false,
             Target::Label(label) => match label {
                 Label::Halt => true,
-                Label::Restore => self.block.inside && is_within(&self.note.apart.bytes, &self.sketch.rest),
+                Label::Restore => self.block.inside
+                    && is_within(&self.note.apart.bytes, &self.sketch.rest),
                 Label::Inner(_) => self.expects_label(None, label),
             },
         }
@@ -238,7 +285,8 @@ impl<'a> Here<'a> {
                 self.gives(self.unchanged(self.note.facts.zero), &note.facts)
                     && (self.flags_within(&note.apart)
                         && (is_within(&self.note.apart.bytes, &note.apart.bytes)
-                            && (is_within(across, &note.apart.bytes) && same_number(note.carry, None))))
+                            && (is_within(across, &note.apart.bytes)
+                                && same_number(note.carry, None))))
             }
         }
     }
@@ -255,7 +303,10 @@ impl<'a> Here<'a> {
     fn calls(&self, rest: &[Row], callee: &LeanBlock) -> bool
         ensures { result ≡ rules.calls (sketch_at self.now) (block_at self.now) (note_at self.now) (rows_of rest.now) (block_of callee.now) }
     {
-        let there = Here { note: &callee.ends, ..*self };
+        let there = Here {
+            note: &callee.ends,
+            ..*self
+        };
         same_side(callee.inside, self.block.inside)
             && (self.enters(&callee.rows)
                 && (there.comes(rest, &self.note.apart.bytes)
@@ -276,14 +327,20 @@ impl<'a> Here<'a> {
     fn keeps_store(&self, rest: &[Row], aim: Aim) -> bool
         ensures { result ≡ rules.keeps_store (sketch_at self.now) (block_at self.now) (note_at self.now) (rows_of rest.now) (aim_of aim) }
     {
-        !self.note.apart.w && self.expects(rest, self.stored(aim), self.both_write(aim, self.marks()))
+        !self.note.apart.w
+            && self.expects(rest, self.stored(aim), self.both_write(aim, self.marks()))
     }
 
     fn keeps_clear(&self, rest: &[Row], aim: Aim) -> bool
         ensures { result ≡ rules.keeps_clear (sketch_at self.now) (block_at self.now) (note_at self.now) (rows_of rest.now) (aim_of aim) }
     {
         let marks = self.marks();
-        let cleared = Marks { w: marks.w, z: false, dc: marks.dc, c: marks.c };
+        let cleared = Marks {
+            w: marks.w,
+            z: false,
+            dc: marks.dc,
+            c: marks.c,
+        };
         self.expects(rest, self.cleared(aim), self.both_write(aim, cleared))
     }
 
@@ -292,7 +349,8 @@ impl<'a> Here<'a> {
     {
         let apart = self.differing(with_w(false, both_set(literal_flags(op), self.marks())));
         !is_retlw(op)
-            && (!(literal_uses(op) && self.note.apart.w) && self.expects(rest, self.after_literal(op, value), apart))
+            && (!(literal_uses(op) && self.note.apart.w)
+                && self.expects(rest, self.after_literal(op, value), apart))
     }
 
     pub fn is_kept(&self, rest: &[Row], sym: Sym) -> bool

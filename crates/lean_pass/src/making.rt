@@ -5,7 +5,7 @@ ghost use Rattle.std.specs.List.{All, AllZip};
 ghost use Rattle.sym_code.specs.WellFormed.{is_well_formed, are_well_formed};
 ghost use Rattle.lean_code.specs.Rows as certified;
 ghost use Rattle.lean_code.specs.Checked as listed;
-ghost use Rattle.lean_pass.specs.Layouts.{layout_of};
+ghost use Rattle.code_place.specs.Layouts.{layout_of};
 ghost use Rattle.lean_pass.specs.Made as stated;
 ghost use Rattle.lean_pass.specs.Views.{act_of, row_of, rows_of, block_of, blocks_of, sketch_of};
 
@@ -49,7 +49,7 @@ fn put_of(sym: Sym, act: Act) -> Option<Sym>
 }
 
 // Puts what is made of a row.
-#[tactic(auto, using(crate::proofs::Making::put_formed, crate::proofs::Making::put_some, crate::proofs::Making::put_none))]
+#[tactic(auto, using(crate::proofs::Putting::put_formed, crate::proofs::Putting::put_some, crate::proofs::Putting::put_none))]
 fn put_row(out: &mut SymBlock, row: &Row) -> Result<(), AllocError>
     requires { is_well_formed row.now.sym ≡ true }
     ensures put { IfOk result (λ _. (rest : List certified.Row) → out.new.list.items ++ certified.puts rest ≡ out.old.list.items ++ certified.puts (listed.row_in (row_of row.now) ∷ rest)) }
@@ -62,7 +62,7 @@ fn put_row(out: &mut SymBlock, row: &Row) -> Result<(), AllocError>
 }
 
 // Puts what is made of a list.
-#[tactic(auto, using(crate::proofs::Making::row_formed, crate::proofs::Making::rows_formed, crate::proofs::Making::puts_begin, crate::proofs::Making::puts_on, crate::proofs::Making::puts_end))]
+#[tactic(auto, using(crate::proofs::Putting::row_formed, crate::proofs::Putting::rows_formed, crate::proofs::Putting::puts_begin, crate::proofs::Putting::puts_on, crate::proofs::Putting::puts_end))]
 fn put_rows(out: &mut SymBlock, rows: &[Row]) -> Result<(), AllocError>
     requires fits { are_well_formed (certified.olds (listed.rows_in (rows_of rows.now))) ≡ true }
     requires empty { out.old.list.items ≡ [] }
@@ -118,7 +118,7 @@ fn row_for(sym: Sym, plan: Plan) -> Row
     }
 }
 
-#[tactic(auto, using(crate::proofs::Making::olds_begin, crate::proofs::Making::olds_on, crate::proofs::Making::olds_end))]
+#[tactic(auto, using(crate::proofs::Putting::olds_begin, crate::proofs::Putting::olds_on, crate::proofs::Putting::olds_end))]
 fn rows_for(alloc: Global, list: &[Sym], mut plans: Vec<Plan>) -> Result<Vec<Row>, AllocError>
     ensures { IfOk result (λ rows. certified.olds (listed.rows_in (rows_of rows.items)) ≡ list.now) }
 {
@@ -147,8 +147,12 @@ fn block_for(alloc: Global, given: &SymBlock, plan: BlockPlan) -> Result<LeanBlo
 }
 
 /// The blocks of a certificate. There is no answer where a plan is missing.
-#[tactic(auto, using(crate::proofs::Making::seen_none, crate::proofs::Making::seen_more, crate::proofs::Making::seen_all))]
-pub fn blocks_for(alloc: Global, given: &[SymBlock], mut plans: Vec<BlockPlan>) -> Result<Option<Vec<LeanBlock>>, AllocError>
+#[tactic(auto, using(crate::proofs::Putting::seen_none, crate::proofs::Putting::seen_more, crate::proofs::Putting::seen_all))]
+pub fn blocks_for(
+    alloc: Global,
+    given: &[SymBlock],
+    mut plans: Vec<BlockPlan>,
+) -> Result<Option<Vec<LeanBlock>>, AllocError>
     ensures { IfOk result (λ found. IfSome found (λ blocks. AllZip stated.IsSeen given.now blocks.items)) }
 {
     let mut blocks = Vec::new(alloc);
@@ -183,8 +187,14 @@ pub fn are_distinct(blocks: &[LeanBlock]) -> bool
 
 // ---- what is made of a program
 
-#[tactic(auto, using(crate::proofs::Making::list_formed, crate::proofs::Making::made_is))]
-fn made_block(alloc: Global, sketch: &Sketch, none: &LeanBlock, placed: &Placed, given: &SymBlock) -> Result<SymBlock, AllocError>
+#[tactic(auto, using(crate::proofs::Putting::list_formed, crate::proofs::Putting::made_is))]
+fn made_block(
+    alloc: Global,
+    sketch: &Sketch,
+    none: &LeanBlock,
+    placed: &Placed,
+    given: &SymBlock,
+) -> Result<SymBlock, AllocError>
     requires none { block_of none.now ≡ listed.no_block }
     requires serves { stated.Serves (blocks_of sketch.now.blocks.items) given.now }
     ensures { IfOk result (λ made. listed.IsBlockOf (sketch_of (layout_of placed.now) sketch.now) given.now made) }
@@ -195,8 +205,14 @@ fn made_block(alloc: Global, sketch: &Sketch, none: &LeanBlock, placed: &Placed,
     Ok(out)
 }
 
-#[tactic(auto, using(crate::proofs::Making::serves_at, crate::proofs::Making::zip_none, crate::proofs::Making::zip_more, crate::proofs::Making::zip_all))]
-fn made_blocks(alloc: Global, sketch: &Sketch, none: &LeanBlock, placed: &Placed, given: &[SymBlock]) -> Result<Vec<SymBlock>, AllocError>
+#[tactic(auto, using(crate::proofs::Putting::serves_at, crate::proofs::Putting::zip_none, crate::proofs::Putting::zip_more, crate::proofs::Putting::zip_all))]
+fn made_blocks(
+    alloc: Global,
+    sketch: &Sketch,
+    none: &LeanBlock,
+    placed: &Placed,
+    given: &[SymBlock],
+) -> Result<Vec<SymBlock>, AllocError>
     requires none { block_of none.now ≡ listed.no_block }
     requires serves { All (stated.Serves (blocks_of sketch.now.blocks.items)) given.now }
     ensures { IfOk result (λ made. AllZip (listed.IsBlockOf (sketch_of (layout_of placed.now) sketch.now)) given.now made.items) }
@@ -210,8 +226,13 @@ fn made_blocks(alloc: Global, sketch: &Sketch, none: &LeanBlock, placed: &Placed
 }
 
 /// What a certificate makes that passes the test.
-#[tactic(auto, using(crate::proofs::Making::all_serve, crate::proofs::Making::is_made))]
-pub fn made_by(alloc: Global, sketch: &Sketch, placed: &Placed, given: &[SymBlock]) -> Result<Vec<SymBlock>, AllocError>
+#[tactic(auto, using(crate::proofs::Putting::all_serve, crate::proofs::Putting::is_made))]
+pub fn made_by(
+    alloc: Global,
+    sketch: &Sketch,
+    placed: &Placed,
+    given: &[SymBlock],
+) -> Result<Vec<SymBlock>, AllocError>
     requires seen { AllZip stated.IsSeen given.now sketch.now.blocks.items }
     requires distinct { stated.are_distinct sketch.now.blocks.items ≡ true }
     requires tested { listed.is_lean (sketch_of (layout_of placed.now) sketch.now) ≡ true }
@@ -232,7 +253,7 @@ fn copied(alloc: Global, given: &SymBlock) -> Result<SymBlock, AllocError>
 }
 
 // Puts a list as it is.
-#[tactic(auto, using(crate::proofs::Making::whole_on, crate::proofs::Making::whole_end, crate::proofs::Making::first_formed, crate::proofs::Making::rest_formed))]
+#[tactic(auto, using(crate::proofs::Putting::whole_on, crate::proofs::Putting::whole_end, crate::proofs::Putting::first_formed, crate::proofs::Putting::rest_formed))]
 fn put_whole(out: &mut SymBlock, list: &[Sym]) -> Result<(), AllocError>
     requires fits { are_well_formed list.now ≡ true }
     requires empty { out.old.list.items ≡ [] }
@@ -257,7 +278,7 @@ fn first_of(list: &[Sym]) -> Option<(Sym, &[Sym])>
 }
 
 /// The given blocks.
-#[tactic(auto, using(crate::proofs::Making::same_none, crate::proofs::Making::same_more, crate::proofs::Making::same_all))]
+#[tactic(auto, using(crate::proofs::Putting::same_none, crate::proofs::Putting::same_more, crate::proofs::Putting::same_all))]
 pub fn as_given(alloc: Global, given: &[SymBlock]) -> Result<Vec<SymBlock>, AllocError>
     ensures { IfOk result (λ made. AllZip stated.IsAsGiven given.now made.items) }
 {

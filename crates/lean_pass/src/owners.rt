@@ -4,7 +4,7 @@ ghost use Rattle.std.specs.Prelude.{◌≡◌, ◌<◌, ◌+◌, ◌^◌, ℕ, l
 ghost use Rattle.pic_chip.specs.Address as chip;
 ghost use Rattle.pic_chip.specs.Run as objects;
 ghost use Rattle.sym_code.specs.Layout as layouts;
-ghost use Rattle.lean_pass.specs.Layouts.{layout_of, range_of, frame_of};
+ghost use Rattle.code_place.specs.Layouts.{layout_of, range_of, frame_of};
 ghost use Rattle.lean_code.specs.Changes as changes;
 ghost use Rattle.lean_code.specs.Checked as listed;
 ghost use Rattle.lean_pass.specs.Owners as stated;
@@ -265,9 +265,21 @@ fn access(inside: bool, writes: bool, number: usize, whose: Whose) -> Aim
 {
     match whose {
         Whose::Watched => Aim::ToEvent,
-        Whose::Constant => if writes { Aim::Nowhere } else { Aim::ToByte(number) },
-        Whose::Main => if inside { Aim::Nowhere } else { Aim::ToByte(number) },
-        Whose::Isr => if inside { Aim::ToByte(number) } else { Aim::Nowhere },
+        Whose::Constant => if writes {
+            Aim::Nowhere
+        } else {
+            Aim::ToByte(number)
+        },
+        Whose::Main => if inside {
+            Aim::Nowhere
+        } else {
+            Aim::ToByte(number)
+        },
+        Whose::Isr => if inside {
+            Aim::ToByte(number)
+        } else {
+            Aim::Nowhere
+        },
         Whose::Nobody => Aim::Nowhere,
     }
 }
@@ -356,7 +368,9 @@ pub fn no_block(alloc: Global) -> LeanBlock
         ends: Note {
             facts: Facts {
                 number: None,
-                held: ByteSet { has: Vec::new(alloc) },
+                held: ByteSet {
+                    has: Vec::new(alloc),
+                },
                 zero: false,
                 known: Vec::new(alloc),
             },
@@ -365,11 +379,15 @@ pub fn no_block(alloc: Global) -> LeanBlock
                 z: true,
                 dc: true,
                 c: true,
-                bytes: ByteSet { has: Vec::new(alloc) },
+                bytes: ByteSet {
+                    has: Vec::new(alloc),
+                },
             },
             carry: None,
         },
-        outer: ByteSet { has: Vec::new(alloc) },
+        outer: ByteSet {
+            has: Vec::new(alloc),
+        },
     }
 }
 

@@ -2,7 +2,7 @@
 
 ghost use Rattle.std.specs.Prelude.{◌≡◌, IfOk};
 ghost use Rattle.std.specs.List.{AllZip};
-ghost use Rattle.lean_pass.specs.Layouts.{layout_of};
+ghost use Rattle.code_place.specs.Layouts.{layout_of};
 ghost use Rattle.lean_pass.specs.Made.{IsLean, HasName};
 
 use crate::making::{are_distinct, as_given, blocks_for, made_by};
@@ -14,7 +14,7 @@ use std::alloc::{AllocError, Global};
 use sym_code::SymBlock;
 
 // The given blocks.
-#[tactic(auto, using(crate::proofs::Making::kept_is))]
+#[tactic(auto, using(crate::proofs::Putting::kept_is))]
 fn kept(
     alloc: Global,
     blocks: &[SymBlock],
@@ -29,7 +29,7 @@ fn kept(
 /// The blocks of a program without instructions that what is known makes needless, or with operations on numbers or on W in their
 /// places. Main is copy 0, and the handler the copy with this number. Where no certificate is found that passes the test, the blocks
 /// stay as they are.
-#[tactic(auto, using(crate::proofs::Making::names_stay))]
+#[tactic(auto, using(crate::proofs::Putting::names_stay))]
 pub fn lean(
     alloc: Global,
     blocks: &[SymBlock],

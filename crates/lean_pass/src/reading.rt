@@ -41,7 +41,11 @@ impl<'a> Here<'a> {
     {
         match held {
             Held::Same => self.is_held(byte),
-            Held::Less(other) => if byte == other { false } else { self.is_held(byte) },
+            Held::Less(other) => if byte == other {
+                false
+            } else {
+                self.is_held(byte)
+            },
             Held::Hidden => {
                 if self.sketch.hidden.contains(byte) {
                     self.is_held(byte)
@@ -52,7 +56,11 @@ impl<'a> Here<'a> {
             Held::Nothing => false,
             Held::Only(other) => byte == other,
             Held::Like(number) => is_number(self.number_of(byte), number),
-            Held::More(other) => if byte == other { true } else { self.is_held(byte) },
+            Held::More(other) => if byte == other {
+                true
+            } else {
+                self.is_held(byte)
+            },
         }
     }
 
@@ -62,7 +70,11 @@ impl<'a> Here<'a> {
     {
         match known {
             Known::Same => self.number_of(byte),
-            Known::Put(other, number) => if byte == other { number } else { self.number_of(byte) },
+            Known::Put(other, number) => if byte == other {
+                number
+            } else {
+                self.number_of(byte)
+            },
             Known::Hidden => {
                 if self.sketch.hidden.contains(byte) {
                     self.number_of(byte)
@@ -80,8 +92,16 @@ impl<'a> Here<'a> {
     {
         match bytes {
             Bytes::Same => self.note.apart.bytes.contains(byte),
-            Bytes::Less(other) => if byte == other { false } else { self.note.apart.bytes.contains(byte) },
-            Bytes::More(other) => if byte == other { true } else { self.note.apart.bytes.contains(byte) },
+            Bytes::Less(other) => if byte == other {
+                false
+            } else {
+                self.note.apart.bytes.contains(byte)
+            },
+            Bytes::More(other) => if byte == other {
+                true
+            } else {
+                self.note.apart.bytes.contains(byte)
+            },
         }
     }
 
@@ -161,7 +181,8 @@ impl<'a> Here<'a> {
     {
         match more {
             None => self.are_covered(wanted, bytes, &self.note.apart.bytes.has, 0),
-            Some(byte) => self.is_covered(wanted, bytes, byte) && self.are_covered(wanted, bytes, &self.note.apart.bytes.has, 0),
+            Some(byte) => self.is_covered(wanted, bytes, byte)
+                && self.are_covered(wanted, bytes, &self.note.apart.bytes.has, 0),
         }
     }
 
@@ -182,14 +203,28 @@ impl<'a> Here<'a> {
     }
 
     #[tactic(auto, using(crate::proofs::Entries::and_three))]
-    fn is_enough(&self, carry: Option<usize>, wanted: &Note, facts: Behind, apart: Differs, more: Option<usize>) -> bool
+    fn is_enough(
+        &self,
+        carry: Option<usize>,
+        wanted: &Note,
+        facts: Behind,
+        apart: Differs,
+        more: Option<usize>,
+    ) -> bool
         ensures { result ≡ listed.expects_by carry (Some (Some (note_of wanted.now))) (facts_by (hidden_at self.now) (facts_at self.now) facts) (apart_by (apart_at self.now) apart) (candidates self.now more) }
     {
         self.gives(facts, &wanted.facts)
             && (self.covers(&wanted.apart, apart, more) && same_number(wanted.carry, carry))
     }
 
-    fn is_enough_at(&self, carry: Option<usize>, wanted: &Option<Note>, facts: Behind, apart: Differs, more: Option<usize>) -> bool
+    fn is_enough_at(
+        &self,
+        carry: Option<usize>,
+        wanted: &Option<Note>,
+        facts: Behind,
+        apart: Differs,
+        more: Option<usize>,
+    ) -> bool
         ensures { result ≡ listed.expects_by carry (Some (option_map note_of wanted.now)) (facts_by (hidden_at self.now) (facts_at self.now) facts) (apart_by (apart_at self.now) apart) (candidates self.now more) }
     {
         match wanted {
@@ -199,7 +234,14 @@ impl<'a> Here<'a> {
     }
 
     /// Whether what is so behind an instruction is enough at the front of a list.
-    pub fn expects_by(&self, carry: Option<usize>, rows: &[Row], facts: Behind, apart: Differs, more: Option<usize>) -> bool
+    pub fn expects_by(
+        &self,
+        carry: Option<usize>,
+        rows: &[Row],
+        facts: Behind,
+        apart: Differs,
+        more: Option<usize>,
+    ) -> bool
         ensures { result ≡ listed.expects_by carry (listed.ahead (rows_of rows.now)) (facts_by (hidden_at self.now) (facts_at self.now) facts) (apart_by (apart_at self.now) apart) (candidates self.now more) }
     {
         match first_word(rows) {
@@ -219,15 +261,31 @@ impl<'a> Here<'a> {
         ensures { result ≡ listed.leads (rows_of rest.now) can (facts_by (hidden_at self.now) (facts_at self.now) facts) (apart_by (apart_at self.now) apart) (note_at self.now).apart.bytes }
     {
         self.expects(rest, facts, apart)
-            && if can { self.expects(past(rest), facts, apart) && keeps_first(rest) } else { true }
+            && if can {
+                self.expects(past(rest), facts, apart) && keeps_first(rest)
+            } else {
+                true
+            }
     }
 
     /// Behind one that is left out.
-    pub fn passes(&self, carry: Option<usize>, rest: &[Row], can: bool, facts: Behind, apart: Differs, more: Option<usize>) -> bool
+    pub fn passes(
+        &self,
+        carry: Option<usize>,
+        rest: &[Row],
+        can: bool,
+        facts: Behind,
+        apart: Differs,
+        more: Option<usize>,
+    ) -> bool
         ensures { result ≡ listed.passes carry (rows_of rest.now) can (facts_by (hidden_at self.now) (facts_at self.now) facts) (apart_by (apart_at self.now) apart) (candidates self.now more) }
     {
         self.expects_by(carry, rest, facts, apart, more)
-            && if can { self.expects_by(carry, past(rest), facts, apart, more) && drops_first(rest) } else { true }
+            && if can {
+                self.expects_by(carry, past(rest), facts, apart, more) && drops_first(rest)
+            } else {
+                true
+            }
     }
 
     /// Whether what is read doesn't differ.
@@ -238,7 +296,8 @@ impl<'a> Here<'a> {
         let outer = &self.block.outer;
         match aim {
             Aim::ToByte(byte) => !differs.contains(byte) && !outer.contains(byte),
-            Aim::Through => is_within(differs, &self.sketch.hidden) && is_within(outer, &self.sketch.hidden),
+            Aim::Through => is_within(differs, &self.sketch.hidden)
+                && is_within(outer, &self.sketch.hidden),
             Aim::ToFsr => true,
             Aim::ToEvent => true,
             Aim::Nowhere => true,

@@ -5,11 +5,11 @@ ghost use Rattle.sym_code.specs.Layout as layouts;
 ghost use Rattle.lean_code.specs.Rows as certified;
 ghost use Rattle.lean_code.specs.Changes as changes;
 ghost use Rattle.lean_code.specs.Checked as listed;
-ghost use Rattle.lean_pass.specs.Layouts.{layout_of};
+ghost use Rattle.code_place.specs.Layouts.{layout_of};
 ghost use Rattle.lean_pass.specs.Tests as stated;
 ghost use Rattle.lean_pass.specs.Views.{act_of, trues, knowns, set_of, note_of, row_of, rows_of, block_of, blocks_of, sketch_of};
 
-use crate::behind::{Behind, Here, Held, Known};
+use crate::behind::{Behind, Held, Here, Known};
 use crate::owners::{Ground, grounded};
 use crate::reading::same_number;
 use crate::rows::{ByteSet, LeanBlock, Note, Row, Sketch};
@@ -90,7 +90,15 @@ impl<'a> Ground<'a> {
                     && self.carries_near(inside, note.carry)))
     }
 
-    fn noted_right(&self, sketch: &Sketch, block: &LeanBlock, at: usize, row: &Row, note: &Note, rest: &[Row]) -> bool
+    fn noted_right(
+        &self,
+        sketch: &Sketch,
+        block: &LeanBlock,
+        at: usize,
+        row: &Row,
+        note: &Note,
+        rest: &[Row],
+    ) -> bool
         ensures { result ≡ listed.is_right_at (sketch_of (layout_of self.now.placed.now) sketch.now) (block_of block.now) at (listed.Listed row.now.sym (act_of row.now.act) (Some (note_of note.now))) (rows_of rest.now) }
     {
         let here = Here {
@@ -103,7 +111,14 @@ impl<'a> Ground<'a> {
             && (goes_on_from(row, rest) && here.is_right_row(at, rest, row.act, row.sym))
     }
 
-    fn is_right_at(&self, sketch: &Sketch, block: &LeanBlock, at: usize, row: &Row, rest: &[Row]) -> bool
+    fn is_right_at(
+        &self,
+        sketch: &Sketch,
+        block: &LeanBlock,
+        at: usize,
+        row: &Row,
+        rest: &[Row],
+    ) -> bool
         ensures { result ≡ listed.is_right_at (sketch_of (layout_of self.now.placed.now) sketch.now) (block_of block.now) at (row_of row.now) (rows_of rest.now) }
     {
         match &row.note {
@@ -174,7 +189,13 @@ impl<'a> Ground<'a> {
             && (is_within(rest, &note.apart.bytes) && same_number(note.carry, None))
     }
 
-    fn begins_noted(&self, sketch: &Sketch, block: &LeanBlock, note: &Option<Note>, rest: &ByteSet) -> bool
+    fn begins_noted(
+        &self,
+        sketch: &Sketch,
+        block: &LeanBlock,
+        note: &Option<Note>,
+        rest: &ByteSet,
+    ) -> bool
         ensures { result ≡ listed.begins (set_of rest.now) (Some (option_map note_of note.now)) }
     {
         match note {
@@ -250,7 +271,11 @@ fn has_word(rows: &[Row]) -> bool
 {
     match rows {
         [] => false,
-        [row, rest @ ..] => if is_label(row.sym) { has_word(rest) } else { true },
+        [row, rest @ ..] => if is_label(row.sym) {
+            has_word(rest)
+        } else {
+            true
+        },
     }
 }
 

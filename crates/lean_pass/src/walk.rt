@@ -46,7 +46,11 @@ pub fn first_word(rows: &[Row]) -> Option<&Row>
 {
     match rows {
         [] => None,
-        [row, rest @ ..] => if is_label(row.sym) { first_word(rest) } else { Some(row) },
+        [row, rest @ ..] => if is_label(row.sym) {
+            first_word(rest)
+        } else {
+            Some(row)
+        },
     }
 }
 
@@ -66,7 +70,11 @@ pub fn drops_first(rows: &[Row]) -> bool
 {
     match rows {
         [] => false,
-        [row, rest @ ..] => if is_label(row.sym) { drops_first(rest) } else { is_dropped(row) },
+        [row, rest @ ..] => if is_label(row.sym) {
+            drops_first(rest)
+        } else {
+            is_dropped(row)
+        },
     }
 }
 
@@ -76,7 +84,11 @@ pub fn keeps_first(rows: &[Row]) -> bool
 {
     match rows {
         [] => false,
-        [row, rest @ ..] => if is_label(row.sym) { keeps_first(rest) } else { !is_dropped(row) },
+        [row, rest @ ..] => if is_label(row.sym) {
+            keeps_first(rest)
+        } else {
+            !is_dropped(row)
+        },
     }
 }
 
@@ -97,7 +109,6 @@ pub fn goes_on(rows: &[Row]) -> bool
         }
     }
 }
-
 
 /// The first row of a list and the others.
 pub fn first_row(rows: &[Row]) -> Option<(&Row, &[Row])>
@@ -216,7 +227,11 @@ pub fn place_of(rows: &[Row], at: usize) -> usize
 }
 
 /// The block of a name, or one that isn't there.
-pub fn block_named<'a>(blocks: &'a [LeanBlock], none: &'a LeanBlock, name: BlockName) -> &'a LeanBlock
+pub fn block_named<'a>(
+    blocks: &'a [LeanBlock],
+    none: &'a LeanBlock,
+    name: BlockName,
+) -> &'a LeanBlock
     requires { block_of none.now ≡ listed.no_block }
     ensures { block_of result.now ≡ listed.block_in (blocks_of blocks.now) name }
 {

@@ -216,7 +216,13 @@ fn way_of(blocks: &[SymBlock], list: &[Sym], sym: Sym) -> Way {
     }
 }
 
-fn places_of(alloc: Global, ground: &Ground, blocks: &[SymBlock], inside: bool, list: &[Sym]) -> Result<Vec<Place>, AllocError> {
+fn places_of(
+    alloc: Global,
+    ground: &Ground,
+    blocks: &[SymBlock],
+    inside: bool,
+    list: &[Sym],
+) -> Result<Vec<Place>, AllocError> {
     let mut places = Vec::new(alloc);
     let mut group = 0;
     let mut skips = false;
@@ -251,7 +257,12 @@ fn is_inside(ground: &Ground, name: BlockName) -> bool {
     }
 }
 
-fn body_of(alloc: Global, ground: &Ground, blocks: &[SymBlock], block: &SymBlock) -> Result<Body, AllocError> {
+fn body_of(
+    alloc: Global,
+    ground: &Ground,
+    blocks: &[SymBlock],
+    block: &SymBlock,
+) -> Result<Body, AllocError> {
     let inside = is_inside(ground, block.name);
     let room = block.list.len();
     Ok(Body {
@@ -265,7 +276,11 @@ fn body_of(alloc: Global, ground: &Ground, blocks: &[SymBlock], block: &SymBlock
 }
 
 /// The blocks of a program, before anything is searched for.
-pub fn bodies_of(alloc: Global, ground: &Ground, blocks: &[SymBlock]) -> Result<Vec<Body>, AllocError> {
+pub fn bodies_of(
+    alloc: Global,
+    ground: &Ground,
+    blocks: &[SymBlock],
+) -> Result<Vec<Body>, AllocError> {
     let mut bodies = Vec::new(alloc);
     for block in blocks {
         bodies.push(body_of(alloc, ground, blocks, block)?)?;

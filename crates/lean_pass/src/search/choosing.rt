@@ -198,7 +198,11 @@ impl Body {
             return true;
         }
         let ends_group = !place.effect.skips && self.is_last(at, place.group);
-        if aims == Aims::Dead && place.group < at && ends_group && self.is_group_dead(place.group, at, after) {
+        if aims == Aims::Dead
+            && place.group < at
+            && ends_group
+            && self.is_group_dead(place.group, at, after)
+        {
             self.drop_group(place.group, at);
             return true;
         }
@@ -229,7 +233,13 @@ impl Body {
     }
 
     // The place of the move to W of a byte behind which the byte isn't wanted.
-    fn move_behind(&self, at: usize, byte: usize, own: usize, summaries: &[Summary]) -> Option<usize> {
+    fn move_behind(
+        &self,
+        at: usize,
+        byte: usize,
+        own: usize,
+        summaries: &[Summary],
+    ) -> Option<usize> {
         for next in at.saturating_add(1)..self.places.len() {
             let place = self.place(next)?;
             if place.is_label() {
@@ -245,7 +255,14 @@ impl Body {
         None
     }
 
-    fn ends_narrow(&self, at: usize, place: &Place, byte: usize, own: usize, summaries: &[Summary]) -> Option<usize> {
+    fn ends_narrow(
+        &self,
+        at: usize,
+        place: &Place,
+        byte: usize,
+        own: usize,
+        summaries: &[Summary],
+    ) -> Option<usize> {
         let after = self.live_after(at, place, own, summaries);
         let is_move = match place.sym {
             Sym::File { op, into, .. } => op == FileOperation::Movf && into == Into::W,

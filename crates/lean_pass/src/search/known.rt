@@ -5,8 +5,7 @@ use crate::keeping::is_status;
 use crate::owners::{Aim, Ground};
 use crate::search::bits::Bits;
 use sym_code::{
-    FileOperation, Into, Literal, LiteralOperation, PlainOperation, Sym, is_bit_write,
-    is_file,
+    FileOperation, Into, Literal, LiteralOperation, PlainOperation, Sym, is_bit_write, is_file,
 };
 
 /// How many general bytes the chip has.

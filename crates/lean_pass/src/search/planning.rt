@@ -76,7 +76,13 @@ fn values_of(alloc: Global, known: &Knowledge) -> Result<Vec<Option<u8>>, AllocE
     Ok(values)
 }
 
-fn note_of(alloc: Global, known: &Knowledge, live: Live, apart: Bits, carry: Option<usize>) -> Result<Note, AllocError> {
+fn note_of(
+    alloc: Global,
+    known: &Knowledge,
+    live: Live,
+    apart: Bits,
+    carry: Option<usize>,
+) -> Result<Note, AllocError> {
     Ok(Note {
         facts: Facts {
             number: known.number,
@@ -104,7 +110,13 @@ fn carried(place: &Place, carry: Option<usize>) -> Option<usize> {
     }
 }
 
-fn plan_of(alloc: Global, body: &Body, at: usize, apart: Bits, carry: Option<usize>) -> Result<Plan, AllocError> {
+fn plan_of(
+    alloc: Global,
+    body: &Body,
+    at: usize,
+    apart: Bits,
+    carry: Option<usize>,
+) -> Result<Plan, AllocError> {
     let Some(place) = body.place(at) else {
         return Ok(Plan {
             act: Act::Keeps,
@@ -140,7 +152,12 @@ fn plans_of(alloc: Global, body: &Body, named: Bits, own: Bits) -> Result<Vec<Pl
     Ok(plans)
 }
 
-fn block_plan(alloc: Global, body: &Body, summary: Summary, own: Bits) -> Result<BlockPlan, AllocError> {
+fn block_plan(
+    alloc: Global,
+    body: &Body,
+    summary: Summary,
+    own: Bits,
+) -> Result<BlockPlan, AllocError> {
     let apart = summary.named.meet(own).without(summary.back.bytes);
     Ok(BlockPlan {
         plans: plans_of(alloc, body, summary.named, own)?,
@@ -232,7 +249,13 @@ fn rest_of(bodies: &[Body], summaries: &[Summary], handler: Option<u16>, isr: Bi
     Bits::none()
 }
 
-fn all_plans(alloc: Global, bodies: &[Body], summaries: &[Summary], main: Bits, isr: Bits) -> Result<Vec<BlockPlan>, AllocError> {
+fn all_plans(
+    alloc: Global,
+    bodies: &[Body],
+    summaries: &[Summary],
+    main: Bits,
+    isr: Bits,
+) -> Result<Vec<BlockPlan>, AllocError> {
     let mut plans = Vec::new(alloc);
     for (at, body) in bodies.iter().enumerate() {
         let summary = match summaries.get(at) {
@@ -247,7 +270,12 @@ fn all_plans(alloc: Global, bodies: &[Body], summaries: &[Summary], main: Bits, 
 }
 
 /// Searches for a certificate. There may be none.
-pub fn search(alloc: Global, blocks: &[SymBlock], handler: Option<u16>, placed: &Placed) -> Result<Option<Plans>, AllocError> {
+pub fn search(
+    alloc: Global,
+    blocks: &[SymBlock],
+    handler: Option<u16>,
+    placed: &Placed,
+) -> Result<Option<Plans>, AllocError> {
     let ground = grounded(alloc, placed)?;
     let mut bodies = bodies_of(alloc, &ground, blocks)?;
     let mut summaries = vec![in alloc; Summary::nothing(); blocks.len()]?;

@@ -1,7 +1,7 @@
 use Rattle.std.proofs.Common.{take}
 use Rattle.std.specs.List.{AllZip}
 use Rattle.lean_code.specs.Checked.{IsBlockOf}
-use Rattle.lean_pass.specs.Layouts.{layout_of}
+use Rattle.code_place.specs.Layouts.{layout_of}
 use Rattle.lean_pass.specs.Views.{sketch_of}
 use Rattle.lean_pass.proofs.making.made_blocks.Given as goal
 

@@ -1,5 +1,5 @@
 use Rattle.std.proofs.Common.{◌≡◌, length}
-use Rattle.lean_pass.specs.Layouts.{layout_of}
+use Rattle.code_place.specs.Layouts.{layout_of}
 use Rattle.lean_pass.specs.Owners.{AreOwners}
 use Rattle.lean_pass.proofs.owners.owners_of.Given as goal
 

@@ -1,6 +1,6 @@
 use Rattle.std.proofs.Common.{◌≡◌, ◌+◌, length}
 use Rattle.lean_code.specs.Checked as listed
-use Rattle.lean_pass.specs.Layouts.{layout_of}
+use Rattle.code_place.specs.Layouts.{layout_of}
 use Rattle.lean_pass.specs.Views.{block_of, rows_of, sketch_of}
 use Rattle.lean_pass.proofs.owners.Ground.are_right.Given as goal
 
