@@ -239,7 +239,8 @@ pub fn made_by(
     ensures { IfOk result (λ made. stated.IsLean (layout_of placed.now) sketch.now.handler given.now made.items) }
 {
     let none = no_block(alloc);
-    made_blocks(alloc, sketch, &none, placed, given)
+    let made = made_blocks(alloc, sketch, &none, placed, given)?;
+    Ok(made)
 }
 
 // ---- what is made where there is no certificate

@@ -23,7 +23,8 @@ fn kept(
 ) -> Result<Vec<SymBlock>, AllocError>
     ensures { IfOk result (λ made. IsLean (layout_of placed.now) handler blocks.now made.items) }
 {
-    as_given(alloc, blocks)
+    let made = as_given(alloc, blocks)?;
+    Ok(made)
 }
 
 /// The blocks of a program without instructions that what is known makes needless, or with operations on numbers or on W in their
@@ -41,7 +42,8 @@ pub fn lean(
     // and keep their names.
     ensures names { IfOk result (λ made. AllZip HasName blocks.now made.items) }
 {
-    leaned(alloc, blocks, handler, placed)
+    let made = leaned(alloc, blocks, handler, placed)?;
+    Ok(made)
 }
 
 fn leaned(

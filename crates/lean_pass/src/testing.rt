@@ -149,6 +149,7 @@ impl<'a> Ground<'a> {
         self.are_right(sketch, block) && self.are_own(block.inside, &block.ends.apart.bytes.has, 0)
     }
 
+    #[tactic(auto, using(crate::proofs::Whole::named_right))]
     fn is_right_named(&self, sketch: &Sketch, name: BlockName) -> bool
         ensures { result ≡ listed.is_right_block (sketch_of (layout_of self.now.placed.now) sketch.now) (listed.block_in (blocks_of sketch.now.blocks.items) name) }
     {
@@ -220,6 +221,7 @@ impl<'a> Ground<'a> {
         block.inside && self.begins(sketch, block, &sketch.rest)
     }
 
+    #[tactic(auto, using(crate::proofs::Whole::handler_is))]
     fn begins_at(&self, sketch: &Sketch, handler: Option<u16>) -> bool
         ensures { result ≡ listed.begins_at (sketch_of (layout_of self.now.placed.now) sketch.now) handler }
     {
@@ -232,22 +234,44 @@ impl<'a> Ground<'a> {
         }
     }
 
-    #[tactic(auto, using(crate::proofs::Whole::none_outer))]
-    fn main_begins(&self, sketch: &Sketch, block: &LeanBlock) -> bool
-        ensures { result ≡ (not (block_of block.now).inside && listed.begins [] (listed.ahead (block_of block.now).rows)) }
+    #[tactic(auto, using(crate::proofs::Whole::begin_none))]
+    fn begins_whole(&self, sketch: &Sketch, block: &LeanBlock) -> bool
+        ensures { result ≡ listed.begins [] (listed.ahead (block_of block.now).rows) }
     {
-        !block.inside && self.begins(sketch, block, &self.none.outer)
+        self.begins(sketch, block, &self.none.outer)
+    }
+
+    fn is_main(&self, sketch: &Sketch, block: &LeanBlock) -> bool
+        ensures { result ≡ stated.is_main (block_of block.now) }
+    {
+        !block.inside && self.begins_whole(sketch, block)
+    }
+
+    #[tactic(auto, using(crate::proofs::Whole::main_is))]
+    fn main_begins(&self, sketch: &Sketch) -> bool
+        ensures { result ≡ stated.main_begins (sketch_of (layout_of self.now.placed.now) sketch.now) }
+    {
+        self.is_main(
+            sketch,
+            block_named(&sketch.blocks, &self.none, BlockName::Copy(0)),
+        )
+    }
+
+    #[tactic(auto, using(crate::proofs::Whole::main_lands_is))]
+    fn main_lands(&self, sketch: &Sketch) -> bool
+        ensures { result ≡ stated.main_lands (sketch_of (layout_of self.now.placed.now) sketch.now) }
+    {
+        let main = block_named(&sketch.blocks, &self.none, BlockName::Copy(0));
+        has_word(&main.rows)
     }
 
     /// Whether a certificate is right.
-    #[tactic(auto, using(crate::proofs::Whole::lands_is))]
     fn is_lean(&self, sketch: &Sketch) -> bool
         ensures { result ≡ listed.is_lean (sketch_of (layout_of self.now.placed.now) sketch.now) }
     {
-        let main = block_named(&sketch.blocks, &self.none, BlockName::Copy(0));
         self.are_right_blocks(sketch, &sketch.blocks)
-            && (self.main_begins(sketch, main)
-                && (has_word(&main.rows)
+            && (self.main_begins(sketch)
+                && (self.main_lands(sketch)
                     && (self.begins_at(sketch, sketch.handler)
                         && self.are_own(true, &sketch.rest.has, 0))))
     }
