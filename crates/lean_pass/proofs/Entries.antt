@@ -1,5 +1,5 @@
 -- Whether a byte is in a set, and what it holds, by the entry of its number.
-use Rattle.std.proofs.Common.{◌≡◌, ℕ, zero, suc, ◌+◌, ◌<◌, Bool, true, false, ◌&&◌, ◌||◌, if◌then◌else◌, List, [], ◌∷◌, Option, Some, None, slice_get, refl, sym, ap, ◌∙◌, subst, arith}
+use Rattle.std.proofs.Common.{◌≡◌, ℕ, zero, suc, ◌+◌, ◌<◌, Bool, true, false, ◌&&◌, ◌||◌, if◌then◌else◌, List, [], ◌∷◌, Option, Some, None, slice_get, refl, sym, ap, ◌∙◌, subst, true≢false, arith}
 use Rattle.std.specs.Prelude.{nat_eq}
 use Rattle.lean_code.specs.Checked.{among, KnownByte, number_in, gives_number, gives_known}
 use Rattle.lean_pass.specs.Views.{trues, set_of, knowns, entry, known_entry}
@@ -52,7 +52,7 @@ known_on has i None rest e = refl
 known_on has i (Some n) rest e = ap (λ (b : Bool). b && gives_known has (knowns (i + 1) rest)) e
 
 pub known_off : (has : ℕ → Option ℕ) (i : ℕ) (n : Option ℕ) (rest : List (Option ℕ)) → gives_number (has i) n ≡ false → gives_known has (knowns i (n ∷ rest)) ≡ false
-known_off has i None rest e = sym e
+known_off has i None rest e = absurd (true≢false e)
 known_off has i (Some n) rest e = ap (λ (b : Bool). b && gives_known has (knowns (i + 1) rest)) e
 
 pub and_three : (a b c d : Bool) → (a && ((b && c) && d)) ≡ (a && (b && (c && d)))

@@ -1,5 +1,5 @@
 -- Whose bytes are, and where operands lead, by what the code looks at.
-use Rattle.std.proofs.Common.{◌≡◌, ℕ, zero, suc, ◌+◌, ◌-◌, ◌*◌, ◌/◌, ◌%◌, ◌<◌, ◌≤◌, Bool, true, false, not, ◌&&◌, ◌||◌, if◌then◌else◌, List, [], ◌∷◌, ◌++◌, length, map, Option, Some, None, slice_get, refl, sym, ap, ◌∙◌, subst, arith}
+use Rattle.std.proofs.Common.{◌≡◌, ℕ, zero, suc, ◌+◌, ◌-◌, ◌*◌, ◌/◌, ◌%◌, ◌<◌, ◌≤◌, Bool, true, false, not, ◌&&◌, ◌||◌, if◌then◌else◌, List, [], ◌∷◌, ◌++◌, length, length-append, map, Option, Some, None, slice_get, refl, sym, ap, ◌∙◌, subst, arith}
 use Rattle.std.proofs.lemmas.Option.{none-some}
 use Rattle.std.specs.Prelude.{nat_eq, nat_le, nat_lt, slice_index_or}
 use Rattle.pic_chip.specs.Address as chip
@@ -140,3 +140,6 @@ push_is f (x ∷ list) w is before (suc k) v got = push_is (λ j. f (suc j)) lis
 
 pub owners_more : (l : DataLayout) (list new : List Whose) (w : Whose) (n : ℕ) → new ≡ list ++ w ∷ [] → length list ≡ n → w ≡ kind (owner l n) → AreOwners l list → AreOwners l new
 owners_more l list new w n put is so before = record { listed = λ k v got. push_is (λ j. kind (owner l j)) list w (so ∙ ap (λ j. kind (owner l j)) (sym is)) before.listed k v (ap (λ (x : List Whose). slice_get x k) (sym put) ∙ got) }
+
+pub length_more : (list new : List Whose) (w : Whose) (n : ℕ) → new ≡ list ++ w ∷ [] → length list ≡ n → length new ≡ n + 1
+length_more list new w n put is = ap length put ∙ length-append list (w ∷ []) ∙ ap (λ k. k + 1) is

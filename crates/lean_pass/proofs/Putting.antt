@@ -62,7 +62,7 @@ put_as s acts.Drops = refl
 put_as s (acts.Puts op value) = refl
 put_as s acts.Narrows = refl
 
-formed_if : Option Sym → Bool
+abbrev formed_if : Option Sym → Bool
 formed_if None = true
 formed_if (Some s) = is_well_formed s
 
@@ -138,12 +138,18 @@ seen_none list made none =
     let P : List LeanBlock → Type 0 = λ m. AllZip IsSeen (take 0 list) m in
     subst P (sym none) tt
 
+seen_push : (xs : List SymBlock) (ys : List LeanBlock) (x : SymBlock) (y : LeanBlock) → AllZip IsSeen xs ys → IsSeen x y → AllZip IsSeen (xs ++ x ∷ []) (ys ++ y ∷ [])
+seen_push [] [] x y all one = (one, tt)
+seen_push [] (b ∷ ys) x y all one = absurd all
+seen_push (a ∷ xs) [] x y all one = absurd all
+seen_push (a ∷ xs) (b ∷ ys) x y all one = (all.0, seen_push xs ys x y all.1 one)
+
 pub seen_more : (list : List SymBlock) (made new : List LeanBlock) (i : ℕ) (block : SymBlock) (x : LeanBlock) → i < length list → block ≡ get_or list i block → new ≡ made ++ x ∷ [] → IsSeen block x → AllZip IsSeen (take i list) made → AllZip IsSeen (take (i + 1) list) new
 seen_more list made new i block x below is put one before =
     let next : take (i + 1) list ≡ take i list ++ block ∷ [] = take_more list i block below ∙ ap (λ (b : SymBlock). take i list ++ b ∷ []) (sym is) in
     let P : List SymBlock → Type 0 = λ l. AllZip IsSeen l new in
     let Q : List LeanBlock → Type 0 = λ l. AllZip IsSeen (take i list ++ block ∷ []) l in
-    subst P (sym next) (subst Q (sym put) (AllZip-push IsSeen (take i list) made block x before one))
+    subst P (sym next) (subst Q (sym put) (seen_push (take i list) made block x before one))
 
 pub seen_all : (list : List SymBlock) (made : List LeanBlock) (i : ℕ) → length list ≤ i → AllZip IsSeen (take i list) made → AllZip IsSeen list made
 seen_all list made i past all =
