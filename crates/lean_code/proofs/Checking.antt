@@ -311,7 +311,7 @@ module _ (k : Sketch) (limit : Bool → ℕ) (old_page new_page : BlockName → 
   same_at : (a : Aim) → same k.hidden a bytes block.outer ≡ true → Same k.hidden a d (x.outer own)
   same_at a e = same_is k.hidden a n.apart block.outer e
 
-  file_is : (rest : List ListedRow) (op : FileOperation) (operand : Operand) (to : Into) → keeps_file k own n rest op operand to ≡ true → KeepsFile x own inside (note_in n) (rows_in rest) op operand to
+  file_is : (rest : List ListedRow) (op : FileOperation) (operand : Operand) (to : Into) → keeps_file k block n rest op operand to ≡ true → KeepsFile x own inside (note_in n) (rows_in rest) op operand to
   file_is rest op operand into.W e =
       let a = aim k.layout inside false operand in
       let one = not (uses_w op && n.apart.w) && not (uses_c op && n.apart.c) in
@@ -350,7 +350,7 @@ module _ (k : Sketch) (limit : Bool → ℕ) (old_page new_page : BlockName → 
       let two = leads rest true f d bytes in
       (is_not (flag_apart b d) (and_l one two e), leads_is rest true f d bytes here (and_r one two e))
 
-  bit_is : (rest : List ListedRow) (op : BitOperation) (operand : Operand) (b : ℕ) → keeps_bit k own n rest op operand b ≡ true → KeepsBit x own inside (note_in n) (rows_in rest) op operand b
+  bit_is : (rest : List ListedRow) (op : BitOperation) (operand : Operand) (b : ℕ) → keeps_bit k block n rest op operand b ≡ true → KeepsBit x own inside (note_in n) (rows_in rest) op operand b
   bit_is rest Bcf (operands.Register Status) b e = expects_at rest (without_zero f) (with_flag b false d) bytes (within_flag b false d bytes here) e
   bit_is rest Bsf (operands.Register Status) b e = expects_at rest (without_zero f) (with_flag b false d) bytes (within_flag b false d bytes here) e
   bit_is rest Btfsc (operands.Register Status) b e = flag_is rest b e
@@ -360,7 +360,7 @@ module _ (k : Sketch) (limit : Bool → ℕ) (old_page new_page : BlockName → 
   bit_is rest Btfsc operand b e = test_is rest (aim k.layout inside false operand) e
   bit_is rest Btfss operand b e = test_is rest (aim k.layout inside false operand) e
 
-  plain_is : (rest : List ListedRow) (op : PlainOperation) → keeps_plain k own n rest op ≡ true → KeepsPlain x own inside (note_in n) (rows_in rest) op
+  plain_is : (rest : List ListedRow) (op : PlainOperation) → keeps_plain k block n rest op ≡ true → KeepsPlain x own inside (note_in n) (rows_in rest) op
   plain_is rest Clrw e = expects_at rest (record f { number = Some 0; held = λ a. false; zero = true }) (record d { w = false; z = false }) bytes (λ a h. h) e
   plain_is rest Nop e = expects_at rest f d bytes here e
   plain_is rest Retfie e = tt
@@ -381,7 +381,7 @@ module _ (k : Sketch) (limit : Bool → ℕ) (old_page new_page : BlockName → 
   label_by : (carry o : Option ℕ) → expects_by carry (noted block.rows o) f d bytes ≡ true → ExpectsBy carry (right.noted (rows_in block.rows) o) f d
   label_by carry o e = subst (λ (q : Option (Option Note)). ExpectsBy carry q f d) (sym (noted_is o)) (expects_by_is carry (noted block.rows o) f d bytes here e)
 
-  goto_is : (target : Target) → keeps_goto k own n target ≡ true → KeepsGoto x own inside (note_in n) target
+  goto_is : (target : Target) → keeps_goto k block n target ≡ true → KeepsGoto x own inside (note_in n) target
   goto_is (targets.Label labels.Halt) e = tt
   goto_is (targets.Label labels.Restore) e =
       let two = all_of (λ a. among a k.rest) bytes in
@@ -389,7 +389,7 @@ module _ (k : Sketch) (limit : Bool → ℕ) (old_page new_page : BlockName → 
   goto_is (targets.Label (labels.Inner l)) e = label_is (label_from (olds (rows_in block.rows)) (labels.Inner l) 0) e
   goto_is (targets.Block name) e = never e
 
-  call_is : (rest : List ListedRow) (target : Target) → keeps_call k own n rest target ≡ true → KeepsCall x own inside (note_in n) (rows_in rest) target
+  call_is : (rest : List ListedRow) (target : Target) → keeps_call k block n rest target ≡ true → KeepsCall x own inside (note_in n) (rows_in rest) target
   call_is rest (targets.Label label) e = never e
   call_is rest (targets.Block name) e =
       let to = block_in k.blocks name in
@@ -407,7 +407,7 @@ module _ (k : Sketch) (limit : Bool → ℕ) (old_page new_page : BlockName → 
         λ a h. (all_not (λ j. among j to.outer) bytes (and_l four five g) a h, all_not (λ j. among j to.outer) block.outer (and_r four five g) a h),
       )
 
-  kept_is : (rest : List ListedRow) (s : Sym) → is_kept k own n rest s ≡ true → IsKept x own inside (note_in n) (rows_in rest) s
+  kept_is : (rest : List ListedRow) (s : Sym) → is_kept k block n rest s ≡ true → IsKept x own inside (note_in n) (rows_in rest) s
   kept_is rest (syms.File op operand to) e = file_is rest op operand to e
   kept_is rest (syms.Movwf operand) e =
       let a = aim k.layout inside true operand in
@@ -436,21 +436,21 @@ module _ (k : Sketch) (limit : Bool → ℕ) (old_page new_page : BlockName → 
   within_ors true b e = e
   within_ors false b e = e
 
-  drops_carried_is : (rest : List ListedRow) (i c : ℕ) (q : Bool) → drops_carried k own n rest i c q ≡ true → right.DropsCarried x own inside (note_in n) (rows_in rest) i c q
+  drops_carried_is : (rest : List ListedRow) (i c : ℕ) (q : Bool) → drops_carried k block n rest i c q ≡ true → right.DropsCarried x own inside (note_in n) (rows_in rest) i c q
   drops_carried_is rest i c true e = expects_at rest (moved (ToByte i) f) (record d { w = false; z = true }) bytes (λ b h. h) e
   drops_carried_is rest i c false e = expects_by_at (Some c) rest (moved (ToByte i) f) (one_moves f i d) bytes (λ b h. h) e
 
-  drops_move_is : (rest : List ListedRow) (i : ℕ) (o : Option ℕ) → drops_move k own n rest i o ≡ true → right.DropsMove x own inside (note_in n) (rows_in rest) i o
+  drops_move_is : (rest : List ListedRow) (i : ℕ) (o : Option ℕ) → drops_move k block n rest i o ≡ true → right.DropsMove x own inside (note_in n) (rows_in rest) i o
   drops_move_is rest i None e = expects_at rest (moved (ToByte i) f) (one_moves f i d) bytes (λ b h. h) e
   drops_move_is rest i (Some c) e = drops_carried_is rest i c (nat_eq c i) e
 
-  drops_w_is : (rest : List ListedRow) (op : FileOperation) (a : Aim) → drops_to_w k own n rest op a ≡ true → DropsToW x own inside (note_in n) (rows_in rest) op a
+  drops_w_is : (rest : List ListedRow) (op : FileOperation) (a : Aim) → drops_to_w k block n rest op a ≡ true → DropsToW x own inside (note_in n) (rows_in rest) op a
   drops_w_is rest files.Movf (ToByte i) e = drops_move_is rest i n.carry e
   drops_w_is rest files.Iorwf (ToByte i) e = expects_by_at n.carry rest (after_to_w files.Iorwf (ToByte i) f) (one_ors f i d) bytes (within_ors (is_number (f.known i) 0)) e
   drops_w_is rest op (ToByte i) e = passes_is n.carry rest (may_skip op) (after_to_w op (ToByte i) f) (other_w (one_sets (flags_in op) d)) bytes (λ b h. h) e
   drops_w_is rest op a e = never e
 
-  drops_file_is : (rest : List ListedRow) (op : FileOperation) (a : Aim) → drops_to_file k own n rest op a ≡ true → DropsToFile x own inside (note_in n) (rows_in rest) op a
+  drops_file_is : (rest : List ListedRow) (op : FileOperation) (a : Aim) → drops_to_file k block n rest op a ≡ true → DropsToFile x own inside (note_in n) (rows_in rest) op a
   drops_file_is rest op (ToByte i) e =
       passes_is (right.carry_but i n.carry) rest (may_skip op) (lost k.hidden (ToByte i) (without_zero f)) (other_byte i (one_sets (flags_in op) d)) (i ∷ bytes) (within_other i (one_sets (flags_in op) d) bytes (λ b h. h)) e
   drops_file_is rest op a e = never e
@@ -459,7 +459,7 @@ module _ (k : Sketch) (limit : Bool → ℕ) (old_page new_page : BlockName → 
   within_stores true i = within_more i d bytes here
   within_stores false i = within_other i d bytes here
 
-  drops_store_is : (rest : List ListedRow) (a : Aim) → drops_store k own n rest a ≡ true → right.DropsStore x own inside (note_in n) (rows_in rest) a
+  drops_store_is : (rest : List ListedRow) (a : Aim) → drops_store k block n rest a ≡ true → right.DropsStore x own inside (note_in n) (rows_in rest) a
   drops_store_is rest (ToByte i) e = expects_by_at (right.carry_but i n.carry) rest (stored k.hidden (ToByte i) f) (one_stores f i d) (i ∷ bytes) (within_stores (f.held i) i) e
   drops_store_is rest a e = never e
 
@@ -467,16 +467,16 @@ module _ (k : Sketch) (limit : Bool → ℕ) (old_page new_page : BlockName → 
   within_clears true i = within_more i (record d { z = true }) bytes (λ b h. h)
   within_clears false i = within_other i (record d { z = true }) bytes (λ b h. h)
 
-  drops_clear_is : (rest : List ListedRow) (a : Aim) → drops_clear k own n rest a ≡ true → right.DropsClear x own inside (note_in n) (rows_in rest) a
+  drops_clear_is : (rest : List ListedRow) (a : Aim) → drops_clear k block n rest a ≡ true → right.DropsClear x own inside (note_in n) (rows_in rest) a
   drops_clear_is rest (ToByte i) e =
       expects_by_at (right.carry_but i n.carry) rest (learned k.hidden (ToByte i) (Some 0) (without_zero f)) (one_clears f i d) (i ∷ bytes) (within_clears (is_number (f.known i) 0) i) e
   drops_clear_is rest a e = never e
 
-  drops_change_is : (rest : List ListedRow) (a : Aim) → drops_change k own n rest a ≡ true → right.DropsChange x own inside (note_in n) (rows_in rest) a
+  drops_change_is : (rest : List ListedRow) (a : Aim) → drops_change k block n rest a ≡ true → right.DropsChange x own inside (note_in n) (rows_in rest) a
   drops_change_is rest (ToByte i) e = expects_by_at (right.carry_but i n.carry) rest (lost k.hidden (ToByte i) f) (other_byte i d) (i ∷ bytes) (within_other i d bytes here) e
   drops_change_is rest a e = never e
 
-  drops_test_is : (rest : List ListedRow) (a : Aim) → drops_test k own n rest a ≡ true → right.DropsTest x own inside (note_in n) (rows_in rest) a
+  drops_test_is : (rest : List ListedRow) (a : Aim) → drops_test k block n rest a ≡ true → right.DropsTest x own inside (note_in n) (rows_in rest) a
   drops_test_is rest (ToByte i) e = passes_is n.carry rest true f d bytes here e
   drops_test_is rest a e = never e
 
@@ -485,7 +485,7 @@ module _ (k : Sketch) (limit : Bool → ℕ) (old_page new_page : BlockName → 
       let two = expects_by n.carry (ahead rest) (without_zero f) (with_flag b true d) bytes in
       (and_l (nat_lt b 3) two e, expects_by_at n.carry rest (without_zero f) (with_flag b true d) bytes (within_flag b true d bytes here) (and_r (nat_lt b 3) two e))
 
-  drops_bit_is : (rest : List ListedRow) (op : BitOperation) (operand : Operand) (b : ℕ) → drops_bit k own n rest op operand b ≡ true → DropsBit x own inside (note_in n) (rows_in rest) op operand b
+  drops_bit_is : (rest : List ListedRow) (op : BitOperation) (operand : Operand) (b : ℕ) → drops_bit k block n rest op operand b ≡ true → DropsBit x own inside (note_in n) (rows_in rest) op operand b
   drops_bit_is rest Bcf (operands.Register Status) b e = drops_flag_is rest b e
   drops_bit_is rest Bsf (operands.Register Status) b e = drops_flag_is rest b e
   drops_bit_is rest Btfsc (operands.Register Status) b e = passes_is n.carry rest true f d bytes here e
@@ -495,7 +495,7 @@ module _ (k : Sketch) (limit : Bool → ℕ) (old_page new_page : BlockName → 
   drops_bit_is rest Btfsc operand b e = drops_test_is rest (aim k.layout inside false operand) e
   drops_bit_is rest Btfss operand b e = drops_test_is rest (aim k.layout inside false operand) e
 
-  drops_plain_is : (rest : List ListedRow) (op : PlainOperation) → drops_plain k own n rest op ≡ true → right.DropsPlain x own inside (note_in n) (rows_in rest) op
+  drops_plain_is : (rest : List ListedRow) (op : PlainOperation) → drops_plain k block n rest op ≡ true → right.DropsPlain x own inside (note_in n) (rows_in rest) op
   drops_plain_is rest Clrw e = expects_by_at n.carry rest (record f { number = Some 0; held = λ a. false; zero = true }) (record d { w = true; z = true }) bytes (λ b h. h) e
   drops_plain_is rest Nop e = expects_by_at n.carry rest f d bytes here e
   drops_plain_is rest op e = never e
@@ -504,7 +504,7 @@ module _ (k : Sketch) (limit : Bool → ℕ) (old_page new_page : BlockName → 
   here_is to None e i is = absurd (none-some i is)
   here_is to (Some j) e i is = ap (place_in (rows_in block.rows)) (sym (some_is j i is)) ∙ eqb-true (place_in (rows_in block.rows) j) to e
 
-  drops_goto_is : (to : ℕ) (target : Target) → drops_goto k own n to target ≡ true → right.DropsGoto x own inside (note_in n) to target
+  drops_goto_is : (to : ℕ) (target : Target) → drops_goto k block n to target ≡ true → right.DropsGoto x own inside (note_in n) to target
   drops_goto_is to (targets.Label (labels.Inner l)) e =
       let o = label_from (olds (rows_in block.rows)) (labels.Inner l) 0 in
       let one = expects_by n.carry (noted block.rows o) f d bytes in
@@ -520,7 +520,7 @@ module _ (k : Sketch) (limit : Bool → ℕ) (old_page new_page : BlockName → 
   within_literal literals.Movlw (Number v) = within_number (is_number f.number v)
   within_literal op value = λ b e. e
 
-  dropped_is : (to : ℕ) (rest : List ListedRow) (s : Sym) → is_left_out k own n to rest s ≡ true → IsDropped x own inside (note_in n) to (rows_in rest) s
+  dropped_is : (to : ℕ) (rest : List ListedRow) (s : Sym) → is_left_out k block n to rest s ≡ true → IsDropped x own inside (note_in n) to (rows_in rest) s
   dropped_is to rest (syms.File op operand into.W) e = drops_w_is rest op (aim k.layout inside false operand) e
   dropped_is to rest (syms.File op operand into.File) e = drops_file_is rest op (aim k.layout inside true operand) e
   dropped_is to rest (syms.Movwf operand) e = drops_store_is rest (aim k.layout inside true operand) e
@@ -539,7 +539,7 @@ module _ (k : Sketch) (limit : Bool → ℕ) (old_page new_page : BlockName → 
   apart_within files.Movf i b e = e
   apart_within op i b e = e
 
-  puts_for_is : (rest : List ListedRow) (op : FileOperation) (a : Aim) (new : LiteralOperation) (v : ℕ) → puts_for k own n rest op a new v ≡ true → PutsFor x own inside (note_in n) (rows_in rest) op a new v
+  puts_for_is : (rest : List ListedRow) (op : FileOperation) (a : Aim) (new : LiteralOperation) (v : ℕ) → puts_for k block n rest op a new v ≡ true → PutsFor x own inside (note_in n) (rows_in rest) op a new v
   puts_for_is rest op (ToByte i) new v e =
       let one = is_operation (literal_for op) new in
       let two = is_number (f.known i) v in
@@ -554,12 +554,12 @@ module _ (k : Sketch) (limit : Bool → ℕ) (old_page new_page : BlockName → 
       )
   puts_for_is rest op a new v e = never e
 
-  put_is : (rest : List ListedRow) (new : LiteralOperation) (v : ℕ) (s : Sym) → is_put k own n rest new v s ≡ true → IsPut x own inside (note_in n) (rows_in rest) new v s
+  put_is : (rest : List ListedRow) (new : LiteralOperation) (v : ℕ) (s : Sym) → is_put k block n rest new v s ≡ true → IsPut x own inside (note_in n) (rows_in rest) new v s
   put_is rest new v (syms.File op operand into.W) e = puts_for_is rest op (aim k.layout inside false operand) new v e
   put_is rest new v (syms.Label label) e = tt
   put_is rest new v s e = never e
 
-  narrows_for_is : (rest : List ListedRow) (op : FileOperation) (a b : Aim) → narrows_for k own n rest op a b ≡ true → right.NarrowsFor x own inside (note_in n) (rows_in rest) op a b
+  narrows_for_is : (rest : List ListedRow) (op : FileOperation) (a b : Aim) → narrows_for k block n rest op a b ≡ true → right.NarrowsFor x own inside (note_in n) (rows_in rest) op a b
   narrows_for_is rest op (ToByte i) (ToByte j) e =
       let g = lost k.hidden (ToByte i) (without_zero f) in
       let h = other_w (other_byte i (both_set (flags_in op) d)) in
@@ -579,12 +579,12 @@ module _ (k : Sketch) (limit : Bool → ℕ) (old_page new_page : BlockName → 
       )
   narrows_for_is rest op a b e = never e
 
-  narrowed_is : (rest : List ListedRow) (s : Sym) → is_narrowed k own n rest s ≡ true → right.IsNarrowed x own inside (note_in n) (rows_in rest) s
+  narrowed_is : (rest : List ListedRow) (s : Sym) → is_narrowed k block n rest s ≡ true → right.IsNarrowed x own inside (note_in n) (rows_in rest) s
   narrowed_is rest (syms.File op operand into.File) e = narrows_for_is rest op (aim k.layout inside true operand) (aim k.layout inside false operand) e
   narrowed_is rest (syms.Label label) e = tt
   narrowed_is rest s e = never e
 
-  pub row_is : (to : ℕ) (rest : List ListedRow) (act : Act) (s : Sym) → is_right_row k own n to rest act s ≡ true → IsRight x own inside (note_in n) to (rows_in rest) act s
+  pub row_is : (to : ℕ) (rest : List ListedRow) (act : Act) (s : Sym) → is_right_row k block n to rest act s ≡ true → IsRight x own inside (note_in n) to (rows_in rest) act s
   row_is to rest Keeps s e = kept_is rest s e
   row_is to rest Drops s e = dropped_is to rest s e
   row_is to rest (Puts new v) s e = put_is rest new v s e
@@ -641,38 +641,38 @@ listed (Listed t act_of (Some m) ∷ rows) zero s act n e =
     note_as t a s b h n e = cc
 listed (row ∷ rows) (suc j) s act n e = let y = listed rows j s act n e in record { note = y.note; row = y.row; is = y.is }
 
-rows_right : (k : Sketch) (own : BlockName) (rows : List ListedRow) (i : ℕ) → are_right k own i rows ≡ true → (j h : ℕ) (row : ListedRow) → h ≡ i + j → slice_get rows j ≡ Some row → is_right_at k own h row (drop (suc j) rows) ≡ true
-rows_right k own [] i e j h row is got = absurd (none-some row got)
-rows_right k own (first ∷ rows) i e zero h row is got =
+rows_right : (k : Sketch) (block : ListedBlock) (rows : List ListedRow) (i : ℕ) → are_right k block i rows ≡ true → (j h : ℕ) (row : ListedRow) → h ≡ i + j → slice_get rows j ≡ Some row → is_right_at k block h row (drop (suc j) rows) ≡ true
+rows_right k block [] i e j h row is got = absurd (none-some row got)
+rows_right k block (first ∷ rows) i e zero h row is got =
     let same_index : i ≡ h = omega arith in
-    subst (λ (z : ℕ). is_right_at k own z row rows ≡ true) same_index (subst (λ (z : ListedRow). is_right_at k own i z rows ≡ true) (same_row first row got) (and_l (is_right_at k own i first rows) (are_right k own (suc i) rows) e))
-rows_right k own (first ∷ rows) i e (suc j) h row is got = rows_right k own rows (suc i) (and_r (is_right_at k own i first rows) (are_right k own (suc i) rows) e) j h row (omega arith) got
+    subst (λ (z : ℕ). is_right_at k block z row rows ≡ true) same_index (subst (λ (z : ListedRow). is_right_at k block i z rows ≡ true) (same_row first row got) (and_l (is_right_at k block i first rows) (are_right k block (suc i) rows) e))
+rows_right k block (first ∷ rows) i e (suc j) h row is got = rows_right k block rows (suc i) (and_r (is_right_at k block i first rows) (are_right k block (suc i) rows) e) j h row (omega arith) got
 
 module _ (k : Sketch) where
   -- the rows of a block that has some are tested
-  tested_rows : (bs : List ListedBlock) → are_right_blocks k bs ≡ true → (own : BlockName) (j : ℕ) (row : ListedRow) → slice_get (block_in bs own).rows j ≡ Some row → are_right k own 0 (block_in k.blocks own).rows ≡ true
+  tested_rows : (bs : List ListedBlock) → are_right_blocks k bs ≡ true → (own : BlockName) (j : ℕ) (row : ListedRow) → slice_get (block_in bs own).rows j ≡ Some row → are_right k (block_in k.blocks own) 0 (block_in k.blocks own).rows ≡ true
   tested_rows [] e own j row got = absurd (none-some row got)
-  tested_rows (b ∷ bs) e own j row got = by_name (same_name b.name own) refl (tested_rows bs (and_r (is_right_block k b) (are_right_blocks k bs) e) own j row) got
+  tested_rows (b ∷ bs) e own j row got = by_name (same_name b.name own) refl (tested_rows bs (and_r (is_right_block k (block_in k.blocks b.name)) (are_right_blocks k bs) e) own j row) got
     where
-      first : are_right k b.name 0 (block_in k.blocks b.name).rows ≡ true
+      first : are_right k (block_in k.blocks b.name) 0 (block_in k.blocks b.name).rows ≡ true
       first =
-          and_l (are_right k b.name 0 (block_in k.blocks b.name).rows) (all_of (λ a. is_own (block_in k.blocks b.name).inside (owner k.layout a)) (block_in k.blocks b.name).ends.apart.bytes)
-          (and_l (is_right_block k b) (are_right_blocks k bs) e)
+          and_l (are_right k (block_in k.blocks b.name) 0 (block_in k.blocks b.name).rows) (all_of (λ a. is_own (block_in k.blocks b.name).inside (owner k.layout a)) (block_in k.blocks b.name).ends.apart.bytes)
+          (and_l (is_right_block k (block_in k.blocks b.name)) (are_right_blocks k bs) e)
 
-      by_name : (c : Bool) → same_name b.name own ≡ c → (slice_get (block_in bs own).rows j ≡ Some row → are_right k own 0 (block_in k.blocks own).rows ≡ true) → slice_get (if c then b else block_in bs own).rows j ≡ Some row
-          → are_right k own 0 (block_in k.blocks own).rows ≡ true
-      by_name true is more got = subst (λ (name : BlockName). are_right k name 0 (block_in k.blocks name).rows ≡ true) (same_names b.name own is) first
+      by_name : (c : Bool) → same_name b.name own ≡ c → (slice_get (block_in bs own).rows j ≡ Some row → are_right k (block_in k.blocks own) 0 (block_in k.blocks own).rows ≡ true) → slice_get (if c then b else block_in bs own).rows j ≡ Some row
+          → are_right k (block_in k.blocks own) 0 (block_in k.blocks own).rows ≡ true
+      by_name true is more got = subst (λ (name : BlockName). are_right k (block_in k.blocks name) 0 (block_in k.blocks name).rows ≡ true) (same_names b.name own is) first
       by_name false is more got = more got
 
   -- what a block leaves apart is its own
   tested_ends : (bs : List ListedBlock) → are_right_blocks k bs ≡ true → (own : BlockName) (a : ℕ) → among a (block_in bs own).ends.apart.bytes ≡ true → all_of (λ j. is_own (block_in k.blocks own).inside (owner k.layout j)) (block_in k.blocks own).ends.apart.bytes ≡ true
   tested_ends [] e own a got = never got
-  tested_ends (b ∷ bs) e own a got = by_name (same_name b.name own) refl (tested_ends bs (and_r (is_right_block k b) (are_right_blocks k bs) e) own a) got
+  tested_ends (b ∷ bs) e own a got = by_name (same_name b.name own) refl (tested_ends bs (and_r (is_right_block k (block_in k.blocks b.name)) (are_right_blocks k bs) e) own a) got
     where
       first : all_of (λ j. is_own (block_in k.blocks b.name).inside (owner k.layout j)) (block_in k.blocks b.name).ends.apart.bytes ≡ true
       first =
-          and_r (are_right k b.name 0 (block_in k.blocks b.name).rows) (all_of (λ j. is_own (block_in k.blocks b.name).inside (owner k.layout j)) (block_in k.blocks b.name).ends.apart.bytes)
-          (and_l (is_right_block k b) (are_right_blocks k bs) e)
+          and_r (are_right k (block_in k.blocks b.name) 0 (block_in k.blocks b.name).rows) (all_of (λ j. is_own (block_in k.blocks b.name).inside (owner k.layout j)) (block_in k.blocks b.name).ends.apart.bytes)
+          (and_l (is_right_block k (block_in k.blocks b.name)) (are_right_blocks k bs) e)
 
       by_name : (c : Bool) → same_name b.name own ≡ c → (among a (block_in bs own).ends.apart.bytes ≡ true → all_of (λ j. is_own (block_in k.blocks own).inside (owner k.layout j)) (block_in k.blocks own).ends.apart.bytes ≡ true)
           → among a (if c then b else block_in bs own).ends.apart.bytes ≡ true → all_of (λ j. is_own (block_in k.blocks own).inside (owner k.layout j)) (block_in k.blocks own).ends.apart.bytes ≡ true
@@ -708,10 +708,10 @@ module _ (k : Sketch) (limit : Bool → ℕ) (old_page new_page : BlockName → 
   right_at e own j s act n got =
       let rows = (block_in k.blocks own).rows in
       let y = listed rows j s act n got in
-      let at = rows_right k own rows 0 (tested_rows k k.blocks e own j (Listed s act (Some y.note)) y.row) j j (Listed s act (Some y.note)) (omega arith) y.row in
+      let at = rows_right k (block_in k.blocks own) rows 0 (tested_rows k k.blocks e own j (Listed s act (Some y.note)) y.row) j j (Listed s act (Some y.note)) (omega arith) y.row in
       let one = is_note k.layout (block_in k.blocks own).inside y.note in
       let two = rows_of.goes_on (At s act None ∷ rows_in (drop (suc j) rows)) in
-      let three = is_right_row k own y.note (place_in (rows_in rows) j) (drop (suc j) rows) act s in
+      let three = is_right_row k (block_in k.blocks own) y.note (place_in (rows_in rows) j) (drop (suc j) rows) act s in
       let more = and_r one (two && three) at in
       subst (λ (i : Note). IsRightAt (lean_of k limit old_page new_page) own j s act i) y.is (record {
         note = note_is k limit old_page new_page own y.note (and_l one (two && three) at);

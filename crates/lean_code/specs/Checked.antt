@@ -108,12 +108,13 @@ rows_in (row ∷ rows) = row_in row ∷ rows_in rows
 abbrev pub no_note : ListedNote
 no_note = record { facts = record { number = None; held = []; zero = false; known = [] }; apart = record { w = true; z = true; dc = true; c = true; bytes = [] }; carry = None }
 
-abbrev pub no_block : BlockName → ListedBlock
-no_block name = record { name = name; rows = []; inside = false; ends = no_note; outer = [] }
+-- a block that isn't there
+abbrev pub no_block : ListedBlock
+no_block = record { name = names.Start; rows = []; inside = false; ends = no_note; outer = [] }
 
 -- of two blocks of one name the first counts
 abbrev pub block_in : List ListedBlock → BlockName → ListedBlock
-block_in [] name = no_block name
+block_in [] name = no_block
 block_in (b ∷ bs) name = if same_name b.name name then b else block_in bs name
 
 abbrev pub lean_of : Sketch → (Bool → ℕ) → (BlockName → ℕ) → (BlockName → ℕ) → Lean
@@ -225,10 +226,8 @@ abbrev pub is_here : List ListedRow → ℕ → Option ℕ → Bool
 is_here rows here None = true
 is_here rows here (Some i) = nat_eq (place_in (rows_in rows) i) here
 
-module _ (k : Sketch) (own : BlockName) (n : ListedNote) where
-  abbrev pub block : ListedBlock
-  block = block_in k.blocks own
-
+-- of a row of a block, with what is said before it
+module _ (k : Sketch) (block : ListedBlock) (n : ListedNote) where
   abbrev pub f : Facts
   f = facts_in n.facts
 
@@ -401,23 +400,23 @@ abbrev pub is_note : DataLayout → Bool → ListedNote → Bool
 is_note l inside n =
     all_of (λ a. is_near inside (owner l a)) n.facts.held && (all_known (λ a. is_near inside (owner l a)) n.facts.known && (all_of (λ a. is_own inside (owner l a)) n.apart.bytes && carries_near l inside n.carry))
 
-abbrev pub is_right_at : Sketch → BlockName → ℕ → ListedRow → List ListedRow → Bool
-is_right_at k own j (Listed s act None) rest = true
-is_right_at k own j (Listed s act (Some n)) rest =
-    is_note k.layout (block_in k.blocks own).inside n && (goes_on (At s act None ∷ rows_in rest) && is_right_row k own n (place_in (rows_in (block_in k.blocks own).rows) j) rest act s)
+abbrev pub is_right_at : Sketch → ListedBlock → ℕ → ListedRow → List ListedRow → Bool
+is_right_at k block j (Listed s act None) rest = true
+is_right_at k block j (Listed s act (Some n)) rest =
+    is_note k.layout block.inside n && (goes_on (At s act None ∷ rows_in rest) && is_right_row k block n (place_in (rows_in block.rows) j) rest act s)
 
-abbrev pub are_right : Sketch → BlockName → ℕ → List ListedRow → Bool
-are_right k own j [] = true
-are_right k own j (row ∷ rest) = is_right_at k own j row rest && are_right k own (suc j) rest
+abbrev pub are_right : Sketch → ListedBlock → ℕ → List ListedRow → Bool
+are_right k block j [] = true
+are_right k block j (row ∷ rest) = is_right_at k block j row rest && are_right k block (suc j) rest
 
 -- each instruction of a block
 abbrev pub is_right_block : Sketch → ListedBlock → Bool
-is_right_block k b =
-    are_right k b.name 0 (block_in k.blocks b.name).rows && all_of (λ a. is_own (block_in k.blocks b.name).inside (owner k.layout a)) (block_in k.blocks b.name).ends.apart.bytes
+is_right_block k block = are_right k block 0 block.rows && all_of (λ a. is_own block.inside (owner k.layout a)) block.ends.apart.bytes
 
+-- of each name the block that counts
 abbrev pub are_right_blocks : Sketch → List ListedBlock → Bool
 are_right_blocks k [] = true
-are_right_blocks k (b ∷ bs) = is_right_block k b && are_right_blocks k bs
+are_right_blocks k (b ∷ bs) = is_right_block k (block_in k.blocks b.name) && are_right_blocks k bs
 
 -- where a thread begins nothing is known, and only these bytes may differ
 abbrev pub begins : List ℕ → Option (Option ListedNote) → Bool

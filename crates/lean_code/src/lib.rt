@@ -1,7 +1,7 @@
 //! Symbolic code without the instructions that what is known makes needless: what a certificate of it says, the test of one, and what
 //! code keeps that passes it.
 //!
-//! In: nothing yet; the crate has definitions and their proofs. Out: nothing.
+//! In: nothing; the crate has definitions and their proofs. Out: nothing.
 //! The promise: code that is made by a certificate that passes the test follows the given code, under every schedule, costs no more
 //! and no less than the instructions that stay, has no more words, and uses no byte that the given code doesn't use.
 #![tactic(auto)]

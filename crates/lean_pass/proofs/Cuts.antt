@@ -1,0 +1,147 @@
+-- The rules of the test are as the code cuts them.
+use Rattle.std.proofs.Common.{◌≡◌, ℕ, Bool, true, false, List, Option, Some, None, refl, ap}
+use Rattle.sym_code.specs.declared.code.BitOperation.{BitOperation}
+use Rattle.sym_code.specs.declared.code.BitOperation.TheVariants as bit_ops
+use Rattle.sym_code.specs.declared.code.BlockName.{BlockName}
+use Rattle.sym_code.specs.declared.code.FileOperation.{FileOperation}
+use Rattle.sym_code.specs.declared.code.FileOperation.TheVariants as files
+use Rattle.sym_code.specs.declared.code.Into.{Into}
+use Rattle.sym_code.specs.declared.code.Into.TheVariants as into
+use Rattle.sym_code.specs.declared.code.Operand.{Operand}
+use Rattle.sym_code.specs.declared.code.Operand.TheVariants as operands
+use Rattle.sym_code.specs.declared.code.Register.TheVariants.{Indf, Status, Fsr, Pclath}
+use Rattle.sym_code.specs.declared.code.Sym.TheVariants as syms
+use Rattle.sym_code.specs.declared.code.Target.TheVariants as targets
+use Rattle.lean_code.specs.Changes.{Aim, ToFsr, ToEvent, ToByte, Through, Nowhere}
+use Rattle.lean_code.specs.Checked.{ListedBlock, ListedNote, ListedRow, Sketch, block_in, keeps_bit, keeps_call, drops_bit, drops_to_w, is_left_out, narrows_for}
+use Rattle.lean_pass.specs.Rules.{aim_byte, calls, keeps_bit_by, drops_bit_by, drops_file, on_byte, on_bytes}
+
+module _ (k : Sketch) (block : ListedBlock) (n : ListedNote) where
+  pub keeps_bit_is : (rest : List ListedRow) (op : BitOperation) (operand : Operand) (b : ℕ) → keeps_bit k block n rest op operand b ≡ keeps_bit_by k block n rest op operand b
+  keeps_bit_is rest bit_ops.Bcf (operands.Register Status) b = refl
+  keeps_bit_is rest bit_ops.Bcf (operands.Register Indf) b = refl
+  keeps_bit_is rest bit_ops.Bcf (operands.Register Fsr) b = refl
+  keeps_bit_is rest bit_ops.Bcf (operands.Register Pclath) b = refl
+  keeps_bit_is rest bit_ops.Bcf (operands.Byte byte) b = refl
+  keeps_bit_is rest bit_ops.Bcf (operands.Saved cell) b = refl
+  keeps_bit_is rest bit_ops.Bsf (operands.Register Status) b = refl
+  keeps_bit_is rest bit_ops.Bsf (operands.Register Indf) b = refl
+  keeps_bit_is rest bit_ops.Bsf (operands.Register Fsr) b = refl
+  keeps_bit_is rest bit_ops.Bsf (operands.Register Pclath) b = refl
+  keeps_bit_is rest bit_ops.Bsf (operands.Byte byte) b = refl
+  keeps_bit_is rest bit_ops.Bsf (operands.Saved cell) b = refl
+  keeps_bit_is rest bit_ops.Btfsc (operands.Register Status) b = refl
+  keeps_bit_is rest bit_ops.Btfsc (operands.Register Indf) b = refl
+  keeps_bit_is rest bit_ops.Btfsc (operands.Register Fsr) b = refl
+  keeps_bit_is rest bit_ops.Btfsc (operands.Register Pclath) b = refl
+  keeps_bit_is rest bit_ops.Btfsc (operands.Byte byte) b = refl
+  keeps_bit_is rest bit_ops.Btfsc (operands.Saved cell) b = refl
+  keeps_bit_is rest bit_ops.Btfss (operands.Register Status) b = refl
+  keeps_bit_is rest bit_ops.Btfss (operands.Register Indf) b = refl
+  keeps_bit_is rest bit_ops.Btfss (operands.Register Fsr) b = refl
+  keeps_bit_is rest bit_ops.Btfss (operands.Register Pclath) b = refl
+  keeps_bit_is rest bit_ops.Btfss (operands.Byte byte) b = refl
+  keeps_bit_is rest bit_ops.Btfss (operands.Saved cell) b = refl
+
+  pub drops_bit_is : (rest : List ListedRow) (op : BitOperation) (operand : Operand) (b : ℕ) → drops_bit k block n rest op operand b ≡ drops_bit_by k block n rest op operand b
+  drops_bit_is rest bit_ops.Bcf (operands.Register Status) b = refl
+  drops_bit_is rest bit_ops.Bcf (operands.Register Indf) b = refl
+  drops_bit_is rest bit_ops.Bcf (operands.Register Fsr) b = refl
+  drops_bit_is rest bit_ops.Bcf (operands.Register Pclath) b = refl
+  drops_bit_is rest bit_ops.Bcf (operands.Byte byte) b = refl
+  drops_bit_is rest bit_ops.Bcf (operands.Saved cell) b = refl
+  drops_bit_is rest bit_ops.Bsf (operands.Register Status) b = refl
+  drops_bit_is rest bit_ops.Bsf (operands.Register Indf) b = refl
+  drops_bit_is rest bit_ops.Bsf (operands.Register Fsr) b = refl
+  drops_bit_is rest bit_ops.Bsf (operands.Register Pclath) b = refl
+  drops_bit_is rest bit_ops.Bsf (operands.Byte byte) b = refl
+  drops_bit_is rest bit_ops.Bsf (operands.Saved cell) b = refl
+  drops_bit_is rest bit_ops.Btfsc (operands.Register Status) b = refl
+  drops_bit_is rest bit_ops.Btfsc (operands.Register Indf) b = refl
+  drops_bit_is rest bit_ops.Btfsc (operands.Register Fsr) b = refl
+  drops_bit_is rest bit_ops.Btfsc (operands.Register Pclath) b = refl
+  drops_bit_is rest bit_ops.Btfsc (operands.Byte byte) b = refl
+  drops_bit_is rest bit_ops.Btfsc (operands.Saved cell) b = refl
+  drops_bit_is rest bit_ops.Btfss (operands.Register Status) b = refl
+  drops_bit_is rest bit_ops.Btfss (operands.Register Indf) b = refl
+  drops_bit_is rest bit_ops.Btfss (operands.Register Fsr) b = refl
+  drops_bit_is rest bit_ops.Btfss (operands.Register Pclath) b = refl
+  drops_bit_is rest bit_ops.Btfss (operands.Byte byte) b = refl
+  drops_bit_is rest bit_ops.Btfss (operands.Saved cell) b = refl
+
+  pub drops_file_is : (here : ℕ) (rest : List ListedRow) (op : FileOperation) (operand : Operand) (to : Into) → is_left_out k block n here rest (syms.File op operand to) ≡ drops_file k block n rest op operand to
+  drops_file_is here rest op operand into.W = refl
+  drops_file_is here rest op operand into.File = refl
+
+  pub drops_to_w_is : (rest : List ListedRow) (op : FileOperation) (a : Aim) → drops_to_w k block n rest op a ≡ on_byte (drops_to_w k block n rest op) (aim_byte a)
+  drops_to_w_is rest op (ToByte i) = refl
+  drops_to_w_is rest files.Addwf ToFsr = refl
+  drops_to_w_is rest files.Andwf ToFsr = refl
+  drops_to_w_is rest files.Comf ToFsr = refl
+  drops_to_w_is rest files.Decf ToFsr = refl
+  drops_to_w_is rest files.Decfsz ToFsr = refl
+  drops_to_w_is rest files.Incf ToFsr = refl
+  drops_to_w_is rest files.Incfsz ToFsr = refl
+  drops_to_w_is rest files.Iorwf ToFsr = refl
+  drops_to_w_is rest files.Movf ToFsr = refl
+  drops_to_w_is rest files.Rlf ToFsr = refl
+  drops_to_w_is rest files.Rrf ToFsr = refl
+  drops_to_w_is rest files.Subwf ToFsr = refl
+  drops_to_w_is rest files.Swapf ToFsr = refl
+  drops_to_w_is rest files.Xorwf ToFsr = refl
+  drops_to_w_is rest files.Addwf ToEvent = refl
+  drops_to_w_is rest files.Andwf ToEvent = refl
+  drops_to_w_is rest files.Comf ToEvent = refl
+  drops_to_w_is rest files.Decf ToEvent = refl
+  drops_to_w_is rest files.Decfsz ToEvent = refl
+  drops_to_w_is rest files.Incf ToEvent = refl
+  drops_to_w_is rest files.Incfsz ToEvent = refl
+  drops_to_w_is rest files.Iorwf ToEvent = refl
+  drops_to_w_is rest files.Movf ToEvent = refl
+  drops_to_w_is rest files.Rlf ToEvent = refl
+  drops_to_w_is rest files.Rrf ToEvent = refl
+  drops_to_w_is rest files.Subwf ToEvent = refl
+  drops_to_w_is rest files.Swapf ToEvent = refl
+  drops_to_w_is rest files.Xorwf ToEvent = refl
+  drops_to_w_is rest files.Addwf Through = refl
+  drops_to_w_is rest files.Andwf Through = refl
+  drops_to_w_is rest files.Comf Through = refl
+  drops_to_w_is rest files.Decf Through = refl
+  drops_to_w_is rest files.Decfsz Through = refl
+  drops_to_w_is rest files.Incf Through = refl
+  drops_to_w_is rest files.Incfsz Through = refl
+  drops_to_w_is rest files.Iorwf Through = refl
+  drops_to_w_is rest files.Movf Through = refl
+  drops_to_w_is rest files.Rlf Through = refl
+  drops_to_w_is rest files.Rrf Through = refl
+  drops_to_w_is rest files.Subwf Through = refl
+  drops_to_w_is rest files.Swapf Through = refl
+  drops_to_w_is rest files.Xorwf Through = refl
+  drops_to_w_is rest files.Addwf Nowhere = refl
+  drops_to_w_is rest files.Andwf Nowhere = refl
+  drops_to_w_is rest files.Comf Nowhere = refl
+  drops_to_w_is rest files.Decf Nowhere = refl
+  drops_to_w_is rest files.Decfsz Nowhere = refl
+  drops_to_w_is rest files.Incf Nowhere = refl
+  drops_to_w_is rest files.Incfsz Nowhere = refl
+  drops_to_w_is rest files.Iorwf Nowhere = refl
+  drops_to_w_is rest files.Movf Nowhere = refl
+  drops_to_w_is rest files.Rlf Nowhere = refl
+  drops_to_w_is rest files.Rrf Nowhere = refl
+  drops_to_w_is rest files.Subwf Nowhere = refl
+  drops_to_w_is rest files.Swapf Nowhere = refl
+  drops_to_w_is rest files.Xorwf Nowhere = refl
+
+  pub narrows_is : (rest : List ListedRow) (op : FileOperation) (a b : Aim) → narrows_for k block n rest op a b ≡ on_bytes (narrows_for k block n rest op) (aim_byte a) (aim_byte b)
+  narrows_is rest op (ToByte i) (ToByte j) = refl
+  narrows_is rest op (ToByte i) ToFsr = refl
+  narrows_is rest op (ToByte i) ToEvent = refl
+  narrows_is rest op (ToByte i) Through = refl
+  narrows_is rest op (ToByte i) Nowhere = refl
+  narrows_is rest op ToFsr b = refl
+  narrows_is rest op ToEvent b = refl
+  narrows_is rest op Through b = refl
+  narrows_is rest op Nowhere b = refl
+
+  pub call_is : (rest : List ListedRow) (name : BlockName) (callee : ListedBlock) → callee ≡ block_in k.blocks name → calls k block n rest callee ≡ keeps_call k block n rest (targets.Block name)
+  call_is rest name callee is = ap (calls k block n rest) is

@@ -1,0 +1,6 @@
+pub mod Entries
+pub mod Along
+pub mod Grounds
+pub mod Cuts
+pub mod Whole
+pub mod Putting

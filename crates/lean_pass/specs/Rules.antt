@@ -1,0 +1,96 @@
+-- The rules of the test, cut as the code cuts them.
+use Rattle.std.specs.Prelude.{ℕ, Bool, true, false, not, ◌&&◌, nat_lt, if◌then◌else◌, List, Option, Some, None}
+use Rattle.sym_code.specs.declared.code.BitOperation.{BitOperation}
+use Rattle.sym_code.specs.declared.code.BitOperation.TheVariants as bit_ops
+use Rattle.sym_code.specs.declared.code.FileOperation.{FileOperation}
+use Rattle.sym_code.specs.declared.code.Into.{Into}
+use Rattle.sym_code.specs.declared.code.Into.TheVariants as into
+use Rattle.sym_code.specs.declared.code.Literal.{Literal}
+use Rattle.sym_code.specs.declared.code.LiteralOperation.{LiteralOperation}
+use Rattle.sym_code.specs.declared.code.Operand.{Operand}
+use Rattle.sym_code.specs.declared.code.Operand.TheVariants as operands
+use Rattle.sym_code.specs.declared.code.Register.TheVariants.{Status}
+use Rattle.lean_code.specs.Changes.{Aim, ToByte, lost, without_zero, after_to_w, stored, learned, flags_in, may_skip, literal_flags, literal_uses, is_retlw, both_set, one_sets, same_w, other_w, same_byte}
+use Rattle.lean_code.specs.Checked.{ListedBlock, ListedNote, ListedRow, Sketch, all_of, among, ahead, block_in, comes, drops_change, drops_test, drops_to_file, drops_to_w, enters, expects, expects_by, is_same, leads, passes, read, same_side, uses, write, facts_in, apart_in}
+use Rattle.lean_code.specs.Right as right
+use Rattle.lean_code.specs.Right.{flag_apart, with_flag}
+
+abbrev pub is_status : Operand → Bool
+is_status (operands.Register Status) = true
+is_status operand = false
+
+abbrev pub aim_byte : Aim → Option ℕ
+aim_byte (ToByte k) = Some k
+aim_byte aim = None
+
+module _ (k : Sketch) (block : ListedBlock) (n : ListedNote) where
+  abbrev pub keeps_to_w : List ListedRow → FileOperation → Aim → Bool
+  keeps_to_w rest op a = uses k block n op && (is_same k block n a && leads rest (may_skip op) (after_to_w op a (facts_in n.facts)) (same_w (both_set (flags_in op) (apart_in n.apart))) n.apart.bytes)
+
+  abbrev pub keeps_to_file : List ListedRow → FileOperation → Aim → Bool
+  keeps_to_file rest op a =
+      uses k block n op && (is_same k block n a && leads rest (may_skip op) (lost k.hidden a (without_zero (facts_in n.facts))) (same_byte a (both_set (flags_in op) (apart_in n.apart))) n.apart.bytes)
+
+  abbrev pub keeps_change : List ListedRow → Aim → Bool
+  keeps_change rest a = is_same k block n a && expects (ahead rest) (lost k.hidden a (facts_in n.facts)) (apart_in n.apart) n.apart.bytes
+
+  abbrev pub keeps_test : List ListedRow → Aim → Bool
+  keeps_test rest a = is_same k block n a && leads rest true (facts_in n.facts) (apart_in n.apart) n.apart.bytes
+
+  abbrev pub keeps_flag : List ListedRow → ℕ → Bool
+  keeps_flag rest b = expects (ahead rest) (without_zero (facts_in n.facts)) (with_flag b false (apart_in n.apart)) n.apart.bytes
+
+  abbrev pub keeps_flag_test : List ListedRow → ℕ → Bool
+  keeps_flag_test rest b = not (flag_apart b (apart_in n.apart)) && leads rest true (facts_in n.facts) (apart_in n.apart) n.apart.bytes
+
+  abbrev pub calls : List ListedRow → ListedBlock → Bool
+  calls rest callee =
+      same_side callee.inside block.inside && (enters (ahead callee.rows) n && (comes (ahead rest) callee.ends n.apart.bytes && (all_of (λ a. among a callee.outer) n.apart.bytes && all_of (λ a. among a callee.outer) block.outer)))
+
+  abbrev pub keeps_store : List ListedRow → Aim → Bool
+  keeps_store rest a = not n.apart.w && expects (ahead rest) (stored k.hidden a (facts_in n.facts)) (same_byte a (apart_in n.apart)) n.apart.bytes
+
+  abbrev pub keeps_clear : List ListedRow → Aim → Bool
+  keeps_clear rest a = expects (ahead rest) (learned k.hidden a (Some 0) (without_zero (facts_in n.facts))) (same_byte a (record (apart_in n.apart) { z = false })) n.apart.bytes
+
+  abbrev pub keeps_literal : List ListedRow → LiteralOperation → Literal → Bool
+  keeps_literal rest op value =
+      not (is_retlw op) && (not (literal_uses op && n.apart.w) && expects (ahead rest) (right.after_literal (facts_in n.facts) op value) (same_w (both_set (literal_flags op) (apart_in n.apart))) n.apart.bytes)
+
+  abbrev pub drops_result : List ListedRow → FileOperation → ℕ → Bool
+  drops_result rest op i = passes n.carry rest (may_skip op) (after_to_w op (ToByte i) (facts_in n.facts)) (other_w (one_sets (flags_in op) (apart_in n.apart))) n.apart.bytes
+
+  abbrev pub drops_skip : List ListedRow → Bool
+  drops_skip rest = passes n.carry rest true (facts_in n.facts) (apart_in n.apart) n.apart.bytes
+
+  abbrev pub drops_flag : List ListedRow → ℕ → Bool
+  drops_flag rest b = nat_lt b 3 && expects_by n.carry (ahead rest) (without_zero (facts_in n.facts)) (with_flag b true (apart_in n.apart)) n.apart.bytes
+
+  abbrev pub drops_literal : List ListedRow → LiteralOperation → Literal → Bool
+  drops_literal rest op value = not (is_retlw op) && expects_by n.carry (ahead rest) (right.after_literal (facts_in n.facts) op value) (right.dropped_literal (facts_in n.facts) (apart_in n.apart) op value) n.apart.bytes
+
+  abbrev pub drops_file : List ListedRow → FileOperation → Operand → Into → Bool
+  drops_file rest op operand into.W = drops_to_w k block n rest op (read k block n operand)
+  drops_file rest op operand into.File = drops_to_file k block n rest op (write k block n operand)
+
+  abbrev pub keeps_bit_by : List ListedRow → BitOperation → Operand → ℕ → Bool
+  keeps_bit_by rest bit_ops.Bcf operand b = if is_status operand then keeps_flag rest b else keeps_change rest (write k block n operand)
+  keeps_bit_by rest bit_ops.Bsf operand b = if is_status operand then keeps_flag rest b else keeps_change rest (write k block n operand)
+  keeps_bit_by rest bit_ops.Btfsc operand b = if is_status operand then keeps_flag_test rest b else keeps_test rest (read k block n operand)
+  keeps_bit_by rest bit_ops.Btfss operand b = if is_status operand then keeps_flag_test rest b else keeps_test rest (read k block n operand)
+
+  abbrev pub drops_bit_by : List ListedRow → BitOperation → Operand → ℕ → Bool
+  drops_bit_by rest bit_ops.Bcf operand b = if is_status operand then drops_flag rest b else drops_change k block n rest (write k block n operand)
+  drops_bit_by rest bit_ops.Bsf operand b = if is_status operand then drops_flag rest b else drops_change k block n rest (write k block n operand)
+  drops_bit_by rest bit_ops.Btfsc operand b = if is_status operand then drops_skip rest else drops_test k block n rest (read k block n operand)
+  drops_bit_by rest bit_ops.Btfss operand b = if is_status operand then drops_skip rest else drops_test k block n rest (read k block n operand)
+
+-- of a general byte, and of nothing else
+abbrev pub on_byte : (Aim → Bool) → Option ℕ → Bool
+on_byte test None = false
+on_byte test (Some i) = test (ToByte i)
+
+abbrev pub on_bytes : (Aim → Aim → Bool) → Option ℕ → Option ℕ → Bool
+on_bytes test None o = false
+on_bytes test (Some i) None = false
+on_bytes test (Some i) (Some j) = test (ToByte i) (ToByte j)

@@ -1,0 +1,22 @@
+-- Parts of the test, as the code goes them.
+use Rattle.std.specs.Prelude.{Bool, true, false, not, ◌&&◌, if◌then◌else◌, List, [], ◌∷◌, None}
+use Rattle.sym_code.specs.Programs.{lands, front}
+use Rattle.sym_code.specs.declared.code.BlockName.TheVariants as names
+use Rattle.lean_code.specs.Rows.{At, is_label, goes_on, old_program}
+use Rattle.lean_code.specs.Checked.{ListedBlock, ListedRow, Listed, Sketch, ahead, begins, block_in, lean_of, rows_in}
+
+abbrev pub goes_on_from : ListedRow → List ListedRow → Bool
+goes_on_from (Listed s act n) rest = goes_on (At s act None ∷ rows_in rest)
+
+abbrev pub has_word : List ListedRow → Bool
+has_word [] = false
+has_word (Listed s act n ∷ rows) = if is_label s then has_word rows else true
+
+abbrev pub is_main : ListedBlock → Bool
+is_main b = not b.inside && begins [] (ahead b.rows)
+
+abbrev pub main_begins : Sketch → Bool
+main_begins k = is_main (block_in k.blocks (names.Copy 0))
+
+abbrev pub main_lands : Sketch → Bool
+main_lands k = lands (old_program (lean_of k (λ i. 0) (λ i. 0) (λ i. 0))) (front (old_program (lean_of k (λ i. 0) (λ i. 0) (λ i. 0))) (names.Copy 0))

@@ -1,0 +1,76 @@
+//! Blocks without the instructions that what is known makes needless.
+
+ghost use Rattle.std.specs.Prelude.{◌≡◌, IfOk};
+ghost use Rattle.std.specs.List.{AllZip};
+ghost use Rattle.code_place.specs.Layouts.{layout_of};
+ghost use Rattle.lean_pass.specs.Made.{IsLean, HasName};
+
+use crate::making::{are_distinct, as_given, blocks_for, made_by};
+use crate::rows::Sketch;
+use crate::search::search;
+use crate::testing::is_lean;
+use pic_map::Placed;
+use std::alloc::{AllocError, Global};
+use sym_code::SymBlock;
+
+// The given blocks.
+#[tactic(auto, using(crate::proofs::Putting::kept_is))]
+fn kept(
+    alloc: Global,
+    blocks: &[SymBlock],
+    handler: Option<u16>,
+    placed: &Placed,
+) -> Result<Vec<SymBlock>, AllocError>
+    ensures { IfOk result (λ made. IsLean (layout_of placed.now) handler blocks.now made.items) }
+{
+    let made = as_given(alloc, blocks)?;
+    Ok(made)
+}
+
+/// The blocks of a program without instructions that what is known makes needless, or with operations on numbers or on W in their
+/// places. Main is copy 0, and the handler the copy with this number. Where no certificate is found that passes the test, the blocks
+/// stay as they are.
+#[tactic(auto, using(crate::proofs::Putting::names_stay))]
+pub fn lean(
+    alloc: Global,
+    blocks: &[SymBlock],
+    handler: Option<u16>,
+    placed: &Placed,
+) -> Result<Vec<SymBlock>, AllocError>
+    // The blocks are those that a certificate makes of the given ones that passes the test, or the given ones,
+    ensures lean { IfOk result (λ made. IsLean (layout_of placed.now) handler blocks.now made.items) }
+    // and keep their names.
+    ensures names { IfOk result (λ made. AllZip HasName blocks.now made.items) }
+{
+    let made = leaned(alloc, blocks, handler, placed)?;
+    Ok(made)
+}
+
+fn leaned(
+    alloc: Global,
+    blocks: &[SymBlock],
+    handler: Option<u16>,
+    placed: &Placed,
+) -> Result<Vec<SymBlock>, AllocError>
+    ensures { IfOk result (λ made. IsLean (layout_of placed.now) handler blocks.now made.items) }
+{
+    let Some(plans) = search(alloc, blocks, handler, placed)? else {
+        return kept(alloc, blocks, handler, placed);
+    };
+    let Some(seen) = blocks_for(alloc, blocks, plans.blocks)? else {
+        return kept(alloc, blocks, handler, placed);
+    };
+    if !are_distinct(&seen) {
+        return kept(alloc, blocks, handler, placed);
+    }
+    let sketch = Sketch {
+        blocks: seen,
+        handler,
+        rest: plans.rest,
+        hidden: plans.hidden,
+    };
+    if !is_lean(alloc, &sketch, placed)? {
+        return kept(alloc, blocks, handler, placed);
+    }
+    made_by(alloc, &sketch, placed, blocks)
+}

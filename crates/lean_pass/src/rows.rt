@@ -1,0 +1,84 @@
+//! A certificate: of each instruction what becomes of it, and what is said before it.
+
+use sym_code::{BlockName, LiteralOperation, Sym};
+
+/// General bytes by their numbers: of each number whether it is among them. Numbers beyond the list aren't.
+#[derive(Drop)]
+pub struct ByteSet {
+    pub has: Vec<bool>,
+}
+
+/// What becomes of an instruction.
+#[derive(Clone, Copy, PartialEq, Eq, Debug)]
+pub enum Act {
+    Keeps,
+    Drops,
+    /// An operation on W and a number stands in its place.
+    Puts { op: LiteralOperation, value: u8 },
+    /// Its result goes to W.
+    Narrows,
+}
+
+/// What is true of the machine that runs the given code.
+#[derive(Drop)]
+pub struct Facts {
+    /// W is this number.
+    pub number: Option<u8>,
+    /// W is what each of these bytes holds.
+    pub held: ByteSet,
+    /// Z says whether W is 0.
+    pub zero: bool,
+    /// The bytes that hold numbers, by their own numbers.
+    pub known: Vec<Option<u8>>,
+}
+
+/// What may differ between the machine that runs the given code and the one that runs the code that is made.
+#[derive(Drop)]
+pub struct Apart {
+    pub w: bool,
+    pub z: bool,
+    pub dc: bool,
+    pub c: bool,
+    pub bytes: ByteSet,
+}
+
+/// What is said before an instruction.
+#[derive(Drop)]
+pub struct Note {
+    pub facts: Facts,
+    pub apart: Apart,
+    /// W of the machine that runs the code that is made is what this byte holds for the other one.
+    pub carry: Option<usize>,
+}
+
+/// An instruction of the given code. There is no note where nothing comes.
+#[derive(Drop)]
+pub struct Row {
+    pub sym: Sym,
+    pub act: Act,
+    pub note: Option<Note>,
+}
+
+/// A block of the given code.
+#[derive(Drop)]
+pub struct LeanBlock {
+    pub name: BlockName,
+    pub rows: Vec<Row>,
+    /// It runs inside the handler.
+    pub inside: bool,
+    /// What is known where it returns.
+    pub ends: Note,
+    /// Bytes that may differ in functions that wait for it.
+    pub outer: ByteSet,
+}
+
+/// A certificate for all blocks of a program.
+#[derive(Drop)]
+pub struct Sketch {
+    pub blocks: Vec<LeanBlock>,
+    pub handler: Option<u16>,
+    /// Bytes of the handler's that may differ while it doesn't run.
+    pub rest: ByteSet,
+    /// Bytes that are never reached through FSR.
+    pub hidden: ByteSet,
+}

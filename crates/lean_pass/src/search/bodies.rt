@@ -1,0 +1,373 @@
+//! The blocks of a program while what can go is searched for.
+
+use crate::owners::Ground;
+use crate::rows::Act;
+use crate::search::bits::Bits;
+use crate::search::effects::{Effect, effect_of, no_effect, no_flags};
+use crate::search::known::Knowledge;
+use crate::walk::{same_label, same_name};
+use pic_world::Root;
+use std::alloc::{AllocError, Global};
+use sym_code::{BlockName, Label, LiteralOperation, PlainOperation, Sym, SymBlock, Target};
+
+/// Where the code goes on behind an instruction.
+#[derive(Clone, Copy, PartialEq, Eq, Debug)]
+pub enum Way {
+    On,
+    Label,
+    /// To a place of the block.
+    Goto(Option<usize>),
+    /// To another block and back.
+    Call(Option<usize>),
+    Return,
+    Stop,
+    /// The handler ends.
+    Restore,
+}
+
+/// An instruction of a block.
+#[derive(Clone, Copy)]
+pub struct Place {
+    pub sym: Sym,
+    pub effect: Effect,
+    pub way: Way,
+    pub act: Act,
+    /// It is left out, and W of the code that is made holds its result.
+    pub carried: bool,
+    /// It is left out since what it writes is so already.
+    pub needless: bool,
+    /// The place of the first of the skips that stand one behind the other up to here.
+    pub group: usize,
+}
+
+/// W, flags and bytes: those that are read further on before they are written, or those that may differ.
+#[derive(Clone, Copy, PartialEq, Eq, Debug)]
+pub struct Live {
+    pub bytes: Bits,
+    pub w: bool,
+    pub z: bool,
+    pub dc: bool,
+    pub c: bool,
+}
+
+/// A block.
+#[derive(Drop)]
+pub struct Body {
+    pub name: BlockName,
+    pub inside: bool,
+    pub places: Vec<Place>,
+    /// What is known before each place.
+    pub known: Vec<Knowledge>,
+    /// What is live before each place.
+    pub live: Vec<Live>,
+    /// What may differ before each place.
+    pub differs: Vec<Live>,
+}
+
+/// What callers see of a block.
+#[derive(Clone, Copy)]
+pub struct Summary {
+    pub front: Live,
+    pub back: Live,
+    /// The bytes that it and those that it calls name, and of these those that they read.
+    pub named: Bits,
+    pub reads: Bits,
+    /// Bytes that may differ in functions that wait for it.
+    pub outer: Bits,
+}
+
+impl Live {
+    pub fn nothing() -> Live {
+        Live {
+            bytes: Bits::none(),
+            w: false,
+            z: false,
+            dc: false,
+            c: false,
+        }
+    }
+
+    pub fn all() -> Live {
+        Live {
+            bytes: Bits::all(),
+            w: true,
+            z: true,
+            dc: true,
+            c: true,
+        }
+    }
+
+    pub fn join(self, other: Live) -> Live {
+        Live {
+            bytes: self.bytes.join(other.bytes),
+            w: self.w || other.w,
+            z: self.z || other.z,
+            dc: self.dc || other.dc,
+            c: self.c || other.c,
+        }
+    }
+}
+
+impl Summary {
+    pub fn nothing() -> Summary {
+        Summary {
+            front: Live::nothing(),
+            back: Live::nothing(),
+            named: Bits::none(),
+            reads: Bits::none(),
+            outer: Bits::none(),
+        }
+    }
+}
+
+impl Place {
+    /// What the instruction that is made of it reads and writes.
+    pub fn made(&self) -> Effect {
+        match self.act {
+            Act::Keeps => self.effect,
+            Act::Drops => Effect {
+                to_w: self.carried,
+                ..no_effect()
+            },
+            Act::Puts { op, .. } => Effect {
+                reads: None,
+                sets: match op {
+                    LiteralOperation::Movlw => no_flags(),
+                    _ => self.effect.sets,
+                },
+                ..self.effect
+            },
+            Act::Narrows => Effect {
+                writes: None,
+                to_w: true,
+                ..self.effect
+            },
+        }
+    }
+
+    pub fn is_label(&self) -> bool {
+        match self.way {
+            Way::Label => true,
+            _ => false,
+        }
+    }
+
+    pub fn is_dropped(&self) -> bool {
+        match self.act {
+            Act::Drops => true,
+            _ => false,
+        }
+    }
+}
+
+fn label_place(list: &[Sym], label: Label) -> Option<usize> {
+    for (at, sym) in list.iter().enumerate() {
+        if let Sym::Label(other) = sym {
+            if same_label(*other, label) {
+                return Some(at);
+            }
+        }
+    }
+    None
+}
+
+fn block_place(blocks: &[SymBlock], name: BlockName) -> Option<usize> {
+    for (at, block) in blocks.iter().enumerate() {
+        if same_name(block.name, name) {
+            return Some(at);
+        }
+    }
+    None
+}
+
+fn goto_way(list: &[Sym], target: Target) -> Way {
+    match target {
+        Target::Block(_) => Way::Stop,
+        Target::Label(label) => match label {
+            Label::Inner(_) => Way::Goto(label_place(list, label)),
+            Label::Halt => Way::Stop,
+            Label::Restore => Way::Restore,
+        },
+    }
+}
+
+fn call_way(blocks: &[SymBlock], target: Target) -> Way {
+    match target {
+        Target::Block(name) => Way::Call(block_place(blocks, name)),
+        Target::Label(_) => Way::Call(None),
+    }
+}
+
+fn way_of(blocks: &[SymBlock], list: &[Sym], sym: Sym) -> Way {
+    match sym {
+        Sym::Label(_) => Way::Label,
+        Sym::Goto(target) => goto_way(list, target),
+        Sym::Call(target) => call_way(blocks, target),
+        Sym::Plain(op) => match op {
+            PlainOperation::Return => Way::Return,
+            PlainOperation::Retfie => Way::Stop,
+            _ => Way::On,
+        },
+        Sym::Literal { op, .. } => match op {
+            LiteralOperation::Retlw => Way::Return,
+            _ => Way::On,
+        },
+        _ => Way::On,
+    }
+}
+
+fn places_of(
+    alloc: Global,
+    ground: &Ground,
+    blocks: &[SymBlock],
+    inside: bool,
+    list: &[Sym],
+) -> Result<Vec<Place>, AllocError> {
+    let mut places = Vec::new(alloc);
+    let mut group = 0;
+    let mut skips = false;
+    for (at, sym) in list.iter().enumerate() {
+        let effect = effect_of(ground, inside, *sym);
+        let way = way_of(blocks, list, *sym);
+        let is_label = way == Way::Label;
+        if !skips || is_label {
+            group = at;
+        }
+        skips = effect.skips;
+        places.push(Place {
+            sym: *sym,
+            effect,
+            way,
+            act: Act::Keeps,
+            carried: false,
+            needless: false,
+            group,
+        })?;
+    }
+    Ok(places)
+}
+
+fn is_inside(ground: &Ground, name: BlockName) -> bool {
+    match name {
+        BlockName::Start => false,
+        BlockName::Copy(copy) => match ground.placed.frames.get(copy as usize) {
+            Some(frame) => frame.root == Root::Isr,
+            None => false,
+        },
+    }
+}
+
+fn body_of(
+    alloc: Global,
+    ground: &Ground,
+    blocks: &[SymBlock],
+    block: &SymBlock,
+) -> Result<Body, AllocError> {
+    let inside = is_inside(ground, block.name);
+    let room = block.list.len();
+    Ok(Body {
+        name: block.name,
+        inside,
+        places: places_of(alloc, ground, blocks, inside, &block.list)?,
+        known: vec![in alloc; Knowledge::unreached(); room]?,
+        live: vec![in alloc; Live::nothing(); room]?,
+        differs: vec![in alloc; Live::nothing(); room]?,
+    })
+}
+
+/// The blocks of a program, before anything is searched for.
+pub fn bodies_of(
+    alloc: Global,
+    ground: &Ground,
+    blocks: &[SymBlock],
+) -> Result<Vec<Body>, AllocError> {
+    let mut bodies = Vec::new(alloc);
+    for block in blocks {
+        bodies.push(body_of(alloc, ground, blocks, block)?)?;
+    }
+    Ok(bodies)
+}
+
+impl Body {
+    pub fn place(&self, at: usize) -> Option<Place> {
+        self.places.get(at).copied()
+    }
+
+    /// What is live before a place; nothing behind the last one.
+    pub fn live_at(&self, at: usize) -> Live {
+        match self.live.get(at) {
+            Some(live) => *live,
+            None => Live::nothing(),
+        }
+    }
+
+    /// The place of the first instruction from here on, behind the labels.
+    pub fn word_from(&self, at: usize) -> usize {
+        for next in at..self.places.len() {
+            if !self.places[next].is_label() {
+                return next;
+            }
+        }
+        self.places.len()
+    }
+
+    fn come(&mut self, at: usize, known: &Knowledge) -> bool {
+        if at < self.known.len() {
+            self.known[at].come(known)
+        } else {
+            false
+        }
+    }
+
+    // What is known at a place goes on to those behind it.
+    fn go_on(&mut self, ground: &Ground, at: usize, place: &Place) -> bool {
+        let mut known = match self.known.get(at) {
+            Some(known) => *known,
+            None => return false,
+        };
+        if !known.reached {
+            return false;
+        }
+        known.pass(ground, self.inside, place.sym);
+        match place.way {
+            Way::Goto(target) => match target {
+                Some(target) => self.come(target, &known),
+                None => false,
+            },
+            Way::Return => false,
+            Way::Stop => false,
+            Way::Restore => false,
+            _ => {
+                let next = at.saturating_add(1);
+                let on = self.come(next, &known);
+                if place.effect.skips {
+                    let past = self.word_from(next).saturating_add(1);
+                    self.come(past, &known) || on
+                } else {
+                    on
+                }
+            }
+        }
+    }
+
+    fn go_through(&mut self, ground: &Ground) -> bool {
+        let mut changed = false;
+        for at in 0..self.places.len() {
+            if let Some(place) = self.place(at) {
+                changed = self.go_on(ground, at, &place) || changed;
+            }
+        }
+        changed
+    }
+
+    /// Finds what is known before each place. Answers whether that was found.
+    pub fn learn(&mut self, ground: &Ground) -> bool {
+        self.come(0, &Knowledge::nothing());
+        for _round in 0..200 {
+            if !self.go_through(ground) {
+                return true;
+            }
+        }
+        false
+    }
+}

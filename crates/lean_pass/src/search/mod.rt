@@ -1,0 +1,12 @@
+//! The search for a certificate. How it is found is nobody's concern: what it says is tested.
+
+mod bits;
+mod bodies;
+mod choosing;
+mod differing;
+mod effects;
+mod known;
+mod living;
+mod planning;
+
+pub use planning::{BlockPlan, Plan, Plans, search};

@@ -1,0 +1,228 @@
+//! Blocks before and after.
+
+use crate::lean;
+use core_code::Byte;
+use pic_map::{FrameLine, ObjLine, Placed};
+use pic_world::Root;
+use std::alloc::{AllocError, Global};
+use sym_code::{
+    BitOperation, BlockName, FileOperation, Into, Label, Literal, LiteralOperation, Operand,
+    Register, Sym, SymBlock, Target,
+};
+
+fn object(alloc: Global) -> ObjLine {
+    ObjLine {
+        fixed: false,
+        name: Vec::new(alloc),
+        address: 0x20,
+        size: 1,
+    }
+}
+
+fn frame(alloc: Global, root: Root, address: u16) -> FrameLine {
+    FrameLine {
+        root,
+        name: Vec::new(alloc),
+        address,
+        size: 11,
+    }
+}
+
+// One static byte, main's frame and the handler's.
+fn placed(alloc: Global) -> Result<Placed, AllocError> {
+    let mut objects = Vec::new(alloc);
+    objects.push(object(alloc))?;
+    let mut frames = Vec::new(alloc);
+    frames.push(frame(alloc, Root::Main, 0x21))?;
+    frames.push(frame(alloc, Root::Isr, 0x30))?;
+    Ok(Placed {
+        objects,
+        frames,
+        ram: 23,
+    })
+}
+
+fn ticks() -> Operand {
+    Operand::Byte(Byte::Static {
+        object: 0,
+        offset: 0,
+    })
+}
+
+fn temporary(offset: u16) -> Operand {
+    Operand::Byte(Byte::Frame { copy: 0, offset })
+}
+
+fn own(offset: u16) -> Operand {
+    Operand::Byte(Byte::Frame { copy: 1, offset })
+}
+
+fn load(number: u8) -> Sym {
+    Sym::Literal {
+        op: LiteralOperation::Movlw,
+        value: Literal::Number(number),
+    }
+}
+
+fn to_w(op: FileOperation, file: Operand) -> Sym {
+    Sym::File {
+        op,
+        file,
+        into: Into::W,
+    }
+}
+
+fn to_file(op: FileOperation, file: Operand) -> Sym {
+    Sym::File {
+        op,
+        file,
+        into: Into::File,
+    }
+}
+
+fn goto(label: Label) -> Sym {
+    Sym::Goto(Target::Label(label))
+}
+
+fn code_of(block: Option<&SymBlock>) -> &[Sym] {
+    match block {
+        Some(block) => &block.list,
+        None => &[],
+    }
+}
+
+fn put_list(block: &mut SymBlock, list: &[Sym]) -> Result<(), AllocError> {
+    for sym in list {
+        match *sym {
+            Sym::Bit { op, file, bit } => {
+                if bit < 8 {
+                    block.put(Sym::Bit { op, file, bit })?;
+                }
+            }
+            other => block.put(other)?,
+        }
+    }
+    Ok(())
+}
+
+// What main becomes.
+fn main_of(alloc: Global, list: &[Sym]) -> Result<Vec<SymBlock>, AllocError> {
+    let mut main = SymBlock::new(alloc, BlockName::Copy(0));
+    put_list(&mut main, list)?;
+    let mut blocks = Vec::new(alloc);
+    blocks.push(main)?;
+    lean(alloc, &blocks, None, &placed(alloc)?)
+}
+
+// `ticks++` of an unsigned char.
+#[test]
+fn a_sum_that_is_cut_has_one_byte(rt: HostRuntime) -> Result<(), AllocError> {
+    let given = [
+        load(1),
+        Sym::Movwf(temporary(0)),
+        Sym::Clrf(temporary(1)),
+        to_w(FileOperation::Movf, ticks()),
+        Sym::Movwf(temporary(2)),
+        Sym::Clrf(temporary(3)),
+        to_w(FileOperation::Movf, temporary(0)),
+        to_file(FileOperation::Addwf, temporary(2)),
+        to_w(FileOperation::Movf, temporary(1)),
+        Sym::Bit {
+            op: BitOperation::Btfsc,
+            file: Operand::Register(Register::Status),
+            bit: 0,
+        },
+        to_w(FileOperation::Incfsz, temporary(1)),
+        to_file(FileOperation::Addwf, temporary(3)),
+        to_w(FileOperation::Movf, temporary(2)),
+        Sym::Movwf(ticks()),
+        goto(Label::Halt),
+    ];
+    let wanted = [
+        to_w(FileOperation::Movf, ticks()),
+        Sym::Movwf(temporary(2)),
+        load(1),
+        to_w(FileOperation::Addwf, temporary(2)),
+        Sym::Movwf(ticks()),
+        goto(Label::Halt),
+    ];
+    let made = main_of(rt.alloc(), &given)?;
+    assert_eq!(rt; code_of(made.get(0)), &wanted[..]);
+    Ok(())
+}
+
+// Accesses of a static are events.
+#[test]
+fn statics_are_written_each_time(rt: HostRuntime) -> Result<(), AllocError> {
+    let given = [
+        load(1),
+        Sym::Movwf(ticks()),
+        Sym::Movwf(ticks()),
+        to_w(FileOperation::Movf, ticks()),
+        Sym::Clrf(ticks()),
+        goto(Label::Halt),
+    ];
+    let made = main_of(rt.alloc(), &given)?;
+    assert_eq!(rt; code_of(made.get(0)), &given[..]);
+    Ok(())
+}
+
+// What is stored in a loop is read at its front.
+#[test]
+fn what_is_read_behind_a_jump_back_is_stored(rt: HostRuntime) -> Result<(), AllocError> {
+    let given = [
+        load(1),
+        Sym::Movwf(temporary(0)),
+        Sym::Label(Label::Inner(0)),
+        to_w(FileOperation::Movf, temporary(0)),
+        Sym::Movwf(ticks()),
+        to_w(FileOperation::Movf, ticks()),
+        Sym::Movwf(temporary(0)),
+        Sym::Movwf(temporary(1)),
+        load(7),
+        Sym::Movwf(ticks()),
+        goto(Label::Inner(0)),
+    ];
+    let wanted = [
+        load(1),
+        Sym::Movwf(temporary(0)),
+        Sym::Label(Label::Inner(0)),
+        to_w(FileOperation::Movf, temporary(0)),
+        Sym::Movwf(ticks()),
+        to_w(FileOperation::Movf, ticks()),
+        Sym::Movwf(temporary(0)),
+        load(7),
+        Sym::Movwf(ticks()),
+        goto(Label::Inner(0)),
+    ];
+    let made = main_of(rt.alloc(), &given)?;
+    assert_eq!(rt; code_of(made.get(0)), &wanted[..]);
+    Ok(())
+}
+
+// The handler's temporaries are wanted no longer than it runs.
+#[test]
+fn a_handler_stores_no_constant(rt: HostRuntime) -> Result<(), AllocError> {
+    let alloc = rt.alloc();
+    let mut main = SymBlock::new(alloc, BlockName::Copy(0));
+    main.put(goto(Label::Halt))?;
+    let mut handler = SymBlock::new(alloc, BlockName::Copy(1));
+    put_list(
+        &mut handler,
+        &[
+            load(5),
+            Sym::Movwf(own(0)),
+            to_w(FileOperation::Movf, own(0)),
+            Sym::Movwf(ticks()),
+            goto(Label::Restore),
+        ],
+    )?;
+    let mut blocks = Vec::new(alloc);
+    blocks.push(main)?;
+    blocks.push(handler)?;
+    let made = lean(alloc, &blocks, Some(1), &placed(alloc)?)?;
+    let wanted = [load(5), Sym::Movwf(ticks()), goto(Label::Restore)];
+    assert_eq!(rt; code_of(made.get(0)), &[goto(Label::Halt)][..]);
+    assert_eq!(rt; code_of(made.get(1)), &wanted[..]);
+    Ok(())
+}
