@@ -205,7 +205,7 @@ fn what_is_read_behind_a_jump_back_is_stored(rt: HostRuntime) -> Result<(), Allo
 fn a_handler_stores_no_constant(rt: HostRuntime) -> Result<(), AllocError> {
     let alloc = rt.alloc();
     let mut main = SymBlock::new(alloc, BlockName::Copy(0));
-    main.put(goto(Label::Halt))?;
+    put_list(&mut main, &[goto(Label::Halt)])?;
     let mut handler = SymBlock::new(alloc, BlockName::Copy(1));
     put_list(
         &mut handler,
