@@ -5,7 +5,7 @@ use Rattle.std.proofs.lemmas.Option.{slice_get_within}
 use Rattle.std.specs.List.{list_all}
 use Rattle.std.specs.Option.{option_map, unwrap_or}
 use Rattle.std.specs.Prelude.{slice_get}
-use Rattle.c_typed.specs.Fits.{static_type, variable_type, is_named, returns_type, rule_holds, place_rule_holds, fits, place_fits}
+use Rattle.c_typed.specs.Fits.{static_type, variable_type, is_named, returns_type, rule_holds, place_rule_holds, fits, place_fits, Standing}
 use Rattle.c_typed.specs.Nodes.{total, statement_nodes, program_nodes}
 use Rattle.c_typed.specs.Sound.{target_fits, structure_fits, static_fits, param_fits, local_fits, result_fits, function_fits, is_sound, statements_fit}
 use Rattle.c_typed.specs.Trees as tree
@@ -13,7 +13,6 @@ use Rattle.c_typed.specs.Trees.{Expressions, StaticTree, VariableTree, FunctionT
 use Rattle.c_typed.specs.declared.expression.Object.TheVariants as object
 use Rattle.c_typed.specs.declared.program.Function.{Function}
 use Rattle.c_typed.specs.declared.program.Typed.{Typed}
-use Rattle.c_typed.specs.declared.standing.Standing.{Standing}
 use Rattle.c_typed.specs.declared.types.Qualified.{Qualified}
 use Rattle.c_typed.specs.declared.types.Ty.{Ty}
 

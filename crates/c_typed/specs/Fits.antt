@@ -11,12 +11,18 @@ use Rattle.c_typed.specs.Trees.{Expression, Expressions, Place, MemberTree, Vari
 use Rattle.c_typed.specs.Types.{type_of, place_type}
 use Rattle.c_typed.specs.declared.expression.Object.{Object}
 use Rattle.c_typed.specs.declared.expression.Object.TheVariants as object
-use Rattle.c_typed.specs.declared.standing.Standing.{Standing}
-use Rattle.c_typed.specs.declared.standing.Standing.TheVariants.{Used, Pointed, Indexed, Alone}
 use Rattle.c_typed.specs.declared.types.Qualified.{Qualified}
 use Rattle.c_typed.specs.declared.types.Ty.{Ty}
 use Rattle.c_typed.specs.declared.types.Ty.TheVariants.{Int, Array}
 use Rattle.pic_world.specs.Registers.{name_at}
+
+-- Where an expression stands, as far as the typing rules ask: where its value is used; after `*`, or as the address
+-- that an index makes; as an operand of a sum after `*`, where an index counts from; as a statement.
+pub data Standing : Type 0 where
+  Used : Standing
+  Pointed : Standing
+  Indexed : Standing
+  Alone : Standing
 
 -- A null constant: the constant 0, cast to a pointer type or not (6.2.2.3).
 unfoldable pub is_null : Expression → Bool

@@ -1,7 +1,7 @@
 -- Whether statements, functions, static objects and structures fit, and what makes a program sound.
 use Rattle.std.specs.Prelude.{ℕ, suc, ◌+◌, ◌-◌, ◌*◌, ◌^◌, ◌%◌, nat_eq, nat_lt, nat_le, ℤ, int_le, Bool, true, false, not, ◌&&◌, ◌||◌, if◌then◌else◌, List, [], ◌∷◌, length, Option, Some, None, is_some, slice_get}
 use Rattle.std.specs.List.{list_all}
-use Rattle.c_typed.specs.Fits.{source_of, goes_to, fits, place_fits}
+use Rattle.c_typed.specs.Fits.{source_of, goes_to, fits, place_fits, Used, Alone}
 use Rattle.c_typed.specs.Sameness.{same_type, is_void, is_array, is_struct, is_scalar, is_promoted, is_some_member, is_complete}
 use Rattle.c_typed.specs.Trees as tree
 use Rattle.c_typed.specs.Trees.{Expression, Place, Item, Statement, Statements, Arm, Arms, LastArm, VariableTree, StaticTree, FunctionTree, MemberTree, StructureTree, Program}
@@ -10,7 +10,6 @@ use Rattle.c_typed.specs.Words.{item_bytes}
 use Rattle.c_typed.specs.declared.program.Initial.{Initial}
 use Rattle.c_typed.specs.declared.program.InitialByte.{InitialByte}
 use Rattle.c_typed.specs.declared.program.InitialByte.TheVariants as initial
-use Rattle.c_typed.specs.declared.standing.Standing.TheVariants.{Used, Alone}
 use Rattle.c_typed.specs.declared.statement.LoopForm.{LoopForm}
 use Rattle.c_typed.specs.declared.statement.LoopForm.TheVariants.{While, Do, For}
 use Rattle.c_typed.specs.declared.statement.TCase.{TCase}

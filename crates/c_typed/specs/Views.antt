@@ -3,10 +3,6 @@ pub use Rattle.c_typed.specs.Shown.{arguments_of, expression_step, place_step, i
 unfoldable pub use Rattle.c_typed.specs.Shown.{expression_of, place_of, statement_of, arm_of}
 use Rattle.c_typed.specs.Trees.{Program}
 use Rattle.c_typed.specs.declared.program.Typed.{Typed}
-use Rattle.c_typed.specs.declared.tables.Tables.{Tables}
 
 abbrev pub program_of : Typed → Program
 program_of p = program_from p.targets.items p.structures.items p.statics.items p.functions.items
-
-abbrev pub tables_of : Tables → Program
-tables_of p = program_from p.targets.items p.structures.items p.statics.items p.functions.items

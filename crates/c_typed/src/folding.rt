@@ -2,11 +2,11 @@
 
 ghost use Rattle.std.specs.Prelude.{◌≡◌, IsFalse};
 ghost use Rattle.c_ints.specs.Conversions.{promoted};
+ghost use Rattle.c_ints.specs.Operators.{shifts};
 ghost use Rattle.c_typed.specs.Folding as stated;
 ghost use Rattle.c_typed.specs.Views.{expression_of};
 
 use crate::expression::{LogicalOp, TExpr};
-use crate::rules::is_shift;
 use crate::types::Ty;
 use c_ints::{BinOp, IntTy, UnOp, Value, apply, convert, promote, unary};
 
@@ -70,6 +70,15 @@ fn right_type(shifts: bool, left: IntTy, right: IntTy) -> IntTy
         promote(right)
     } else {
         promote(left)
+    }
+}
+
+fn is_shift(op: BinOp) -> bool
+    ensures { result ≡ shifts op }
+{
+    match op {
+        BinOp::Shl | BinOp::Shr => true,
+        _ => false,
     }
 }
 

@@ -1,27 +1,20 @@
 //! The typed tree of a C program: what the checker makes, and what all passes after it take.
 //!
-//! In: the tables of a program. Out: the program, if they fit; its types, sizes, constants and counts.
+//! In: the tables of a program that fit one another. Out: its types, sizes, constants and counts.
 //! The promise: each ends on every tree; types, forms of places and integer constant expressions are those that specs/
 //! defines, and `Typed::nodes` is the count of nodes that it defines, by recursion on the tree. A `Typed` is sound, as
 //! specs/Sound.antt says: what a node names is there with its declared type, the typing rules hold at each node, and
-//! nodes, static objects, parameters and locals are together at most 2 to the 28. `Typed::new` makes one exactly where
-//! that is so.
+//! nodes, static objects, parameters and locals are together at most 2 to the 28. Whoever makes one shows that.
 #![tactic(auto)]
 
 mod calls;
 mod expression;
-mod fits;
 mod folding;
 mod nodes;
 mod program;
-mod rules;
 mod sameness;
-mod sound;
-mod standing;
 mod statement;
-mod tables;
 mod types;
-mod whole;
 
 pub use calls::{FnId, Helper, int_helper};
 pub use expression::{LogicalOp, Object, PlaceForm, StepOp, TExpr, TPlace};

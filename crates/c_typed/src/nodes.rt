@@ -1,10 +1,10 @@
 //! How many nodes a typed tree has.
 
 ghost use Rattle.std.specs.Prelude.{◌≡◌, ◌+◌, map};
-ghost use Rattle.c_typed.specs.Nodes.{capped, total, expression_nodes, place_nodes, any_nodes, item_nodes, statement_nodes, arm_nodes, last_nodes, function_nodes, program_nodes, variables, program_size};
+ghost use Rattle.c_typed.specs.Nodes.{capped, total, expression_nodes, place_nodes, any_nodes, item_nodes, statement_nodes, arm_nodes, last_nodes, function_nodes, program_nodes};
 
 use crate::expression::{TExpr, TPlace};
-use crate::program::{Function, Static, Typed};
+use crate::program::{Function, Typed};
 use crate::statement::{TArm, TItem, TStmt};
 
 // Counts add up to the greatest number there is, and no further.
@@ -204,32 +204,6 @@ fn nodes_in_functions(functions: &[Function]) -> u64
         count = plus(count, nodes_in_function(function));
     }
     count
-}
-
-fn variables_of(function: &Function) -> u64
-    ensures { result ≡ capped (variables function.now) }
-{
-    plus(function.params.len() as u64, function.locals.len() as u64)
-}
-
-fn variables_in_functions(functions: &[Function]) -> u64
-    ensures { result ≡ capped (total (map variables functions.now)) }
-{
-    let mut count = 0;
-    for function in functions {
-        count = plus(count, variables_of(function));
-    }
-    count
-}
-
-/// How many nodes, static objects, parameters and locals a program of these has.
-pub(crate) fn size_of_program(statics: &[Static], functions: &[Function]) -> u64
-    ensures { result ≡ capped (program_size statics.now functions.now) }
-{
-    plus(
-        plus(nodes_in_functions(functions), statics.len() as u64),
-        variables_in_functions(functions),
-    )
 }
 
 impl Typed {

@@ -99,9 +99,9 @@ pub enum Core {
     /// The operation again and again.
     Loop(Box<Core>),
     /// Leaves the loop that is so many loops out, 0 for the innermost.
-    Exit(u8),
+    Exit(usize),
     /// Begins the loop that is so many loops out again.
-    Again(u8),
+    Again(usize),
 }
 
 /// The code of a function copy, by the copy's number.

@@ -184,24 +184,6 @@ pub fn put_leave(out: &mut Vec<Core>) -> Result<(), AllocError>
     put(out, Core::Leave)
 }
 
-/// Leaves the loop that is so many loops out.
-#[inline(never)]
-#[tactic(auto, using(core_code::proofs::Views::tree_exit))]
-pub fn put_exit(out: &mut Vec<Core>, loops: u8) -> Result<(), AllocError>
-    ensures { OnOk result (Appends out.old.items out.new.items (code.Exit loops ∷ [])) }
-{
-    put(out, Core::Exit(loops))
-}
-
-/// Begins the loop that is so many loops out again.
-#[inline(never)]
-#[tactic(auto, using(core_code::proofs::Views::tree_again))]
-pub fn put_again(out: &mut Vec<Core>, loops: u8) -> Result<(), AllocError>
-    ensures { OnOk result (Appends out.old.items out.new.items (code.Again loops ∷ [])) }
-{
-    put(out, Core::Again(loops))
-}
-
 /// Several operations as one.
 #[inline(never)]
 #[tactic(auto, using(core_code::proofs::Views::tree_many))]

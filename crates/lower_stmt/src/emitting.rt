@@ -1,6 +1,6 @@
 //! Choices and jumps.
 
-ghost use Rattle.std.specs.Prelude.{◌≡◌, [], ◌∷◌, IfOk, OnOk};
+ghost use Rattle.std.specs.Prelude.{◌≡◌, [], ◌∷◌, OnOk};
 ghost use Rattle.core_code.specs.Tree as core;
 ghost use Rattle.core_code.specs.View.{tree_of, trees_in};
 ghost use Rattle.lower_expr.specs.Puts.{Appends, test_size};
@@ -42,31 +42,20 @@ pub fn put_choice(
     )
 }
 
-// An accepted program has no loop further out than 255: statements nest at most 255 deep, and each segment of a switch has a
-// case, whose words are counted.
-fn depth(loops: usize) -> Result<u8, AllocError>
-    ensures { IfOk result (λ fitting. fitting ≡ loops) }
-{
-    match u8::try_from(loops) {
-        Ok(loops) => Ok(loops),
-        Err(_) => Err(AllocError),
-    }
-}
-
 /// The operation that leaves the loop so many loops out.
 #[tactic(auto, using(core_code::proofs::Views::tree_exit))]
-pub fn exit(loops: usize) -> Result<Core, AllocError>
-    ensures { IfOk result (λ op. tree_of op ≡ core.Exit loops) }
+pub fn exit(loops: usize) -> Core
+    ensures { tree_of result ≡ core.Exit loops }
 {
-    Ok(Core::Exit(depth(loops)?))
+    Core::Exit(loops)
 }
 
 /// The operation that begins the loop so many loops out again.
 #[tactic(auto, using(core_code::proofs::Views::tree_again))]
-pub fn again(loops: usize) -> Result<Core, AllocError>
-    ensures { IfOk result (λ op. tree_of op ≡ core.Again loops) }
+pub fn again(loops: usize) -> Core
+    ensures { tree_of result ≡ core.Again loops }
 {
-    Ok(Core::Again(depth(loops)?))
+    Core::Again(loops)
 }
 
 /// Adds all of this code.

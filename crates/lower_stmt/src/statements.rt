@@ -59,9 +59,9 @@ fn put_continue(jumps: Jumps, out: &mut Vec<Core>) -> Result<(), AllocError>
     ensures { OnOk result (Appends out.old.items out.new.items (code.continue_code jumps)) }
 {
     if jumps.again {
-        put(out, again(jumps.turn)?)
+        put(out, again(jumps.turn))
     } else {
-        put(out, exit(jumps.turn)?)
+        put(out, exit(jumps.turn))
     }
 }
 
@@ -69,7 +69,7 @@ fn put_continue(jumps: Jumps, out: &mut Vec<Core>) -> Result<(), AllocError>
 fn put_break(jumps: Jumps, out: &mut Vec<Core>) -> Result<(), AllocError>
     ensures { OnOk result (Appends out.old.items out.new.items (code.break_code jumps)) }
 {
-    put(out, exit(jumps.leave)?)
+    put(out, exit(jumps.leave))
 }
 
 #[inline(never)]

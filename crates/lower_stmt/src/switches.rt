@@ -56,7 +56,7 @@ fn put_leading(
     ensures { OnOk result (Appends out.old.items out.new.items (switches.leading test segment)) }
 {
     let no = Core::Many(Vec::new(alloc));
-    put_choice(alloc, test, 2, exit(segment)?, no, out)
+    put_choice(alloc, test, 2, exit(segment), no, out)
 }
 
 // One comparison of the value, which has so many bytes, with a label.
@@ -122,7 +122,7 @@ pub fn put_comparisons(
 {
     let ty = operation_type(value.ty());
     put_cases(site, ty, value_bytes(site, value), found, cases, out)?;
-    put(out, exit(otherwise_segment(found, count, default))?)
+    put(out, exit(otherwise_segment(found, count, default)))
 }
 
 #[inline(never)]

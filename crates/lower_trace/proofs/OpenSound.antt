@@ -4,14 +4,12 @@ use Rattle.std.proofs.Common.{◌≡◌, ℕ, ◌⊎◌, inl, inr, Bool, true, f
 use Rattle.std.proofs.lemmas.Bool.{and_parts, false≢true, or_cases}
 use Rattle.c_ints.specs.declared.operators.BinOp.{BinOp}
 use Rattle.c_ints.specs.declared.operators.BinOp.TheVariants as binop
-use Rattle.c_typed.specs.Fits.{array_reach, arguments_fit, first_reach, fits, if_array, is_alone, is_indexed, is_local_name, is_memory, is_reached, member_at, operand_standing, place_fits, place_rule_holds, reached_by, rule_holds}
+use Rattle.c_typed.specs.Fits.{array_reach, arguments_fit, first_reach, fits, if_array, is_alone, is_indexed, is_local_name, is_memory, is_reached, member_at, operand_standing, place_fits, place_rule_holds, reached_by, rule_holds, Standing, Used, Pointed, Indexed, Alone}
 use Rattle.c_typed.specs.Rules.{address_fits, assign_fits, copy_fits, deref_fits, is_start, is_writable, member_fits, moves, offset_fits, start_fits}
 use Rattle.c_typed.specs.Sameness.{element_of, is_index, is_pointer, is_the, part_of, pointed, same_flag, same_type}
 use Rattle.c_typed.specs.Trees as tree
 use Rattle.c_typed.specs.Trees.{Expression, Expressions, FunctionTree, MemberTree, Place, Program, VariableTree}
 use Rattle.c_typed.specs.Types.{place_type, type_of}
-use Rattle.c_typed.specs.declared.standing.Standing.{Standing}
-use Rattle.c_typed.specs.declared.standing.Standing.TheVariants.{Used, Pointed, Indexed, Alone}
 use Rattle.c_typed.specs.declared.types.Qualified.{Qualified}
 use Rattle.c_typed.specs.declared.types.Ty.{Ty}
 use Rattle.c_typed.specs.declared.types.Ty.TheVariants as types

@@ -1,5 +1,5 @@
 -- Which operations are byte-sized.
-use Rattle.std.specs.Prelude.{ℕ, ◌+◌, min, Bool, true, false, ◌&&◌, nat_lt, nat_le}
+use Rattle.std.specs.Prelude.{ℕ, ◌+◌, ◌-◌, ◌^◌, min, Bool, true, false, ◌&&◌, nat_lt, nat_le}
 use Rattle.c_ints.specs.declared.types.IntTy.{IntTy}
 use Rattle.c_ints.specs.Range.{bytes_of}
 use Rattle.core_code.specs.Tree.{Tree, Trees, Set, Address, Copy, Load, Store, Unary, Binary, Convert, BitRead, BitWrite, Call, Leave, Many, If, Loop, Exit, Again, NoTree, AndTree}
@@ -8,9 +8,9 @@ use Rattle.core_code.specs.Tree.{Tree, Trees, Set, Address, Copy, Load, Store, U
 abbrev pub is_cut : IntTy → IntTy → Bool
 is_cut from to = nat_le (bytes_of to) (bytes_of from)
 
--- in one loop more. Operations can name 256 loops
+-- in one loop more, as far as a number of 64 bits counts
 abbrev pub deeper : ℕ → ℕ
-deeper loops = min (loops + 1) 256
+deeper loops = min (loops + 1) (2 ^ 64 - 1)
 
 -- an operation that stands in so many loops
 abbrev mutual

@@ -70,10 +70,9 @@ fn put_call(copy: u16, out: &mut SymBlock) -> Result<(), AllocError>
 
 // Where the loop that is so many loops out begins, by what stood before it: the innermost loop is the last.
 #[tactic(auto, using(crate::proofs::Parts::from_back, crate::proofs::Parts::past_back))]
-fn loop_out(loops: &[usize], count: u8) -> Option<usize>
+fn loop_out(loops: &[usize], count: usize) -> Option<usize>
     ensures { result ≡ slice_get (reverse loops.now) count }
 {
-    let count = usize::from(count);
     if count < loops.len() {
         Some(loops[loops.len() - 1 - count])
     } else {

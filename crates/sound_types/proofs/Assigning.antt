@@ -8,12 +8,11 @@ use Rattle.c_ints.specs.Operators.{compares}
 use Rattle.c_ints.specs.declared.operators.BinOp.{BinOp}
 use Rattle.c_ints.specs.declared.operators.BinOp.TheVariants as binop
 use Rattle.c_ints.specs.declared.types.IntTy.{IntTy}
-use Rattle.c_typed.specs.Fits.{is_null}
+use Rattle.c_typed.specs.Fits.{is_null, Used}
 use Rattle.c_typed.specs.Rules.{moves, moves_by, integer_update_fits}
 use Rattle.c_typed.specs.Sameness.{same_int, same_type}
 use Rattle.c_typed.specs.Trees.{Program}
 use Rattle.c_typed.specs.Types.{type_of}
-use Rattle.c_typed.specs.declared.standing.Standing.TheVariants.{Used}
 use Rattle.c_typed.specs.declared.types.Qualified.{Qualified}
 use Rattle.c_typed.specs.declared.types.Ty.{Ty}
 use Rattle.c_typed.specs.declared.types.Ty.TheVariants.{Int, Pointer}

@@ -5,12 +5,11 @@ use Rattle.std.proofs.lemmas.Bool.{and_from}
 use Rattle.std.proofs.lemmas.Option.{same_Some}
 use Rattle.c_ints.specs.declared.operators.BinOp.TheVariants as binop
 use Rattle.c_ints.specs.declared.types.IntTy.{IntTy}
-use Rattle.c_typed.specs.Fits.{is_null, fits, rule_holds}
+use Rattle.c_typed.specs.Fits.{is_null, fits, rule_holds, Used, Pointed, Indexed}
 use Rattle.c_typed.specs.Rules.{offset_fits}
 use Rattle.c_typed.specs.Trees as tree
 use Rattle.c_typed.specs.Trees.{Expression, FunctionTree, Program}
 use Rattle.c_typed.specs.Types.{type_of}
-use Rattle.c_typed.specs.declared.standing.Standing.TheVariants.{Used, Pointed, Indexed}
 use Rattle.c_typed.specs.declared.types.Qualified.{Qualified}
 use Rattle.c_typed.specs.declared.types.Ty.{Ty}
 use Rattle.c_typed.specs.declared.types.Ty.TheVariants.{Int, Pointer}

@@ -16,13 +16,12 @@ use Rattle.c_tree.specs.Kinds.{is_punct, is_key}
 use Rattle.c_tree.specs.Trees as tree
 use Rattle.c_tree.specs.Trees.{Tree, Post, Pre, TypeTree, SpecTrees, MoreSpecs, SpecTree}
 use Rattle.c_tree.specs.Words.{Symbol, Symbols}
-use Rattle.c_typed.specs.Fits.{is_null, is_no_register, place_fits, place_rule_holds}
+use Rattle.c_typed.specs.Fits.{is_null, is_no_register, place_fits, place_rule_holds, Used}
 use Rattle.c_typed.specs.Rules.{is_zero}
 use Rattle.c_typed.specs.Sound.{is_changeable}
 use Rattle.c_typed.specs.Trees as typed
 use Rattle.c_typed.specs.Trees.{FunctionTree, Program}
 use Rattle.c_typed.specs.declared.expression.Object.{Object}
-use Rattle.c_typed.specs.declared.standing.Standing.TheVariants.{Used}
 use Rattle.c_typed.specs.declared.types.Qualified.{Qualified}
 use Rattle.c_typed.specs.declared.types.Ty.{Ty}
 use Rattle.c_typed.specs.declared.types.Ty.TheVariants.{Void, Int, Pointer}

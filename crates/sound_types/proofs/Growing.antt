@@ -4,7 +4,7 @@ use Rattle.std.specs.Prelude.{slice_get}
 use Rattle.c_typed.specs.Sound.{kept}
 use Rattle.c_typed.specs.Trees.{Expression, Place, FunctionTree, Program}
 use Rattle.c_typed.specs.Types.{type_of, place_type}
-use Rattle.c_typed.specs.declared.standing.Standing.{Standing}
+use Rattle.c_typed.specs.Fits.{Standing}
 use Rattle.c_typed.specs.declared.types.Qualified.{Qualified}
 use Rattle.c_typed.specs.declared.types.Ty.{Ty}
 use Rattle.c_typed.specs.declared.types.Ty.TheVariants.{Void, Int, Pointer, Array, Struct}

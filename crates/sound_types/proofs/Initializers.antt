@@ -10,13 +10,12 @@ use Rattle.c_ints.specs.declared.types.IntTy.TheVariants as int
 use Rattle.c_tree.specs.Programs.{InitTree, MoreInits}
 use Rattle.c_tree.specs.Programs as tree
 use Rattle.c_tree.specs.Words.{Symbol}
-use Rattle.c_typed.specs.Fits.{place_fits}
+use Rattle.c_typed.specs.Fits.{place_fits, Used}
 use Rattle.c_typed.specs.Folding.{folded}
 use Rattle.c_typed.specs.declared.folding.Folded.{Folded}
 use Rattle.c_typed.specs.Sameness.{same_type, is_array, is_struct, is_scalar}
 use Rattle.c_typed.specs.Sound.{item_start, value_fits, item_fits, is_changeable, kept}
 use Rattle.c_typed.specs.declared.program.Initial.{Initial}
-use Rattle.c_typed.specs.declared.standing.Standing.TheVariants.{Used}
 use Rattle.c_typed.specs.Trees as typed
 use Rattle.c_typed.specs.Trees.{Expression, Place, Item, FunctionTree, Program}
 use Rattle.c_typed.specs.Types.{type_of, place_type, type_bytes}

@@ -4,14 +4,12 @@ use Rattle.std.specs.Prelude.{slice_get}
 use Rattle.std.proofs.lemmas.Bool.{and_from, false≢true}
 use Rattle.c_ints.specs.declared.operators.BinOp.{BinOp}
 use Rattle.c_ints.specs.declared.types.IntTy.{IntTy}
-use Rattle.c_typed.specs.Fits.{is_converted, reached_by, array_reach, first_reach, fits, rule_holds}
+use Rattle.c_typed.specs.Fits.{is_converted, reached_by, array_reach, first_reach, fits, rule_holds, Standing, Used}
 use Rattle.c_typed.specs.Rules.{binary_fits, offset_fits, difference_fits}
 use Rattle.c_typed.specs.Sameness.{same_type, is_pointer}
 use Rattle.c_typed.specs.Trees as tree
 use Rattle.c_typed.specs.Trees.{Expression, FunctionTree, Program}
 use Rattle.c_typed.specs.Types.{type_of}
-use Rattle.c_typed.specs.declared.standing.Standing.{Standing}
-use Rattle.c_typed.specs.declared.standing.Standing.TheVariants.{Used}
 use Rattle.c_typed.specs.declared.types.Qualified.{Qualified}
 use Rattle.c_typed.specs.declared.types.Ty.{Ty}
 use Rattle.c_typed.specs.declared.types.Ty.TheVariants.{Int, Pointer}

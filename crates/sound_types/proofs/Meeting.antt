@@ -2,7 +2,7 @@
 use Rattle.std.proofs.Common.{◌≡◌, ℕ, Bool, true, false, not, ◌&&◌, ◌||◌, if◌then◌else◌, List, [], ◌∷◌, map, Some, None, is_some, refl, sym, ap, ap₂, ◌∙◌, true≢false}
 use Rattle.std.specs.Prelude.{slice_get}
 use Rattle.std.proofs.lemmas.Bool.{and_parts, or_left, or_right, false≢true}
-use Rattle.c_typed.specs.Fits.{source, keeps_from, source_of, is_converted, is_null, fits, rule_holds}
+use Rattle.c_typed.specs.Fits.{source, keeps_from, source_of, is_converted, is_null, fits, rule_holds, Used}
 use Rattle.c_typed.specs.Rules.{may_meet, keeps}
 use Rattle.c_typed.specs.Sameness.{same_type, is_void, is_int, is_pointer, is_scalar, pointed, is_some_member, members_in}
 use Rattle.c_typed.specs.Sameness.{is_complete as is_whole}
@@ -10,7 +10,6 @@ use Rattle.c_typed.specs.Sound.{value_fits}
 use Rattle.c_typed.specs.Trees as tree
 use Rattle.c_typed.specs.Trees.{Expression, FunctionTree, Program, StructureTree}
 use Rattle.c_typed.specs.Types.{type_of, type_bytes}
-use Rattle.c_typed.specs.declared.standing.Standing.TheVariants.{Used}
 use Rattle.c_typed.specs.declared.types.Qualified.{Qualified}
 use Rattle.c_typed.specs.declared.types.Ty.{Ty}
 use Rattle.c_typed.specs.declared.types.Ty.TheVariants.{Void, Int, Pointer, Array, Struct}

@@ -11,14 +11,13 @@ use Rattle.c_ints.specs.declared.types.IntTy.{IntTy}
 use Rattle.c_token.specs.declared.token.Punct.TheVariants as marks
 use Rattle.c_token.specs.declared.token.TokKind.{TokKind}
 use Rattle.c_token.specs.declared.token.TokKind.TheVariants as kinds
-use Rattle.c_typed.specs.Fits.{is_null, is_converted, source, source_of, is_side, reached_by, array_reach, fits, rule_holds}
+use Rattle.c_typed.specs.Fits.{is_null, is_converted, source, source_of, is_side, reached_by, array_reach, fits, rule_holds, Used}
 use Rattle.c_typed.specs.Rules.{unary_fits, cast_fits}
 use Rattle.c_typed.specs.Sameness.{same_int, same_type, is_void, is_int, is_pointer, is_scalar, is_promoted}
 use Rattle.c_typed.specs.Trees as tree
 use Rattle.c_typed.specs.Trees.{Expression, FunctionTree, Program}
 use Rattle.c_typed.specs.Types.{type_of}
 use Rattle.c_typed.specs.declared.expression.LogicalOp.{LogicalOp}
-use Rattle.c_typed.specs.declared.standing.Standing.TheVariants.{Used}
 use Rattle.c_typed.specs.declared.types.Qualified.{Qualified}
 use Rattle.c_typed.specs.declared.types.Ty.{Ty}
 use Rattle.c_typed.specs.declared.types.Ty.TheVariants.{Void, Int, Pointer, Array, Struct}

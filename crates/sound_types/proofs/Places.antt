@@ -7,7 +7,7 @@ use Rattle.std.proofs.lemmas.Option.{same_Some}
 use Rattle.c_ints.specs.Range.{cut}
 use Rattle.c_ints.specs.declared.types.IntTy.{IntTy}
 use Rattle.c_ints.specs.declared.types.IntTy.TheVariants as int
-use Rattle.c_typed.specs.Fits.{is_converted, is_memory, is_reached, reached_by, array_reach, is_indexed, leads_fits, member_at, fits, place_fits, rule_holds, place_rule_holds, if_array}
+use Rattle.c_typed.specs.Fits.{is_converted, is_memory, is_reached, reached_by, array_reach, is_indexed, leads_fits, member_at, fits, place_fits, rule_holds, place_rule_holds, if_array, Standing, Used, Pointed, Indexed}
 use Rattle.c_typed.specs.Rules.{address_fits, start_fits, is_start, member_fits, deref_fits}
 use Rattle.c_typed.specs.Sameness.{same_type, same_flag, is_array, pointed, element_of, part_of, is_the, members_in}
 use Rattle.c_typed.specs.Sameness.{is_complete as is_whole}
@@ -15,8 +15,6 @@ use Rattle.c_typed.specs.Sound.{is_changeable, kept}
 use Rattle.c_typed.specs.Trees as tree
 use Rattle.c_typed.specs.Trees.{Expression, Place, FunctionTree, MemberTree, Program}
 use Rattle.c_typed.specs.Types.{type_of, place_type}
-use Rattle.c_typed.specs.declared.standing.Standing.{Standing}
-use Rattle.c_typed.specs.declared.standing.Standing.TheVariants.{Used, Pointed, Indexed}
 use Rattle.c_typed.specs.declared.types.Qualified.{Qualified}
 use Rattle.c_typed.specs.declared.types.Ty.{Ty}
 use Rattle.c_typed.specs.declared.types.Ty.TheVariants.{Void, Int, Pointer, Array, Struct}

@@ -3,14 +3,12 @@ use Rattle.std.proofs.Common.{◌≡◌, Bool, true, false, not, ◌&&◌, ◌||
 use Rattle.std.proofs.lemmas.Bool.{and_parts, and_from, or_right, false≢true}
 use Rattle.c_ints.specs.declared.operators.BinOp.{BinOp}
 use Rattle.c_ints.specs.declared.operators.BinOp.TheVariants as binop
-use Rattle.c_typed.specs.Fits.{is_memory, is_reached, is_local_name, is_alone, is_indexed, leads_fits, operand_standing, fits, place_fits, rule_holds}
+use Rattle.c_typed.specs.Fits.{is_memory, is_reached, is_local_name, is_alone, is_indexed, leads_fits, operand_standing, fits, place_fits, rule_holds, Standing, Used, Pointed, Indexed, Alone}
 use Rattle.c_typed.specs.Rules.{address_fits, is_start, is_writable, offset_fits, copy_fits}
 use Rattle.c_typed.specs.Sameness.{is_pointer, is_struct, same_type, element_of}
 use Rattle.c_typed.specs.Trees as tree
 use Rattle.c_typed.specs.Trees.{Expression, Place, FunctionTree, Program}
 use Rattle.c_typed.specs.Types.{type_of, place_type, type_bytes}
-use Rattle.c_typed.specs.declared.standing.Standing.{Standing}
-use Rattle.c_typed.specs.declared.standing.Standing.TheVariants.{Used, Pointed, Indexed, Alone}
 use Rattle.c_typed.specs.declared.types.Qualified.{Qualified}
 use Rattle.c_typed.specs.declared.types.Ty.{Ty}
 use Rattle.c_typed.specs.declared.types.Ty.TheVariants.{Void, Int, Pointer, Array, Struct}

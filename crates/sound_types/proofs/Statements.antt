@@ -13,13 +13,12 @@ use Rattle.c_ints.specs.declared.types.IntTy.{IntTy}
 use Rattle.c_tree.specs.Programs as tree
 use Rattle.c_tree.specs.Programs.{ConditionTree, HeadTree, LabelTree, StatementTree, BlockTree, Statements, ArmTree, Arms, Items}
 use Rattle.c_tree.specs.Trees.{Tree}
-use Rattle.c_typed.specs.Fits.{fits, is_null}
+use Rattle.c_typed.specs.Fits.{fits, is_null, Used}
 use Rattle.c_typed.specs.Sameness.{same_type, is_void, is_scalar, is_promoted}
 use Rattle.c_typed.specs.Sound.{any_fits, condition_fits, any_condition_fits, value_fits, loop_fits, default_fits, same_number, is_label, cases_fit, count_of, switch_rule, statement_fits, statements_fit, arm_fits, arms_fit, last_fits}
 use Rattle.c_typed.specs.Trees as typed
 use Rattle.c_typed.specs.Trees.{Expression, Statement, VariableTree, FunctionTree, Program}
 use Rattle.c_typed.specs.Types.{type_of}
-use Rattle.c_typed.specs.declared.standing.Standing.TheVariants.{Used}
 use Rattle.c_typed.specs.declared.statement.LoopForm.{LoopForm}
 use Rattle.c_typed.specs.declared.statement.LoopForm.TheVariants as loops
 use Rattle.c_typed.specs.declared.statement.TCase.{TCase}

@@ -11,7 +11,7 @@ use Rattle.c_token.specs.declared.token.Punct.{Punct}
 use Rattle.c_token.specs.declared.token.Punct.TheVariants as marks
 use Rattle.c_token.specs.declared.token.TokKind.{TokKind}
 use Rattle.c_token.specs.declared.token.TokKind.TheVariants as kinds
-use Rattle.c_typed.specs.Fits.{is_converted, reached_by, array_reach, goes_to, source_of, returns_type, params_of, fits, place_fits, arguments_fit, rule_holds, is_null}
+use Rattle.c_typed.specs.Fits.{is_converted, reached_by, array_reach, goes_to, source_of, returns_type, params_of, fits, place_fits, arguments_fit, rule_holds, is_null, Used}
 use Rattle.c_typed.specs.Rules.{is_writable, assign_fits, copy_fits, update_fits, step_fits, integer_update_fits, integer_step_fits, moves, moves_by}
 use Rattle.c_typed.specs.Rules.{counts_in as counts}
 use Rattle.c_typed.specs.Sameness.{same_int, same_type, is_array, is_struct, pointed}
@@ -20,7 +20,6 @@ use Rattle.c_typed.specs.Trees as tree
 use Rattle.c_typed.specs.Trees.{Expression, Expressions, Place, VariableTree, FunctionTree, Program}
 use Rattle.c_typed.specs.Types.{type_of, place_type, type_bytes}
 use Rattle.c_typed.specs.declared.expression.StepOp.{StepOp}
-use Rattle.c_typed.specs.declared.standing.Standing.TheVariants.{Used}
 use Rattle.c_typed.specs.declared.types.Qualified.{Qualified}
 use Rattle.c_typed.specs.declared.types.Ty.{Ty}
 use Rattle.c_typed.specs.declared.types.Ty.TheVariants.{Void, Int, Pointer, Array, Struct}

@@ -1,12 +1,10 @@
 -- What is known of expressions, places and operands that were judged: their types are there, and they fit in each program that begins with the tables.
 use Rattle.std.specs.Prelude.{◌≡◌, ℕ, Bool, true, false, not, ◌||◌, ◌⊎◌, Option, Some, None, slice_get}
-use Rattle.c_typed.specs.Fits.{is_null, is_converted, is_memory, is_reached, reached_by, array_reach, is_indexed, fits, place_fits}
+use Rattle.c_typed.specs.Fits.{is_null, is_converted, is_memory, is_reached, reached_by, array_reach, is_indexed, fits, place_fits, Standing, Used}
 use Rattle.c_typed.specs.Sameness.{is_pointer, is_array}
 use Rattle.c_typed.specs.Sound.{is_changeable, value_fits}
 use Rattle.c_typed.specs.Trees.{Expression, Place, FunctionTree, Program}
 use Rattle.c_typed.specs.Types.{type_of, place_type}
-use Rattle.c_typed.specs.declared.standing.Standing.{Standing}
-use Rattle.c_typed.specs.declared.standing.Standing.TheVariants.{Used}
 use Rattle.c_typed.specs.declared.types.Qualified.{Qualified}
 use Rattle.c_typed.specs.declared.types.Ty.{Ty}
 use Rattle.c_typed.specs.declared.types.Ty.TheVariants.{Pointer}

@@ -9,7 +9,7 @@ use Rattle.c_typed.specs.Trees.{Expression, Expressions, Place, Item, Statement,
 use Rattle.c_typed.specs.Types.{type_of}
 use Rattle.c_typed.specs.Views.{program_of}
 use Rattle.c_typed.specs.declared.program.Typed.{Typed}
-use Rattle.source_room.proofs.NodeCounts.{program_counts}
+use Rattle.c_typed.proofs.NodeCounts.{program_counts}
 use Rattle.source_room.specs.Depth.{expression_depth, arguments_depth, place_depth, any_depth, item_depth, items_depth, statement_depth, body_depth, arm_depth, arms_depth, last_depth, function_depth, functions_depth, most_entries, deepest_of, deepest_function}
 
 mutual

@@ -4,6 +4,5 @@ pub mod Shallow
 pub mod Ways
 pub mod Chains
 pub mod Seen
-pub mod NodeCounts
 pub mod Few
 pub mod Enough

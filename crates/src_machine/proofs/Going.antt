@@ -25,7 +25,7 @@ use Rattle.src_machine.specs.declared.machine.SrcEnd.TheVariants as ends
 use Rattle.src_machine.specs.declared.machine.Taker.{Taker}
 use Rattle.src_memory.specs.Seen.{events_of, outside_by}
 use Rattle.src_memory.specs.Shown.{address_of}
-use Rattle.source_room.proofs.NodeCounts.{few_nodes, few_functions}
+use Rattle.c_typed.proofs.NodeCounts.{few_nodes, few_functions}
 use Rattle.src_rules.proofs.Changes.{events_count}
 use Rattle.src_rules.proofs.Moments.{steps}
 use Rattle.src_rules.specs.Runs.{gone, is_ready, is_taken, ready, take}

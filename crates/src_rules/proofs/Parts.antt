@@ -7,15 +7,13 @@ use Rattle.std.specs.List.{Contains}
 use Rattle.std.specs.Prelude.{slice_get}
 use Rattle.c_typed.specs.Calls.{calls, place_calls, arguments_calls, helper_calls, helper_for, difference_helper}
 use Rattle.c_typed.specs.Chains.{graph_of, Calls}
-use Rattle.c_typed.specs.Fits.{source_of, keeps_from, goes_to, returns_type, params_of, no_params, operand_standing, rule_holds, place_rule_holds, fits, place_fits, arguments_fit}
+use Rattle.c_typed.specs.Fits.{source_of, keeps_from, goes_to, returns_type, params_of, no_params, operand_standing, rule_holds, place_rule_holds, fits, place_fits, arguments_fit, Standing, Used, Pointed}
 use Rattle.c_typed.specs.Sameness.{same_type, is_scalar}
 use Rattle.c_typed.specs.Trees as tree
 use Rattle.c_typed.specs.Trees.{Expression, Expressions, Place, Item, Statement, Statements, Arm, Arms, LastArm, VariableTree, FunctionTree, Program}
 use Rattle.c_typed.specs.Types.{type_of, is_constant}
 use Rattle.c_typed.specs.declared.calls.FnId.{FnId}
 use Rattle.c_typed.specs.declared.calls.FnId.TheVariants.{User}
-use Rattle.c_typed.specs.declared.standing.Standing.{Standing}
-use Rattle.c_typed.specs.declared.standing.Standing.TheVariants.{Used, Pointed}
 use Rattle.c_typed.specs.declared.types.Ty.{Ty}
 use Rattle.src_rules.proofs.Values.{same_type_is}
 use Rattle.src_rules.specs.Numbers.{HasNumbers, AllHaveNumbers, PlaceHasNumbers}

@@ -1,7 +1,7 @@
 -- The code of locals that are given values takes at most its stated words.
 use Rattle.std.proofs.Common.{◌≡◌, ℕ, zero, suc, ◌+◌, ◌-◌, ◌*◌, ◌≤◌, ◌<◌, Bool, true, false, ◌&&◌, ◌||◌, min, nat_le, nat_lt, nat_eq, if◌then◌else◌, List, [], ◌∷◌, ◌++◌, slice_index, refl, sym, ap, subst, leb-true, arith}
 use Rattle.std.proofs.lemmas.Bool.{ltb-true, ltb-false, leb-false}
-use Rattle.c_typed.specs.Fits.{source_of, goes_to, fits, place_fits}
+use Rattle.c_typed.specs.Fits.{source_of, goes_to, fits, place_fits, Used}
 use Rattle.c_typed.specs.Sameness.{is_struct}
 use Rattle.c_typed.specs.Sound.{item_start, item_fits, lies_within, items_fit}
 use Rattle.c_typed.specs.Trees as tree
@@ -9,7 +9,6 @@ use Rattle.c_typed.specs.Trees.{Expression, Place, Item, VariableTree, FunctionT
 use Rattle.c_typed.specs.Types.{type_bytes, type_of, value_bytes, place_type, form_of}
 use Rattle.c_typed.specs.Words.{words, place_words, struct_words, item_words, items_words, item_bytes, items_bytes}
 use Rattle.c_typed.specs.declared.expression.PlaceForm.TheVariants as form
-use Rattle.c_typed.specs.declared.standing.Standing.TheVariants.{Used}
 use Rattle.call_graph.specs.declared.types.FnCopy.{FnCopy}
 use Rattle.core_code.specs.Tree as core
 use Rattle.core_code.specs.Tree.{Tree}

@@ -1,15 +1,13 @@
 -- The code of an expression takes at most its stated words.
 use Rattle.std.proofs.Common.{◌≡◌, ℕ, ◌+◌, ◌≤◌, Bool, true, false, ◌&&◌, List, [], ◌∷◌, ◌++◌, slice_get, refl, ap, arith}
 use Rattle.c_ints.specs.Range.{bytes_of}
-use Rattle.c_typed.specs.Fits.{goes_to, source_of, rule_holds, place_rule_holds, params_of, operand_standing, fits, place_fits, arguments_fit}
+use Rattle.c_typed.specs.Fits.{goes_to, source_of, rule_holds, place_rule_holds, params_of, operand_standing, fits, place_fits, arguments_fit, Standing, Used, Pointed}
 use Rattle.c_typed.specs.Folding.{bits, constant_bits}
 use Rattle.c_typed.specs.Trees as tree
 use Rattle.c_typed.specs.Trees.{Expression, Expressions, Place, VariableTree, FunctionTree, Program}
 use Rattle.c_typed.specs.Types.{type_of, is_constant, form_of}
 use Rattle.c_typed.specs.Words.{words, place_words, arguments_words, difference_words, offset_words, member_words}
 use Rattle.c_typed.specs.declared.expression.PlaceForm.{PlaceForm}
-use Rattle.c_typed.specs.declared.standing.Standing.{Standing}
-use Rattle.c_typed.specs.declared.standing.Standing.TheVariants.{Used, Pointed}
 use Rattle.call_graph.specs.declared.types.FnCopy.{FnCopy}
 use Rattle.core_code.specs.Tree.{Tree}
 use Rattle.core_code.specs.declared.code.Byte.TheVariants as bytes

@@ -4,7 +4,7 @@ use Rattle.c_ints.specs.Range.{bytes_of}
 use Rattle.c_ints.specs.declared.operators.UnOp.{UnOp}
 use Rattle.c_ints.specs.declared.operators.UnOp.TheVariants as unop
 use Rattle.c_typed.specs.Calls.{calls, place_calls, arguments_calls, helper_calls, helper_for, difference_helper}
-use Rattle.c_typed.specs.Fits.{goes_to, source_of, params_of, operand_standing, rule_holds, place_rule_holds, member_at, fits, place_fits, arguments_fit, is_alone, is_local_name}
+use Rattle.c_typed.specs.Fits.{goes_to, source_of, params_of, operand_standing, rule_holds, place_rule_holds, member_at, fits, place_fits, arguments_fit, is_alone, is_local_name, Standing, Used, Pointed}
 use Rattle.c_typed.specs.Folding.{bits, constant_bits}
 use Rattle.c_typed.specs.Room.{unary_room, room, place_room, arguments_room}
 use Rattle.c_typed.specs.Rules.{point_alike, counts_in, copy_fits, assign_fits, is_writable, member_fits, deref_fits}
@@ -13,8 +13,6 @@ use Rattle.c_typed.specs.Trees as tree
 use Rattle.c_typed.specs.Trees.{Expression, Expressions, Place, VariableTree, FunctionTree, Program}
 use Rattle.c_typed.specs.Types.{type_bytes, value_bytes, type_of, place_type, is_constant}
 use Rattle.c_typed.specs.declared.calls.FnId.TheVariants as callee
-use Rattle.c_typed.specs.declared.standing.Standing.{Standing}
-use Rattle.c_typed.specs.declared.standing.Standing.TheVariants.{Used, Pointed}
 use Rattle.c_typed.specs.declared.types.Qualified.{Qualified}
 use Rattle.core_code.specs.declared.code.Byte.TheVariants as bytes
 use Rattle.lower_expr.specs.Bytes.{beyond}

@@ -5,7 +5,7 @@ use Rattle.std.specs.List.{list_all}
 use Rattle.c_ints.specs.declared.types.IntTy.TheVariants as int
 use Rattle.c_ints.specs.declared.operators.UnOp.{UnOp}
 use Rattle.c_ints.specs.declared.operators.UnOp.TheVariants as unop
-use Rattle.c_typed.specs.Fits.{source_of, goes_to, keeps_from, is_memory, is_reached, leads_fits, sides_fit, is_side, is_indexed, rule_holds, member_at, fits, place_fits}
+use Rattle.c_typed.specs.Fits.{source_of, goes_to, keeps_from, is_memory, is_reached, leads_fits, sides_fit, is_side, is_indexed, rule_holds, member_at, fits, place_fits, Standing, Used}
 use Rattle.c_typed.specs.Room.{room, unary_room}
 use Rattle.c_typed.specs.Rules.{is_start, unary_fits, choice_fits, assign_fits, is_writable, integer_update_fits, moves_by, moves, integer_step_fits, counts_in, member_fits}
 use Rattle.c_typed.specs.Sameness.{same_type, same_flag, is_scalar, is_plain_int, is_promoted, is_pointer, is_void, is_complete, is_the, pointed, element_of, members_in}
@@ -13,8 +13,6 @@ use Rattle.c_typed.specs.Sound.{type_is_there, kept, has_bytes, members_fit, str
 use Rattle.c_typed.specs.Trees as tree
 use Rattle.c_typed.specs.Trees.{Expression, Place, MemberTree, StructureTree, VariableTree, StaticTree, FunctionTree, Program}
 use Rattle.c_typed.specs.Types.{type_bytes, value_bytes, type_of, place_type}
-use Rattle.c_typed.specs.declared.standing.Standing.{Standing}
-use Rattle.c_typed.specs.declared.standing.Standing.TheVariants.{Used}
 use Rattle.c_typed.specs.declared.types.Qualified.{Qualified}
 use Rattle.c_typed.specs.declared.types.Ty.{Ty}
 use Rattle.c_typed.specs.declared.types.Ty.TheVariants.{Void, Int, Pointer, Array, Struct}

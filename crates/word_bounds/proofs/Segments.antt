@@ -4,14 +4,13 @@ use Rattle.c_ints.specs.Range.{bytes_of, pattern}
 use Rattle.c_ints.specs.declared.operators.BinOp.TheVariants.{Eq}
 use Rattle.c_ints.specs.declared.types.IntTy.{IntTy}
 use Rattle.c_ints.specs.declared.types.IntTy.TheVariants as int
-use Rattle.c_typed.specs.Fits.{fits}
+use Rattle.c_typed.specs.Fits.{fits, Used}
 use Rattle.c_typed.specs.Sameness.{is_promoted}
 use Rattle.c_typed.specs.Sound.{any_condition_fits, any_fits}
 use Rattle.c_typed.specs.Sameness.{is_scalar}
 use Rattle.c_typed.specs.Trees.{Expression, FunctionTree, Program}
 use Rattle.c_typed.specs.Types.{type_bytes, type_of, value_bytes}
 use Rattle.c_typed.specs.Words.{words, any_words, condition_words, cases_words}
-use Rattle.c_typed.specs.declared.standing.Standing.TheVariants.{Used}
 use Rattle.c_typed.specs.declared.statement.TCase.{TCase}
 use Rattle.c_typed.specs.declared.types.Ty.{Ty}
 use Rattle.c_typed.specs.declared.types.Ty.TheVariants.{Void, Int, Pointer, Array, Struct}

@@ -6,7 +6,7 @@ use Rattle.c_ints.specs.declared.operators.BinOp.{BinOp}
 use Rattle.c_ints.specs.declared.operators.BinOp.TheVariants as binop
 use Rattle.c_ints.specs.declared.types.IntTy.{IntTy}
 use Rattle.c_ints.specs.declared.types.IntTy.TheVariants as int
-use Rattle.c_typed.specs.Fits.{place_rule_holds, declared_type, is_named, is_open, names_local, is_device, register_type, variable_type, static_type, member_at, fits, place_fits}
+use Rattle.c_typed.specs.Fits.{place_rule_holds, declared_type, is_named, is_open, names_local, is_device, register_type, variable_type, static_type, member_at, fits, place_fits, Pointed}
 use Rattle.c_typed.specs.Room.{address_bytes, place_room}
 use Rattle.c_typed.specs.Rules.{binary_fits, integers_fit, point_alike, offset_fits, moves, counts_in, member_fits, deref_fits}
 use Rattle.c_typed.specs.Sameness.{same_type, same_flag, same_qualified, is_scalar, is_promoted, is_index, is_complete, pointed}
@@ -18,7 +18,6 @@ use Rattle.c_typed.specs.declared.calls.FnId.{FnId}
 use Rattle.c_typed.specs.declared.calls.FnId.TheVariants as callee
 use Rattle.c_typed.specs.declared.expression.Object.{Object}
 use Rattle.c_typed.specs.declared.expression.Object.TheVariants as object
-use Rattle.c_typed.specs.declared.standing.Standing.TheVariants.{Pointed}
 use Rattle.c_typed.specs.declared.types.Qualified.{Qualified}
 use Rattle.c_typed.specs.declared.types.Ty.{Ty}
 use Rattle.c_typed.specs.declared.types.Ty.TheVariants.{Void, Int, Pointer, Array, Struct}

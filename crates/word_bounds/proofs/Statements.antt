@@ -1,14 +1,13 @@
 -- The code of a statement takes at most its stated words.
 use Rattle.std.proofs.Common.{◌≡◌, ℕ, zero, suc, ◌+◌, ◌-◌, ◌*◌, Bool, true, false, ◌&&◌, if◌then◌else◌, List, [], ◌∷◌, ◌++◌, map, Option, Some, None, is_some, slice_get, slice_index, refl, sym, ap, ◌∙◌, arith}
 use Rattle.std.proofs.lemmas.Option.{none-some, same_Some}
-use Rattle.c_typed.specs.Fits.{fits, goes_to, source_of}
+use Rattle.c_typed.specs.Fits.{fits, goes_to, source_of, Used, Alone}
 use Rattle.c_typed.specs.Sameness.{is_promoted, is_scalar}
 use Rattle.c_typed.specs.Sound.{any_fits, condition_fits, any_condition_fits, first_value_fits, has_parts, items_fit, list_fits, loop_fits, cases_fit, default_fits, count_of, return_fits, switch_rule, is_some_arm, statement_fits, statements_fit, arm_fits, arms_fit, last_fits}
 use Rattle.c_typed.specs.Trees as tree
 use Rattle.c_typed.specs.Trees.{Expression, Item, Statement, Statements, Arm, Arms, LastArm, VariableTree, FunctionTree, Program}
 use Rattle.c_typed.specs.Types.{type_bytes, type_of, value_bytes}
 use Rattle.c_typed.specs.Words.{words, any_words, any_bytes, condition_words, items_words, items_bytes, cases_words, variable_bytes, statement_words, statements_words, arm_words, arms_words, last_words}
-use Rattle.c_typed.specs.declared.standing.Standing.TheVariants.{Used, Alone}
 use Rattle.c_typed.specs.declared.statement.TCase.{TCase}
 use Rattle.c_typed.specs.declared.statement.LoopForm.{LoopForm}
 use Rattle.c_typed.specs.declared.statement.LoopForm.TheVariants.{While, Do, For}

@@ -1,7 +1,7 @@
 use Rattle.std.proofs.Common.{◌<◌, ◌≤◌, ℕ, ◌+◌, ◌*◌, ap, sym, ◌∙◌, arith}
 use Rattle.std.proofs.lemmas.Nat.{mul-le}
 use Rattle.run_compare.proofs.searching.steps_at.Goals as goal
-use Rattle.source_room.proofs.NodeCounts.{few_nodes, program_counts}
+use Rattle.c_typed.proofs.NodeCounts.{few_nodes, program_counts}
 
 small : (moment nodes : ℕ) → moment < 2147483648 → nodes ≤ 268435456 → (moment + 1) * nodes ≤ 576460752303423488
 small moment nodes l k = mul-le (moment + 1) nodes 2147483648 268435456 (omega (arith, l)) k

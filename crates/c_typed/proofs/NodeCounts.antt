@@ -162,7 +162,7 @@ unfolding pure.statement_nodes
 body_counts [] = refl
 body_counts (t ∷ ts) = let h = statement_counts t in let i = body_counts ts in omega arith
 
-functions_count : (fs : List Function) → functions_nodes (map function_of fs) ≡ program_nodes fs
+pub functions_count : (fs : List Function) → functions_nodes (map function_of fs) ≡ program_nodes fs
 functions_count [] = refl
 functions_count (f ∷ fs) = let h = body_counts f.body.items in let i = functions_count fs in omega arith
 
