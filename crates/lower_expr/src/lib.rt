@@ -22,7 +22,7 @@ pub use bytes::{behind, beyond, byte_at, frame_byte, is_wider, number_type, oper
 pub use expression::{lower_address, lower_expr};
 pub use places::{Locals, Spot, bytes_of_place, bytes_of_value, fixed_byte, spot_of, width};
 pub use puts::{
-    put, put_address, put_call, put_convert, put_copies, put_copy, put_if, put_leave, put_loop, put_many,
-    put_number, put_operator, put_set, put_zeros,
+    put, put_address, put_call, put_convert, put_copies, put_copy, put_if, put_leave, put_loop,
+    put_many, put_number, put_operator, put_set, put_zeros,
 };
 pub use structures::lower_struct_to;

@@ -19,7 +19,11 @@ pub(crate) fn is_cut(from: IntTy, to: IntTy) -> bool
 fn deeper(loops: usize) -> usize
     ensures { result ≡ deeper loops }
 {
-    if loops < usize::MAX { loops + 1 } else { usize::MAX }
+    if loops < usize::MAX {
+        loops + 1
+    } else {
+        usize::MAX
+    }
 }
 
 // Whether an operation that stands in so many loops is byte-sized: it acts on single bytes, or is control whose parts are
