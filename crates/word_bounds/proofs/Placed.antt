@@ -192,11 +192,11 @@ helpers_roomy p copies memory root frames none h d e =
     subst (λ (o : Option ℕ). HasBytes o (helpers.frame_bytes h)) (sym room) (omega (arith, same))
 
 -- ---- the bank of a frame
-abbrev frame_or : Option FrameLine → FrameRange
+abbrev pub frame_or : Option FrameLine → FrameRange
 frame_or None = no_frame
 frame_or (Some line) = frame_of line
 
-frame_there : (lines : List FrameLine) (c : ℕ) → slice_index_or (map frame_of lines) c no_frame ≡ frame_or (slice_get lines c)
+pub frame_there : (lines : List FrameLine) (c : ℕ) → slice_index_or (map frame_of lines) c no_frame ≡ frame_or (slice_get lines c)
 frame_there [] c = refl
 frame_there (line ∷ lines) zero = refl
 frame_there (line ∷ lines) (suc c) = frame_there lines c

@@ -9,7 +9,7 @@ use Rattle.c_typed.specs.declared.calls.Helper.TheVariants.{Mul2, Mul4, Divu2, D
 use Rattle.call_graph.specs.declared.types.FnCopy.{FnCopy}
 use Rattle.core_code.specs.declared.code.Byte.TheVariants as bytes
 use Rattle.math_helpers.specs.Layouts.{bytes_of, operand_at}
-use Rattle.math_helpers.specs.Pieces.{to_w, from_w, on_flag, mark, jump, back, carry_flag, zero_flag, right_byte, step_code, each_byte}
+use Rattle.math_helpers.specs.Pieces.{to_w, from_w, on_bit, on_flag, mark, jump, back, carry_flag, zero_flag, right_byte, step_code, each_byte}
 use Rattle.math_helpers.specs.Routines.{each, rounds_code, round_end_code, product_code, negate_if_code, take_off_code, divide_code, part_value, sign_code, magnitudes_code, division_code, signed_division_code, one_bit_code, shift_code, task_code, width_of, task_of, helper_code}
 use Rattle.math_helpers.specs.declared.division.Part.{Part}
 use Rattle.math_helpers.specs.declared.division.Part.TheVariants as part
@@ -27,7 +27,7 @@ use Rattle.ram_place.specs.Helpers as helpers
 use Rattle.ram_place.specs.Sizes.{frame_bytes}
 use Rattle.sym_code.specs.declared.code.BitOperation.{BitOperation}
 use Rattle.sym_code.specs.declared.code.BitOperation.TheVariants.{Bcf, Bsf, Btfsc, Btfss}
-use Rattle.sym_code.specs.declared.code.FileOperation.TheVariants.{Incfsz}
+use Rattle.sym_code.specs.declared.code.FileOperation.TheVariants.{Incfsz, Rlf}
 use Rattle.sym_code.specs.declared.code.Operand.{Operand}
 use Rattle.sym_code.specs.declared.code.Sym.{Sym}
 use Rattle.word_bounds.specs.Naming.{Memory, HasBytes, Lies, OperandLies, SymLies, SymsLie}
@@ -113,11 +113,14 @@ module _ (memory : Memory) (l : RoutineLayout) where
       (each_lies step.Add (right, answer))) (record { is = (tt, tt) })) (round_end_lies value.Spare 0 spare)) (record { is = (tt, tt) })
 
   negate_lies : (sign : Operand) (v : Value) (label : ℕ) → OperandLies memory sign → Held v → Lie memory (negate_if_code l sign v label)
-  negate_lies sign v label h held = joined (joined (joined (record { is = (h, (tt, tt)) }) (each_lies (step.Invert v) held)) (each_lies (step.Increment v) held)) (record { is = (tt, tt) })
+  negate_lies sign v label h held =
+      let front : Lie memory (on_bit Btfss sign 7 ∷ jump label ∷ []) = record { is = (h, (tt, tt)) } in
+      joined (joined (joined front (each_lies (step.Invert v) held)) (each_lies (step.Increment v) held)) (record { is = (tt, tt) })
 
   take_off_lies : Held value.Right → Held value.Remainder → Lie memory (take_off_code l)
   take_off_lies right remainder =
-      joined (joined (joined (joined (record { is = (tt, (tt, tt)) }) (each_lies step.Compare (right, remainder))) (record { is = (tt, (tt, (tt, tt))) })) (each_lies step.Subtract (right, remainder))) (record { is = (tt, (tt, tt)) })
+      let front : Lie memory (on_flag Btfsc carry_flag ∷ jump 1 ∷ []) = record { is = (tt, (tt, tt)) } in
+      joined (joined (joined (joined front (each_lies step.Compare (right, remainder))) (record { is = (tt, (tt, (tt, tt))) })) (each_lies step.Subtract (right, remainder))) (record { is = (tt, (tt, tt)) })
 
   divide_lies : Held value.Left → Held value.Right → Held value.Remainder → OperandLies memory (operand_at l value.Spare 0) → Lie memory (divide_code l)
   divide_lies left right remainder spare =
@@ -146,9 +149,9 @@ module _ (memory : Memory) (l : RoutineLayout) where
       (negate_lies (operand_at l value.Spare 1) (part_value p) 5 sign (part_held p left remainder))) (each_lies (step.Answer (part_value p)) (part_held p left remainder, answer))) (record { is = (tt, tt) })
 
   one_bit_lies : (d : Direction) → Held value.Answer → Lie memory (one_bit_code l d)
-  one_bit_lies direction.Left answer = joined (record { is = (tt, tt) }) (each_lies (step.ShiftLeft value.Answer) answer)
-  one_bit_lies direction.Right answer = joined (record { is = (tt, tt) }) (each_lies step.ShiftRight answer)
-  one_bit_lies direction.SignedRight answer = joined (record { is = (top_lies value.Answer answer, tt) }) (each_lies step.ShiftRight answer)
+  one_bit_lies direction.Left answer = let front : Lie memory (on_flag Bcf carry_flag ∷ []) = record { is = (tt, tt) } in joined front (each_lies (step.ShiftLeft value.Answer) answer)
+  one_bit_lies direction.Right answer = let front : Lie memory (on_flag Bcf carry_flag ∷ []) = record { is = (tt, tt) } in joined front (each_lies step.ShiftRight answer)
+  one_bit_lies direction.SignedRight answer = let front : Lie memory (to_w Rlf (operand_at l value.Answer (bytes_of l.width - 1)) ∷ []) = record { is = (top_lies value.Answer answer, tt) } in joined front (each_lies step.ShiftRight answer)
 
   shift_lies : (d : Direction) → Held value.Left → Held value.Right → Held value.Answer → Lie memory (shift_code l d)
   shift_lies d left right answer =

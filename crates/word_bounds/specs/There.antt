@@ -1,5 +1,5 @@
 -- That blocks name bytes alone that are there, and that these have addresses where objects and frames are placed.
-use Rattle.std.specs.Prelude.{◌≡◌, ℕ, ◌≤◌, List, [], ◌∷◌, length, map, slice_get, option_map, Option, IsSome}
+use Rattle.std.specs.Prelude.{◌≡◌, ℕ, ◌<◌, ◌≤◌, List, [], ◌∷◌, length, map, slice_get, option_map, Option, Some, IsSome}
 use Rattle.std.specs.Global.{Global}
 use Rattle.std.specs.declared.vec.Vec.{Vec}
 use Rattle.c_typed.specs.Trees.{StaticTree, FunctionTree, Program}
@@ -7,8 +7,12 @@ use Rattle.c_typed.specs.Types.{type_bytes}
 use Rattle.c_typed.specs.declared.calls.FnId.TheVariants as callee
 use Rattle.c_typed.specs.declared.calls.Helper.{Helper}
 use Rattle.call_graph.specs.declared.types.FnCopy.{FnCopy}
-use Rattle.code_place.specs.Addresses.{file_address}
+use Rattle.code_place.specs.Addresses.{address_of, file_address}
+use Rattle.code_place.specs.Layouts.{layout_of}
 use Rattle.code_place.specs.Places.{HasLiteral}
+use Rattle.bank_page.specs.Kinds.{byte_of}
+use Rattle.core_code.specs.declared.code.Byte.{Byte}
+use Rattle.core_code.specs.declared.code.Byte.TheVariants as bytes
 use Rattle.core_code.specs.declared.code.FirstByte.{FirstByte}
 use Rattle.isr_save.specs.Start.{start_code}
 use Rattle.lower_stmt.specs.Bodies.{first_bytes}
@@ -19,6 +23,7 @@ use Rattle.pic_map.specs.declared.Placed.{Placed}
 use Rattle.pic_world.specs.declared.Root.{Root}
 use Rattle.ram_place.specs.Placement.{IsPlacing}
 use Rattle.ram_place.specs.Sizes.{frame_bytes}
+use Rattle.sym_code.specs.Layout.{frame}
 use Rattle.sym_code.specs.declared.code.Sym.{Sym}
 use Rattle.sym_code.specs.declared.code.Sym.TheVariants as syms
 use Rattle.sym_code.specs.declared.code.SymBlock.{SymBlock}
@@ -62,3 +67,19 @@ HaveOperands placed (s ∷ list) = HasOperand placed s × HaveOperands placed li
 -- What is there has an address where objects and frames are placed.
 abbrev pub PlacedHaveAddresses : Type 0
 PlacedHaveAddresses = (p : Program) (copies : List FnCopy) (placed : Placed) (list : List Sym) → IsPlacing p copies (map object_of placed.objects.items) (map frame_of placed.frames.items) → SymsLie (memory_of p copies) list → HaveOperands placed list
+
+-- a byte of a frame is one of its bytes
+abbrev pub IsInside : Placed → Byte → Type 0
+IsInside placed (bytes.Frame copy offset) = offset < (frame (layout_of placed) copy).size
+IsInside placed (bytes.Static object offset) = Unit {0}
+IsInside placed (bytes.Result r k) = Unit {0}
+IsInside placed (bytes.Device address) = Unit {0}
+
+-- each byte that needs a bank has an address, and stands within its frame
+abbrev pub StandInside : Placed → List Sym → Type 0
+StandInside placed [] = Unit {0}
+StandInside placed (s ∷ list) = ((byte : Byte) → byte_of s ≡ Some byte → ((at : ℕ) × (address_of placed byte ≡ Some at)) × IsInside placed byte) × StandInside placed list
+
+-- So it is with what is there, where objects and frames are placed.
+abbrev pub PlacedStandInside : Type 0
+PlacedStandInside = (p : Program) (copies : List FnCopy) (placed : Placed) (list : List Sym) → IsPlacing p copies (map object_of placed.objects.items) (map frame_of placed.frames.items) → SymsLie (memory_of p copies) list → StandInside placed list

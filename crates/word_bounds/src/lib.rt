@@ -7,7 +7,7 @@
 #![tactic(auto)]
 
 ghost use Rattle.word_bounds.specs.Bounds.{BlocksAreBare, BlocksKeepWithin, CalledHaveCopies, ProgramsKeepSizes, SelectsAreCounted, WordsAreStated};
-ghost use Rattle.word_bounds.specs.There.{BlocksKeepThere, PlacedHaveAddresses, RoutinesKeepThere, StartKeepsThere};
+ghost use Rattle.word_bounds.specs.There.{BlocksKeepThere, PlacedHaveAddresses, PlacedStandInside, RoutinesKeepThere, StartKeepsThere};
 
 /// What is answered for a block without selects has at most the words that are counted for it: two selects for each byte in a bank,
 /// jump and call, and none for a byte of the copy's own frame behind another one. The block that is selected for a lowered body has no
@@ -23,6 +23,7 @@ pub fn words_are_bounded()
     ensures routines { RoutinesKeepThere }
     ensures start { StartKeepsThere }
     ensures places { PlacedHaveAddresses }
+    ensures inside { PlacedStandInside }
     ensures stated { WordsAreStated }
     ensures called { CalledHaveCopies }
 {}

@@ -4,7 +4,7 @@ use Rattle.word_bounds.proofs.Copied.{called_have_copies}
 use Rattle.word_bounds.proofs.Placed.{programs_keep_sizes}
 use Rattle.word_bounds.proofs.Routines.{routines_keep_there}
 use Rattle.word_bounds.proofs.Starting.{start_keeps_there}
-use Rattle.word_bounds.proofs.There.{placed_have_addresses}
+use Rattle.word_bounds.proofs.There.{placed_have_addresses, placed_stand_inside}
 use Rattle.word_bounds.proofs.words_are_bounded.Goals as goal
 
 pub returns-clause-counted : goal.returns-clause-counted
@@ -36,3 +36,6 @@ returns-clause-start c = start_keeps_there
 
 pub returns-clause-places : goal.returns-clause-places
 returns-clause-places c = placed_have_addresses
+
+pub returns-clause-inside : goal.returns-clause-inside
+returns-clause-inside c = placed_stand_inside
