@@ -1,7 +1,7 @@
 -- What the instructions of a program's blocks name has an address: block by block, and whatever selects stand among them.
-use Rattle.std.proofs.Common.{◌≡◌, ℕ, zero, suc, ◌+◌, ◌<◌, ◌≤◌, Bool, true, false, not, if◌then◌else◌, List, [], ◌∷◌, map, length, Some, None, refl, sym, ap, ◌∙◌, subst, arith}
+use Rattle.std.proofs.Common.{◌≡◌, ℕ, zero, suc, ◌+◌, ◌<◌, ◌≤◌, Bool, true, false, not, if◌then◌else◌, List, [], ◌∷◌, map, length, get_or, Some, None, refl, sym, ap, ◌∙◌, subst, arith}
 use Rattle.std.specs.Prelude.{slice_get}
-use Rattle.std.proofs.lemmas.Option.{slice_get_within}
+use Rattle.std.proofs.lemmas.Option.{slice_get_within, slice_get-get_or}
 use Rattle.c_typed.specs.Roots.{broken_root}
 use Rattle.c_typed.specs.Sound.{is_sound}
 use Rattle.c_typed.specs.Trees.{Program}
@@ -39,12 +39,12 @@ use Rattle.bank_page.specs.Selected.{bare_lists}
 use Rattle.word_bounds.proofs.Placed.{programs_keep_sizes}
 use Rattle.word_bounds.proofs.Routines.{routines_keep_there}
 use Rattle.word_bounds.proofs.Starting.{start_keeps_there}
-use Rattle.word_bounds.proofs.There.{placed_have_addresses}
+use Rattle.word_bounds.proofs.There.{placed_have_addresses, placed_stand_inside}
 use Rattle.word_bounds.proofs.Whole.{blocks_keep_there}
 use Rattle.word_bounds.specs.Bounds.{IsBlockOf}
 use Rattle.word_bounds.specs.Naming.{SymsLie}
 use Rattle.word_bounds.specs.There.{memory_of, HasOperand, HaveOperands}
-use Rattle.image_links.specs.Addressed.{BlocksHaveOperands, OperandsHaveAddresses, SelectsKeepOperands}
+use Rattle.image_links.specs.Addressed.{BlocksHaveOperands, BlocksStandInside, OperandsHaveAddresses, SelectsKeepOperands}
 use Rattle.image_links.specs.Passed.{code_of}
 use Rattle.image_links.proofs.Blocks.{is_of}
 use Rattle.image_links.proofs.Bounded.{has_at}
@@ -164,8 +164,10 @@ module _ (typed : Typed) (copies : List FnCopy) (core : CoreProgram) (given : Li
       let z : 0 + o.place ≡ o.place = omega arith in
       copy_there (0 + o.place) o.copy (ap (slice_get copies) z ∙ o.there) g (ap (λ (v : BlockName × List Sym). v.1) o.is) o.copy.function refl
 
-  all_addressed : BlocksHaveOperands placed given
-  all_addressed k g is = placed_have_addresses p copies placed g.list.items placing (block_there k g is)
+  all_addressed : BlocksHaveOperands placed given × BlocksStandInside placed given
+  all_addressed = (λ k g is. placed_have_addresses p copies placed g.list.items placing (block_there k g is), λ k d l.
+  let g = get_or given k d in
+  placed_stand_inside p copies placed g.list.items placing (block_there k g (slice_get-get_or given k d l)))
 
 pub operands_have_addresses : OperandsHaveAddresses
 operands_have_addresses typed copies core given placed sound roots numbers bodies joined has placing statics few = all_addressed typed copies core given placed sound roots numbers bodies joined has placing statics few
