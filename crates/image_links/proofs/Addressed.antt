@@ -164,10 +164,13 @@ module _ (typed : Typed) (copies : List FnCopy) (core : CoreProgram) (given : Li
       let z : 0 + o.place ≡ o.place = omega arith in
       copy_there (0 + o.place) o.copy (ap (slice_get copies) z ∙ o.there) g (ap (λ (v : BlockName × List Sym). v.1) o.is) o.copy.function refl
 
+  block_inside : BlocksStandInside placed given
+  block_inside k d l =
+      let g = get_or given k d in
+      placed_stand_inside p copies placed g.list.items placing (block_there k g (slice_get-get_or given k d l))
+
   all_addressed : BlocksHaveOperands placed given × BlocksStandInside placed given
-  all_addressed = (λ k g is. placed_have_addresses p copies placed g.list.items placing (block_there k g is), λ k d l.
-  let g = get_or given k d in
-  placed_stand_inside p copies placed g.list.items placing (block_there k g (slice_get-get_or given k d l)))
+  all_addressed = (λ k g is. placed_have_addresses p copies placed g.list.items placing (block_there k g is), block_inside)
 
 pub operands_have_addresses : OperandsHaveAddresses
 operands_have_addresses typed copies core given placed sound roots numbers bodies joined has placing statics few = all_addressed typed copies core given placed sound roots numbers bodies joined has placing statics few

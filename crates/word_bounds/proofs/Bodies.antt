@@ -7,7 +7,7 @@ use Rattle.c_typed.specs.Room.{room, any_room, local_room, item_room, items_room
 use Rattle.c_typed.specs.Sameness.{same_type, is_scalar, is_promoted, is_struct}
 use Rattle.c_typed.specs.Sound.{any_fits, condition_fits, any_condition_fits, first_value_fits, item_start, item_fits, lies_within, has_parts, items_fit, list_fits, loop_fits, cases_fit, default_fits, count_of, return_fits, switch_rule, is_some_arm, statement_fits, statements_fit, arm_fits, arms_fit, last_fits}
 use Rattle.c_typed.specs.Trees as tree
-use Rattle.c_typed.specs.Trees.{Expression, Place, Item, Statement, Statements, Arm, Arms, LastArm, VariableTree, FunctionTree, Program}
+use Rattle.c_typed.specs.Trees.{Expression, Item, Statement, Statements, Arm, Arms, LastArm, VariableTree, FunctionTree, Program}
 use Rattle.c_typed.specs.Types.{type_bytes, value_bytes, type_of, place_type}
 use Rattle.c_typed.specs.Words.{item_bytes, variable_bytes}
 use Rattle.c_typed.specs.declared.statement.LoopForm.{LoopForm}
@@ -24,7 +24,7 @@ use Rattle.lower_expr.specs.Rows.{struct_row}
 use Rattle.lower_expr.specs.Spots.{spot_of, pointer_bytes}
 use Rattle.lower_expr.specs.declared.places.Spot.TheVariants.{Fixed}
 use Rattle.lower_stmt.specs.Declarators.{scalar_code, text_code, item_code, items_code, is_covered, rest_code, list_code}
-use Rattle.lower_stmt.specs.Ground.{Ground, first, temporary, local_byte, local_bytes, result_byte, value_code, effect_code}
+use Rattle.lower_stmt.specs.Ground.{Ground, first, temporary, local_byte, local_bytes, result_byte, value_code}
 use Rattle.lower_stmt.specs.Ground as ground
 use Rattle.lower_stmt.specs.Jumps.{in_segment}
 use Rattle.lower_stmt.specs.Labels.{labels_of, has, segments_before}

@@ -1,5 +1,5 @@
 -- The code of an operation names bytes alone that are there, where those that the operation names are, with those behind them.
-use Rattle.std.proofs.Common.{◌≡◌, ℕ, zero, suc, ◌+◌, ◌-◌, ◌/◌, ◌%◌, ◌≤◌, ◌<◌, Bool, true, false, cond, ◌&&◌, nat_eq, min, ltb, if◌then◌else◌, List, [], ◌∷◌, ◌++◌, length, Option, Some, None, option_map, refl, sym, ◌∙◌, subst, eq-eqb, arith}
+use Rattle.std.proofs.Common.{◌≡◌, ℕ, zero, suc, ◌+◌, ◌-◌, ◌/◌, ◌%◌, ◌≤◌, ◌<◌, Bool, true, false, cond, ◌&&◌, nat_eq, min, ltb, if◌then◌else◌, List, [], ◌∷◌, ◌++◌, length, Option, Some, None, option_map, refl, subst, arith}
 use Rattle.std.proofs.lemmas.Bool.{ltb-true, leb-false}
 use Rattle.std.proofs.lemmas.Option.{none-some, same_Some}
 use Rattle.pic_world.specs.declared.Root.{Root}
@@ -18,7 +18,7 @@ use Rattle.call_graph.specs.declared.types.FnCopy.{FnCopy}
 use Rattle.core_code.specs.Bytes.{same_byte}
 use Rattle.core_code.specs.Operands.{number_left}
 use Rattle.core_code.specs.Tree as code
-use Rattle.core_code.specs.Tree.{Tree, Trees, list_of, trees_of}
+use Rattle.core_code.specs.Tree.{Tree, Trees, list_of}
 use Rattle.core_code.specs.declared.code.Byte.{Byte}
 use Rattle.core_code.specs.declared.code.Byte.TheVariants as bytes
 use Rattle.sym_code.specs.declared.code.BitOperation.{BitOperation}
@@ -28,7 +28,6 @@ use Rattle.sym_code.specs.declared.code.FileOperation.TheVariants.{Movf, Andwf, 
 use Rattle.sym_code.specs.declared.code.Into.{Into}
 use Rattle.sym_code.specs.declared.code.Into.TheVariants.{W, File}
 use Rattle.sym_code.specs.declared.code.Label.{Label}
-use Rattle.sym_code.specs.declared.code.Operand.TheVariants as operands
 use Rattle.sym_code.specs.declared.code.Register.TheVariants.{Fsr, Indf}
 use Rattle.sym_code.specs.declared.code.Sym.{Sym}
 use Rattle.ram_place.specs.Helpers.{frame_bytes}
@@ -470,7 +469,7 @@ module _ (memory : Memory) where
 
       in_write : (at register bit : ℕ) (from : Byte) → Lies memory 1 from → AreIn (bit_write_code at register bit from)
       in_write at register bit from h =
-              ((in_bit Btfss from 0 h).0, (tt, ((in_bit Bsf (bytes.Device register) (bit % 8) tt).0, (tt, (tt, ((in_bit Bcf (bytes.Device register) (bit % 8) tt).0, (tt, tt)))))))
+          ((in_bit Btfss from 0 h).0, (tt, ((in_bit Bsf (bytes.Device register) (bit % 8) tt).0, (tt, (tt, ((in_bit Bcf (bytes.Device register) (bit % 8) tt).0, (tt, tt)))))))
 
       in_convert : (from to : IntTy) (at : Byte) (cut : Bool) → is_cut from to ≡ cut → Lies memory (bytes_of to) at → AreIn (cond cut [] (widening_code from to at))
       in_convert from to at true e h = tt

@@ -1,16 +1,14 @@
 -- A helper's routine names bytes alone that are there.
-use Rattle.std.proofs.Common.{◌≡◌, ℕ, zero, suc, ◌+◌, ◌-◌, ◌*◌, ◌<◌, ◌≤◌, Bool, true, false, if◌then◌else◌, List, [], ◌∷◌, ◌++◌, Option, Some, slice_get, option_map, refl, sym, ap, ◌∙◌, subst, arith}
+use Rattle.std.proofs.Common.{◌≡◌, ℕ, zero, suc, ◌+◌, ◌-◌, ◌*◌, ◌<◌, ◌≤◌, Bool, true, false, if◌then◌else◌, List, [], ◌∷◌, ◌++◌, Option, Some, option_map, sym, ap, ◌∙◌, subst, arith}
 use Rattle.std.specs.Prelude.{◌==◌}
-use Rattle.c_typed.specs.Trees.{Program}
 use Rattle.c_typed.specs.declared.calls.FnId.{FnId}
-use Rattle.c_typed.specs.declared.calls.FnId.TheVariants as callee
 use Rattle.c_typed.specs.declared.calls.Helper.{Helper}
 use Rattle.c_typed.specs.declared.calls.Helper.TheVariants.{Mul2, Mul4, Divu2, Divs2, Remu2, Rems2, Divu4, Divs4, Remu4, Rems4, Shl2, Shru2, Shrs2, Shl4, Shru4, Shrs4}
 use Rattle.call_graph.specs.declared.types.FnCopy.{FnCopy}
 use Rattle.core_code.specs.declared.code.Byte.TheVariants as bytes
 use Rattle.math_helpers.specs.Layouts.{bytes_of, operand_at}
-use Rattle.math_helpers.specs.Pieces.{to_w, from_w, on_bit, on_flag, mark, jump, back, carry_flag, zero_flag, right_byte, step_code, each_byte}
-use Rattle.math_helpers.specs.Routines.{each, rounds_code, round_end_code, product_code, negate_if_code, take_off_code, divide_code, part_value, sign_code, magnitudes_code, division_code, signed_division_code, one_bit_code, shift_code, task_code, width_of, task_of, helper_code}
+use Rattle.math_helpers.specs.Pieces.{to_w, on_bit, on_flag, jump, carry_flag, zero_flag, right_byte, step_code, each_byte}
+use Rattle.math_helpers.specs.Routines.{each, rounds_code, round_end_code, product_code, negate_if_code, take_off_code, divide_code, part_value, sign_code, magnitudes_code, division_code, signed_division_code, one_bit_code, shift_code, helper_code}
 use Rattle.math_helpers.specs.declared.division.Part.{Part}
 use Rattle.math_helpers.specs.declared.division.Part.TheVariants as part
 use Rattle.math_helpers.specs.declared.layout.RoutineLayout.{RoutineLayout}
@@ -26,11 +24,11 @@ use Rattle.pic_world.specs.declared.Root.{Root}
 use Rattle.ram_place.specs.Helpers as helpers
 use Rattle.ram_place.specs.Sizes.{frame_bytes}
 use Rattle.sym_code.specs.declared.code.BitOperation.{BitOperation}
-use Rattle.sym_code.specs.declared.code.BitOperation.TheVariants.{Bcf, Bsf, Btfsc, Btfss}
+use Rattle.sym_code.specs.declared.code.BitOperation.TheVariants.{Bcf, Btfsc, Btfss}
 use Rattle.sym_code.specs.declared.code.FileOperation.TheVariants.{Incfsz, Rlf}
 use Rattle.sym_code.specs.declared.code.Operand.{Operand}
 use Rattle.sym_code.specs.declared.code.Sym.{Sym}
-use Rattle.word_bounds.specs.Naming.{Memory, HasBytes, Lies, OperandLies, SymLies, SymsLie}
+use Rattle.word_bounds.specs.Naming.{Memory, HasBytes, Lies, OperandLies, SymsLie}
 use Rattle.word_bounds.specs.There.{memory_of, RoutinesKeepThere}
 use Rattle.word_bounds.proofs.Lying.{has_fewer}
 

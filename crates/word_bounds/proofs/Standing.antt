@@ -12,7 +12,7 @@ use Rattle.c_typed.specs.Rules.{binary_fits, integers_fit, point_alike, offset_f
 use Rattle.c_typed.specs.Sameness.{same_type, same_flag, same_qualified, is_scalar, is_promoted, is_index, is_complete, pointed}
 use Rattle.c_typed.specs.Sound.{object_fits, type_is_there, static_fits, local_fits, param_fits, initial_fits}
 use Rattle.c_typed.specs.Trees as tree
-use Rattle.c_typed.specs.Trees.{Expression, Expressions, Place, VariableTree, StaticTree, FunctionTree, Program}
+use Rattle.c_typed.specs.Trees.{Place, VariableTree, StaticTree, FunctionTree, Program}
 use Rattle.c_typed.specs.Types.{type_bytes, type_of, place_type, form_of}
 use Rattle.c_typed.specs.declared.calls.FnId.{FnId}
 use Rattle.c_typed.specs.declared.calls.FnId.TheVariants as callee

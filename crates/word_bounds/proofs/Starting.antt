@@ -1,5 +1,5 @@
 -- The start block names bytes alone that are there: those of static objects, each by the bytes that it begins as.
-use Rattle.std.proofs.Common.{◌≡◌, ℕ, zero, suc, ◌+◌, ◌<◌, ◌≤◌, Bool, true, false, ◌&&◌, nat_eq, nat_lt, nat_le, if◌then◌else◌, List, [], ◌∷◌, ◌++◌, length, length-append, map, Option, Some, None, slice_get, option_map, refl, sym, ap, ◌∙◌, subst, arith}
+use Rattle.std.proofs.Common.{◌≡◌, ℕ, zero, suc, ◌+◌, ◌≤◌, Bool, true, false, ◌&&◌, nat_eq, nat_lt, nat_le, if◌then◌else◌, List, [], ◌∷◌, ◌++◌, length, length-append, map, Option, Some, None, slice_get, option_map, refl, sym, ap, ◌∙◌, subst, arith}
 use Rattle.std.specs.Global.{Global}
 use Rattle.std.specs.declared.vec.Vec.{Vec}
 use Rattle.c_typed.specs.Sound.{object_fits, byte_fits, initial_fits, is_changeable, static_fits}
@@ -12,19 +12,15 @@ use Rattle.call_graph.specs.declared.types.FnCopy.{FnCopy}
 use Rattle.core_code.specs.declared.code.Byte.TheVariants as bytes
 use Rattle.core_code.specs.declared.code.FirstByte.{FirstByte}
 use Rattle.core_code.specs.declared.code.FirstByte.TheVariants as firsts
-use Rattle.isr_save.specs.Start.{reset, saving, restoring, vector, literal, byte_code, object_code, objects_code, main, start_code}
-use Rattle.lower_stmt.specs.Bodies.{first_bytes}
+use Rattle.isr_save.specs.Start.{reset, vector, literal, byte_code, object_code, objects_code, main, start_code}
 use Rattle.lower_stmt.specs.FirstBytes.{shown, byte_at, bytes_in, static_bytes, items_of}
 use Rattle.sym_code.specs.declared.code.Label.TheVariants as labels
 use Rattle.sym_code.specs.declared.code.Literal.TheVariants as values
 use Rattle.sym_code.specs.declared.code.Operand.TheVariants as operands
-use Rattle.sym_code.specs.declared.code.Sym.{Sym}
 use Rattle.sym_code.specs.declared.code.Sym.TheVariants as syms
-use Rattle.word_bounds.specs.Bounds.{IsProgram}
 use Rattle.word_bounds.specs.Naming.{Memory, HasBytes, Lies, Points, SymsLie}
 use Rattle.word_bounds.specs.There.{memory_of, StartKeepsThere}
 use Rattle.word_bounds.proofs.Chain.{never}
-use Rattle.word_bounds.proofs.Lying.{has_fewer}
 use Rattle.word_bounds.proofs.Placed.{static_at}
 use Rattle.word_bounds.proofs.Routines.{syms_on}
 use Rattle.word_bounds.proofs.Typing.{and_first, and_last}

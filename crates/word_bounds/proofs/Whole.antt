@@ -14,7 +14,7 @@ use Rattle.c_typed.specs.declared.calls.FnId.TheVariants as callee
 use Rattle.call_graph.specs.Numbers.{handler_at}
 use Rattle.call_graph.specs.declared.types.FnCopy.{FnCopy}
 use Rattle.core_code.specs.Tree as core
-use Rattle.core_code.specs.Tree.{Tree, trees_of}
+use Rattle.core_code.specs.Tree.{trees_of}
 use Rattle.lower_expr.specs.Layout.{static_number}
 use Rattle.lower_stmt.specs.Bodies.{body_code}
 use Rattle.lower_stmt.specs.Frames.{ground_for, layout_for}
