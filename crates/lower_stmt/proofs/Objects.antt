@@ -1,5 +1,5 @@
 -- Static objects of a sound program: none has many bytes, and where there are few, addresses name them by small numbers.
-use Rattle.std.proofs.Common.{◌≡◌, ℕ, zero, suc, ◌+◌, ◌<◌, ◌≤◌, Bool, true, ◌&&◌, List, [], ◌∷◌, ◌++◌, length, get_or, slice_index_or, map, Option, Some, None, refl, sym, ap, ◌∙◌, subst, arith}
+use Rattle.std.proofs.Common.{◌≡◌, ℕ, zero, suc, ◌+◌, ◌<◌, ◌≤◌, Bool, true, ◌&&◌, List, [], ◌∷◌, ◌++◌, length, get_or, slice_index_or, map, Option, Some, None, refl, sym, ap, ◌∙◌, arith}
 use Rattle.std.specs.Global.{Global}
 use Rattle.std.specs.List.{All, list_all}
 use Rattle.std.specs.Prelude.{nat_lt, nat_le, slice_get}
@@ -11,11 +11,14 @@ use Rattle.c_typed.specs.Sameness.{is_complete}
 use Rattle.c_typed.specs.Sound.{target_fits, structure_fits, type_is_there, object_fits, is_changeable, byte_fits, initial_fits, static_fits, function_fits, is_sound}
 use Rattle.c_typed.specs.Trees.{StaticTree, Program}
 use Rattle.c_typed.specs.Types.{type_bytes}
-use Rattle.c_typed.specs.Views.{static_of}
+use Rattle.c_typed.specs.Views.{static_of, program_from}
+use Rattle.c_typed.specs.declared.program.Function.{Function}
 use Rattle.c_typed.specs.declared.program.Initial.{Initial}
 use Rattle.c_typed.specs.declared.program.InitialByte.{InitialByte}
 use Rattle.c_typed.specs.declared.program.InitialByte.TheVariants as given
 use Rattle.c_typed.specs.declared.program.Static.{Static}
+use Rattle.c_typed.specs.declared.types.Qualified.{Qualified}
+use Rattle.c_typed.specs.declared.types.Structure.{Structure}
 use Rattle.core_code.specs.declared.code.FirstByte.{FirstByte}
 use Rattle.lower_stmt.specs.Bodies.{first_bytes}
 use Rattle.lower_stmt.specs.FirstBytes.{bytes_in, static_bytes, items_of, HasNumber, IsNumbered, HasFewBytes}
@@ -55,11 +58,12 @@ static_at test (y ∷ ys) zero x all lt is = ap (λ z. test (static_of z)) is �
 static_at test (y ∷ ys) (suc i) x all lt is = static_at test ys i x (and_parts (test (static_of y)) (list_all test (map static_of ys)) all).1 (omega (arith, lt)) is
 
 -- each first byte of an object of the program is a number, or of an object whose number is small
-pub numbered : (p : Program) (statics : List Static) (i : ℕ) (s : Static) → p.statics ≡ map static_of statics → is_sound p ≡ true → length statics ≤ 65536 → i < length statics → s ≡ get_or statics i s → All IsNumbered s.initial.items
-numbered p statics i s are sound few lt is =
-    let fit = subst (λ (l : List StaticTree). list_all (static_fits p) l ≡ true) are (statics_fit p sound) in
-    let here = static_at (static_fits p) statics i s fit lt is in
-    let many : length p.statics ≤ 65536 = let l = ap length are ∙ length-map statics static_of in omega (arith, l, few) in
+pub numbered : (targets : List Qualified) (structures : List Structure) (statics : List Static) (functions : List Function) (i : ℕ) (s : Static) → is_sound (program_from targets structures statics functions) ≡ true → length statics ≤ 65536
+    → i < length statics → s ≡ get_or statics i s → All IsNumbered s.initial.items
+numbered targets structures statics functions i s sound few lt is =
+    let p : Program = program_from targets structures statics functions in
+    let here = static_at (static_fits p) statics i s (statics_fit p sound) lt is in
+    let many : length p.statics ≤ 65536 = let l = length-map statics static_of in omega (arith, l, few) in
     bytes_numbered p many (type_bytes p.sizes s.ty.ty) 0 s.initial.items (and_parts (object_fits p s.ty.ty) (initial_fits p (type_bytes p.sizes s.ty.ty) 0 s.initial.items) here).1
 
 -- ---- counts of bytes
@@ -88,15 +92,20 @@ short_each p (m ∷ made) (s ∷ statics) is fit (suc k) d lt =
     let rest : map items_of made ≡ map (static_bytes p.sizes) statics = cc in
     short_each p made statics rest (and_parts (static_fits p s) (list_all (static_fits p) statics) fit).1 k d (omega (arith, lt))
 
--- the first bytes of an object are few
-pub short : (p : Program) (made : List (Vec FirstByte Global)) → is_sound p ≡ true → map items_of made ≡ first_bytes p → All HasFewBytes made
-short p made sound is = short_each p made p.statics is (statics_fit p sound)
+-- the first bytes of each object are few
+pub short : (targets : List Qualified) (structures : List Structure) (statics : List Static) (functions : List Function) (made : List (Vec FirstByte Global)) → is_sound (program_from targets structures statics functions) ≡ true
+    → map items_of made ≡ first_bytes (program_from targets structures statics functions) → All HasFewBytes made
+short targets structures statics functions made sound is =
+    let p : Program = program_from targets structures statics functions in
+    short_each p made p.statics is (statics_fit p sound)
 
 -- and there are as many objects as the program has
-pub counted : (p : Program) (statics : List Static) (made : List (Vec FirstByte Global)) → p.statics ≡ map static_of statics → map items_of made ≡ first_bytes p → length statics ≤ 65536 → length made ≤ 65536
-counted p statics made are is few =
+pub counted : (targets : List Qualified) (structures : List Structure) (statics : List Static) (functions : List Function) (made : List (Vec FirstByte Global)) → map items_of made ≡ first_bytes (program_from targets structures statics functions)
+    → length statics ≤ 65536 → length made ≤ 65536
+counted targets structures statics functions made is few =
+    let p : Program = program_from targets structures statics functions in
     let a = length-map made items_of in
-    let b = ap length is in
+    let b : length (map items_of made) ≡ length (map (static_bytes p.sizes) p.statics) = ap length is in
     let c = length-map p.statics (static_bytes p.sizes) in
-    let d = ap length are ∙ length-map statics static_of in
+    let d = length-map statics static_of in
     omega (arith, a, b, c, d, few)

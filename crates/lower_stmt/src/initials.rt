@@ -65,6 +65,7 @@ fn bytes_of_static(
 }
 
 /// The first bytes of each static object. What an address leads to is an object of the program, so its number fits.
+#[tactic(auto, using(crate::proofs::Objects::numbered))]
 pub fn first_bytes(alloc: Global, p: &Typed) -> Result<Vec<Vec<FirstByte>>, AllocError>
     requires { length p.now.statics.items ≤ 65536 }
     ensures { IfOk result (λ bytes. map first.items_of bytes.items ≡ map (first.static_bytes (map size_of p.now.structures.items)) (map static_of p.now.statics.items)) }

@@ -43,7 +43,7 @@ fn site_of<'a>(
 }
 
 // The statements of a function, and the end of its body.
-#[tactic(auto, using(std::proofs::lemmas::List::append_assoc))]
+#[tactic(auto, using(crate::proofs::Rooms::outside_room, std::proofs::lemmas::List::append_assoc))]
 fn body_code(site: &Site, function: &Function) -> Result<Vec<Core>, AllocError>
     requires { function_nodes function.now ≤ 2 ^ 28 }
     ensures { IfOk result (λ code. trees_in code.items ≡ laws.body_code (ground_of site.now) (function_of function.now)) }
@@ -74,6 +74,7 @@ fn code_of(
 }
 
 // The same by the number of the function. Each copy of an accepted program is one of a function that is there.
+#[tactic(auto, using(crate::proofs::Rooms::function_small))]
 fn code_by_number(
     alloc: Global,
     p: &Typed,
@@ -116,6 +117,7 @@ fn bodies_of(alloc: Global, p: &Typed, list: &[FnCopy]) -> Result<Vec<Body>, All
 
 /// The code of a program: the body of each copy that is no helper, in the order of the copies, and the first bytes of
 /// each static object.
+#[tactic(auto, using(crate::proofs::Objects::counted, crate::proofs::Objects::short))]
 pub fn lower(alloc: Global, p: &Typed, copies: &Copies) -> Result<CoreProgram, AllocError>
     // The names of bytes and of blocks have room for the numbers of copies and of static objects.
     requires copies { length copies.now.list.items ≤ 65536 }

@@ -99,7 +99,7 @@ fn put_return(site: &Site, value: &Option<TExpr>, out: &mut Vec<Core>) -> Result
 /// Adds the code of a statement.
 #[cycle(statement)]
 #[inline(never)]
-#[tactic(auto, using(crate::proofs::Sights::statements, c_typed::proofs::Counts::see_statement_block, c_typed::proofs::Counts::see_statement_if, c_typed::proofs::Counts::see_statement_loop, c_typed::proofs::Counts::see_statement_switch))]
+#[tactic(auto, using(crate::proofs::Sights::statements, crate::proofs::Rooms::rooms))]
 fn put_statement(
     site: &Site,
     jumps: Jumps,
@@ -172,7 +172,7 @@ pub fn put_statements(
 // The condition of an arm, and by its value the arm's statement or else this code.
 #[cycle(statement)]
 #[inline(never)]
-#[tactic(auto, using(crate::proofs::Sights::one_arm, c_typed::proofs::Counts::see_arm, std::proofs::lemmas::List::append_assoc))]
+#[tactic(auto, using(crate::proofs::Sights::one_arm, crate::proofs::Rooms::chosen_room, std::proofs::lemmas::List::append_assoc))]
 fn put_arm(
     site: &Site,
     jumps: Jumps,
@@ -198,7 +198,7 @@ fn put_arm(
 
 #[cycle(statement)]
 #[inline(never)]
-#[tactic(auto, using(crate::proofs::Sights::lasts))]
+#[tactic(auto, using(crate::proofs::Sights::lasts, crate::proofs::Rooms::else_room))]
 fn put_last(
     site: &Site,
     jumps: Jumps,
@@ -243,7 +243,7 @@ fn put_arms(
 // The body of a `do` or a `for`: a loop that runs once, so that `continue` leaves it.
 #[cycle(statement)]
 #[inline(never)]
-#[tactic(auto, using(core_code::proofs::Views::tree_exit, std::proofs::lemmas::List::append_assoc))]
+#[tactic(auto, using(crate::proofs::Rooms::body_room, core_code::proofs::Views::tree_exit, std::proofs::lemmas::List::append_assoc))]
 fn put_body(site: &Site, body: &TStmt, out: &mut Vec<Core>) -> Result<(), AllocError>
     requires { statement_nodes body.now ≤ 2 ^ 28 }
     ensures { OnOk result (Appends out.old.items out.new.items (code.once (code.stmt_code (ground_of site.now) jumping.in_body (statement_of body.now)))) }
@@ -256,7 +256,7 @@ fn put_body(site: &Site, body: &TStmt, out: &mut Vec<Core>) -> Result<(), AllocE
 
 #[cycle(statement)]
 #[inline(never)]
-#[tactic(auto, using(std::proofs::lemmas::List::append_assoc))]
+#[tactic(auto, using(crate::proofs::Rooms::while_room, std::proofs::lemmas::List::append_assoc))]
 fn put_while(
     site: &Site,
     condition: &Option<TExpr>,
