@@ -1,0 +1,4 @@
+mod Rows
+mod Words
+mod Stretches
+mod Whole

@@ -1,0 +1,34 @@
+-- Rows of a certificate of which a skip and the instruction behind it stay or go together.
+use Rattle.std.specs.Prelude.{Bool, true, false, not, ◌&&◌, ◌||◌, if◌then◌else◌, List, [], ◌∷◌}
+use Rattle.sym_code.specs.declared.code.Sym.{Sym}
+use Rattle.math_helpers.specs.Shape.{is_skip}
+use Rattle.lean_code.specs.Changes.{is_retlw}
+use Rattle.lean_code.specs.Rows.{Act, Keeps, Drops, Puts, Row, At, old_of, is_label, is_dropped}
+
+-- the next row stays, if there is one; a label always does
+abbrev pub next_stays : List Row → Bool
+next_stays [] = true
+next_stays (row ∷ rows) = not (is_dropped row)
+
+-- the next row is left out, or a label
+abbrev pub next_goes : List Row → Bool
+next_goes [] = true
+next_goes (row ∷ rows) = is_label (old_of row) || is_dropped row
+
+-- what becomes of a skip
+abbrev pub is_steady_skip : Act → List Row → Bool
+is_steady_skip Keeps rest = next_stays rest
+is_steady_skip Drops rest = next_goes rest
+is_steady_skip act rest = false
+
+abbrev pub puts_return : Act → Bool
+puts_return (Puts op n) = is_retlw op
+puts_return act = false
+
+abbrev pub is_steady_row : Sym → Act → List Row → Bool
+is_steady_row s act rest = if is_skip s then is_steady_skip act rest else not (puts_return act)
+
+-- So it is of a certificate that is right where the code comes; this says it of code as well where nothing comes.
+abbrev pub is_steady : List Row → Bool
+is_steady [] = true
+is_steady (At s act said ∷ rows) = is_steady_row s act rows && is_steady rows
