@@ -2,3 +2,5 @@ mod Rows
 mod Words
 mod Stretches
 mod Whole
+mod Routines
+mod Blocks

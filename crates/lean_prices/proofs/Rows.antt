@@ -1,5 +1,6 @@
 -- Of rows that stand one behind the other with no label among them: what is made of them has none, and ends with no skip.
 use Rattle.std.proofs.Common.{◌≡◌, ℕ, zero, suc, ◌≤◌, Bool, true, false, not, ◌&&◌, if◌then◌else◌, List, [], ◌∷◌, ◌++◌, length, take, Option, Some, None, refl, sym, ap, ◌∙◌, true≢false, arith}
+use Rattle.sym_code.specs.declared.code.BitOperation.TheVariants.{Btfsc, Btfss}
 use Rattle.sym_code.specs.declared.code.FileOperation.TheVariants.{Decfsz, Incfsz}
 use Rattle.sym_code.specs.declared.code.Literal.{Literal}
 use Rattle.sym_code.specs.declared.code.Literal.TheVariants.{Number}
@@ -12,7 +13,7 @@ use Rattle.math_helpers.specs.Shape.{is_skip, is_straight}
 use Rattle.select_wide.specs.Links.{IsNear, AreNear}
 use Rattle.lean_code.specs.Changes.{is_retlw}
 use Rattle.lean_code.specs.Rows.{Note, Act, Keeps, Drops, Puts, Narrows, narrowed, Row, At, old_of, olds, put_by, in_front, puts, is_label, is_none}
-use Rattle.lean_prices.specs.Steady.{next_stays, is_steady_skip, puts_return, is_steady_row, is_steady}
+use Rattle.lean_code.specs.Steady.{skips, next_stays, is_steady_skip, puts_return, is_steady_row, is_steady}
 
 pub never : {A : Type 0} → false ≡ true → A
 never e = absurd (true≢false (sym e))
@@ -90,6 +91,15 @@ narrowed_skip (syms.File Incfsz operand to) = refl
 narrowed_skip (syms.File op operand to) = refl
 narrowed_skip s = refl
 
+pub same_skip : (s : Sym) → skips s ≡ is_skip s
+same_skip (syms.File Decfsz operand to) = refl
+same_skip (syms.File Incfsz operand to) = refl
+same_skip (syms.File op operand to) = refl
+same_skip (syms.Bit Btfsc operand bit) = refl
+same_skip (syms.Bit Btfss operand bit) = refl
+same_skip (syms.Bit op operand bit) = refl
+same_skip s = refl
+
 -- ---- what is said of rows
 steady_first : (s : Sym) (act : Act) (said : Option Note) (rest : List Row) → is_steady (At s act said ∷ rest) ≡ true → is_steady_row s act rest ≡ true
 steady_first s act said rest e = and_first (is_steady_row s act rest) (is_steady rest) e
@@ -99,7 +109,7 @@ steady_later s act said rest e = and_last (is_steady_row s act rest) (is_steady 
 
 -- of a skip
 skip_act : (s : Sym) (act : Act) (said : Option Note) (rest : List Row) → is_steady (At s act said ∷ rest) ≡ true → is_skip s ≡ true → is_steady_skip act rest ≡ true
-skip_act s act said rest e k = sym (ap (λ (b : Bool). if b then is_steady_skip act rest else not (puts_return act)) k) ∙ steady_first s act said rest e
+skip_act s act said rest e k = sym (ap (λ (b : Bool). if b then is_steady_skip act rest else not (puts_return act)) (same_skip s ∙ k)) ∙ steady_first s act said rest e
 
 false_by : (b : Bool) → (b ≡ true → false ≡ true) → b ≡ false
 false_by true h = never (h refl)
@@ -108,8 +118,8 @@ false_by false h = refl
 narrows_skip : (s : Sym) (said : Option Note) (rest : List Row) → is_steady (At s Narrows said ∷ rest) ≡ true → is_skip (narrowed s) ≡ false
 narrows_skip s said rest e = narrowed_skip s ∙ false_by (is_skip s) (skip_act s Narrows said rest e)
 
-puts_no_return : (s : Sym) (op : LiteralOperation) (n : ℕ) (said : Option Note) (rest : List Row) → is_steady (At s (Puts op n) said ∷ rest) ≡ true → is_retlw op ≡ false
-puts_no_return s op n said rest e = by_skip (is_skip s) (steady_first s (Puts op n) said rest e)
+pub puts_no_return : (s : Sym) (op : LiteralOperation) (n : ℕ) (said : Option Note) (rest : List Row) → is_steady (At s (Puts op n) said ∷ rest) ≡ true → is_retlw op ≡ false
+puts_no_return s op n said rest e = by_skip (skips s) (steady_first s (Puts op n) said rest e)
   where
     by_skip : (b : Bool) → (if b then false else not (is_retlw op)) ≡ true → is_retlw op ≡ false
     by_skip true e = never e

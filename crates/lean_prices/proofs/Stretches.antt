@@ -9,7 +9,7 @@ use Rattle.math_helpers.specs.Shape.{most_words, is_straight, sum_from}
 use Rattle.select_wide.specs.Links.{AreNear}
 use Rattle.lean_code.specs.Rows.{Keeps, Drops, Puts, Narrows, narrowed, Row, At, olds, put_by, in_front, puts, is_none, place_in}
 use Rattle.lean_code.specs.Links.{price_at}
-use Rattle.lean_prices.specs.Steady.{is_steady}
+use Rattle.lean_code.specs.Steady.{is_steady}
 use Rattle.lean_prices.specs.Prices.{carried_by}
 use Rattle.lean_prices.proofs.Rows.{never, olds_take, puts_on, fewer, straight_first, straight_later, steady_later, straight_made, near_made}
 use Rattle.lean_prices.proofs.Words.{most_fewer, routine_fewer}

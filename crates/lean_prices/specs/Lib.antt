@@ -1,2 +1,1 @@
-pub mod Steady
 pub mod Prices

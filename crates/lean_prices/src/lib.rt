@@ -1,15 +1,22 @@
 //! What code costs of which a certificate leaves instructions out.
 //!
 //! In: nothing; the crate has proofs about certificates of lean_code. Out: nothing.
-//! The promise: where the code that is made is within the bounds of prices that selection and the helpers were counted with, the given
-//! code is, at the prices that are carried back to it.
+//! The promise: at the prices that the code that is made has with its selects, carried back to the instructions that they are of, the given
+//! code is within the bounds that selection and the helpers were counted with.
 #![tactic(auto)]
 
-ghost use Rattle.lean_prices.specs.Prices.{LeanIsDear, LeanIsPriced};
+ghost use Rattle.lean_prices.specs.Prices.{LeanIsDear, LeanIsPriced, LeanBlocksAreDear, LeanRoutinesArePriced};
 
 /// Where straight instructions of the code that is made cost no more than their words with all selects that they may need, those of the
 /// given code don't, at the prices of what stays.
 pub fn lean_is_priced()
     ensures dear { LeanIsDear }
     ensures priced { LeanIsPriced }
+{}
+
+/// So it is of each block that a certificate makes, with its selects; and of a helper's routine, of which no more is left than asks for its
+/// frame's bank and its own page.
+pub fn lean_blocks_are_priced()
+    ensures dear { LeanBlocksAreDear }
+    ensures priced { LeanRoutinesArePriced }
 {}

@@ -1,10 +1,25 @@
 -- Rows of a certificate of which a skip and the instruction behind it stay or go together.
 use Rattle.std.specs.Prelude.{Bool, true, false, not, ◌&&◌, ◌||◌, if◌then◌else◌, List, [], ◌∷◌}
+use Rattle.sym_code.specs.declared.code.BitOperation.{BitOperation}
+use Rattle.sym_code.specs.declared.code.BitOperation.TheVariants.{Btfsc, Btfss}
 use Rattle.sym_code.specs.declared.code.Sym.{Sym}
-use Rattle.math_helpers.specs.Shape.{is_skip}
-use Rattle.lean_code.specs.Changes.{is_retlw}
+use Rattle.sym_code.specs.declared.code.Sym.TheVariants as syms
+use Rattle.lean_code.specs.Changes.{may_skip, is_retlw}
 use Rattle.lean_code.specs.Rows.{Act, Keeps, Drops, Puts, Row, At, old_of, is_label, is_dropped}
 
+-- ---- skips
+abbrev pub tests_bit : BitOperation → Bool
+tests_bit Btfsc = true
+tests_bit Btfss = true
+tests_bit op = false
+
+-- the instruction may skip the one behind it
+abbrev pub skips : Sym → Bool
+skips (syms.File op operand to) = may_skip op
+skips (syms.Bit op operand bit) = tests_bit op
+skips s = false
+
+-- ---- rows
 -- the next row stays, if there is one; a label always does
 abbrev pub next_stays : List Row → Bool
 next_stays [] = true
@@ -26,7 +41,7 @@ puts_return (Puts op n) = is_retlw op
 puts_return act = false
 
 abbrev pub is_steady_row : Sym → Act → List Row → Bool
-is_steady_row s act rest = if is_skip s then is_steady_skip act rest else not (puts_return act)
+is_steady_row s act rest = if skips s then is_steady_skip act rest else not (puts_return act)
 
 -- So it is of a certificate that is right where the code comes; this says it of code as well where nothing comes.
 abbrev pub is_steady : List Row → Bool
