@@ -5,6 +5,7 @@ use Rattle.sym_code.specs.declared.code.BitOperation.TheVariants.{Btfsc, Btfss}
 use Rattle.sym_code.specs.declared.code.Sym.{Sym}
 use Rattle.sym_code.specs.declared.code.Sym.TheVariants as syms
 use Rattle.lean_code.specs.Changes.{may_skip, is_retlw}
+use Rattle.lean_code.specs.Checked.{ListedBlock, rows_in}
 use Rattle.lean_code.specs.Rows.{Act, Keeps, Drops, Puts, Row, At, old_of, is_label, is_dropped}
 
 -- ---- skips
@@ -47,3 +48,8 @@ is_steady_row s act rest = if skips s then is_steady_skip act rest else not (put
 abbrev pub is_steady : List Row → Bool
 is_steady [] = true
 is_steady (At s act said ∷ rows) = is_steady_row s act rows && is_steady rows
+
+-- ---- blocks
+abbrev pub are_steady : List ListedBlock → Bool
+are_steady [] = true
+are_steady (b ∷ bs) = is_steady (rows_in b.rows) && are_steady bs

@@ -1,6 +1,7 @@
 mod Rows
 mod Words
 mod Stretches
-mod Whole
+pub mod Whole
 mod Routines
-mod Blocks
+mod Named
+pub mod Blocks

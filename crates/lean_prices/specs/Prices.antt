@@ -1,5 +1,5 @@
 -- Prices of code that a certificate makes, carried back to the given code: within the bounds that hold of them over the code that is made.
-use Rattle.std.specs.Prelude.{◌≡◌, ℕ, ◌<◌, ◌≤◌, true, List, length, slice_get}
+use Rattle.std.specs.Prelude.{◌≡◌, ℕ, ◌<◌, ◌≤◌, Bool, true, List, length, slice_get}
 use Rattle.c_typed.specs.declared.calls.Helper.{Helper}
 use Rattle.pic_map.specs.declared.Placed.{Placed}
 use Rattle.pic_world.specs.declared.Root.{Root}
@@ -14,13 +14,19 @@ use Rattle.math_helpers.specs.Shape.{frame_size, ArePriced}
 use Rattle.select_wide.specs.Links.{AreDear}
 use Rattle.bank_page.specs.Links.{price_in}
 use Rattle.bank_prices.specs.Prices.{AreSelected}
+use Rattle.lean_code.specs.Checked.{Sketch, lean_of}
 use Rattle.lean_code.specs.Rows.{Lean, Row, olds, puts, place_in}
 use Rattle.lean_code.specs.Links.{price_at, carried}
-use Rattle.lean_code.specs.Steady.{is_steady}
+use Rattle.lean_code.specs.Steady.{is_steady, are_steady}
 
 -- the prices of one block's code at the rows that they are of; what is left out costs nothing
 abbrev pub carried_by : List Row → (ℕ → ℕ) → ℕ → ℕ
 carried_by rows price j = price_at (slice_get rows j) (price (place_in rows j))
+
+-- ---- skips
+-- Each block of a certificate that passes the test of skips is steady.
+abbrev pub BlocksAreSteady : Type 0
+BlocksAreSteady = (k : Sketch) (limit : Bool → ℕ) (old_page new_page : BlockName → ℕ) → are_steady k.blocks ≡ true → (name : BlockName) → is_steady ((lean_of k limit old_page new_page).rows name) ≡ true
 
 -- ---- bounds
 -- What holds of the code that is made holds of the given code.

@@ -5,7 +5,12 @@
 //! code is within the bounds that selection and the helpers were counted with.
 #![tactic(auto)]
 
-ghost use Rattle.lean_prices.specs.Prices.{LeanIsDear, LeanIsPriced, LeanBlocksAreDear, LeanRoutinesArePriced};
+ghost use Rattle.lean_prices.specs.Prices.{BlocksAreSteady, LeanIsDear, LeanIsPriced, LeanBlocksAreDear, LeanRoutinesArePriced};
+
+/// In each block of a certificate that passes the test of skips, a skip and the instruction behind it stay or go together.
+pub fn blocks_are_steady()
+    ensures { BlocksAreSteady }
+{}
 
 /// Where straight instructions of the code that is made cost no more than their words with all selects that they may need, those of the
 /// given code don't, at the prices of what stays.
