@@ -2,8 +2,8 @@ mod Puts
 mod Straight
 mod Dear
 mod Pairs
-mod Tight
-mod Owned
+pub mod Tight
+pub mod Owned
 mod Meets
 mod Chained
 mod Early

@@ -1,5 +1,6 @@
 -- Of the blocks that were given and what `selects` makes of them.
 use Rattle.std.proofs.Common.{◌≡◌, ℕ, zero, suc, ◌+◌, ◌/◌, ◌<◌, ◌≤◌, ◌⊎◌, inl, inr, Bool, true, false, ◌||◌, nat_le, if◌then◌else◌, List, [], ◌∷◌, length, map, Option, Some, None, slice_get, slice_index_or, refl, sym, ap, ◌∙◌, subst, ⊎_elim, leb-true, lt-ltb, arith}
+use Rattle.core_code.specs.declared.code.Byte.TheVariants as bytes
 use Rattle.pic_map.specs.declared.FrameLine.{FrameLine}
 use Rattle.pic_map.specs.declared.Placed.{Placed}
 use Rattle.sym_code.specs.Layout.{FrameRange, no_frame, frame, lies_in, is_whole}
@@ -10,12 +11,12 @@ use Rattle.sym_code.specs.declared.code.BlockName.{BlockName}
 use Rattle.sym_code.specs.declared.code.BlockName.TheVariants.{Copy}
 use Rattle.sym_code.specs.declared.code.Sym.{Sym}
 use Rattle.sym_code.specs.declared.code.SymBlock.{SymBlock}
-use Rattle.code_place.specs.Addresses.{frame_byte}
+use Rattle.code_place.specs.Addresses.{address_of, frame_byte}
 use Rattle.code_place.specs.Layouts.{frame_of, layout_of}
 use Rattle.math_helpers.specs.Routines.{helper_code}
-use Rattle.math_helpers.specs.Shape.{frame_size, most_words, sum_from}
+use Rattle.math_helpers.specs.Shape.{frame_size, most_words, sum_from, ArePriced}
 use Rattle.math_helpers.proofs.Shapes.{code_is_own}
-use Rattle.bank_page.specs.Links.{price_from}
+use Rattle.bank_page.specs.Links.{price_from, price_in}
 use Rattle.bank_page.specs.Selected.{front}
 use Rattle.bank_page.specs.Step.{selected_from}
 use Rattle.bank_prices.specs.Prices.{AreSelected, LeavesBlocks, BlocksAreDear, RoutinesArePriced}
@@ -23,8 +24,8 @@ use Rattle.bank_prices.proofs.Puts.{never, and_first, and_last, bare_selected}
 use Rattle.bank_prices.proofs.Straight.{has_none, bare_none}
 use Rattle.bank_prices.proofs.Dear.{dear_at}
 use Rattle.bank_prices.proofs.Pairs.{exact_at}
-use Rattle.bank_prices.proofs.Tight.{tight_code}
-use Rattle.bank_prices.proofs.Owned.{all_tame}
+use Rattle.bank_prices.proofs.Tight.{is_tight, tight_code}
+use Rattle.bank_prices.proofs.Owned.{AllTame, all_tame}
 use Rattle.bank_prices.proofs.Tracks.{priced_at}
 use Rattle.bank_prices.proofs.Near.{near_at}
 
@@ -108,14 +109,21 @@ blocks_are_dear placed given made has whole name =
           subst P code (near_at placed name (range.address / 128) c range.size there n list front none part is e near);
     }
 
-pub routines_are_priced : RoutinesArePriced
-routines_are_priced placed given made has h root c is whole fits n part taken straight =
-    let list = helper_code h root c in
+-- Code that asks for no bank but that of one frame, which stands whole in a bank, and goes to no other page, costs their selects once between
+-- two labels, where behind each jump and return that isn't skipped a label stands.
+pub list_is_priced : (placed : Placed) (given made : List SymBlock) → AreSelected placed given made → (c size : ℕ) (list : List Sym) → block_in given (Copy c) ≡ list
+    → is_whole (frame (layout_of placed) c).address (frame (layout_of placed) c).size ≡ true → size ≤ (frame (layout_of placed) c).size
+    → (((offset : ℕ) → offset < size → (at : ℕ) × (address_of placed (bytes.Frame c offset) ≡ Some at) × (at / 128 ≡ (frame (layout_of placed) c).address / 128)) → AllTame placed (Copy c) ((frame (layout_of placed) c).address / 128) list)
+    → is_tight false list ≡ true → ArePriced (price_in (block_in made) (Copy c)) list
+list_is_priced placed given made has c size list is whole fits tame tight n part taken straight =
     let range = frame (layout_of placed) c in
-    let bank = range.address / 128 in
-    let there = λ (offset : ℕ) (l : offset < frame_size h). bank_there (slice_get placed.frames.items c) range offset (frame_there placed.frames.items c) whole (omega arith) in
-    let tame = all_tame placed root c (frame_size h) bank (Copy c) there list (code_is_own h root c) in
+    let there = λ (offset : ℕ) (l : offset < size). bank_there (slice_get placed.frames.items c) range offset (frame_there placed.frames.items c) whole (omega arith) in
     let none : has_none list ≡ true = subst (λ (l : List Sym). has_none l ≡ true) is (no_selects placed given made has (Copy c)) in
     let P : List Sym → Type 0 = λ l. sum_from (price_from 0 l) n part ≤ most_words part in
     subst P (sym (code_is placed given made has (Copy c) ∙ ap (selected_from placed (Copy c) front) is))
-    (priced_at placed (Copy c) bank n list front tame none (tight_code h root c) (λ e. never e) part taken straight)
+    (priced_at placed (Copy c) (range.address / 128) n list front (tame there) none tight (λ e. never e) part taken straight)
+
+pub routines_are_priced : RoutinesArePriced
+routines_are_priced placed given made has h root c is whole fits =
+    list_is_priced placed given made has c (frame_size h) (helper_code h root c) is whole fits
+    (λ there. all_tame placed root c (frame_size h) ((frame (layout_of placed) c).address / 128) (Copy c) there (helper_code h root c) (code_is_own h root c)) (tight_code h root c)

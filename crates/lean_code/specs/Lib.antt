@@ -5,3 +5,4 @@ pub mod Links
 pub mod Checked
 pub mod Shrinks
 pub mod Sample
+pub mod Steady

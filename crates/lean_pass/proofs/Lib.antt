@@ -4,3 +4,4 @@ pub mod Grounds
 pub mod Cuts
 pub mod Whole
 pub mod Putting
+pub mod Joins

@@ -16,6 +16,7 @@ use Rattle.sym_code.specs.declared.code.SymBlock.{SymBlock}
 use Rattle.lean_code.specs.Rows as certified
 use Rattle.lean_code.specs.Rows.{olds, puts, is_label}
 use Rattle.lean_code.specs.Checked as listed
+use Rattle.lean_code.specs.Steady.{are_steady}
 use Rattle.lean_code.specs.Checked.{rows_in, row_in, ListedBlock}
 use Rattle.lean_pass.specs.Made.{IsSeen, put_of, is_named, are_distinct, Serves, IsAsGiven, IsLean, Kept, Made, HasName}
 use Rattle.lean_pass.specs.Views.{act_of, row_of, rows_of, block_of, blocks_of, sketch_of}
@@ -241,8 +242,8 @@ all_serve given blocks all distinct i d below =
     let h = beside given blocks all i d below in
     sym h.seen.code ∙ ap (λ (b : ListedBlock). olds (rows_in b.rows)) (sym (found_at blocks distinct i h.block h.got) ∙ ap (listed.block_in (blocks_of blocks)) h.seen.name)
 
-pub is_made : (l : DataLayout) (k : Sketch) (given made : List SymBlock) → listed.is_lean (sketch_of l k) ≡ true → AllZip (listed.IsBlockOf (sketch_of l k)) given made → IsLean l k.handler given made
-is_made l k given made tested all = Made (sketch_of l k) refl refl (record { tested = tested; blocks = all })
+pub is_made : (l : DataLayout) (k : Sketch) (given made : List SymBlock) → listed.is_lean (sketch_of l k) ≡ true → are_steady (blocks_of k.blocks.items) ≡ true → AllZip (listed.IsBlockOf (sketch_of l k)) given made → IsLean l k.handler given made
+is_made l k given made tested steady all = Made (sketch_of l k) refl refl (record { tested = tested; blocks = all }) steady
 
 -- ---- names
 
@@ -263,4 +264,4 @@ made_names k (g ∷ given) (m ∷ made) all = (record { name = all.0.name }, mad
 
 pub names_stay : (l : DataLayout) (handler : Option ℕ) (given made : List SymBlock) → IsLean l handler given made → AllZip HasName given made
 names_stay l handler given made (Kept all) = kept_names given made all
-names_stay l handler given made (Made k same handled by) = made_names k given made by.blocks
+names_stay l handler given made (Made k same handled by steady) = made_names k given made by.blocks

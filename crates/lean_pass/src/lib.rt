@@ -16,6 +16,7 @@ mod reading;
 mod rows;
 mod search;
 mod sets;
+mod steady;
 mod testing;
 mod walk;
 

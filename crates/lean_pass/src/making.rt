@@ -5,6 +5,7 @@ ghost use Rattle.std.specs.List.{All, AllZip};
 ghost use Rattle.sym_code.specs.WellFormed.{is_well_formed, are_well_formed};
 ghost use Rattle.lean_code.specs.Rows as certified;
 ghost use Rattle.lean_code.specs.Checked as listed;
+ghost use Rattle.lean_code.specs.Steady.{are_steady};
 ghost use Rattle.code_place.specs.Layouts.{layout_of};
 ghost use Rattle.lean_pass.specs.Made as stated;
 ghost use Rattle.lean_pass.specs.Views.{act_of, row_of, rows_of, block_of, blocks_of, sketch_of};
@@ -236,6 +237,7 @@ pub fn made_by(
     requires seen { AllZip stated.IsSeen given.now sketch.now.blocks.items }
     requires distinct { stated.are_distinct sketch.now.blocks.items ≡ true }
     requires tested { listed.is_lean (sketch_of (layout_of placed.now) sketch.now) ≡ true }
+    requires steady { are_steady (blocks_of sketch.now.blocks.items) ≡ true }
     ensures { IfOk result (λ made. stated.IsLean (layout_of placed.now) sketch.now.handler given.now made.items) }
 {
     let none = no_block(alloc);

@@ -8,6 +8,7 @@ ghost use Rattle.lean_pass.specs.Made.{IsLean, HasName};
 use crate::making::{are_distinct, as_given, blocks_for, made_by};
 use crate::rows::Sketch;
 use crate::search::search;
+use crate::steady::are_steady;
 use crate::testing::is_lean;
 use pic_map::Placed;
 use std::alloc::{AllocError, Global};
@@ -28,7 +29,7 @@ fn kept(
 }
 
 /// The blocks of a program without instructions that what is known makes needless, or with operations on numbers or on W in their
-/// places. Main is copy 0, and the handler the copy with this number. Where no certificate is found that passes the test, the blocks
+/// places. Main is copy 0, and the handler the copy with this number. Where no certificate is found that passes the tests, the blocks
 /// stay as they are.
 #[tactic(auto, using(crate::proofs::Putting::names_stay))]
 pub fn lean(
@@ -37,7 +38,7 @@ pub fn lean(
     handler: Option<u16>,
     placed: &Placed,
 ) -> Result<Vec<SymBlock>, AllocError>
-    // The blocks are those that a certificate makes of the given ones that passes the test, or the given ones,
+    // The blocks are those that a certificate makes of the given ones that passes the tests, or the given ones,
     ensures lean { IfOk result (λ made. IsLean (layout_of placed.now) handler blocks.now made.items) }
     // and keep their names.
     ensures names { IfOk result (λ made. AllZip HasName blocks.now made.items) }
@@ -69,6 +70,9 @@ fn leaned(
         rest: plans.rest,
         hidden: plans.hidden,
     };
+    if !are_steady(&sketch.blocks) {
+        return kept(alloc, blocks, handler, placed);
+    }
     if !is_lean(alloc, &sketch, placed)? {
         return kept(alloc, blocks, handler, placed);
     }

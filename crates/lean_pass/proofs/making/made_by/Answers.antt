@@ -3,4 +3,4 @@ use Rattle.lean_pass.proofs.Putting.{is_made}
 use Rattle.lean_pass.proofs.making.made_by.Goals as goal
 
 pub returns : goal.returns
-returns c = is_made (layout_of c.args.placed.now) c.args.sketch.now c.args.given.now c.in_ok-made.made.items c.requires.tested c.in_ok-made.ensures
+returns c = is_made (layout_of c.args.placed.now) c.args.sketch.now c.args.given.now c.in_ok-made.made.items c.requires.tested c.requires.steady c.in_ok-made.ensures

@@ -1,0 +1,7 @@
+mod Rows
+mod Words
+mod Stretches
+pub mod Whole
+mod Routines
+mod Named
+pub mod Blocks

@@ -1,0 +1,27 @@
+//! What code costs of which a certificate leaves instructions out.
+//!
+//! In: nothing; the crate has proofs about certificates of lean_code. Out: nothing.
+//! The promise: at the prices that the code that is made has with its selects, carried back to the instructions that they are of, the given
+//! code is within the bounds that selection and the helpers were counted with.
+#![tactic(auto)]
+
+ghost use Rattle.lean_prices.specs.Prices.{BlocksAreSteady, LeanIsDear, LeanIsPriced, LeanBlocksAreDear, LeanRoutinesArePriced};
+
+/// In each block of a certificate that passes the test of skips, a skip and the instruction behind it stay or go together.
+pub fn blocks_are_steady()
+    ensures { BlocksAreSteady }
+{}
+
+/// Where straight instructions of the code that is made cost no more than their words with all selects that they may need, those of the
+/// given code don't, at the prices of what stays.
+pub fn lean_is_priced()
+    ensures dear { LeanIsDear }
+    ensures priced { LeanIsPriced }
+{}
+
+/// So it is of each block that a certificate makes, with its selects; and of a helper's routine, of which no more is left than asks for its
+/// frame's bank and its own page.
+pub fn lean_blocks_are_priced()
+    ensures dear { LeanBlocksAreDear }
+    ensures priced { LeanRoutinesArePriced }
+{}
