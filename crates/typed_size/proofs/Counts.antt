@@ -1,5 +1,5 @@
 -- The size of a typed program of the code is that of it as pure data.
-use Rattle.std.proofs.Common.{◌≡◌, ◌+◌, List, [], ◌∷◌, map, refl, arith}
+use Rattle.std.proofs.Common.{◌≡◌, List, [], ◌∷◌, map, refl, arith}
 use Rattle.std.proofs.lemmas.List.{length-map}
 use Rattle.c_typed.proofs.NodeCounts.{functions_count}
 use Rattle.c_typed.specs.Nodes.{total, program_size, variables}

@@ -12,16 +12,18 @@ use Rattle.type_rules.specs.Declarators.{specified, more_specs, spec_rule, membe
 use Rattle.type_rules.specs.Enumerators.{enumerator, more_enumerators}
 use Rattle.type_rules.specs.Expressions.{judged}
 use Rattle.type_rules.specs.Faults.{Fault}
-use Rattle.type_rules.specs.Known.{Known, Rule, given, known_here, go_on}
+use Rattle.type_rules.specs.Known.{Known, given, known_here, go_on}
 use Rattle.type_rules.specs.Outlines.{Param}
 use Rattle.type_rules.specs.Specifiers.{Specified}
 use Rattle.type_rules.specs.Statements.{Flow, SwitchBody, label_rule, statement, block_statement, statements, arm, other_arms, items}
 use Rattle.type_rules.specs.Terms.{Term}
 use Rattle.type_rules.specs.Units.{function, functions_of}
-use Rattle.typed_size.specs.Firsts.{FirstBroken, Exactly, outcome, items_outcome, in_file_outcome, in_block_outcome, declarations_outcome, members_outcome, fields_outcome, statements_outcome, enumerators_read, params_read, switch_read}
+use Rattle.typed_size.specs.Firsts.{FirstBroken, Exactly, items_outcome, in_file_outcome, in_block_outcome, declarations_outcome, members_outcome, fields_outcome, statements_outcome, enumerators_read, params_read, switch_read}
 use Rattle.typed_size.specs.Laws.{FirstFault}
 use Rattle.typed_size.specs.Nodes.{Placed, nodes_of, Part, TermPart, as_term_before, own, in_turn, Reading, read}
+use Rattle.typed_size.proofs.Chains.{outcome_given, chain, chain_to, chain_on}
 use Rattle.typed_size.proofs.Firsts.{and_then, breaks_first}
+use Rattle.typed_size.proofs.InParts.{list_met, list_broken, if_met, if_broken}
 use Rattle.typed_size.proofs.InTurn.{none_turn, one_turn, nodes_turn}
 use Rattle.typed_size.proofs.Ordered.{in_order}
 
@@ -72,16 +74,6 @@ judged_broken e from known fault =
 
 -- ---- lists of declarations and of statements
 
-outcome_given : {A B : Type 0} (f : A → B) (r : Result (A × Known) Fault) → outcome (go_on (λ x. given (f x)) r) ≡ outcome r
-outcome_given f (Ok x) = refl
-outcome_given f (Err fault) = refl
-
--- one part, and others behind it
-chain : {A B : Type 0} (r : Result (A × Known) Fault) (second last : A → Rule B) (rest : Known → Result Known Fault) → ((x : A) (k : Known) → outcome (second x k) ≡ rest k) → ((x : A) (k : Known) → outcome (last x k) ≡ Ok k)
-    → outcome (go_on second r) ≡ and_then (outcome (go_on last r)) rest
-chain (Ok x) second last rest h l = h x.0 x.1 ∙ ap (λ o. and_then o rest) (sym (l x.0 x.1))
-chain (Err fault) second last rest h l = refl
-
 items_next : (i : ItemTree) (is : List ItemTree) (k : Known) → items_outcome (i ∷ is) k ≡ and_then (items_outcome (i ∷ []) k) (items_outcome is)
 items_next (tree.Function s d b) is k = chain (function s d b k) (λ first. λ k2. go_on (λ others. given (first ∷ others)) (functions_of is k2)) (λ first. given (first ∷ [])) (items_outcome is)
     (λ first k2. outcome_given (λ others. first ∷ others) (functions_of is k2)) (λ first k2. refl)
@@ -125,16 +117,6 @@ statements_next flow s ss k = chain (statement s flow k) (λ first. λ k2. go_on
 
 -- ---- lists whose parts hand something on
 
--- one part from which something is made that is handed on
-chain_to : {A B : Type 0} (r : Result (B × Known) Fault) (made : B → A) (second last : A → Rule A) → ((x : A) (k : Known) → last x k ≡ Ok (x, k)) → go_on (λ x. second (made x)) r ≡ and_then (go_on (λ x. last (made x)) r) (λ s. second s.0 s.1)
-chain_to (Ok x) made second last l = ap (λ o. and_then o (λ s. second s.0 s.1)) (sym (l (made x.0) x.1))
-chain_to (Err fault) made second last l = refl
-
--- one part that hands something on, and others behind it
-chain_on : {A : Type 0} (r : Result (A × Known) Fault) (second last : A → Rule A) → ((x : A) (k : Known) → last x k ≡ Ok (x, k)) → go_on second r ≡ and_then (go_on last r) (λ s. second s.0 s.1)
-chain_on (Ok x) second last l = ap (λ o. and_then o (λ s. second s.0 s.1)) (sym (l x.0 x.1))
-chain_on (Err fault) second last l = refl
-
 enumerators_next : (e : ℕ × EnumeratorTree) (es : List (ℕ × EnumeratorTree)) (s : ℤ × Known) → enumerators_read (e ∷ es) s ≡ and_then (enumerators_read (e ∷ []) s) (enumerators_read es)
 enumerators_next e es s = chain_on (enumerator e.1 s.0 s.1) (more_enumerators (lists.more_enumerators es)) given (λ x k. refl)
 
@@ -171,4 +153,8 @@ first_fault = record {
   params = λ bodies. breaks_first (params_read bodies) (no_params bodies) (params_next bodies);
   statements = λ flow. breaks_first (statements_outcome flow) (no_statements flow) (statements_next flow);
   switches = λ flow ty. breaks_first (switch_read flow ty) (no_switch flow ty) (switch_next flow ty);
+  list_met = list_met;
+  list_broken = list_broken;
+  if_met = if_met;
+  if_broken = if_broken;
 }

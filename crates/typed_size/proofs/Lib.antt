@@ -18,4 +18,6 @@ pub mod Examples
 pub mod InTurn
 pub mod Firsts
 pub mod Ordered
+pub mod Chains
+pub mod InParts
 pub mod FirstFaults

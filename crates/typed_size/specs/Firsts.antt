@@ -15,6 +15,7 @@ use Rattle.type_rules.specs.Outlines.{Param}
 use Rattle.type_rules.specs.Statements.{Flow, SwitchBody, statements, items}
 use Rattle.type_rules.specs.Units.{functions_of}
 use Rattle.typed_size.specs.Nodes.{Placed}
+use Rattle.typed_size.specs.Parts.{IfPart, if_in_turn}
 
 -- An element of a list breaks a rule, where all before it are fine: these lead from one state to another, and there the element breaks the
 -- rule.
@@ -66,6 +67,9 @@ fields_outcome said number declarators known = outcome (more_fields (lists.more_
 
 abbrev pub statements_outcome : Flow → List StatementTree → Known → Result Known Fault
 statements_outcome flow ss known = outcome (statements (statements_of ss) flow known)
+
+abbrev pub if_read : Flow → List IfPart → Known → Result Known Fault
+if_read flow ps known = outcome (if_in_turn flow ps known)
 
 -- ---- lists whose parts hand something on: the number of the next enumerator, the parameters before, the body of a switch so far
 

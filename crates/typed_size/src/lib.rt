@@ -15,8 +15,9 @@ pub fn judged_small()
     ensures bounded { JudgedBounded }
 {}
 
-/// The rule that is told as broken is the first in the order of the text: of the nodes of an expression, operands before their operators, and of
-/// declarations, declarators, members, enumerators, parameters, statements and labels. All before it are fine, and where all are fine no rule is broken.
+/// The rule that is told as broken is the first in the order of the text: of the nodes of an expression, operands before their operators; of
+/// declarations, declarators, members, enumerators, parameters, statements and labels; of the items of a list of initializers and its end; and of the
+/// conditions and statements of an `if`. All before it are fine, and where all are fine no rule is broken.
 pub fn first_fault()
     ensures first { FirstFault }
 {}
