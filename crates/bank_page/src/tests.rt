@@ -37,11 +37,7 @@ fn can_select(placed: &Placed, list: &[Sym]) -> bool
 }
 
 // A program of one block with its selects, or one without a block where selects can't be put into it.
-fn selected(
-    alloc: Global,
-    block: SymBlock,
-    placed: &Placed,
-) -> Result<SymProgram, AllocError> {
+fn selected(alloc: Global, block: SymBlock, placed: &Placed) -> Result<SymProgram, AllocError> {
     let mut blocks = Vec::new(alloc);
     if !can_select(placed, &block.list) {
         return Ok(SymProgram { blocks });
