@@ -119,7 +119,7 @@ module _ (placed : Placed) (home : Byte → Bool) (bank : ℕ) where
       let behind = needs_in placed rest in (
         record { bank = one.0; page = m.0.page },
         steady s rest fine ∙ ap (λ (k : Bool). if k then both b behind else needs_one s b) skip ∙ ap (λ (x : Option (Option ℕ)). both x behind) one.1 ∙ ap (both (Some one.0)) m.1
-        ∙ ap (λ (x : Option ℕ). with_bank (both_banks one.0 x) m.0) m.2 ∙ ap (λ (x : Option (Option ℕ)). with_bank x m.0) (alone_bank one.0),
+            ∙ ap (λ (x : Option ℕ). with_bank (both_banks one.0 x) m.0) m.2 ∙ ap (λ (x : Option (Option ℕ)). with_bank x m.0) (alone_bank one.0),
       )
 
   with_alone : (s : Sym) (rest : List Sym) → is_steady s ≡ true → is_skip s ≡ true → HavePlaces placed home bank rest → (is_none (byte_of s) && goes_alone rest) ≡ true → Told (s ∷ rest)
