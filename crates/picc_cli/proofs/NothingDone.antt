@@ -95,9 +95,10 @@ not_simulated (Some (Generate functions)) (Some o) board p = tt
 pub no_end : (form : Option Form) (kind : Kind) (before now : ℕ) (old : Option Contents) → IfSome old (λ o. IsComplete kind before now form o 9)
 no_end form kind before now None = tt
 no_end None kind before now (Some o) = λ quiet. inr refl
-no_end (Some (Build names)) kind before now (Some o) = λ quiet. record { accepted = λ text a b. inr refl; refused = λ text refusal a b. inr refl }
+no_end (Some (Build names)) kind before now (Some o) = λ quiet. record { ends = λ text a. inr (inr refl); accepted = λ text a b. inr refl; refused = λ text refusal a b. inr refl }
 no_end (Some (Trace asked)) kind before now (Some o) = λ quiet.
     record {
+      ends = λ text script a b. inr (inr (inr refl));
       no_script = λ text script a b c. inr refl;
       accepted = λ text script a b c d. inr (inr refl);
       refused = λ text script refusal a b c d. inr refl;
@@ -115,6 +116,7 @@ no_end (Some (Agree asked)) kind before now (Some o) = λ quiet.
       ends = inr (inr (inr (inr refl)));
       files =
           record {
+            ends = λ text script a b. inr (inr (inr refl));
             no_script = λ text script a b c. inr refl;
             accepted = λ text script a b c d. inr (inr refl);
             refused = λ text script refusal a b c d. inr refl;
