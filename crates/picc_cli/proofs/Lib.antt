@@ -17,6 +17,7 @@ pub mod FormPrints
 pub mod ChipEnds
 pub mod Sound
 pub mod NothingDone
+pub mod SimulationStops
 pub mod SimulationEnds
 pub mod AgreementEnds
 pub mod SizesTold
