@@ -1,5 +1,5 @@
 -- Places that a run of a sound program comes to: a register that one names is in the table.
-use Rattle.std.proofs.Common.{◌≡◌, ℕ, zero, suc, ◌+◌, Bool, true, false, ◌&&◌, List, [], ◌∷◌, Option, Some, None, refl, sym, subst}
+use Rattle.std.proofs.Common.{◌≡◌, ℕ, Bool, true, false, List, ◌∷◌, Some, None, refl, sym, subst}
 use Rattle.std.proofs.lemmas.Bool.{and_parts, false≢true}
 use Rattle.std.specs.Prelude.{if◌then◌else◌, is_some, nat_lt}
 use Rattle.c_typed.specs.Fits.{is_device, is_named, place_rule_holds, register_type}
@@ -11,13 +11,12 @@ use Rattle.c_typed.specs.declared.types.Qualified.{Qualified}
 use Rattle.c_typed.specs.declared.types.Ty.{Ty}
 use Rattle.pic_world.specs.Registers.{name_at}
 use Rattle.src_rules.specs.Parts.{IsExpressionOf, IsPlaceOf}
-use Rattle.src_rules.specs.Standing.{CopyStands, Copying, Fetches, FetchStands, GotStands, IsFound, IsSpotOf, IsWritten, SkimStands, Skims, SpellStands, Spells, StackStands, StageStands, Writes, WriteStands, stepped}
-use Rattle.src_values.specs.Control.{Got, Nothing, Chosen, One, At, AtWith, Stores, Copies, Args, Passed, Called, Stage, Tests, Begins, Steps, Turns, Picks, InArm, Chooses, Fills, AtItem, Items, Blanks, Pending, In, To, Doing, Before, Returns, Resumes}
+use Rattle.src_rules.specs.Standing.{CopyStands, Copying, Fetches, FetchStands, IsFound, IsSpotOf, IsWritten, SkimStands, Skims, SpellStands, Spells, StackStands, Writes, WriteStands, stepped}
+use Rattle.src_values.specs.Control.{At, AtWith, Stores, Copies, Fills, Items, Pending, In, Doing}
 use Rattle.src_values.specs.Data.{Datum}
 use Rattle.src_values.specs.Objects.{spot_of}
 use Rattle.src_values.specs.declared.objects.Byte.{Byte}
 use Rattle.src_values.specs.declared.objects.CopyOf.{CopyOf}
-use Rattle.src_values.specs.declared.objects.Pointer.{Pointer}
 use Rattle.src_values.specs.declared.objects.Pointer.TheVariants.{Null, Into}
 use Rattle.src_values.specs.declared.objects.Spot.{Spot}
 use Rattle.src_values.specs.declared.objects.Spot.TheVariants as spots
@@ -47,7 +46,7 @@ unfolding place_rule_holds is_device
 name_named p c (names.Static n) ty line h = tt
 name_named p c (names.Param n) ty line h = tt
 name_named p c (names.Local n) ty line h = tt
-name_named p c (names.Register address) ty line h = device_named (is_some (name_at address)) ty _ h
+name_named p c (names.Register address) ty line h = device_named (is_some (name_at address)) ty false h
 
 bit_named : (p : Program) (c : CopyOf) (register number line : ℕ) → IsPlaceOf p c.function (tree.Bit register number line) → is_some (name_at register) ≡ true
 unfolding place_rule_holds is_device

@@ -1,5 +1,5 @@
 -- Each micro-step from a state that stands makes an event with a name, or none.
-use Rattle.std.proofs.Common.{◌≡◌, ℕ, zero, suc, ◌+◌, ◌-◌, Bool, true, false, List, [], ◌∷◌, ◌++◌, length, Option, Some, None, refl, sym, ap, subst}
+use Rattle.std.proofs.Common.{◌≡◌, ℕ, zero, suc, ◌+◌, ◌-◌, Bool, true, false, List, [], ◌∷◌, length, Option, Some, None, sym, ap}
 use Rattle.std.proofs.lemmas.Bool.{false≢true}
 use Rattle.std.specs.Prelude.{if◌then◌else◌, is_some, nat_lt}
 use Rattle.c_typed.specs.Trees as tree
@@ -10,10 +10,10 @@ use Rattle.event_names.proofs.Touched.{after_taking_named, after_putting_named, 
 use Rattle.event_names.specs.Names.{IsNamedIfAny, MakesNamed, StepsAreNamed}
 use Rattle.pic_world.specs.World.{Happening, World, arrived, device_value, is_due}
 use Rattle.src_rules.proofs.Quieting.{Quiet, eval_quiet, find_quiet, found_quiet, give_quiet, compares_quiet, turned_quiet, leave_quiet, fetched_quiet, items_quiet, stored_quiet, call_quiet, break_quiet, continue_quiet, arms_quiet, loops_quiet}
-use Rattle.src_rules.specs.Accesses.{blank, blank_at, blank_for, copy_read, copy_write, fetch, first_or_zero, is_any, put_bit, skim, spell, write, write_at}
+use Rattle.src_rules.specs.Accesses.{blank, blank_at, blank_for, copy_read, fetch, first_or_zero, is_any, skim, spell, write, write_at}
 use Rattle.src_rules.specs.Laws.{below}
-use Rattle.src_rules.specs.Standing.{CopyStands, FetchStands, FocusStands, SkimStands, SpellStands, StackStands, Stands, WriteStands}
-use Rattle.src_rules.specs.State.{State, Outcome, Went, Undefined, Idle, Lost}
+use Rattle.src_rules.specs.Standing.{FocusStands, StackStands}
+use Rattle.src_rules.specs.State.{Outcome, Went, Undefined, Idle, Lost}
 use Rattle.src_rules.specs.Statements.{begin, proceed, unwound}
 use Rattle.src_rules.specs.Step.{act, interrupted, refused, step, step_at}
 use Rattle.src_values.specs.Accesses.{device_taken, with_bit}

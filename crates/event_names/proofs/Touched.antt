@@ -1,18 +1,17 @@
 -- A read or a write of one byte at such a place makes an event with a name, or none.
-use Rattle.std.proofs.Common.{◌≡◌, ℕ, ◌<◌, Bool, true, false, not, Option, Some, None, List, length, refl, sym, ap, ◌∙◌, subst, arith}
-use Rattle.std.proofs.lemmas.Bool.{false≢true, ltb-true}
+use Rattle.std.proofs.Common.{◌≡◌, ℕ, ◌<◌, Bool, true, false, not, Option, Some, None, List, length, refl, arith}
+use Rattle.std.proofs.lemmas.Bool.{ltb-true}
 use Rattle.std.proofs.lemmas.Option.{slice_get_within}
 use Rattle.std.specs.Prelude.{if◌then◌else◌, is_some, nat_lt, slice_get}
 use Rattle.c_typed.specs.Trees.{Program, StaticTree}
 use Rattle.event_names.proofs.Spots.{SpotIsNamed}
-use Rattle.event_names.specs.Names.{IsNamed, IsNamedIfAny, MakesNamed}
-use Rattle.pic_world.specs.Bits.{bit}
+use Rattle.event_names.specs.Names.{IsNamedIfAny, MakesNamed}
 use Rattle.pic_world.specs.Registers.{name_at}
-use Rattle.pic_world.specs.World.{Happening, ReadOf, WriteOf, World, after_device_write, device_value, sets_gie}
+use Rattle.pic_world.specs.World.{Happening, ReadOf, WriteOf, World, after_device_write, sets_gie}
 use Rattle.pic_world.specs.declared.Cell.TheVariants.{Device, Static}
 use Rattle.pic_world.specs.declared.Root.{Root}
 use Rattle.src_rules.specs.Accesses.{after_taking, after_putting}
-use Rattle.src_values.specs.Accesses.{Taking, Takes, Breaks, Putting, Puts, Refuses, event_at, read_fault, write_fault, taken_unless, device_taken, take_byte, put_unless, device_put, put_byte}
+use Rattle.src_values.specs.Accesses.{Taking, Takes, Breaks, Putting, Puts, Refuses, event_at, taken_unless, take_byte, put_unless, device_put, put_byte}
 use Rattle.src_values.specs.Control.{Focus, Pending}
 use Rattle.src_values.specs.Memory.{Setting, Memory}
 use Rattle.src_values.specs.Objects.{bytes_of_static, is_watched, object_bytes}

@@ -1,5 +1,5 @@
 -- Each event of a run has a name.
-use Rattle.std.proofs.Common.{◌≡◌, ℕ, zero, suc, ◌+◌, List, [], ◌∷◌, ◌++◌, Option, Some, None, refl, sym, subst}
+use Rattle.std.proofs.Common.{◌≡◌, ℕ, zero, suc, List, [], ◌∷◌, ◌++◌, Option, Some, None, refl, sym, subst}
 use Rattle.c_typed.specs.Trees.{Program}
 use Rattle.event_names.proofs.Steps.{step_named}
 use Rattle.event_names.specs.Names.{AllNamed, IsNamed, IsNamedIfAny, MakesNamed, TakenAreNamed, TracesAreNamed}

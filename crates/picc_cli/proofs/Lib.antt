@@ -24,5 +24,6 @@ pub mod SizesTold
 pub mod FilesKept
 pub mod SimulationWhole
 pub mod AgreementWhole
+pub mod EventNames
 pub mod TracedRun
 pub mod TracedWhole
