@@ -1,5 +1,5 @@
 mod Accesses
-mod Answering
+pub mod Answering
 pub mod FromReset
 mod Going
 mod Stepping

@@ -18,6 +18,7 @@ pub mod ChipEnds
 pub mod Sound
 pub mod NothingDone
 pub mod SimulationStops
+pub mod ChipNames
 pub mod SimulationEnds
 pub mod AgreementEnds
 pub mod SizesTold

@@ -2,7 +2,6 @@
 
 ghost use Rattle.std.specs.Prelude.{◌≡◌, ◌≤◌, ◌+◌, ◌*◌, ◌++◌, [], true, false, length, option_map, IsTrue, IfOk, IfSome, OnOk, OnErr, Some};
 ghost use Rattle.host_io.specs.Host.{Closed, HasCause, NoFailure, PrintsPrefix};
-ghost use Rattle.pic_map.specs.EventText.{CanBeShown, event_text};
 ghost use Rattle.pic_map.specs.MapView.{content_of};
 ghost use Rattle.picc_cli.specs.Chip.{FailsWithoutFiles, IsRunEnd, Leads, RunPrints, ends_at_file, is_fault, last_line, status_of, unmodelled_text};
 ghost use Rattle.picc_cli.specs.Command.{Simulate};
@@ -23,7 +22,7 @@ use host_io::{Host, HostError};
 use pic_chip::{Chip, Image, Start};
 use pic_map::{Map, Tracer};
 use pic_sim::{Board, SimEnd, simulate as run_on};
-use pic_world::{Cell, Event, Script, Trace, register_name};
+use pic_world::{Script, Trace};
 use std::alloc::{AllocError, Global};
 
 /// What is unknown after power-on is 0 here.
@@ -223,6 +222,7 @@ fn feed(board: &mut Box<dyn Board>, script: &Script) -> Result<(), AllocError>
 
 /// Prints the line of each event of a run that ended so.
 fn print_run<H: Host>(alloc: Global, host: &mut H, map: &Map, trace: &Trace, end: SimEnd) -> Ended
+    requires { AllShown (content_of map.now) trace.now.events }
     ensures same_file { H.open_file host.new ≡ H.open_file host.old }
     ensures same_contents { H.contents host.new ≡ H.contents host.old }
     ensures same_kind { H.kind host.new ≡ H.kind host.old }
@@ -251,6 +251,7 @@ fn print_events<H: Host>(
     map: &Map,
     trace: &Trace,
 ) -> Result<(), HostError>
+    requires { AllShown (content_of map.now) trace.now.events }
     ensures same_file { H.open_file host.new ≡ H.open_file host.old }
     ensures same_contents { H.contents host.new ≡ H.contents host.old }
     ensures same_kind { H.kind host.new ≡ H.kind host.old }
@@ -261,43 +262,7 @@ fn print_events<H: Host>(
     ensures sound { NoFailure (H.kind host.old) result }
 {
     for i in 0..trace.len() {
-        print_shown(alloc, host, map, trace.get(i))?;
+        print_event(alloc, host, map, trace.get(i))?;
     }
     Ok(())
-}
-
-/// Prints the line of an event. A cell without a name has none, and gives up as if out of memory; no run over a board
-/// comes to one.
-fn print_shown<H: Host>(
-    alloc: Global,
-    host: &mut H,
-    map: &Map,
-    event: Event,
-) -> Result<(), HostError>
-    ensures all { OnOk result (CanBeShown (content_of map.now) event × (H.printed host.new ≡ option_map (λ t. t ++ event_text (content_of map.now) event) (H.printed host.old))) }
-    ensures prefix { OnErr result (PrintsPrefix (H.printed host.old) (H.printed host.new) (event_text (content_of map.now) event)) }
-    ensures same_file { H.open_file host.new ≡ H.open_file host.old }
-    ensures same_contents { H.contents host.new ≡ H.contents host.old }
-    ensures same_kind { H.kind host.new ≡ H.kind host.old }
-    ensures cause { HasCause (H.kind host.old) (H.faults host.old) (H.faults host.new) result }
-    ensures sound { NoFailure (H.kind host.old) result }
-{
-    if can_be_shown(map, event) {
-        print_event(alloc, host, map, event)
-    } else {
-        Err(HostError::NoMemory)
-    }
-}
-
-/// Whether an event's cell has a name.
-fn can_be_shown(map: &Map, event: Event) -> bool
-    ensures { IsTrue result → CanBeShown (content_of map.now) event }
-{
-    match event {
-        Event::Read { cell, .. } | Event::Write { cell, .. } => match cell {
-            Cell::Device { address } => register_name(address).is_some(),
-            Cell::Static { object, .. } => (object as usize) < map.objects.len(),
-        },
-        Event::End => true,
-    }
 }
