@@ -1,7 +1,7 @@
 -- Each event of a run of the chip, seen by a map, has a name in it.
-use Rattle.std.proofs.Common.{◌≡◌, ℕ, zero, suc, ◌+◌, ◌-◌, ◌<◌, Bool, true, false, not, ◌&&◌, Option, Some, None, List, [], ◌∷◌, ◌++◌, map, length, nat_eq, refl, sym, ap, ◌∙◌, subst, arith}
+use Rattle.std.proofs.Common.{◌≡◌, ℕ, zero, suc, ◌+◌, ◌-◌, ◌<◌, Bool, true, false, not, ◌&&◌, Option, Some, None, List, [], ◌∷◌, ◌++◌, map, length, nat_eq, refl, sym, ◌∙◌, subst, arith}
 use Rattle.std.proofs.lemmas.List.{length-map}
-use Rattle.std.specs.Prelude.{get_or, if◌then◌else◌, is_some}
+use Rattle.std.specs.Prelude.{get_or, if◌then◌else◌}
 use Rattle.pic_chip.specs.Act.{Made, accesses}
 use Rattle.pic_chip.specs.Instructions.{execute}
 use Rattle.pic_chip.specs.Interrupts.{begun}
@@ -17,7 +17,7 @@ use Rattle.pic_sim.specs.Going.{Known, Point, Ran}
 use Rattle.pic_sim.specs.declared.running.SimEnd.{SimEnd}
 use Rattle.pic_sim.specs.declared.running.SimEnd.TheVariants as sim
 use Rattle.pic_world.specs.Arrivals.{arriving}
-use Rattle.pic_world.specs.Registers.{is_register, lowest, name_at}
+use Rattle.pic_world.specs.Registers.{is_register, lowest}
 use Rattle.pic_world.specs.declared.Cell.{Cell}
 use Rattle.pic_world.specs.declared.Cell.TheVariants.{Device, Static}
 use Rattle.pic_world.specs.declared.Event.{Event}

@@ -1,20 +1,18 @@
 -- Whether a simulation stops is whether the run of the chip's own definitions does.
-use Rattle.std.proofs.Common.{◌≡◌, ℕ, zero, suc, ◌+◌, ◌-◌, ◌%◌, ◌<◌, ◌⊎◌, inl, inr, ⊎_elim, Bool, true, false, Option, Some, None, IsSome, Result, Ok, List, [], ◌∷◌, ◌++◌, length, refl, sym, ap, ◌∙◌, subst, arith, append-nil, append_assoc}
+use Rattle.std.proofs.Common.{◌≡◌, ℕ, suc, ◌+◌, ◌-◌, ◌%◌, inl, inr, ⊎_elim, Bool, true, false, Option, IsSome, Result, Ok, List, [], ◌∷◌, ◌++◌, length, refl, sym, ap, ◌∙◌, subst, arith, append_assoc}
 use Rattle.std.proofs.lemmas.List.{append_cancel_left}
 use Rattle.hex_image.proofs.Found.{is_read, only}
 use Rattle.hex_image.specs.HexFile.{IsHexFile}
 use Rattle.hex_image.specs.declared.read.HexError.{HexError}
 use Rattle.host_io.specs.Host.{Contents}
-use Rattle.pic_chip.specs.Machine.{Machine}
 use Rattle.pic_chip.specs.Run.{Moment, moment}
 use Rattle.pic_map.proofs.FileLaws as maps
 use Rattle.pic_map.specs.MapContent.{MapContent}
 use Rattle.pic_map.specs.MapFile.{IsMapFile}
-use Rattle.pic_map.specs.Tracing.{Tracing}
 use Rattle.pic_sim.proofs.FromReset.{begins, goes_on, stops_for_good}
 use Rattle.pic_sim.specs.Board.{Followed, Lists}
 use Rattle.pic_sim.specs.FromReset.{around}
-use Rattle.pic_sim.specs.Going.{HasBytes, HasMasks, IsAt, Known, Point, Ran, Stops, Within}
+use Rattle.pic_sim.specs.Going.{HasBytes, HasMasks, IsAt, Known, Point}
 use Rattle.pic_sim.specs.declared.board.Exchange.{Exchange}
 use Rattle.pic_sim.specs.declared.running.SimEnd.TheVariants as sim
 use Rattle.pic_world.specs.Arrivals.{arriving}
