@@ -1,5 +1,5 @@
 mod Accesses
-mod Answering
-mod FromReset
+pub mod Answering
+pub mod FromReset
 mod Going
 mod Stepping

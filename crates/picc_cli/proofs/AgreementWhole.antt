@@ -10,11 +10,11 @@ use Rattle.picc_cli.specs.declared.comparing.Ended.TheVariants.{Same, Undefined,
 use Rattle.picc_cli.specs.declared.inputs.FileEnd.{FileEnd}
 use Rattle.picc_cli.specs.Agreement.{AgreementTells, Knows, status_of}
 use Rattle.picc_cli.specs.Command.{Compared}
-use Rattle.picc_cli.specs.Finished.{AgreementCompletes}
+use Rattle.picc_cli.specs.Finished.{AgreementCompletes, ReadsEnd}
 use Rattle.picc_cli.specs.Inputs.{HasNoScript}
 use Rattle.picc_cli.specs.Said.{GivesUp}
 use Rattle.picc_cli.specs.ScriptInput.{IsScript}
-use Rattle.picc_cli.proofs.FilesKept.{same_bytes, script_kept, file_ends}
+use Rattle.picc_cli.proofs.FilesKept.{same_bytes, script_kept, script_ends, file_ends}
 
 module _ (asked : Compared) (o : Contents) (result : ℕ) (quiet : result ≡ 3 → ⊥) where
   nine : GivesUp result → result ≡ 9
@@ -54,6 +54,17 @@ module _ (asked : Compared) (o : Contents) (result : ℕ) (quiet : result ≡ 3 
   refused_ends (NoScript end) k e text script refusal reads has is tells = inr (kept_ends end k e script has is)
   refused_ends NoMemory k e text script refusal reads has is tells = inr e
 
+  read_ends : (ended : Ended) → Knows asked o ended → result ≡ status_of ended → (text script : List ℕ) → o asked.input ≡ Some text → o asked.script ≡ Some script → ReadsEnd text script result
+  read_ends (Same events) k e text script reads has =
+      inl (inl e, subst IsScript (same_bytes o asked.script k.script script k.has_script has) k.of_script, subst IsAcceptedText (same_bytes o asked.input k.text text k.has_text reads) k.of_text)
+  read_ends (Undefined kind line) k e text script reads has =
+      inl (inr e, subst IsScript (same_bytes o asked.script k.script script k.has_script has) k.of_script, subst IsAcceptedText (same_bytes o asked.input k.text text k.has_text reads) k.of_text)
+  read_ends (Refused refusal) k e text script reads has =
+      inr (inl (e, subst IsScript (same_bytes o asked.script k.script script k.has_script has) k.of_script, (refusal, subst (λ t. Tells t refusal) (same_bytes o asked.input k.text text k.has_text reads) k.of_text)))
+  read_ends CannotReadText k e text script reads has = absurd (quiet e)
+  read_ends (NoScript end) k e text script reads has = inr (inr (script_ends o asked.script end k result quiet e script has))
+  read_ends NoMemory k e text script reads has = inr (inr (inr e))
+
   pub agreement_whole : (before after : Option (List ℕ)) → AgreementTells asked o before after result → (result ≡ 0) ⊎ ((result ≡ 1) ⊎ ((result ≡ 4) ⊎ ((result ≡ 5) ⊎ (result ≡ 9))))
       → AgreementCompletes asked o result
   agreement_whole before after t ends =
@@ -61,6 +72,7 @@ module _ (asked : Compared) (o : Contents) (result : ℕ) (quiet : result ≡ 3 
         ends = ends;
         files =
             record {
+              ends = λ text script reads has. ⊎_elim (λ said. read_ends t.ended t.knows said.0 text script reads has) (λ up. inr (inr (inr (nine up.0)))) t.last;
               no_script = λ text script reads has none. ⊎_elim (λ said. no_script_ends t.ended t.knows said.0 script has none) (λ up. inr (nine up.0)) t.last;
               accepted = λ text script reads has is accepted.
                   ⊎_elim (λ said. accepted_ends t.ended t.knows said.0 text script reads has is accepted) (λ up. inr (inr (nine up.0))) t.last;

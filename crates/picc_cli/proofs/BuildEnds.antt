@@ -9,11 +9,11 @@ use Rattle.picc_core.specs.Answers.{Tells}
 use Rattle.picc_core.specs.Decided.{IsAcceptedText}
 use Rattle.picc_core.specs.declared.refusal.Refusal.{Refusal}
 use Rattle.picc_cli.specs.Command.{Names, Form, Build}
-use Rattle.picc_cli.specs.Finished.{HasStatus, BuildHasFiles, BuildPrints, HasTold, IsComplete}
+use Rattle.picc_cli.specs.Finished.{HasStatus, BuildHasFiles, BuildPrints, HasTold, IsComplete, IsRefusedText}
 use Rattle.picc_cli.specs.Lines.{cannot_read}
 use Rattle.picc_cli.specs.Outcome.{Refuses, BreaksOff, WorkedOn, is_fault, FailsWithoutInput, line_of, status_of}
 use Rattle.picc_cli.specs.Said.{GivesUp, HasOutcomeCause, Says}
-use Rattle.picc_cli.proofs.Endings.{number_apart, up_apart, add_nothing, whole_line, counted_later, quiet_ends}
+use Rattle.picc_cli.proofs.Endings.{number_apart, up_apart, add_nothing, whole_line, counted_later, quiet_ends, quiet_nine}
 use Rattle.picc_cli.proofs.FilesKept.{same_bytes}
 
 module _ (names : Names) where
@@ -196,6 +196,16 @@ module _ (names : Names) where
   build_told outcome (Some o) middle new kind before now p still q result w same quiet (inr u) = λ one. up_apart 1 result (omega arith) one u.ends
 
   -- ---- without a fault
+  text_ends : (outcome : Outcome) (o : Contents) (new : Option Contents) (result : ℕ) → WorkedOn outcome names o new → result ≡ status_of outcome
+      → (is_fault outcome ≡ true → ⊥) → (text : List ℕ) → o names.input ≡ Some text → ((result ≡ 0) × IsAcceptedText text) ⊎ (((result ≡ 1) × IsRefusedText text) ⊎ (result ≡ 9))
+  text_ends Built o new result w e quiet text read = inl (e, subst IsAcceptedText (same_bytes o names.input w.text text w.read read) w.built.accepted)
+  text_ends (Refused refusal) o new result w e quiet text read =
+      inr (inl (e, (refusal, subst (λ t. Tells t refusal) (same_bytes o names.input w.text text w.read read) w.tells)))
+  text_ends CannotRead o new result w e quiet text read = absurd (quiet refl)
+  text_ends CannotWriteHex o new result w e quiet text read = absurd (quiet refl)
+  text_ends CannotWriteMap o new result w e quiet text read = absurd (quiet refl)
+  text_ends NoMemory o new result w e quiet text read = inr (inr e)
+
   accepted_ends : (outcome : Outcome) (o : Contents) (new : Option Contents) (result : ℕ) → WorkedOn outcome names o new → result ≡ status_of outcome
       → (is_fault outcome ≡ true → ⊥) → (text : List ℕ) → o names.input ≡ Some text → IsAcceptedText text → (result ≡ 0) ⊎ (result ≡ 9)
   accepted_ends Built o new result w e quiet text read accepted = inl e
@@ -222,12 +232,14 @@ module _ (names : Names) where
   complete_at kind outcome o middle first before now p q result w cause (inl s) = λ quiet.
       let no_fault : is_fault outcome ≡ true → ⊥ = λ fault. quiet (subst (IsCounted kind first) (sym s.kept) (cause.failed fault)) in
       record {
+        ends = λ text read. text_ends outcome o middle result w s.ends no_fault text read;
         accepted = λ text read is. accepted_ends outcome o middle result w s.ends no_fault text read is;
         refused = λ text refusal read tells. refused_ends outcome o middle result w s.ends no_fault text refusal read tells;
       }
   complete_at kind outcome o middle first before now p q result w cause (inr u) = λ quiet.
       let no_three : result ≡ 3 → ⊥ = λ three. quiet (counted_later kind first before now cause.never_falls (u.failed three)) in
       record {
+        ends = λ text read. inr (inr (quiet_nine result no_three u.ends));
         accepted = λ text read is. quiet_ends 0 result no_three u.ends;
         refused = λ text refusal read tells. quiet_ends 1 result no_three u.ends;
       }

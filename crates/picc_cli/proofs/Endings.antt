@@ -30,6 +30,10 @@ counted_later kind first before now low (inr (last, same)) =
     (λ h. let e : before ≡ first = omega arith in inr (subst (λ n. kind.last ≡ Some n) e last, same ∙ e))
     (cases_lt first before)
 
+pub quiet_nine : (result : ℕ) → (result ≡ 3 → ⊥) → GivesUp result → result ≡ 9
+quiet_nine result never (inl three) = absurd (never three)
+quiet_nine result never (inr nine) = nine
+
 pub quiet_ends : (n result : ℕ) → (result ≡ 3 → ⊥) → GivesUp result → (result ≡ n) ⊎ (result ≡ 9)
 quiet_ends n result never (inl three) = absurd (never three)
 quiet_ends n result never (inr nine) = inr nine

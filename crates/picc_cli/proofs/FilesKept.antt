@@ -10,7 +10,7 @@ use Rattle.picc_cli.specs.declared.inputs.FileEnd.TheVariants as files
 use Rattle.picc_cli.specs.Inputs as inputs
 use Rattle.picc_cli.specs.Inputs.{IsHexInput, IsMapInput, IsScriptInput, HasNoHex, HasNoMap, HasNoScript}
 use Rattle.picc_cli.specs.Said.{GivesUp}
-use Rattle.picc_cli.specs.ScriptInput.{IsFile}
+use Rattle.picc_cli.specs.ScriptInput.{IsFile, IsScript}
 
 pub same_bytes : (o : Contents) (name bytes other : List ℕ) → o name ≡ Some bytes → o name ≡ Some other → bytes ≡ other
 same_bytes o name bytes other a b = let both : Some bytes ≡ Some other = sym a ∙ b in cc
@@ -50,3 +50,14 @@ file_ends files.TooLong result quiet e = inl e
 file_ends (files.BadHex error) result quiet e = inl e
 file_ends (files.BadLine line) result quiet e = inl e
 file_ends files.NoMemory result quiet e = inr e
+
+-- where a script was refused there is none
+pub script_ends : (o : Contents) (name : List ℕ) (end : FileEnd) → HasNoScript o name end → (result : ℕ) → (result ≡ 3 → ⊥) → result ≡ inputs.status_of end → (script : List ℕ) → o name ≡ Some script
+    → ((result ≡ 5) × (IsScript script → ⊥)) ⊎ (result ≡ 9)
+script_ends o name files.CannotRead none result quiet e script has = absurd (quiet e)
+script_ends o name files.NoMemory none result quiet e script has = inr e
+script_ends o name files.TooLong (other, there, long) result quiet e script has =
+    inl (e, λ is. let l = ap (length {A = ℕ}) (same_bytes o name script other has there) in let short = is.short in absurd (omega arith))
+script_ends o name (files.BadLine line) (other, there, bad) result quiet e script has =
+    inl (e, λ is. bad.none is.content (subst (λ b. IsScriptFile b is.content) (same_bytes o name script other has there) is.file))
+script_ends o name (files.BadHex error) none result quiet e script has = absurd none

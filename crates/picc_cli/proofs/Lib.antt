@@ -17,11 +17,14 @@ pub mod FormPrints
 pub mod ChipEnds
 pub mod Sound
 pub mod NothingDone
+pub mod SimulationStops
+pub mod ChipNames
 pub mod SimulationEnds
 pub mod AgreementEnds
 pub mod SizesTold
 pub mod FilesKept
 pub mod SimulationWhole
 pub mod AgreementWhole
+pub mod EventNames
 pub mod TracedRun
 pub mod TracedWhole

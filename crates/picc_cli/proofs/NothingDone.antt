@@ -9,10 +9,12 @@ use Rattle.picc_cli.specs.Command.{Form, Build, Trace, Simulate, Agree, Generate
 use Rattle.picc_cli.specs.Finished.{HasFiles, HasFaults, IsStatus, HasStatus, HasPrinted, HasTold, IsComplete}
 use Rattle.pic_sim.specs.Going.{Known}
 use Rattle.picc_cli.specs.Generated.{generated}
-use Rattle.picc_cli.specs.Simulation.{HasSimulated}
+use Rattle.picc_cli.specs.Said.{IsLast}
+use Rattle.picc_cli.specs.Simulation.{HasSimulated, Knows}
 use Rattle.picc_cli.specs.Lines.{usage_line}
 use Rattle.picc_cli.specs.Summary.{summary_line}
 use Rattle.picc_cli.proofs.Endings.{add_nothing}
+use Rattle.picc_cli.proofs.SimulationStops.{stops_as_run}
 
 pub nothing_of : (p : Option (List ℕ)) (text : List ℕ) → PrintsPrefix p p text
 nothing_of p [] = (0, omega arith, sym (add_nothing p))
@@ -88,16 +90,20 @@ not_simulated form None board p = tt
 not_simulated None (Some o) board p = tt
 not_simulated (Some (Build names)) (Some o) board p = tt
 not_simulated (Some (Trace asked)) (Some o) board p = tt
-not_simulated (Some (Simulate asked)) (Some o) board p = record { ended = chip.NoMemory; middle = p; knows = inl (refl, refl); last = inr (inr refl, nothing_of p []) }
+not_simulated (Some (Simulate asked)) (Some o) board p =
+    let knows : Knows asked o board board chip.NoMemory p p = inl (refl, refl) in
+    let last : IsLast 9 [] p p 9 = inr (inr refl, nothing_of p []) in
+    record { ended = chip.NoMemory; middle = p; knows = knows; last = last; stops = stops_as_run asked o board board chip.NoMemory p p p 9 knows last }
 not_simulated (Some (Agree asked)) (Some o) board p = tt
 not_simulated (Some (Generate functions)) (Some o) board p = tt
 
 pub no_end : (form : Option Form) (kind : Kind) (before now : ℕ) (old : Option Contents) → IfSome old (λ o. IsComplete kind before now form o 9)
 no_end form kind before now None = tt
 no_end None kind before now (Some o) = λ quiet. inr refl
-no_end (Some (Build names)) kind before now (Some o) = λ quiet. record { accepted = λ text a b. inr refl; refused = λ text refusal a b. inr refl }
+no_end (Some (Build names)) kind before now (Some o) = λ quiet. record { ends = λ text a. inr (inr refl); accepted = λ text a b. inr refl; refused = λ text refusal a b. inr refl }
 no_end (Some (Trace asked)) kind before now (Some o) = λ quiet.
     record {
+      ends = λ text script a b. inr (inr (inr refl));
       no_script = λ text script a b c. inr refl;
       accepted = λ text script a b c d. inr (inr refl);
       refused = λ text script refusal a b c d. inr refl;
@@ -115,6 +121,7 @@ no_end (Some (Agree asked)) kind before now (Some o) = λ quiet.
       ends = inr (inr (inr (inr refl)));
       files =
           record {
+            ends = λ text script a b. inr (inr (inr refl));
             no_script = λ text script a b c. inr refl;
             accepted = λ text script a b c d. inr (inr refl);
             refused = λ text script refusal a b c d. inr refl;

@@ -11,15 +11,15 @@ use Rattle.picc_cli.specs.declared.inputs.FileEnd.TheVariants.{CannotRead}
 use Rattle.picc_cli.specs.declared.tracing.Ended.{Ended}
 use Rattle.picc_cli.specs.declared.tracing.Ended.TheVariants.{Done, Undefined, Refused, CannotReadText, NoScript, CannotPrint, NoMemory}
 use Rattle.picc_cli.specs.Command.{Asked, Form, Trace}
-use Rattle.picc_cli.specs.Finished.{LacksFile, HasFaults, IsStatus, HasStatus, TracePrints, TraceTells, HasTold, IsComplete}
+use Rattle.picc_cli.specs.Finished.{LacksFile, HasFaults, IsStatus, HasStatus, TracePrints, TraceTells, HasTold, IsComplete, ReadsEnd}
 use Rattle.picc_cli.specs.Inputs as inputs
 use Rattle.picc_cli.specs.Lines.{cannot_read}
 use Rattle.picc_cli.specs.Said.{GivesUp, HasOutcomeCause, Says}
 use Rattle.picc_cli.specs.ScriptInput.{IsScript}
 use Rattle.picc_cli.specs.Trace.{Knows, is_fault, FailsWithoutFiles, AreEventLines, last_line, Leads, IsTraceText, status_of}
-use Rattle.picc_cli.proofs.Endings.{number_apart, counted_later, quiet_ends, said_prefix}
+use Rattle.picc_cli.proofs.Endings.{number_apart, counted_later, quiet_ends, quiet_nine, said_prefix}
 use Rattle.picc_cli.proofs.Files.{longer, later}
-use Rattle.picc_cli.proofs.FilesKept.{same_bytes, script_kept, file_ends}
+use Rattle.picc_cli.proofs.FilesKept.{same_bytes, script_kept, script_ends, file_ends}
 use Rattle.picc_cli.proofs.FormEnds.{form_faults}
 use Rattle.picc_cli.proofs.FormPrints.{then_more, prefix_of_nothing}
 use Rattle.picc_cli.proofs.InputFiles.{file_three, file_fault}
@@ -244,12 +244,27 @@ module _ (asked : Asked) where
   refused_ends CannotPrint o result k e quiet text script refusal reads has is tells = absurd (quiet refl)
   refused_ends NoMemory o result k e quiet text script refusal reads has is tells = inr e
 
+  read_ends : (ended : Ended) (o : Contents) (result : ℕ) → Knows asked o ended → result ≡ status_of ended → (is_fault ended ≡ true → ⊥) → (text script : List ℕ)
+      → o asked.input ≡ Some text → o asked.script ≡ Some script → ReadsEnd text script result
+  read_ends Done o result k e quiet text script reads has =
+      inl (inl e, subst IsScript (same_bytes o asked.script k.script script k.has_script has) k.of_script, subst IsAcceptedText (same_bytes o asked.input k.text text k.has_text reads) k.of_text)
+  read_ends (Undefined kind line) o result k e quiet text script reads has =
+      inl (inr e, subst IsScript (same_bytes o asked.script k.script script k.has_script has) k.of_script, subst IsAcceptedText (same_bytes o asked.input k.text text k.has_text reads) k.of_text)
+  read_ends (Refused refusal) o result k e quiet text script reads has =
+      inr (inl (e, subst IsScript (same_bytes o asked.script k.script script k.has_script has) k.of_script, (refusal, subst (λ t. Tells t refusal) (same_bytes o asked.input k.text text k.has_text reads) k.of_text)))
+  read_ends CannotReadText o result k e quiet text script reads has = absurd (quiet refl)
+  read_ends (NoScript end) o result k e quiet text script reads has =
+      inr (inr (script_ends o asked.script end k result (λ three. quiet (file_three end (sym e ∙ three))) e script has))
+  read_ends CannotPrint o result k e quiet text script reads has = absurd (quiet refl)
+  read_ends NoMemory o result k e quiet text script reads has = inr (inr (inr e))
+
   complete_at : (kind : Kind) (ended : Ended) (o : Contents) (first before now : ℕ) (p q : Option (List ℕ)) (result : ℕ)
       → Knows asked o ended → HasOutcomeCause kind first before (is_fault ended)
       → Says kind before now p q (last_line asked ended) (status_of ended) result → IsComplete kind first now form o result
   complete_at kind ended o first before now p q result knows cause (inl s) = λ quiet.
       let no_fault : is_fault ended ≡ true → ⊥ = λ fault. quiet (subst (IsCounted kind first) (sym s.kept) (cause.failed fault)) in
       record {
+        ends = λ text script reads has. read_ends ended o result knows s.ends no_fault text script reads has;
         no_script = λ text script reads has none. no_script_ends ended o result knows s.ends no_fault script has none;
         accepted = λ text script reads has is accepted. accepted_ends ended o result knows s.ends no_fault text script reads has is accepted;
         refused = λ text script refusal reads has is tells. refused_ends ended o result knows s.ends no_fault text script refusal reads has is tells;
@@ -257,6 +272,7 @@ module _ (asked : Asked) where
   complete_at kind ended o first before now p q result knows cause (inr u) = λ quiet.
       let no_three : result ≡ 3 → ⊥ = λ three. quiet (counted_later kind first before now cause.never_falls (u.failed three)) in
       record {
+        ends = λ text script reads has. inr (inr (inr (quiet_nine result no_three u.ends)));
         no_script = λ text script reads has none. quiet_ends 5 result no_three u.ends;
         accepted = λ text script reads has is accepted. inr (quiet_ends 4 result no_three u.ends);
         refused = λ text script refusal reads has is tells. quiet_ends 1 result no_three u.ends;

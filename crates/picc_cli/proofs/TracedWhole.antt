@@ -15,6 +15,7 @@ use Rattle.c_typed.specs.declared.program.Typed.{Typed}
 use Rattle.call_graph.specs.Copies.{AreCopies}
 use Rattle.call_graph.specs.Levels.{IsAcyclic}
 use Rattle.call_graph.specs.declared.types.FnCopy.{FnCopy}
+use Rattle.event_names.proofs.Traces.{traces_named}
 use Rattle.headline.specs.SourceOf.{setting_of}
 use Rattle.host_io.specs.Host.{Kind, Contents, IsRead, PrintsPrefix}
 use Rattle.pic_map.specs.MapContent.{MapContent, ObjectLine, FrameLine}
@@ -28,6 +29,7 @@ use Rattle.picc_cli.specs.Said.{Says}
 use Rattle.picc_cli.specs.ScriptInput.{IsFile}
 use Rattle.picc_cli.specs.Trace.{IsRunEnd, last_line, status_of}
 use Rattle.picc_cli.specs.Traced.{HasTraced, Ran, RunsBy, Traces, map_of}
+use Rattle.picc_cli.proofs.EventNames.{all_shown}
 use Rattle.picc_cli.proofs.Files.{content_of}
 use Rattle.picc_cli.proofs.NothingDone.{nothing_of}
 use Rattle.picc_cli.proofs.SimulationEnds.{said_last}
@@ -38,7 +40,9 @@ use Rattle.picc_core.specs.declared.refusal.Refusal.{Refusal}
 use Rattle.ram_place.specs.Placement.{IsPlacing}
 use Rattle.schedule.specs.ScriptFile.{ScriptContent, AreBytes, AreLines, AreScriptLines, Piece, Blank, Input, At, byte_value, inputs_of, paired}
 use Rattle.src_machine.specs.Steps.{IsGiven}
+use Rattle.src_memory.specs.Shown.{address_of}
 use Rattle.src_rules.specs.Numbers.{ProgramHasNumbers}
+use Rattle.src_rules.specs.Runs.{after}
 use Rattle.src_values.specs.Memory.{Setting}
 use Rattle.text_lines.specs.Text.{digit_value, lines_of}
 
@@ -133,6 +137,10 @@ module _ (asked : Asked) (content : ScriptContent) (bytes text : List ℕ) (prog
         ran =
             ran (setting_of program (outside_of content.input content.arrivals)) refl refl
             (record { proper = record { sound = front.sound; roots = front.roots; numbers = front.numbers }; acyclic = front.acyclic; bytes = input_small (lines_of script) content is.file });
+        named = λ n.
+            all_shown program (map_of objects frames) front.placed.each_object (address_of program (map_of objects frames))
+            (after (setting_of program (outside_of content.input content.arrivals)) n).world.trace
+            (traces_named (setting_of program (outside_of content.input content.arrivals)) (record { sound = front.sound; roots = front.roots; numbers = front.numbers }) (input_small (lines_of script) content is.file) n);
       }
 
   runs_at : (o : Contents) (ended : Ended) → IsRead asked.input 262145 bytes o → IsFile o asked.script (IsScriptInput content) → IsFront bytes program copies objects frames

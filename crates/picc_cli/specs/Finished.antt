@@ -129,13 +129,26 @@ HasTold (Some (Generate functions)) old new before after result = result ≡ 0 �
 HasTold (Some (Simulate asked)) old new before after result = Unit {0}
 
 -- ---- without a fault and with memory enough, each command ends as it is to end
--- an accepted text is built, and one that is refused for some reason isn't
+-- some refusal holds of the text
+abbrev pub IsRefusedText : List ℕ → Type 0
+IsRefusedText text = (refusal : Refusal) × Tells text refusal
+
+-- An accepted text is built, and one that is refused for some reason isn't. Unless memory runs out one of the two comes, and the status
+-- says which.
 pub record BuildCompletes (names : Names) (old : Contents) (result : ℕ) : Type 0 where
+  pub ends : (text : List ℕ) → old names.input ≡ Some text → ((result ≡ 0) × IsAcceptedText text) ⊎ (((result ≡ 1) × IsRefusedText text) ⊎ (result ≡ 9))
   pub accepted : (text : List ℕ) → old names.input ≡ Some text → IsAcceptedText text → (result ≡ 0) ⊎ (result ≡ 9)
   pub refused : (text : List ℕ) (refusal : Refusal) → old names.input ≡ Some text → Tells text refusal → (result ≡ 1) ⊎ (result ≡ 9)
 
--- the script comes first
+-- The status says that the text is accepted, or that it is refused, and that there is a script; or that there is none.
+abbrev pub ReadsEnd : List ℕ → List ℕ → ℕ → Type 0
+ReadsEnd text script result =
+    (((result ≡ 0) ⊎ (result ≡ 4)) × IsScript script × IsAcceptedText text)
+    ⊎ (((result ≡ 1) × IsScript script × IsRefusedText text) ⊎ (((result ≡ 5) × (IsScript script → ⊥)) ⊎ (result ≡ 9)))
+
+-- The script comes first. Unless memory runs out the status says what script and text are.
 pub record TraceCompletes (asked : Asked) (old : Contents) (result : ℕ) : Type 0 where
+  pub ends : (text script : List ℕ) → old asked.input ≡ Some text → old asked.script ≡ Some script → ReadsEnd text script result
   pub no_script : (text script : List ℕ) → old asked.input ≡ Some text → old asked.script ≡ Some script → (IsScript script → ⊥) → (result ≡ 5) ⊎ (result ≡ 9)
   pub accepted : (text script : List ℕ) → old asked.input ≡ Some text → old asked.script ≡ Some script → IsScript script → IsAcceptedText text
       → (result ≡ 0) ⊎ ((result ≡ 4) ⊎ (result ≡ 9))

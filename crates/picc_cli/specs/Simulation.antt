@@ -1,15 +1,18 @@
 -- What a simulation has done by its end: the files that it read, the run of the chip over the board, how the board's lists have
 -- grown, and what was printed of the run.
-use Rattle.std.specs.Prelude.{ℕ, ◌≡◌, ◌⊎◌, false, List, [], ◌++◌, replicate, Option, Some, None, IsSome, option_map}
+use Rattle.std.specs.Prelude.{ℕ, ◌≡◌, ◌⊎◌, Bool, true, false, List, [], ◌++◌, replicate, Option, Some, None, IsSome, option_map}
 use Rattle.host_io.specs.Host.{Contents, PrintsPrefix}
+use Rattle.pic_world.specs.Arrivals.{arriving}
 use Rattle.pic_world.specs.declared.Event.{Event}
 use Rattle.pic_chip.specs.declared.Start.{Start}
 use Rattle.pic_chip.specs.Machine.{Machine}
+use Rattle.pic_chip.specs.Run.{Setting, moment}
 use Rattle.pic_chip.specs.State.{reset}
 use Rattle.pic_map.specs.MapContent.{MapContent, watch_of}
 use Rattle.pic_map.specs.Tracing.{Tracing, looked}
 use Rattle.pic_sim.specs.Board.{Lists, Followed}
-use Rattle.pic_sim.specs.Going.{Known, Went}
+use Rattle.pic_sim.specs.Going.{HasBytes, HasMasks, Known, Went}
+use Rattle.pic_sim.specs.declared.board.Exchange.{Exchange}
 use Rattle.pic_sim.specs.declared.running.SimEnd.{SimEnd}
 use Rattle.pic_sim.specs.declared.running.SimEnd.TheVariants as sim
 use Rattle.schedule.specs.ScriptFile.{ScriptContent}
@@ -19,7 +22,7 @@ use Rattle.picc_cli.specs.Chip.{last_line, status_of}
 use Rattle.picc_cli.specs.Command.{Simulated, Form, Build, Trace, Simulate, Agree, Generate}
 use Rattle.picc_cli.specs.Inputs.{IsHexInput, IsMapInput, IsScriptInput, HasNoHex, HasNoMap, HasNoScript}
 use Rattle.picc_cli.specs.Lines.{event_lines}
-use Rattle.picc_cli.specs.Said.{IsLast}
+use Rattle.picc_cli.specs.Said.{GivesUp, IsLast}
 use Rattle.picc_cli.specs.ScriptInput.{IsFile}
 use Rattle.picc_cli.specs.Trace.{AllShown}
 
@@ -125,12 +128,49 @@ Knows asked old before now (NoHex end) p q = HasNoHex old asked.hex end × Nothi
 Knows asked old before now (NoMap end) p q = LacksMap asked old (HasNoMap old asked.map end) × NothingRan before now p q
 Knows asked old before now (NoScript end) p q = LacksScript asked old (HasNoScript old asked.script end) × NothingRan before now p q
 
+-- ---- whether the run stops
+-- the run from the same reset by the chip's own definitions, with these input bytes and arrivals
+abbrev pub run_by : List ℕ → MapContent → ScriptContent → Setting
+run_by image map script = record { image = image; watch = watch_of map; start = zeros; inputs = script.input; arrivals = script.arrivals }
+
+-- within so many instructions it comes to SLEEP, or to a word without a row
+abbrev pub stops_within : List ℕ → MapContent → ScriptContent → ℕ → Bool
+stops_within image map script n = (moment (run_by image map script) n).stopped
+
+-- From that reset on the board has answered as this script has it: its lists have grown by the next input bytes, and by the flags that
+-- arrive at each index.
+pub record Answers (script : ScriptContent) (before now : Known) : Type 0 where
+  pub given : List Exchange
+  pub raised : List ℕ
+  pub given_now : now.lists.given ≡ before.lists.given ++ given
+  pub raised_now : now.lists.raised ≡ before.lists.raised ++ raised
+  pub bytes : HasBytes script.input 0 given
+  pub masks : HasMasks (arriving script.arrivals) 0 raised
+
+-- The status of a run that stops within its instructions, and of one that doesn't, where neither a fault nor want of memory ends it.
+abbrev pub ComesBy : Bool → ℕ → Type 0
+ComesBy true result = (result ≡ 6) ⊎ GivesUp result
+ComesBy false result = (result ≡ 0) ⊎ GivesUp result
+
+-- Of three files that are such as they are to be.
+pub record StopsAsRun (asked : Simulated) (old : Contents) (before now : Known) (result : ℕ) : Type 0 where
+  -- the run by the script that the answers of the board are, whichever board it is,
+  pub answered : (image : List ℕ) (map : MapContent) (script answers : ScriptContent)
+      → IsFile old asked.hex (IsHexInput image) → IsFile old asked.map (IsMapInput map) → IsFile old asked.script (IsScriptInput script)
+      → Answers answers before now → ComesBy (stops_within image map answers asked.instructions) result
+  -- and of a board that follows scripts, and has given no byte before, the run by the script of the file
+  pub followed : (image : List ℕ) (map : MapContent) (script : ScriptContent)
+      → IsFile old asked.hex (IsHexInput image) → IsFile old asked.map (IsMapInput map) → IsFile old asked.script (IsScriptInput script)
+      → IsSome before.follows → before.lists.given ≡ [] → ComesBy (stops_within image map script asked.instructions) result
+
 -- With this status, and with these bytes printed, a simulation ended so: `middle` is what was printed before its last line.
 pub record SimulationTells (asked : Simulated) (old : Contents) (before now : Known) (p q : Option (List ℕ)) (result : ℕ) : Type 0 where
   pub ended : Ended
   pub middle : Option (List ℕ)
   pub knows : Knows asked old before now ended p middle
   pub last : IsLast (status_of ended) (last_line asked ended) middle q result
+  -- 6 comes just where the run stops, and 0 just where it doesn't
+  pub stops : StopsAsRun asked old before now result
 
 -- of the other forms this says nothing
 abbrev pub HasSimulated : Option Form → Contents → Known → Known → Option (List ℕ) → Option (List ℕ) → ℕ → Type 0

@@ -19,7 +19,7 @@ use Rattle.picc_cli.specs.Inputs.{IsScriptInput}
 use Rattle.picc_cli.specs.Lines.{event_lines}
 use Rattle.picc_cli.specs.Said.{IsLast}
 use Rattle.picc_cli.specs.ScriptInput.{IsFile}
-use Rattle.picc_cli.specs.Trace.{last_line, status_of}
+use Rattle.picc_cli.specs.Trace.{AllShown, last_line, status_of}
 use Rattle.picc_core.specs.Texts.{HasTree}
 use Rattle.picc_core.specs.Typed.{IsTypedAs}
 use Rattle.ram_place.specs.Placement.{IsPlacing}
@@ -84,6 +84,8 @@ pub record Traces (asked : Asked) (old : Contents) (ended : Ended) (p q : Option
   pub placed : IsPlacing program copies content.objects content.frames
   pub numbers : ProgramHasNumbers program
   pub ran : Ran (setting_of program (outside_of script.input script.arrivals)) content asked.steps ended p q
+  -- each event of the run, however long it goes on, has a name in the map
+  pub named : (n : ℕ) → AllShown content (events_by (setting_of program (outside_of script.input script.arrivals)) content n)
 
 -- Of a trace whose run began; where it didn't begin, nothing was printed.
 abbrev pub RunsBy : Asked → Contents → Ended → Option (List ℕ) → Option (List ℕ) → Type 0

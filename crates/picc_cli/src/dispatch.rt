@@ -55,11 +55,13 @@ pub fn picc<H: Host>(
     // the sizes of a generated program are those of a program.
     ensures told { IfSome (H.contents host.old) (λ old. HasTold (form_of (words_of words.now)) old (H.contents host.new) (H.printed host.old) (H.printed host.new) result) }
     // A simulation runs the chip over the board, on what its three files hold: this is that run, its events, and what the board was
-    // asked and told. Where a file isn't such as it is to be, the first such file is told.
+    // asked and told; and 6 comes just where the run of the chip's own definitions stops. Where a file isn't such as it is to be, the
+    // first such file is told.
     ensures simulated { IfSome (H.contents host.old) (λ old. HasSimulated (form_of (words_of words.now)) old (board_of (lists board.old) (follows board.old)) (board_of (lists board.new) (follows board.new)) (H.printed host.old) (H.printed host.new) result) }
-    // A trace prints the lines of the run of a typed program, by the definitions of the source.
+    // A trace prints the lines of the run of a typed program, by the definitions of the source. Each event of it has a name in the map.
     ensures traced { IfSome (H.contents host.old) (λ old. HasTraced (form_of (words_of words.now)) old (H.printed host.old) (H.printed host.new) result) }
-    // Without a fault an accepted text is built, traced or compared, and one that is refused isn't, unless memory runs out.
+    // Without a fault an accepted text is built, traced or compared, and one that is refused isn't, unless memory runs out; and the status
+    // says which of the two a text is.
     ensures complete { IfSome (H.contents host.old) (λ old. IsComplete (H.kind host.old) (H.faults host.old) (H.faults host.new) (form_of (words_of words.now)) old result) }
     // The board is left as it was, but by a simulation whose files are such as they are to be.
     ensures board { is_simulation (form_of (words_of words.now)) ≡ false → board.new ≡ board.old }

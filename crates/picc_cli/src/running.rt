@@ -9,7 +9,7 @@ ghost use Rattle.pic_map.specs.MapView.{content_of, object_of, frame_of};
 ghost use Rattle.picc_cli.specs.Said.{HasOutcomeCause};
 ghost use Rattle.picc_cli.specs.Trace.{IsMap, IsRunEnd, Leads, Takes, Stops, BreaksLine, is_fault};
 ghost use Rattle.picc_cli.specs.Traced.{Ran, map_of};
-ghost use Rattle.picc_cli.specs.TracedStep.{Steps};
+ghost use Rattle.picc_cli.specs.TracedStep.{CanStep, IsBehind, Steps, setting_by};
 ghost use Rattle.ram_place.specs.Placement.{IsPlacing};
 ghost use Rattle.src_machine.specs.Sources.{IsSource};
 ghost use Rattle.src_machine.specs.Steps.{IsGiven};
@@ -19,7 +19,7 @@ ghost use Rattle.src_values.specs.Memory.{Setting};
 use crate::tracing::Ended;
 use host_io::{Host, HostError};
 use pic_map::{Map, event_line};
-use pic_world::{Cell, Event, Script, register_name};
+use pic_world::{Event, Script};
 use picc_core::Front;
 use src_machine::{Source, SrcEnd};
 use std::alloc::Global;
@@ -30,6 +30,7 @@ use std::alloc::Global;
 pub fn run<H: Host>(alloc: Global, host: &mut H, known: Front, script: &Script, steps: u32) -> Ended
     requires copies { AreCopies (program_of known.typed) known.copies.list.items }
     requires placed { IsPlacing (program_of known.typed) known.copies.list.items (map object_of known.placed.objects.items) (map frame_of known.placed.frames.items) }
+    requires given { IsGiven (setting_by known.typed script.now) }
     ensures same_file { H.open_file host.new ≡ H.open_file host.old }
     ensures same_contents { H.contents host.new ≡ H.contents host.old }
     ensures same_kind { H.kind host.new ≡ H.kind host.old }
@@ -64,7 +65,8 @@ fn run_steps<H: Host>(
     script: &Script,
     steps: u32,
 ) -> Ended
-    requires { IsMap (content_of map.now) }
+    requires map { IsMap (content_of map.now) }
+    requires begun { IsBehind (content_of map.now) script.now 0 source.old }
     ensures same_file { H.open_file host.new ≡ H.open_file host.old }
     ensures same_contents { H.contents host.new ≡ H.contents host.old }
     ensures same_kind { H.kind host.new ≡ H.kind host.old }
@@ -92,6 +94,7 @@ fn take_step<H: Host>(
     source: &mut Source<'_>,
     script: &Script,
 ) -> Option<Ended>
+    requires { CanStep (content_of map.now) script.now source.old }
     ensures same_file { H.open_file host.new ≡ H.open_file host.old }
     ensures same_contents { H.contents host.new ≡ H.contents host.old }
     ensures same_kind { H.kind host.new ≡ H.kind host.old }
@@ -114,14 +117,14 @@ fn take_step<H: Host>(
     }
 }
 
-/// Prints the line of an event. A cell without a name has none, and gives up as if out of memory; no run of a
-/// program comes to one.
+/// Prints the line of an event, whose cell has a name in the map.
 pub fn print_event<H: Host>(
     alloc: Global,
     host: &mut H,
     map: &Map,
     event: Event,
 ) -> Result<(), HostError>
+    requires { CanBeShown (content_of map.now) event }
     ensures all { OnOk result (CanBeShown (content_of map.now) event × (H.printed host.new ≡ option_map (λ t. t ++ event_text (content_of map.now) event) (H.printed host.old))) }
     ensures broken { OnErr result (BreaksLine (content_of map.now) (H.printed host.old) (H.printed host.new)) }
     ensures prefix { OnErr result (PrintsPrefix (H.printed host.old) (H.printed host.new) (event_text (content_of map.now) event)) }
@@ -131,22 +134,6 @@ pub fn print_event<H: Host>(
     ensures cause { HasCause (H.kind host.old) (H.faults host.old) (H.faults host.new) result }
     ensures sound { NoFailure (H.kind host.old) result }
 {
-    if !can_be_shown(map, event) {
-        return Err(HostError::NoMemory);
-    }
     let line = event_line(alloc, map, event)?;
     host.print(&line)
-}
-
-/// Whether an event's cell has a name.
-fn can_be_shown(map: &Map, event: Event) -> bool
-    ensures { IsTrue result → CanBeShown (content_of map.now) event }
-{
-    match event {
-        Event::Read { cell, .. } | Event::Write { cell, .. } => match cell {
-            Cell::Device { address } => register_name(address).is_some(),
-            Cell::Static { object, .. } => (object as usize) < map.objects.len(),
-        },
-        Event::End => true,
-    }
 }

@@ -222,6 +222,7 @@ fn feed(board: &mut Box<dyn Board>, script: &Script) -> Result<(), AllocError>
 
 /// Prints the line of each event of a run that ended so.
 fn print_run<H: Host>(alloc: Global, host: &mut H, map: &Map, trace: &Trace, end: SimEnd) -> Ended
+    requires { AllShown (content_of map.now) trace.now.events }
     ensures same_file { H.open_file host.new ≡ H.open_file host.old }
     ensures same_contents { H.contents host.new ≡ H.contents host.old }
     ensures same_kind { H.kind host.new ≡ H.kind host.old }
@@ -250,6 +251,7 @@ fn print_events<H: Host>(
     map: &Map,
     trace: &Trace,
 ) -> Result<(), HostError>
+    requires { AllShown (content_of map.now) trace.now.events }
     ensures same_file { H.open_file host.new ≡ H.open_file host.old }
     ensures same_contents { H.contents host.new ≡ H.contents host.old }
     ensures same_kind { H.kind host.new ≡ H.kind host.old }

@@ -1,6 +1,7 @@
 //! The form `trace`: from the files' names to an exit status.
 
-ghost use Rattle.std.specs.Prelude.{◌≡◌, IfSome, Some};
+ghost use Rattle.std.specs.List.{All};
+ghost use Rattle.std.specs.Prelude.{◌≡◌, ◌<◌, IfSome, Some};
 ghost use Rattle.host_io.specs.Host.{Closed};
 ghost use Rattle.picc_cli.specs.Command.{Trace};
 ghost use Rattle.picc_cli.specs.CommandView.{asked_of};
@@ -109,12 +110,18 @@ fn traced<H: Host>(alloc: Global, host: &mut H, asked: Asked<'_>) -> Ended
     match front(alloc, &text) {
         Ok(known) => {
             see_numbers(&known.typed);
+            see_bytes(&script.input);
             run(alloc, host, known, &script, asked.steps)
         }
         Err(CompileError::NoMemory) => Ended::NoMemory,
         Err(CompileError::Refused(refusal)) => Ended::Refused(refusal),
     }
 }
+
+/// What bytes are by themselves.
+fn see_bytes(bytes: &[u8])
+    ensures { All (λ byte. byte < 256) bytes.now }
+{}
 
 /// What is printed for a kind of undefined steps.
 pub fn undef_text(kind: Undef) -> &'static [u8]

@@ -15,6 +15,16 @@ loop-taken-init g c = record {
   same_faults = refl;
 }
 
+pub take_step-requires : goal.take_step-requires
+take_step-requires g c =
+    let so_far = c.loop-taken.invariant in
+    let begun = c.requires.begun in
+    record {
+      number = c.loop-taken.taken;
+      few = omega arith;
+      behind = record { setting = begun.setting; outside = begun.outside; objects = begun.objects; at = (so_far.ran begun.setting begun.outside begun.at).at };
+    }
+
 pub loop-taken-preserved : goal.loop-taken-preserved
 loop-taken-preserved g c =
     let so_far = c.loop-taken.invariant in
@@ -31,12 +41,12 @@ loop-taken-preserved g c =
 pub returns-in-Some-clause-leads : goal.returns-in-Some-clause-leads
 returns-in-Some-clause-leads g c =
     let so_far = c.loop-taken.invariant in
-    stopped _ _ _ _ _ _ _ c.requires (omega arith) so_far.lines c.in-Some.ensures.stops
+    stopped _ _ _ _ _ _ _ c.requires.map (omega arith) so_far.lines c.in-Some.ensures.stops
 
 pub returns-clause-leads : goal.returns-clause-leads
 returns-clause-leads g c =
     let so_far = c.loop-taken.invariant in
-    all_taken _ _ _ _ _ c.requires so_far.within so_far.lines
+    all_taken _ _ _ _ _ c.requires.map so_far.within so_far.lines
 
 pub returns-in-Some-clause-ran : goal.returns-in-Some-clause-ran
 returns-in-Some-clause-ran g c = λ s outside begins.

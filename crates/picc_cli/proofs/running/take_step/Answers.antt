@@ -1,7 +1,14 @@
 use Rattle.std.proofs.Common.{refl}
 use Rattle.pic_map.specs.MapView.{content_of}
+use Rattle.picc_cli.proofs.EventNames.{next_shown}
 use Rattle.picc_cli.proofs.TracedRun.{step_broken, step_silent, step_told}
 use Rattle.picc_cli.proofs.running.take_step.Goals as goal
+
+pub print_event-requires : goal.print_event-requires
+print_event-requires g c =
+    let behind = c.requires.behind in
+    next_shown behind.setting (content_of c.args.map.now) c.requires.number _ c.in-Went-Some.event c.step.new.self behind.at.can.given behind.objects c.in-Went-Some.field-0-is
+    (c.in-Went-Some.ensures.follows behind.setting (content_of c.args.map.now) c.requires.number behind.outside c.requires.few behind.at)
 
 pub returns-in-Went-None-clause-next : goal.returns-in-Went-None-clause-next
 returns-in-Went-None-clause-next g c = λ s n outside few is.

@@ -1,5 +1,6 @@
 use Rattle.std.proofs.Common.{◌∙◌, arith}
 use Rattle.pic_map.specs.MapView.{content_of}
+use Rattle.picc_cli.proofs.ChipNames.{one_shown}
 use Rattle.picc_cli.proofs.EventLines.{more_shown, more_printed, line_broken}
 use Rattle.picc_cli.proofs.Files.{on_err}
 use Rattle.picc_cli.proofs.simulating.print_events.Goals as goal
@@ -8,6 +9,9 @@ pub returns-in_err-print_event-clause-prefix : goal.returns-in_err-print_event-c
 returns-in_err-print_event-clause-prefix g c =
     on_err _ (line_broken (content_of c.args.map.now) c.args.trace.now.events c.loop-i.i c.get.result _ _ _ (omega arith) c.get.ensures c.loop-i.invariant.printed
     c.in_err-print_event.ensures.prefix)
+
+pub print_event-requires : goal.print_event-requires
+print_event-requires g c = one_shown (content_of c.args.map.now) c.args.trace.now.events c.loop-i.i c.get.result (omega arith) c.get.ensures c.requires
 
 pub loop-i-preserved : goal.loop-i-preserved
 loop-i-preserved g c =

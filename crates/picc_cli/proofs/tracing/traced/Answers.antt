@@ -15,6 +15,13 @@ returns-clause-knows g c =
     refused_known (asked_of c.args.asked) _ _ _ _ c.in-Err-Refused.refusal _ _ c.in-Ok.ensures.bytes c.in-Ok.ensures.same_contents c.in-Ok-script_in.ensures.found
     c.deref.ensures.value tells c.in-Err-Refused.refusal-is
 
+pub run-requires-clause-given : goal.run-requires-clause-given
+run-requires-clause-given g c = record {
+  proper = record { sound = c.in-Ok-front.known.typed.sound; roots = c.in-Ok-front.ensures.roots; numbers = c.see_numbers.ensures };
+  acyclic = c.in-Ok-front.ensures.recursion;
+  bytes = c.see_bytes.ensures;
+}
+
 pub returns-in-Ok-front-clause-runs : goal.returns-in-Ok-front-clause-runs
 returns-in-Ok-front-clause-runs g c =
     traced_runs (asked_of c.args.asked) _ _ _ _ _ _ _ _ _ _ _ _ c.run.result (c.in-Ok-script_in.ensures.same_printed ∙ c.in-Ok.ensures.same_printed) c.in-Ok.ensures.bytes c.in-Ok.ensures.same_contents c.in-Ok-script_in.ensures.found

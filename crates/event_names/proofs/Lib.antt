@@ -1,0 +1,4 @@
+pub mod Spots
+pub mod Touched
+pub mod Steps
+pub mod Traces
