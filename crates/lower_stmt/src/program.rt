@@ -112,7 +112,6 @@ fn bodies_of(alloc: Global, p: &Typed, list: &[FnCopy]) -> Result<Vec<Body>, All
     Ok(bodies)
 }
 
-// What a type says of its values is known where one is handed on.
 fn see(_p: &Typed) {}
 
 // A typed program is a sound one: its type says so.
