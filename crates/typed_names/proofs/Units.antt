@@ -71,7 +71,7 @@ functions_stay (tree.Declaration d ∷ is_) known is words held = stays_on _ _ _
 -- ---- functions
 
 -- no two functions at different places have one name
-Differ : List FunctionTree → Type 0
+abbrev Differ : List FunctionTree → Type 0
 Differ fs = (i j : ℕ) (f g : FunctionTree) → i < j → slice_get fs i ≡ Some f → slice_get fs j ≡ Some g → f.name ≡ g.name → ⊥
 
 -- a name that none before has is one more
