@@ -1,6 +1,6 @@
 -- Lines of objects and of frames have names, and no two frames have one root and one name.
 use Rattle.std.proofs.Common.{◌≡◌, ℕ, zero, suc, ◌+◌, ◌<◌, ◌≤◌, ◌⊎◌, inl, inr, Bool, true, false, ◌||◌, List, [], ◌∷◌, length, take, Option, Some, None, refl, sym, ap, ◌∙◌, subst, arith, true≢false}
-use Rattle.std.specs.Prelude.{slice_get, slice_index_or}
+use Rattle.std.specs.Prelude.{slice_get, slice_index_or, nat_le, ◌==◌, ◌&&◌}
 use Rattle.std.specs.List.{All, AllPairs, list_all, Contains}
 use Rattle.std.proofs.lemmas.Bool.{cases_lt, false≢true, and_from, and_parts}
 use Rattle.std.proofs.lemmas.List.Sums.{AllPass-from_list_all}
@@ -62,7 +62,7 @@ in_order false false false false false x h = absurd (false≢true h)
 all_names : (bs : List ℕ) → list_all is_dotted_byte bs ≡ true → list_all is_name_byte bs ≡ true
 all_names [] h = refl
 all_names (b ∷ bs) h = let parts = and_parts (is_dotted_byte b) (list_all is_dotted_byte bs) h in
-    and_from (is_name_byte b) (list_all is_name_byte bs) (in_order _ _ _ _ _ _ parts.0) (all_names bs parts.1)
+    and_from (is_name_byte b) (list_all is_name_byte bs) (in_order (nat_le 65 b && nat_le b 90) (nat_le 97 b && nat_le b 122) (b == 95) (nat_le 48 b && nat_le b 57) (b == 46) (b == 36) parts.0) (all_names bs parts.1)
 
 dotted_name : (name : List ℕ) → IsDotted name → IsName name
 dotted_name name h = record { some = h.some; bytes = AllPass-from_list_all is_name_byte name (all_names name h.bytes) }
