@@ -1,10 +1,11 @@
 -- A token of a text that is a name has the bytes of a name.
 use Rattle.std.proofs.Common.{◌≡◌, ℕ, ◌+◌, ◌-◌, ◌<◌, ◌≤◌, Bool, true, false, ◌&&◌, if◌then◌else◌, List, [], ◌∷◌, length, take, drop, Option, Some, None, refl, sym, ap, ◌∙◌, arith, true≢false}
 use Rattle.std.specs.Option.{option_or}
-use Rattle.std.specs.Prelude.{nat_le, min}
+use Rattle.std.specs.Prelude.{nat_le, ◌==◌}
+use Rattle.std.specs.Str.{bytes_eq}
 use Rattle.std.proofs.lemmas.Bool.{false≢true, and_from, le-leb}
 use Rattle.std.proofs.lemmas.List.{length-take, length-drop}
-use Rattle.c_token.specs.Constant.{◌>>=◌, number_in, integer_of}
+use Rattle.c_token.specs.Constant.{◌>>=◌, number_in, integer_of, element_at, string_end}
 use Rattle.c_token.specs.Longest.{is_word, word_spelled, character_spelled, string_spelled, punctuator_spelled, token_spelled, IsLongestIn}
 use Rattle.c_token.specs.Token.{keyword_of, kind_of_word}
 use Rattle.c_token.specs.declared.token.Tok.{Tok}
@@ -58,16 +59,19 @@ integer_no (a ∷ b ∷ rest) = either_no _ _ _ (either_no _ _ _ (number_no 16 r
 character_no : (bytes : List ℕ) → NoName (character_spelled bytes)
 unfolding character_spelled
 character_no [] = none_no
-character_no (b ∷ rest) = either_no _ _ _ (bind_no _ _ (λ element. either_no _ _ _ (some_no _ refl) none_no)) none_no
+character_no (b ∷ rest) = either_no (b == 39) (element_at 39 rest >>= (λ element. if bytes_eq (drop element.1 rest) (39 ∷ []) then Some (kind.Char element.0) else None)) None
+    (bind_no (element_at 39 rest) (λ element. if bytes_eq (drop element.1 rest) (39 ∷ []) then Some (kind.Char element.0) else None)
+    (λ element. either_no (bytes_eq (drop element.1 rest) (39 ∷ [])) (Some (kind.Char element.0)) None (some_no (kind.Char element.0) refl) none_no)) none_no
 
 string_no : (bytes : List ℕ) → NoName (string_spelled bytes)
 unfolding string_spelled
 string_no [] = none_no
-string_no (b ∷ rest) = either_no _ _ _ (bind_no _ _ (λ count. either_no _ _ _ (some_no _ refl) none_no)) none_no
+string_no (b ∷ rest) = either_no (b == 34) (string_end 0 rest >>= (λ count. if count == length rest then Some kind.Text else None)) None
+    (bind_no (string_end 0 rest) (λ count. if count == length rest then Some kind.Text else None) (λ count. either_no (count == length rest) (Some kind.Text) None (some_no kind.Text refl) none_no)) none_no
 
 punctuator_no : (bytes : List ℕ) → NoName (punctuator_spelled bytes)
 unfolding punctuator_spelled
-punctuator_no bytes = bind_no _ _ (λ p. some_no _ refl)
+punctuator_no bytes = bind_no _ _ (λ p. some_no (kind.Punct p) refl)
 
 -- ---- names
 

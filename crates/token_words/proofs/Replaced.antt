@@ -1,12 +1,13 @@
 -- Directives and the replacement of names leave tokens of the text, on other lines perhaps.
 use Rattle.std.proofs.Common.{◌≡◌, ℕ, zero, suc, Bool, true, false, if◌then◌else◌, List, [], ◌∷◌, ◌++◌, length, take, map, replicate, Option, Some, None, Result, Ok, Err, refl, sym, ap, ◌∙◌, subst}
-use Rattle.std.specs.Prelude.{slice_index_or, slice_set}
+use Rattle.std.specs.Prelude.{slice_index_or, slice_set, codes}
+use Rattle.std.specs.Str.{bytes_eq}
 use Rattle.std.specs.List.{flat_map}
 use Rattle.c_token.specs.declared.token.Tok.{Tok}
-use Rattle.c_pre.specs.Directive.{Table, Said, Nothing, Defines, Wrong, position_of, defining, definition_in, line_of}
+use Rattle.c_pre.specs.Directive.{Table, Said, Nothing, Defines, Wrong, position_of, is_header, defining, definition_in, line_of}
 use Rattle.c_pre.specs.Items.{Item, Outside, List_of, Bad, defined, after_definition, after_line, line_length, items, first_word, first_bad, free_tokens, judged, program_of}
 use Rattle.c_pre.specs.Replace.{Event, Left, Replaced, at_line, list_at, open_definition, replace_one, replace, events_of, with_token, limited}
-use Rattle.c_pre.specs.Words.{is_hash, same_words}
+use Rattle.c_pre.specs.Words.{word_of, is_hash, same_words}
 use Rattle.c_pre.specs.declared.PreError.{PreError}
 use Rattle.token_words.proofs.Fronts.{Spelt}
 
@@ -48,7 +49,8 @@ module _ (text : List ℕ) where
   line_good : (ts : List Tok) → Good ts → GoodSaid (line_of text ts)
   unfolding line_of
   line_good [] good = tt
-  line_good (t ∷ ts) good = said_if _ _ _ (said_if _ Nothing Wrong tt tt) (said_if _ (defining (definition_in text ts)) Wrong (definition_good ts good.1) tt)
+  line_good (t ∷ ts) good = said_if (bytes_eq (codes "include") (word_of text t)) (if is_header text ts then Nothing else Wrong) (if bytes_eq (codes "define") (word_of text t) then defining (definition_in text ts) else Wrong)
+      (said_if (is_header text ts) Nothing Wrong tt tt) (said_if (bytes_eq (codes "define") (word_of text t)) (defining (definition_in text ts)) Wrong (definition_good ts good.1) tt)
 
   -- ---- items
 
