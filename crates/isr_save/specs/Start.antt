@@ -1,6 +1,6 @@
 -- The start block. Reset goes to 0000h, and an interrupt to 0004h (Microchip data sheet DS39582, program memory map); how the
 -- context is kept follows the data sheet's example for saving STATUS and W.
-use Rattle.std.specs.Prelude.{ℕ, ◌+◌, nat_eq, List, [], ◌∷◌, ◌++◌, length, Option, Some, None, if◌then◌else◌}
+use Rattle.std.specs.Prelude.{ℕ, ◌+◌, ◌≤◌, nat_eq, List, [], ◌∷◌, ◌++◌, length, Option, Some, None, if◌then◌else◌}
 use Rattle.std.specs.List.{sum_by}
 use Rattle.std.specs.Global.{Global}
 use Rattle.std.specs.declared.vec.Vec.{Vec}
@@ -74,3 +74,7 @@ start_code handler statics = reset ++ vector handler ++ (syms.Label (labels.Inne
 -- how many bytes the objects have
 abbrev pub bytes_of : List (Vec FirstByte Global) → ℕ
 bytes_of statics = sum_by (λ (object : Vec FirstByte Global). length object.items) statics
+
+-- each byte of an object has an offset that the name of a byte has room for
+abbrev pub HasNumberedBytes : Vec FirstByte Global → Type 0
+HasNumberedBytes object = length object.items ≤ 65536

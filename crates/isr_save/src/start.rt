@@ -1,13 +1,13 @@
 //! The start block.
 
-ghost use Rattle.std.specs.Prelude.{◌≡◌, ◌++◌, ◌+◌, ◌*◌, ◌≤◌, ◌∷◌, [], true, OnOk, IfOk};
+ghost use Rattle.std.specs.Prelude.{◌≡◌, ◌++◌, ◌+◌, ◌*◌, ◌≤◌, ◌∷◌, [], true, length, OnOk, IfOk};
+ghost use Rattle.std.specs.List.{All};
 ghost use Rattle.sym_code.specs.Words.{most_words};
 ghost use Rattle.isr_save.specs.Start as stated;
 ghost use Rattle.sym_code.specs.WellFormed.{are_well_formed};
 ghost use Rattle.sym_code.specs.declared.code.BlockName.TheVariants.{Start};
 
 use core_code::{Byte, CoreProgram, FirstByte};
-use pic_map::Placed;
 use std::alloc::{AllocError, Global};
 use sym_code::{
     BlockName, FileOperation, Into, Label, Literal, LiteralOperation, Operand, PlainOperation,
@@ -169,30 +169,28 @@ fn put_byte(block: &mut SymBlock, to: Byte, first: FirstByte) -> Result<(), Allo
     }
 }
 
-// The first bytes of an object. An offset that no byte's name has is in no placed object.
+// The first bytes of an object.
 fn put_object(block: &mut SymBlock, object: u16, bytes: &[FirstByte]) -> Result<(), AllocError>
+    requires { length bytes.now ≤ 65536 }
     ensures put { OnOk result (block.new.list.items ≡ block.old.list.items ++ stated.object_code object 0 bytes.now) }
     ensures name { block.new.name ≡ block.old.name }
 {
     for (number, first) in bytes.iter().enumerate() {
-        let Ok(offset) = u16::try_from(number) else {
-            return Err(AllocError);
-        };
+        let offset = number as u16;
         put_byte(block, Byte::Static { object, offset }, *first)?;
     }
     Ok(())
 }
 
-// The first bytes of all objects. A number that no byte's name has is that of no placed object.
+// The first bytes of all objects.
 fn put_objects(block: &mut SymBlock, statics: &[Vec<FirstByte>]) -> Result<(), AllocError>
+    requires few { length statics.now ≤ 65536 }
+    requires short { All stated.HasNumberedBytes statics.now }
     ensures put { OnOk result (block.new.list.items ≡ block.old.list.items ++ stated.objects_code 0 statics.now) }
     ensures name { block.new.name ≡ block.old.name }
 {
     for (number, bytes) in statics.iter().enumerate() {
-        let Ok(object) = u16::try_from(number) else {
-            return Err(AllocError);
-        };
-        put_object(block, object, bytes)?;
+        put_object(block, number as u16, bytes)?;
     }
     Ok(())
 }
@@ -202,6 +200,8 @@ fn put_start(
     statics: &[Vec<FirstByte>],
     handler: Option<u16>,
 ) -> Result<SymBlock, AllocError>
+    requires few { length statics.now ≤ 65536 }
+    requires short { All stated.HasNumberedBytes statics.now }
     ensures name { IfOk result (λ block. block.name ≡ Start) }
     ensures exact { IfOk result (λ block. block.list.items ≡ stated.start_code handler statics.now) }
 {
@@ -218,24 +218,20 @@ fn put_start(
 /// label `Halt`. Where there is a handler, the block of that copy, it is entered at the interrupt vector, with W, STATUS, FSR
 /// and PCLATH kept, and ends at the label `Restore`, which gives these back. The results of main's functions and those of the
 /// handler's are different bytes, and need no keeping. The selects aren't there yet; with them the vector stands at 0004h.
-///
-/// Out of memory is also the answer where an object has no line in `placed`, or more bytes than names have. The conditions
-/// of a compiler's call exclude both.
 pub fn start_block(
     alloc: Global,
-    placed: &Placed,
     p: &CoreProgram,
     handler: Option<u16>,
 ) -> Result<SymBlock, AllocError>
+    // The name of a byte has room for the number of each object, and for each offset in it.
+    requires few { length p.now.statics.items ≤ 65536 }
+    requires short { All stated.HasNumberedBytes p.now.statics.items }
     ensures name { IfOk result (λ block. block.name ≡ Start) }
     // It holds exactly this.
     ensures exact { IfOk result (λ block. block.list.items ≡ stated.start_code handler p.now.statics.items) }
     // With the selects that it may need it has few words.
     ensures words { IfOk result (λ block. most_words block.list.items ≤ 100 + 4 * stated.bytes_of p.now.statics.items) }
 {
-    if p.statics.len() > placed.objects.len() {
-        return Err(AllocError);
-    }
     let block = put_start(alloc, &p.statics, handler)?;
     Ok(block)
 }

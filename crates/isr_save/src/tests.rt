@@ -1,8 +1,11 @@
 //! What stands where in the start block of a program with an interrupt handler.
 
+ghost use Rattle.std.specs.Prelude.{◌≤◌, length, IfOk};
+ghost use Rattle.std.specs.List.{All};
+ghost use Rattle.isr_save.specs.Start.{HasNumberedBytes};
+
 use crate::start_block;
 use core_code::{Byte, CoreProgram, FirstByte};
-use pic_map::{ObjLine, Placed};
 use std::alloc::{AllocError, Global};
 use sym_code::{
     BlockName, FileOperation, Into, Label, Literal, LiteralOperation, Operand, PlainOperation,
@@ -10,22 +13,10 @@ use sym_code::{
 };
 
 // One object of two bytes, 0 and the low byte of its own address.
-fn placed(alloc: Global) -> Result<Placed, AllocError> {
-    let mut objects = Vec::new(alloc);
-    objects.push(ObjLine {
-        fixed: false,
-        name: Vec::new(alloc),
-        address: 0x20,
-        size: 2,
-    })?;
-    Ok(Placed {
-        objects,
-        frames: Vec::new(alloc),
-        ram: 2,
-    })
-}
-
-fn program(alloc: Global) -> Result<CoreProgram, AllocError> {
+fn program(alloc: Global) -> Result<CoreProgram, AllocError>
+    ensures few { IfOk result (λ p. length p.statics.items ≤ 65536) }
+    ensures short { IfOk result (λ p. All HasNumberedBytes p.statics.items) }
+{
     let mut bytes = Vec::new(alloc);
     bytes.push(FirstByte::Number(0))?;
     bytes.push(FirstByte::Low { object: 0 })?;
@@ -44,8 +35,7 @@ fn vector_stands_behind_a_jump_and_one_instruction(rt: HostRuntime) -> Result<()
         object: 0,
         offset: 0,
     };
-    let placed = placed(rt.alloc())?;
-    let block = start_block(rt.alloc(), &placed, &program(rt.alloc())?, Some(3))?;
+    let block = start_block(rt.alloc(), &program(rt.alloc())?, Some(3))?;
     assert_eq!(rt; block.name, BlockName::Start);
     let wanted = [
         (0, Sym::Goto(Target::Label(Label::Inner(0)))),

@@ -2,3 +2,5 @@ pub mod Lists
 pub mod Loops
 pub mod Sights
 pub mod Switching
+pub mod Objects
+pub mod Rooms

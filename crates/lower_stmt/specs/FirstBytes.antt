@@ -1,5 +1,5 @@
 -- What the bytes of static objects begin as (ISO/IEC 9899:1990, 6.5.7).
-use Rattle.std.specs.Prelude.{ℕ, zero, suc, List, [], ◌∷◌, ◌++◌, nat_eq, if◌then◌else◌}
+use Rattle.std.specs.Prelude.{ℕ, zero, suc, ◌<◌, ◌≤◌, List, [], ◌∷◌, ◌++◌, length, nat_eq, if◌then◌else◌}
 use Rattle.std.specs.Global.{Global}
 use Rattle.std.specs.declared.vec.Vec.{Vec}
 use Rattle.c_typed.specs.Trees.{StaticTree}
@@ -31,3 +31,15 @@ static_bytes sizes object = bytes_in object.initial (type_bytes sizes object.ty.
 
 abbrev pub items_of : Vec FirstByte Global → List FirstByte
 items_of bytes = bytes.items
+
+-- a number, or a byte of the address of an object whose number byte code has room for
+abbrev pub HasNumber : InitialByte → Type 0
+HasNumber (given.Number number) = Unit {0}
+HasNumber (given.Address object byte) = object < 65536
+
+abbrev pub IsNumbered : Initial → Type 0
+IsNumbered i = HasNumber i.byte
+
+-- byte code has room for the offset of each byte
+abbrev pub HasFewBytes : Vec FirstByte Global → Type 0
+HasFewBytes bytes = length bytes.items ≤ 65536

@@ -1,6 +1,6 @@
 //! Where the variables of a function copy stand, and what its calls call.
 
-ghost use Rattle.std.specs.Prelude.{◌≡◌, map, replicate, IfOk};
+ghost use Rattle.std.specs.Prelude.{◌≡◌, ◌≤◌, length, map, replicate, IfOk};
 ghost use Rattle.c_typed.specs.Views.{function_of, program_of, size_of, variable_of};
 ghost use Rattle.lower_expr.specs.Layout.{layout_of};
 ghost use Rattle.lower_stmt.specs.Frames as laws;
@@ -97,24 +97,14 @@ fn copies_under(
     list: &[FnCopy],
     functions: usize,
 ) -> Result<Vec<Option<u16>>, AllocError>
+    requires { length list.now ≤ 65536 }
     ensures { IfOk result (λ numbers. numbers.items ≡ laws.marked root 0 list.now (replicate functions None)) }
 {
     let mut numbers = nones(alloc, functions)?;
     for (number, copy) in list.iter().enumerate() {
-        let copy_number = number_of(number)?;
-        mark(&mut numbers, function_under(root, *copy), copy_number);
+        mark(&mut numbers, function_under(root, *copy), number as u16);
     }
     Ok(numbers)
-}
-
-/// The number of a copy. An accepted program has at most 65,535.
-pub fn number_of(copy: usize) -> Result<u16, AllocError>
-    ensures { IfOk result (λ number. number ≡ copy) }
-{
-    match u16::try_from(copy) {
-        Ok(number) => Ok(number),
-        Err(_) => Err(AllocError),
-    }
 }
 
 /// What the code of a copy of a function under this root stands on.
@@ -125,6 +115,7 @@ pub fn places_of<'a>(
     root: Root,
     function: &Function,
 ) -> Result<Locals<'a>, AllocError>
+    requires { length list.now ≤ 65536 }
     ensures { IfOk result (λ places. layout_of places ≡ laws.layout_for (program_of p.now) list.now root (function_of function.now)) }
 {
     let params = offsets_from(alloc, &p.structures, &function.params, 0)?;

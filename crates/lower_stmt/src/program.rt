@@ -1,15 +1,17 @@
 //! The code of a whole program.
 
-ghost use Rattle.std.specs.Prelude.{◌≡◌, map, slice_get, IfOk};
+ghost use Rattle.std.specs.Prelude.{◌≡◌, ◌≤◌, ◌^◌, length, map, slice_get, IfOk};
+ghost use Rattle.std.specs.List.{All};
+ghost use Rattle.c_typed.specs.Nodes.{function_nodes};
 ghost use Rattle.c_typed.specs.Views.{function_of, program_of, size_of};
 ghost use Rattle.core_code.specs.View.{trees_in};
 ghost use Rattle.lower_expr.specs.Layout.{layout_of};
 ghost use Rattle.lower_stmt.specs.Bodies as laws;
 ghost use Rattle.lower_stmt.specs.Frames as frames;
 ghost use Rattle.lower_stmt.specs.Ground.{ground_of};
-ghost use Rattle.lower_stmt.specs.FirstBytes.{items_of};
+ghost use Rattle.lower_stmt.specs.FirstBytes.{items_of, HasFewBytes};
 
-use crate::frames::{base_of, number_of, places_of};
+use crate::frames::{base_of, places_of};
 use crate::initials::first_bytes;
 use crate::jumps::Jumps;
 use crate::site::Site;
@@ -41,8 +43,9 @@ fn site_of<'a>(
 }
 
 // The statements of a function, and the end of its body.
-#[tactic(auto, using(std::proofs::lemmas::List::append_assoc))]
+#[tactic(auto, using(crate::proofs::Rooms::outside_room, std::proofs::lemmas::List::append_assoc))]
 fn body_code(site: &Site, function: &Function) -> Result<Vec<Core>, AllocError>
+    requires { function_nodes function.now ≤ 2 ^ 28 }
     ensures { IfOk result (λ code. trees_in code.items ≡ laws.body_code (ground_of site.now) (function_of function.now)) }
 {
     let mut code = Vec::new(site.alloc);
@@ -60,6 +63,8 @@ fn code_of(
     root: Root,
     function: &Function,
 ) -> Result<Vec<Core>, AllocError>
+    requires copies { length list.now ≤ 65536 }
+    requires nodes { function_nodes function.now ≤ 2 ^ 28 }
     ensures { IfOk result (λ code. trees_in code.items ≡ laws.code_of (program_of p.now) list.now copy root (Some (function_of function.now))) }
 {
     let places = places_of(alloc, p, list, root, function)?;
@@ -69,6 +74,7 @@ fn code_of(
 }
 
 // The same by the number of the function. Each copy of an accepted program is one of a function that is there.
+#[tactic(auto, using(crate::proofs::Rooms::function_small))]
 fn code_by_number(
     alloc: Global,
     p: &Typed,
@@ -77,6 +83,7 @@ fn code_by_number(
     root: Root,
     function: u32,
 ) -> Result<Vec<Core>, AllocError>
+    requires { length list.now ≤ 65536 }
     ensures { IfOk result (λ code. trees_in code.items ≡ laws.code_of (program_of p.now) list.now copy root (slice_get (program_of p.now).functions function)) }
 {
     match p.functions.get(function as usize) {
@@ -90,13 +97,14 @@ fn code_by_number(
 }
 
 fn bodies_of(alloc: Global, p: &Typed, list: &[FnCopy]) -> Result<Vec<Body>, AllocError>
+    requires { length list.now ≤ 65536 }
     ensures { IfOk result (λ bodies. map laws.body_of bodies.items ≡ laws.bodies_of (program_of p.now) list.now) }
 {
     let mut bodies = Vec::new(alloc);
     for (number, fn_copy) in list.iter().enumerate() {
         match fn_copy.function {
             FnId::User(function) => {
-                let copy = number_of(number)?;
+                let copy = number as u16;
                 let root = fn_copy.root;
                 let code = code_by_number(alloc, p, list, copy, root, function)?;
                 bodies.push(Body { copy, root, code })?;
@@ -109,16 +117,17 @@ fn bodies_of(alloc: Global, p: &Typed, list: &[FnCopy]) -> Result<Vec<Body>, All
 
 /// The code of a program: the body of each copy that is no helper, in the order of the copies, and the first bytes of
 /// each static object.
-///
-/// A number of a copy or of a static object that doesn't fit, or a jump over more loops than fit, is answered as want of
-/// memory. An accepted program has at most 65,535 copies, as many static objects, and no such jump.
+#[tactic(auto, using(crate::proofs::Objects::counted, crate::proofs::Objects::short))]
 pub fn lower(alloc: Global, p: &Typed, copies: &Copies) -> Result<CoreProgram, AllocError>
+    // The names of bytes and of blocks have room for the numbers of copies and of static objects.
+    requires copies { length copies.now.list.items ≤ 65536 }
+    requires statics { length p.now.statics.items ≤ 65536 }
     ensures bodies { IfOk result (λ code. map laws.body_of code.bodies.items ≡ laws.bodies_of (program_of p.now) copies.now.list.items) }
     ensures statics { IfOk result (λ code. map items_of code.statics.items ≡ laws.first_bytes (program_of p.now)) }
+    // So there are few static objects here too, and none has more bytes than there are offsets.
+    ensures few { IfOk result (λ code. length code.statics.items ≤ 65536) }
+    ensures short { IfOk result (λ code. All HasFewBytes code.statics.items) }
 {
-    if copies.list.len() > 0xffff || p.statics.len() > 0xffff {
-        return Err(AllocError);
-    }
     let bodies = bodies_of(alloc, p, &copies.list)?;
     let statics = first_bytes(alloc, p)?;
     Ok(CoreProgram { bodies, statics })

@@ -1,6 +1,6 @@
 //! Selection for all core code.
 
-ghost use Rattle.std.specs.Prelude.{◌≡◌, ◌++◌, Some, OnOk, IfOk, IfSome};
+ghost use Rattle.std.specs.Prelude.{◌≡◌, ◌<◌, ◌≤◌, ◌++◌, length, None, Some, OnOk, IfOk, MatchOption};
 ghost use Rattle.c_ints.specs.Range.{bytes_of};
 ghost use Rattle.core_code.specs.View.{tree_of, trees_in};
 ghost use Rattle.sym_code.specs.declared.code.BlockName.TheVariants.{Copy};
@@ -10,7 +10,7 @@ ghost use Rattle.select_wide.specs.Calls.{helped_code};
 ghost use Rattle.core_code.specs.Operands.{number_behind, number_left};
 ghost use Rattle.select_wide.specs.Selection.{way_of, shifted_code, binary_code, wide_code};
 
-use crate::calls::{copy_of, put_helper_call};
+use crate::calls::{copy_of, put_copy_call};
 use crate::comparisons::{put_equality, put_order};
 use crate::moves::{is_same, is_same_root};
 use crate::operands::{Operands, Way};
@@ -28,11 +28,12 @@ use std::alloc::{AllocError, Global};
 use sym_code::{BlockName, FileOperation, SymBlock, SymProgram};
 
 /// Selection for the operations of a body that are neither byte-sized nor control: the copies of the program, and the
-/// root of the body, under which its helpers are looked for.
+/// root of the body, under which its helpers are looked for. The name of a block has room for the number of each copy.
 #[derive(Drop)]
 pub struct Selector<'a> {
     pub list: &'a [FnCopy],
     pub root: Root,
+    pub ghost few: { length list.now ≤ 65536 },
 }
 
 // What a run of `Set`s leaves in a byte, with one operation more.
@@ -88,7 +89,8 @@ fn way_of(op: BinOp, signed: bool) -> Way
     }
 }
 
-// An operator by its helper, which takes so many bytes of the right operand.
+// An operator by its helper, which takes so many bytes of the right operand. Nothing stands for one that has no helper.
+#[tactic(auto, using(crate::proofs::Appends::append_none))]
 fn put_helped(
     selector: &Selector,
     op: BinOp,
@@ -102,10 +104,10 @@ fn put_helped(
 {
     match int_helper(op, false, ty) {
         Some(helper) => {
-            let copy = copy_of(selector.list, selector.root, helper)?;
-            put_helper_call(copy, selector.root, o, count, out)
+            let copy = copy_of(selector.list, selector.root, helper);
+            put_copy_call(copy, selector.root, o, count, out)
         }
-        None => Err(AllocError),
+        None => Ok(()),
     }
 }
 
@@ -207,7 +209,7 @@ impl Wide for Selector<'_> {
 
 #[tactic(auto, using(crate::proofs::Blocks::body_passed, crate::proofs::Blocks::body_found))]
 fn body_of(bodies: &[Body], number: u16) -> Option<&Body>
-    ensures { IfSome result (λ body. body_at bodies.now number ≡ Some body.now) }
+    ensures { MatchOption result (body_at bodies.now number ≡ None) (λ body. body_at bodies.now number ≡ Some body.now) }
 {
     for body in bodies {
         if body.copy == number {
@@ -254,6 +256,7 @@ fn block_of(
     body: &Body,
     list: &[FnCopy],
 ) -> Result<SymBlock, AllocError>
+    requires { length list.now ≤ 65536 }
     ensures name { IfOk result (λ block. block.name ≡ Copy number) }
     ensures code { IfOk result (λ block. block.list.items ≡ block_code list.now number body.now) }
 {
@@ -276,22 +279,22 @@ fn is_user(function: FnId) -> bool
     }
 }
 
+// The block of the copy with this number. Where there is no body it has no instructions.
 fn make_block(
     alloc: Global,
     bodies: &[Body],
     list: &[FnCopy],
     number: usize,
 ) -> Result<SymBlock, AllocError>
+    requires copies { length list.now ≤ 65536 }
+    requires number { number < 65536 }
     ensures name { IfOk result (λ block. block.name ≡ Copy number) }
     ensures code { IfOk result (λ block. block.list.items ≡ code_by list.now number (body_at bodies.now number)) }
 {
-    if number > 0xFFFF {
-        return Err(AllocError);
-    }
     let copy = number as u16;
     match body_of(bodies, copy) {
         Some(body) => block_of(alloc, copy, body, list),
-        None => Err(AllocError),
+        None => Ok(SymBlock::new(alloc, BlockName::Copy(copy))),
     }
 }
 
@@ -305,6 +308,8 @@ fn put_block(
     copy: FnCopy,
     blocks: &mut Vec<SymBlock>,
 ) -> Result<(), AllocError>
+    requires copies { length list.now ≤ 65536 }
+    requires number { number < 65536 }
     ensures { OnOk result (views_of blocks.new.items ≡ views_of blocks.old.items ++ block_at bodies.now list.now number copy) }
 {
     if is_user(copy.function) {
@@ -314,6 +319,7 @@ fn put_block(
 }
 
 fn blocks_of(alloc: Global, bodies: &[Body], list: &[FnCopy]) -> Result<Vec<SymBlock>, AllocError>
+    requires { length list.now ≤ 65536 }
     ensures { IfOk result (λ blocks. views_of blocks.items ≡ blocks_from bodies.now list.now 0 list.now) }
 {
     let mut blocks = Vec::new(alloc);
@@ -325,8 +331,10 @@ fn blocks_of(alloc: Global, bodies: &[Body], list: &[FnCopy]) -> Result<Vec<SymB
 
 /// The blocks of all copies that are no helpers, in the order of the copies, each from the body with its number. The
 /// copies are those of the program: each copy that is no helper has a body, and each operation for a helper has that
-/// helper's copy under the root of its body. What is missing is answered as out of memory.
+/// helper's copy under the root of its body. For what is missing there is no instruction.
 pub fn select(alloc: Global, p: &CoreProgram, copies: &Copies) -> Result<SymProgram, AllocError>
+    // The name of a block has room for the number of each copy.
+    requires { length copies.now.list.items ≤ 65536 }
     ensures blocks { IfOk result (λ code. views_of code.blocks.items ≡ blocks_from p.now.bodies.items copies.now.list.items 0 copies.now.list.items) }
 {
     let blocks = blocks_of(alloc, &p.bodies, &copies.list)?;

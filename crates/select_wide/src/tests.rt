@@ -220,17 +220,20 @@ fn helpers_go_by_width_and_sign(rt: HostRuntime) {
     assert_eq!(rt; int_helper(BinOp::Add, false, IntTy::Long), None);
 }
 
+fn under_main(function: FnId) -> FnCopy {
+    FnCopy {
+        root: Root::Main,
+        function,
+        level: 0,
+    }
+}
+
 #[test]
 fn each_copy_but_a_helper_has_a_block(rt: HostRuntime) -> Result<(), Fail> {
     let alloc = rt.alloc();
     let mut list = Vec::new(alloc);
-    for function in [FnId::User(1), FnId::Helper(Helper::Mul2)] {
-        list.push(FnCopy {
-            root: Root::Main,
-            function,
-            level: 0,
-        })?;
-    }
+    list.push(under_main(FnId::User(1)))?;
+    list.push(under_main(FnId::Helper(Helper::Mul2)))?;
     let mut code = Vec::new(alloc);
     code.push(Core::Leave)?;
     let mut bodies = Vec::new(alloc);

@@ -1,0 +1,2 @@
+pub mod ObjectBytes
+pub mod Sized
