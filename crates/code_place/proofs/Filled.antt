@@ -9,7 +9,7 @@ use Rattle.sym_code.specs.declared.code.Target.{Target}
 use Rattle.code_place.specs.Image.{written, Holds}
 use Rattle.code_place.specs.Instructions.{words}
 use Rattle.code_place.specs.Marks.{target_by, AreMarks}
-use Rattle.code_place.specs.Places.{target_for, HaveAddresses, HoldsBlocks, IsErasedElsewhere, BlocksHaveAddresses}
+use Rattle.code_place.specs.Places.{target_for, HoldsBlocks, IsErasedElsewhere}
 use Rattle.sym_code.specs.Words.{words_in}
 use Rattle.code_place.specs.Sizes.{Stands, Fit}
 use Rattle.code_place.specs.declared.marks.Marks.{Marks}
@@ -23,7 +23,6 @@ pub record Filled (placed : Placed) (blocks : List SymBlock) (at : List ℕ) (n 
   pub count : length image ≡ 8192
   pub holds : (k : ℕ) (block : SymBlock) (start : ℕ) → k < n → slice_get blocks k ≡ Some block → slice_get at k ≡ Some start → Holds image start (words placed (target_for blocks at block start) block.list.items)
   pub erased : (p : ℕ) → p < 8192 → ((k : ℕ) (block : SymBlock) (start : ℕ) → k < n → slice_get blocks k ≡ Some block → slice_get at k ≡ Some start → (p < start) ⊎ (start + words_in block.list.items ≤ p)) → slice_index image p ≡ 0x3fff
-  pub named : (k : ℕ) (block : SymBlock) (start : ℕ) → k < n → slice_get blocks k ≡ Some block → slice_get at k ≡ Some start → HaveAddresses placed (target_for blocks at block start) block.list.items
 
 -- none are in an erased one
 pub filled_start : (placed : Placed) (blocks : List SymBlock) (at : List ℕ) (n : ℕ) (image : List ℕ) → n ≡ 8192 → image ≡ replicate n 0x3fff → Filled placed blocks at 0 image
@@ -31,7 +30,6 @@ filled_start placed blocks at n image size is = record {
   count = ap (λ (list : List ℕ). length list) is ∙ (length-replicate n 0x3fff ∙ size);
   holds = λ k block start less. absurd (omega (arith, less));
   erased = λ p below free. ap (λ (list : List ℕ). slice_index list p) is ∙ get_or-replicate n p 0x3fff 0 (omega (arith, below, size));
-  named = λ k block start less. absurd (omega (arith, less));
 }
 
 -- a block ends before the next one begins,
@@ -66,8 +64,8 @@ module _ (placed : Placed) (blocks : List SymBlock) (at : List ℕ) (i : ℕ) (b
   ws = words placed (target_for blocks at block start) block.list.items
 
   -- one more block is put at its address
-  step : Fit blocks at → slice_get blocks i ≡ Some block → slice_get at i ≡ Some start → start + words_in block.list.items ≤ 8192 → Filled placed blocks at i old → new ≡ written old start ws → HaveAddresses placed (target_for blocks at block start) block.list.items → Filled placed blocks at (i + 1) new
-  step fit found here room filled put named =
+  step : Fit blocks at → slice_get blocks i ≡ Some block → slice_get at i ≡ Some start → start + words_in block.list.items ≤ 8192 → Filled placed blocks at i old → new ≡ written old start ws → Filled placed blocks at (i + 1) new
+  step fit found here room filled put =
       let size : length ws ≡ words_in block.list.items = count_all placed (target_for blocks at block start) block.list.items in
       let mine : Holds new start ws = λ k below. ap (λ (list : List ℕ). slice_index list (start + k)) put ∙ read_put old start ws (omega (arith, size, room, filled.count)) k below in
       let same_block : (k : ℕ) (b : SymBlock) → k ≡ i → slice_get blocks k ≡ Some b → block ≡ b = λ k b e got. same_Some block b (sym found ∙ (ap (λ n. slice_get blocks n) (sym e) ∙ got)) in
@@ -90,28 +88,18 @@ module _ (placed : Placed) (blocks : List SymBlock) (at : List ℕ) (i : ℕ) (b
             let apart : (p < start) ⊎ (start + length ws ≤ p) =
             ⊎_elim (λ before. inl before) (λ behind. inr (omega (arith, size, behind))) (free i block start (omega arith) found here) in
             ap (λ (list : List ℕ). slice_index list p) put ∙ (read_other old start ws p apart ∙ filled.erased p below (λ k b s less. free k b s (omega (arith, less))));
-        named = λ k b s less got stands.
-            ⊎_elim
-            (λ below. filled.named k b s below got stands)
-            (λ above.
-            let e : k ≡ i = omega (arith, less, above) in
-            let P : SymBlock → Type 0 = λ b. HaveAddresses placed (target_for blocks at b start) b.list.items in
-            let Q : ℕ → Type 0 = λ s. HaveAddresses placed (target_for blocks at b s) b.list.items in
-            subst Q (same_start k s e stands) (subst P (same_block k b e got) named))
-            (cases_lt k i);
       }
 
 -- One more block, by what a loop knows of it.
 pub filled_more : (placed : Placed) (ys blocks : List SymBlock) (at : List ℕ) (i : ℕ) (block : SymBlock) (start : ℕ) (marks : Marks) (old new : List ℕ) → ys ≡ blocks → Fit blocks at → i < length ys → block ≡ get_or ys i block → i < length at → start ≡ get_or at i start → AreMarks blocks at marks → Filled placed blocks at i old
-    → new ≡ written old start (words placed (target_by marks block start) block.list.items) → HaveAddresses placed (target_by marks block start) block.list.items → Filled placed blocks at (i + 1) new
-filled_more placed ys blocks at i block start marks old new same fit below read inside is are filled put named =
+    → new ≡ written old start (words placed (target_by marks block start) block.list.items) → Filled placed blocks at (i + 1) new
+filled_more placed ys blocks at i block start marks old new same fit below read inside is are filled put =
     let found : slice_get blocks i ≡ Some block = ap (λ (list : List SymBlock). slice_get list i) (sym same) ∙ slice_get_read ys (length ys) i block refl below read in
     let here : slice_get at i ≡ Some start = slice_get_read at (length at) i start refl inside is in
     let room = room_at ys blocks at i block start same fit below read inside is in
     let alike = by_marks marks blocks at block start are in
-    let P : (Target → Option ℕ) → Type 0 = λ target. HaveAddresses placed target block.list.items in
     step placed blocks at i block start old new fit found here room filled
-    (put ∙ ap (λ (target : Target → Option ℕ). written old start (words placed target block.list.items)) alike) (subst P alike named)
+    (put ∙ ap (λ (target : Target → Option ℕ). written old start (words placed target block.list.items)) alike)
 
 -- All blocks are in it.
 pub all_hold : (placed : Placed) (ys blocks : List SymBlock) (at : List ℕ) (n : ℕ) (image : List ℕ) → ys ≡ blocks → length ys ≤ n → Filled placed blocks at n image → HoldsBlocks placed blocks at image
@@ -119,12 +107,6 @@ all_hold placed ys blocks at n image same ends filled k block start found here =
     let long : length ys ≡ length blocks = ap (λ (list : List SymBlock). length list) same in
     let inside = slice_get_within blocks k block found in
     filled.holds k block start (omega (arith, long, ends, inside)) found here
-
-pub all_named : (placed : Placed) (ys blocks : List SymBlock) (at : List ℕ) (n : ℕ) (image : List ℕ) → ys ≡ blocks → length ys ≤ n → Filled placed blocks at n image → BlocksHaveAddresses placed blocks at
-all_named placed ys blocks at n image same ends filled k block start found here =
-    let long : length ys ≡ length blocks = ap (λ (list : List SymBlock). length list) same in
-    let inside = slice_get_within blocks k block found in
-    filled.named k block start (omega (arith, long, ends, inside)) found here
 
 pub rest_erased : (placed : Placed) (blocks : List SymBlock) (at : List ℕ) (n : ℕ) (image : List ℕ) → Filled placed blocks at n image → IsErasedElsewhere blocks at image
 rest_erased placed blocks at n image filled address below free = filled.erased address below (λ k block start less. free k block start)

@@ -6,6 +6,7 @@ use Rattle.pic_isa.specs.Table.{word_of}
 use Rattle.pic_map.specs.declared.Placed.{Placed}
 use Rattle.sym_code.specs.Programs.{same_name, same_label}
 use Rattle.sym_code.specs.declared.code.BlockName.{BlockName}
+use Rattle.sym_code.specs.declared.code.BlockName.TheVariants as names
 use Rattle.sym_code.specs.declared.code.Label.{Label}
 use Rattle.sym_code.specs.declared.code.Label.TheVariants as labels
 use Rattle.sym_code.specs.declared.code.Literal.{Literal}
@@ -126,3 +127,7 @@ HaveAddresses placed target (s ∷ list) = HasAddress placed target s × HaveAdd
 
 abbrev pub BlocksHaveAddresses : Placed → List SymBlock → List ℕ → Type 0
 BlocksHaveAddresses placed blocks at = (k : ℕ) (block : SymBlock) (start : ℕ) → slice_get blocks k ≡ Some block → slice_get at k ≡ Some start → HaveAddresses placed (target_for blocks at block start) block.list.items
+
+-- main's block and the label at which it halts have addresses
+abbrev pub HasEnds : List SymBlock → List ℕ → Type 0
+HasEnds blocks at = IsSome (block_place blocks at (names.Copy 0)) × IsSome (label_place blocks at labels.Halt)

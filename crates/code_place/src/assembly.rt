@@ -5,14 +5,13 @@ ghost use Rattle.pic_isa.specs.Table.{word_of};
 ghost use Rattle.code_place.specs.Image.{written};
 ghost use Rattle.code_place.specs.Instructions as stated;
 ghost use Rattle.code_place.specs.Marks.{target_in, target_by};
-ghost use Rattle.code_place.specs.Places.{block_place, label_place, HaveAddresses, HoldsBlocks, HoldsInstructions, IsErasedElsewhere, BlocksHaveAddresses, TargetsStand};
+ghost use Rattle.code_place.specs.Places.{block_place, label_place, HasEnds, HaveAddresses, HoldsBlocks, HoldsInstructions, IsErasedElsewhere, BlocksHaveAddresses, TargetsStand};
 ghost use Rattle.code_place.specs.Rows.{list_of, MayBeWellFormed};
 ghost use Rattle.sym_code.specs.Words.{words_in};
 ghost use Rattle.code_place.specs.Sizes.{Fit};
 ghost use Rattle.sym_code.specs.declared.code.BlockName.TheVariants.{Copy};
 ghost use Rattle.sym_code.specs.declared.code.Label.TheVariants.{Halt};
 
-use crate::fitting::fit;
 use crate::marks::{Marks, inner_labels, marks_of};
 use crate::words::Scope;
 use pic_chip::Image;
@@ -45,24 +44,15 @@ fn put_row(image: &mut Image, at: u16, row: Option<Ins>) -> u16
     }
 }
 
-fn put_block(
-    image: &mut Image,
-    scope: Scope<'_>,
-    block: &SymBlock,
-    at: u16,
-) -> Result<(), AllocError>
-    requires { at + words_in block.now.list.items ≤ 8192 }
-    ensures image { OnOk result (image.new ≡ written image.old at (stated.words scope.entry.placed.now (target_in scope.entry.marks.now scope.entry.inner.now) block.now.list.items)) }
-    ensures named { OnOk result (HaveAddresses scope.entry.placed.now (target_in scope.entry.marks.now scope.entry.inner.now) block.now.list.items) }
+fn put_block(image: &mut Image, scope: Scope<'_>, block: &SymBlock, at: u16)
+    requires room { at + words_in block.now.list.items ≤ 8192 }
+    requires named { HaveAddresses scope.placed.now (target_in scope.marks.now scope.inner.now) block.now.list.items }
+    ensures { image.new ≡ written image.old at (stated.words scope.entry.placed.now (target_in scope.entry.marks.now scope.entry.inner.now) block.now.list.items) }
 {
     let mut pc = at;
     for sym in &block.list {
-        let Some(row) = scope.row(*sym) else {
-            return Err(AllocError);
-        };
-        pc = put_row(image, pc, row);
+        pc = put_row(image, pc, scope.row(*sym));
     }
-    Ok(())
 }
 
 // A block with its own labels.
@@ -74,9 +64,9 @@ fn put_next(
     block: &SymBlock,
     at: u16,
 ) -> Result<(), AllocError>
-    requires { at + words_in block.now.list.items ≤ 8192 }
-    ensures image { OnOk result (image.new ≡ written image.old at (stated.words placed.now (target_by marks.now block.now at) block.now.list.items)) }
-    ensures named { OnOk result (HaveAddresses placed.now (target_by marks.now block.now at) block.now.list.items) }
+    requires room { at + words_in block.now.list.items ≤ 8192 }
+    requires named { HaveAddresses placed.now (target_by marks.now block.now at) block.now.list.items }
+    ensures { OnOk result (image.new ≡ written image.old at (stated.words placed.now (target_by marks.now block.now at) block.now.list.items)) }
 {
     let inner = inner_labels(alloc, block, at)?;
     let scope = Scope {
@@ -84,13 +74,14 @@ fn put_next(
         marks,
         inner: &inner,
     };
-    put_block(image, scope, block, at)
+    put_block(image, scope, block, at);
+    Ok(())
 }
 
 /// The image of a program whose block `k` stands at `at[k]`, with everything else erased; main is the block of copy 0.
 ///
-/// Out of memory is also the answer where a block doesn't fit before the next one or within its page, and where something
-/// that is named has no address. The conditions of a compiler's call exclude both.
+/// All that is named has an address by then, each block has room, and main's block and the label for the halt are there. So
+/// there is an image unless memory runs out.
 pub fn assemble(
     alloc: Global,
     s: &SymProgram,
@@ -98,15 +89,17 @@ pub fn assemble(
     placed: &Placed,
 ) -> Result<Assembled, AllocError>
     // Each block has an address, in pages 0 to 3, and ends before its page does and before the next block begins.
-    ensures fit { OnOk result (Fit s.now.blocks.items at.now) }
+    requires fit { Fit s.now.blocks.items at.now }
+    // All that is named has an address,
+    requires named { BlocksHaveAddresses placed.now s.now.blocks.items at.now }
+    // and so have the block of copy 0 and the label at which main halts.
+    requires ends { HasEnds s.now.blocks.items at.now }
     // The words of each block stand at its address, where a label is the address of what follows it,
     ensures each { IfOk result (λ made. HoldsBlocks placed.now s.now.blocks.items at.now made.image) }
     // those of an instruction behind those of the ones before it,
     ensures instructions { IfOk result (λ made. HoldsInstructions placed.now s.now.blocks.items at.now made.image) }
     // and every other word is erased.
     ensures erased { IfOk result (λ made. IsErasedElsewhere s.now.blocks.items at.now made.image) }
-    // All that is named has an address.
-    ensures named { OnOk result (BlocksHaveAddresses placed.now s.now.blocks.items at.now) }
     // An address that a target has is that of a block or label of its name.
     ensures targets { OnOk result (TargetsStand s.now.blocks.items at.now) }
     // Main begins where the block of copy 0 stands,
@@ -114,22 +107,15 @@ pub fn assemble(
     // and halts at the label for that.
     ensures halt { IfOk result (λ made. label_place s.now.blocks.items at.now Halt ≡ Some made.halt) }
 {
-    if !fit(s, at) {
-        return Err(AllocError);
-    }
     let marks = marks_of(alloc, s, at)?;
     let mut image = Image::blank(alloc)?;
     for (number, block) in s.blocks.iter().enumerate() {
         let Some(start) = at.get(number) else {
-            return Err(AllocError);
+            unreachable!()
         };
         put_next(alloc, &mut image, placed, &marks, block, *start)?;
     }
-    let Some(main) = marks.block(BlockName::Copy(0)) else {
-        return Err(AllocError);
-    };
-    let Some(halt) = marks.halt else {
-        return Err(AllocError);
-    };
+    let main = marks.block(BlockName::Copy(0)).unwrap();
+    let halt = marks.halt.unwrap();
     Ok(Assembled { image, main, halt })
 }

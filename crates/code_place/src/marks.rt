@@ -144,7 +144,7 @@ pub fn marks_of(alloc: Global, s: &SymProgram, at: &[u16]) -> Result<Marks, Allo
     let mut marks = Marks::none(alloc);
     for (number, block) in s.blocks.iter().enumerate() {
         let Some(start) = at.get(number) else {
-            return Err(AllocError);
+            unreachable!()
         };
         marks.put_block(block.name, *start)?;
         marks.put_labels(block, *start);

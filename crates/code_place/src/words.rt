@@ -1,6 +1,6 @@
 //! The instruction of the chip that a symbolic one stands for.
 
-ghost use Rattle.std.specs.Prelude.{◌≡◌, ◌<◌, ◌%◌, ℕ, true, length, map, Option, Some, None, IsSome, IfSome, OnSome};
+ghost use Rattle.std.specs.Prelude.{◌≡◌, ◌<◌, ◌%◌, ℕ, true, length, map, Option, Some, None, IsSome};
 ghost use Rattle.std.specs.BTreeMap.{get};
 ghost use Rattle.pic_isa.specs.Table.{IsWellFormed};
 ghost use Rattle.sym_code.specs.WellFormed.{is_well_formed};
@@ -13,6 +13,7 @@ ghost use Rattle.sym_code.specs.Words.{words_of_one};
 
 use crate::address::{address_of, file_address};
 use crate::marks::Marks;
+use core_code::Byte;
 use pic_isa::Ins;
 use pic_map::Placed;
 use std::collections::BTreeMap;
@@ -30,69 +31,66 @@ pub struct Scope<'a> {
 }
 
 impl<'a> Scope<'a> {
-    fn low(&self, file: Operand) -> Option<u8>
-        ensures value { IfSome result (λ f. f ≡ stated.low self.now.placed.now file) }
-        ensures range { IfSome result (λ f. f < 128) }
-        ensures named { OnSome result (IsSome (placing.file_address self.now.placed.now file)) }
+    fn low(&self, file: Operand) -> u8
+        requires { IsSome (placing.file_address self.now.placed.now file) }
+        ensures value { result ≡ stated.low self.now.placed.now file }
+        ensures range { result < 128 }
     {
-        match file_address(self.placed, file) {
-            Some(at) => Some((at % 128) as u8),
-            None => None,
-        }
+        let at = file_address(self.placed, file).unwrap();
+        (at % 128) as u8
     }
 
-    fn target(&self, target: Target) -> Option<u16>
-        ensures { result ≡ target_in self.now.marks.now self.now.inner.now target }
+    fn target(&self, target: Target) -> u16
+        requires { IsSome (target_in self.now.marks.now self.now.inner.now target) }
+        ensures { result ≡ stated.known (target_in self.now.marks.now self.now.inner.now target) }
     {
-        self.marks.target(self.inner, target)
+        self.marks.target(self.inner, target).unwrap()
     }
 
-    fn literal(&self, value: Literal) -> Option<u16>
-        ensures value { IfSome result (λ k. k ≡ stated.literal_of self.now.placed.now value) }
-        ensures range { IfSome result (λ k. k < 256) }
-        ensures named { OnSome result (HasLiteral self.now.placed.now value) }
+    fn byte(&self, byte: Byte) -> u16
+        requires { IsSome (placing.address_of self.now.placed.now byte) }
+        ensures value { result ≡ stated.known (placing.address_of self.now.placed.now byte) }
+        ensures range { result < 512 }
+    {
+        address_of(self.placed, byte).unwrap()
+    }
+
+    fn literal(&self, value: Literal) -> u16
+        requires { HasLiteral self.now.placed.now value }
+        ensures value { result ≡ stated.literal_of self.now.placed.now value }
+        ensures range { result < 256 }
     {
         match value {
-            Literal::Number(number) => Some(number as u16),
-            Literal::Low(byte) => match address_of(self.placed, byte) {
-                Some(at) => Some(at % 256),
-                None => None,
-            },
-            Literal::High(byte) => match address_of(self.placed, byte) {
-                Some(at) => Some(at / 256),
-                None => None,
-            },
+            Literal::Number(number) => number as u16,
+            Literal::Low(byte) => self.byte(byte) % 256,
+            Literal::High(byte) => self.byte(byte) / 256,
         }
     }
 
-    /// The instruction that a symbolic one stands for, where all that it names has an address. A label is none.
-    pub fn row(&self, sym: Sym) -> Option<Option<Ins>>
-        requires { is_well_formed sym ≡ true }
-        ensures value { IfSome result (λ row. list_of row ≡ stated.rows self.now.placed.now (target_in self.now.marks.now self.now.inner.now) sym) }
-        ensures named { OnSome result (HasAddress self.now.placed.now (target_in self.now.marks.now self.now.inner.now) sym) }
-        ensures fit { IfSome result MayBeWellFormed }
-        ensures count { IfSome result (λ row. length (list_of row) ≡ words_of_one sym) }
+    /// The instruction that a symbolic one stands for, all that it names having an address. A label is none.
+    pub fn row(&self, sym: Sym) -> Option<Ins>
+        requires fits { is_well_formed sym ≡ true }
+        requires named { HasAddress self.now.placed.now (target_in self.now.marks.now self.now.inner.now) sym }
+        ensures value { list_of result ≡ stated.rows self.now.placed.now (target_in self.now.marks.now self.now.inner.now) sym }
+        ensures fit { MayBeWellFormed result }
+        ensures count { length (list_of result) ≡ words_of_one sym }
     {
         match sym {
-            Sym::Label(_) => Some(None),
-            Sym::SelectBank(bit, on) => Some(Some(bank_row(bit, on))),
-            Sym::SelectPage(bit, target) => Some(Some(page_row(bit, self.target(target)?))),
-            Sym::File { op, file, into } => Some(Some(file_row(
-                op,
-                self.low(file)?,
-                is_file(into),
-            ))),
-            Sym::Movwf(file) => Some(Some(Ins::Movwf { f: self.low(file)? })),
-            Sym::Clrf(file) => Some(Some(Ins::Clrf { f: self.low(file)? })),
-            Sym::Bit { op, file, bit } => Some(Some(bit_row(op, self.low(file)?, bit))),
-            Sym::Literal { op, value } => Some(Some(literal_row(op, self.literal(value)?))),
-            Sym::Plain(op) => Some(Some(plain_row(op))),
-            Sym::Call(target) => Some(Some(Ins::Call {
-                k: self.target(target)? % 2048,
-            })),
-            Sym::Goto(target) => Some(Some(Ins::Goto {
-                k: self.target(target)? % 2048,
-            })),
+            Sym::Label(_) => None,
+            Sym::SelectBank(bit, on) => Some(bank_row(bit, on)),
+            Sym::SelectPage(bit, target) => Some(page_row(bit, self.target(target))),
+            Sym::File { op, file, into } => Some(file_row(op, self.low(file), is_file(into))),
+            Sym::Movwf(file) => Some(Ins::Movwf { f: self.low(file) }),
+            Sym::Clrf(file) => Some(Ins::Clrf { f: self.low(file) }),
+            Sym::Bit { op, file, bit } => Some(bit_row(op, self.low(file), bit)),
+            Sym::Literal { op, value } => Some(literal_row(op, self.literal(value))),
+            Sym::Plain(op) => Some(plain_row(op)),
+            Sym::Call(target) => Some(Ins::Call {
+                k: self.target(target) % 2048,
+            }),
+            Sym::Goto(target) => Some(Ins::Goto {
+                k: self.target(target) % 2048,
+            }),
         }
     }
 }

@@ -1,6 +1,10 @@
 use Rattle.code_place.proofs.Marked.{marks_more}
+use Rattle.code_place.proofs.Named.{somewhere}
 use Rattle.code_place.proofs.Room.{room_at}
 use Rattle.code_place.proofs.marks.marks_of.Goals as goal
+
+pub unreachable-requires : goal.unreachable-requires
+unreachable-requires c = somewhere _ c.args.s.now.blocks.items c.args.at.now _ c.block-item.result c.deref-block-items.ensures.value c.requires c.loop-number-test.true c.block-item.is c.in_default.ensures.lookup.0
 
 pub put_labels-requires : goal.put_labels-requires
 put_labels-requires c = room_at _ _ _ _ _ _ c.deref-block-items.ensures.value c.requires c.loop-number-test.true c.block-item.is c.in-Some.ensures.lookup.3.0 c.in-Some.ensures.lookup.1

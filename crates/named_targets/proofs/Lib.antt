@@ -1,0 +1,14 @@
+mod Naming
+mod Members
+mod Operations
+mod Control
+mod Routines
+mod Starting
+mod Selecting
+mod Placing
+mod Rows
+mod Expressions
+mod Statements
+mod Lowering
+mod Joining
+mod Whole
