@@ -67,7 +67,7 @@ zip_at R (x ∷ xs) [] h k y is = absurd h
 zip_at R (x ∷ xs) (z ∷ ys) h zero y is = (x, refl, subst (R x) (some_is z y is) h.0)
 zip_at R (x ∷ xs) (z ∷ ys) h (suc k) y is = zip_at R xs ys h.1 k y is
 
-has_at : {A : Type 0} (xs : List A) (k : ℕ) (x : A) → slice_get xs k ≡ Some x → Has xs x
+pub has_at : {A : Type 0} (xs : List A) (k : ℕ) (x : A) → slice_get xs k ≡ Some x → Has xs x
 has_at [] k x is = absurd (cc)
 has_at (y ∷ xs) zero x is = inl (some_is y x is)
 has_at (y ∷ xs) (suc k) x is = inr (has_at xs k x is)

@@ -33,6 +33,7 @@ pub mod Linking
 pub mod Counted
 pub mod Routines
 pub mod Bounded
+pub mod Addressed
 pub mod Fitting
 pub mod SameNumbers
 pub mod Ranked

@@ -6,3 +6,4 @@ pub mod Translations
 pub mod Bounded
 pub mod Faithful
 pub mod Written
+pub mod Addressed

@@ -23,4 +23,7 @@ mod Others
 mod Callees
 mod Copied
 pub mod Placed
+pub mod There
+pub mod Routines
+pub mod Starting
 pub mod Whole

@@ -1,19 +1,20 @@
--- A function calls no copy of its own, since chains of calls to a copy are no longer than its level.
-use Rattle.std.proofs.Common.{◌≡◌, ℕ, zero, suc, ◌+◌, ◌⊎◌, inl, inr, Bool, true, false, nat_eq, get_or, List, [], ◌∷◌, ◌++◌, length, length-append, map, replicate, Option, Some, None, slice_get, slice_set, refl, sym, ap, ◌∙◌, subst, eqb-true, arith}
+-- What a function calls has a copy whose frame has room for the parameters.
+use Rattle.std.proofs.Common.{◌≡◌, ℕ, zero, suc, ◌+◌, ◌⊎◌, inl, inr, ◌≤◌, get_or, List, [], ◌∷◌, ◌++◌, length, map, replicate, Option, Some, None, slice_get, slice_set, refl, sym, ap, ◌∙◌, subst, arith}
 use Rattle.std.proofs.lemmas.Option.{none-some, same_Some}
 use Rattle.std.specs.List.{Contains}
-use Rattle.c_typed.specs.Calls.{statements_calls}
-use Rattle.c_typed.specs.Chains.{number_of, row_of, graph_of, Calls, IsChain, IsLevel}
+use Rattle.c_typed.specs.Chains.{row_of, Calls, IsChain}
+use Rattle.c_typed.specs.Fits.{params_of}
+use Rattle.c_typed.specs.Room.{variables_bytes, frame_size}
 use Rattle.c_typed.specs.Trees.{FunctionTree, Program}
 use Rattle.c_typed.specs.declared.calls.FnId.{FnId}
 use Rattle.c_typed.specs.declared.calls.FnId.TheVariants as callee
-use Rattle.call_graph.specs.Copies.{AreCopies}
 use Rattle.call_graph.specs.declared.types.FnCopy.{FnCopy}
 use Rattle.lower_expr.specs.Layout.{copy_in, copy_of}
 use Rattle.lower_stmt.specs.Frames.{user_number, under_root, function_under, marked_at, marked, layout_for}
 use Rattle.pic_world.specs.declared.Root.{Root}
 use Rattle.pic_world.specs.declared.Root.TheVariants.{Main, Isr}
-use Rattle.word_bounds.specs.Naming.{CallsOthers, HaveCopies}
+use Rattle.ram_place.specs.Sizes.{frame_bytes, size_or_none}
+use Rattle.word_bounds.specs.Naming.{Memory, HasBytes, CallsFit, HaveCopies}
 
 -- ---- elements
 abbrev pub Member : {A : Type 0} → A → List A → Type 0
@@ -92,47 +93,43 @@ row_there n [] more k f e = absurd (none-some f e)
 row_there n (g ∷ fs) more zero f e = ap (row_of n) (same_Some g f e)
 row_there n (g ∷ fs) more (suc k) f e = row_there n fs more k f e
 
-module _ (p : Program) (copies : List FnCopy) (number function : ℕ) (copy : FnCopy) (f : FunctionTree) (root : Root) (known : AreCopies p copies) (there : slice_get copies number ≡ Some copy) (is : copy.function ≡ callee.User function) (found : slice_get p.functions function ≡ Some f) where
-  -- the function doesn't call itself
-  no_self : Member (callee.User function) (statements_calls f.body) → ⊥
-  no_self m =
-      let n = length p.functions in
-      let row = member_contained function (row_of n f) (member_mapped (number_of n) (callee.User function) (statements_calls f.body) m) in
-      let calls : Calls (graph_of p) function function = subst (λ (r : List ℕ). Contains r function) (sym (row_there n p.functions (replicate 16 []) function f found)) row in
-      let one = (known.exact copy).0 (member_contained copy copies (member_there copies number copy there)) in
-      let level = subst (λ (id : FnId). IsLevel (graph_of p) one.number (number_of n id) copy.level) is one.level in
-      let longest = level.0 in
-      let long = level.1 (longest.0 ++ function ∷ []) (chain_more (graph_of p) one.number longest.0 function function longest.1 calls) in
-      let size = length-append longest.0 (function ∷ []) in
-      let at = longest.2 in
-      omega (arith, long, size, at)
+none_under : (a b : Root) (g : ℕ) → under_root a b None ≡ Some g → ⊥
+none_under Main Main g e = none-some g e
+none_under Main Isr g e = none-some g e
+none_under Isr Main g e = none-some g e
+none_under Isr Isr g e = none-some g e
 
-  not_own : (g k : ℕ) → Member (callee.User g) (statements_calls f.body) → slice_get (layout_for p copies root f).copies g ≡ Some (Some k) → nat_eq number k ≡ false
-  not_own g k m e = by_same (nat_eq number k) refl
+user_is : (a b : Root) (id : FnId) (g : ℕ) → under_root a b (user_number id) ≡ Some g → id ≡ callee.User g
+user_is a b (callee.User function) g e = ap (λ (n : ℕ). callee.User n) (under_is a b function g e)
+user_is a b (callee.Helper helper) g e = absurd (none_under a b g e)
+
+-- a function's frame has room for its parameters
+params_fit : (p : Program) (o : Option FunctionTree) → variables_bytes p.sizes (params_of o) ≤ size_or_none (frame_size p.sizes) o
+params_fit p None = omega arith
+params_fit p (Some g) = omega arith
+
+module _ (p : Program) (copies : List FnCopy) (memory : Memory) (root : Root) (f : FunctionTree) (frames : (k : ℕ) (c : FnCopy) → slice_get copies k ≡ Some c → memory.frames k ≡ Some (frame_bytes p c.function)) where
+  mark_fits : (g k : ℕ) → IsMark root copies 0 g k → HasBytes (memory.frames k) (variables_bytes p.sizes (params_of (slice_get p.functions g)))
+  mark_fits g k mark =
+      let at = mark.2 in
+      let place : k ≡ mark.0 = omega (arith, at) in
+      let there : slice_get copies k ≡ Some mark.1 = ap (slice_get copies) place ∙ mark.3 in
+      let is = user_is mark.1.root root mark.1.function g mark.4 in
+      let room = frames k mark.1 there ∙ ap (λ (id : FnId). Some (frame_bytes p id)) is in
+      subst (λ (o : Option ℕ). HasBytes o (variables_bytes p.sizes (params_of (slice_get p.functions g)))) (sym room) (params_fit p (slice_get p.functions g))
+
+  called_fits : (g k : ℕ) → slice_get (layout_for p copies root f).copies g ≡ Some (Some k) → HasBytes (memory.frames k) (variables_bytes p.sizes (params_of (slice_get p.functions g)))
+  called_fits g k e = by_mark (mark_there root copies (replicate (length p.functions) None) 0 g k e)
     where
-      own_mark : number ≡ k → IsMark root copies 0 g k → ⊥
-      own_mark same mark =
-          let at = mark.2 in
-          let place : mark.0 ≡ number = omega (arith, at, same) in
-          let c = same_Some mark.1 copy (sym mark.3 ∙ ap (slice_get copies) place ∙ there) in
-          let under = sym (ap (λ (id : FnId). under_root copy.root root (user_number id)) is) ∙ sym (ap (function_under root) c) ∙ mark.4 in
-          no_self (subst (λ (h : ℕ). Member (callee.User h) (statements_calls f.body)) (sym (under_is copy.root root function g under)) m)
+      by_mark : (slice_get (replicate (length p.functions) None) g ≡ Some (Some k)) ⊎ IsMark root copies 0 g k → HasBytes (memory.frames k) (variables_bytes p.sizes (params_of (slice_get p.functions g)))
+      by_mark (inl none) = absurd (none_marked (length p.functions) g k none)
+      by_mark (inr mark) = mark_fits g k mark
 
-      by_mark : number ≡ k → (slice_get (replicate (length p.functions) None) g ≡ Some (Some k)) ⊎ IsMark root copies 0 g k → ⊥
-      by_mark same (inl none) = none_marked (length p.functions) g k none
-      by_mark same (inr mark) = own_mark same mark
-
-      by_same : (b : Bool) → nat_eq number k ≡ b → b ≡ false
-      by_same false h = refl
-      by_same true h = absurd (by_mark (eqb-true number k h) (mark_there root copies (replicate (length p.functions) None) 0 g k e))
-
-  others_of : (ids : List FnId) → ((g : ℕ) → Member (callee.User g) ids → Member (callee.User g) (statements_calls f.body)) → HaveCopies (layout_for p copies root f).copies ids → CallsOthers number (copy_of (layout_for p copies root f)) ids
-  others_of [] inside h = tt
-  others_of (callee.User g ∷ ids) inside h =
+  -- what is called has a copy with room for its parameters
+  pub calls_fit : (ids : List FnId) → HaveCopies (layout_for p copies root f).copies ids → CallsFit p memory (copy_of (layout_for p copies root f)) ids
+  calls_fit [] h = tt
+  calls_fit (callee.User g ∷ ids) h =
       let mark = h.0 in
       let copy_is : copy_of (layout_for p copies root f) g ≡ mark.0 = ap copy_in mark.1 in
-      (ap (nat_eq number) copy_is ∙ not_own g mark.0 (inside g (inl refl)) mark.1, others_of ids (λ k m. inside k (inr m)) h.1)
-  others_of (callee.Helper helper ∷ ids) inside h = others_of ids (λ k m. inside k (inr m)) h
-
-  pub calls_others : HaveCopies (layout_for p copies root f).copies (statements_calls f.body) → CallsOthers number (copy_of (layout_for p copies root f)) (statements_calls f.body)
-  calls_others h = others_of (statements_calls f.body) (λ g m. m) h
+      (subst (λ (k : ℕ). HasBytes (memory.frames k) (variables_bytes p.sizes (params_of (slice_get p.functions g)))) (sym copy_is) (called_fits g mark.0 mark.1), calls_fit ids h.1)
+  calls_fit (callee.Helper helper ∷ ids) h = calls_fit ids h

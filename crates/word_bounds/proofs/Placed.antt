@@ -1,35 +1,44 @@
 -- Where a copy's variables stand in its frame, and in which bank the frame stands.
-use Rattle.std.proofs.Common.{◌≡◌, ℕ, zero, suc, ◌+◌, ◌/◌, ◌≤◌, ◌<◌, ◌⊎◌, inl, inr, Bool, true, false, ◌&&◌, ◌||◌, nat_eq, nat_le, get_or, if◌then◌else◌, List, [], ◌∷◌, map, Option, Some, None, slice_get, slice_index, slice_index_or, refl, sym, ap, ◌∙◌, subst, ⊎_elim, leb-true, eqb-true, lt-ltb, arith}
+use Rattle.std.proofs.Common.{◌≡◌, ℕ, zero, suc, ◌+◌, ◌/◌, ◌≤◌, ◌<◌, ◌⊎◌, inl, inr, Bool, true, false, ◌&&◌, ◌||◌, nat_le, get_or, if◌then◌else◌, List, [], ◌∷◌, map, Option, Some, None, slice_get, slice_index, slice_index_or, refl, sym, ap, ◌∙◌, subst, ⊎_elim, leb-true, eqb-true, lt-ltb, arith}
 use Rattle.std.proofs.lemmas.List.Quantifiers.{position-Some}
-use Rattle.std.proofs.lemmas.Option.{none-some, same_Some, get_or_from_slice_get}
+use Rattle.std.proofs.lemmas.Option.{none-some, same_Some, slice_get-get_or}
 use Rattle.std.specs.List.{list_all}
+use Rattle.c_typed.specs.Chains.{helper_number}
 use Rattle.c_typed.specs.Room.{statements_room, variables_bytes, frame_size}
-use Rattle.c_typed.specs.Sound.{target_fits, structure_fits, static_fits, param_fits, local_fits, result_fits, function_fits, statements_fit}
-use Rattle.c_typed.specs.Trees.{StructureTree, VariableTree, FunctionTree, Program}
+use Rattle.c_typed.specs.Sameness.{is_scalar, is_void}
+use Rattle.c_typed.specs.Sound.{type_is_there, object_fits, initial_fits, target_fits, structure_fits, static_fits, param_fits, local_fits, result_fits, function_fits, statements_fit}
+use Rattle.c_typed.specs.Trees.{StructureTree, StaticTree, VariableTree, FunctionTree, Program}
 use Rattle.c_typed.specs.Types.{type_bytes}
 use Rattle.c_typed.specs.Views.{size_of, structure_of}
 use Rattle.c_typed.specs.declared.types.Structure.{Structure}
 use Rattle.c_typed.specs.declared.calls.FnId.{FnId}
 use Rattle.c_typed.specs.declared.calls.FnId.TheVariants as callee
 use Rattle.c_typed.specs.declared.calls.Helper.{Helper}
+use Rattle.c_typed.specs.declared.calls.Helper.TheVariants as helper
+use Rattle.c_typed.specs.declared.types.Ty.{Ty}
+use Rattle.c_typed.specs.declared.types.Ty.TheVariants.{Void, Int, Pointer, Array, Struct}
 use Rattle.call_graph.specs.Numbers as numbers
 use Rattle.call_graph.specs.Numbers.{is_helper, is_copy_of}
 use Rattle.call_graph.specs.declared.types.FnCopy.{FnCopy}
 use Rattle.lower_expr.specs.Bytes.{beyond}
+use Rattle.lower_expr.specs.Layout.{static_number}
 use Rattle.lower_stmt.specs.Frames.{offsets_from, end_from, base_of, layout_for}
 use Rattle.pic_map.specs.declared.FrameLine.{FrameLine}
 use Rattle.pic_map.specs.declared.Placed.{Placed}
 use Rattle.pic_world.specs.Roots.{same_root}
 use Rattle.pic_world.specs.declared.Root.{Root}
+use Rattle.ram_place.specs.Helpers as helpers
+use Rattle.ram_place.specs.Sizes.{frame_bytes}
 use Rattle.sym_code.specs.Layout.{FrameRange, no_frame, frame, lies_in, is_whole}
 use Rattle.sym_code.specs.declared.code.Sym.{Sym}
 use Rattle.code_place.specs.Addresses.{frame_byte}
 use Rattle.code_place.specs.Layouts.{frame_of, layout_of}
 use Rattle.word_bounds.specs.Bounds.{IsBanked, AreBanked, NamesWithin, IsProgram, ProgramsKeepSizes, HasFrame}
+use Rattle.word_bounds.specs.Naming.{Memory, HasBytes}
 use Rattle.word_bounds.proofs.Chain.{never}
 use Rattle.word_bounds.proofs.Typing.{and_first, and_last}
 use Rattle.word_bounds.proofs.Rooms.{Keeps, list_there}
-use Rattle.word_bounds.proofs.Standing.{Stand, beyond_within}
+use Rattle.word_bounds.proofs.Standing.{Stand, small_object, scalar_few, beyond_within}
 
 -- ---- variables
 end_within : (sizes : List ℕ) (at : ℕ) (vs : List VariableTree) → end_from sizes at vs ≤ at + variables_bytes sizes vs
@@ -81,11 +90,58 @@ function_keeps p function f is there =
       and_last locals body last,
     )
 
+void_none : (p : Program) (ty : Ty) → is_void ty ≡ true → type_bytes p.sizes ty ≤ 4
+void_none p Void e = omega arith
+void_none p (Int t) e = never e
+void_none p (Pointer row) e = never e
+void_none p (Array element count size) e = never e
+void_none p (Struct number) e = never e
+
+-- a function of a sound program returns four bytes at most
+few_or_none : (p : Program) (ty : Ty) → result_fits p ty ≡ true → type_bytes p.sizes ty ≤ 4
+few_or_none p ty e = by_either (is_scalar ty) refl (and_first (is_scalar ty || is_void ty) (type_is_there p ty) e)
+  where
+    by_either : (a : Bool) → is_scalar ty ≡ a → (a || is_void ty) ≡ true → type_bytes p.sizes ty ≤ 4
+    by_either true e h = scalar_few p.sizes ty e
+    by_either false e h = void_none p ty h
+
+pub results_few : (p : Program) → IsProgram p → (function : ℕ) (g : FunctionTree) → slice_get p.functions function ≡ Some g → type_bytes p.sizes g.result ≤ 4
+results_few p is function g there =
+    let functions = list_all (function_fits p) p.functions in
+    let statics = list_all (static_fits p) p.statics in
+    let structures = list_all (structure_fits p) p.structures in
+    let rest = and_last (list_all (target_fits p) p.targets) (structures && (statics && functions)) is.sound in
+    let fits = list_there (function_fits p) p.functions function g (and_last statics functions (and_last structures (statics && functions) rest)) there in
+    few_or_none p g.result (and_first (result_fits p g.result) (list_all (param_fits p) g.params && (list_all (local_fits p) g.locals && statements_fit p g true false false g.body)) fits)
+
+-- The frames of the copies are there, each with the bytes of its function.
+abbrev pub HasFrames : Program → List FnCopy → Memory → Type 0
+HasFrames p copies memory = (k : ℕ) (copy : FnCopy) → slice_get copies k ≡ Some copy → memory.frames k ≡ Some (frame_bytes p copy.function)
+
+-- The static objects are there, each with the bytes of its type.
+abbrev pub HasObjects : Program → Memory → Type 0
+HasObjects p memory = (k : ℕ) (s : StaticTree) → slice_get p.statics k ≡ Some s → HasBytes (memory.objects (static_number k)) (type_bytes p.sizes s.ty.ty)
+
+pub static_at : (p : Program) → IsProgram p → (k : ℕ) (s : StaticTree) → slice_get p.statics k ≡ Some s → static_fits p s ≡ true
+static_at p is k s there =
+    let functions = list_all (function_fits p) p.functions in
+    let statics = list_all (static_fits p) p.statics in
+    let structures = list_all (structure_fits p) p.structures in
+    let rest = and_last (list_all (target_fits p) p.targets) (structures && (statics && functions)) is.sound in
+    list_there (static_fits p) p.statics k s (and_first statics functions (and_last structures (statics && functions) rest)) there
+
+-- None has more than 65,535.
+pub objects_small : (p : Program) → IsProgram p → (k : ℕ) (s : StaticTree) → slice_get p.statics k ≡ Some s → type_bytes p.sizes s.ty.ty ≤ 65535
+objects_small p is k s there = small_object p s.ty.ty (and_first (object_fits p s.ty.ty) (initial_fits p (type_bytes p.sizes s.ty.ty) 0 s.initial) (static_at p is k s there))
+
 module _ (p : Program) (copies : List FnCopy) (root : Root) (f : FunctionTree) where
-  pub stands : (c : ℕ) → Keeps p f → Stand c (frame_size p.sizes f) (layout_for p copies root f) p f
-  stands c keeps = record {
+  pub stands : (c : ℕ) (memory : Memory) → IsProgram p → Keeps p f → memory.frames c ≡ Some (frame_size p.sizes f) → HasObjects p memory → Stand c (frame_size p.sizes f) memory (layout_for p copies root f) p f
+  stands c memory is keeps own objects = record {
     keeps = keeps;
     sizes = refl;
+    own = own;
+    statics = objects;
+    results = results_few p is;
     params = λ k v e. let inside = offset_within p.sizes 0 f.params k v e in omega (arith, inside);
     locals = λ k v e.
         let inside = offset_within p.sizes (end_from p.sizes 0 f.params) f.locals k v e in
@@ -99,30 +155,48 @@ module _ (p : Program) (copies : List FnCopy) (root : Root) (f : FunctionTree) w
       let all = end_within p.sizes (end_from p.sizes 0 f.params) f.locals in
       omega (arith, front, all)
 
--- ---- helpers' copies are no function's
-is_no_helper : (copy : FnCopy) (function : ℕ) (root : Root) (h : Helper) → copy.function ≡ callee.User function → is_copy_of root h copy ≡ false
-is_no_helper copy function root h e = ap (λ (id : FnId). same_root copy.root root && is_helper h id) e ∙ no_second (same_root copy.root root)
-  where
-    no_second : (a : Bool) → (a && false) ≡ false
-    no_second true = refl
-    no_second false = refl
+-- ---- helpers' copies: their frames have a helper's bytes
+frames_in_order : List ℕ
+frames_in_order = 8 ∷ 16 ∷ 8 ∷ 8 ∷ 8 ∷ 8 ∷ 16 ∷ 16 ∷ 16 ∷ 16 ∷ 4 ∷ 4 ∷ 4 ∷ 8 ∷ 8 ∷ 8 ∷ []
 
-pub helpers_apart : (copies : List FnCopy) (number function : ℕ) (copy : FnCopy) (root : Root) → slice_get copies number ≡ Some copy → copy.function ≡ callee.User function → (h : Helper) (d : ℕ) → numbers.copy_of copies root h ≡ Some d → nat_eq number d ≡ false
-helpers_apart copies number function copy root there is h d e = by_same (nat_eq number d) refl
-  where
-    by_same : (b : Bool) → nat_eq number d ≡ b → b ≡ false
-    by_same false f = refl
-    by_same true f =
-        let at = (position-Some (is_copy_of root h) copies d copy e).1 in
-        let same = ap (λ k. get_or copies k copy) (sym (eqb-true number d f)) ∙ get_or_from_slice_get copies number copy copy there in
-        never (sym (ap (is_copy_of root h) same ∙ is_no_helper copy function root h is) ∙ at)
+frame_by : (h : Helper) → helpers.frame_bytes h ≡ slice_index frames_in_order (helper_number h)
+unfolding frames_in_order
+frame_by helper.Mul2 = refl
+frame_by helper.Mul4 = refl
+frame_by helper.Divu2 = refl
+frame_by helper.Divs2 = refl
+frame_by helper.Remu2 = refl
+frame_by helper.Rems2 = refl
+frame_by helper.Divu4 = refl
+frame_by helper.Divs4 = refl
+frame_by helper.Remu4 = refl
+frame_by helper.Rems4 = refl
+frame_by helper.Shl2 = refl
+frame_by helper.Shru2 = refl
+frame_by helper.Shrs2 = refl
+frame_by helper.Shl4 = refl
+frame_by helper.Shru4 = refl
+frame_by helper.Shrs4 = refl
+
+room_same : (p : Program) (h : Helper) (id : FnId) → is_helper h id ≡ true → frame_bytes p id ≡ helpers.frame_bytes h
+room_same p h (callee.User function) e = never e
+room_same p h (callee.Helper other) e = frame_by other ∙ ap (slice_index frames_in_order) (eqb-true (helper_number other) (helper_number h) e) ∙ sym (frame_by h)
+
+pub helpers_roomy : (p : Program) (copies : List FnCopy) (memory : Memory) (root : Root) → HasFrames p copies memory → (none : FnCopy) (h : Helper) (d : ℕ) → numbers.copy_of copies root h ≡ Some d → HasBytes (memory.frames d) (helpers.frame_bytes h)
+helpers_roomy p copies memory root frames none h d e =
+    let at = position-Some (is_copy_of root h) copies d none e in
+    let copy = get_or copies d none in
+    let is = and_last (same_root copy.root root) (is_helper h copy.function) at.1 in
+    let room = frames d copy (slice_get-get_or copies d none at.0) in
+    let same = room_same p h copy.function is in
+    subst (λ (o : Option ℕ). HasBytes o (helpers.frame_bytes h)) (sym room) (omega (arith, same))
 
 -- ---- the bank of a frame
-abbrev frame_or : Option FrameLine → FrameRange
+abbrev pub frame_or : Option FrameLine → FrameRange
 frame_or None = no_frame
 frame_or (Some line) = frame_of line
 
-frame_there : (lines : List FrameLine) (c : ℕ) → slice_index_or (map frame_of lines) c no_frame ≡ frame_or (slice_get lines c)
+pub frame_there : (lines : List FrameLine) (c : ℕ) → slice_index_or (map frame_of lines) c no_frame ≡ frame_or (slice_get lines c)
 frame_there [] c = refl
 frame_there (line ∷ lines) zero = refl
 frame_there (line ∷ lines) (suc c) = frame_there lines c

@@ -1,5 +1,5 @@
--- The code of an expression names no byte of its copy's frame beyond the room that is counted for it.
-use Rattle.std.proofs.Common.{◌≡◌, ℕ, ◌+◌, ◌≤◌, Bool, true, false, ◌&&◌, ◌||◌, nat_eq, nat_le, if◌then◌else◌, List, [], ◌∷◌, ◌++◌, Option, Some, None, option_map, slice_get, slice_index, refl, sym, ap, ◌∙◌, eqb-true, leb-true, arith}
+-- What a place that is named stands for is there, and has the bytes of its type.
+use Rattle.std.proofs.Common.{◌≡◌, ℕ, ◌+◌, ◌≤◌, Bool, true, false, ◌&&◌, ◌||◌, nat_eq, nat_le, if◌then◌else◌, List, [], ◌∷◌, ◌++◌, Option, Some, None, option_map, slice_get, slice_index, refl, sym, ap, ◌∙◌, subst, eqb-true, leb-true, arith}
 use Rattle.c_ints.specs.Operators.{compares}
 use Rattle.c_ints.specs.Range.{bytes_of}
 use Rattle.c_ints.specs.declared.operators.BinOp.{BinOp}
@@ -12,7 +12,7 @@ use Rattle.c_typed.specs.Rules.{binary_fits, integers_fit, point_alike, offset_f
 use Rattle.c_typed.specs.Sameness.{same_type, same_flag, same_qualified, is_scalar, is_promoted, is_index, is_complete, pointed}
 use Rattle.c_typed.specs.Sound.{object_fits, type_is_there, static_fits, local_fits, param_fits, initial_fits}
 use Rattle.c_typed.specs.Trees as tree
-use Rattle.c_typed.specs.Trees.{Expression, Expressions, Place, VariableTree, StaticTree, FunctionTree, Program}
+use Rattle.c_typed.specs.Trees.{Place, VariableTree, StaticTree, FunctionTree, Program}
 use Rattle.c_typed.specs.Types.{type_bytes, type_of, place_type, form_of}
 use Rattle.c_typed.specs.declared.calls.FnId.{FnId}
 use Rattle.c_typed.specs.declared.calls.FnId.TheVariants as callee
@@ -22,14 +22,15 @@ use Rattle.c_typed.specs.declared.types.Qualified.{Qualified}
 use Rattle.c_typed.specs.declared.types.Ty.{Ty}
 use Rattle.c_typed.specs.declared.types.Ty.TheVariants.{Void, Int, Pointer, Array, Struct}
 use Rattle.core_code.specs.Tree.{Tree}
+use Rattle.core_code.specs.declared.code.Byte.{Byte}
 use Rattle.core_code.specs.declared.code.Byte.TheVariants as bytes
-use Rattle.lower_expr.specs.Bytes.{beyond, operation_type}
-use Rattle.lower_expr.specs.Layout.{Layout, width, place_width, object_byte}
+use Rattle.lower_expr.specs.Bytes.{beyond, behind, operation_type}
+use Rattle.lower_expr.specs.Layout.{Layout, width, place_width, static_number, object_byte}
 use Rattle.lower_expr.specs.Lowering.{pointer_code}
 use Rattle.lower_expr.specs.Spots.{spot_of, member_spot, pointer_bytes}
 use Rattle.lower_expr.specs.declared.places.Spot.{Spot}
 use Rattle.lower_expr.specs.declared.places.Spot.TheVariants.{Fixed, Bit, Computed}
-use Rattle.word_bounds.specs.Naming.{Lies, CallsOthers, count_bytes}
+use Rattle.word_bounds.specs.Naming.{Memory, HasBytes, Lies, Points, CallsFit, count_bytes}
 use Rattle.word_bounds.proofs.Chain.{never}
 use Rattle.word_bounds.proofs.Operators.{whole_bytes}
 use Rattle.word_bounds.proofs.Rows.{form_at}
@@ -37,7 +38,7 @@ use Rattle.word_bounds.proofs.Typing.{and_first, and_last, is_counted, alike_fir
 use Rattle.word_bounds.proofs.Nodes.{form_same}
 use Rattle.word_bounds.proofs.Expressions.{is_computed, whole_computed}
 use Rattle.word_bounds.proofs.Rooms.{Keeps, same_type_bytes, list_there, room_holds, in_whole}
-use Rattle.word_bounds.proofs.Lying.{count_within, AllLie, own, less, past, SpotLies, BitHas}
+use Rattle.word_bounds.proofs.Lying.{count_within, has_fewer, AllLie, less, past, SpotLies, SpotPoints, BitHas}
 
 -- ---- types
 two_right : (sizes : List ℕ) (op : BinOp) (left : IntTy) (right ty : Ty) → integers_fit op (Int left) right ty ≡ true → count_bytes op (bytes_of left) ≤ type_bytes sizes right
@@ -171,79 +172,103 @@ pub beyond_within : (before w : ℕ) → beyond before w ≤ before + w
 unfolding beyond
 beyond_within before w = omega arith
 
--- ---- calls of other copies
-pub others_first : (c : ℕ) (copy : ℕ → ℕ) (xs ys : List FnId) → CallsOthers c copy (xs ++ ys) → CallsOthers c copy xs
-others_first c copy [] ys h = tt
-others_first c copy (callee.User function ∷ xs) ys h = (h.0, others_first c copy xs ys h.1)
-others_first c copy (callee.Helper helper ∷ xs) ys h = others_first c copy xs ys h
+-- ---- calls
+pub fit_first : (p : Program) (memory : Memory) (copy : ℕ → ℕ) (xs ys : List FnId) → CallsFit p memory copy (xs ++ ys) → CallsFit p memory copy xs
+fit_first p memory copy [] ys h = tt
+fit_first p memory copy (callee.User function ∷ xs) ys h = (h.0, fit_first p memory copy xs ys h.1)
+fit_first p memory copy (callee.Helper helper ∷ xs) ys h = fit_first p memory copy xs ys h
 
-pub others_last : (c : ℕ) (copy : ℕ → ℕ) (xs ys : List FnId) → CallsOthers c copy (xs ++ ys) → CallsOthers c copy ys
-others_last c copy [] ys h = h
-others_last c copy (callee.User function ∷ xs) ys h = others_last c copy xs ys h.1
-others_last c copy (callee.Helper helper ∷ xs) ys h = others_last c copy xs ys h
+pub fit_last : (p : Program) (memory : Memory) (copy : ℕ → ℕ) (xs ys : List FnId) → CallsFit p memory copy (xs ++ ys) → CallsFit p memory copy ys
+fit_last p memory copy [] ys h = h
+fit_last p memory copy (callee.User function ∷ xs) ys h = fit_last p memory copy xs ys h.1
+fit_last p memory copy (callee.Helper helper ∷ xs) ys h = fit_last p memory copy xs ys h
 
--- ---- where variables stand
-pub record Stand (c size : ℕ) (l : Layout) (p : Program) (f : FunctionTree) : Type 0 where
+-- an object has 65,535 bytes at most, and a scalar four
+pub small_object : (p : Program) (ty : Ty) → object_fits p ty ≡ true → type_bytes p.sizes ty ≤ 65535
+small_object p ty e = leb-true (type_bytes p.sizes ty) 65535 (and_last (is_complete p ty) (nat_le (type_bytes p.sizes ty) 65535) (and_last (type_is_there p ty) (is_complete p ty && nat_le (type_bytes p.sizes ty) 65535) e))
+
+pub scalar_few : (sizes : List ℕ) (ty : Ty) → is_scalar ty ≡ true → type_bytes sizes ty ≤ 4
+scalar_few sizes (Int t) e = let b = whole_bytes t in let x = b.1 in let y = b.2 in omega (arith, x, y)
+scalar_few sizes (Pointer row) e = omega arith
+scalar_few sizes Void e = never e
+scalar_few sizes (Array element count n) e = never e
+scalar_few sizes (Struct number) e = never e
+
+-- ---- where variables and static objects stand
+pub record Stand (c size : ℕ) (memory : Memory) (l : Layout) (p : Program) (f : FunctionTree) : Type 0 where
   pub keeps : Keeps p f
   pub sizes : p.sizes ≡ l.sizes
+  pub own : memory.frames c ≡ Some size
   pub params : (k : ℕ) (v : VariableTree) → slice_get f.params k ≡ Some v → slice_index l.params k + type_bytes p.sizes v.ty.ty ≤ size
   pub locals : (k : ℕ) (v : VariableTree) → slice_get f.locals k ≡ Some v → slice_index l.locals k + type_bytes p.sizes v.ty.ty ≤ size
+  pub statics : (k : ℕ) (s : StaticTree) → slice_get p.statics k ≡ Some s → HasBytes (memory.objects (static_number k)) (type_bytes p.sizes s.ty.ty)
+  pub results : (function : ℕ) (g : FunctionTree) → slice_get p.functions function ≡ Some g → type_bytes p.sizes g.result ≤ 4
 
-module _ (c size : ℕ) (l : Layout) (p : Program) (f : FunctionTree) (has : Stand c size l p f) where
-  -- a fixed place lies in its object, which is no larger than 65,535 bytes
+module _ (c size : ℕ) (memory : Memory) (l : Layout) (p : Program) (f : FunctionTree) (has : Stand c size memory l p f) where
+  -- so many bytes of the own frame from an offset on
+  pub at_base : (n base : ℕ) → base + n ≤ size → Lies memory n (bytes.Frame c base)
+  at_base n base m = subst (λ (o : Option ℕ). HasBytes o (base + n)) (sym has.own) m
+
+  -- a fixed place lies in its object, which is no larger than 65,535 bytes, and has an address
   abbrev SpotFits : ℕ → Spot → Type 0
-  SpotFits n (Fixed byte) = Lies c size n byte × (n ≤ 65535)
+  SpotFits n (Fixed byte) = Lies memory n byte × (n ≤ 65535) × Points memory byte
   SpotFits n (Bit register bit) = Unit {0}
   SpotFits n Computed = Unit {0}
 
-  small_object : (ty : Ty) → object_fits p ty ≡ true → type_bytes p.sizes ty ≤ 65535
-  small_object ty e = leb-true (type_bytes p.sizes ty) 65535 (and_last (is_complete p ty) (nat_le (type_bytes p.sizes ty) 65535) (and_last (type_is_there p ty) (is_complete p ty && nat_le (type_bytes p.sizes ty) 65535) e))
+  own_points : (n base : ℕ) → base + n ≤ size → Points memory (bytes.Frame c base)
+  own_points n base m = subst (λ (o : Option ℕ). HasBytes o base) (sym has.own) (omega (arith, m))
 
-  small_scalar : (ty : Ty) → is_scalar ty ≡ true → type_bytes p.sizes ty ≤ 65535
-  small_scalar (Int t) e = let b = whole_bytes t in let x = b.1 in let y = b.2 in omega (arith, x, y)
-  small_scalar (Pointer row) e = omega arith
-  small_scalar Void e = never e
-  small_scalar (Array element count n) e = never e
-  small_scalar (Struct number) e = never e
-
-  static_spot : (o : Option StaticTree) (number : ℕ) (ty : Qualified) → slice_get p.statics number ≡ o → is_named false (option_map static_type o) ty ≡ true → type_bytes p.sizes ty.ty ≤ 65535
+  static_spot : (o : Option StaticTree) (number : ℕ) (ty : Qualified) → slice_get p.statics number ≡ o → is_named false (option_map static_type o) ty ≡ true → SpotFits (type_bytes p.sizes ty.ty) (Fixed (bytes.Static (static_number number) 0))
   static_spot None number ty there h = never h
   static_spot (Some s) number ty there h =
       let fit = list_there (static_fits p) p.statics number s has.keeps.statics there in
-      let small = small_object s.ty.ty (and_first (object_fits p s.ty.ty) (initial_fits p (type_bytes p.sizes s.ty.ty) 0 s.initial) fit) in
+      let small = small_object p s.ty.ty (and_first (object_fits p s.ty.ty) (initial_fits p (type_bytes p.sizes s.ty.ty) 0 s.initial) fit) in
       let named = named_bytes p.sizes false s.ty ty h in
-      omega (arith, small, named)
+      let all = has.statics number s there in
+      let o = memory.objects (static_number number) in (
+        has_fewer o (type_bytes p.sizes s.ty.ty) (0 + type_bytes p.sizes ty.ty) (omega (arith, named)) all,
+        omega (arith, small, named),
+        has_fewer o (type_bytes p.sizes s.ty.ty) 0 (omega arith) all,
+      )
 
   param_spot : (o : Option VariableTree) (number : ℕ) (ty : Qualified) → slice_get f.params number ≡ o → is_named false (option_map variable_type o) ty ≡ true → SpotFits (type_bytes p.sizes ty.ty) (Fixed (bytes.Frame c (slice_index l.params number)))
   param_spot None number ty there h = never h
   param_spot (Some v) number ty there h =
       let fit = list_there (param_fits p) f.params number v has.keeps.params there in
-      let small = small_scalar v.ty.ty (and_first (is_scalar v.ty.ty) (type_is_there p v.ty.ty) fit) in
+      let small = scalar_few p.sizes v.ty.ty (and_first (is_scalar v.ty.ty) (type_is_there p v.ty.ty) fit) in
       let named = named_bytes p.sizes false v.ty ty h in
       let at = has.params number v there in
-      (own c size (type_bytes p.sizes ty.ty) (slice_index l.params number) (omega (arith, at, named)), omega (arith, small, named))
+      (at_base (type_bytes p.sizes ty.ty) (slice_index l.params number) (omega (arith, at, named)), omega (arith, small, named), own_points (type_bytes p.sizes ty.ty) (slice_index l.params number) (omega (arith, at, named)))
 
   local_spot : (o : Option VariableTree) (number : ℕ) (ty : Qualified) → slice_get f.locals number ≡ o → is_named true (option_map variable_type o) ty ≡ true → SpotFits (type_bytes p.sizes ty.ty) (Fixed (bytes.Frame c (slice_index l.locals number)))
   local_spot None number ty there h = never h
   local_spot (Some v) number ty there h =
       let fit = list_there (local_fits p) f.locals number v has.keeps.locals there in
-      let small = small_object v.ty.ty fit in
+      let small = small_object p v.ty.ty fit in
       let named = named_bytes p.sizes true v.ty ty h in
       let at = has.locals number v there in
-      (own c size (type_bytes p.sizes ty.ty) (slice_index l.locals number) (omega (arith, at, named)), omega (arith, small, named))
+      (at_base (type_bytes p.sizes ty.ty) (slice_index l.locals number) (omega (arith, at, named)), omega (arith, small, named), own_points (type_bytes p.sizes ty.ty) (slice_index l.locals number) (omega (arith, at, named)))
 
   register_spot : (device : Bool) (ty : Qualified) → is_named false (if device then Some register_type else None) ty ≡ true → type_bytes p.sizes ty.ty ≤ 65535
   register_spot true ty h = let named = named_bytes p.sizes false register_type ty h in omega (arith, named)
   register_spot false ty h = never h
 
   object_spot : (o : Object) (ty : Qualified) → is_named (names_local o) (declared_type p f o) ty ≡ true → SpotFits (type_bytes p.sizes ty.ty) (Fixed (object_byte l c o))
-  object_spot (object.Static number) ty h = (tt, static_spot (slice_get p.statics number) number ty refl h)
+  object_spot (object.Static number) ty h = static_spot (slice_get p.statics number) number ty refl h
   object_spot (object.Param number) ty h = param_spot (slice_get f.params number) number ty refl h
   object_spot (object.Local number) ty h = local_spot (slice_get f.locals number) number ty refl h
-  object_spot (object.Register address) ty h = (tt, register_spot (is_device address) ty h)
+  object_spot (object.Register address) ty h = (tt, register_spot (is_device address) ty h, tt)
+
+  -- what lies so many bytes behind a byte that has an address has one too
+  points_behind : (byte : Byte) (n i : ℕ) → i ≤ n → Lies memory n byte → Points memory byte → Points memory (behind byte i)
+  unfolding beyond
+  points_behind (bytes.Frame copy k) n i m h q = has_fewer (memory.frames copy) (k + n) (beyond k i) (omega (arith, m)) h
+  points_behind (bytes.Static object k) n i m h q = has_fewer (memory.objects object) (k + n) (beyond k i) (omega (arith, m)) h
+  points_behind (bytes.Result r k) n i m h q = q
+  points_behind (bytes.Device address) n i m h q = tt
 
   member_fit : (spot : Spot) (n m offset : ℕ) → SpotFits n spot → (n ≤ 65535 → offset + m ≤ n) → SpotFits m (member_spot spot offset)
-  member_fit (Fixed byte) n m offset s within = let inside = within s.1 in let small = s.1 in (past c size n m offset byte inside s.0, omega (arith, inside, small))
+  member_fit (Fixed byte) n m offset s within = let inside = within s.1 in let small = s.1 in (past memory n m offset byte inside s.0, omega (arith, inside, small), points_behind byte n offset (omega (arith, inside)) s.0 s.2)
   member_fit (Bit register bit) n m offset s within = tt
   member_fit Computed n m offset s within = tt
 
@@ -257,13 +282,21 @@ module _ (c size : ℕ) (l : Layout) (p : Program) (f : FunctionTree) (has : Sta
       member_fit (spot_of l c whole) (type_bytes p.sizes (place_type whole).ty) (type_bytes p.sizes ty.ty) offset (spot_fits whole (and_last rule (place_fits p f whole) h))
       (λ small. in_whole p f has.keeps (place_type whole) ty member offset small (and_first rule (place_fits p f whole) h))
 
-  fits_lies : (spot : Spot) (n w : ℕ) → w ≤ n → SpotFits n spot → SpotLies c size w spot
-  fits_lies (Fixed byte) n w m s = less c size n w byte m s.0
+  fits_lies : (spot : Spot) (n w : ℕ) → w ≤ n → SpotFits n spot → SpotLies memory w spot
+  fits_lies (Fixed byte) n w m s = less memory n w byte m s.0
   fits_lies (Bit register bit) n w m s = tt
   fits_lies Computed n w m s = tt
 
+  fits_points : (spot : Spot) (n : ℕ) → SpotFits n spot → SpotPoints memory spot
+  fits_points (Fixed byte) n s = s.2
+  fits_points (Bit register bit) n s = tt
+  fits_points Computed n s = tt
+
+  pub spot_points : (place : Place) → place_fits p f place ≡ true → SpotPoints memory (spot_of l c place)
+  spot_points place h = fits_points (spot_of l c place) (type_bytes p.sizes (place_type place).ty) (spot_fits place h)
+
   -- so many bytes of a place, where it is fixed
-  pub spot_lies : (place : Place) (w : ℕ) → place_fits p f place ≡ true → w ≤ type_bytes l.sizes (place_type place).ty → SpotLies c size w (spot_of l c place)
+  pub spot_lies : (place : Place) (w : ℕ) → place_fits p f place ≡ true → w ≤ type_bytes l.sizes (place_type place).ty → SpotLies memory w (spot_of l c place)
   spot_lies place w h m =
       let same = ap (λ (s : List ℕ). type_bytes s (place_type place).ty) has.sizes in
       fits_lies (spot_of l c place) (type_bytes p.sizes (place_type place).ty) w (omega (arith, m, same)) (spot_fits place h)
@@ -272,12 +305,12 @@ module _ (c size : ℕ) (l : Layout) (p : Program) (f : FunctionTree) (has : Sta
   unfolding beyond
   some_one n e = omega (arith, e)
 
-  member_has : (spot : Spot) (w offset : ℕ) → BitHas c size w (member_spot spot offset)
+  member_has : (spot : Spot) (w offset : ℕ) → BitHas memory w (member_spot spot offset)
   member_has (Fixed byte) w offset = tt
   member_has (Bit register bit) w offset = tt
   member_has Computed w offset = tt
 
-  pub bit_has : (place : Place) → BitHas c size (place_width l place) (spot_of l c place)
+  pub bit_has : (place : Place) → BitHas memory (place_width l place) (spot_of l c place)
   unfolding spot_of
   bit_has (tree.Name object ty line) = tt
   bit_has (tree.Bit register bit line) = some_one 1 (omega arith)
@@ -299,7 +332,7 @@ module _ (c size : ℕ) (l : Layout) (p : Program) (f : FunctionTree) (has : Sta
       two_room whole (and_last rule (place_fits p f whole) h) (whole_computed (spot_of l c whole) offset e) (whole_no_bit p whole member offset ty (and_first rule (place_fits p f whole) h))
 
   -- the address counts where there is one
-  pub pointer_lies : (spot : Spot) (address : List Tree) → (is_computed spot ≡ true → AllLie c size address) → AllLie c size (pointer_code spot address)
+  pub pointer_lies : (spot : Spot) (address : List Tree) → (is_computed spot ≡ true → AllLie memory address) → AllLie memory (pointer_code spot address)
   pointer_lies (Fixed byte) address h = tt
   pointer_lies (Bit register bit) address h = tt
   pointer_lies Computed address h = h refl

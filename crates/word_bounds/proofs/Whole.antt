@@ -1,24 +1,28 @@
 -- The block of a function's copy has at most the function's stated words.
-use Rattle.std.proofs.Common.{◌≡◌, ℕ, ◌+◌, ◌/◌, ◌≤◌, Bool, true, false, not, if◌then◌else◌, List, [], ◌∷◌, ◌++◌, map, length, refl, sym, ap, ◌∙◌, subst, arith}
+use Rattle.std.proofs.Common.{◌≡◌, ℕ, ◌+◌, ◌/◌, ◌≤◌, Bool, true, false, not, if◌then◌else◌, List, [], ◌∷◌, ◌++◌, map, length, Option, Some, option_map, slice_get, refl, sym, ap, ◌∙◌, subst, arith}
+use Rattle.std.proofs.lemmas.Option.{slice_get_within}
 use Rattle.c_typed.specs.Calls.{statements_calls}
 use Rattle.c_typed.specs.Room.{frame_size}
 use Rattle.sym_code.specs.Layout.{frame}
 use Rattle.code_place.specs.Layouts.{layout_of}
 use Rattle.c_typed.specs.Sound.{statements_fit}
-use Rattle.c_typed.specs.Trees.{FunctionTree, Program}
+use Rattle.c_typed.specs.Trees.{StaticTree, FunctionTree, Program}
+use Rattle.c_typed.specs.Types.{type_bytes}
 use Rattle.c_typed.specs.Words.{block_size, statements_words, variable_bytes}
+use Rattle.c_typed.specs.declared.calls.FnId.{FnId}
 use Rattle.c_typed.specs.declared.calls.FnId.TheVariants as callee
 use Rattle.call_graph.specs.Numbers.{handler_at}
 use Rattle.call_graph.specs.declared.types.FnCopy.{FnCopy}
 use Rattle.core_code.specs.Tree as core
-use Rattle.core_code.specs.Tree.{Tree, trees_of}
+use Rattle.core_code.specs.Tree.{trees_of}
+use Rattle.lower_expr.specs.Layout.{static_number}
 use Rattle.lower_stmt.specs.Bodies.{body_code}
 use Rattle.lower_stmt.specs.Frames.{ground_for, layout_for}
 use Rattle.lower_stmt.specs.Ground.{Ground}
 use Rattle.lower_stmt.specs.Jumps.{outside}
 use Rattle.lower_stmt.specs.Statements.{stmts_code}
 use Rattle.pic_world.specs.declared.Root.{Root}
-use Rattle.ram_place.specs.Sizes.{block_words, size_or_none}
+use Rattle.ram_place.specs.Sizes.{frame_bytes, block_words, size_or_none}
 use Rattle.select_code.specs.declared.control.Ending.{Ending}
 use Rattle.select_wide.specs.Blocks.{ending_at}
 use Rattle.sym_code.specs.Selects.{bare}
@@ -32,14 +36,16 @@ use Rattle.word_bounds.proofs.Lowered.{some_code, Takes, takes_on, takes_more}
 use Rattle.word_bounds.proofs.Segments.{leave_takes}
 use Rattle.word_bounds.proofs.Selecting.{selects_are_counted}
 use Rattle.word_bounds.proofs.Statements.{statements_take}
-use Rattle.word_bounds.specs.Naming.{HaveCopies}
-use Rattle.word_bounds.proofs.Naming.{AreIn, in_trees}
+use Rattle.word_bounds.specs.Naming.{Memory, HasBytes, HaveCopies, SymsLie}
+use Rattle.word_bounds.specs.There.{memory_of, BlocksKeepThere}
+use Rattle.word_bounds.proofs.Naming.{in_trees}
 use Rattle.word_bounds.proofs.Lying.{AllLie, lie_on, trees_lie}
 use Rattle.word_bounds.proofs.Rooms.{Keeps}
 use Rattle.word_bounds.proofs.Bodies.{statements_lie}
-use Rattle.word_bounds.proofs.Others.{calls_others}
+use Rattle.word_bounds.proofs.Others.{calls_fit}
 use Rattle.word_bounds.proofs.Copied.{called_have_copies}
-use Rattle.word_bounds.proofs.Placed.{function_keeps, stands, base_within, helpers_apart, all_banked}
+use Rattle.word_bounds.proofs.Placed.{HasFrames, HasObjects, function_keeps, objects_small, stands, base_within, helpers_roomy, all_banked}
+use Rattle.word_bounds.proofs.There.{names_within}
 
 -- a body's code, and its end
 body_takes : (list : List FnCopy) (root : Root) (end : Ending) (p : Program) (f : FunctionTree) (g : Ground) → p.sizes ≡ g.layout.sizes → g.bytes ≡ map (variable_bytes g.layout.sizes) f.locals → statements_fit p f true false false f.body ≡ true
@@ -99,35 +105,66 @@ module _ (p : Program) (copies : List FnCopy) (number : ℕ) (f : FunctionTree) 
       subst (λ (r : Root). HaveCopies (layout_for p copies r f).copies (statements_calls f.body)) (sym block.under)
       (called_have_copies p copies block.depth number block.function block.copy f is.sound block.known block.deep block.there block.is_function block.found)
 
-  all_lie : AllLie number (frame_size p.sizes f) (body_code (ground_for p copies number root f) f)
-  all_lie =
-      let g = ground_for p copies number root f in
-      lie_on number (frame_size p.sizes f) (stmts_code g outside f.body) (core.Leave ∷ [])
-      (statements_lie (frame_size p.sizes f) p f g (stands p copies root f number keeps.0) refl outside true false false f.body keeps.1 (calls_others p copies number block.function block.copy f root block.known block.there block.is_function block.found called) (base_within p copies root f)) (tt, tt)
+  -- ---- what the block names, where the frames and the static objects are there
+  module _ (memory : Memory) (frames : HasFrames p copies memory) (objects : HasObjects p memory) where
+    own : memory.frames number ≡ Some (frame_size p.sizes f)
+    own = frames number block.copy block.there ∙ ap (λ (id : FnId). Some (frame_bytes p id)) block.is_function ∙ ap (λ (o : Option FunctionTree). Some (size_or_none (frame_size p.sizes) o)) block.found
 
-  are_in : AreIn number (frame_size p.sizes f) code
-  are_in =
-      let ts = body_code (ground_for p copies number root f) f in
-      in_trees number (frame_size p.sizes f) copies root (helpers_apart copies number block.function block.copy root block.there block.is_function) end [] 0 [] (trees_of ts) (length ts) (trees_lie number (frame_size p.sizes f) ts all_lie)
+    all_lie : AllLie memory (body_code (ground_for p copies number root f) f)
+    all_lie =
+        let g = ground_for p copies number root f in
+        lie_on memory (stmts_code g outside f.body) (core.Leave ∷ [])
+        (statements_lie (frame_size p.sizes f) memory p f g (stands p copies root f number memory is keeps.0 own objects) refl outside true false false f.body keeps.1 (calls_fit p copies memory root f frames (statements_calls f.body) called) (base_within p copies root f)) (tt, tt)
 
-  names_within : (list : List Sym) → AreIn number (frame_size p.sizes f) list → NamesWithin number (frame_size p.sizes f) list
-  names_within [] h = tt
-  names_within (s ∷ list) h = (h.0, names_within list h.1)
+    code_lies : SymsLie memory code
+    code_lies =
+        let ts = body_code (ground_for p copies number root f) f in
+        in_trees memory copies root (helpers_roomy p copies memory root frames block.copy) end [] 0 [] (trees_of ts) (length ts) (trees_lie memory ts all_lie)
 
-  pub all_within : NamesWithin number (frame_size p.sizes f) given.list.items
-  all_within = subst (NamesWithin number (frame_size p.sizes f)) (sym code_is) (names_within code are_in)
+    pub all_there : SymsLie memory given.list.items
+    all_there = subst (SymsLie memory) (sym code_is) code_lies
+
+    pub all_within : NamesWithin number (frame_size p.sizes f) given.list.items
+    all_within = names_within number (frame_size p.sizes f) memory own given.list.items all_there
+
+-- ---- what is there of a program
+frames_there : (p : Program) (copies : List FnCopy) → HasFrames p copies (memory_of p copies)
+frames_there p copies k copy there = ap (option_map (λ (c : FnCopy). frame_bytes p c.function)) there
+
+static_is : (k : ℕ) → k ≤ 65535 → static_number k ≡ k
+unfolding static_number
+static_is k l = omega (arith, l)
+
+objects_there : (p : Program) (copies : List FnCopy) → length p.statics ≤ 65535 → HasObjects p (memory_of p copies)
+objects_there p copies few k s there =
+    let inside = slice_get_within p.statics k s there in
+    let number = static_is k (omega (arith, few, inside)) in
+    let held = ap (slice_get p.statics) number ∙ there in
+    subst (λ (o : Option StaticTree). HasBytes (option_map (λ (x : StaticTree). type_bytes p.sizes x.ty.ty) o) (type_bytes p.sizes s.ty.ty)) (sym held) (omega arith)
+
+-- the same without the objects' numbers: each number is one of an object that is large enough
+large_memory : Program → List FnCopy → Memory
+large_memory p copies = record { frames = (memory_of p copies).frames; objects = λ k. Some 65535 }
+
+-- the bytes of the copy's frame, whatever the numbers of static objects
+kept_within : BlocksKeepWithin
+unfolding large_memory
+kept_within p copies number f given is block = all_within p copies number f given is block (large_memory p copies) (frames_there p copies) (λ k s there. objects_small p is k s there)
 
 pub blocks_are_bare : BlocksAreBare
 blocks_are_bare p copies number f given is block = all_bare p copies number f given is block
 
 pub blocks_keep_within : BlocksKeepWithin
-blocks_keep_within p copies number f given is block = all_within p copies number f given is block
+blocks_keep_within p copies number f given is block = kept_within p copies number f given is block
+
+pub blocks_keep_there : BlocksKeepThere
+blocks_keep_there p copies number f given is few block = all_there p copies number f given is block (memory_of p copies) (frames_there p copies) (objects_there p copies few)
 
 pub words_are_stated : WordsAreStated
 words_are_stated p copies placed number f given made is block exact frame_is =
     let all = all_counted p copies number f given is block in
     let none = all_bare p copies number f given is block in
-    let banked = all_banked p placed number f frame_is given.list.items (all_within p copies number f given is block) in
+    let banked = all_banked p placed number f frame_is given.list.items (kept_within p copies number f given is block) in
     let few = selects_are_counted placed given made number ((frame (layout_of placed) number).address / 128) exact none banked in
     let stated : block_words p (callee.User block.function) ≡ block_size p.sizes f = ap (size_or_none (block_size p.sizes)) block.found in
     omega (arith, all, few, stated)

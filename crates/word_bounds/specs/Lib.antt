@@ -1,3 +1,4 @@
 pub mod Counting
 pub mod Naming
 pub mod Bounds
+pub mod There

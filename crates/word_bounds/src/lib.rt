@@ -1,22 +1,29 @@
 //! How many words a block has at most, with its selects.
 //!
 //! In: nothing; the crate has a proof about the definitions of the passes. Out: nothing.
-//! The promise: the block of each copy of a function, with its selects, has at most the function's stated words, and it names no byte
-//! of the copy's frame beyond the stated ones. Each function that a copy's function calls has a copy under the same root.
+//! The promise: the block of each copy of a function, with its selects, has at most the function's stated words, and it names bytes alone
+//! that are there: none of a frame beyond the stated ones, none behind a static object. So do the routines and the start block. Where
+//! frames and objects are placed, each such byte has an address. Each function that a copy's function calls has a copy under the same root.
 #![tactic(auto)]
 
 ghost use Rattle.word_bounds.specs.Bounds.{BlocksAreBare, BlocksKeepWithin, CalledHaveCopies, ProgramsKeepSizes, SelectsAreCounted, WordsAreStated};
+ghost use Rattle.word_bounds.specs.There.{BlocksKeepThere, PlacedHaveAddresses, PlacedStandInside, RoutinesKeepThere, StartKeepsThere};
 
 /// What is answered for a block without selects has at most the words that are counted for it: two selects for each byte in a bank,
 /// jump and call, and none for a byte of the copy's own frame behind another one. The block that is selected for a lowered body has no
 /// selects, names of its frame only the bytes that the function is stated to have, and is counted with at most its stated words. So its
-/// real words never pass those by which blocks are placed. That a function's block names bytes of its own frame alone needs that what it
-/// calls is another copy, so each called function has one: a chain of calls leads to it from the root, and there is a longest one.
+/// real words never pass those by which blocks are placed. What a function's block names in the frame of a called one are its parameters,
+/// so each called function has a copy: a chain of calls leads to it from the root, and there is a longest one.
 pub fn words_are_bounded()
     ensures counted { SelectsAreCounted }
     ensures sizes { ProgramsKeepSizes }
     ensures bare { BlocksAreBare }
     ensures within { BlocksKeepWithin }
+    ensures there { BlocksKeepThere }
+    ensures routines { RoutinesKeepThere }
+    ensures start { StartKeepsThere }
+    ensures places { PlacedHaveAddresses }
+    ensures inside { PlacedStandInside }
     ensures stated { WordsAreStated }
     ensures called { CalledHaveCopies }
 {}

@@ -1,0 +1,176 @@
+-- What the instructions of a program's blocks name has an address: block by block, and whatever selects stand among them.
+use Rattle.std.proofs.Common.{◌≡◌, ℕ, zero, suc, ◌+◌, ◌<◌, ◌≤◌, Bool, true, false, not, if◌then◌else◌, List, [], ◌∷◌, map, length, get_or, Some, None, refl, sym, ap, ◌∙◌, subst, arith}
+use Rattle.std.specs.Prelude.{slice_get}
+use Rattle.std.proofs.lemmas.Option.{slice_get_within, slice_get-get_or}
+use Rattle.c_typed.specs.Roots.{broken_root}
+use Rattle.c_typed.specs.Sound.{is_sound}
+use Rattle.c_typed.specs.Trees.{Program}
+use Rattle.c_typed.specs.Views.{program_of}
+use Rattle.c_typed.specs.declared.calls.FnId.{FnId}
+use Rattle.c_typed.specs.declared.calls.FnId.TheVariants as callees
+use Rattle.c_typed.specs.declared.calls.Helper.{Helper}
+use Rattle.c_typed.specs.declared.program.Typed.{Typed}
+use Rattle.call_graph.specs.Copies.{IsOne}
+use Rattle.call_graph.specs.Numbers.{handler_at}
+use Rattle.call_graph.specs.declared.types.FnCopy.{FnCopy}
+use Rattle.core_code.specs.View.{trees_in}
+use Rattle.core_code.specs.declared.code.CoreProgram.{CoreProgram}
+use Rattle.isr_save.specs.Start.{start_code}
+use Rattle.lower_stmt.specs.Bodies.{body_code, code_of as lowered_of, body_of, bodies_of, first_bytes}
+use Rattle.lower_stmt.specs.FirstBytes.{items_of}
+use Rattle.lower_stmt.specs.Frames.{ground_for}
+use Rattle.lower_stmt.specs.Programs.{body_for, body_in, core_of}
+use Rattle.pic_map.specs.MapView.{object_of, frame_of}
+use Rattle.pic_map.specs.declared.Placed.{Placed}
+use Rattle.pic_world.specs.declared.Root.{Root}
+use Rattle.program_code.specs.Joined.{IsJoined}
+use Rattle.program_code.specs.Translated.{HasCalls}
+use Rattle.ram_place.specs.Placement.{IsPlacing}
+use Rattle.select_wide.specs.Blocks.{is_user, code_by}
+use Rattle.select_wide.specs.Links.{IsBody}
+use Rattle.src_rules.proofs.Starts.{sound_runs}
+use Rattle.src_rules.specs.Numbers.{ProgramHasNumbers}
+use Rattle.sym_code.specs.Selects.{is_select, bare}
+use Rattle.sym_code.specs.declared.code.BlockName.{BlockName}
+use Rattle.sym_code.specs.declared.code.Sym.{Sym}
+use Rattle.sym_code.specs.declared.code.Sym.TheVariants as syms
+use Rattle.sym_code.specs.declared.code.SymBlock.{SymBlock}
+use Rattle.bank_page.specs.Selected.{bare_lists}
+use Rattle.word_bounds.proofs.Placed.{programs_keep_sizes}
+use Rattle.word_bounds.proofs.Routines.{routines_keep_there}
+use Rattle.word_bounds.proofs.Starting.{start_keeps_there}
+use Rattle.word_bounds.proofs.There.{placed_have_addresses, placed_stand_inside}
+use Rattle.word_bounds.proofs.Whole.{blocks_keep_there}
+use Rattle.word_bounds.specs.Bounds.{IsBlockOf}
+use Rattle.word_bounds.specs.Naming.{SymsLie}
+use Rattle.word_bounds.specs.There.{memory_of, HasOperand, HaveOperands}
+use Rattle.image_links.specs.Addressed.{BlocksHaveOperands, BlocksStandInside, OperandsHaveAddresses, SelectsKeepOperands}
+use Rattle.image_links.specs.Passed.{code_of}
+use Rattle.image_links.proofs.Blocks.{is_of}
+use Rattle.image_links.proofs.Bounded.{has_at}
+use Rattle.image_links.proofs.Chosen.{root_is}
+use Rattle.image_links.proofs.Entered.{at_is}
+use Rattle.image_links.proofs.Laid.{is_there}
+use Rattle.image_links.proofs.Lowered.{body_there}
+use Rattle.image_links.proofs.Statics.{some_is}
+
+-- ---- selects
+-- a select names no byte
+select_has : (placed : Placed) (s : Sym) → is_select s ≡ true → HasOperand placed s
+select_has placed (syms.SelectBank bit on) e = tt
+select_has placed (syms.SelectPage bit to) e = tt
+select_has placed (syms.Label label) e = tt
+select_has placed (syms.File op file into) e = absurd (cc)
+select_has placed (syms.Movwf file) e = absurd (cc)
+select_has placed (syms.Clrf file) e = absurd (cc)
+select_has placed (syms.Bit op file bit) e = absurd (cc)
+select_has placed (syms.Literal op value) e = absurd (cc)
+select_has placed (syms.Plain op) e = tt
+select_has placed (syms.Call to) e = tt
+select_has placed (syms.Goto to) e = tt
+
+module _ (placed : Placed) where
+  bare_has : (list : List Sym) → HaveOperands placed list → HaveOperands placed (bare list)
+  bare_has [] h = tt
+  bare_has (s ∷ list) h = by_select (not (is_select s)) (bare_has list h.1)
+    where
+      by_select : (b : Bool) → HaveOperands placed (bare list) → HaveOperands placed (if b then s ∷ bare list else bare list)
+      by_select true t = (h.0, t)
+      by_select false t = t
+
+  whole_has : (list : List Sym) → HaveOperands placed (bare list) → HaveOperands placed list
+  whole_has [] h = tt
+  whole_has (s ∷ list) h = by_select (is_select s) refl h
+    where
+      by_select : (b : Bool) → is_select s ≡ b → HaveOperands placed (if not b then s ∷ bare list else bare list) → HaveOperands placed (s ∷ list)
+      by_select true e t = (select_has placed s e, whole_has list t)
+      by_select false e t = (t.0, whole_has list t.1)
+
+  first_list : List (List Sym) → List Sym
+  first_list [] = []
+  first_list (x ∷ xs) = x
+
+  rest_lists : List (List Sym) → List (List Sym)
+  rest_lists [] = []
+  rest_lists (x ∷ xs) = xs
+
+  keep : (given made : List SymBlock) → bare_lists made ≡ bare_lists given → BlocksHaveOperands placed given → BlocksHaveOperands placed made
+  keep given [] same all k block is = absurd (cc)
+  keep [] (m ∷ made) same all k block is = absurd (cc)
+  keep (g ∷ given) (m ∷ made) same all zero block is =
+      let one : bare m.list.items ≡ bare g.list.items = ap first_list same in
+      subst (λ (b : SymBlock). HaveOperands placed b.list.items) (some_is m block is) (whole_has m.list.items (subst (HaveOperands placed) (sym one) (bare_has g.list.items (all 0 g refl))))
+  keep (g ∷ given) (m ∷ made) same all (suc k) block is = keep given made (ap rest_lists same) (λ j b there. all (suc j) b there) k block is
+
+pub selects_keep_operands : SelectsKeepOperands
+selects_keep_operands placed given made same all = keep placed given made same all
+
+-- ---- the blocks of a program
+module _ (typed : Typed) (copies : List FnCopy) (core : CoreProgram) (given : List SymBlock) (placed : Placed) (sound : is_sound (program_of typed) ≡ true) (roots : broken_root (program_of typed) ≡ None) (numbers : ProgramHasNumbers (program_of typed))
+    (bodies : map body_of core.bodies.items ≡ bodies_of (program_of typed) copies) (joined : IsJoined core copies given) (has : HasCalls (program_of typed) copies)
+    (placing : IsPlacing (program_of typed) copies (map object_of placed.objects.items) (map frame_of placed.frames.items)) (statics : map items_of core.statics.items ≡ first_bytes (program_of typed)) (few : length (program_of typed).statics ≤ 65535) where
+  abbrev p : Program
+  p = program_of typed
+
+  start_there : (g : SymBlock) → slice_get given 0 ≡ Some g → SymsLie (memory_of p copies) g.list.items
+  start_there g is =
+      let same : joined.start ≡ g = some_is joined.start g (sym (ap (λ (l : List SymBlock). slice_get l 0) joined.whole) ∙ is) in
+      let code : g.list.items ≡ start_code (handler_at copies) core.statics.items = ap (λ (x : SymBlock). x.list.items) (sym same) ∙ joined.exact in
+      subst (SymsLie (memory_of p copies)) (sym code) (start_keeps_there p copies (handler_at copies) core.statics.items (programs_keep_sizes typed sound) statics)
+
+  -- ---- the copy of a number
+  module _ (c : ℕ) (copy : FnCopy) (there : slice_get copies c ≡ Some copy) (g : SymBlock) (code : g.list.items ≡ code_of core.bodies.items copies c copy.root copy.function) where
+    user_there : (f : ℕ) → copy.function ≡ callees.User f → SymsLie (memory_of p copies) g.list.items
+    unfolding core_of
+    user_there f is =
+        let known = (has.known.exact copy).0 (c, slice_get_within copies c copy there, at_is copies c copy copy there) in
+        let below : f < length p.functions = subst (IsOne (length p.functions)) is known.one in
+        let function = is_there p.functions f below in
+        let body : IsBody (core_of p copies) core.bodies.items c = body_there p copies (sound_runs p sound roots numbers) core.bodies.items bodies c copy there (ap is_user is) in
+        let under : body.body.root ≡ copy.root = sym body.root ∙ root_is p copies c copy there in
+        let lowered : trees_in body.body.code.items ≡ body_code (ground_for p copies c body.body.root function.0) function.0 =
+        sym body.code ∙ ap (body_in p copies c) there ∙ ap (body_for p copies c copy.root) is ∙ ap (lowered_of p copies c copy.root) function.1
+        ∙ ap (λ (r : Root). body_code (ground_for p copies c r function.0) function.0) (sym under) in
+        let selected = code ∙ ap (code_of core.bodies.items copies c copy.root) is ∙ ap (code_by copies c) body.there in
+        let block : IsBlockOf p copies c function.0 g = record {
+          copy = copy;
+          there = there;
+          function = f;
+          is_function = is;
+          found = function.1;
+          body = body.body;
+          under = under;
+          lowered = lowered;
+          selected = selected;
+          known = has.known;
+          depth = has.depth;
+          deep = has.exact;
+        } in
+        blocks_keep_there p copies c function.0 g (programs_keep_sizes typed sound) few block
+
+    helper_there : (h : Helper) → copy.function ≡ callees.Helper h → SymsLie (memory_of p copies) g.list.items
+    helper_there h is =
+        let routine = code ∙ ap (code_of core.bodies.items copies c copy.root) is in
+        subst (SymsLie (memory_of p copies)) (sym routine) (routines_keep_there p copies c copy h copy.root there is)
+
+    copy_there : (f : FnId) → copy.function ≡ f → SymsLie (memory_of p copies) g.list.items
+    copy_there (callees.User f) is = user_there f is
+    copy_there (callees.Helper h) is = helper_there h is
+
+  block_there : (k : ℕ) (g : SymBlock) → slice_get given k ≡ Some g → SymsLie (memory_of p copies) g.list.items
+  block_there zero g is = start_there g is
+  block_there (suc k) g is =
+      let o = is_of core copies given joined g (has_at joined.order k g (sym (ap (λ (l : List SymBlock). slice_get l (suc k)) joined.whole) ∙ is)) in
+      let z : 0 + o.place ≡ o.place = omega arith in
+      copy_there (0 + o.place) o.copy (ap (slice_get copies) z ∙ o.there) g (ap (λ (v : BlockName × List Sym). v.1) o.is) o.copy.function refl
+
+  block_inside : BlocksStandInside placed given
+  block_inside k d l =
+      let g = get_or given k d in
+      placed_stand_inside p copies placed g.list.items placing (block_there k g (slice_get-get_or given k d l))
+
+  all_addressed : BlocksHaveOperands placed given × BlocksStandInside placed given
+  all_addressed = (λ k g is. placed_have_addresses p copies placed g.list.items placing (block_there k g is), block_inside)
+
+pub operands_have_addresses : OperandsHaveAddresses
+operands_have_addresses typed copies core given placed sound roots numbers bodies joined has placing statics few = all_addressed typed copies core given placed sound roots numbers bodies joined has placing statics few

@@ -1,0 +1,8 @@
+use Rattle.image_links.proofs.Addressed.{operands_have_addresses, selects_keep_operands}
+use Rattle.image_links.proofs.operands_have_addresses.Goals as goal
+
+pub returns-clause-named : goal.returns-clause-named
+returns-clause-named c = operands_have_addresses
+
+pub returns-clause-kept : goal.returns-clause-kept
+returns-clause-kept c = selects_keep_operands

@@ -1,0 +1,39 @@
+-- That what the instructions of a program's blocks name has an address: their bytes, and those whose address is a literal.
+use Rattle.std.specs.Prelude.{ℕ, ◌≡◌, ◌≤◌, true, List, length, map, Some, None, slice_get}
+use Rattle.std.specs.List.{All}
+use Rattle.c_typed.specs.Roots.{broken_root}
+use Rattle.c_typed.specs.Sound.{is_sound}
+use Rattle.c_typed.specs.Views.{program_of}
+use Rattle.c_typed.specs.declared.program.Typed.{Typed}
+use Rattle.call_graph.specs.declared.types.FnCopy.{FnCopy}
+use Rattle.core_code.specs.declared.code.CoreProgram.{CoreProgram}
+use Rattle.lower_stmt.specs.Bodies.{body_of, bodies_of, first_bytes}
+use Rattle.lower_stmt.specs.FirstBytes.{items_of}
+use Rattle.pic_map.specs.MapView.{object_of, frame_of}
+use Rattle.pic_map.specs.declared.Placed.{Placed}
+use Rattle.program_code.specs.Joined.{IsJoined}
+use Rattle.program_code.specs.Translated.{HasCalls}
+use Rattle.ram_place.specs.Placement.{IsPlacing}
+use Rattle.src_rules.specs.Numbers.{ProgramHasNumbers}
+use Rattle.sym_code.specs.declared.code.SymBlock.{SymBlock}
+use Rattle.bank_page.specs.Selected.{bare_lists}
+use Rattle.word_bounds.specs.There.{HaveOperands, StandInside}
+
+abbrev pub BlocksHaveOperands : Placed → List SymBlock → Type 0
+BlocksHaveOperands placed blocks = (k : ℕ) (block : SymBlock) → slice_get blocks k ≡ Some block → HaveOperands placed block.list.items
+
+abbrev pub BlocksStandInside : Placed → List SymBlock → Type 0
+BlocksStandInside placed blocks = All (λ (block : SymBlock). StandInside placed block.list.items) blocks
+
+-- Of a sound program, byte code of its copies and the blocks that are joined from it, each instruction's byte has an address where the
+-- program's objects and frames are placed, and one of a frame stands within it. The number of a static object has two bytes.
+abbrev pub OperandsHaveAddresses : Type 0
+OperandsHaveAddresses =
+    (typed : Typed) (copies : List FnCopy) (core : CoreProgram) (given : List SymBlock) (placed : Placed) → is_sound (program_of typed) ≡ true → broken_root (program_of typed) ≡ None → ProgramHasNumbers (program_of typed)
+    → map body_of core.bodies.items ≡ bodies_of (program_of typed) copies → IsJoined core copies given → HasCalls (program_of typed) copies
+    → IsPlacing (program_of typed) copies (map object_of placed.objects.items) (map frame_of placed.frames.items) → map items_of core.statics.items ≡ first_bytes (program_of typed)
+    → length (program_of typed).statics ≤ 65535 → BlocksHaveOperands placed given × BlocksStandInside placed given
+
+-- Selects name no byte, so blocks that differ in their selects alone have that in common.
+abbrev pub SelectsKeepOperands : Type 0
+SelectsKeepOperands = (placed : Placed) (given made : List SymBlock) → bare_lists made ≡ bare_lists given → BlocksHaveOperands placed given → BlocksHaveOperands placed made
