@@ -6,6 +6,7 @@ use Rattle.std.proofs.lemmas.List.Elements.{All-push, AllZip-push}
 use Rattle.pic_map.specs.declared.Placed.{Placed}
 use Rattle.sym_code.specs.declared.code.SymBlock.{SymBlock}
 use Rattle.sym_code.specs.Selects.{bare}
+use Rattle.bank_page.specs.Ready.{are_ready, CanSelect}
 use Rattle.bank_page.specs.Selected.{NoSelectBehindSkip, reaches_all, is_lean_all, names_of, bare_lists, IsApart, Reaches, IsLean, KeepsFrontOf, IsWithin, IsExact}
 
 -- What holds of the blocks that are made of the first of a list.
@@ -35,6 +36,17 @@ more_zip R list made new i block x below is put one before =
     let P : List SymBlock → Type 0 = λ l. AllZip R l new in
     let Q : List SymBlock → Type 0 = λ l. AllZip R (take i list ++ block ∷ []) l in
     subst P (sym next) (subst Q (sym put) (AllZip-push R (take i list) made block x before one))
+
+-- selects can be put into each block, so into this one
+pub ready_at : (placed : Placed) (given list : List SymBlock) (i : ℕ) (block : SymBlock) → given ≡ list → i < length given → block ≡ get_or given i block → All (CanSelect placed) list → CanSelect placed block
+ready_at placed given list i block same below is ready =
+    let P : List SymBlock → Type 0 = λ l. (i < length l) × (block ≡ get_or l i block) in
+    let here = subst P same (below, is) in
+    subst (CanSelect placed) (sym here.1) (ready i block here.0)
+
+-- .. and into one block alone
+pub ready_alone : (placed : Placed) (made : List SymBlock) (block : SymBlock) → made ≡ [] ++ block ∷ [] → are_ready placed block.list.items ≡ true → All (CanSelect placed) made
+ready_alone placed made block put ready = more_all (CanSelect placed) [] made block put ready (search rules)
 
 pub blocks_none : (placed : Placed) (list made : List SymBlock) → made ≡ [] → Blocks placed list 0 made
 blocks_none placed list made none =

@@ -1,5 +1,5 @@
 -- One instruction more keeps what the answer of `selects` keeps.
-use Rattle.std.proofs.Common.{◌≡◌, ℕ, Bool, true, false, not, ◌&&◌, ◌||◌, if◌then◌else◌, List, [], ◌∷◌, ◌++◌, length, get_or, take, drop, ◌-◌, ◌≤◌, Option, Some, None, refl, sym, ap, ◌∙◌, subst, append-nil, append_assoc, arith}
+use Rattle.std.proofs.Common.{◌≡◌, ℕ, Bool, true, false, not, ◌&&◌, ◌||◌, if◌then◌else◌, List, [], ◌∷◌, ◌++◌, length, get_or, take, drop, ◌-◌, ◌≤◌, Option, Some, None, is_some, refl, sym, ap, ◌∙◌, subst, append-nil, append_assoc, arith}
 use Rattle.std.proofs.lemmas.List.{take_all}
 use Rattle.std.proofs.lemmas.Bool.{eqb-true, eq-eqb}
 use Rattle.std.proofs.lemmas.List.Elements.{filter-append}
@@ -18,6 +18,7 @@ use Rattle.sym_code.specs.declared.code.PageBit.TheVariants as page_bits
 use Rattle.bank_page.specs.Known.{after, left, writes_status, writes_pclath, same_bit, is_bit, is_page, knows, learned, seen_after}
 use Rattle.bank_page.specs.Needs.{needs_in}
 use Rattle.sym_code.specs.Selects.{bare}
+use Rattle.bank_page.specs.Ready.{is_ready, are_ready}
 use Rattle.bank_page.specs.Selected.{Place, Free, Behind, Broken, place_after, walk, NoSelectBehindSkip, reaches_target, is_right, is_lean, front, seen, all_pass}
 use Rattle.bank_page.specs.Step.{rp0_of, rp1_of, bank_selects, page_selects, unknown, missing, behind_selects, behind_bank, missing_for, known_with, passed, NextFor, Next}
 use Rattle.bank_page.specs.declared.known.Known.{Known}
@@ -404,15 +405,30 @@ tail_is (s ∷ rest) d some =
     let e : length (s ∷ rest) - 1 ≡ length rest = omega arith in
     ap (λ (xs : List Sym). s ∷ xs) (sym (ap (λ n. take n rest) e ∙ take_all (length rest) rest (omega arith)))
 
+-- ---- what selects can be put into
+pub ready_now : (placed : Placed) (left : List Sym) (d : Sym) → 1 ≤ length left → are_ready placed left ≡ true → is_ready placed (get_or left 0 d) left ≡ true
+ready_now placed [] d some ready = absurd (omega (arith, some))
+ready_now placed (s ∷ rest) d some ready = and_left (is_ready placed s (s ∷ rest)) (are_ready placed rest) ready
+
+-- what is needed is told where a select may stand
+pub no_needs : (select label : Bool) (needs : Option Needs) → select ≡ false → label ≡ false → needs ≡ None → ((select || label) || is_some needs) ≡ true → ⊥
+no_needs true label needs e f none ready = true_false e
+no_needs false true needs e f none ready = true_false f
+no_needs false false None e f none ready = true_false (sym ready)
+no_needs false false (Some needs) e f none ready = true_false (ap is_some none)
+
 -- one turn of the loop
-pub turn : (placed : Placed) (own name last : BlockName) (list out new : List Sym) (state next : State) (left : List Sym) (d : Sym) → 1 ≤ length left → (are_well_formed left ≡ true) × (name ≡ own) × Made placed own list out state left × Few list out state left × Exact placed own list out state left → Next placed name state (get_or left 0 d) left out new next → last ≡ name → (are_well_formed (take (length left - 1) (drop 1 left)) ≡ true) × (last ≡ own) × Made placed own list new next (take (length left - 1) (drop 1 left)) × Few list new next (take (length left - 1) (drop 1 left)) × Exact placed own list new next (take (length left - 1) (drop 1 left))
+pub turn : (placed : Placed) (own name last : BlockName) (list out new : List Sym) (state next : State) (left : List Sym) (d : Sym) → 1 ≤ length left → (are_well_formed left ≡ true) × (are_ready placed left ≡ true) × (name ≡ own) × Made placed own list out state left × Few list out state left × Exact placed own list out state left → Next placed name state (get_or left 0 d) left out new next → last ≡ name → (are_well_formed (take (length left - 1) (drop 1 left)) ≡ true) × (are_ready placed (take (length left - 1) (drop 1 left)) ≡ true) × (last ≡ own) × Made placed own list new next (take (length left - 1) (drop 1 left)) × Few list new next (take (length left - 1) (drop 1 left)) × Exact placed own list new next (take (length left - 1) (drop 1 left))
 turn placed own name last list out new state next left d some before step same =
     let e = tail_is left d some in
     let P : List Sym → Type 0 = λ l. are_well_formed l ≡ true in
-    let Q : BlockName → Type 0 = λ n. Next placed n state (get_or left 0 d) left out new next in (
-      and_right (is_well_formed (get_or left 0 d)) (are_well_formed (take (length left - 1) (drop 1 left))) (subst P e before.0),
-      same ∙ before.1,
-      made_more placed own list out new state next (get_or left 0 d) left (take (length left - 1) (drop 1 left)) e (subst Q before.1 step) before.2,
-      few_more placed own list out new state next (get_or left 0 d) left (take (length left - 1) (drop 1 left)) e (subst Q before.1 step) before.3,
-      exact_more placed own list out new state next (get_or left 0 d) left (take (length left - 1) (drop 1 left)) e (subst Q before.1 step) before.4,
+    let R : List Sym → Type 0 = λ l. are_ready placed l ≡ true in
+    let Q : BlockName → Type 0 = λ n. Next placed n state (get_or left 0 d) left out new next in
+    let rest = take (length left - 1) (drop 1 left) in (
+      and_right (is_well_formed (get_or left 0 d)) (are_well_formed rest) (subst P e before.0),
+      and_right (is_ready placed (get_or left 0 d) (get_or left 0 d ∷ rest)) (are_ready placed rest) (subst R e before.1),
+      same ∙ before.2,
+      made_more placed own list out new state next (get_or left 0 d) left rest e (subst Q before.2 step) before.3,
+      few_more placed own list out new state next (get_or left 0 d) left rest e (subst Q before.2 step) before.4,
+      exact_more placed own list out new state next (get_or left 0 d) left rest e (subst Q before.2 step) before.5,
     )

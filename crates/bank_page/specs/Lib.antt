@@ -4,3 +4,4 @@ pub mod Needs
 pub mod Selected
 pub mod Step
 pub mod Links
+pub mod Ready

@@ -4,6 +4,7 @@ ghost use Rattle.std.specs.Prelude.{◌≡◌, ◌≤◌, ◌++◌, ◌∷◌, [
 ghost use Rattle.std.specs.List.{All, AllZip};
 ghost use Rattle.bank_page.specs.Known.{learned};
 ghost use Rattle.sym_code.specs.Selects.{bare};
+ghost use Rattle.bank_page.specs.Ready.{is_ready, are_ready, CanSelect};
 ghost use Rattle.bank_page.specs.Selected as kept;
 ghost use Rattle.sym_code.specs.Words.{words_in, most_words};
 ghost use Rattle.bank_page.specs.Step as stated;
@@ -84,7 +85,8 @@ fn put_next(
     sym: Sym,
     list: &[Sym],
 ) -> Result<State, AllocError>
-    requires { is_well_formed sym ≡ true }
+    requires fits { is_well_formed sym ≡ true }
+    requires ready { is_ready placed.now sym list.now ≡ true }
     ensures next { IfOk result (λ next. stated.Next placed.now out.old.name state sym list.now out.old.list.items out.new.list.items next) }
     ensures name { out.new.name ≡ out.old.name }
 {
@@ -96,7 +98,7 @@ fn put_next(
         return Ok(passed(state.known, sym, state.behind));
     }
     let Some(needs) = needs_in(placed, list) else {
-        return Err(AllocError);
+        unreachable!()
     };
     let known = put_selects(out, state.known, needs)?;
     out.put(sym)?;
@@ -106,6 +108,7 @@ fn put_next(
 // Puts a list with its selects.
 fn put_selected(out: &mut SymBlock, placed: &Placed, list: &[Sym]) -> Result<(), AllocError>
     requires fits { are_well_formed list.now ≡ true }
+    requires ready { are_ready placed.now list.now ≡ true }
     requires empty { out.old.list.items ≡ [] }
     ensures name { out.new.name ≡ out.old.name }
     ensures bare { IfOk result (λ _. bare out.new.list.items ≡ bare list.now) }
@@ -129,6 +132,7 @@ fn put_selected(out: &mut SymBlock, placed: &Placed, list: &[Sym]) -> Result<(),
 }
 
 fn selected(alloc: Global, block: &SymBlock, placed: &Placed) -> Result<SymBlock, AllocError>
+    requires ready { CanSelect placed.now block.now }
     ensures name { IfOk result (λ made. made.name ≡ block.now.name) }
     ensures bare { IfOk result (λ made. bare made.list.items ≡ bare block.now.list.items) }
     ensures apart { IfOk result (λ made. kept.NoSelectBehindSkip made.list.items) }
@@ -156,10 +160,12 @@ pub fn put_made(blocks: &mut Vec<SymBlock>, block: SymBlock) -> Result<(), Alloc
 /// sets what is known to be so in straight-line code.
 /// Between a skip and the instruction after it stands no select: what both need is selected before the skip.
 ///
-/// Out of memory is also the answer where a skip and what stands after it need two banks, where a label stands after a
-/// skip, where a skip itself changes what is selected, and where something that is named has no address. The conditions of a
-/// compiler's call exclude these.
+/// There is no such place for them where a skip and what stands after it need two banks, where a label or nothing stands after a
+/// skip, where a skip itself changes what is selected, and where something that is named has no address. No given block has any
+/// of these, so the answer is out of memory only where memory ran out.
 pub fn selects(alloc: Global, s: &SymProgram, placed: &Placed) -> Result<SymProgram, AllocError>
+    // Selects can be put into each block.
+    requires ready { All (CanSelect placed.now) s.now.blocks.items }
     // The blocks keep their names,
     ensures names { IfOk result (λ made. kept.names_of made.blocks.items ≡ kept.names_of s.now.blocks.items) }
     // and without the selects their lists.

@@ -1,6 +1,11 @@
 //! Blocks of code, which selects they get, and where each stands.
 
-use crate::selects;
+ghost use Rattle.std.specs.Prelude.{◌≡◌, ◌++◌, ◌∷◌, [], true, IfOk};
+ghost use Rattle.bank_page.specs.Ready.{are_ready};
+
+use crate::kinds::{is_label, is_select};
+use crate::needs::needs_in;
+use crate::{put_made, selects};
 use core_code::Byte;
 use pic_map::{FrameLine, Placed};
 use pic_world::Root;
@@ -16,6 +21,33 @@ fn placed(alloc: Global) -> Placed {
         frames: Vec::new(alloc),
         ram: 0,
     }
+}
+
+// Whether selects can be put into a list.
+fn can_select(placed: &Placed, list: &[Sym]) -> bool
+    ensures { result ≡ are_ready placed.now list.now }
+{
+    match list {
+        [] => true,
+        [first, rest @ ..] => {
+            (is_select(*first) || is_label(*first) || needs_in(placed, list).is_some())
+                && can_select(placed, rest)
+        }
+    }
+}
+
+// A program of one block with its selects, or one without a block where selects can't be put into it.
+fn selected(
+    alloc: Global,
+    block: SymBlock,
+    placed: &Placed,
+) -> Result<SymProgram, AllocError> {
+    let mut blocks = Vec::new(alloc);
+    if !can_select(placed, &block.list) {
+        return Ok(SymProgram { blocks });
+    }
+    put_made(&mut blocks, block)?;
+    selects(alloc, &SymProgram { blocks }, placed)
 }
 
 // Bit 0 of TRISB, 86h, decides whether TRISB is written.
@@ -38,10 +70,7 @@ fn body(alloc: Global) -> Result<SymBlock, AllocError> {
 #[test]
 fn selects_of_a_skipped_jump_stand_before_the_skip(rt: HostRuntime) -> Result<(), AllocError> {
     let trisb = Byte::Device { address: 0x86 };
-    let mut blocks = Vec::new(rt.alloc());
-    blocks.push(body(rt.alloc())?)?;
-    let program = SymProgram { blocks };
-    let made = selects(rt.alloc(), &program, &placed(rt.alloc()))?;
+    let made = selected(rt.alloc(), body(rt.alloc())?, &placed(rt.alloc()))?;
     let jump = Target::Label(Label::Inner(0));
     let wanted = [
         (0, Sym::SelectBank(BankBit::Rp1, false)),
@@ -83,8 +112,6 @@ fn only_the_bits_that_change_are_selected(rt: HostRuntime) -> Result<(), AllocEr
     }
     block.put(Sym::SelectBank(BankBit::Irp, true))?;
     block.put(Sym::Clrf(Operand::Byte(Byte::Frame { copy: 0, offset: 0 })))?;
-    let mut blocks = Vec::new(rt.alloc());
-    blocks.push(block)?;
     let mut frames = Vec::new(rt.alloc());
     frames.push(FrameLine {
         root: Root::Main,
@@ -97,7 +124,7 @@ fn only_the_bits_that_change_are_selected(rt: HostRuntime) -> Result<(), AllocEr
         frames,
         ram: 1,
     };
-    let made = selects(rt.alloc(), &SymProgram { blocks }, &placed)?;
+    let made = selected(rt.alloc(), block, &placed)?;
     let wanted = [
         (0, Sym::SelectBank(BankBit::Rp1, false)),
         (1, Sym::SelectBank(BankBit::Rp0, true)),
@@ -112,5 +139,41 @@ fn only_the_bits_that_change_are_selected(rt: HostRuntime) -> Result<(), AllocEr
         }
     }
     assert_eq!(rt; made.blocks.len(), 1);
+    Ok(())
+}
+
+// Bytes of two banks stand behind one skip: no bank serves both, so the block is none that selects can be put into. With TRISB in
+// both places it is one.
+#[test]
+fn a_skip_and_what_it_skips_need_one_bank(rt: HostRuntime) -> Result<(), AllocError> {
+    for (address, serves) in [(0x06, false), (0x86, true), (0x03, true)] {
+        let mut block = SymBlock::new(rt.alloc(), BlockName::Copy(0));
+        block.put(Sym::Bit {
+            op: BitOperation::Btfss,
+            file: Operand::Byte(Byte::Device { address: 0x86 }),
+            bit: 0,
+        })?;
+        block.put(Sym::Movwf(Operand::Byte(Byte::Device { address })))?;
+        let made = selected(rt.alloc(), block, &placed(rt.alloc()))?;
+        assert_eq!(rt; made.blocks.len() == 1, serves, "{address}");
+    }
+    Ok(())
+}
+
+// A skip that nothing stands behind, and a byte without an address.
+#[test]
+fn what_can_have_no_selects_is_told(rt: HostRuntime) -> Result<(), AllocError> {
+    let mut block = SymBlock::new(rt.alloc(), BlockName::Copy(0));
+    block.put(Sym::Bit {
+        op: BitOperation::Btfss,
+        file: Operand::Byte(Byte::Device { address: 0x86 }),
+        bit: 0,
+    })?;
+    let made = selected(rt.alloc(), block, &placed(rt.alloc()))?;
+    assert_eq!(rt; made.blocks.len(), 0);
+    let mut block = SymBlock::new(rt.alloc(), BlockName::Copy(0));
+    block.put(Sym::Movwf(Operand::Byte(Byte::Frame { copy: 0, offset: 0 })))?;
+    let made = selected(rt.alloc(), block, &placed(rt.alloc()))?;
+    assert_eq!(rt; made.blocks.len(), 0);
     Ok(())
 }

@@ -1,0 +1,12 @@
+mod Lists
+mod Ready
+mod Rows
+mod Bodies
+mod Beginning
+mod Puts
+mod Expressions
+mod Statements
+mod Members
+mod Blocks
+mod Placed
+mod Whole

@@ -1,0 +1,39 @@
+-- Members of lists.
+use Rattle.std.proofs.Common.{◌≡◌, ℕ, zero, suc, ◌<◌, ◌⊎◌, inl, inr, List, [], ◌∷◌, ◌++◌, map, length, refl, ap, ⊎_elim, arith}
+use Rattle.std.specs.Prelude.{slice_index_or}
+use Rattle.std.specs.List.{All, Contains}
+
+abbrev pub Has : {A : Type 0} → List A → A → Type 0
+Has [] x = ⊥
+Has (y ∷ ys) x = (y ≡ x) ⊎ Has ys x
+
+pub has_of : {A : Type 0} (xs : List A) (x : A) → Contains xs x → Has xs x
+has_of [] x c = let l = c.1 in absurd (omega arith)
+has_of (y ∷ ys) x c = by c.0 c.1 c.2 (λ k lt is. has_of ys x (k, lt, is)) where
+  by : (k : ℕ) → k < length (y ∷ ys) → slice_index_or (y ∷ ys) k x ≡ x → ((k : ℕ) → k < length ys → slice_index_or ys k x ≡ x → Has ys x) → Has (y ∷ ys) x
+  by zero lt is below = inl is
+  by (suc k) lt is below = inr (below k (omega arith) is)
+
+pub of_has : {A : Type 0} (xs : List A) (x : A) → Has xs x → Contains xs x
+of_has [] x h = absurd h
+of_has (y ∷ ys) x (inl e) = (0, omega arith, e)
+of_has (y ∷ ys) x (inr h) = let c = of_has ys x h in (suc c.0, let l = c.1 in omega arith, c.2)
+
+pub has_either : {A : Type 0} (xs ys : List A) (x : A) → Has (xs ++ ys) x → Has xs x ⊎ Has ys x
+has_either [] ys x h = inr h
+has_either (z ∷ xs) ys x (inl e) = inl (inl e)
+has_either (z ∷ xs) ys x (inr h) = ⊎_elim (λ l. inl (inr l)) (λ r. inr r) (has_either xs ys x h)
+
+pub map_has : {A B : Type 0} (f : A → B) (xs : List A) (x : A) → Has xs x → Has (map f xs) (f x)
+map_has f [] x h = absurd h
+map_has f (y ∷ ys) x (inl e) = inl (ap f e)
+map_has f (y ∷ ys) x (inr h) = inr (map_has f ys x h)
+
+-- what leads from one fact of each element to another one
+pub each : {A : Type 0} (P Q : A → Type 0) (xs : List A) → All P xs → ((x : A) → Has xs x → P x → Q x) → All Q xs
+each P Q xs all leads k d lt = leads (slice_index_or xs k d) (among xs k d lt) (all k d lt)
+  where
+    among : (ys : List A) (i : ℕ) (e : A) → i < length ys → Has ys (slice_index_or ys i e)
+    among [] i e lt = absurd (omega arith)
+    among (y ∷ ys) zero e lt = inl refl
+    among (y ∷ ys) (suc i) e lt = inr (among ys i e (omega arith))

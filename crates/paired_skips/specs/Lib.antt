@@ -1,0 +1,3 @@
+pub mod Paired
+pub mod Close
+pub mod Laws

@@ -1,0 +1,20 @@
+//! Which skips stand in the compiler's code, and with what behind them.
+//!
+//! In: nothing; the crate has a proof about the definitions of the passes. Out: nothing.
+//! The promise: in each block of a program, before it has selects, a skip and what it skips can run with no select between them. So
+//! selects can be put into each.
+#![tactic(auto)]
+
+ghost use Rattle.paired_skips.specs.Laws.{BodiesArePaired, RoutinesArePaired, StartIsPaired, PairedIsReady, BlocksCanSelect};
+
+/// In each block a skip and what stands behind it, up to the first instruction that is no skip, name one byte in a bank at most, or bytes of
+/// the copy's frame alone: operators of byte code work on bytes of the frame and on results, and what else skips tests a flag or one
+/// byte. None of them changes what is selected, and there is an instruction behind each. A frame stands whole in a bank, so where what is
+/// named has an address and stands within its frame, selects can be put into each block.
+pub fn skips_are_paired()
+    ensures bodies { BodiesArePaired }
+    ensures routines { RoutinesArePaired }
+    ensures start { StartIsPaired }
+    ensures ready { PairedIsReady }
+    ensures blocks { BlocksCanSelect }
+{}
