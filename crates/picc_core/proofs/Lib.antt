@@ -6,10 +6,11 @@ pub mod OverPages
 pub mod Sums
 pub mod Handed
 pub mod BlockViews
+pub mod Founding
+pub mod Named
 pub mod Translating
 pub mod OnlyCopies
 pub mod OnlyPlaces
 pub mod OnlyBlocks
 pub mod FewFunctions
 pub mod OneAnswer
-pub mod ObjectBytes

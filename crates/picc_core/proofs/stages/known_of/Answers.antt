@@ -2,7 +2,8 @@ use Rattle.std.proofs.Common.{map}
 use Rattle.std.proofs.lemmas.Result.{err_from_is_err_and}
 use Rattle.c_typed.specs.Views.{program_of}
 use Rattle.pic_map.specs.MapView.{object_of, frame_of}
-use Rattle.picc_core.proofs.ObjectBytes.{start_within}
+use Rattle.object_counts.proofs.ObjectBytes.{start_within}
+use Rattle.picc_core.proofs.Founding.{founded_on}
 use Rattle.picc_core.proofs.Told.{code_refused, accepted}
 use Rattle.picc_core.proofs.stages.known_of.Goals as goal
 
@@ -26,3 +27,10 @@ returns-clause-accepted c =
     let placed = c.in_ok-placed.placed in
     accepted c.args.typed c.in_ok-copies.copies.list.items c.in_ok-copies.copies.depth (map object_of placed.objects.items) (map frame_of placed.frames.items) _ _
     known.roots known.recursion known.depth known.list c.in_ok-placed.ensures.exact c.in_ok-at.ensures.blocks
+
+pub returns-clause-founded : goal.returns-clause-founded
+returns-clause-founded c =
+    let known = c.in_ok-copies.ensures in
+    let placed = c.in_ok-placed.ensures in
+    founded_on c.args.typed c.in_ok-copies.copies.list.items c.in_ok-placed.placed _ c.in_ok-copies.copies.depth _ c.see_typed.ensures.sound c.see_typed.ensures.numbers known.roots known.recursion known.depth known.list
+    placed.exact placed.apart placed.clear placed.objects c.in_ok-at.ensures.blocks
