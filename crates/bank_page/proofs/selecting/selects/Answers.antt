@@ -24,6 +24,6 @@ returns-clause-front c = (whole c.args.placed.now c.deref-block-items.result.now
 pub returns-clause-exact : goal.returns-clause-exact
 returns-clause-exact c = (whole c.args.placed.now c.deref-block-items.result.now c.args.s.now.blocks.items c.loop-block.blocks.items c.loop-block.block-index c.deref-block-items.ensures.value c.loop-block-test.false c.loop-block.invariant).4
 
-pub selected-requires : goal.selected-requires-clause-ready
+pub selected-requires : goal.selected-requires
 selected-requires c =
-    ready_at c.args.placed.now c.deref-block-items.result.now c.args.s.now.blocks.items c.loop-block.block-index c.block-item.result c.deref-block-items.ensures.value c.loop-block-test.true c.block-item.is c.requires.ready
+    record { ready = ready_at c.args.placed.now c.deref-block-items.result.now c.args.s.now.blocks.items c.loop-block.block-index c.block-item.result c.deref-block-items.ensures.value c.loop-block-test.true c.block-item.is c.requires.ready }
