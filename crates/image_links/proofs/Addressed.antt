@@ -80,17 +80,17 @@ module _ (placed : Placed) where
 
   whole_has : (list : List Sym) → HaveOperands placed (bare list) → HaveOperands placed list
   whole_has [] h = tt
-  whole_has (s ∷ list) h = by_select (is_select s) refl h
+  whole_has (s ∷ list) h = by_select (is_select s) refl (λ t. whole_has list t) h
     where
-      by_select : (b : Bool) → is_select s ≡ b → HaveOperands placed (if not b then s ∷ bare list else bare list) → HaveOperands placed (s ∷ list)
-      by_select true e t = (select_has placed s e, whole_has list t)
-      by_select false e t = (t.0, whole_has list t.1)
+      by_select : (b : Bool) → is_select s ≡ b → (HaveOperands placed (bare list) → HaveOperands placed list) → HaveOperands placed (if not b then s ∷ bare list else bare list) → HaveOperands placed (s ∷ list)
+      by_select true e behind t = (select_has placed s e, behind t)
+      by_select false e behind t = (t.0, behind t.1)
 
-  first_list : List (List Sym) → List Sym
+  abbrev first_list : List (List Sym) → List Sym
   first_list [] = []
   first_list (x ∷ xs) = x
 
-  rest_lists : List (List Sym) → List (List Sym)
+  abbrev rest_lists : List (List Sym) → List (List Sym)
   rest_lists [] = []
   rest_lists (x ∷ xs) = xs
 
