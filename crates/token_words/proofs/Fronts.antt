@@ -77,8 +77,8 @@ punctuator_no bytes = bind_no _ _ (λ p. some_no (kind.Punct p) refl)
 
 clash : (rest : Option TokKind) (k : TokKind) → NoName rest → rest ≡ Some k → is_name k ≡ true → ⊥
 unfolding NoName
-clash None k no e name = cc e
-clash (Some j) k no e name = true≢false (sym name ∙ (ap is_name (sym (kind_is j k e)) ∙ no))
+clash None k free e name = cc e
+clash (Some j) k free e name = true≢false (sym name ∙ (ap is_name (sym (kind_is j k e)) ∙ free))
   where
     kind_is : (a b : TokKind) → Some a ≡ Some b → a ≡ b
     kind_is a b e = cc
@@ -89,8 +89,8 @@ spelled_word bytes k e name = by (is_word bytes) (option_or (integer_of bytes) (
     (first_no (integer_of bytes) _ (integer_no bytes) (first_no (character_spelled bytes) _ (character_no bytes) (first_no (string_spelled bytes) _ (string_no bytes) (punctuator_no bytes)))) e
   where
     by : (t : Bool) (rest : Option TokKind) → NoName rest → option_or (if t then Some (kind_of_word (keyword_of bytes)) else None) rest ≡ Some k → t ≡ true
-    by true rest no e = refl
-    by false rest no e = absurd (clash rest k no e name)
+    by true rest free e = refl
+    by false rest free e = absurd (clash rest k free e name)
 
 word_some : (bytes : List ℕ) → is_word bytes ≡ true → 0 < length bytes
 word_some [] h = absurd (false≢true h)
