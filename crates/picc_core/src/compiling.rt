@@ -8,6 +8,7 @@ ghost use Rattle.call_graph.specs.Levels.{IsAcyclic};
 ghost use Rattle.headline.specs.SourceOf.{IsFaithfulTo};
 ghost use Rattle.pic_map.specs.MapText.{AreInRange};
 ghost use Rattle.pic_map.specs.MapView.{content_of, object_of, frame_of};
+ghost use Rattle.program_code.specs.Joined.{IsJoined};
 ghost use Rattle.program_code.specs.Translated.{IsTranslated};
 ghost use Rattle.ram_place.specs.Placement.{addresses_covered};
 ghost use Rattle.picc_core.specs.Answers.{IsRefusedUnless, TellsError};
@@ -98,8 +99,11 @@ pub struct Codes {
 /// The code of a text of which this is known, in each language below C.
 pub fn codes(alloc: Global, front: &Front) -> Result<Codes, AllocError>
     requires { IsFounded front.now.typed front.now.copies.list.items front.now.placed front.now.at.items }
+    // Each copy has its block, a function the one that is selected for its body and a helper its routine, none is lost, and they stand in
+    // the order of code.
+    ensures plain { IfOk result (λ codes. IsJoined codes.core front.now.copies.list.items codes.plain.blocks.items) }
     // The selects are those of `selects`, each for a need, but for those that flow facts which are consistent make needless.
-    ensures { IfOk result (λ codes. IsSymbolic codes.core front.now.copies.list.items front.now.placed codes.selected.blocks.items) }
+    ensures selected { IfOk result (λ codes. IsSymbolic codes.core front.now.copies.list.items front.now.placed codes.selected.blocks.items) }
 {
     let core = lower(alloc, &front.typed, &front.copies)?;
     let plain = joined(alloc, &core, &front.copies)?;
