@@ -139,7 +139,7 @@ one_level p a b x y root function =
     omega (arith, long, short, first, second)
 
 -- so none stands before another one of the same function and root
-not_before : (p : Program) (a b : FnCopy) → IsCopy p a → IsCopy p b → StandsBefore (length p.functions) a b → a.root ≡ b.root → a.function ≡ b.function → ⊥
+pub not_before : (p : Program) (a b : FnCopy) → IsCopy p a → IsCopy p b → StandsBefore (length p.functions) a b → a.root ≡ b.root → a.function ≡ b.function → ⊥
 not_before p a b x y (inl less) root function = let same = ap root_place root in omega (arith, less, same)
 not_before p a b x y (inr (same, inl less)) root function = let level = one_level p a b x y root function in omega (arith, less, level)
 not_before p a b x y (inr (same, inr (level, less))) root function = let number = ap (number_of (length p.functions)) function in omega (arith, less, number)

@@ -6,6 +6,7 @@ pub mod OverPages
 pub mod Sums
 pub mod Handed
 pub mod BlockViews
+pub mod CopyCounts
 pub mod Founding
 pub mod Named
 pub mod Translating

@@ -48,9 +48,6 @@ const LONGEST: usize = 262_144;
 /// The words of a page of program memory.
 const PAGE_WORDS: u64 = 2048;
 
-/// The most blocks that have numbers. There is no memory for more.
-const MOST_BLOCKS: usize = 4_294_967_295;
-
 /// The tokens that directives and the replacement of names leave, with the names of types marked.
 #[tactic(auto, using(crate::proofs::Telling::long_told, crate::proofs::Telling::lex_told, crate::proofs::Telling::pre_told, crate::proofs::Telling::all_left))]
 fn tokens_in(alloc: Global, text: &[u8]) -> Result<Vec<Tok>, CompileError>
@@ -245,17 +242,17 @@ struct Code {
     words: u32,
 }
 
-#[tactic(auto, using(crate::proofs::Sums::few, crate::proofs::Sums::blocks_had, crate::proofs::OverPages::code_told, crate::proofs::OverPages::over_in_copies))]
+#[tactic(auto, using(crate::proofs::CopyCounts::few_blocks, crate::proofs::Sums::few, crate::proofs::Sums::blocks_had, crate::proofs::OverPages::code_told, crate::proofs::OverPages::over_in_copies))]
 fn code_of(alloc: Global, p: &Typed, copies: &Copies) -> Result<Code, CompileError>
-    requires { capped (start_size (program_of p.now)) ≤ 2048 }
+    requires start { capped (start_size (program_of p.now)) ≤ 2048 }
+    // Its copies are few enough to be counted.
+    requires functions { length (program_of p.now).functions ≤ 0x10000000 }
+    requires list { AreCopies (program_of p.now) copies.now.list.items }
     ensures blocks { IfOk result (λ code. HasBlocks (program_of p.now) copies.now.list.items code.at.items code.words) }
     ensures refused { IfErr result (TellsCode (program_of p.now) copies.now.list.items) }
 {
     let order = code_order(alloc, copies)?;
     let words = words_of(alloc, p, &order)?;
-    if words.len() > MOST_BLOCKS {
-        return Err(CompileError::NoMemory);
-    }
     match pages(alloc, &words) {
         Ok(at) => Ok(Code {
             at,
@@ -283,6 +280,7 @@ fn see_typed(typed: &Typed)
 
 /// What is known of a typed program, or its first refusal.
 fn known_of(alloc: Global, typed: Typed) -> Result<Front, CompileError>
+    requires { length (program_of typed).functions ≤ 0x10000000 }
     ensures refused { IfErr result (TellsProgram (program_of typed)) }
     ensures same { IfOk result (λ front. front.typed ≡ typed) }
     ensures accepted { IfOk result (λ front. AreAccepted (program_of front.typed) front.copies.list.items) }

@@ -7,8 +7,8 @@ use Rattle.picc_core.proofs.Founding.{founded_on}
 use Rattle.picc_core.proofs.Told.{code_refused, accepted}
 use Rattle.picc_core.proofs.stages.known_of.Goals as goal
 
-pub code_of-requires : goal.code_of-requires
-code_of-requires c =
+pub code_of-requires-clause-start : goal.code_of-requires-clause-start
+code_of-requires-clause-start c =
     let placed = c.in_ok-placed.placed in
     let exact = c.in_ok-placed.ensures.exact in
     start_within (program_of c.args.typed) (map object_of placed.objects.items) exact.objects_stand exact.each_object c.in_ok-placed.ensures.objects
