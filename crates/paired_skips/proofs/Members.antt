@@ -29,11 +29,11 @@ map_has f [] x h = absurd h
 map_has f (y ∷ ys) x (inl e) = inl (ap f e)
 map_has f (y ∷ ys) x (inr h) = inr (map_has f ys x h)
 
+among : {A : Type 0} (xs : List A) (i : ℕ) (d : A) → i < length xs → Has xs (slice_index_or xs i d)
+among [] i d lt = absurd (omega arith)
+among (x ∷ xs) zero d lt = inl refl
+among (x ∷ xs) (suc i) d lt = inr (among xs i d (omega arith))
+
 -- what leads from one fact of each element to another one
 pub each : {A : Type 0} (P Q : A → Type 0) (xs : List A) → All P xs → ((x : A) → Has xs x → P x → Q x) → All Q xs
 each P Q xs all leads k d lt = leads (slice_index_or xs k d) (among xs k d lt) (all k d lt)
-  where
-    among : (ys : List A) (i : ℕ) (e : A) → i < length ys → Has ys (slice_index_or ys i e)
-    among [] i e lt = absurd (omega arith)
-    among (y ∷ ys) zero e lt = inl refl
-    among (y ∷ ys) (suc i) e lt = inr (among ys i e (omega arith))

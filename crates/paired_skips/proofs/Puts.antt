@@ -5,7 +5,8 @@ use Rattle.c_ints.specs.declared.operators.BinOp.TheVariants as binop
 use Rattle.c_ints.specs.declared.operators.UnOp.{UnOp}
 use Rattle.c_ints.specs.declared.operators.UnOp.TheVariants as unop
 use Rattle.c_ints.specs.declared.types.IntTy.{IntTy}
-use Rattle.c_ints.specs.declared.types.IntTy.TheVariants.{UInt}
+use Rattle.c_ints.specs.declared.types.IntTy.TheVariants.{UChar, UInt}
+use Rattle.c_ints.specs.declared.types.IntTy.TheVariants as intty
 use Rattle.c_typed.specs.Folding.{constant_bits}
 use Rattle.c_typed.specs.Trees.{Expression, Place}
 use Rattle.c_typed.specs.Words.{step_operator}

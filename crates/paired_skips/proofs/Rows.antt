@@ -176,10 +176,10 @@ module _ (c : ℕ) where
   sum_fine to left right width d e f = either (same_byte to right) _ _ (chain_fine Sum to right left width d f e) (chain_fine Sum to left right width d e f)
 
   bits_fine : (op : FileOperation) (to left right : Byte) (width : ℕ) → skips_by_file op ≡ false → Fine (bits_code op to left right width)
-  bits_fine op to left right width no =
+  bits_fine op to left right width plain =
       up _ (λ k. either (same_byte (byte_behind to k) (byte_behind left k)) (pair_code op (byte_behind left k) (byte_behind right k) File) (pair_code op (byte_behind left k) (byte_behind right k) W ++ store_code (byte_behind to k))
-      (pair_fine op (byte_behind left k) (byte_behind right k) File no)
-      (joined (pair_code op (byte_behind left k) (byte_behind right k) W) (store_code (byte_behind to k)) (pair_fine op (byte_behind left k) (byte_behind right k) W no) refl)) width
+      (pair_fine op (byte_behind left k) (byte_behind right k) File plain)
+      (joined (pair_code op (byte_behind left k) (byte_behind right k) W) (store_code (byte_behind to k)) (pair_fine op (byte_behind left k) (byte_behind right k) W plain) refl)) width
 
   -- ---- comparisons
   differences_fine : (to left right : Byte) (width : ℕ) → Fine (differences_code to left right width)
