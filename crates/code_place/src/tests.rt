@@ -55,8 +55,14 @@ fn targets_become_words(rt: HostRuntime) -> Result<(), AllocError> {
     assert_eq!(rt; word_of(scope, Sym::Label(Label::Halt)), 0xffff);
     assert_eq!(rt; word_of(scope, Sym::Goto(halt)), 0x2803);
     assert_eq!(rt; word_of(scope, Sym::Goto(restore)), 0x2804);
-    assert_eq!(rt; word_of(scope, Sym::SelectPage(PageBit::High, restore)), 0x160a);
-    assert_eq!(rt; word_of(scope, Sym::SelectPage(PageBit::Low, start)), 0x118a);
+    assert_eq!(rt;
+        word_of(scope, Sym::SelectPage(PageBit::High, restore)),
+        0x160a
+    );
+    assert_eq!(rt;
+        word_of(scope, Sym::SelectPage(PageBit::Low, start)),
+        0x118a
+    );
     assert_eq!(rt; word_of(scope, Sym::Call(start)), 0x2000);
     Ok(())
 }
@@ -106,7 +112,10 @@ fn bytes_become_words(rt: HostRuntime) -> Result<(), AllocError> {
     };
     assert_eq!(rt; word_of(scope, number), 0x3005);
     assert_eq!(rt; word_of(scope, address), 0x308e);
-    assert_eq!(rt; word_of(scope, Sym::SelectBank(BankBit::Rp1, false)), 0x1303);
+    assert_eq!(rt;
+        word_of(scope, Sym::SelectBank(BankBit::Rp1, false)),
+        0x1303
+    );
     assert_eq!(rt; word_of(scope, Sym::SelectBank(BankBit::Rp0, true)), 0x1683);
     assert_eq!(rt; word_of(scope, Sym::Movwf(result)), 0x00f5);
     assert_eq!(rt; word_of(scope, count), 0x0b8e);
