@@ -36,6 +36,7 @@ use Rattle.sym_code.specs.declared.code.Sym.{Sym}
 use Rattle.sym_code.specs.declared.code.Sym.TheVariants as syms
 use Rattle.sym_code.specs.declared.code.SymBlock.{SymBlock}
 use Rattle.bank_page.specs.Selected.{bare_lists}
+use Rattle.flow_facts.proofs.Kept.{thinning_keeps}
 use Rattle.word_bounds.proofs.Placed.{programs_keep_sizes}
 use Rattle.word_bounds.proofs.Routines.{routines_keep_there}
 use Rattle.word_bounds.proofs.Starting.{start_keeps_there}
@@ -44,7 +45,7 @@ use Rattle.word_bounds.proofs.Whole.{blocks_keep_there}
 use Rattle.word_bounds.specs.Bounds.{IsBlockOf}
 use Rattle.word_bounds.specs.Naming.{SymsLie}
 use Rattle.word_bounds.specs.There.{memory_of, HasOperand, HaveOperands}
-use Rattle.image_links.specs.Addressed.{BlocksHaveOperands, BlocksStandInside, OperandsHaveAddresses, SelectsKeepOperands}
+use Rattle.image_links.specs.Addressed.{BlocksHaveOperands, BlocksStandInside, OperandsHaveAddresses, SelectsKeepOperands, MadeHaveOperands}
 use Rattle.image_links.specs.Passed.{code_of}
 use Rattle.image_links.proofs.Blocks.{is_of}
 use Rattle.image_links.proofs.Bounded.{has_at}
@@ -174,3 +175,9 @@ module _ (typed : Typed) (copies : List FnCopy) (core : CoreProgram) (given : Li
 
 pub operands_have_addresses : OperandsHaveAddresses
 operands_have_addresses typed copies core given placed sound roots numbers bodies joined has placing statics few = all_addressed typed copies core given placed sound roots numbers bodies joined has placing statics few
+
+pub made_have_operands : MadeHaveOperands
+made_have_operands typed copies core given whole made placed blocks thinned has placing statics few =
+    let kept = thinning_keeps placed (handler_at copies) whole made thinned blocks.apart blocks.reaches in
+    let all = operands_have_addresses typed copies core given placed blocks.sound blocks.roots blocks.numbers blocks.bodies blocks.joined has placing statics few in
+    selects_keep_operands placed given made (kept.lists ∙ blocks.bare) all.0

@@ -5,6 +5,7 @@ use Rattle.c_typed.specs.Roots.{broken_root}
 use Rattle.c_typed.specs.Sound.{is_sound}
 use Rattle.c_typed.specs.Views.{program_of}
 use Rattle.c_typed.specs.declared.program.Typed.{Typed}
+use Rattle.call_graph.specs.Numbers.{handler_at}
 use Rattle.call_graph.specs.declared.types.FnCopy.{FnCopy}
 use Rattle.core_code.specs.declared.code.CoreProgram.{CoreProgram}
 use Rattle.lower_stmt.specs.Bodies.{body_of, bodies_of, first_bytes}
@@ -12,11 +13,13 @@ use Rattle.lower_stmt.specs.FirstBytes.{items_of}
 use Rattle.pic_map.specs.MapView.{object_of, frame_of}
 use Rattle.pic_map.specs.declared.Placed.{Placed}
 use Rattle.program_code.specs.Joined.{IsJoined}
+use Rattle.program_code.specs.Passed.{AreBlocks}
 use Rattle.program_code.specs.Translated.{HasCalls}
 use Rattle.ram_place.specs.Placement.{IsPlacing}
 use Rattle.src_rules.specs.Numbers.{ProgramHasNumbers}
 use Rattle.sym_code.specs.declared.code.SymBlock.{SymBlock}
 use Rattle.bank_page.specs.Selected.{bare_lists}
+use Rattle.flow_facts.specs.Thin.{IsThinned}
 use Rattle.word_bounds.specs.There.{HaveOperands, StandInside}
 
 abbrev pub BlocksHaveOperands : Placed → List SymBlock → Type 0
@@ -37,3 +40,10 @@ OperandsHaveAddresses =
 -- Selects name no byte, so blocks that differ in their selects alone have that in common.
 abbrev pub SelectsKeepOperands : Type 0
 SelectsKeepOperands = (placed : Placed) (given made : List SymBlock) → bare_lists made ≡ bare_lists given → BlocksHaveOperands placed given → BlocksHaveOperands placed made
+
+-- So what is made of them, with the selects that are left, has it too.
+abbrev pub MadeHaveOperands : Type 0
+MadeHaveOperands =
+    (typed : Typed) (copies : List FnCopy) (core : CoreProgram) (given whole made : List SymBlock) (placed : Placed) → AreBlocks (program_of typed) copies core given whole placed → IsThinned (handler_at copies) whole made → HasCalls (program_of typed) copies
+    → IsPlacing (program_of typed) copies (map object_of placed.objects.items) (map frame_of placed.frames.items) → map items_of core.statics.items ≡ first_bytes (program_of typed)
+    → length (program_of typed).statics ≤ 65535 → BlocksHaveOperands placed made

@@ -11,7 +11,7 @@ ghost use Rattle.image_links.specs.Faithful.{TranslationsAreFaithful};
 ghost use Rattle.image_links.specs.Passed.{BodiesAreHad, LayoutIsHad, LayoutServes, SelectsAreHad, StartIsHad};
 ghost use Rattle.image_links.specs.Translations.{TranslationsAreLinked, TranslationsAreLowerable, TranslationsFollow};
 ghost use Rattle.image_links.specs.Selection.{DepthIsHad, LevelsAreHad, PricesAreHad, ReachIsHad, RoutinesHavePrices, SelectionIsHad};
-ghost use Rattle.image_links.specs.Addressed.{OperandsHaveAddresses, SelectsKeepOperands};
+ghost use Rattle.image_links.specs.Addressed.{MadeHaveOperands, OperandsHaveAddresses, SelectsKeepOperands};
 ghost use Rattle.image_links.specs.Written.{MapsAreWritten};
 
 /// Of a sound program, byte code of its copies, the blocks that are joined from it and what `selects` answers for them have the selects
@@ -105,6 +105,7 @@ pub fn blocks_have_room()
 pub fn operands_have_addresses()
     ensures named { OperandsHaveAddresses }
     ensures kept { SelectsKeepOperands }
+    ensures made { MadeHaveOperands }
 {}
 
 /// A map file can tell the map of what the passes make, if its names are such as a map file has: main and its end are in program memory,
