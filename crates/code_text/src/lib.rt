@@ -34,7 +34,7 @@ use crate::instructions::put_symbolic;
 use crate::operations::put_core;
 use crate::placing::put_placing;
 use crate::words::put_image;
-use picc_core::{Built, Front, codes};
+use picc_core::{Built, Front, codes_of};
 use std::alloc::{AllocError, Global};
 use typed_text::listing::Listing;
 use typed_text::types::put_program;
@@ -44,7 +44,7 @@ pub fn code_text(alloc: Global, front: &Front, built: &Built) -> Result<Vec<u8>,
     // What the passes ask for is known, as of a program that `front` answers.
     requires { IsFounded front.now.typed front.now.copies.list.items front.now.placed front.now.at.items }
 {
-    let codes = codes(alloc, front)?;
+    let codes = codes_of(alloc, front)?;
     let mut out = Listing::new(alloc);
     put_program(&mut out, &front.typed)?;
     put_placing(&mut out, front)?;

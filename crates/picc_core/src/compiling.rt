@@ -97,7 +97,7 @@ pub struct Codes {
 }
 
 /// The code of a text of which this is known, in each language below C.
-pub fn codes(alloc: Global, front: &Front) -> Result<Codes, AllocError>
+pub fn codes_of(alloc: Global, front: &Front) -> Result<Codes, AllocError>
     requires { IsFounded front.now.typed front.now.copies.list.items front.now.placed front.now.at.items }
     // Each copy has its block, a function the one that is selected for its body and a helper its routine, none is lost, and they stand in
     // the order of code.

@@ -21,7 +21,7 @@ mod typing;
 
 pub use agreeing::agree;
 pub use c_check::{Kind, RootKind};
-pub use compiling::{Codes, codes, compile, compile_plain};
+pub use compiling::{Codes, codes_of, compile, compile_plain};
 pub use deciding::accepted_or_refused;
 pub use known::{Built, Front};
 pub use refusal::{CompileError, LimitKind, Refusal};

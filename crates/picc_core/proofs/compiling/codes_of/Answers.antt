@@ -1,5 +1,5 @@
 use Rattle.picc_core.proofs.Founding.{copies_low, statics_low, ready}
-use Rattle.picc_core.proofs.compiling.codes.Goals as goal
+use Rattle.picc_core.proofs.compiling.codes_of.Goals as goal
 
 pub lower-requires-clause-copies : goal.lower-requires-clause-copies
 lower-requires-clause-copies c = copies_low c.args.front.now.typed c.args.front.now.copies.list.items c.args.front.now.placed c.args.front.now.at.items c.requires
