@@ -177,7 +177,7 @@ module _ (p : Program) (copies : List FnCopy) (objects : List ObjectLine) (frame
       let names : name_of p (a.0).function ≡ name_of p (b.0).function = sym (ap (λ (l : FrameLine). l.name) f_is) ∙ (name ∙ ap (λ (l : FrameLine). l.name) g_is) in
       let before = known.ordered i j a.0 less (in_range copies j b.0 b.1) in
       let stands : StandsBefore (length p.functions) a.0 b.0 = subst (λ (z : FnCopy). StandsBefore (length p.functions) a.0 z) (index_is copies j b.0 a.0 b.1)
-          (subst (λ (z : FnCopy). StandsBefore (length p.functions) z (slice_index_or copies j a.0)) (index_is copies i a.0 a.0 a.1) before) in
+      (subst (λ (z : FnCopy). StandsBefore (length p.functions) z (slice_index_or copies j a.0)) (index_is copies i a.0 a.0 a.1) before) in
       not_before p a.0 b.0 a.2 b.2 stands roots (names_once p named (a.0).function (b.0).function (a.2).one (b.2).one names)
 
   names_had : HaveNames objects frames
