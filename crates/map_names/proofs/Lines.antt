@@ -1,7 +1,7 @@
 -- Lines of objects and of frames have names, and no two frames have one root and one name.
-use Rattle.std.proofs.Common.{◌≡◌, ℕ, zero, suc, ◌+◌, ◌<◌, ◌≤◌, ◌⊎◌, inl, inr, Bool, true, false, ◌||◌, List, [], ◌∷◌, length, take, Option, Some, None, refl, sym, ap, ◌∙◌, subst, arith, true≢false}
+use Rattle.std.proofs.Common.{◌≡◌, ℕ, zero, suc, ◌<◌, ◌≤◌, ◌⊎◌, inl, inr, Bool, true, false, ◌||◌, List, [], ◌∷◌, length, Some, refl, sym, ap, ◌∙◌, subst, arith, true≢false}
 use Rattle.std.specs.Prelude.{slice_get, slice_index_or, nat_le, ◌==◌, ◌&&◌}
-use Rattle.std.specs.List.{All, AllPairs, list_all, Contains}
+use Rattle.std.specs.List.{AllPairs, list_all}
 use Rattle.std.proofs.lemmas.Bool.{cases_lt, false≢true, and_from, and_parts}
 use Rattle.std.proofs.lemmas.List.Sums.{AllPass-from_list_all}
 use Rattle.c_token.specs.Longest.{is_word}
@@ -13,9 +13,7 @@ use Rattle.call_graph.specs.Copies.{root_of, root_place, IsOne, IsCopy, StandsBe
 use Rattle.call_graph.specs.declared.types.FnCopy.{FnCopy}
 use Rattle.pic_map.specs.MapContent.{ObjectLine, FrameLine}
 use Rattle.pic_map.specs.MapFile.{is_name_byte, IsName}
-use Rattle.pic_world.specs.declared.Root.{Root}
 use Rattle.ram_place.specs.Placement.{IsPlacing}
-use Rattle.ram_place.specs.Helpers as helpers
 use Rattle.ram_place.specs.Sizes.{name_of, name_or_none}
 use Rattle.typed_names.specs.Named.{is_dotted_byte, IsDotted, AreDotted, HaveWords, HaveOtherNames, AreNamed}
 use Rattle.typed_names.proofs.Words.{word_dotted}

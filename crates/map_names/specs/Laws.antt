@@ -1,5 +1,5 @@
 -- The law, as it is read.
-use Rattle.std.specs.Prelude.{ℕ, ◌≡◌, List}
+use Rattle.std.specs.Prelude.{◌≡◌, List}
 use Rattle.std.specs.List.{All, AllPairs}
 use Rattle.c_typed.specs.Trees.{Program}
 use Rattle.call_graph.specs.Copies.{AreCopies}

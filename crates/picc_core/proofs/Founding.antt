@@ -1,12 +1,11 @@
 -- What is known of a program before its code is made, and what the passes ask for by it: numbers have room, selects can be put, blocks have room
 -- where they stand, and what they name has an address.
-use Rattle.std.proofs.Common.{◌≡◌, ℕ, ◌<◌, ◌≤◌, true, List, [], ◌∷◌, length, map, None, Some, ◌∙◌, arith}
+use Rattle.std.proofs.Common.{◌≡◌, ℕ, ◌≤◌, true, List, [], ◌∷◌, length, map, None, ◌∙◌, arith}
 use Rattle.std.specs.List.{All}
 use Rattle.std.proofs.lemmas.List.{length-map}
 use Rattle.c_typed.specs.Chains.{graph_of}
 use Rattle.c_typed.specs.Roots.{broken_root}
 use Rattle.c_typed.specs.Sound.{is_sound}
-use Rattle.c_typed.specs.Trees.{Program}
 use Rattle.c_typed.specs.Views.{program_of, static_of}
 use Rattle.c_typed.specs.declared.program.Typed.{Typed}
 use Rattle.call_graph.specs.Copies.{AreCopies, HasDepth}
@@ -29,7 +28,6 @@ use Rattle.code_place.specs.Sizes.{Fit}
 use Rattle.flow_facts.proofs.Kept.{thinning_keeps}
 use Rattle.program_code.specs.Joined.{IsJoined}
 use Rattle.program_code.specs.Passed.{AreBlocks}
-use Rattle.program_code.specs.Translated.{HasCalls, IsSpread}
 use Rattle.ram_place.specs.Placement.{IsPlacing, LiveFramesAreDisjoint, FramesAreClear, ObjectsAreDisjoint}
 use Rattle.src_rules.specs.Numbers.{ProgramHasNumbers}
 use Rattle.word_bounds.specs.There as there

@@ -13,7 +13,7 @@ use Rattle.parse_expr.specs.declared.error.ParseError.{ParseError}
 use Rattle.token_words.proofs.Marked.{tokens_words}
 use Rattle.typed_names.proofs.Units.{judged_named}
 use Rattle.typed_names.specs.Named.{AreWords, AreNamed}
-use Rattle.picc_core.specs.Texts.{longest, behind_directives, behind_tokens, tokens_left, limited, within_limits, program_tokens}
+use Rattle.picc_core.specs.Texts.{longest, behind_directives, behind_tokens, tokens_left, limited, within_limits}
 use Rattle.picc_core.specs.Typed.{IsTypedAs}
 use Rattle.picc_core.specs.declared.refusal.CompileError.{CompileError}
 use Rattle.picc_core.specs.declared.refusal.CompileError.TheVariants.{Refused}

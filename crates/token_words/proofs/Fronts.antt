@@ -1,12 +1,12 @@
 -- A token of a text that is a name has the bytes of a name.
-use Rattle.std.proofs.Common.{◌≡◌, ℕ, ◌+◌, ◌-◌, ◌<◌, ◌≤◌, Bool, true, false, ◌&&◌, if◌then◌else◌, List, [], ◌∷◌, length, take, drop, Option, Some, None, refl, sym, ap, ◌∙◌, arith, true≢false}
+use Rattle.std.proofs.Common.{◌≡◌, ℕ, ◌-◌, ◌<◌, ◌≤◌, Bool, true, false, if◌then◌else◌, List, [], ◌∷◌, length, take, drop, Option, Some, None, refl, sym, ap, ◌∙◌, arith, true≢false}
 use Rattle.std.specs.Option.{option_or}
 use Rattle.std.specs.Prelude.{nat_le, ◌==◌}
 use Rattle.std.specs.Str.{bytes_eq}
 use Rattle.std.proofs.lemmas.Bool.{false≢true, and_from, le-leb}
 use Rattle.std.proofs.lemmas.List.{length-take, length-drop}
 use Rattle.c_token.specs.Constant.{◌>>=◌, number_in, integer_of, element_at, string_end}
-use Rattle.c_token.specs.Longest.{is_word, word_spelled, character_spelled, string_spelled, punctuator_spelled, token_spelled, IsLongestIn}
+use Rattle.c_token.specs.Longest.{is_word, character_spelled, string_spelled, punctuator_spelled, token_spelled, IsLongestIn}
 use Rattle.c_token.specs.Token.{keyword_of, kind_of_word}
 use Rattle.c_token.specs.declared.token.Tok.{Tok}
 use Rattle.c_token.specs.declared.token.TokKind.{TokKind}

@@ -1,8 +1,8 @@
 -- Specifiers and declarators declare no object.
 use Rattle.std.proofs.Common.{ℕ, Bool, true, false, not, if◌then◌else◌, List, [], ◌∷◌, Option, Some, None}
 use Rattle.c_tree.specs.Trees as tree
-use Rattle.c_tree.specs.Trees.{SpecTrees, MoreSpecs, SpecTree, MemberTree, MoreMembers, MoreDeclarators, DeclaratorTree, SuffixTrees, SuffixTree, MoreParams, ParamTree, EnumeratorTree, MoreEnumerators, spelled_declarator, spelled_suffixes, spelled_suffix, spelled_more_params, spelled_param}
-use Rattle.c_tree.specs.Words.{Symbol, Symbols}
+use Rattle.c_tree.specs.Trees.{SpecTrees, MoreSpecs, SpecTree, MemberTree, MoreMembers, MoreDeclarators, DeclaratorTree, SuffixTrees, SuffixTree, MoreParams, ParamTree, EnumeratorTree, MoreEnumerators}
+use Rattle.c_tree.specs.Words.{Symbols}
 use Rattle.type_rules.specs.Declarators.{Context, of_member, of_param, declares_tags, tag_or_new, structure_of, structure_in, body_opened, is_tagged, enum_closed, enum_body, specified, more_specs, spec_rule, members, more_members, more_fields, field, suffixes, suffix, more_params, param, outline_of}
 use Rattle.type_rules.specs.Faults as kind
 use Rattle.type_rules.specs.Known.{Tag, StructTag, EnumTag, Known, Rule, given, broken, go_on}
@@ -13,7 +13,7 @@ use Rattle.type_rules.specs.Specifiers.{Gathered, nothing_gathered, Specified, s
 use Rattle.typed_names.specs.Named.{Held, Stays}
 use Rattle.typed_names.proofs.Enumerators.{array_length_stays, enumerators_stays}
 use Rattle.typed_names.proofs.Outlines.{outlined_stays, param_outlined_stays, param_stays, member_stays}
-use Rattle.typed_names.proofs.Steps.{stays_given, stays_broken, stays_on, stays_tests, stays_tried, stays_wanted, stays_if}
+use Rattle.typed_names.proofs.Steps.{stays_given, stays_broken, stays_on, stays_tried}
 use Rattle.typed_names.proofs.TypeNames.{pointers_stays, specifiers_stays, type_name_stays, enum_stays}
 
 -- ---- tags and bodies

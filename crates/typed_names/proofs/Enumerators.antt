@@ -14,7 +14,7 @@ use Rattle.type_rules.specs.Known.{Known}
 use Rattle.type_rules.specs.Terms.{Operand}
 use Rattle.typed_names.specs.Named.{Held, Stays}
 use Rattle.typed_names.proofs.Expressions.{value_of_stays}
-use Rattle.typed_names.proofs.Steps.{stays_given, stays_broken, stays_on, stays_tests, stays_tried, stays_wanted, stays_if}
+use Rattle.typed_names.proofs.Steps.{stays_given, stays_broken, stays_on, stays_tried}
 
 number_in_stays : (whose : List ℕ) (f : Folded) (line : ℕ) (known : Known) → Held whose known → Stays whose (number_in f line known)
 number_in_stays whose (folding.Value v) line known held = stays_given v known held

@@ -12,7 +12,7 @@ use Rattle.type_rules.specs.Conversions.{may_be_assigned, assigned}
 use Rattle.type_rules.specs.Faults as kind
 use Rattle.type_rules.specs.Initializers.{value_rule, text_rule, items_in, has_more, begins, more_begins}
 use Rattle.type_rules.specs.Known.{Known, Rule, given, go_on}
-use Rattle.type_rules.specs.Slots.{Slot, Begun, part, with_initial, address_bytes, static_address, begin_pointer, begin_static, with_item, begin_structure, begin_local, value_line, begin_value, text_of, char_array, static_text, refused_text, begin_text_by, begin_text}
+use Rattle.type_rules.specs.Slots.{Slot, Begun, part, static_address, begin_pointer, begin_static, with_item, begin_structure, begin_local, value_line, begin_value, text_of, char_array, static_text, refused_text, begin_text_by}
 use Rattle.type_rules.specs.Terms.{Operand, side_of}
 use Rattle.type_rules.specs.Writes.{structure_read}
 use Rattle.typed_names.specs.Named.{Held, Stays}

@@ -3,7 +3,7 @@ use Rattle.std.proofs.Common.{◌≡◌, ℕ, zero, suc, Bool, true, false, not,
 use Rattle.c_tree.specs.Programs.{InitTree}
 use Rattle.c_typed.specs.Sameness.{is_scalar}
 use Rattle.c_typed.specs.Trees as typed
-use Rattle.c_typed.specs.Trees.{Statement, Item, StaticTree, VariableTree}
+use Rattle.c_typed.specs.Trees.{Statement, Item, StaticTree}
 use Rattle.c_typed.specs.declared.expression.Object.TheVariants as object
 use Rattle.c_typed.specs.declared.program.Initial.{Initial}
 use Rattle.c_typed.specs.declared.types.Qualified.{Qualified}
@@ -19,7 +19,7 @@ use Rattle.type_rules.specs.Slots.{Begun, nothing_begun}
 use Rattle.type_rules.specs.Specifiers.{Specified}
 use Rattle.typed_names.specs.Named.{IsDotted, AreDotted, Held, Stays}
 use Rattle.typed_names.proofs.Initializers.{begins_stays}
-use Rattle.typed_names.proofs.Steps.{stays_given, stays_broken, stays_on, stays_tests, stays_tried, stays_wanted, stays_if}
+use Rattle.typed_names.proofs.Steps.{stays_given, stays_broken, stays_on, stays_tried, stays_wanted}
 
 pub object_stays : (whose : List ℕ) (said : Specified) (o : Outline) (begun : Bool) (line : ℕ) (known : Known) → Held whose known → Stays whose (object_rule said o begun line known)
 object_stays whose said o begun line known held = stays_tried _ (object_tests known said o begun) line known _ (stays_given _ known held)

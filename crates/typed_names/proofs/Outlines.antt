@@ -1,14 +1,14 @@
 -- What declarators make of types declares no object.
-use Rattle.std.proofs.Common.{◌≡◌, ℕ, Bool, true, false, List, [], ◌∷◌}
+use Rattle.std.proofs.Common.{ℕ, Bool, true, false, List, [], ◌∷◌}
 use Rattle.c_typed.specs.declared.types.Qualified.{Qualified}
 use Rattle.c_typed.specs.declared.types.Ty.{Ty}
 use Rattle.c_typed.specs.declared.types.Ty.TheVariants.{Array}
-use Rattle.type_rules.specs.Known.{Scope, Known}
-use Rattle.type_rules.specs.Outlines.{Param, Made, ArrayMade, FunctionMade, Declared, ObjectDeclared, FunctionDeclared, Outline, array_or_part, array_behind, function_behind, behind, outlined, pointer_outline, started, array_started, param_outlined, param_tests, param_rule, member_tests, member_rule}
+use Rattle.type_rules.specs.Known.{Known}
+use Rattle.type_rules.specs.Outlines.{Param, Made, ArrayMade, FunctionMade, Declared, ObjectDeclared, FunctionDeclared, Outline, array_or_part, array_behind, behind, outlined, pointer_outline, started, array_started, param_outlined, param_tests, param_rule, member_tests, member_rule}
 use Rattle.type_rules.specs.Rows.{is_complete}
 use Rattle.type_rules.specs.Specifiers.{Specified}
 use Rattle.typed_names.specs.Named.{Held, Stays}
-use Rattle.typed_names.proofs.Steps.{stays_given, stays_broken, stays_on, stays_tests, stays_tried, stays_wanted, stays_if}
+use Rattle.typed_names.proofs.Steps.{stays_given, stays_on, stays_tried}
 
 -- ---- one suffix
 

@@ -1,5 +1,5 @@
 -- Rules one behind the other, and the names that are held behind them.
-use Rattle.std.proofs.Common.{◌≡◌, ℕ, Bool, true, false, if◌then◌else◌, List, Option, Some, None, Result, Ok, Err, refl}
+use Rattle.std.proofs.Common.{ℕ, Bool, true, false, if◌then◌else◌, List, Option, Some, None, Result, Ok, Err}
 use Rattle.type_rules.specs.Faults.{Kind, Fault, Tests, first_broken}
 use Rattle.type_rules.specs.Known.{Known, Rule, told, tried, wanted, go_on}
 use Rattle.typed_names.specs.Named.{Held, Stays}

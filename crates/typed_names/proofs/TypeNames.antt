@@ -14,7 +14,7 @@ use Rattle.type_rules.specs.Rows.{plain, pointer_to, tagged}
 use Rattle.type_rules.specs.Specifiers.{Site, OfTypeName, Gathered, nothing_gathered, with_base, base_type, is_orderly, qualifies_once, may_stand, specifiers, named_base, type_name_rule, specs_line}
 use Rattle.type_rules.specs.TypeNames.{with_pointers, enum_of, enum_rule, named_spec, more_named_specs, named_specs, type_named}
 use Rattle.typed_names.specs.Named.{Held, Stays}
-use Rattle.typed_names.proofs.Steps.{stays_given, stays_broken, stays_on, stays_tests, stays_tried, stays_wanted, stays_if}
+use Rattle.typed_names.proofs.Steps.{stays_given, stays_broken, stays_on, stays_tried, stays_wanted}
 
 pub pointer_stays : (whose : List ℕ) (ty : Qualified) (known : Known) → Held whose known → Stays whose (pointer_to ty known)
 pointer_stays whose ty known held = stays_given _ _ held

@@ -4,7 +4,7 @@ use Rattle.std.specs.Prelude.{slice_get, slice_index_or}
 use Rattle.c_token.specs.Longest.{is_word}
 use Rattle.c_tree.specs.Programs as tree
 use Rattle.c_tree.specs.Programs.{ItemTree, BlockTree, IsBlock, IsItem, IsUnit, spelled_declaration, spelled_block, spelled_item, spelled_unit}
-use Rattle.c_tree.specs.Trees.{SpecTrees, DeclaratorTree, IsDeclarator, spelled_specs, spelled_declarator}
+use Rattle.c_tree.specs.Trees.{SpecTrees, DeclaratorTree, spelled_specs, spelled_declarator}
 use Rattle.c_typed.specs.Trees as typed
 use Rattle.c_typed.specs.Trees.{FunctionTree, Program}
 use Rattle.c_typed.specs.declared.types.Ty.{Ty}
@@ -21,7 +21,7 @@ use Rattle.sound_types.specs.Files.{Files, Turns}
 use Rattle.sound_types.proofs.Files.{IsFresh, turns_on, turns_given, declaration_turns}
 use Rattle.sound_types.proofs.Functions.{function_turns}
 use Rattle.sound_types.proofs.Lists.{none_is, got_either, within}
-use Rattle.typed_names.specs.Named.{AreWords, AreDotted, HaveWords, HaveOtherNames, AreNamed, Held, Stays}
+use Rattle.typed_names.specs.Named.{AreWords, HaveWords, AreNamed, Held, Stays}
 use Rattle.typed_names.proofs.Declarations.{function_rule_stays, file_declaration_stays}
 use Rattle.typed_names.proofs.Declarators.{specified_stays, outline_stays}
 use Rattle.typed_names.proofs.Statements.{body_stays}

@@ -1,5 +1,5 @@
 -- Values, conversions and operators declare nothing.
-use Rattle.std.proofs.Common.{◌≡◌, ℕ, ◌%◌, Bool, true, false, not, ◌&&◌, List, [], ◌∷◌, Option, Some, None, nat_eq, length, is_some}
+use Rattle.std.proofs.Common.{ℕ, false, not, ◌&&◌, List, [], ◌∷◌, Option, Some, None, nat_eq, length, is_some}
 use Rattle.c_ints.specs.declared.operators.BinOp.{BinOp}
 use Rattle.c_ints.specs.declared.operators.BinOp.TheVariants as binop
 use Rattle.c_ints.specs.declared.operators.UnOp.{UnOp}
@@ -18,7 +18,7 @@ use Rattle.type_rules.specs.Conversions.{may_be_assigned, assigned, may_be_cast}
 use Rattle.type_rules.specs.Faults as kind
 use Rattle.type_rules.specs.Known.{Known, given, go_on}
 use Rattle.type_rules.specs.Operations.{operation_of, binary_of}
-use Rattle.type_rules.specs.Operators.{binary, logical, comma, between_by, between, choice_type, choice, cast, arithmetic, negation}
+use Rattle.type_rules.specs.Operators.{binary, logical, between_by, between, choice_type, choice, cast, arithmetic, negation}
 use Rattle.type_rules.specs.Places.{pointed_type, object_pointed, dereference, keeps_place, before_index, element, address_of, address, member_in, member_of, member, pointed_member, size_of_type, measured, size_of_term}
 use Rattle.type_rules.specs.Rows.{is_complete}
 use Rattle.type_rules.specs.Terms.{Form, ValueForm, PlaceForm, FunctionForm, TypeForm, Operand, Term, side_of, value_term, as_term, as_operand, table_tests, value_at, in_place, value_in, used, is_addressable}

@@ -1,11 +1,10 @@
 -- Names of the text, and names that are made of them.
-use Rattle.std.proofs.Common.{◌≡◌, ℕ, zero, suc, ◌+◌, ◌/◌, ◌%◌, ◌<◌, Bool, true, false, ◌==◌, ◌&&◌, ◌||◌, if◌then◌else◌, List, [], ◌∷◌, ◌++◌, length, refl, arith, length-append}
+use Rattle.std.proofs.Common.{◌≡◌, ℕ, zero, suc, ◌+◌, ◌/◌, ◌%◌, ◌<◌, Bool, true, false, ◌==◌, ◌&&◌, if◌then◌else◌, List, [], ◌∷◌, ◌++◌, length, refl, arith, length-append}
 use Rattle.std.specs.Fmt.{decimal, digits, digits_onto, digit_glyph}
 use Rattle.std.specs.List.{list_all}
 use Rattle.std.proofs.lemmas.Bool.{false≢true, and_from, or_left}
 use Rattle.c_token.specs.Bytes.{is_decimal, begins_name, is_name_byte}
 use Rattle.c_token.specs.Longest.{is_word}
-use Rattle.c_tree.specs.Kinds.{is_name}
 use Rattle.c_tree.specs.Trees.{DeclaratorTree, Declares, IsDeclarator, spelled_declarator, spelled_suffixes}
 use Rattle.c_tree.specs.Words.{Symbols}
 use Rattle.type_rules.specs.Declarators.{name_in}
