@@ -3,4 +3,3 @@ pub mod Loops
 pub mod Sights
 pub mod Switching
 pub mod Objects
-pub mod Rooms

@@ -1,5 +1,5 @@
 -- Static objects of a sound program: none has many bytes, and where there are few, addresses name them by small numbers.
-use Rattle.std.proofs.Common.{◌≡◌, ℕ, zero, suc, ◌+◌, ◌<◌, ◌≤◌, Bool, true, ◌&&◌, List, [], ◌∷◌, ◌++◌, length, get_or, slice_index_or, map, Option, Some, None, refl, sym, ap, ◌∙◌, arith}
+use Rattle.std.proofs.Common.{◌≡◌, ℕ, zero, suc, ◌+◌, ◌<◌, ◌≤◌, Bool, true, ◌&&◌, List, [], ◌∷◌, length, get_or, map, Option, Some, None, refl, ap, ◌∙◌, arith}
 use Rattle.std.specs.Global.{Global}
 use Rattle.std.specs.List.{All, list_all}
 use Rattle.std.specs.Prelude.{nat_lt, nat_le, slice_get}
@@ -58,11 +58,12 @@ static_at test (y ∷ ys) zero x all lt is = ap (λ z. test (static_of z)) is �
 static_at test (y ∷ ys) (suc i) x all lt is = static_at test ys i x (and_parts (test (static_of y)) (list_all test (map static_of ys)) all).1 (omega (arith, lt)) is
 
 -- each first byte of an object of the program is a number, or of an object whose number is small
-pub numbered : (targets : List Qualified) (structures : List Structure) (statics : List Static) (functions : List Function) (i : ℕ) (s : Static) → is_sound (program_from targets structures statics functions) ≡ true → length statics ≤ 65536
-    → i < length statics → s ≡ get_or statics i s → All IsNumbered s.initial.items
-numbered targets structures statics functions i s sound few lt is =
+pub numbered : (targets : List Qualified) (structures : List Structure) (statics : List Static) (functions : List Function) (list : List Static) (i : ℕ) (s : Static) → list ≡ statics → is_sound (program_from targets structures statics functions) ≡ true
+    → length statics ≤ 65536 → i < length list → s ≡ get_or list i s → All IsNumbered s.initial.items
+numbered targets structures statics functions list i s same sound few lt is =
     let p : Program = program_from targets structures statics functions in
-    let here = static_at (static_fits p) statics i s (statics_fit p sound) lt is in
+    let fit : list_all (static_fits p) (map static_of list) ≡ true = ap (λ (l : List Static). list_all (static_fits p) (map static_of l)) same ∙ statics_fit p sound in
+    let here = static_at (static_fits p) list i s fit lt is in
     let many : length p.statics ≤ 65536 = let l = length-map statics static_of in omega (arith, l, few) in
     bytes_numbered p many (type_bytes p.sizes s.ty.ty) 0 s.initial.items (and_parts (object_fits p s.ty.ty) (initial_fits p (type_bytes p.sizes s.ty.ty) 0 s.initial.items) here).1
 

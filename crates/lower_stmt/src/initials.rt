@@ -1,8 +1,9 @@
 //! What the bytes of static objects begin as (ISO/IEC 9899:1990, 6.5.7).
 
-ghost use Rattle.std.specs.Prelude.{◌≡◌, ◌≤◌, IfOk, length, map};
+ghost use Rattle.std.specs.Prelude.{◌≡◌, ◌≤◌, true, IfOk, length, map};
 ghost use Rattle.std.specs.List.{All};
-ghost use Rattle.c_typed.specs.Views.{static_of, size_of};
+ghost use Rattle.c_typed.specs.Sound.{is_sound};
+ghost use Rattle.c_typed.specs.Views.{program_of, static_of, size_of};
 ghost use Rattle.lower_stmt.specs.FirstBytes as first;
 
 use c_typed::{Initial, InitialByte, Static, Structure, Typed, bytes_of};
@@ -65,9 +66,9 @@ fn bytes_of_static(
 }
 
 /// The first bytes of each static object. What an address leads to is an object of the program, so its number fits.
-#[tactic(auto, using(crate::proofs::Objects::numbered))]
 pub fn first_bytes(alloc: Global, p: &Typed) -> Result<Vec<Vec<FirstByte>>, AllocError>
-    requires { length p.now.statics.items ≤ 65536 }
+    requires sound { is_sound (program_of p.now) ≡ true }
+    requires few { length p.now.statics.items ≤ 65536 }
     ensures { IfOk result (λ bytes. map first.items_of bytes.items ≡ map (first.static_bytes (map size_of p.now.structures.items)) (map static_of p.now.statics.items)) }
 {
     let mut statics = Vec::new(alloc);

@@ -1,8 +1,8 @@
 //! The code of a whole program.
 
-ghost use Rattle.std.specs.Prelude.{◌≡◌, ◌≤◌, ◌^◌, length, map, slice_get, IfOk};
+ghost use Rattle.std.specs.Prelude.{◌≡◌, ◌≤◌, true, length, map, slice_get, IfOk};
 ghost use Rattle.std.specs.List.{All};
-ghost use Rattle.c_typed.specs.Nodes.{function_nodes};
+ghost use Rattle.c_typed.specs.Sound.{is_sound};
 ghost use Rattle.c_typed.specs.Views.{function_of, program_of, size_of};
 ghost use Rattle.core_code.specs.View.{trees_in};
 ghost use Rattle.lower_expr.specs.Layout.{layout_of};
@@ -43,9 +43,8 @@ fn site_of<'a>(
 }
 
 // The statements of a function, and the end of its body.
-#[tactic(auto, using(crate::proofs::Rooms::outside_room, std::proofs::lemmas::List::append_assoc))]
+#[tactic(auto, using(std::proofs::lemmas::List::append_assoc))]
 fn body_code(site: &Site, function: &Function) -> Result<Vec<Core>, AllocError>
-    requires { function_nodes function.now ≤ 2 ^ 28 }
     ensures { IfOk result (λ code. trees_in code.items ≡ laws.body_code (ground_of site.now) (function_of function.now)) }
 {
     let mut code = Vec::new(site.alloc);
@@ -63,8 +62,7 @@ fn code_of(
     root: Root,
     function: &Function,
 ) -> Result<Vec<Core>, AllocError>
-    requires copies { length list.now ≤ 65536 }
-    requires nodes { function_nodes function.now ≤ 2 ^ 28 }
+    requires { length list.now ≤ 65536 }
     ensures { IfOk result (λ code. trees_in code.items ≡ laws.code_of (program_of p.now) list.now copy root (Some (function_of function.now))) }
 {
     let places = places_of(alloc, p, list, root, function)?;
@@ -74,7 +72,6 @@ fn code_of(
 }
 
 // The same by the number of the function. Each copy of an accepted program is one of a function that is there.
-#[tactic(auto, using(crate::proofs::Rooms::function_small))]
 fn code_by_number(
     alloc: Global,
     p: &Typed,
@@ -115,9 +112,18 @@ fn bodies_of(alloc: Global, p: &Typed, list: &[FnCopy]) -> Result<Vec<Body>, All
     Ok(bodies)
 }
 
+// What a type says of its values is known where one is handed on.
+fn see(_p: &Typed) {}
+
+// A typed program is a sound one: its type says so.
+fn see_sound(p: &Typed)
+    ensures { is_sound (program_of p.now) ≡ true }
+{
+    see(p);
+}
+
 /// The code of a program: the body of each copy that is no helper, in the order of the copies, and the first bytes of
 /// each static object.
-#[tactic(auto, using(crate::proofs::Objects::counted, crate::proofs::Objects::short))]
 pub fn lower(alloc: Global, p: &Typed, copies: &Copies) -> Result<CoreProgram, AllocError>
     // The names of bytes and of blocks have room for the numbers of copies and of static objects.
     requires copies { length copies.now.list.items ≤ 65536 }
@@ -129,6 +135,7 @@ pub fn lower(alloc: Global, p: &Typed, copies: &Copies) -> Result<CoreProgram, A
     ensures short { IfOk result (λ code. All HasFewBytes code.statics.items) }
 {
     let bodies = bodies_of(alloc, p, &copies.list)?;
+    see_sound(p);
     let statics = first_bytes(alloc, p)?;
     Ok(CoreProgram { bodies, statics })
 }

@@ -2,13 +2,9 @@
 //!
 //! Each function of the recursion has a frame of its own, hence `inline(never)`: statements nest deep, and each level
 //! takes only what one function needs.
-//!
-//! How many loops out `continue` leads is a number that fits: a switch adds no more loops than it has nodes of its own, so those
-//! round a statement and the nodes in it are together at most 2 to the 28, as all nodes of a program are.
 
-ghost use Rattle.std.specs.Prelude.{◌≡◌, ◌<◌, ◌≤◌, ◌+◌, ◌-◌, ◌^◌, length, map, IfOk, OnOk};
+ghost use Rattle.std.specs.Prelude.{◌≡◌, ◌-◌, map, IfOk, OnOk};
 ghost use Rattle.std.specs.Option.{option_map};
-ghost use Rattle.c_typed.specs.Nodes.{total, statement_nodes, arm_nodes, last_nodes};
 ghost use Rattle.c_typed.specs.Views.{expression_of, statement_of, statements_of, arm_of, arms_of, last_arm_of};
 ghost use Rattle.core_code.specs.View.{trees_in};
 ghost use Rattle.lower_expr.specs.Puts.{Appends};
@@ -99,14 +95,13 @@ fn put_return(site: &Site, value: &Option<TExpr>, out: &mut Vec<Core>) -> Result
 /// Adds the code of a statement.
 #[cycle(statement)]
 #[inline(never)]
-#[tactic(auto, using(crate::proofs::Sights::statements, crate::proofs::Rooms::rooms))]
+#[tactic(auto, using(crate::proofs::Sights::statements))]
 fn put_statement(
     site: &Site,
     jumps: Jumps,
     statement: &TStmt,
     out: &mut Vec<Core>,
 ) -> Result<(), AllocError>
-    requires { jumps.turn + statement_nodes statement.now ≤ 2 ^ 28 }
     ensures { OnOk result (Appends out.old.items out.new.items (code.stmt_code (ground_of site.now) jumps (statement_of statement.now))) }
 {
     match statement {
@@ -160,7 +155,6 @@ pub fn put_statements(
     statements: &[TStmt],
     out: &mut Vec<Core>,
 ) -> Result<(), AllocError>
-    requires { jumps.turn + total (map statement_nodes statements.now) ≤ 2 ^ 28 }
     ensures { OnOk result (Appends out.old.items out.new.items (code.stmts_code (ground_of site.now) jumps (statements_of (map statement_of statements.now)))) }
 {
     for statement in statements {
@@ -172,7 +166,7 @@ pub fn put_statements(
 // The condition of an arm, and by its value the arm's statement or else this code.
 #[cycle(statement)]
 #[inline(never)]
-#[tactic(auto, using(crate::proofs::Sights::one_arm, crate::proofs::Rooms::chosen_room, std::proofs::lemmas::List::append_assoc))]
+#[tactic(auto, using(crate::proofs::Sights::one_arm, std::proofs::lemmas::List::append_assoc))]
 fn put_arm(
     site: &Site,
     jumps: Jumps,
@@ -180,7 +174,6 @@ fn put_arm(
     otherwise: Vec<Core>,
     out: &mut Vec<Core>,
 ) -> Result<(), AllocError>
-    requires { jumps.turn + arm_nodes arm.now ≤ 2 ^ 28 }
     ensures { OnOk result (Appends out.old.items out.new.items (code.arm_code (ground_of site.now) jumps (arm_of arm.now) (trees_in otherwise.items))) }
 {
     put_value(site, &arm.condition, out)?;
@@ -198,14 +191,13 @@ fn put_arm(
 
 #[cycle(statement)]
 #[inline(never)]
-#[tactic(auto, using(crate::proofs::Sights::lasts, crate::proofs::Rooms::else_room))]
+#[tactic(auto, using(crate::proofs::Sights::lasts))]
 fn put_last(
     site: &Site,
     jumps: Jumps,
     otherwise: &Option<Box<TStmt>>,
     out: &mut Vec<Core>,
 ) -> Result<(), AllocError>
-    requires { jumps.turn + last_nodes otherwise.now ≤ 2 ^ 28 }
     ensures { OnOk result (Appends out.old.items out.new.items (code.last_code (ground_of site.now) jumps (last_arm_of otherwise.now))) }
 {
     match otherwise {
@@ -225,7 +217,6 @@ fn put_arms(
     last: Vec<Core>,
     out: &mut Vec<Core>,
 ) -> Result<(), AllocError>
-    requires { jumps.turn + total (map arm_nodes arms.now) ≤ 2 ^ 28 }
     ensures { OnOk result (Appends out.old.items out.new.items (code.arms_code (ground_of site.now) jumps (trees_in last.items) (arms_of (map arm_of arms.now)))) }
 {
     let mut rest = last;
@@ -243,9 +234,8 @@ fn put_arms(
 // The body of a `do` or a `for`: a loop that runs once, so that `continue` leaves it.
 #[cycle(statement)]
 #[inline(never)]
-#[tactic(auto, using(crate::proofs::Rooms::body_room, core_code::proofs::Views::tree_exit, std::proofs::lemmas::List::append_assoc))]
+#[tactic(auto, using(core_code::proofs::Views::tree_exit, std::proofs::lemmas::List::append_assoc))]
 fn put_body(site: &Site, body: &TStmt, out: &mut Vec<Core>) -> Result<(), AllocError>
-    requires { statement_nodes body.now ≤ 2 ^ 28 }
     ensures { OnOk result (Appends out.old.items out.new.items (code.once (code.stmt_code (ground_of site.now) jumping.in_body (statement_of body.now)))) }
 {
     let mut once = Vec::new(site.alloc);
@@ -256,14 +246,13 @@ fn put_body(site: &Site, body: &TStmt, out: &mut Vec<Core>) -> Result<(), AllocE
 
 #[cycle(statement)]
 #[inline(never)]
-#[tactic(auto, using(crate::proofs::Rooms::while_room, std::proofs::lemmas::List::append_assoc))]
+#[tactic(auto, using(std::proofs::lemmas::List::append_assoc))]
 fn put_while(
     site: &Site,
     condition: &Option<TExpr>,
     body: &TStmt,
     out: &mut Vec<Core>,
 ) -> Result<(), AllocError>
-    requires { statement_nodes body.now ≤ 2 ^ 28 }
     ensures { OnOk result (Appends out.old.items out.new.items (code.while_code (ground_of site.now) (option_map expression_of condition.now) (code.stmt_code (ground_of site.now) jumping.in_while (statement_of body.now)))) }
 {
     let mut turn = Vec::new(site.alloc);
@@ -281,7 +270,6 @@ fn put_do(
     body: &TStmt,
     out: &mut Vec<Core>,
 ) -> Result<(), AllocError>
-    requires { statement_nodes body.now ≤ 2 ^ 28 }
     ensures { OnOk result (Appends out.old.items out.new.items (code.do_code (ground_of site.now) (option_map expression_of condition.now) (code.stmt_code (ground_of site.now) jumping.in_body (statement_of body.now)))) }
 {
     let mut turn = Vec::new(site.alloc);
@@ -301,7 +289,6 @@ fn put_for(
     body: &TStmt,
     out: &mut Vec<Core>,
 ) -> Result<(), AllocError>
-    requires { statement_nodes body.now ≤ 2 ^ 28 }
     ensures { OnOk result (Appends out.old.items out.new.items (code.for_code (ground_of site.now) (option_map expression_of begin.now) (option_map expression_of condition.now) (option_map expression_of step.now) (code.stmt_code (ground_of site.now) jumping.in_body (statement_of body.now)))) }
 {
     put_any(site, begin, out)?;
@@ -323,13 +310,12 @@ fn put_reached(
     statement: &TStmt,
     out: &mut Vec<Core>,
 ) -> Result<(), AllocError>
-    requires { 0 < begun → jumps.turn + behind + 1 + statement_nodes statement.now ≤ 2 ^ 28 }
     ensures { OnOk result (Appends out.old.items out.new.items (nesting.reached begun (code.stmt_code (ground_of site.now) (jumping.in_segment jumps behind) (statement_of statement.now)))) }
 {
     if begun == 0 {
         Ok(())
     } else {
-        put_statement(site, jumps.in_segment(behind), statement, out)
+        put_statement(site, jumps.in_segment(behind)?, statement, out)
     }
 }
 
@@ -367,7 +353,6 @@ fn put_switch(
     default: Option<u32>,
     out: &mut Vec<Core>,
 ) -> Result<(), AllocError>
-    requires { jumps.turn + length cases.now + 1 + total (map statement_nodes statements.now) ≤ 2 ^ 28 }
     ensures { OnOk result (Appends out.old.items out.new.items (code.switch_code (ground_of site.now) jumps (expression_of value.now) cases.now default (statements_of (map statement_of statements.now)))) }
 {
     put_value(site, value, out)?;

@@ -1,5 +1,5 @@
 -- Each object of a sound program has a byte at least.
-use Rattle.std.proofs.Common.{◌≡◌, ℕ, zero, suc, ◌+◌, ◌*◌, ◌%◌, ◌^◌, ◌<◌, ◌≤◌, Bool, true, false, not, ◌&&◌, List, [], ◌∷◌, length, map, Option, Some, None, refl, sym, ap, ◌∙◌, arith}
+use Rattle.std.proofs.Common.{◌≡◌, ℕ, zero, suc, ◌+◌, ◌*◌, ◌%◌, ◌^◌, ◌<◌, ◌≤◌, Bool, true, false, not, ◌&&◌, List, [], ◌∷◌, length, map, Option, Some, None, refl, arith}
 use Rattle.std.specs.List.{list_all}
 use Rattle.std.specs.Prelude.{nat_eq, nat_lt, nat_le, if◌then◌else◌, slice_get, slice_index}
 use Rattle.std.proofs.lemmas.Bool.{and_parts, false≢true, ltb-true, eqb-true}
@@ -7,9 +7,9 @@ use Rattle.std.proofs.lemmas.List.{length-map}
 use Rattle.c_ints.specs.Range.{bytes_of}
 use Rattle.c_ints.specs.declared.types.IntTy.{IntTy}
 use Rattle.c_ints.specs.declared.types.IntTy.TheVariants as int
-use Rattle.c_typed.specs.Sameness.{is_complete, is_some_member, members_in, members_of}
+use Rattle.c_typed.specs.Sameness.{is_complete, is_some_member, members_in}
 use Rattle.c_typed.specs.Sound.{kept, array_is_there, type_is_there, object_fits, has_bytes, members_fit, target_fits, structure_fits, initial_fits, static_fits, function_fits, is_sound}
-use Rattle.c_typed.specs.Trees.{MemberTree, StructureTree, StaticTree, Program}
+use Rattle.c_typed.specs.Trees.{MemberTree, StaticTree, Program}
 use Rattle.c_typed.specs.Types.{type_bytes}
 use Rattle.c_typed.specs.Views.{size_of, structure_of, static_of, program_of}
 use Rattle.c_typed.specs.Words.{statics_bytes}

@@ -4,7 +4,6 @@ use Rattle.core_code.specs.View.{trees_in}
 use Rattle.lower_stmt.proofs.Lists.{stmt_code_in, stmts_code_in, stmts_none, stmts_more}
 use Rattle.lower_stmt.proofs.Loops.{appended, all_appended}
 use Rattle.lower_stmt.proofs.Switching.{begun_chain, chained, all_chained, segment_step, segments_done, switch_some, few_begun}
-use Rattle.lower_stmt.proofs.Rooms.{statement_room, arm_room, segment_room, segment_fits, reached_room}
 use Rattle.lower_stmt.specs.Ground.{ground_of}
 use Rattle.lower_stmt.proofs.statements.+statement.Goals as goal
 
@@ -30,19 +29,3 @@ pub put_switch-returns : goal.put_switch-returns
 put_switch-returns t c =
     switch_some (ground_of c.args.site.now) c.args.jumps (expression_of c.args.value.now) c.args.cases.now c.args.default _ _ c.args.statements.now (trees_in c.args.out.now.items) _ _ c.in_ok-put_value.ensures (c.deref-labels.ensures.value ∙ c.in_ok-found.ensures) (omega arith) c.segments_before-count.ensures.value
     (segments_done (ground_of c.args.site.now) c.args.jumps _ _ c.loop-i.i _ c.loop-i.begun c.begun_with-all.result c.has-last.result _ _ _ _ _ c.args.statements.now (omega arith) (omega arith) c.has-last.ensures c.in_ok-filled.ensures c.begun_with-all.ensures c.in_ok-put_closed.ensures c.loop-i.invariant.so_far)
-
-pub put_statements-put_statement-requires : goal.put_statements-put_statement-requires
-put_statements-put_statement-requires t c = statement_room c.args.jumps.turn c.args.statements.now _ c.statement-item.result c.requires c.loop-statement-test.true c.statement-item.is
-
-pub put_arms-put_arm-requires : goal.put_arms-put_arm-requires
-put_arms-put_arm-requires t c = arm_room c.args.jumps.turn c.args.arms.now (c.loop-left.left - 1) c.index-arms-left.result c.requires (omega arith) c.index-arms-left.is
-
-pub put_reached-in_segment-requires : goal.put_reached-in_segment-requires
-put_reached-in_segment-requires t c = segment_fits _ _ _ _ c.requires c.if-begun-eq0.false
-
-pub put_reached-put_statement-requires : goal.put_reached-put_statement-requires
-put_reached-put_statement-requires t c = reached_room c.args.jumps c.in_segment.result c.args.behind c.args.begun _ c.in_segment.ensures c.requires c.if-begun-eq0.false
-
-pub put_switch-put_reached-requires : goal.put_switch-put_reached-requires
-put_switch-put_reached-requires t c =
-    segment_room c.args.jumps.turn c.args.cases.now c.args.default c.args.statements.now c.loop-i.i c.index-statements-i.result _ _ _ _ c.requires (c.deref-labels.ensures.value ∙ c.in_ok-found.ensures) c.segments_before-count.ensures.bound c.less-behind.ensures (omega arith) c.index-statements-i.is
