@@ -1,10 +1,10 @@
 -- In the code of control each jump goes to a label of its own construct, or of a loop round it.
-use Rattle.std.proofs.Common.{◌≡◌, ℕ, zero, suc, ◌+◌, Bool, true, false, ◌&&◌, nat_lt, List, [], ◌∷◌, ◌++◌, length, Option, Some, None, IsSome, refl}
+use Rattle.std.proofs.Common.{◌≡◌, ℕ, zero, suc, ◌+◌, Bool, true, false, nat_lt, List, [], ◌∷◌, ◌++◌, length, Option, Some, None, IsSome}
 use Rattle.std.specs.Prelude.{cond, option_map, slice_get}
 use Rattle.core_code.specs.Tree as code
 use Rattle.core_code.specs.Tree.{Tree, Trees, list_of, trees_of}
 use Rattle.core_code.specs.declared.code.Byte.{Byte}
-use Rattle.select_code.specs.Pieces.{first_label, second_label, label_code, goto_code, jump_code, test_code, set_code, bit_read_code, bit_write_code}
+use Rattle.select_code.specs.Pieces.{first_label, second_label, label_code, goto_code, jump_code, test_code, set_code, bit_write_code}
 use Rattle.select_code.specs.Selected.{Given, IfForm, Jumps, Half, Whole, leave_code, goes_to, jump_target, short_jump, is_nothing, form_by, if_form, if_code, turned, loop_code, short_turn, code_of, first_code, parts_code, body_code}
 use Rattle.select_code.specs.Sized.{is_cut}
 use Rattle.select_code.specs.declared.control.Ending.{Ending}

@@ -5,10 +5,10 @@ mod Control
 mod Routines
 mod Starting
 mod Selecting
-mod Placing
+pub mod Placing
 mod Rows
 mod Expressions
 mod Statements
 mod Lowering
 mod Joining
-mod Whole
+pub mod Whole

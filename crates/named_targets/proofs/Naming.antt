@@ -1,6 +1,6 @@
 -- Lists of instructions whose targets are there, and lists whose labels are found.
-use Rattle.std.proofs.Common.{◌≡◌, ℕ, zero, suc, ◌+◌, Bool, true, false, ◌&&◌, ◌||◌, nat_eq, nat_lt, List, [], ◌∷◌, ◌++◌, Option, Some, None, IsSome, refl, sym, ap, ◌∙◌, subst, arith}
-use Rattle.std.proofs.lemmas.Bool.{eqb-true, eq-eqb}
+use Rattle.std.proofs.Common.{◌≡◌, ℕ, Bool, true, false, ◌&&◌, ◌||◌, nat_lt, List, [], ◌∷◌, ◌++◌, Option, IsSome, refl, ap}
+use Rattle.std.proofs.lemmas.Bool.{eq-eqb}
 use Rattle.sym_code.specs.Programs.{same_label}
 use Rattle.sym_code.specs.declared.code.BlockName.TheVariants as names
 use Rattle.sym_code.specs.declared.code.Label.{Label}

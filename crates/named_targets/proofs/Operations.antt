@@ -1,5 +1,5 @@
 -- What is selected for an operation names no target but the blocks of copies, for calls of helpers.
-use Rattle.std.proofs.Common.{◌≡◌, ℕ, zero, suc, ◌-◌, ◌/◌, ◌%◌, ◌<◌, Bool, true, false, ◌&&◌, nat_eq, nat_lt, length, if◌then◌else◌, List, [], ◌∷◌, ◌++◌, Option, Some, None, refl, ap, arith}
+use Rattle.std.proofs.Common.{◌≡◌, ℕ, zero, suc, ◌-◌, ◌/◌, ◌%◌, Bool, true, false, ◌&&◌, nat_eq, nat_lt, length, if◌then◌else◌, List, [], ◌∷◌, ◌++◌, Option, Some, None, refl, ap}
 use Rattle.std.specs.Prelude.{cond}
 use Rattle.std.proofs.Math.Dec.{ltb}
 use Rattle.std.proofs.lemmas.List.Quantifiers.{position-Some}
@@ -26,7 +26,7 @@ use Rattle.select_wide.specs.Calls.{helper_call_code, copy_call_code, any_call_c
 use Rattle.select_wide.specs.Comparisons.{differences_code, equality_code, signs_code, links_code, order_code}
 use Rattle.select_wide.specs.Moves.{copies_code, stores_code, clears_code}
 use Rattle.select_wide.specs.Pieces.{rising, choice_code, truth_code}
-use Rattle.select_wide.specs.Pointers.{address_code, load_code, store_all_code, advance_code}
+use Rattle.select_wide.specs.Pointers.{load_code, store_all_code, advance_code}
 use Rattle.select_wide.specs.Selection.{way_of, shifted_code, binary_code, wide_code}
 use Rattle.select_wide.specs.Shifts.{raised_code, bytes_down_code, bytes_way_code, bytes_code, bit_shift_code, in_place_code, moved_code, shift_code}
 use Rattle.select_wide.specs.Single.{is_signed, complement_code, increment_byte_code, increment_code, bang_code, unary_code, widening_code}
@@ -39,9 +39,7 @@ use Rattle.sym_code.specs.declared.code.Sym.{Sym}
 use Rattle.named_targets.specs.Calling.{names_below, all_names_below}
 use Rattle.core_code.specs.Bytes.{same_byte}
 use Rattle.select_code.specs.Pieces.{file_code, flag_code}
-use Rattle.select_code.specs.declared.pieces.Flag.{Flag}
 use Rattle.select_code.specs.declared.pieces.Flag.TheVariants.{Carry, Zero}
-use Rattle.sym_code.specs.declared.code.BitOperation.{BitOperation}
 use Rattle.sym_code.specs.declared.code.BitOperation.TheVariants.{Btfsc, Btfss}
 use Rattle.sym_code.specs.declared.code.FileOperation.{FileOperation}
 use Rattle.sym_code.specs.declared.code.FileOperation.TheVariants.{Incf}

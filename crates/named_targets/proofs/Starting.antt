@@ -1,5 +1,5 @@
 -- The start block jumps to a label of its own, to its halt, and to the blocks of main and of the handler.
-use Rattle.std.proofs.Common.{◌≡◌, ℕ, ◌+◌, Bool, true, false, nat_eq, nat_lt, if◌then◌else◌, List, [], ◌∷◌, ◌++◌, Option, Some, None, IsSome, refl}
+use Rattle.std.proofs.Common.{◌≡◌, ℕ, ◌+◌, Bool, true, false, nat_eq, if◌then◌else◌, List, [], ◌∷◌, ◌++◌, Option, Some, None, IsSome, refl}
 use Rattle.std.specs.Global.{Global}
 use Rattle.std.specs.declared.vec.Vec.{Vec}
 use Rattle.core_code.specs.declared.code.Byte.{Byte}
@@ -8,11 +8,9 @@ use Rattle.core_code.specs.declared.code.FirstByte.{FirstByte}
 use Rattle.core_code.specs.declared.code.FirstByte.TheVariants as firsts
 use Rattle.isr_save.specs.Start.{reset, vector, literal, byte_code, object_code, objects_code, main, start_code}
 use Rattle.sym_code.specs.declared.code.BlockName.TheVariants as names
-use Rattle.sym_code.specs.declared.code.Label.{Label}
 use Rattle.sym_code.specs.declared.code.Label.TheVariants as labels
 use Rattle.sym_code.specs.declared.code.Literal.TheVariants as values
 use Rattle.sym_code.specs.declared.code.Operand.TheVariants as operands
-use Rattle.sym_code.specs.declared.code.Sym.{Sym}
 use Rattle.sym_code.specs.declared.code.Sym.TheVariants as syms
 use Rattle.sym_code.specs.declared.code.Target.{Target}
 use Rattle.sym_code.specs.declared.code.Target.TheVariants as targets

@@ -1,33 +1,31 @@
 -- In all blocks that the passes make of a program the targets are there, and so are main's block and the label of its halt.
-use Rattle.std.proofs.Common.{◌≡◌, ℕ, zero, suc, ◌+◌, ◌<◌, ◌≤◌, inl, inr, Bool, true, false, nat_eq, nat_lt, if◌then◌else◌, List, [], ◌∷◌, length, Option, Some, None, IsSome, refl, sym, ap, ◌∙◌, subst, ⊎_elim, arith}
+use Rattle.std.proofs.Common.{◌≡◌, ℕ, zero, suc, ◌<◌, ◌≤◌, Bool, true, false, nat_eq, nat_lt, if◌then◌else◌, List, [], ◌∷◌, length, Option, Some, None, IsSome, refl, sym, ◌∙◌, subst, ⊎_elim, arith}
 use Rattle.std.specs.Prelude.{slice_get, slice_index_or}
 use Rattle.std.specs.List.{AllZip, Contains}
 use Rattle.std.proofs.lemmas.Bool.{ltb-true, lt-ltb}
 use Rattle.std.proofs.lemmas.List.Quantifiers.{position-Some}
 use Rattle.std.proofs.lemmas.Option.{same_Some, slice_get-get_or}
 use Rattle.c_typed.specs.Chains.{graph_of, IsChain, IsLevel}
-use Rattle.c_typed.specs.Roots.{is_main, first_from}
+use Rattle.c_typed.specs.Roots.{is_main}
 use Rattle.c_typed.specs.Trees.{Program}
 use Rattle.c_typed.specs.declared.calls.FnId.{FnId}
 use Rattle.c_typed.specs.declared.calls.FnId.TheVariants as callees
 use Rattle.call_graph.proofs.Searches.{first_within}
-use Rattle.call_graph.specs.Copies.{AreCopies, IsCopy, IsDepth, root_of}
+use Rattle.call_graph.specs.Copies.{AreCopies, IsDepth, root_of}
 use Rattle.call_graph.specs.Levels.{IsAcyclic}
 use Rattle.call_graph.specs.Numbers.{handler_at}
 use Rattle.call_graph.specs.declared.types.FnCopy.{FnCopy}
-use Rattle.core_code.specs.Tree.{Tree, trees_of}
 use Rattle.core_code.specs.View.{trees_in}
 use Rattle.core_code.specs.declared.code.Body.{Body}
 use Rattle.core_code.specs.declared.code.CoreProgram.{CoreProgram}
 use Rattle.isr_save.specs.Start.{start_code}
-use Rattle.math_helpers.specs.Routines.{helper_code}
 use Rattle.pic_map.specs.declared.Placed.{Placed}
 use Rattle.pic_world.specs.Roots.{same_root}
 use Rattle.pic_world.specs.declared.Root.{Root}
 use Rattle.pic_world.specs.declared.Root.TheVariants.{Main, Isr}
 use Rattle.select_code.specs.Selected.{leave_code}
 use Rattle.select_code.specs.declared.control.Ending.TheVariants as endings
-use Rattle.select_wide.specs.Blocks.{body_at, is_number, ending_at, block_code, code_by}
+use Rattle.select_wide.specs.Blocks.{body_at, is_number, ending_at, code_by}
 use Rattle.select_wide.specs.Selection.{wide_code}
 use Rattle.sym_code.specs.declared.code.BlockName.{BlockName}
 use Rattle.sym_code.specs.declared.code.BlockName.TheVariants.{Copy}
@@ -38,16 +36,14 @@ use Rattle.sym_code.specs.declared.code.SymBlock.{SymBlock}
 use Rattle.sym_code.specs.declared.code.Target.{Target}
 use Rattle.sym_code.specs.declared.code.Target.TheVariants as targets
 use Rattle.bank_page.specs.Selected.{IsExact, front}
-use Rattle.bank_page.specs.Step.{selected_from}
-use Rattle.code_place.specs.Places.{block_place, label_place, label_at, target_for}
+use Rattle.code_place.specs.Places.{block_place, label_place, target_for}
 use Rattle.code_place.specs.Sizes.{Fit}
-use Rattle.flow_facts.specs.Facts.{Facts}
-use Rattle.flow_facts.specs.Thin.{thin, IsThin, IsThinned}
+use Rattle.flow_facts.specs.Thin.{IsThin, IsThinned}
 use Rattle.program_code.specs.Passed.{AreBlocks}
 use Rattle.program_code.specs.Translated.{HasCalls}
 use Rattle.named_targets.specs.There.{HaveTargets, TargetsAreThere, EndsAreThere}
 use Rattle.named_targets.proofs.Control.{body_have}
-use Rattle.named_targets.proofs.Joining.{code_for, IsOfCopy, HasBlock, block_kind, start_there, copy_block}
+use Rattle.named_targets.proofs.Joining.{code_for, IsOfCopy, block_kind, start_there, copy_block}
 use Rattle.named_targets.proofs.Lowering.{each_below}
 use Rattle.named_targets.proofs.Naming.{has_label, LabelsFound, all_found, named_below}
 use Rattle.named_targets.proofs.Operations.{wide_calls}
