@@ -25,28 +25,26 @@
 
 mod instructions;
 mod operations;
-mod passes;
 mod placing;
 mod words;
 
-ghost use Rattle.std.specs.Prelude.{◌<◌, length};
+ghost use Rattle.picc_core.specs.Founded.{IsFounded};
 
 use crate::instructions::put_symbolic;
 use crate::operations::put_core;
-use crate::passes::compiled;
 use crate::placing::put_placing;
 use crate::words::put_image;
-use picc_core::{Built, Front};
+use picc_core::{Built, Front, codes_of};
 use std::alloc::{AllocError, Global};
 use typed_text::listing::Listing;
 use typed_text::types::put_program;
 
 /// The text of all languages of a program.
 pub fn code_text(alloc: Global, front: &Front, built: &Built) -> Result<Vec<u8>, AllocError>
-    // Its copies are few, as those of a program that `front` answers.
-    requires { length front.now.copies.list.items < 8192 }
+    // What the passes ask for is known, as of a program that `front` answers.
+    requires { IsFounded front.now.typed front.now.copies.list.items front.now.placed front.now.at.items }
 {
-    let codes = compiled(alloc, front)?;
+    let codes = codes_of(alloc, front)?;
     let mut out = Listing::new(alloc);
     put_program(&mut out, &front.typed)?;
     put_placing(&mut out, front)?;

@@ -15,7 +15,8 @@ use Rattle.sym_code.specs.declared.code.SymBlock.{SymBlock}
 use Rattle.sym_code.specs.declared.code.Target.{Target}
 use Rattle.code_place.specs.Places.{label_of, is_label, at_if, label_at, first_place, block_place, label_place, target_for, HasAddress, HaveAddresses}
 use Rattle.code_place.specs.Sizes.{Stands, Fit}
-use Rattle.named_targets.specs.There.{HasTarget, HaveTargets, HasOperand, HaveOperands, AllIsThere}
+use Rattle.word_bounds.specs.There.{HasOperand, HaveOperands}
+use Rattle.named_targets.specs.There.{HasTarget, HaveTargets, AllIsThere}
 use Rattle.named_targets.proofs.Naming.{has_label}
 
 or_left : (o other : Option ℕ) → IsSome o → IsSome (option_or o other)

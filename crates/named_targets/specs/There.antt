@@ -9,12 +9,12 @@ use Rattle.sym_code.specs.declared.code.Sym.{Sym}
 use Rattle.sym_code.specs.declared.code.Sym.TheVariants as syms
 use Rattle.sym_code.specs.declared.code.SymBlock.{SymBlock}
 use Rattle.sym_code.specs.declared.code.Target.{Target}
-use Rattle.code_place.specs.Addresses.{file_address}
-use Rattle.code_place.specs.Places.{target_for, HasEnds, HasLiteral, BlocksHaveAddresses}
+use Rattle.code_place.specs.Places.{target_for, HasEnds, BlocksHaveAddresses}
 use Rattle.code_place.specs.Sizes.{Fit}
 use Rattle.flow_facts.specs.Thin.{IsThinned}
 use Rattle.program_code.specs.Passed.{AreBlocks}
 use Rattle.program_code.specs.Translated.{HasCalls}
+use Rattle.word_bounds.specs.There.{HaveOperands}
 
 -- ---- targets
 -- the target that an instruction names has an address
@@ -33,19 +33,6 @@ abbrev pub BlocksHaveTargets : List SymBlock → List ℕ → Type 0
 BlocksHaveTargets blocks at = (k : ℕ) (block : SymBlock) (start : ℕ) → slice_get blocks k ≡ Some block → slice_get at k ≡ Some start → HaveTargets (target_for blocks at block start) block.list.items
 
 -- ---- bytes
--- the byte that an instruction names, or whose address it has as a literal, has an address
-abbrev pub HasOperand : Placed → Sym → Type 0
-HasOperand placed (syms.File op file into) = IsSome (file_address placed file)
-HasOperand placed (syms.Movwf file) = IsSome (file_address placed file)
-HasOperand placed (syms.Clrf file) = IsSome (file_address placed file)
-HasOperand placed (syms.Bit op file bit) = IsSome (file_address placed file)
-HasOperand placed (syms.Literal op value) = HasLiteral placed value
-HasOperand placed _ = Unit {0}
-
-abbrev pub HaveOperands : Placed → List Sym → Type 0
-HaveOperands placed [] = Unit {0}
-HaveOperands placed (s ∷ list) = HasOperand placed s × HaveOperands placed list
-
 abbrev pub BlocksHaveOperands : Placed → List SymBlock → Type 0
 BlocksHaveOperands placed blocks = (k : ℕ) (block : SymBlock) → slice_get blocks k ≡ Some block → HaveOperands placed block.list.items
 

@@ -9,4 +9,4 @@ mod Statements
 mod Members
 mod Blocks
 mod Placed
-mod Whole
+pub mod Whole

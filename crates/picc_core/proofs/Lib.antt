@@ -6,10 +6,12 @@ pub mod OverPages
 pub mod Sums
 pub mod Handed
 pub mod BlockViews
+pub mod CopyCounts
+pub mod Founding
+pub mod Named
 pub mod Translating
 pub mod OnlyCopies
 pub mod OnlyPlaces
 pub mod OnlyBlocks
 pub mod FewFunctions
 pub mod OneAnswer
-pub mod ObjectBytes

@@ -6,5 +6,6 @@ pub mod Blocks
 pub mod Compiled
 pub mod Accepted
 pub mod CodeAnswers
+pub mod Founded
 pub mod Coded
 pub mod Decided

@@ -1,42 +1,41 @@
 //! From a text to the image of its program and the map of its memory.
 
-ghost use Rattle.std.specs.Prelude.{◌≡◌, ◌<◌, ◌≤◌, true, length, map, None, Err, IfOk, IfErr};
-ghost use Rattle.std.specs.List.{AllPairs};
+ghost use Rattle.std.specs.Prelude.{◌≡◌, ◌<◌, ◌≤◌, length, map, None, Err, IfOk, IfErr};
 ghost use Rattle.c_typed.specs.Chains.{graph_of};
 ghost use Rattle.c_typed.specs.Roots.{broken_root};
-ghost use Rattle.c_typed.specs.Sound.{is_sound};
 ghost use Rattle.c_typed.specs.Views.{program_of};
 ghost use Rattle.call_graph.specs.Levels.{IsAcyclic};
 ghost use Rattle.headline.specs.SourceOf.{IsFaithfulTo};
 ghost use Rattle.pic_map.specs.MapText.{AreInRange};
 ghost use Rattle.pic_map.specs.MapView.{content_of, object_of, frame_of};
-ghost use Rattle.program_code.specs.Translated.{AreOthers, IsTranslated};
+ghost use Rattle.program_code.specs.Joined.{IsJoined};
+ghost use Rattle.program_code.specs.Translated.{IsTranslated};
 ghost use Rattle.ram_place.specs.Placement.{addresses_covered};
-ghost use Rattle.src_rules.specs.Numbers.{ProgramHasNumbers};
 ghost use Rattle.picc_core.specs.Answers.{IsRefusedUnless, TellsError};
 ghost use Rattle.picc_core.specs.Blocks.{HasWords};
-ghost use Rattle.picc_core.specs.Coded.{IsCoded};
+ghost use Rattle.picc_core.specs.Coded.{IsCoded, IsSymbolic};
 ghost use Rattle.picc_core.specs.Compiled.{IsCompiledTo, IsPlaced, IsWithinDepth};
 ghost use Rattle.picc_core.specs.Decided.{IsAcceptedText};
+ghost use Rattle.picc_core.specs.Founded.{IsFounded};
 ghost use Rattle.picc_core.specs.Texts.{program_tokens, HasTree};
 ghost use Rattle.picc_core.specs.Typed.{IsTypedAs};
-ghost use Rattle.picc_core.specs.declared.refusal.CompileError.TheVariants.{NoMemory, Refused};
+ghost use Rattle.picc_core.specs.declared.refusal.CompileError.TheVariants.{Refused};
 ghost use Rattle.picc_core.specs.declared.refusal.LimitKind.TheVariants as kinds;
 ghost use Rattle.picc_core.specs.declared.refusal.Refusal.{Refusal};
 ghost use Rattle.picc_core.specs.declared.refusal.Refusal.TheVariants as refusals;
 
-use crate::joining::{Selects, symbolic_by};
+use crate::joining::{Selects, joined, symbolic_by};
 use crate::known::{Built, Front};
-use crate::map_range::{can_be_written, have_own_names};
 use crate::refusal::CompileError;
 use crate::stages::front;
 use c_check::Typed;
 use call_graph::Copies;
 use code_place::{Assembled, assemble};
+use core_code::CoreProgram;
 use lower_stmt::lower;
 use pic_map::{Map, Placed};
 use std::alloc::{AllocError, Global};
-use typed_numbers::see_numbers;
+use sym_code::SymProgram;
 
 /// The image of a typed program whose copies, places and addresses these are, and where main begins and halts in it.
 fn coded(
@@ -47,7 +46,7 @@ fn coded(
     at: &[u16],
     selects: Selects,
 ) -> Result<Assembled, AllocError>
-    requires { length copies.now.list.items ≤ 65536 }
+    requires { IsFounded typed.now copies.now.list.items placed.now at.now }
     ensures { IfOk result (λ made. IsCoded (program_of typed.now) copies.now.list.items placed.now at.now made.image made.main made.halt) }
 {
     let core = lower(alloc, typed, copies)?;
@@ -58,7 +57,7 @@ fn coded(
 
 /// The image and the map of what is known of a text.
 fn built(alloc: Global, front: Front, selects: Selects) -> Result<Built, AllocError>
-    requires { length front.copies.list.items < 8192 }
+    requires { IsFounded front.typed front.copies.list.items front.placed front.at.items }
     ensures typed { IfOk result (λ built. built.typed ≡ front.typed) }
     ensures objects { IfOk result (λ built. built.map.objects ≡ front.placed.objects) }
     ensures frames { IfOk result (λ built. built.map.frames ≡ front.placed.frames) }
@@ -89,28 +88,31 @@ fn built(alloc: Global, front: Front, selects: Selects) -> Result<Built, AllocEr
     })
 }
 
-/// The same, if its map is one that a map file can tell, and tells each frame by a root and a name of its own. Otherwise the answer
-/// is out of memory; that it never comes to that isn't proved.
-fn checked(built: Built) -> Result<Built, CompileError>
-    ensures same { IfOk result (λ checked. checked ≡ built) }
-    ensures written { IfOk result (λ checked. AreInRange (content_of checked.map)) }
-    ensures few { IfOk result (λ checked. length checked.map.objects.items ≤ 65535) }
-    ensures apart { IfOk result (λ checked. AllPairs AreOthers (map frame_of checked.map.frames.items)) }
-    ensures told { IfErr result (λ error. error ≡ NoMemory) }
-{
-    if can_be_written(&built.map) && have_own_names(&built.map.frames) {
-        Ok(built)
-    } else {
-        Err(CompileError::NoMemory)
-    }
+/// Byte code, and symbolic code without selects and with those that it needs.
+#[derive(Drop)]
+pub struct Codes {
+    pub core: CoreProgram,
+    pub plain: SymProgram,
+    pub selected: SymProgram,
 }
 
-/// The program keeps its typing rules, and its numbers are of their types. Values of the code are so by themselves.
-fn see_typed(typed: &Typed)
-    ensures sound { is_sound (program_of typed.now) ≡ true }
-    ensures numbers { ProgramHasNumbers (program_of typed.now) }
+/// The code of a text of which this is known, in each language below C.
+pub fn codes_of(alloc: Global, front: &Front) -> Result<Codes, AllocError>
+    requires { IsFounded front.now.typed front.now.copies.list.items front.now.placed front.now.at.items }
+    // Each copy has its block, a function the one that is selected for its body and a helper its routine, none is lost, and they stand in
+    // the order of code.
+    ensures plain { IfOk result (λ codes. IsJoined codes.core front.now.copies.list.items codes.plain.blocks.items) }
+    // The selects are those of `selects`, each for a need, but for those that flow facts which are consistent make needless.
+    ensures selected { IfOk result (λ codes. IsSymbolic codes.core front.now.copies.list.items front.now.placed codes.selected.blocks.items) }
 {
-    see_numbers(typed);
+    let core = lower(alloc, &front.typed, &front.copies)?;
+    let plain = joined(alloc, &core, &front.copies)?;
+    let selected = symbolic_by(alloc, &core, &front.copies, &front.placed, Selects::Lean)?;
+    Ok(Codes {
+        core,
+        plain,
+        selected,
+    })
 }
 
 /// What a text is compiled to with these selects, or the first refusal that holds of it.
@@ -121,8 +123,8 @@ fn compiled(alloc: Global, text: &[u8], selects: Selects) -> Result<Built, Compi
     ensures whole { IfOk result (IsCompiledTo text.now) }
 {
     let front = front(alloc, text)?;
-    see_typed(&front.typed);
-    checked(built(alloc, front, selects)?)
+    let made = built(alloc, front, selects)?;
+    Ok(made)
 }
 
 /// What a text is compiled to, or the first refusal that holds of it, as `front` reports it.

@@ -1,13 +1,17 @@
 //! The blocks of a program, joined to its symbolic code.
 
-ghost use Rattle.std.specs.Prelude.{◌≡◌, ◌<◌, ◌≤◌, ◌++◌, length, IfOk, OnOk};
+ghost use Rattle.std.specs.Prelude.{◌≡◌, ◌<◌, ◌≤◌, ◌++◌, List, length, IfOk, OnOk};
+ghost use Rattle.std.specs.List.{All};
 ghost use Rattle.std.specs.List.Sorted.{IsNonDecreasingBy, IsPermutation};
 ghost use Rattle.call_graph.specs.Numbers.{handler_at};
+ghost use Rattle.bank_page.specs.Ready.{CanSelect};
 ghost use Rattle.flow_facts.specs.Thin.{IsThinned};
+ghost use Rattle.isr_save.specs.Start.{HasNumberedBytes};
 ghost use Rattle.select_wide.specs.Blocks.{views_of};
 ghost use Rattle.picc_core.specs.Coded.{IsSymbolic};
 ghost use Rattle.program_code.specs.Joined.{helper_at, helpers_from, IsJoined};
 ghost use Rattle.program_code.specs.Order.{block_rank};
+ghost use Rattle.sym_code.specs.declared.code.SymBlock.{SymBlock as Block};
 
 use crate::code_order::name_rank;
 use bank_page::selects;
@@ -71,13 +75,15 @@ fn in_code_order(mut blocks: Vec<SymBlock>, copies: &Copies) -> Result<Vec<SymBl
 }
 
 /// The symbolic code of a program without selects: the start block, and after it the blocks of the copies in the order of code.
-pub fn joined(
+pub(crate) fn joined(
     alloc: Global,
     core: &CoreProgram,
     copies: &Copies,
-    placed: &Placed,
 ) -> Result<SymProgram, AllocError>
-    requires { length copies.now.list.items ≤ 65536 }
+    // Names have room for the numbers of copies, of static objects and of their bytes.
+    requires copies { length copies.now.list.items ≤ 65536 }
+    requires few { length core.now.statics.items ≤ 65536 }
+    requires short { All HasNumberedBytes core.now.statics.items }
     // Each copy has its block, a function the one that is selected for its body and a helper its routine, none is lost, and they stand in
     // the order of code.
     ensures whole { IfOk result (λ program. IsJoined core.now copies.now.list.items program.blocks.items) }
@@ -86,7 +92,7 @@ pub fn joined(
     let mut blocks = select(alloc, core, copies)?.blocks;
     put_helpers(alloc, &copies.list, &mut blocks)?;
     let mut order = in_code_order(blocks, copies)?;
-    order.insert(0, start_block(alloc, placed, core, handler)?)?;
+    order.insert(0, start_block(alloc, core, handler)?)?;
     Ok(SymProgram { blocks: order })
 }
 
@@ -122,26 +128,16 @@ pub(crate) fn symbolic_by(
     placed: &Placed,
     known: Selects,
 ) -> Result<SymProgram, AllocError>
-    requires { length copies.now.list.items ≤ 65536 }
+    requires copies { length copies.now.list.items ≤ 65536 }
+    requires few { length core.now.statics.items ≤ 65536 }
+    requires short { All HasNumberedBytes core.now.statics.items }
+    // Selects can be put into the blocks that are joined.
+    requires ready { (given : List Block) → IsJoined core.now copies.now.list.items given → All (CanSelect placed.now) given }
     ensures { IfOk result (λ made. IsSymbolic core.now copies.now.list.items placed.now made.blocks.items) }
 {
-    let program = joined(alloc, core, copies, placed)?;
+    let program = joined(alloc, core, copies)?;
     let whole = selects(alloc, &program, placed)?;
     let handler = handler_of(copies);
     let made = thinner(alloc, &whole, handler, known)?;
     Ok(made)
-}
-
-/// The same with its selects, but for those that set what is so already by the facts that were found.
-pub fn symbolic(
-    alloc: Global,
-    core: &CoreProgram,
-    copies: &Copies,
-    placed: &Placed,
-) -> Result<SymProgram, AllocError>
-    requires { length copies.now.list.items ≤ 65536 }
-    // The selects are those of `selects`, each for a need, but for those that flow facts which are consistent make needless.
-    ensures { IfOk result (λ made. IsSymbolic core.now copies.now.list.items placed.now made.blocks.items) }
-{
-    symbolic_by(alloc, core, copies, placed, Selects::Lean)
 }

@@ -15,16 +15,14 @@ mod compiling;
 mod deciding;
 mod joining;
 mod known;
-mod map_range;
 mod refusal;
 mod stages;
 mod typing;
 
 pub use agreeing::agree;
 pub use c_check::{Kind, RootKind};
-pub use compiling::{compile, compile_plain};
+pub use compiling::{Codes, codes_of, compile, compile_plain};
 pub use deciding::accepted_or_refused;
-pub use joining::{joined, symbolic};
 pub use known::{Built, Front};
 pub use refusal::{CompileError, LimitKind, Refusal};
 pub use run_compare::Agreed;

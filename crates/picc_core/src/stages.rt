@@ -1,22 +1,25 @@
 //! The stages from a text to its sizes and addresses.
 
-ghost use Rattle.std.specs.Prelude.{◌≡◌, ◌<◌, ◌≤◌, ◌^◌, ◌+◌, ℕ, [], ◌∷◌, length, map, sum, None, Ok, Err, IfOk, IfErr, MatchResult};
+ghost use Rattle.std.specs.Prelude.{◌≡◌, ◌<◌, ◌≤◌, ◌^◌, ◌+◌, ℕ, true, [], ◌∷◌, length, map, sum, None, Ok, Err, IfOk, IfErr, MatchResult};
 ghost use Rattle.c_tree.specs.ProgramViews.{unit_of};
 ghost use Rattle.c_typed.specs.Chains.{graph_of};
 ghost use Rattle.c_typed.specs.Nodes.{capped};
 ghost use Rattle.c_typed.specs.Roots.{broken_root};
+ghost use Rattle.c_typed.specs.Sound.{is_sound};
 ghost use Rattle.c_typed.specs.Views.{program_of};
 ghost use Rattle.c_typed.specs.Words.{start_size};
 ghost use Rattle.call_graph.specs.Copies.{AreCopies, HasDepth, name_at};
 ghost use Rattle.call_graph.specs.Levels.{IsAcyclic};
 ghost use Rattle.pic_map.specs.MapView.{object_of, frame_of};
 ghost use Rattle.ram_place.specs.Placement as placement;
+ghost use Rattle.src_rules.specs.Numbers.{ProgramHasNumbers};
 ghost use Rattle.picc_core.specs.Accepted.{AreAccepted};
 ghost use Rattle.picc_core.specs.Answers.{IsRefusedUnless, TellsError, TellsProgram};
 ghost use Rattle.picc_core.specs.Blocks.{HasBlocks};
 ghost use Rattle.picc_core.specs.CodeAnswers as stated;
 ghost use Rattle.picc_core.specs.CodeAnswers.{Explains, IsOfCopy, SomeIsOver, TellsCode, TellsFirstOver};
 ghost use Rattle.picc_core.specs.Decided.{IsAcceptedText};
+ghost use Rattle.picc_core.specs.Founded.{IsFounded};
 ghost use Rattle.picc_core.specs.Texts.{tokens_left, program_tokens, HasTree};
 ghost use Rattle.picc_core.specs.Typed.{IsTreeOf, IsTypedAs};
 ghost use Rattle.picc_core.specs.declared.refusal.CompileError.TheVariants.{NoMemory, Refused};
@@ -37,15 +40,13 @@ use call_graph::{Copies, FnCopy, FnId, copies};
 use code_place::{PageError, pages};
 use ram_place::{Placed, block_words, place, start_words};
 use std::alloc::{AllocError, Global};
+use typed_numbers::see_numbers;
 
 /// The longest text, in bytes.
 const LONGEST: usize = 262_144;
 
 /// The words of a page of program memory.
 const PAGE_WORDS: u64 = 2048;
-
-/// The most blocks that have numbers. There is no memory for more.
-const MOST_BLOCKS: usize = 4_294_967_295;
 
 /// The tokens that directives and the replacement of names leave, with the names of types marked.
 #[tactic(auto, using(crate::proofs::Telling::long_told, crate::proofs::Telling::lex_told, crate::proofs::Telling::pre_told, crate::proofs::Telling::all_left))]
@@ -241,17 +242,17 @@ struct Code {
     words: u32,
 }
 
-#[tactic(auto, using(crate::proofs::Sums::few, crate::proofs::Sums::blocks_had, crate::proofs::OverPages::code_told, crate::proofs::OverPages::over_in_copies))]
+#[tactic(auto, using(crate::proofs::CopyCounts::few_blocks, crate::proofs::Sums::few, crate::proofs::Sums::blocks_had, crate::proofs::OverPages::code_told, crate::proofs::OverPages::over_in_copies))]
 fn code_of(alloc: Global, p: &Typed, copies: &Copies) -> Result<Code, CompileError>
-    requires { capped (start_size (program_of p.now)) ≤ 2048 }
+    requires start { capped (start_size (program_of p.now)) ≤ 2048 }
+    // Its copies are few enough to be counted.
+    requires functions { length (program_of p.now).functions ≤ 0x10000000 }
+    requires list { AreCopies (program_of p.now) copies.now.list.items }
     ensures blocks { IfOk result (λ code. HasBlocks (program_of p.now) copies.now.list.items code.at.items code.words) }
     ensures refused { IfErr result (TellsCode (program_of p.now) copies.now.list.items) }
 {
     let order = code_order(alloc, copies)?;
     let words = words_of(alloc, p, &order)?;
-    if words.len() > MOST_BLOCKS {
-        return Err(CompileError::NoMemory);
-    }
     match pages(alloc, &words) {
         Ok(at) => Ok(Code {
             at,
@@ -269,8 +270,17 @@ fn sum_of(words: &[u64]) -> u32
     sum as u32
 }
 
+/// The program keeps its typing rules, and its numbers are of their types. Values of the code are so by themselves.
+fn see_typed(typed: &Typed)
+    ensures sound { is_sound (program_of typed.now) ≡ true }
+    ensures numbers { ProgramHasNumbers (program_of typed.now) }
+{
+    see_numbers(typed);
+}
+
 /// What is known of a typed program, or its first refusal.
 fn known_of(alloc: Global, typed: Typed) -> Result<Front, CompileError>
+    requires { length (program_of typed).functions ≤ 0x10000000 }
     ensures refused { IfErr result (TellsProgram (program_of typed)) }
     ensures same { IfOk result (λ front. front.typed ≡ typed) }
     ensures accepted { IfOk result (λ front. AreAccepted (program_of front.typed) front.copies.list.items) }
@@ -284,10 +294,12 @@ fn known_of(alloc: Global, typed: Typed) -> Result<Front, CompileError>
     ensures objects { IfOk result (λ front. placement.ObjectsAreDisjoint (map object_of front.placed.objects.items)) }
     ensures ram { IfOk result (λ front. front.placed.ram ≡ placement.addresses_covered (map object_of front.placed.objects.items) (map frame_of front.placed.frames.items)) }
     ensures blocks { IfOk result (λ front. HasBlocks (program_of front.typed) front.copies.list.items front.at.items front.words) }
+    ensures founded { IfOk result (λ front. IsFounded front.typed front.copies.list.items front.placed front.at.items) }
 {
     let copies = copies_of(alloc, &typed)?;
     let placed = placed_of(alloc, &typed, &copies)?;
     let Code { at, words } = code_of(alloc, &typed, &copies)?;
+    see_typed(&typed);
     Ok(Front {
         typed,
         copies,
@@ -312,6 +324,7 @@ fn known(alloc: Global, text: &[u8]) -> Result<Front, CompileError>
     ensures objects { IfOk result (λ front. placement.ObjectsAreDisjoint (map object_of front.placed.objects.items)) }
     ensures ram { IfOk result (λ front. front.placed.ram ≡ placement.addresses_covered (map object_of front.placed.objects.items) (map frame_of front.placed.frames.items)) }
     ensures blocks { IfOk result (λ front. HasBlocks (program_of front.typed) front.copies.list.items front.at.items front.words) }
+    ensures founded { IfOk result (λ front. IsFounded front.typed front.copies.list.items front.placed front.at.items) }
 {
     let typed = typed_of(alloc, text)?;
     known_of(alloc, typed)
@@ -358,6 +371,8 @@ pub fn front(alloc: Global, text: &[u8]) -> Result<Front, CompileError>
     ensures ram { IfOk result (λ front. front.placed.ram ≡ placement.addresses_covered (map object_of front.placed.objects.items) (map frame_of front.placed.frames.items)) }
     // Its blocks stand where they are to stand, and this is the sum of their words.
     ensures blocks { IfOk result (λ front. HasBlocks (program_of front.typed) front.copies.list.items front.at.items front.words) }
+    // So what the passes behind these ask for is known of it.
+    ensures founded { IfOk result (λ front. IsFounded front.typed front.copies.list.items front.placed front.at.items) }
 {
     known(alloc, text)
 }

@@ -6,8 +6,9 @@
 //! printed; 9 without memory.
 #![tactic(auto)]
 
-ghost use Rattle.std.specs.Prelude.{◌≡◌, ◌<◌, length, IfOk};
+ghost use Rattle.std.specs.Prelude.{◌≡◌, IfOk};
 ghost use Rattle.host_io.specs.Host.{Closed};
+ghost use Rattle.picc_core.specs.Founded.{IsFounded};
 
 use code_text::code_text;
 use host_io::{Host, HostError, RealHost, read_whole};
@@ -43,7 +44,7 @@ fn print<H: Host>(host: &mut H, bytes: &[u8], status: u8) -> u8 {
 
 /// What is known of a text, and what it is compiled to.
 fn known(alloc: Global, text: &[u8]) -> Result<(Front, Built), CompileError>
-    ensures { IfOk result (λ known. length known.0.copies.list.items < 8192) }
+    ensures { IfOk result (λ known. IsFounded known.0.typed known.0.copies.list.items known.0.placed known.0.at.items) }
 {
     let front = front(alloc, text)?;
     let built = compile(alloc, text)?;

@@ -2,12 +2,13 @@ use Rattle.std.proofs.Common.{map}
 use Rattle.std.proofs.lemmas.Result.{err_from_is_err_and}
 use Rattle.c_typed.specs.Views.{program_of}
 use Rattle.pic_map.specs.MapView.{object_of, frame_of}
-use Rattle.picc_core.proofs.ObjectBytes.{start_within}
+use Rattle.object_counts.proofs.ObjectBytes.{start_within}
+use Rattle.picc_core.proofs.Founding.{founded_on}
 use Rattle.picc_core.proofs.Told.{code_refused, accepted}
 use Rattle.picc_core.proofs.stages.known_of.Goals as goal
 
-pub code_of-requires : goal.code_of-requires
-code_of-requires c =
+pub code_of-requires-clause-start : goal.code_of-requires-clause-start
+code_of-requires-clause-start c =
     let placed = c.in_ok-placed.placed in
     let exact = c.in_ok-placed.ensures.exact in
     start_within (program_of c.args.typed) (map object_of placed.objects.items) exact.objects_stand exact.each_object c.in_ok-placed.ensures.objects
@@ -26,3 +27,10 @@ returns-clause-accepted c =
     let placed = c.in_ok-placed.placed in
     accepted c.args.typed c.in_ok-copies.copies.list.items c.in_ok-copies.copies.depth (map object_of placed.objects.items) (map frame_of placed.frames.items) _ _
     known.roots known.recursion known.depth known.list c.in_ok-placed.ensures.exact c.in_ok-at.ensures.blocks
+
+pub returns-clause-founded : goal.returns-clause-founded
+returns-clause-founded c =
+    let known = c.in_ok-copies.ensures in
+    let placed = c.in_ok-placed.ensures in
+    founded_on c.args.typed c.in_ok-copies.copies.list.items c.in_ok-placed.placed _ c.in_ok-copies.copies.depth _ c.see_typed.ensures.sound c.see_typed.ensures.numbers known.roots known.recursion known.depth known.list
+    placed.exact placed.apart placed.clear placed.objects c.in_ok-at.ensures.blocks

@@ -1,0 +1,124 @@
+-- What is known of a program before its code is made, and what the passes ask for by it: numbers have room, selects can be put, blocks have room
+-- where they stand, and what they name has an address.
+use Rattle.std.proofs.Common.{◌≡◌, ℕ, ◌≤◌, true, List, [], ◌∷◌, length, map, None, ◌∙◌, arith}
+use Rattle.std.specs.List.{All}
+use Rattle.std.proofs.lemmas.List.{length-map}
+use Rattle.c_typed.specs.Chains.{graph_of}
+use Rattle.c_typed.specs.Roots.{broken_root}
+use Rattle.c_typed.specs.Sound.{is_sound}
+use Rattle.c_typed.specs.Views.{program_of, static_of}
+use Rattle.c_typed.specs.declared.program.Typed.{Typed}
+use Rattle.call_graph.specs.Copies.{AreCopies, HasDepth}
+use Rattle.call_graph.specs.Levels.{IsAcyclic}
+use Rattle.call_graph.specs.Numbers.{handler_at}
+use Rattle.call_graph.specs.declared.types.FnCopy.{FnCopy}
+use Rattle.core_code.specs.declared.code.Byte.{Byte}
+use Rattle.core_code.specs.declared.code.Byte.TheVariants as bytes
+use Rattle.core_code.specs.declared.code.CoreProgram.{CoreProgram}
+use Rattle.lower_stmt.specs.Bodies.{body_of, bodies_of, first_bytes}
+use Rattle.lower_stmt.specs.FirstBytes.{items_of}
+use Rattle.pic_map.specs.MapView.{object_of, frame_of}
+use Rattle.pic_map.specs.declared.Placed.{Placed}
+use Rattle.sym_code.specs.declared.code.Sym.{Sym}
+use Rattle.sym_code.specs.declared.code.SymBlock.{SymBlock}
+use Rattle.bank_page.specs.Ready.{CanSelect}
+use Rattle.bank_page.specs.Selected.{bare_lists}
+use Rattle.code_place.specs.Places.{BlocksHaveAddresses, HasEnds}
+use Rattle.code_place.specs.Sizes.{Fit}
+use Rattle.flow_facts.proofs.Kept.{thinning_keeps}
+use Rattle.program_code.specs.Joined.{IsJoined}
+use Rattle.program_code.specs.Passed.{AreBlocks}
+use Rattle.ram_place.specs.Placement.{IsPlacing, LiveFramesAreDisjoint, FramesAreClear, ObjectsAreDisjoint}
+use Rattle.src_rules.specs.Numbers.{ProgramHasNumbers}
+use Rattle.word_bounds.specs.There as there
+use Rattle.paired_skips.specs.Laws as skips
+use Rattle.paired_skips.proofs.Whole.{blocks_can_select}
+use Rattle.named_targets.proofs.Placing.{all_is_there}
+use Rattle.named_targets.proofs.Whole as targets
+use Rattle.object_counts.proofs.Sized.{objects_few}
+use Rattle.image_links.specs.Addressed.{BlocksHaveOperands, BlocksStandInside}
+use Rattle.image_links.proofs.Addressed.{operands_have_addresses, selects_keep_operands}
+use Rattle.image_links.proofs.FewCopies.{copies_few}
+use Rattle.image_links.proofs.Laid.{frames_whole}
+use Rattle.image_links.proofs.Standing.{translations_fit}
+use Rattle.picc_core.specs.Blocks.{HasBlocks}
+use Rattle.picc_core.specs.Coded.{IsSymbolic}
+use Rattle.picc_core.specs.Founded.{IsFounded}
+
+-- ---- from the stages
+pub founded_on : (typed : Typed) (copies : List FnCopy) (placed : Placed) (at : List ℕ) (depth words : ℕ) → is_sound (program_of typed) ≡ true → ProgramHasNumbers (program_of typed) → broken_root (program_of typed) ≡ None
+    → IsAcyclic (graph_of (program_of typed)) → HasDepth (program_of typed) depth × (depth ≤ 8) → AreCopies (program_of typed) copies
+    → IsPlacing (program_of typed) copies (map object_of placed.objects.items) (map frame_of placed.frames.items) → LiveFramesAreDisjoint (program_of typed) copies (map frame_of placed.frames.items)
+    → FramesAreClear (map object_of placed.objects.items) (map frame_of placed.frames.items) → ObjectsAreDisjoint (map object_of placed.objects.items) → HasBlocks (program_of typed) copies at words → IsFounded typed copies placed at
+founded_on typed copies placed at depth words sound numbers roots acyclic deep known exact apart clear objects blocks = record {
+  sound = sound;
+  roots = roots;
+  numbers = numbers;
+  calls = record { known = known; acyclic = acyclic; depth = depth; exact = deep.0; shallow = deep.1 };
+  spread = record { placing = exact; objects = objects; clear = clear; frames = apart };
+  paged = record { order = blocks.order; same = blocks.same; sorted = blocks.sorted; stand = blocks.placed; pages = blocks.pages; memory = blocks.memory };
+  few = objects_few typed (map object_of placed.objects.items) sound exact.objects_stand exact.each_object objects;
+}
+
+-- ---- bytes that are there
+is_inside : (placed : Placed) (byte : Byte) → there.IsInside placed byte → skips.IsInside placed byte
+is_inside placed (bytes.Frame copy offset) h = h
+is_inside placed (bytes.Static object offset) h = tt
+is_inside placed (bytes.Result r k) h = tt
+is_inside placed (bytes.Device address) h = tt
+
+are_there : (placed : Placed) (list : List Sym) → there.StandInside placed list → skips.AreThere placed list
+are_there placed [] h = tt
+are_there placed (s ∷ rest) h = (λ byte is. let at = h.0 byte is in (at.0, is_inside placed byte at.1), are_there placed rest h.1)
+
+module _ (typed : Typed) (copies : List FnCopy) (placed : Placed) (at : List ℕ) (founded : IsFounded typed copies placed at) where
+  -- ---- room for numbers
+  pub copies_low : length copies ≤ 65536
+  copies_low = let few = copies_few (program_of typed) copies at founded.paged founded.calls.known in omega (arith, few)
+
+  pub statics_low : length typed.statics.items ≤ 65536
+  statics_low = let few = founded.few in omega (arith, few)
+
+  pub statics_few : length (program_of typed).statics ≤ 65535
+  statics_few = let few = founded.few in let same = length-map typed.statics.items static_of in omega (arith, few, same)
+
+  -- ---- code
+  module _ (core : CoreProgram) (bodies : map body_of core.bodies.items ≡ bodies_of (program_of typed) copies) (statics : map items_of core.statics.items ≡ first_bytes (program_of typed)) where
+    operands : (given : List SymBlock) → IsJoined core copies given → BlocksHaveOperands placed given × BlocksStandInside placed given
+    operands given joined = operands_have_addresses typed copies core given placed founded.sound founded.roots founded.numbers bodies joined founded.calls founded.spread.placing statics statics_few
+
+    -- Selects can be put into the blocks that are joined from it.
+    pub ready : (given : List SymBlock) → IsJoined core copies given → All (CanSelect placed) given
+    ready given joined =
+        let inside = (operands given joined).1 in
+        blocks_can_select (program_of typed) copies core given placed bodies joined (frames_whole (program_of typed) copies placed founded.spread.placing) (λ k d lt. are_there placed _ (inside k d lt))
+
+    module _ (made : List SymBlock) (symbolic : IsSymbolic core copies placed made) where
+      pub blocks : AreBlocks (program_of typed) copies core symbolic.given symbolic.whole placed
+      blocks = record {
+        sound = founded.sound;
+        roots = founded.roots;
+        numbers = founded.numbers;
+        bodies = bodies;
+        joined = symbolic.joined;
+        names = symbolic.names;
+        bare = symbolic.bare;
+        apart = symbolic.apart;
+        reaches = symbolic.reaches;
+        few = symbolic.few;
+        exact = symbolic.exact;
+      }
+
+      pub fit : Fit made at
+      fit = translations_fit typed copies core symbolic.given symbolic.whole made placed at blocks symbolic.thinned founded.calls founded.spread.placing statics founded.paged
+
+      pub ends : HasEnds made at
+      ends = targets.ends_are_there (program_of typed) copies core symbolic.given symbolic.whole made placed at blocks symbolic.thinned founded.calls fit
+
+      lists_kept : bare_lists made ≡ bare_lists symbolic.given
+      lists_kept = (thinning_keeps placed (handler_at copies) symbolic.whole made symbolic.thinned symbolic.apart symbolic.reaches).lists ∙ symbolic.bare
+
+      pub named : BlocksHaveAddresses placed made at
+      named =
+          all_is_there placed made at (targets.targets_are_there (program_of typed) copies core symbolic.given symbolic.whole made placed at blocks symbolic.thinned founded.calls fit)
+          (selects_keep_operands placed symbolic.given made lists_kept (operands symbolic.given symbolic.joined).0)

@@ -1,5 +1,0 @@
-use Rattle.std.proofs.Common.{length}
-use Rattle.picc_core.proofs.map_range.+are_frames.Given as goal
-
-abbrev pub decreases-are_frames : goal.decreases-are_frames
-decreases-are_frames l = length l.frames.now

@@ -1,0 +1,13 @@
+pub mod Steps
+pub mod Values
+pub mod TypeNames
+pub mod Expressions
+pub mod Enumerators
+pub mod Outlines
+pub mod Declarators
+pub mod Initializers
+pub mod Objects
+pub mod Words
+pub mod Declarations
+pub mod Statements
+pub mod Units
