@@ -39,11 +39,11 @@ fn can_select(placed: &Placed, list: &[Sym]) -> bool
 // A program of one block with its selects, or one without a block where selects can't be put into it.
 fn selected(alloc: Global, block: SymBlock, placed: &Placed) -> Result<SymProgram, AllocError> {
     let mut blocks = Vec::new(alloc);
-    if !can_select(placed, &block.list) {
-        return Ok(SymProgram { blocks });
+    if can_select(placed, &block.list) {
+        put_made(&mut blocks, block)?;
+        return selects(alloc, &SymProgram { blocks }, placed);
     }
-    put_made(&mut blocks, block)?;
-    selects(alloc, &SymProgram { blocks }, placed)
+    Ok(SymProgram { blocks })
 }
 
 // Bit 0 of TRISB, 86h, decides whether TRISB is written.
