@@ -242,7 +242,7 @@ struct Code {
     words: u32,
 }
 
-#[tactic(auto, using(crate::proofs::CopyCounts::few_blocks, crate::proofs::Sums::few, crate::proofs::Sums::blocks_had, crate::proofs::OverPages::code_told, crate::proofs::OverPages::over_in_copies))]
+#[tactic(auto, using(crate::proofs::Sums::few, crate::proofs::Sums::blocks_had, crate::proofs::OverPages::code_told, crate::proofs::OverPages::over_in_copies))]
 fn code_of(alloc: Global, p: &Typed, copies: &Copies) -> Result<Code, CompileError>
     requires start { capped (start_size (program_of p.now)) ≤ 2048 }
     // Its copies are few enough to be counted.
