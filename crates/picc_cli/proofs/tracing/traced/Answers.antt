@@ -1,4 +1,5 @@
-use Rattle.std.proofs.Common.{◌∙◌}
+use Rattle.std.proofs.Common.{ℕ, ◌<◌, List, ◌∙◌, subst}
+use Rattle.std.specs.List.{All}
 use Rattle.picc_cli.specs.CommandView.{asked_of}
 use Rattle.picc_cli.proofs.TraceFiles.{run_known, refused_known}
 use Rattle.picc_cli.proofs.TracedWhole.{traced_runs}
@@ -19,7 +20,7 @@ pub run-requires-clause-given : goal.run-requires-clause-given
 run-requires-clause-given g c = record {
   proper = record { sound = c.in-Ok-front.known.typed.sound; roots = c.in-Ok-front.ensures.roots; numbers = c.see_numbers.ensures };
   acyclic = c.in-Ok-front.ensures.recursion;
-  bytes = c.see_bytes.ensures;
+  bytes = subst (λ (list : List ℕ). All (λ byte. byte < 256) list) c.deref-in-Ok-front.ensures.value c.see_bytes.ensures;
 }
 
 pub returns-in-Ok-front-clause-runs : goal.returns-in-Ok-front-clause-runs
