@@ -44,6 +44,7 @@ program main first handler = record {
   is_watched = λ n. nat_eq n 0;
   frame_bytes = λ copy. 8;
   parameter_bytes = λ copy. 2;
+  variable_bytes = λ copy. 4;
 }
 
 abbrev setting : List Tree → List ℕ → Setting

@@ -1,7 +1,7 @@
 -- How many instructions of the chip each step of byte code takes: at most, with all selects, and at least. Code that
 -- runs forward takes each of its words once at most, so the words of an operation bound its instructions. What an
 -- operation leaves behind as a task is paid where the task is done, so that the bounds hold of each step by itself.
-use Rattle.std.specs.Prelude.{ℕ, zero, suc, ◌+◌, ◌-◌, ◌*◌, Bool, true, false, nat_lt, if◌then◌else◌, List, [], ◌∷◌, Option, Some, None}
+use Rattle.std.specs.Prelude.{ℕ, zero, suc, ◌+◌, ◌-◌, ◌*◌, Bool, true, false, ◌||◌, nat_lt, if◌then◌else◌, List, [], ◌∷◌, Option, Some, None}
 use Rattle.c_ints.specs.Range.{bytes_of}
 use Rattle.c_ints.specs.declared.operators.BinOp.{BinOp}
 use Rattle.c_ints.specs.declared.operators.BinOp.TheVariants as ops
@@ -9,10 +9,12 @@ use Rattle.c_ints.specs.declared.operators.UnOp.{UnOp}
 use Rattle.c_ints.specs.declared.operators.UnOp.TheVariants as unary
 use Rattle.pic_world.specs.World.{arrived, is_due}
 use Rattle.core_code.specs.Bytes.{Object, Fixed, FrameOf, is_private}
-use Rattle.core_code.specs.Machine.{Setting, Machine, Task, Do, Put, PutBit, PutBack, Join, LoadFrom, StoreTo, Over, Waiting, InLoop, InCall, InHandler}
+use Rattle.core_code.specs.Machine.{Program, Setting, Machine, Task, Do, Put, PutBit, PutBack, Join, LoadFrom, StoreTo, Over, Waiting, InLoop, InCall, InHandler}
 use Rattle.core_code.specs.Operands.{number_left}
 use Rattle.core_code.specs.Tree as tree
 use Rattle.core_code.specs.Tree.{Tree}
+use Rattle.core_code.specs.declared.code.Byte.{Byte}
+use Rattle.core_code.specs.declared.code.Byte.TheVariants.{Static, Frame, Result, Device}
 
 -- one run of a helper where its operator has a value, and what saves or restores main's context
 abbrev pub helper_cost : ℕ
@@ -124,19 +126,18 @@ unfoldable pub step_most : Setting → Machine → ℕ
 step_most g t = if is_due (arrived g.outside t.world) then context_cost else task_most t.code t.stack
 
 -- ---- at least
+-- What a pass over the code that is selected may leave out costs nothing at least: what is done with temporary bytes and results.
 abbrev pub one_if : Bool → ℕ
 one_if true = 1
 one_if false = 0
 
-abbrev pub least_unary : UnOp → ℕ
-least_unary unary.Plus = 0
-least_unary _ = 1
-
--- a shift by 0 takes none
-abbrev pub least_binary : BinOp → ℕ
-least_binary ops.Shl = 0
-least_binary ops.Shr = 0
-least_binary _ = 1
+-- A byte that the source has, too: of a device register, a static object, a parameter or a local. No access to it is left out. A
+-- copy's variables stand at the front of its frame; given is how many bytes they have.
+abbrev pub is_kept : (ℕ → ℕ) → Byte → Bool
+is_kept variables (Static object offset) = true
+is_kept variables (Frame copy offset) = nat_lt offset (variables copy)
+is_kept variables (Result root k) = false
+is_kept variables (Device address) = true
 
 -- Main's own leave takes none.
 abbrev pub least_leave : List Waiting → ℕ
@@ -145,28 +146,29 @@ least_leave (InLoop body c ∷ s) = least_leave s
 least_leave (InCall p c ∷ s) = 1
 least_leave (InHandler p a c ∷ s) = 1
 
-abbrev pub least_of : Tree → List Waiting → ℕ
-least_of (tree.Unary op ty at) s = least_unary op
-least_of (tree.Binary op ty to left right) s = least_binary op
-least_of (tree.Convert from to at) s = one_if (nat_lt (bytes_of from) (bytes_of to))
-least_of tree.Leave s = least_leave s
-least_of (tree.Many ts) s = 0
-least_of (tree.Loop body) s = 0
--- where a loop's body ends with it, an exit takes none
-least_of (tree.Exit loops) s = 0
-least_of _ s = 1
+abbrev pub least_of : Program → Tree → List Waiting → ℕ
+least_of q (tree.Set to value) s = one_if (is_kept q.variable_bytes to)
+least_of q (tree.Copy to from) s = one_if (is_kept q.variable_bytes to || is_kept q.variable_bytes from)
+least_of q (tree.BitRead to register bit) s = 1
+least_of q (tree.BitWrite register bit from) s = 1
+least_of q (tree.Call copy) s = 1
+least_of q tree.Leave s = least_leave s
+least_of q (tree.If test size first second) s = 1
+least_of q (tree.Again loops) s = 1
+-- a load and a store leave their accesses as tasks; and where a loop's body ends with it, an exit takes none
+least_of q _ s = 0
 
-abbrev pub least_task : List Task → List Waiting → ℕ
-least_task [] s = 1
-least_task (Do before t ∷ c) s = least_of t s
-least_task (Put to held ∷ c) s = 1
-least_task (PutBit to value ∷ c) s = 1
+abbrev pub least_task : Program → List Task → List Waiting → ℕ
+least_task q [] s = 1
+least_task q (Do before t ∷ c) s = least_of q t s
+least_task q (Put to held ∷ c) s = one_if (is_kept q.variable_bytes to)
+least_task q (PutBit to value ∷ c) s = 0
 -- one instruction reads and writes the register
-least_task (PutBack register value ∷ c) s = 0
-least_task (Join ∷ c) s = 0
-least_task (LoadFrom to object offset n ∷ c) s = one_if (nat_lt 0 n)
-least_task (StoreTo object offset from n ∷ c) s = one_if (nat_lt 0 n)
-least_task (Over ∷ c) s = 0
+least_task q (PutBack register value ∷ c) s = 0
+least_task q (Join ∷ c) s = 0
+least_task q (LoadFrom to object offset n ∷ c) s = one_if (nat_lt 0 n)
+least_task q (StoreTo object offset from n ∷ c) s = one_if (nat_lt 0 n)
+least_task q (Over ∷ c) s = 0
 
 unfoldable pub step_least : Setting → Machine → ℕ
-step_least g t = if is_due (arrived g.outside t.world) then 1 else least_task t.code t.stack
+step_least g t = if is_due (arrived g.outside t.world) then 1 else least_task g.program t.code t.stack

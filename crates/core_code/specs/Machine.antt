@@ -37,9 +37,10 @@ pub record Program : Type 0 where
   -- what each static object begins as, and whether accesses to it are events: it isn't const
   pub first : List (List Held)
   pub is_watched : ℕ → Bool
-  -- how many bytes the frame of each copy has, and the parameters at its front
+  -- how many bytes the frame of each copy has, the parameters at its front, and these with the locals behind them
   pub frame_bytes : ℕ → ℕ
   pub parameter_bytes : ℕ → ℕ
+  pub variable_bytes : ℕ → ℕ
 
 pub record Setting : Type 0 where
   pub program : Program

@@ -88,4 +88,5 @@ core_of p copies = record {
   is_watched = λ n. isnt_const (slice_get p.statics n);
   frame_bytes = λ c. size_or_none (frame_size p.sizes) (function_in p (slice_get copies c));
   parameter_bytes = λ c. size_or_none (λ f. variables_bytes p.sizes f.params) (function_in p (slice_get copies c));
+  variable_bytes = λ c. size_or_none (λ f. variables_bytes p.sizes f.params + variables_bytes p.sizes f.locals) (function_in p (slice_get copies c));
 }

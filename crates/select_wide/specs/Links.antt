@@ -25,6 +25,7 @@ use Rattle.sym_code.specs.Correct.{IsBegun, AreEntries}
 use Rattle.sym_code.specs.Effect.{Setting, Memory}
 use Rattle.sym_code.specs.Layout.{DataLayout, IsLaidOut, IsOf, frame, shown}
 use Rattle.sym_code.specs.Machine.{Entry, sym_start}
+use Rattle.sym_code.specs.Marks.{is_marked}
 use Rattle.sym_code.specs.Registers.{Registers}
 use Rattle.sym_code.specs.Runs as sym
 use Rattle.sym_code.specs.declared.code.BlockName.{BlockName}
@@ -115,7 +116,7 @@ pub record HasLevels (q : Program) (copies : List FnCopy) (limit : Bool → ℕ)
   pub within : (c : ℕ) → c < length copies → level c ≤ limit (is_inside (q.root c))
 
 -- ---- a program of symbolic code that was selected for one of byte code
-pub record IsSelected (q : Program) (copies : List FnCopy) (bodies : List Body) (reaches : ℕ → ℕ → Bool) (g : Setting) (price : BlockName → ℕ → ℕ) : Type 0 where
+pub record IsSelected (q : Program) (copies : List FnCopy) (bodies : List Body) (reaches : ℕ → ℕ → Bool) (g : Setting) (price sure : BlockName → ℕ → ℕ) : Type 0 where
   -- each body has its block, and each helper its routine
   pub bodies_there : (c : ℕ) (copy : FnCopy) → slice_get copies c ≡ Some copy → is_user copy.function ≡ true → IsBody q bodies c
   pub blocks : (c : ℕ) (copy : FnCopy) → slice_get copies c ≡ Some copy → is_user copy.function ≡ true → g.program.block (Copy c) ≡ code_by copies c (body_at bodies c)
@@ -144,19 +145,22 @@ pub record IsSelected (q : Program) (copies : List FnCopy) (bodies : List Body) 
   -- what instructions cost
   pub prices : (c : ℕ) (copy : FnCopy) → slice_get copies c ≡ Some copy → is_user copy.function ≡ true → AreDear g.program.layout (price (Copy c)) (g.program.block (Copy c))
   pub routine_prices : (c : ℕ) (copy : FnCopy) (h : Helper) → slice_get copies c ≡ Some copy → copy.function ≡ callee.Helper h → ArePriced (price (Copy c)) (helper_code h copy.root c)
+  -- each instruction that no pass leaves out counts
+  pub sures : (c : ℕ) (copy : FnCopy) → slice_get copies c ≡ Some copy → is_user copy.function ≡ true → (n : ℕ) (s : Sym) → slice_get (g.program.block (Copy c)) n ≡ Some s → is_marked q.variable_bytes s ≡ true
+      → 1 ≤ sure (Copy c) n
 
 -- ---- what is kept
 -- Under every schedule, from anything that main may find and whatever the handler finds at its entries, as long as byte code isn't
--- stuck.
-abbrev pub SelectionKeeps : Program → Setting → (BlockName → ℕ → ℕ) → Type 0
-SelectionKeeps q g price =
+-- stuck: at most by the prices, and at least by what surely stays.
+abbrev pub SelectionKeeps : Program → Setting → (BlockName → ℕ → ℕ) → (BlockName → ℕ → ℕ) → Type 0
+SelectionKeeps q g price sure =
     (o : Outside) → All (λ byte. byte < 256) o.input → (e : Entry) (r : Registers) (m : Memory) → AreEntries e → IsBegun q.first g.program.layout r m
     → (n : ℕ) → Goes (core.run_of (record { program = q; outside = o })) n
-    → (link : Follows (event_as (shown g.program.layout)) (core.run_of (record { program = q; outside = o })) (sym.run_of g price e o (sym_start g.program r m)) n)
-    × IsSlow (event_as (shown g.program.layout)) (core.run_of (record { program = q; outside = o })) (sym.run_of g price e o (sym_start g.program r m)) n link
+    → (link : Follows (event_as (shown g.program.layout)) (core.run_of (record { program = q; outside = o })) (sym.weighed_of g price sure e o (sym_start g.program r m)) n)
+    × IsSlow (event_as (shown g.program.layout)) (core.run_of (record { program = q; outside = o })) (sym.weighed_of g price sure e o (sym_start g.program r m)) n link
 
 -- what selection promises
 abbrev pub Selects : Type 0
 Selects =
-    (q : Program) (copies : List FnCopy) (bodies : List Body) (reaches : ℕ → ℕ → Bool) (g : Setting) (price : BlockName → ℕ → ℕ)
-    → IsSelected q copies bodies reaches g price → SelectionKeeps q g price
+    (q : Program) (copies : List FnCopy) (bodies : List Body) (reaches : ℕ → ℕ → Bool) (g : Setting) (price sure : BlockName → ℕ → ℕ)
+    → IsSelected q copies bodies reaches g price sure → SelectionKeeps q g price sure

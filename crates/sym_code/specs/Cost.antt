@@ -19,6 +19,10 @@ pub record Prices : Type 0 where
 abbrev pub least_prices : Prices
 least_prices = record { word = λ block index. 1; enter = 1; leave = 0 }
 
+-- at least, where of each instruction is given how much of it surely stays
+abbrev pub sure_prices : (BlockName → ℕ → ℕ) → Prices
+sure_prices sure = record { word = sure; enter = 1; leave = 0 }
+
 -- At most: an instruction costs what is given for its place, which is more than one where selects will stand before it.
 abbrev pub most_prices : (BlockName → ℕ → ℕ) → Prices
 most_prices price = record { word = price; enter = context_cost; leave = context_cost }

@@ -11,3 +11,4 @@ pub mod Cost
 pub mod Runs
 pub mod Quiet
 pub mod Correct
+pub mod Marks

@@ -2,7 +2,7 @@
 use Rattle.std.specs.Prelude.{ℕ, Bool, true, false, List}
 use Rattle.pic_world.specs.World.{Outside, Happening}
 use Rattle.run_links.specs.Runs.{Run}
-use Rattle.sym_code.specs.Cost.{least_prices, most_prices, cost_by}
+use Rattle.sym_code.specs.Cost.{least_prices, sure_prices, most_prices, cost_by}
 use Rattle.sym_code.specs.Effect.{Setting}
 use Rattle.sym_code.specs.Machine.{Machine, Entry, Next, Goes, Stops, Still, sym_step, sym_run}
 use Rattle.sym_code.specs.declared.code.BlockName.{BlockName}
@@ -40,3 +40,8 @@ sym_least g e o t n = cost_by g least_prices e o n t
 abbrev pub run_of : Setting → (BlockName → ℕ → ℕ) → Entry → Outside → Machine → Run (Happening ℕ)
 run_of g price e o t =
     record { trace = sym_trace g e o t; goes = sym_goes g e o t; rests = sym_rests g e o t; most = sym_most g price e o t; least = sym_least g e o t }
+
+-- The same run, of which only what surely stays counts, at least: so it is seen where a pass leaves instructions out.
+abbrev pub weighed_of : Setting → (BlockName → ℕ → ℕ) → (BlockName → ℕ → ℕ) → Entry → Outside → Machine → Run (Happening ℕ)
+weighed_of g price sure e o t =
+    record { trace = sym_trace g e o t; goes = sym_goes g e o t; rests = sym_rests g e o t; most = sym_most g price e o t; least = λ n. cost_by g (sure_prices sure) e o n t }
