@@ -27,7 +27,7 @@ use Rattle.sym_code.specs.Layout.{DataLayout, shown}
 use Rattle.sym_code.specs.Machine.{Entry, sym_start}
 use Rattle.sym_code.specs.Programs.{block_in}
 use Rattle.sym_code.specs.Registers.{Registers, Fits}
-use Rattle.sym_code.specs.Runs.{run_of}
+use Rattle.sym_code.specs.Runs.{run_of, weighed_of}
 use Rattle.sym_code.specs.declared.code.SymBlock.{SymBlock}
 use Rattle.code_place.specs.Layouts.{layout_of}
 use Rattle.src_rules.specs.Laws.{IsProper, IsOfBytes}
@@ -53,15 +53,18 @@ use Rattle.headline_trace.proofs.Ends.{end_state, frames}
 use Rattle.headline_trace.proofs.Joining.{prefix, pace, no_underflow, no_overflow, start_up}
 use Rattle.headline_trace.proofs.Showing.{seen}
 
-module _ (p : Program) (copies : List FnCopy) (bodies : List Body) (statics : List (Vec FirstByte Global)) (reaches : ℕ → ℕ → Bool) (given made : List SymBlock)
+module _ (p : Program) (copies : List FnCopy) (bodies : List Body) (statics : List (Vec FirstByte Global)) (reaches : ℕ → ℕ → Bool) (given lean made : List SymBlock)
     (handler : Option ℕ) (placed : Placed) (at : List ℕ) (limit : Bool → ℕ) (image : List ℕ) (content : MapContent)
-    (linked : IsLinked p copies bodies statics reaches given made handler placed at limit image content)
+    (linked : IsLinked p copies bodies statics reaches given lean made handler placed at limit image content)
     (start : Start) (inputs : List ℕ) (arrivals : List Arrival) (is_start : IsStart start) (small : All (λ byte. byte < 256) inputs) where
   abbrev q : core.Program
   q = core_of p copies
 
+  abbrev plain : Setting
+  plain = bare_setting given made handler placed at limit
+
   abbrev bare : Setting
-  bare = bare_setting given made handler placed at limit
+  bare = bare_setting lean made handler placed at limit
 
   abbrev full : Setting
   full = full_setting made handler placed at limit
@@ -116,6 +119,9 @@ module _ (p : Program) (copies : List FnCopy) (bodies : List Body) (statics : Li
     abbrev byte_run : Run (Happening Held)
     byte_run = core_runs.run_of (record { program = q; outside = o })
 
+    abbrev plain_run : Run (Happening ℕ)
+    plain_run = weighed_of plain linked.price linked.sure e o (sym_start plain.program begins m)
+
     abbrev bare_run : Run (Happening ℕ)
     bare_run = run_of bare (price_in (block_in made)) e o (sym_start bare.program begins m)
 
@@ -133,20 +139,29 @@ module _ (p : Program) (copies : List FnCopy) (bodies : List Body) (statics : Li
     unfolding core_runs.least_by
     byte_free = refl
 
+    plain_free : plain_run.least 0 ≡ 0
+    unfolding cost_by
+    plain_free = refl
+
     bare_free : bare_run.least 0 ≡ 0
     unfolding cost_by
     bare_free = refl
 
-    -- symbolic code, by that of selection, and with its selects
+    -- symbolic code, by that of selection, leaner, and with its selects
+    led_plain : IsLed show (above o) (steps_by (sources.setting_of p o)) (nodes_of p) plain_run
+    led_plain =
+        led_on (event_as (held_as p copies)) (event_as (shown l)) (above o) byte_run plain_run (steps_by (sources.setting_of p o)) (nodes_of p) byte_free led_byte
+        (λ k d. selection_law q copies bodies reaches plain linked.price linked.sure linked.selected o (bytes_in o is) e begins m entries begun k d)
+
     led_bare : IsLed show (above o) (steps_by (sources.setting_of p o)) (nodes_of p) bare_run
     led_bare =
-        led_on (event_as (held_as p copies)) (event_as (shown l)) (above o) byte_run bare_run (steps_by (sources.setting_of p o)) (nodes_of p) byte_free led_byte
-        (λ k d. selection_law q copies bodies reaches bare (price_in (block_in made)) linked.selected o (bytes_in o is) e begins m entries begun k d)
+        led_on show (λ event. event) (above o) plain_run bare_run (steps_by (sources.setting_of p o)) (nodes_of p) plain_free led_plain
+        (λ k d. linked.leaner o e begins m k d)
 
     led : IsLed show (above o) (steps_by (sources.setting_of p o)) (nodes_of p) full_run
     led =
         led_on show (λ event. event) (above o) bare_run full_run (steps_by (sources.setting_of p o)) (nodes_of p) bare_free led_bare
-        (λ k d. flows_keep given made handler placed at linked.facts bare full linked.selects o e begins m entries arrived.1 k d)
+        (λ k d. flows_keep lean made handler placed at linked.facts bare full linked.selects o e begins m entries arrived.1 k d)
 
   pub headline : Follows source content c
   headline = record {
@@ -162,5 +177,5 @@ module _ (p : Program) (copies : List FnCopy) (bodies : List Body) (statics : Li
   }
 
 pub makes_headline : MakesHeadline
-makes_headline p copies bodies statics reaches given made handler placed at limit image content linked start inputs arrivals is_start small =
-    headline p copies bodies statics reaches given made handler placed at limit image content linked start inputs arrivals is_start small
+makes_headline p copies bodies statics reaches given lean made handler placed at limit image content linked start inputs arrivals is_start small =
+    headline p copies bodies statics reaches given lean made handler placed at limit image content linked start inputs arrivals is_start small

@@ -9,12 +9,19 @@ use Rattle.pic_chip.specs.Run.{IsStart}
 use Rattle.pic_chip.specs.declared.Start.{Start}
 use Rattle.pic_map.specs.MapContent.{MapContent, range_of, watch_of}
 use Rattle.pic_map.specs.declared.Placed.{Placed}
+use Rattle.pic_world.specs.World.{Outside}
 use Rattle.pic_world.specs.declared.Arrival.{Arrival}
+use Rattle.run_links.specs.Runs as runs
+use Rattle.run_links.specs.Runs.{Goes, IsSlow}
 use Rattle.core_code.specs.declared.code.Body.{Body}
 use Rattle.core_code.specs.declared.code.FirstByte.{FirstByte}
-use Rattle.sym_code.specs.Effect.{Setting}
+use Rattle.sym_code.specs.Effect.{Setting, Memory}
 use Rattle.sym_code.specs.Layout.{DataLayout, frame}
+use Rattle.sym_code.specs.Machine.{Entry, sym_start}
 use Rattle.sym_code.specs.Programs.{block_in}
+use Rattle.sym_code.specs.Registers.{Registers}
+use Rattle.sym_code.specs.Runs.{run_of, weighed_of}
+use Rattle.sym_code.specs.declared.code.BlockName.{BlockName}
 use Rattle.sym_code.specs.declared.code.SymBlock.{SymBlock}
 use Rattle.code_place.specs.Layouts.{program_of, page_of, layout_of}
 use Rattle.src_memory.specs.Shown.{frame_address}
@@ -44,14 +51,26 @@ bare_setting given made handler placed at limit = record { program = program_of 
 abbrev pub full_setting : List SymBlock → Option ℕ → Placed → List ℕ → (Bool → ℕ) → Setting
 full_setting made handler placed at limit = record { program = program_of made handler placed; banked = true; page_of = page_of made at; limit = limit }
 
--- A typed program with its copies, its byte code, symbolic code without and with selects, the words of its image, and its map.
-pub record IsLinked (p : Program) (copies : List FnCopy) (bodies : List Body) (statics : List (Vec FirstByte Global)) (reaches : ℕ → ℕ → Bool) (given made : List SymBlock)
+-- The code of one setting is followed by that of another: at most at these prices, and at least by what surely stays of it.
+abbrev pub LeanKeeps : Setting → Setting → (BlockName → ℕ → ℕ) → (BlockName → ℕ → ℕ) → (BlockName → ℕ → ℕ) → Type 0
+LeanKeeps g h price sure new =
+    (o : Outside) (e : Entry) (r : Registers) (m : Memory) (n : ℕ) → Goes (weighed_of g price sure e o (sym_start g.program r m)) n
+    → (link : runs.Follows (λ event. event) (weighed_of g price sure e o (sym_start g.program r m)) (run_of h new e o (sym_start h.program r m)) n)
+    × IsSlow (λ event. event) (weighed_of g price sure e o (sym_start g.program r m)) (run_of h new e o (sym_start h.program r m)) n link
+
+-- A typed program with its copies, its byte code, symbolic code as it was selected, leaner, and with selects, the words of its image,
+-- and its map.
+pub record IsLinked (p : Program) (copies : List FnCopy) (bodies : List Body) (statics : List (Vec FirstByte Global)) (reaches : ℕ → ℕ → Bool) (given lean made : List SymBlock)
     (handler : Option ℕ) (placed : Placed) (at : List ℕ) (limit : Bool → ℕ) (image : List ℕ) (content : MapContent) : Type 0 where
   pub lowerable : IsLowerable p copies
-  pub selected : IsSelected (core_of p copies) copies bodies reaches (bare_setting given made handler placed at limit) (price_in (block_in made))
+  -- what the instructions that were selected cost, and how much of each surely stays
+  pub price : BlockName → ℕ → ℕ
+  pub sure : BlockName → ℕ → ℕ
+  pub selected : IsSelected (core_of p copies) copies bodies reaches (bare_setting given made handler placed at limit) price sure
+  pub leaner : LeanKeeps (bare_setting given made handler placed at limit) (bare_setting lean made handler placed at limit) price sure (price_in (block_in made))
   -- what is known of the selected bits
   pub facts : Facts
-  pub selects : HasFlow given made handler placed at facts (bare_setting given made handler placed at limit) (full_setting made handler placed at limit)
+  pub selects : HasFlow lean made handler placed at facts (bare_setting lean made handler placed at limit) (full_setting made handler placed at limit)
   pub assembled : IsAssembled made at placed handler image (watch_of content) (full_setting made handler placed at limit)
   pub beginning : IsBeginning made placed handler statics (full_setting made handler placed at limit)
   pub statics_are : held_in statics ≡ (core_of p copies).first
@@ -63,8 +82,8 @@ pub record IsLinked (p : Program) (copies : List FnCopy) (bodies : List Body) (s
 -- The image does on the chip what the program says: from anything that power-on leaves, over any input list and any arrivals.
 abbrev pub MakesHeadline : Type 0
 MakesHeadline =
-    (p : Program) (copies : List FnCopy) (bodies : List Body) (statics : List (Vec FirstByte Global)) (reaches : ℕ → ℕ → Bool) (given made : List SymBlock)
+    (p : Program) (copies : List FnCopy) (bodies : List Body) (statics : List (Vec FirstByte Global)) (reaches : ℕ → ℕ → Bool) (given lean made : List SymBlock)
     (handler : Option ℕ) (placed : Placed) (at : List ℕ) (limit : Bool → ℕ) (image : List ℕ) (content : MapContent)
-    → IsLinked p copies bodies statics reaches given made handler placed at limit image content
+    → IsLinked p copies bodies statics reaches given lean made handler placed at limit image content
     → (start : Start) (inputs : List ℕ) (arrivals : List Arrival) → IsStart start → All (λ byte. byte < 256) inputs
     → Follows (source_of p copies content) content (setting_of content image start inputs arrivals)

@@ -1,5 +1,6 @@
 -- What the instructions of a program's blocks name has an address: block by block, and whatever selects stand among them.
 use Rattle.std.proofs.Common.{◌≡◌, ℕ, zero, suc, ◌+◌, ◌<◌, ◌≤◌, Bool, true, false, not, if◌then◌else◌, List, [], ◌∷◌, map, length, get_or, Some, None, refl, sym, ap, ◌∙◌, subst, arith}
+use Rattle.std.specs.List.{AllZip}
 use Rattle.std.specs.Prelude.{slice_get}
 use Rattle.std.proofs.lemmas.Option.{slice_get_within, slice_get-get_or}
 use Rattle.c_typed.specs.Roots.{broken_root}
@@ -15,7 +16,11 @@ use Rattle.call_graph.specs.Numbers.{handler_at}
 use Rattle.call_graph.specs.declared.types.FnCopy.{FnCopy}
 use Rattle.core_code.specs.View.{trees_in}
 use Rattle.core_code.specs.declared.code.CoreProgram.{CoreProgram}
+use Rattle.code_place.specs.Layouts.{layout_of}
 use Rattle.isr_save.specs.Start.{start_code}
+use Rattle.lean_blocks.specs.Leaner.{IsLeaner}
+use Rattle.lean_blocks.proofs.Whole.{blocks_are_leaner}
+use Rattle.lean_code.specs.Rows.{Keeps, Drops, Puts, Narrows, narrowed, Row, At, olds, puts}
 use Rattle.lower_stmt.specs.Bodies.{body_code, code_of as lowered_of, body_of, bodies_of, first_bytes}
 use Rattle.lower_stmt.specs.FirstBytes.{items_of}
 use Rattle.lower_stmt.specs.Frames.{ground_for}
@@ -45,7 +50,7 @@ use Rattle.word_bounds.proofs.Whole.{blocks_keep_there}
 use Rattle.word_bounds.specs.Bounds.{IsBlockOf}
 use Rattle.word_bounds.specs.Naming.{SymsLie}
 use Rattle.word_bounds.specs.There.{memory_of, HasOperand, HaveOperands}
-use Rattle.image_links.specs.Addressed.{BlocksHaveOperands, BlocksStandInside, OperandsHaveAddresses, SelectsKeepOperands, MadeHaveOperands}
+use Rattle.image_links.specs.Addressed.{BlocksHaveOperands, BlocksStandInside, LeanKeepsOperands, OperandsHaveAddresses, SelectsKeepOperands, MadeHaveOperands}
 use Rattle.image_links.specs.Passed.{code_of}
 use Rattle.image_links.proofs.Blocks.{is_of}
 use Rattle.image_links.proofs.Bounded.{has_at}
@@ -105,6 +110,41 @@ module _ (placed : Placed) where
 
 pub selects_keep_operands : SelectsKeepOperands
 selects_keep_operands placed given made same all = keep placed given made same all
+
+-- ---- leaner blocks
+module _ (placed : Placed) where
+  narrowed_has : (s : Sym) → HasOperand placed s → HasOperand placed (narrowed s)
+  narrowed_has (syms.File op file into) h = h
+  narrowed_has (syms.Movwf file) h = h
+  narrowed_has (syms.Clrf file) h = h
+  narrowed_has (syms.Bit op file bit) h = h
+  narrowed_has (syms.Literal op value) h = h
+  narrowed_has (syms.Plain op) h = h
+  narrowed_has (syms.Call target) h = h
+  narrowed_has (syms.Goto target) h = h
+  narrowed_has (syms.Label label) h = h
+  narrowed_has (syms.SelectBank bit on) h = h
+  narrowed_has (syms.SelectPage bit target) h = h
+
+  rows_have : (rows : List Row) → HaveOperands placed (olds rows) → HaveOperands placed (puts rows)
+  rows_have [] h = tt
+  rows_have (At (syms.Label label) act said ∷ rows) h = (tt, rows_have rows h.1)
+  rows_have (At s Keeps said ∷ rows) h = (h.0, rows_have rows h.1)
+  rows_have (At s Drops said ∷ rows) h = rows_have rows h.1
+  rows_have (At s (Puts op n) said ∷ rows) h = (tt, rows_have rows h.1)
+  rows_have (At s Narrows said ∷ rows) h = (narrowed_has s h.0, rows_have rows h.1)
+
+  lean_have : (given lean : List SymBlock) → AllZip IsLeaner given lean → BlocksHaveOperands placed given → BlocksHaveOperands placed lean
+  lean_have [] [] z all k block is = absurd (cc)
+  lean_have [] (b ∷ lean) z all k block is = absurd z
+  lean_have (g ∷ given) [] z all k block is = absurd z
+  lean_have (g ∷ given) (b ∷ lean) z all zero block is =
+      let before : HaveOperands placed (olds z.0.rows) = subst (HaveOperands placed) z.0.before (all 0 g refl) in
+      subst (λ (x : SymBlock). HaveOperands placed x.list.items) (some_is b block is) (subst (HaveOperands placed) (sym z.0.after) (rows_have z.0.rows before))
+  lean_have (g ∷ given) (b ∷ lean) z all (suc k) block is = lean_have given lean z.1 (λ j x there. all (suc j) x there) k block is
+
+pub lean_keeps_operands : LeanKeepsOperands
+lean_keeps_operands placed given lean z all = lean_have placed given lean z all
 
 -- ---- the blocks of a program
 module _ (typed : Typed) (copies : List FnCopy) (core : CoreProgram) (given : List SymBlock) (placed : Placed) (sound : is_sound (program_of typed) ≡ true) (roots : broken_root (program_of typed) ≡ None) (numbers : ProgramHasNumbers (program_of typed))
@@ -177,7 +217,8 @@ pub operands_have_addresses : OperandsHaveAddresses
 operands_have_addresses typed copies core given placed sound roots numbers bodies joined has placing statics few = all_addressed typed copies core given placed sound roots numbers bodies joined has placing statics few
 
 pub made_have_operands : MadeHaveOperands
-made_have_operands typed copies core given whole made placed blocks thinned has placing statics few =
+made_have_operands typed copies core given lean whole made placed blocks thinned has placing statics few =
     let kept = thinning_keeps placed (handler_at copies) whole made thinned blocks.apart blocks.reaches in
     let all = operands_have_addresses typed copies core given placed blocks.sound blocks.roots blocks.numbers blocks.bodies blocks.joined has placing statics few in
-    selects_keep_operands placed given made (kept.lists ∙ blocks.bare) all.0
+    let leaner = blocks_are_leaner (layout_of placed) (handler_at copies) (core_of (program_of typed) copies).variable_bytes given lean blocks.leaner in
+    selects_keep_operands placed lean made (kept.lists ∙ blocks.bare) (lean_keeps_operands placed given lean leaner all.0)

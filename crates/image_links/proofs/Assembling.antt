@@ -8,17 +8,16 @@ use Rattle.pic_chip.specs.Run.{Range}
 use Rattle.pic_map.specs.MapContent as content
 use Rattle.pic_map.specs.MapView.{object_of}
 use Rattle.pic_map.specs.declared.ObjLine.{ObjLine}
-use Rattle.src_rules.proofs.Starts.{sound_runs}
 use Rattle.image_links.specs.Assembly.{AssemblyIsHad}
 use Rattle.image_links.specs.Selection.{reaches_in, limit_of}
 use Rattle.image_links.proofs.Apart.{laid_out}
-use Rattle.image_links.proofs.Bare.{selects_had}
+use Rattle.image_links.proofs.Selects.{selects_had}
 use Rattle.image_links.proofs.Depths.{reach_sound, depth_had}
 use Rattle.image_links.proofs.Fronts.{start_place}
 use Rattle.image_links.proofs.Had.{start_had}
-use Rattle.image_links.proofs.Lowered.{each_given}
 use Rattle.image_links.proofs.Outside.{all_outside, all_small}
 use Rattle.image_links.proofs.Paged.{selects_paged}
+use Rattle.image_links.proofs.Ready.{ready}
 use Rattle.image_links.proofs.Statics.{AllGood, statics_good}
 use Rattle.image_links.proofs.Thinned.{start_kept}
 
@@ -29,8 +28,7 @@ ranges_are (line ∷ lines) = ap (λ (l : List Range). places.range_of line ∷ 
 
 pub assembly_had : AssemblyIsHad
 assembly_had p copies core given made placed at image map_content passed has spread made_image first =
-    let runs = sound_runs p passed.blocks.sound passed.blocks.roots passed.blocks.numbers in
-    let bodies = each_given p copies runs core.bodies.items passed.blocks.bodies in
+    let leaner = ready p copies core given passed.lean passed.whole placed passed.blocks in
     let same = (selects_had p copies core given made placed at (limit_of copies) passed).same in
     let start = start_had p copies core given made placed at passed in
     record {
@@ -48,10 +46,10 @@ assembly_had p copies core given made placed at image map_content passed has spr
       vector = start.1;
       halts = start.2;
       ranges = ap (map content.range_of) made_image.objects ∙ ranges_are placed.objects.items;
-      small = all_small copies core given passed.blocks.joined bodies made same (length p.statics)
+      small = all_small copies core given passed.lean leaner made same (length p.statics)
           (subst (λ (l : List (List FirstByte)). AllGood (length p.statics) l) (sym made_image.statics) (statics_good p passed.blocks.sound passed.blocks.numbers));
       selects = selects_paged p copies core given made placed at passed;
-      outside = all_outside copies core given passed.blocks.joined bodies made same;
+      outside = all_outside copies core given passed.lean leaner made same;
       reaches = reaches_in p copies;
       laid_out = laid_out p copies placed spread.placing (reaches_in p copies) (reach_sound p copies has) spread.objects spread.clear spread.frames;
       depth = depth_had p copies has;

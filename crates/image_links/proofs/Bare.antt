@@ -96,7 +96,7 @@ vector_words : (handler : Option ℕ) → all_are is_word (vector handler) ≡ t
 vector_words None = refl
 vector_words (Some handler) = refl
 
-start_words : (handler : Option ℕ) (statics : List (Vec FirstByte Global)) → all_are is_word (start_code handler statics) ≡ true
+pub start_words : (handler : Option ℕ) (statics : List (Vec FirstByte Global)) → all_are is_word (start_code handler statics) ≡ true
 start_words handler statics =
     are_joined is_word (reset ++ vector handler ++ (syms.Label (labels.Inner 0) ∷ []) ++ objects_code 0 statics) main
     (are_joined is_word (reset ++ vector handler ++ (syms.Label (labels.Inner 0) ∷ [])) (objects_code 0 statics)
@@ -130,7 +130,7 @@ abbrev rest_in : {A : Type 0} → List A → List A
 rest_in [] = []
 rest_in (x ∷ xs) = xs
 
-bare_same : (made given : List SymBlock) → names_of made ≡ names_of given → bare_lists made ≡ bare_lists given → (name : BlockName) → bare (block_in made name) ≡ bare (block_in given name)
+pub bare_same : (made given : List SymBlock) → names_of made ≡ names_of given → bare_lists made ≡ bare_lists given → (name : BlockName) → bare (block_in made name) ≡ bare (block_in given name)
 bare_same [] [] n b name = refl
 bare_same [] (g ∷ given) n b name = absurd (cc)
 bare_same (m ∷ made) [] n b name = absurd (cc)
@@ -140,30 +140,3 @@ bare_same (m ∷ made) (g ∷ given) n b name =
       by : (t : Bool) → bare (block_in made name) ≡ bare (block_in given name) → bare (if t then m.list.items else block_in made name) ≡ bare (if t then g.list.items else block_in given name)
       by true below = ap (first_or []) b
       by false below = below
-
-module _ (copies : List FnCopy) (core : CoreProgram) (blocks : List SymBlock) (joined : IsJoined core copies blocks)
-    (given : (c : ℕ) (body : Body) → body_at core.bodies.items c ≡ Some body → all_given (trees_of (trees_in body.code.items)) ≡ true) where
-  pub block_words : (b : SymBlock) → Has (joined.start ∷ joined.order) b → all_are is_word b.list.items ≡ true
-  block_words b (inl same) =
-      ap (λ (x : SymBlock). all_are is_word x.list.items) (sym same) ∙ ap (all_are is_word) joined.exact ∙ start_words (handler_at copies) core.statics.items
-  block_words b (inr h) =
-      let o = is_of core copies blocks joined b h in
-      ap (λ (v : BlockName × List Sym). all_are is_word v.1) o.is
-      ∙ plain_words (code_of core.bodies.items copies (0 + o.place) o.copy.root o.copy.function) (code_plain copies core.bodies.items given (0 + o.place) o.copy.root o.copy.function)
-
-  pub own_words : (name : BlockName) → all_are is_word (block_in blocks name) ≡ true
-  own_words name = in_blocks (λ list. all_are is_word list ≡ true) blocks name refl (λ b h. block_words b (subst (λ bs. Has bs b) joined.whole h))
-
--- ---- the record
--- taken out, the selects of the whole blocks leave the given ones
-pub whole_same : (p : Program) (copies : List FnCopy) (core : CoreProgram) (given made : List SymBlock) (placed : Placed) (at : List ℕ) (passed : IsPassed p copies core given made placed at) (name : BlockName)
-    → bare (block_in passed.whole name) ≡ block_in given name
-whole_same p copies core given made placed at passed name =
-    let runs = sound_runs p passed.blocks.sound passed.blocks.roots passed.blocks.numbers in
-    let words = own_words copies core given passed.blocks.joined (each_given p copies runs core.bodies.items passed.blocks.bodies) in
-    bare_same passed.whole given passed.blocks.names passed.blocks.bare name ∙ bare_itself (block_in given name) (words name)
-
-pub selects_had : SelectsAreHad
-selects_had p copies core given made placed at limit passed =
-    thinning_has_flow given passed.whole made (handler_at copies) placed at (bare_setting given made (handler_at copies) placed at limit) (full_setting made (handler_at copies) placed at limit) passed.thinned
-    passed.blocks.apart passed.blocks.reaches (whole_same p copies core given made placed at passed) refl refl refl refl refl passed.fit passed.named refl

@@ -13,9 +13,9 @@ use Rattle.select_wide.specs.Links.{IsFirst}
 use Rattle.sym_code.specs.declared.code.BlockName.TheVariants.{Start}
 use Rattle.start_trace.specs.Starting.{held_in}
 use Rattle.image_links.specs.Assembly.{BeginningIsHad}
-use Rattle.image_links.proofs.Bare.{selects_had}
-use Rattle.image_links.proofs.Blocks.{start_is}
+use Rattle.image_links.proofs.Selects.{selects_had}
 use Rattle.image_links.proofs.Laid.{layout_is}
+use Rattle.image_links.proofs.Ready.{ready, start_is}
 use Rattle.image_links.proofs.Statics.{first_there, held_are}
 
 pub beginning_had : BeginningIsHad
@@ -25,7 +25,7 @@ beginning_had p copies core given made placed at passed placing statics =
     let long : length (held_in core.statics.items) ≡ length core.statics.items = length-map core.statics.items (λ (object : Vec FirstByte Global). map first_held object.items) in
     let whole = ap length held in
     record {
-      code = (selects_had p copies core given made placed at (λ inside. 0) passed).same Start ∙ start_is core copies given passed.blocks.joined;
+      code = (selects_had p copies core given made placed at (λ inside. 0) passed).same Start ∙ start_is copies core given passed.lean (ready p copies core given passed.lean passed.whole placed passed.blocks);
       sizes = λ n lt.
           let size = layout.sizes n (omega arith) in
           let bytes = ap (λ (l : List (List Held)). length (slice_index_or l n [])) held in

@@ -91,7 +91,7 @@ bytes_same sizes (object ∷ list) (s ∷ statics) e =
     let sum = sum_by-cons (λ (v : Vec FirstByte Global). length v.items) object list in
     omega (arith, first, rest, sum)
 
-module _ (typed : Typed) (copies : List FnCopy) (core : CoreProgram) (given made : List SymBlock) (placed : Placed) (blocks : AreBlocks (program_of typed) copies core given made placed)
+module _ (typed : Typed) (copies : List FnCopy) (core : CoreProgram) (given made : List SymBlock) (placed : Placed) (blocks : AreBlocks (program_of typed) copies core given given made placed)
     (has : HasCalls (program_of typed) copies) (placing : IsPlacing (program_of typed) copies (map object_of placed.objects.items) (map frame_of placed.frames.items))
     (statics : map items_of core.statics.items ≡ first_bytes (program_of typed)) where
   abbrev p : Program

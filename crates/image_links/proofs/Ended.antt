@@ -10,6 +10,7 @@ use Rattle.code_place.specs.Places.{label_at, label_of, is_label, at_if}
 use Rattle.core_code.specs.Tree as trees
 use Rattle.core_code.specs.Tree.{Tree, trees_of}
 use Rattle.core_code.specs.declared.code.FirstByte.{FirstByte}
+use Rattle.lean_code.specs.Ends.{has_word, ends_by_word}
 use Rattle.isr_save.specs.Start.{vector, objects_code, start_code, reset, main}
 use Rattle.math_helpers.specs.Routines.{helper_code}
 use Rattle.pic_world.specs.declared.Root.{Root}
@@ -22,15 +23,6 @@ use Rattle.sym_code.specs.declared.code.Label.{Label}
 use Rattle.sym_code.specs.declared.code.Label.TheVariants as labels
 use Rattle.sym_code.specs.declared.code.Sym.{Sym}
 use Rattle.sym_code.specs.declared.code.Sym.TheVariants as syms
-
-abbrev has_word : Sym → Bool
-has_word (syms.Label label) = false
-has_word _ = true
-
--- the list ends by a word, or is empty behind one
-abbrev pub ends_by_word : Bool → List Sym → Bool
-ends_by_word last [] = last
-ends_by_word last (s ∷ list) = ends_by_word (has_word s) list
 
 ends_joined : (last : Bool) (xs ys : List Sym) → ends_by_word last (xs ++ ys) ≡ ends_by_word (ends_by_word last xs) ys
 ends_joined last [] ys = refl

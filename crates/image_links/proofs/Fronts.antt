@@ -17,7 +17,6 @@ use Rattle.core_code.specs.declared.code.FirstByte.{FirstByte}
 use Rattle.core_code.specs.declared.code.FirstByte.TheVariants as firsts
 use Rattle.isr_save.specs.Start.{vector, byte_code, object_code, objects_code, start_code, reset, main, literal}
 use Rattle.pic_map.specs.declared.Placed.{Placed}
-use Rattle.program_code.specs.Joined.{IsJoined}
 use Rattle.sym_code.specs.Programs.{block_in, same_name, same_label, label_from}
 use Rattle.sym_code.specs.Selects.{is_select}
 use Rattle.sym_code.specs.declared.code.BlockName.{BlockName}
@@ -42,6 +41,7 @@ use Rattle.bank_page.specs.declared.selecting.State.{State}
 use Rattle.chip_trace.specs.Arriving.{HasVector, HasVectorFor, HasHalt}
 use Rattle.code_place.specs.Places.{block_place, first_place, at_if}
 use Rattle.image_links.proofs.Bare.{all_are, are_joined}
+use Rattle.image_links.proofs.Ready.{IsReady}
 
 -- ---- the first block
 pub record IsStartBlock (placed : Placed) (code : List Sym) (made : List SymBlock) : Type 0 where
@@ -57,11 +57,11 @@ first_made placed start order (m ∷ made) each name =
     let is = each.0 in
     record { block = m; rest = made; whole = refl; name = is.name ∙ name; exact = is.code ∙ ap (λ (n : BlockName). selected_from placed n front start.list.items) name }
 
-pub start_made : (placed : Placed) (core : CoreProgram) (copies : List FnCopy) (given made : List SymBlock) → IsJoined core copies given → AllZip (IsExact placed) given made
+pub start_made : (placed : Placed) (core : CoreProgram) (copies : List FnCopy) (given lean made : List SymBlock) → IsReady core copies given lean → AllZip (IsExact placed) lean made
     → IsStartBlock placed (start_code (handler_at copies) core.statics.items) made
-start_made placed core copies given made joined each =
-    subst (λ (code : List Sym). IsStartBlock placed code made) joined.exact
-    (first_made placed joined.start joined.order made (subst (λ (bs : List SymBlock). AllZip (IsExact placed) bs made) joined.whole each) joined.name)
+start_made placed core copies given lean made is each =
+    subst (λ (code : List Sym). IsStartBlock placed code made) is.exact
+    (first_made placed is.start is.order made (subst (λ (bs : List SymBlock). AllZip (IsExact placed) bs made) is.whole each) is.name)
 
 or_first : (b : Bool) (start : ℕ) (o : Option ℕ) → b ≡ true → Some start ≡ Some 0 → option_or (if b then Some start else None) o ≡ Some 0
 or_first true start o e first = first

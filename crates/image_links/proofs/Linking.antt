@@ -11,10 +11,11 @@ use Rattle.headline_trace.proofs.Whole.{makes_headline}
 use Rattle.image_links.specs.Selection.{reaches_in, limit_of}
 use Rattle.image_links.specs.Translations.{TranslationsAreLowerable, TranslationsAreLinked, TranslationsFollow}
 use Rattle.image_links.proofs.Assembling.{assembly_had, ranges_are}
-use Rattle.image_links.proofs.Bare.{selects_had}
+use Rattle.image_links.proofs.Selects.{selects_had}
 use Rattle.image_links.proofs.Beginning.{beginning_had}
 use Rattle.image_links.proofs.Framed.{frames_named}
 use Rattle.image_links.proofs.Lowerable.{first_at, lowerable}
+use Rattle.image_links.proofs.Priced.{lean_had}
 use Rattle.image_links.proofs.Selecting.{selection_had}
 use Rattle.image_links.proofs.Thinned.{first_reaches}
 
@@ -29,9 +30,13 @@ translations_lowerable = lowerable
 pub translations_linked : TranslationsAreLinked
 translations_linked p copies core given made placed at image map_content t =
     let begins = beginning_had p copies core given made placed at t.passed t.spread.placing t.written.statics in
+    let lean = lean_had p copies core given made placed at t.passed t.spread.placing in
     record {
       lowerable = lowerable p copies core given made placed at image map_content t;
-      selected = selection_had p copies core given made placed at t.passed t.calls t.spread;
+      price = lean.price;
+      sure = lean.sure;
+      selected = selection_had p copies core given made placed at t.passed t.calls t.spread lean;
+      leaner = lean.keeps;
       facts = t.passed.thinned.facts;
       selects = selects_had p copies core given made placed at (limit_of copies) t.passed;
       assembled = assembly_had p copies core given made placed at image map_content t.passed t.calls t.spread t.written (first_at p copies at t.paged);
@@ -46,5 +51,5 @@ pub translations_follow : TranslationsFollow
 translations_follow p image map_content made start inputs arrivals is_start bytes =
     let copies = made.copies in
     let core = made.core in
-    makes_headline p copies core.bodies.items core.statics.items (reaches_in p copies) made.given made.made (handler_at copies) made.placed made.at (limit_of copies) image map_content
+    makes_headline p copies core.bodies.items core.statics.items (reaches_in p copies) made.given made.is.passed.lean made.made (handler_at copies) made.placed made.at (limit_of copies) image map_content
     (translations_linked p copies core made.given made.made made.placed made.at image map_content made.is) start inputs arrivals is_start bytes

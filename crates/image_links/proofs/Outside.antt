@@ -30,10 +30,9 @@ use Rattle.sym_code.specs.declared.code.Sym.TheVariants as syms
 use Rattle.sym_code.specs.declared.code.SymBlock.{SymBlock}
 use Rattle.chip_trace.specs.Arriving.{is_small, keeps_out}
 use Rattle.image_links.specs.Plain.{all_plain, all_given, is_own}
-use Rattle.image_links.proofs.Bare.{all_are, are_joined, in_blocks, code_plain}
-use Rattle.image_links.proofs.Blocks.{is_of}
+use Rattle.image_links.proofs.Bare.{all_are, are_joined, in_blocks}
 use Rattle.image_links.proofs.Members.{Has}
-use Rattle.image_links.proofs.Rows.{Plain}
+use Rattle.image_links.proofs.Ready.{IsReady}
 use Rattle.image_links.proofs.Statics.{IsGood, AreGood, AllGood, some_is}
 
 -- ---- a test of each instruction, and selects among them
@@ -169,36 +168,28 @@ start_small n handler statics good =
     (objects_small n 0 statics good)) refl
 
 -- ---- blocks
-module _ (copies : List FnCopy) (core : CoreProgram) (blocks : List SymBlock) (joined : IsJoined core copies blocks)
-    (given : (c : ℕ) (body : Body) → body_at core.bodies.items c ≡ Some body → all_given (trees_of (trees_in body.code.items)) ≡ true) where
-  -- each block behind the start block is plain
-  pub behind_plain : (b : SymBlock) → Has joined.order b → Plain b.list.items
-  behind_plain b h =
-      let o = is_of core copies blocks joined b h in
-      ap (λ (v : BlockName × List Sym). all_plain v.1) o.is ∙ code_plain copies core.bodies.items given (0 + o.place) o.copy.root o.copy.function
-
+module _ (copies : List FnCopy) (core : CoreProgram) (given blocks : List SymBlock) (is : IsReady core copies given blocks) where
   own_outside : (copy : ℕ) → all_are keeps_out (block_in blocks (Copy copy)) ≡ true
   own_outside copy =
-      ap (λ (bs : List SymBlock). all_are keeps_out (block_in bs (Copy copy))) joined.whole
-      ∙ ap (λ (n : BlockName). all_are keeps_out (if same_name n (Copy copy) then joined.start.list.items else block_in joined.order (Copy copy))) joined.name
-      ∙ in_blocks (λ list. all_are keeps_out list ≡ true) joined.order (Copy copy) refl (λ b h. plain_outside b.list.items (behind_plain b h))
+      ap (λ (bs : List SymBlock). all_are keeps_out (block_in bs (Copy copy))) is.whole
+      ∙ ap (λ (n : BlockName). all_are keeps_out (if same_name n (Copy copy) then is.start.list.items else block_in is.order (Copy copy))) is.name
+      ∙ in_blocks (λ list. all_are keeps_out list ≡ true) is.order (Copy copy) refl (λ b h. plain_outside b.list.items (is.plain b h))
 
   own_small : (n : ℕ) → AllGood n (map items_of core.statics.items) → (name : BlockName) → all_are is_small (block_in blocks name) ≡ true
-  own_small n good name = in_blocks (λ list. all_are is_small list ≡ true) blocks name refl (λ b h. each b (subst (λ bs. Has bs b) joined.whole h)) where
-    each : (b : SymBlock) → Has (joined.start ∷ joined.order) b → all_are is_small b.list.items ≡ true
-    each b (inl same) =
-        ap (λ (x : SymBlock). all_are is_small x.list.items) (sym same) ∙ ap (all_are is_small) joined.exact ∙ start_small n (handler_at copies) core.statics.items good
-    each b (inr h) = plain_small b.list.items (behind_plain b h)
+  own_small n good name = in_blocks (λ list. all_are is_small list ≡ true) blocks name refl (λ b h. each b (subst (λ bs. Has bs b) is.whole h)) where
+    each : (b : SymBlock) → Has (is.start ∷ is.order) b → all_are is_small b.list.items ≡ true
+    each b (inl same) = ap (λ (x : SymBlock). all_are is_small x.list.items) (sym same) ∙ ap (all_are is_small) is.exact ∙ start_small n (handler_at copies) core.statics.items good
+    each b (inr h) = plain_small b.list.items (is.plain b h)
 
   module _ (made : List SymBlock) (same : (name : BlockName) → bare (block_in made name) ≡ block_in blocks name) where
     -- no code of a copy goes to the start block
     pub all_outside : (copy i : ℕ) (s : Sym) → slice_get (block_in made (Copy copy)) i ≡ Some s → keeps_out s ≡ true
-    all_outside copy i s is =
+    all_outside copy i s at =
         passes keeps_out (block_in made (Copy copy)) i s
-        (with_selects keeps_out (block_in made (Copy copy)) outside_select (ap (all_are keeps_out) (same (Copy copy)) ∙ own_outside copy)) is
+        (with_selects keeps_out (block_in made (Copy copy)) outside_select (ap (all_are keeps_out) (same (Copy copy)) ∙ own_outside copy)) at
 
     -- .. and numbers fit into their literals
     pub all_small : (n : ℕ) → AllGood n (map items_of core.statics.items) → (name : BlockName) (i : ℕ) (s : Sym) → slice_get (block_in made name) i ≡ Some s → is_small s ≡ true
-    all_small n good name i s is =
+    all_small n good name i s at =
         passes is_small (block_in made name) i s
-        (with_selects is_small (block_in made name) small_select (ap (all_are is_small) (same name) ∙ own_small n good name)) is
+        (with_selects is_small (block_in made name) small_select (ap (all_are is_small) (same name) ∙ own_small n good name)) at

@@ -38,15 +38,16 @@ use Rattle.bank_page.specs.Selected.{names_of, bare_lists}
 use Rattle.program_code.specs.Passed.{IsPassed}
 use Rattle.image_links.specs.Passed.{code_of}
 use Rattle.image_links.specs.Plain.{is_own}
-use Rattle.image_links.proofs.Bare.{all_are, bare_itself, block_words}
-use Rattle.image_links.proofs.Blocks.{is_of}
-use Rattle.image_links.proofs.Ended.{ends_by_word, ends_bare, label_paged, body_ends, empty_ends, helper_ends, start_ends}
-use Rattle.image_links.proofs.Lowered.{EndsOrNone, each_given, each_ends}
+use Rattle.image_links.proofs.Bare.{all_are, bare_itself}
+use Rattle.image_links.proofs.Ended.{ends_bare, label_paged}
 use Rattle.image_links.proofs.Members.{Has, has_map, map_has}
 use Rattle.image_links.proofs.Named.{tally, named_once, own_place}
-use Rattle.image_links.proofs.Outside.{behind_plain, plain_own, selected_own}
+use Rattle.image_links.proofs.Outside.{plain_own, selected_own}
+use Rattle.image_links.proofs.Ready.{IsReady, ready}
 use Rattle.image_links.proofs.Statics.{some_is}
 use Rattle.image_links.proofs.Thinned.{names_kept, lists_kept}
+use Rattle.image_links.proofs.Selects.{block_words}
+use Rattle.lean_code.specs.Ends.{ends_by_word}
 
 -- ---- lists
 has_at : {A : Type 0} (xs : List A) (k : ℕ) (x : A) → slice_get xs k ≡ Some x → Has xs x
@@ -130,36 +131,21 @@ first_or d [] = d
 first_or d (x ∷ xs) = x
 
 module _ (p : Program) (copies : List FnCopy) (core : CoreProgram) (given made : List SymBlock) (placed : Placed) (at : List ℕ) (passed : IsPassed p copies core given made placed at) where
-  abbrev joined : IsJoined core copies given
-  joined = passed.blocks.joined
+  abbrev lean : List SymBlock
+  lean = passed.lean
 
-  -- code as it was selected ends by a word
-  by_ends : (c : ℕ) (o : Option Body) → body_at core.bodies.items c ≡ o → ends_by_word true (code_by copies c o) ≡ true
-  by_ends c None is = refl
-  by_ends c (Some body) is = either (each_ends p copies (sound_runs p passed.blocks.sound passed.blocks.roots passed.blocks.numbers) core.bodies.items passed.blocks.bodies c body is) where
-    either : EndsOrNone (trees_in body.code.items) → ends_by_word true (code_by copies c (Some body)) ≡ true
-    either (inl e) = empty_ends (λ at before tree. wide_code copies body.root before tree) (ending_at (handler_at copies) c) (trees_in body.code.items) e
-    either (inr (front, e)) = body_ends (λ at before tree. wide_code copies body.root before tree) (ending_at (handler_at copies) c) (trees_in body.code.items) front e
+  leaner : IsReady core copies given lean
+  leaner = ready p copies core given lean passed.whole placed passed.blocks
 
-  code_ends : (c : ℕ) (root : Root) (f : FnId) → ends_by_word true (code_of core.bodies.items copies c root f) ≡ true
-  code_ends c root (callees.User f) = by_ends c (body_at core.bodies.items c) refl
-  code_ends c root (callees.Helper h) = helper_ends h root c
-
-  given_ends : (b : SymBlock) → Has (joined.start ∷ joined.order) b → ends_by_word true b.list.items ≡ true
-  given_ends b (inl same) = ap (λ (x : SymBlock). ends_by_word true x.list.items) (sym same) ∙ ap (ends_by_word true) joined.exact ∙ start_ends (handler_at copies) core.statics.items
-  given_ends b (inr h) =
-      let o = is_of core copies given joined b h in
-      ap (λ (v : BlockName × List Sym). ends_by_word true v.1) o.is ∙ code_ends (0 + o.place) o.copy.root o.copy.function
-
-  -- no select stands in a block that is given
-  given_bare : (b : SymBlock) → Has (joined.start ∷ joined.order) b → bare b.list.items ≡ b.list.items
-  given_bare b has = bare_itself b.list.items (block_words copies core given joined (each_given p copies (sound_runs p passed.blocks.sound passed.blocks.roots passed.blocks.numbers) core.bodies.items passed.blocks.bodies) b has)
+  -- no select stands in a leaner block
+  lean_bare : (b : SymBlock) → Has (leaner.start ∷ leaner.order) b → bare b.list.items ≡ b.list.items
+  lean_bare b has = bare_itself b.list.items (block_words copies core given lean leaner b has)
 
   pub made_ends : (b : SymBlock) → Has made b → ends_by_word true b.list.items ≡ true
   made_ends b has =
-      let from = made_of given made (lists_kept p copies core given made placed at passed) b has in
-      let among : Has (joined.start ∷ joined.order) from.from = subst (λ (bs : List SymBlock). Has bs from.from) joined.whole from.among in
-      ends_bare true b.list.items (ap (ends_by_word true) (sym from.code ∙ given_bare from.from among) ∙ given_ends from.from among)
+      let from = made_of lean made (lists_kept p copies core given made placed at passed) b has in
+      let among : Has (leaner.start ∷ leaner.order) from.from = subst (λ (bs : List SymBlock). Has bs from.from) leaner.whole from.among in
+      ends_bare true b.list.items (ap (ends_by_word true) (sym from.code ∙ lean_bare from.from among) ∙ leaner.ends from.from among)
 
   -- the label is in the page of its block
   paged : (k : ℕ) (block : SymBlock) (start : ℕ) (label : Label) → slice_get made k ≡ Some block → slice_get at k ≡ Some start → IsSome (label_at label start block.list.items)
@@ -170,7 +156,7 @@ module _ (p : Program) (copies : List FnCopy) (core : CoreProgram) (given made :
       ap (λ (o : Option ℕ). known o / page_words) a.1 ∙ label_paged label start block.list.items a.0 (made_ends block (has_at made k block is)) room.1 a.1
 
   own_at : (k : ℕ) (block : SymBlock) (start : ℕ) → slice_get made k ≡ Some block → slice_get at k ≡ Some start → block_place made at block.name ≡ Some start
-  own_at k block start is there = own_place made at k block start is there (subst (λ (ns : List BlockName). tally block.name ns ≤ 1) (sym (names_kept p copies core given made placed at passed)) (named_once core copies given joined block.name))
+  own_at k block start is there = own_place made at k block start is there (subst (λ (ns : List BlockName). tally block.name ns ≤ 1) (sym (names_kept p copies core given made placed at passed)) (named_once core copies given passed.blocks.joined block.name))
 
   own_page : (k : ℕ) (block : SymBlock) (start : ℕ) → slice_get made k ≡ Some block → slice_get at k ≡ Some start → page_of made at block.name ≡ start / page_words
   own_page k block start is there = ap (λ (o : Option ℕ). known o / page_words) (own_at k block start is there)
@@ -178,11 +164,9 @@ module _ (p : Program) (copies : List FnCopy) (core : CoreProgram) (given made :
   -- ---- labels of the start block
   behind_own : (rest : List SymBlock) (first : SymBlock) → made ≡ first ∷ rest → (b : SymBlock) → Has rest b → all_are is_own b.list.items ≡ true
   behind_own rest first whole b has =
-      let lists : bare_lists rest ≡ bare_lists joined.order = ap rest_of (sym (ap bare_lists whole) ∙ (lists_kept p copies core given made placed at passed) ∙ ap bare_lists joined.whole) in
-      let from = made_of joined.order rest lists b has in
-      selected_own b.list.items
-      (ap (all_are is_own) (sym from.code ∙ given_bare from.from (inr from.among))
-      ∙ plain_own from.from.list.items (behind_plain copies core given joined (each_given p copies (sound_runs p passed.blocks.sound passed.blocks.roots passed.blocks.numbers) core.bodies.items passed.blocks.bodies) from.from from.among))
+      let lists : bare_lists rest ≡ bare_lists leaner.order = ap rest_of (sym (ap bare_lists whole) ∙ (lists_kept p copies core given made placed at passed) ∙ ap bare_lists leaner.whole) in
+      let from = made_of leaner.order rest lists b has in
+      selected_own b.list.items (ap (all_are is_own) (sym from.code ∙ lean_bare from.from (inr from.among)) ∙ plain_own from.from.list.items (leaner.plain from.from from.among))
 
   record IsFront : Type 0 where
     first : SymBlock
@@ -194,12 +178,12 @@ module _ (p : Program) (copies : List FnCopy) (core : CoreProgram) (given made :
     places : at ≡ start ∷ addresses
 
   front_of : (bs : List SymBlock) (addresses : List ℕ) → made ≡ bs → at ≡ addresses → names_of bs ≡ names_of given → IsFront
-  front_of [] addresses whole places names = let e = names ∙ ap names_of joined.whole in absurd (cc)
+  front_of [] addresses whole places names = let e = names ∙ ap names_of passed.blocks.joined.whole in absurd (cc)
   front_of (b ∷ bs) [] whole places names =
       let here = passed.fit 0 b (ap (λ (l : List SymBlock). slice_get l 0) whole) in
       absurd (subst (λ (l : List ℕ). Stands b (slice_get l 0) (slice_get l (0 + 1))) places here)
   front_of (b ∷ bs) (a ∷ addresses) whole places names =
-      record { first = b; rest = bs; whole = whole; name = ap (first_or b.name) (names ∙ ap names_of joined.whole) ∙ joined.name; start = a; addresses = addresses; places = places }
+      record { first = b; rest = bs; whole = whole; name = ap (first_or b.name) (names ∙ ap names_of passed.blocks.joined.whole) ∙ passed.blocks.joined.name; start = a; addresses = addresses; places = places }
 
   front : IsFront
   front = front_of made at refl refl (names_kept p copies core given made placed at passed)

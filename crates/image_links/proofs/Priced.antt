@@ -16,7 +16,7 @@ use Rattle.sym_code.specs.declared.code.BlockName.TheVariants.{Copy}
 use Rattle.sym_code.specs.declared.code.SymBlock.{SymBlock}
 use Rattle.program_code.specs.Passed.{IsPassed}
 use Rattle.image_links.specs.Selection.{PricesAreHad, RoutinesHavePrices}
-use Rattle.image_links.proofs.Bare.{whole_same}
+use Rattle.image_links.proofs.Selects.{whole_same}
 use Rattle.image_links.proofs.Chosen.{routine_block}
 use Rattle.image_links.proofs.Laid.{frames_long, frames_whole, routine_room}
 use Rattle.image_links.proofs.Thinned.{kept}

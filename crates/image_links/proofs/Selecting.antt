@@ -8,11 +8,10 @@ use Rattle.image_links.proofs.Depths.{reach_had, reach_sound, levels_had}
 use Rattle.image_links.proofs.Entered.{main_first, handler_user}
 use Rattle.image_links.proofs.Had.{bodies_had}
 use Rattle.image_links.proofs.Laid.{layout_is, routine_room}
-use Rattle.image_links.proofs.Priced.{prices_had, routine_prices_had}
 use Rattle.image_links.proofs.Statics.{first_there}
 
 pub selection_had : SelectionIsHad
-selection_had p copies core given made placed at passed has spread =
+selection_had p copies core given made placed at passed has spread link =
     let runs = sound_runs p passed.blocks.sound passed.blocks.roots passed.blocks.numbers in
     let reach = reach_had p copies has in
     record {
@@ -36,6 +35,7 @@ selection_had p copies core given made placed at passed has spread =
       reach_routine = reach.routine;
       level = level_in copies;
       levels = levels_had p copies has;
-      prices = prices_had p copies core given made placed at passed spread.placing;
-      routine_prices = routine_prices_had p copies core given made placed at passed spread.placing;
+      prices = link.prices;
+      routine_prices = link.routine_prices;
+      sures = link.sures;
     }

@@ -19,6 +19,7 @@ use Rattle.flow_facts.specs.Laws.{Keeps}
 use Rattle.flow_facts.specs.Thin.{thin_from, thin, IsThin}
 use Rattle.flow_facts.proofs.Kept.{thinning_keeps}
 use Rattle.image_links.proofs.Fronts.{IsStartBlock, start_made}
+use Rattle.image_links.proofs.Ready.{IsReady, ready}
 use Rattle.image_links.proofs.Statics.{some_is}
 
 -- the start block stays whole
@@ -52,14 +53,17 @@ module _ (p : Program) (copies : List FnCopy) (core : CoreProgram) (given made :
   pub kept : Keeps placed (handler_at copies) passed.whole made passed.thinned.facts
   kept = thinning_keeps placed (handler_at copies) passed.whole made passed.thinned passed.blocks.apart passed.blocks.reaches
 
-  pub names_kept : names_of made ≡ names_of given
-  names_kept = kept.names ∙ passed.blocks.names
+  leaner : IsReady core copies given passed.lean
+  leaner = ready p copies core given passed.lean passed.whole placed passed.blocks
 
-  pub lists_kept : bare_lists made ≡ bare_lists given
+  pub names_kept : names_of made ≡ names_of given
+  names_kept = kept.names ∙ passed.blocks.names ∙ leaner.names
+
+  pub lists_kept : bare_lists made ≡ bare_lists passed.lean
   lists_kept = kept.lists ∙ passed.blocks.bare
 
   whole_start : IsStartBlock placed (start_code (handler_at copies) core.statics.items) passed.whole
-  whole_start = start_made placed core copies given passed.whole passed.blocks.joined passed.blocks.exact
+  whole_start = start_made placed core copies given passed.lean passed.whole leaner passed.blocks.exact
 
   pub start_kept : IsStartBlock placed (start_code (handler_at copies) core.statics.items) made
   start_kept = start_thin placed passed.thinned.facts (start_code (handler_at copies) core.statics.items) passed.whole made passed.thinned.each whole_start

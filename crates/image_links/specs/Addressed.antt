@@ -1,6 +1,6 @@
 -- That what the instructions of a program's blocks name has an address: their bytes, and those whose address is a literal.
 use Rattle.std.specs.Prelude.{ℕ, ◌≡◌, ◌≤◌, true, List, length, map, Some, None, slice_get}
-use Rattle.std.specs.List.{All}
+use Rattle.std.specs.List.{All, AllZip}
 use Rattle.c_typed.specs.Roots.{broken_root}
 use Rattle.c_typed.specs.Sound.{is_sound}
 use Rattle.c_typed.specs.Views.{program_of}
@@ -20,6 +20,7 @@ use Rattle.src_rules.specs.Numbers.{ProgramHasNumbers}
 use Rattle.sym_code.specs.declared.code.SymBlock.{SymBlock}
 use Rattle.bank_page.specs.Selected.{bare_lists}
 use Rattle.flow_facts.specs.Thin.{IsThinned}
+use Rattle.lean_blocks.specs.Leaner.{IsLeaner}
 use Rattle.word_bounds.specs.There.{HaveOperands, StandInside}
 
 abbrev pub BlocksHaveOperands : Placed → List SymBlock → Type 0
@@ -41,9 +42,12 @@ OperandsHaveAddresses =
 abbrev pub SelectsKeepOperands : Type 0
 SelectsKeepOperands = (placed : Placed) (given made : List SymBlock) → bare_lists made ≡ bare_lists given → BlocksHaveOperands placed given → BlocksHaveOperands placed made
 
--- So what is made of them, with the selects that are left, has it too.
+-- Leaner blocks name no other byte; so what is made of them, with the selects that are left, has it too.
+abbrev pub LeanKeepsOperands : Type 0
+LeanKeepsOperands = (placed : Placed) (given lean : List SymBlock) → AllZip IsLeaner given lean → BlocksHaveOperands placed given → BlocksHaveOperands placed lean
+
 abbrev pub MadeHaveOperands : Type 0
 MadeHaveOperands =
-    (typed : Typed) (copies : List FnCopy) (core : CoreProgram) (given whole made : List SymBlock) (placed : Placed) → AreBlocks (program_of typed) copies core given whole placed → IsThinned (handler_at copies) whole made → HasCalls (program_of typed) copies
+    (typed : Typed) (copies : List FnCopy) (core : CoreProgram) (given lean whole made : List SymBlock) (placed : Placed) → AreBlocks (program_of typed) copies core given lean whole placed → IsThinned (handler_at copies) whole made → HasCalls (program_of typed) copies
     → IsPlacing (program_of typed) copies (map object_of placed.objects.items) (map frame_of placed.frames.items) → map items_of core.statics.items ≡ first_bytes (program_of typed)
     → length (program_of typed).statics ≤ 65535 → BlocksHaveOperands placed made

@@ -1,4 +1,5 @@
--- No block with its selects has more words than are stated of it, so each has room where blocks of the stated words are placed.
+-- No block with its selects has more words than are stated of it, so each has room where blocks of the stated words are placed: where the
+-- code is as it was selected. Whether leaner code has room is tested when the compiler runs.
 use Rattle.std.specs.Prelude.{ℕ, suc, ◌≡◌, ◌<◌, ◌≤◌, List, length, map, Option, Some, None, slice_get}
 use Rattle.c_typed.specs.Trees.{Program}
 use Rattle.c_typed.specs.Views.{program_of}
@@ -41,7 +42,7 @@ IsStated p copies block = words_in block.list.items ≤ words_for p copies block
 abbrev pub BlocksAreStated : Type 0
 BlocksAreStated =
     (typed : Typed) (copies : List FnCopy) (core : CoreProgram) (given made : List SymBlock) (placed : Placed)
-    → AreBlocks (program_of typed) copies core given made placed → HasCalls (program_of typed) copies
+    → AreBlocks (program_of typed) copies core given given made placed → HasCalls (program_of typed) copies
     → IsPlacing (program_of typed) copies (map object_of placed.objects.items) (map frame_of placed.frames.items)
     → map items_of core.statics.items ≡ first_bytes (program_of typed) → (k : ℕ) (block : SymBlock) → slice_get made k ≡ Some block → IsStated (program_of typed) copies block
 
@@ -69,14 +70,14 @@ BlocksFit =
 abbrev pub BlocksAreInOrder : Type 0
 BlocksAreInOrder =
     (typed : Typed) (copies : List FnCopy) (core : CoreProgram) (given made : List SymBlock) (placed : Placed) (at : List ℕ)
-    → AreBlocks (program_of typed) copies core given made placed → HasCalls (program_of typed) copies → (paged : IsPaged (program_of typed) copies at)
+    → AreBlocks (program_of typed) copies core given given made placed → HasCalls (program_of typed) copies → (paged : IsPaged (program_of typed) copies at)
     → AreInOrder copies paged.order made
 
 -- so each of its blocks, without the selects that flow facts make needless, has room at its address, whether that is tested or not.
 abbrev pub TranslationsFit : Type 0
 TranslationsFit =
     (typed : Typed) (copies : List FnCopy) (core : CoreProgram) (given whole made : List SymBlock) (placed : Placed) (at : List ℕ)
-    → AreBlocks (program_of typed) copies core given whole placed → IsThinned (handler_at copies) whole made → HasCalls (program_of typed) copies
+    → AreBlocks (program_of typed) copies core given given whole placed → IsThinned (handler_at copies) whole made → HasCalls (program_of typed) copies
     → IsPlacing (program_of typed) copies (map object_of placed.objects.items) (map frame_of placed.frames.items)
     → map items_of core.statics.items ≡ first_bytes (program_of typed) → IsPaged (program_of typed) copies at → Fit made at
 

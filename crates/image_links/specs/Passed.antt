@@ -37,7 +37,7 @@ abbrev pub SelectsAreHad : Type 0
 SelectsAreHad =
     (p : Program) (copies : List FnCopy) (core : CoreProgram) (given made : List SymBlock) (placed : Placed) (at : List ℕ) (limit : Bool → ℕ)
     (passed : IsPassed p copies core given made placed at)
-    → HasFlow given made (handler_at copies) placed at passed.thinned.facts (bare_setting given made (handler_at copies) placed at limit) (full_setting made (handler_at copies) placed at limit)
+    → HasFlow passed.lean made (handler_at copies) placed at passed.thinned.facts (bare_setting passed.lean made (handler_at copies) placed at limit) (full_setting made (handler_at copies) placed at limit)
 
 -- Each copy of a function has its body.
 abbrev pub BodiesAreHad : Type 0

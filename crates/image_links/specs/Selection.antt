@@ -21,15 +21,18 @@ use Rattle.pic_world.specs.declared.Root.{Root}
 use Rattle.ram_place.specs.Placement.{IsPlacing}
 use Rattle.select_wide.specs.Blocks.{is_user}
 use Rattle.select_wide.specs.Links.{AreDear, HasLevels, IsSelected, is_inside}
+use Rattle.sym_code.specs.Marks.{is_marked}
 use Rattle.sym_code.specs.Programs.{block_in}
+use Rattle.sym_code.specs.declared.code.BlockName.{BlockName}
 use Rattle.sym_code.specs.declared.code.BlockName.TheVariants.{Copy}
+use Rattle.sym_code.specs.declared.code.Sym.{Sym}
 use Rattle.sym_code.specs.declared.code.SymBlock.{SymBlock}
 use Rattle.bank_page.specs.Links.{price_in}
 use Rattle.chip_trace.specs.Arriving.{depth_for}
 use Rattle.code_place.specs.Layouts.{layout_of}
 use Rattle.program_code.specs.Passed.{IsPassed}
 use Rattle.program_code.specs.Translated.{HasCalls, IsSpread}
-use Rattle.headline_trace.specs.Linked.{bare_setting}
+use Rattle.headline_trace.specs.Linked.{LeanKeeps, bare_setting}
 
 -- ---- chains of calls
 -- a chain of at most so many calls leads from one number of a graph to another
@@ -69,19 +72,21 @@ abbrev pub limit_of : List FnCopy → Bool → ℕ
 limit_of copies inside = highest inside copies
 
 -- ---- what follows
--- Instructions of functions cost what the link of selection allows for them,
-abbrev pub PricesAreHad : Type 0
-PricesAreHad =
-    (p : Program) (copies : List FnCopy) (core : CoreProgram) (given made : List SymBlock) (placed : Placed) (at : List ℕ) → IsPassed p copies core given made placed at
-    → IsPlacing p copies (map object_of placed.objects.items) (map frame_of placed.frames.items)
-    → (c : ℕ) (copy : FnCopy) → slice_get copies c ≡ Some copy → is_user copy.function ≡ true → AreDear (layout_of placed) (price_in (block_in made) (Copy c)) (block_in given (Copy c))
+-- The leaner code follows the code that was selected, whose instructions cost what the link of selection allows for those of functions
+-- and of helpers' routines, and of which those that no pass leaves out surely stay.
+pub record IsLeanLink (p : Program) (copies : List FnCopy) (given lean made : List SymBlock) (placed : Placed) (at : List ℕ) : Type 0 where
+  pub price : BlockName → ℕ → ℕ
+  pub sure : BlockName → ℕ → ℕ
+  pub keeps : LeanKeeps (bare_setting given made (handler_at copies) placed at (limit_of copies)) (bare_setting lean made (handler_at copies) placed at (limit_of copies)) price sure (price_in (block_in made))
+  pub prices : (c : ℕ) (copy : FnCopy) → slice_get copies c ≡ Some copy → is_user copy.function ≡ true → AreDear (layout_of placed) (price (Copy c)) (block_in given (Copy c))
+  pub routine_prices : (c : ℕ) (copy : FnCopy) (h : Helper) → slice_get copies c ≡ Some copy → copy.function ≡ callees.Helper h → ArePriced (price (Copy c)) (helper_code h copy.root c)
+  pub sures : (c : ℕ) (copy : FnCopy) → slice_get copies c ≡ Some copy → is_user copy.function ≡ true → (n : ℕ) (s : Sym) → slice_get (block_in given (Copy c)) n ≡ Some s
+      → is_marked (core_of p copies).variable_bytes s ≡ true → 1 ≤ sure (Copy c) n
 
--- .. and so do those of helpers' routines.
-abbrev pub RoutinesHavePrices : Type 0
-RoutinesHavePrices =
-    (p : Program) (copies : List FnCopy) (core : CoreProgram) (given made : List SymBlock) (placed : Placed) (at : List ℕ) → IsPassed p copies core given made placed at
-    → IsPlacing p copies (map object_of placed.objects.items) (map frame_of placed.frames.items)
-    → (c : ℕ) (copy : FnCopy) (h : Helper) → slice_get copies c ≡ Some copy → copy.function ≡ callees.Helper h → ArePriced (price_in (block_in made) (Copy c)) (helper_code h copy.root c)
+abbrev pub LeanIsHad : Type 0
+LeanIsHad =
+    (p : Program) (copies : List FnCopy) (core : CoreProgram) (given made : List SymBlock) (placed : Placed) (at : List ℕ) (passed : IsPassed p copies core given made placed at)
+    → IsPlacing p copies (map object_of placed.objects.items) (map frame_of placed.frames.items) → IsLeanLink p copies given passed.lean made placed at
 
 -- Chains of calls between copies go on, and each call of a function or of a helper's routine is one.
 pub record IsReaching (p : Program) (copies : List FnCopy) : Type 0 where
@@ -104,5 +109,5 @@ DepthIsHad = (p : Program) (copies : List FnCopy) → HasCalls p copies → dept
 abbrev pub SelectionIsHad : Type 0
 SelectionIsHad =
     (p : Program) (copies : List FnCopy) (core : CoreProgram) (given made : List SymBlock) (placed : Placed) (at : List ℕ)
-    → IsPassed p copies core given made placed at → HasCalls p copies → IsSpread p copies placed
-    → IsSelected (core_of p copies) copies core.bodies.items (reaches_in p copies) (bare_setting given made (handler_at copies) placed at (limit_of copies)) (price_in (block_in made))
+    (passed : IsPassed p copies core given made placed at) → HasCalls p copies → IsSpread p copies placed → (link : IsLeanLink p copies given passed.lean made placed at)
+    → IsSelected (core_of p copies) copies core.bodies.items (reaches_in p copies) (bare_setting given made (handler_at copies) placed at (limit_of copies)) link.price link.sure

@@ -29,8 +29,8 @@ TranslationsAreLowerable =
 abbrev pub TranslationsAreLinked : Type 0
 TranslationsAreLinked =
     (p : Program) (copies : List FnCopy) (core : CoreProgram) (given made : List SymBlock) (placed : Placed) (at image : List ℕ) (content : MapContent)
-    → IsTranslation p copies core given made placed at image content
-    → IsLinked p copies core.bodies.items core.statics.items (reaches_in p copies) given made (handler_at copies) placed at (limit_of copies) image content
+    (made_so : IsTranslation p copies core given made placed at image content)
+    → IsLinked p copies core.bodies.items core.statics.items (reaches_in p copies) given made_so.passed.lean made (handler_at copies) placed at (limit_of copies) image content
 
 -- So the image does on the chip what the program says: from anything that power-on leaves, over any input list and any arrivals.
 abbrev pub TranslationsFollow : Type 0

@@ -10,8 +10,8 @@ ghost use Rattle.image_links.specs.Bounded.{BlocksAreInOrder, BlocksAreStated, B
 ghost use Rattle.image_links.specs.Faithful.{TranslationsAreFaithful};
 ghost use Rattle.image_links.specs.Passed.{BodiesAreHad, LayoutIsHad, LayoutServes, SelectsAreHad, StartIsHad};
 ghost use Rattle.image_links.specs.Translations.{TranslationsAreLinked, TranslationsAreLowerable, TranslationsFollow};
-ghost use Rattle.image_links.specs.Selection.{DepthIsHad, LevelsAreHad, PricesAreHad, ReachIsHad, RoutinesHavePrices, SelectionIsHad};
-ghost use Rattle.image_links.specs.Addressed.{MadeHaveOperands, OperandsHaveAddresses, SelectsKeepOperands};
+ghost use Rattle.image_links.specs.Selection.{DepthIsHad, LeanIsHad, LevelsAreHad, ReachIsHad, SelectionIsHad};
+ghost use Rattle.image_links.specs.Addressed.{LeanKeepsOperands, MadeHaveOperands, OperandsHaveAddresses, SelectsKeepOperands};
 ghost use Rattle.image_links.specs.Written.{MapsAreWritten};
 
 /// Of a sound program, byte code of its copies, the blocks that are joined from it and what `selects` answers for them have the selects
@@ -39,11 +39,11 @@ pub fn layout_is_had()
     ensures laid_out { LayoutServes }
 {}
 
-/// Each instruction of a function's copy costs, together with the selects before it, no more than the link of selection allows for it,
-/// and so does each of a helper's routine.
-pub fn prices_are_had()
-    ensures dear { PricesAreHad }
-    ensures priced { RoutinesHavePrices }
+/// Leaner code follows the code that was selected. At the prices that it has together with its selects, carried back, each instruction of
+/// a function's copy costs no more than the link of selection allows for it, and so does each of a helper's routine; and each that no pass
+/// leaves out counts.
+pub fn lean_is_had()
+    ensures { LeanIsHad }
 {}
 
 /// Chains of calls between copies, as a search finds them, go on, and each call is one; calls go up by levels, which fit the return
@@ -101,10 +101,11 @@ pub fn blocks_have_room()
 {}
 
 /// What each instruction of a program's blocks names has an address: the byte that it touches, or whose address it has as a literal. That
-/// is so of the blocks that are joined, and of what is left of them by their selects.
+/// is so of the blocks that are joined, of leaner ones, and of what is left of them by their selects.
 pub fn operands_have_addresses()
     ensures named { OperandsHaveAddresses }
     ensures kept { SelectsKeepOperands }
+    ensures lean { LeanKeepsOperands }
     ensures made { MadeHaveOperands }
 {}
 

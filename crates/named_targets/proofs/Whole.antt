@@ -107,7 +107,10 @@ zip_left R [] (b ∷ ys) z k y is = absurd z
 zip_left {A} {B} R (a ∷ xs) (b ∷ ys) z zero y is = record { other = a; there = refl; is = subst (λ (c : B). R a c) (same_Some b y is) z.0 }
 zip_left R (a ∷ xs) (b ∷ ys) z (suc k) y is = let r = zip_left R xs ys z.1 k y is in record { other = r.other; there = r.there; is = r.is }
 
-module _ (p : Program) (copies : List FnCopy) (core : CoreProgram) (given whole made : List SymBlock) (placed : Placed) (at : List ℕ) (blocks : AreBlocks p copies core given whole placed) (thinned : IsThinned (handler_at copies) whole made) (calls : HasCalls p copies) (fit : Fit made at) where
+module _ (p : Program) (copies : List FnCopy) (core : CoreProgram) (given lean whole made : List SymBlock) (placed : Placed) (at : List ℕ) (blocks : AreBlocks p copies core given lean whole placed) (thinned : IsThinned (handler_at copies) whole made) (calls : HasCalls p copies) (fit : Fit made at) where
+  leaner : AllZip IsLeaner given lean
+  leaner = blocks_are_leaner (layout_of placed) (handler_at copies) (core_of p copies).variable_bytes given lean blocks.leaner
+
   -- ---- what becomes of a given block
   record Becomes (k : ℕ) (given_block : SymBlock) : Type 0 where
     block : SymBlock
@@ -117,15 +120,17 @@ module _ (p : Program) (copies : List FnCopy) (core : CoreProgram) (given whole 
 
   becomes : (k : ℕ) (g : SymBlock) → slice_get given k ≡ Some g → Becomes k g
   becomes k g is =
-      let w = zip_right (IsExact placed) given whole blocks.exact k g is in
+      let x = zip_right IsLeaner given lean leaner k g is in
+      let w = zip_right (IsExact placed) lean whole blocks.exact k x.other x.there in
       let m = zip_right (IsThin thinned.facts) whole made thinned.each k w.other w.there in
       record {
         block = m.other;
         there = m.there;
-        name = m.is.name ∙ w.is.name;
+        name = m.is.name ∙ w.is.name ∙ x.is.name;
         labels_stay = λ label has.
             subst (λ (list : List Sym). has_label label list ≡ true) (sym m.is.code)
-            (thin_keeps label thinned.facts w.other (subst (λ (list : List Sym). has_label label list ≡ true) (sym w.is.code) (selected_keeps label placed g.name front g.list.items has)));
+            (thin_keeps label thinned.facts w.other
+            (subst (λ (list : List Sym). has_label label list ≡ true) (sym w.is.code) (selected_keeps label placed x.other.name front x.other.list.items (lean_keeps label g x.other x.is has))));
       }
 
   -- ---- blocks and labels that are there
@@ -195,18 +200,20 @@ module _ (p : Program) (copies : List FnCopy) (core : CoreProgram) (given whole 
     made_have : HaveTargets target m.list.items
     made_have =
         let w = zip_left (IsThin thinned.facts) whole made thinned.each k m there in
-        let g = zip_left (IsExact placed) given whole blocks.exact k w.other w.there in
+        let x = zip_left (IsExact placed) lean whole blocks.exact k w.other w.there in
+        let g = zip_left IsLeaner given lean leaner k x.other x.there in
         let stays : (label : Label) → has_label label g.other.list.items ≡ true → has_label label m.list.items ≡ true =
         λ label has.
         subst (λ (list : List Sym). has_label label list ≡ true) (sym w.is.code)
-        (thin_keeps label thinned.facts w.other (subst (λ (list : List Sym). has_label label list ≡ true) (sym g.is.code) (selected_keeps label placed g.other.name front g.other.list.items has))) in
+        (thin_keeps label thinned.facts w.other (subst (λ (list : List Sym). has_label label list ≡ true) (sym x.is.code) (selected_keeps label placed x.other.name front x.other.list.items (lean_keeps label g.other x.other g.is has)))) in
         let before = given_have g.other g.there (all_found target g.other.list.items (λ label has. own_label label (stays label has))) in
-        let selected : HaveTargets target w.other.list.items = subst (λ (list : List Sym). HaveTargets target list) (sym g.is.code) (selected_have target placed g.other.name front g.other.list.items before) in
+        let selected : HaveTargets target w.other.list.items =
+        subst (λ (list : List Sym). HaveTargets target list) (sym x.is.code) (selected_have target placed x.other.name front x.other.list.items (lean_have target g.other x.other g.is before)) in
         subst (λ (list : List Sym). HaveTargets target list) (sym w.is.code) (thin_have target thinned.facts w.other selected)
 
 pub targets_are_there : TargetsAreThere
-targets_are_there p copies core given whole made placed at blocks thinned calls fit k block start found here = made_have p copies core given whole made placed at blocks thinned calls fit k block start found here
+targets_are_there p copies core given lean whole made placed at blocks thinned calls fit k block start found here = made_have p copies core given lean whole made placed at blocks thinned calls fit k block start found here
 
 pub ends_are_there : EndsAreThere
-ends_are_there p copies core given whole made placed at blocks thinned calls fit =
-    (main_there p copies core given whole made placed at blocks thinned calls fit, halt_there p copies core given whole made placed at blocks thinned calls fit)
+ends_are_there p copies core given lean whole made placed at blocks thinned calls fit =
+    (main_there p copies core given lean whole made placed at blocks thinned calls fit, halt_there p copies core given lean whole made placed at blocks thinned calls fit)

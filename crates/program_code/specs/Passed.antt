@@ -8,18 +8,21 @@ use Rattle.call_graph.specs.Numbers.{handler_at}
 use Rattle.call_graph.specs.declared.types.FnCopy.{FnCopy}
 use Rattle.core_code.specs.declared.code.CoreProgram.{CoreProgram}
 use Rattle.lower_stmt.specs.Bodies.{body_of, bodies_of}
+use Rattle.lower_stmt.specs.Programs.{core_of}
 use Rattle.pic_map.specs.declared.Placed.{Placed}
 use Rattle.src_rules.specs.Numbers.{ProgramHasNumbers}
 use Rattle.sym_code.specs.declared.code.SymBlock.{SymBlock}
 use Rattle.bank_page.specs.Selected as selected
 use Rattle.bank_page.specs.Selected.{names_of, bare_lists, IsApart, IsWithin, IsExact}
 use Rattle.flow_facts.specs.Thin.{IsThinned}
+use Rattle.code_place.specs.Layouts.{layout_of}
 use Rattle.code_place.specs.Places.{BlocksHaveAddresses}
 use Rattle.code_place.specs.Sizes.{Fit}
+use Rattle.lean_pass.specs.Made.{IsLean}
 use Rattle.program_code.specs.Joined.{IsJoined}
 
--- The blocks of a program with their selects: what each pass promises, from a typed program on.
-pub record AreBlocks (p : Program) (copies : List FnCopy) (core : CoreProgram) (given made : List SymBlock) (placed : Placed) : Type 0 where
+-- The blocks of a program as they were selected, leaner, and with their selects: what each pass promises, from a typed program on.
+pub record AreBlocks (p : Program) (copies : List FnCopy) (core : CoreProgram) (given lean made : List SymBlock) (placed : Placed) : Type 0 where
   -- the program is sound
   pub sound : is_sound p ≡ true
   pub roots : broken_root p ≡ None
@@ -27,18 +30,21 @@ pub record AreBlocks (p : Program) (copies : List FnCopy) (core : CoreProgram) (
   -- byte code, and the blocks of it
   pub bodies : map body_of core.bodies.items ≡ bodies_of p copies
   pub joined : IsJoined core copies given
+  -- what is left of them where instructions on temporary bytes are left out that nothing needs
+  pub leaner : IsLean (layout_of placed) (handler_at copies) (core_of p copies).variable_bytes given lean
   -- the blocks with selects
-  pub names : names_of made ≡ names_of given
-  pub bare : bare_lists made ≡ bare_lists given
+  pub names : names_of made ≡ names_of lean
+  pub bare : bare_lists made ≡ bare_lists lean
   pub apart : All IsApart made
   pub reaches : All (selected.Reaches placed) made
-  pub few : AllZip IsWithin given made
-  pub exact : AllZip (IsExact placed) given made
+  pub few : AllZip IsWithin lean made
+  pub exact : AllZip (IsExact placed) lean made
 
 -- .. and of these what is left without the selects that flow facts make needless, with its addresses
 pub record IsPassed (p : Program) (copies : List FnCopy) (core : CoreProgram) (given made : List SymBlock) (placed : Placed) (at : List ℕ) : Type 0 where
+  pub lean : List SymBlock
   pub whole : List SymBlock
-  pub blocks : AreBlocks p copies core given whole placed
+  pub blocks : AreBlocks p copies core given lean whole placed
   pub thinned : IsThinned (handler_at copies) whole made
   pub fit : Fit made at
   pub named : BlocksHaveAddresses placed made at
