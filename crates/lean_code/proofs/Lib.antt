@@ -14,7 +14,9 @@ mod Put
 mod Steps
 mod Machines
 mod Resting
-mod Whole
-mod Checking
-mod Shrinking
+pub mod Whole
+pub mod Checking
+pub mod Shrinking
 mod Worked
+pub mod Fitting
+pub mod Weighed

@@ -1,13 +1,15 @@
 -- What is made is what was given without some instructions.
-use Rattle.std.proofs.Common.{◌≡◌, ℕ, ◌≤◌, Bool, true, false, ◌&&◌, if◌then◌else◌, List, [], ◌∷◌, Option, refl, ap, ◌∙◌, arith}
+use Rattle.std.proofs.Common.{◌≡◌, ℕ, ◌<◌, ◌≤◌, Bool, true, false, ◌&&◌, if◌then◌else◌, List, [], ◌∷◌, Option, refl, ap, ◌∙◌, arith}
 use Rattle.std.specs.List.{list_all}
 use Rattle.std.proofs.lemmas.List.Sums.{sum_by-cons}
+use Rattle.std.specs.Prelude.{nat_lt}
 use Rattle.sym_code.specs.Words.{words_of_one, words_in}
 use Rattle.sym_code.specs.declared.code.Literal.TheVariants.{Number}
 use Rattle.sym_code.specs.declared.code.Sym.{Sym}
 use Rattle.sym_code.specs.declared.code.Sym.TheVariants as syms
 use Rattle.lean_code.specs.Rows.{Keeps, Drops, Puts, Narrows, narrowed, Row, At, olds, puts, place_in}
 use Rattle.lean_code.specs.Links.{price_at, CarriedIsCheaper}
+use Rattle.lean_code.specs.Fit.{is_byte_act, puts_bytes, BytesKeep}
 use Rattle.lean_code.specs.Shrinks.{RowsShrink, RowsKeep}
 use Rattle.lean_code.proofs.Lists.{never}
 
@@ -50,6 +52,20 @@ rows_keep test (At s (Puts op n) said ∷ rows) literal narrow e =
     both (test (syms.Literal op (Number n))) (list_all test (puts rows)) (literal op n) (rows_keep test rows literal narrow (and_r (test s) (list_all test (olds rows)) e))
 rows_keep test (At s Narrows said ∷ rows) literal narrow e =
     both (test (narrowed s)) (list_all test (puts rows)) (narrow s (and_l (test s) (list_all test (olds rows)) e)) (rows_keep test rows literal narrow (and_r (test s) (list_all test (olds rows)) e))
+
+below : (n : ℕ) → nat_lt n 256 ≡ true → n < 256
+below n e = grind arith
+
+pub bytes_keep : BytesKeep
+bytes_keep test [] small literal narrow e = refl
+bytes_keep test (At (syms.Label label) act said ∷ rows) small literal narrow e =
+    both (test (syms.Label label)) (list_all test (puts rows)) (and_l (test (syms.Label label)) (list_all test (olds rows)) e) (bytes_keep test rows (and_r (is_byte_act act) (puts_bytes rows) small) literal narrow (and_r (test (syms.Label label)) (list_all test (olds rows)) e))
+bytes_keep test (At s Keeps said ∷ rows) small literal narrow e = both (test s) (list_all test (puts rows)) (and_l (test s) (list_all test (olds rows)) e) (bytes_keep test rows small literal narrow (and_r (test s) (list_all test (olds rows)) e))
+bytes_keep test (At s Drops said ∷ rows) small literal narrow e = bytes_keep test rows small literal narrow (and_r (test s) (list_all test (olds rows)) e)
+bytes_keep test (At s (Puts op n) said ∷ rows) small literal narrow e =
+    both (test (syms.Literal op (Number n))) (list_all test (puts rows)) (literal op n (below n (and_l (nat_lt n 256) (puts_bytes rows) small))) (bytes_keep test rows (and_r (nat_lt n 256) (puts_bytes rows) small) literal narrow (and_r (test s) (list_all test (olds rows)) e))
+bytes_keep test (At s Narrows said ∷ rows) small literal narrow e =
+    both (test (narrowed s)) (list_all test (puts rows)) (narrow s (and_l (test s) (list_all test (olds rows)) e)) (bytes_keep test rows small literal narrow (and_r (test s) (list_all test (olds rows)) e))
 
 pub carried_is_cheaper : CarriedIsCheaper
 carried_is_cheaper x new name j row got stays =

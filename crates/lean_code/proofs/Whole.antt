@@ -37,7 +37,7 @@ module _ (g : Setting) (e : Entry) (o : Outside) (t : Machine) where
   unfolding sym_run
   same_is n is = ap (gone (sym_run g e o n t)) (step_is n Still is)
 
-  cost_next : (c : Prices) (n : ℕ) → cost_by g c e o (suc n) t ≡ cost_by g c e o n t + step_cost_at g c (settled o (sym_run g e o n t))
+  pub cost_next : (c : Prices) (n : ℕ) → cost_by g c e o (suc n) t ≡ cost_by g c e o n t + step_cost_at g c (settled o (sym_run g e o n t))
   unfolding cost_by step_cost
   cost_next c n = refl
 
@@ -50,7 +50,7 @@ module _ (g : Setting) (e : Entry) (o : Outside) (t : Machine) where
   run_none = refl
 
 -- a relation of moments that holds of one and itself and goes on with each step holds of any two
-chain : (R : ℕ → ℕ → Type 0) (n : ℕ) → ((i : ℕ) → R i i) → ((i j : ℕ) → i ≤ j → j < n → R i j → R i (suc j)) → (i j : ℕ) → i ≤ j → j ≤ n → R i j
+pub chain : (R : ℕ → ℕ → Type 0) (n : ℕ) → ((i : ℕ) → R i i) → ((i j : ℕ) → i ≤ j → j < n → R i j → R i (suc j)) → (i j : ℕ) → i ≤ j → j ≤ n → R i j
 chain R n same step i zero l m = let is : i ≡ zero = omega arith in subst (λ k. R i k) is (same i)
 chain R n same step i (suc j) l m =
     ⊎_elim

@@ -7,15 +7,29 @@
 #![tactic(auto)]
 
 ghost use Rattle.lean_code.specs.Checked.{TestIsRight};
+ghost use Rattle.lean_code.specs.Fit.{FitIsFit, KeptIsSame, BytesKeep};
 ghost use Rattle.lean_code.specs.Links.{CarriedIsCheaper, LeanKeeps};
 ghost use Rattle.lean_code.specs.Sample.{SamplePasses};
 ghost use Rattle.lean_code.specs.Shrinks.{RowsShrink, RowsKeep};
+ghost use Rattle.lean_code.specs.Weighed.{LeanWeighed, AlwaysOpen};
 
 /// Code that is made by a certificate that is right follows the given code, at any prices by which no instruction that stays costs more
 /// than before; so at those that the made code's own prices carry back.
 pub fn lean_keeps()
     ensures follows { LeanKeeps }
     ensures carried { CarriedIsCheaper }
+{}
+
+/// So it does where only what surely stays counts; and no access meets a hidden byte where there is none.
+pub fn lean_weighed()
+    ensures follows { LeanWeighed }
+    ensures always { AlwaysOpen }
+{}
+
+/// A certificate that passes the tests of what a pass needs besides is fit, and what stays as it is is the given code.
+pub fn fit_is_fit()
+    ensures fit { FitIsFit }
+    ensures same { KeptIsSame }
 {}
 
 /// A certificate that passes the test is right.
@@ -27,6 +41,7 @@ pub fn test_is_right()
 pub fn rows_shrink()
     ensures shorter { RowsShrink }
     ensures kept { RowsKeep }
+    ensures bytes { BytesKeep }
 {}
 
 /// A certificate of a program of fifteen instructions, of which six are left, passes the test.

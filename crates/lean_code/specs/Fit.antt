@@ -1,0 +1,105 @@
+-- More tests of a certificate, for a pass that stands between others: what is counted stays, the start block stays as it is, numbers are
+-- bytes, and each block ends by a word.
+use Rattle.std.specs.Prelude.{◌≡◌, ℕ, ◌<◌, Bool, true, false, not, ◌&&◌, ◌||◌, nat_lt, List, [], ◌∷◌}
+use Rattle.std.specs.List.{list_all}
+use Rattle.sym_code.specs.Marks.{is_marked}
+use Rattle.sym_code.specs.Programs.{same_name, block_in}
+use Rattle.sym_code.specs.declared.code.BlockName.{BlockName}
+use Rattle.sym_code.specs.declared.code.BlockName.TheVariants as names
+use Rattle.sym_code.specs.declared.code.Literal.TheVariants.{Number}
+use Rattle.sym_code.specs.declared.code.LiteralOperation.{LiteralOperation}
+use Rattle.sym_code.specs.declared.code.Sym.{Sym}
+use Rattle.sym_code.specs.declared.code.Sym.TheVariants as syms
+use Rattle.sym_code.specs.declared.code.SymBlock.{SymBlock}
+use Rattle.lean_code.specs.Checked as listed
+use Rattle.lean_code.specs.Checked.{ListedBlock, Sketch, rows_in}
+use Rattle.lean_code.specs.Rows.{Act, Keeps, Puts, narrowed, Row, At, old_of, is_label, is_dropped, olds, puts}
+
+-- ---- rows
+-- The instruction is one that counts, and is left out. Given is how many bytes the variables of each copy have.
+abbrev pub loses_mark : (ℕ → ℕ) → Row → Bool
+loses_mark variables row = is_dropped row && is_marked variables (old_of row)
+
+abbrev pub is_byte_act : Act → Bool
+is_byte_act (Puts op n) = nat_lt n 256
+is_byte_act act = true
+
+abbrev pub is_keep : Act → Bool
+is_keep Keeps = true
+is_keep act = false
+
+abbrev pub act_of : Row → Act
+act_of (At s act said) = act
+
+abbrev pub fits_row : (ℕ → ℕ) → Bool → Row → Bool
+fits_row variables whole row = not (loses_mark variables row) && (is_byte_act (act_of row) && (not whole || is_keep (act_of row)))
+
+-- ---- lists of rows
+-- no instruction that counts is left out
+abbrev pub keeps_marks : (ℕ → ℕ) → List Row → Bool
+keeps_marks variables [] = true
+keeps_marks variables (row ∷ rows) = not (loses_mark variables row) && keeps_marks variables rows
+
+-- each number that is put is a byte
+abbrev pub puts_bytes : List Row → Bool
+puts_bytes [] = true
+puts_bytes (row ∷ rows) = is_byte_act (act_of row) && puts_bytes rows
+
+-- all stays as it is
+abbrev pub keeps_all : List Row → Bool
+keeps_all [] = true
+keeps_all (row ∷ rows) = is_keep (act_of row) && keeps_all rows
+
+-- all these at once, the last one of a block that is to stay as it is
+abbrev pub fits : (ℕ → ℕ) → Bool → List Row → Bool
+fits variables whole [] = true
+fits variables whole (row ∷ rows) = fits_row variables whole row && fits variables whole rows
+
+-- ---- words
+abbrev pub has_word : Sym → Bool
+has_word s = not (is_label s)
+
+-- the list ends by a word, or is empty behind one
+abbrev pub ends_by_word : Bool → List Sym → Bool
+ends_by_word last [] = last
+ends_by_word last (s ∷ list) = ends_by_word (has_word s) list
+
+-- ---- blocks
+abbrev pub is_fit_block : (ℕ → ℕ) → ListedBlock → Bool
+is_fit_block variables b = fits variables (same_name b.name names.Start) (rows_in b.rows) && ends_by_word true (puts (rows_in b.rows))
+
+abbrev pub are_fit : (ℕ → ℕ) → List ListedBlock → Bool
+are_fit variables [] = true
+are_fit variables (b ∷ bs) = is_fit_block variables b && are_fit variables bs
+
+-- the rows of the block of a name
+abbrev pub rows_at : Sketch → BlockName → List Row
+rows_at k name = rows_in (listed.block_in k.blocks name).rows
+
+-- A certificate that passes all these, and by which no byte is hidden from accesses through FSR.
+pub record IsFit (variables : ℕ → ℕ) (k : Sketch) : Type 0 where
+  pub marks : (name : BlockName) → keeps_marks variables (rows_at k name) ≡ true
+  pub numbers : (name : BlockName) → puts_bytes (rows_at k name) ≡ true
+  pub start : keeps_all (rows_at k names.Start) ≡ true
+  pub ends : (name : BlockName) → ends_by_word true (puts (rows_at k name)) ≡ true
+  pub hidden : (a : ℕ) → k.hidden a ≡ false
+
+-- The blocks of two programs are those of a certificate, under every name.
+pub record AreByRows (k : Sketch) (given made : List SymBlock) : Type 0 where
+  pub given_is : (name : BlockName) → block_in given name ≡ olds (rows_at k name)
+  pub made_is : (name : BlockName) → block_in made name ≡ puts (rows_at k name)
+
+-- ---- laws
+abbrev pub FitIsFit : Type 0
+FitIsFit = (variables : ℕ → ℕ) (k : Sketch) → are_fit variables k.blocks ≡ true → ((a : ℕ) → k.hidden a ≡ false) → IsFit variables k
+
+-- what stays as it is
+abbrev pub KeptIsSame : Type 0
+KeptIsSame = (rows : List Row) → keeps_all rows ≡ true → puts rows ≡ olds rows
+
+-- What holds of each instruction of the given code, of each operation on W and a byte, and of an instruction wherever its result goes,
+-- holds of each that is made.
+abbrev pub BytesKeep : Type 0
+BytesKeep =
+    (test : Sym → Bool) (rows : List Row) → puts_bytes rows ≡ true → ((op : LiteralOperation) (n : ℕ) → n < 256 → test (syms.Literal op (Number n)) ≡ true) → ((s : Sym) → test s ≡ true → test (narrowed s) ≡ true)
+    → list_all test (olds rows) ≡ true → list_all test (puts rows) ≡ true
