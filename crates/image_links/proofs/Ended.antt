@@ -10,7 +10,7 @@ use Rattle.code_place.specs.Places.{label_at, label_of, is_label, at_if}
 use Rattle.core_code.specs.Tree as trees
 use Rattle.core_code.specs.Tree.{Tree, trees_of}
 use Rattle.core_code.specs.declared.code.FirstByte.{FirstByte}
-use Rattle.lean_code.specs.Ends.{has_word, ends_by_word}
+use Rattle.lean_code.specs.Fit.{has_word, ends_by_word}
 use Rattle.isr_save.specs.Start.{vector, objects_code, start_code, reset, main}
 use Rattle.math_helpers.specs.Routines.{helper_code}
 use Rattle.pic_world.specs.declared.Root.{Root}

@@ -47,7 +47,7 @@ use Rattle.image_links.proofs.Ready.{IsReady, ready}
 use Rattle.image_links.proofs.Statics.{some_is}
 use Rattle.image_links.proofs.Thinned.{names_kept, lists_kept}
 use Rattle.image_links.proofs.Selects.{block_words}
-use Rattle.lean_code.specs.Ends.{ends_by_word}
+use Rattle.lean_code.specs.Fit.{ends_by_word}
 
 -- ---- lists
 has_at : {A : Type 0} (xs : List A) (k : ℕ) (x : A) → slice_get xs k ≡ Some x → Has xs x

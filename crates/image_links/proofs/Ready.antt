@@ -13,9 +13,8 @@ use Rattle.core_code.specs.declared.code.CoreProgram.{CoreProgram}
 use Rattle.isr_save.specs.Start.{start_code}
 use Rattle.lean_blocks.specs.Leaner.{IsLeaner}
 use Rattle.lean_blocks.proofs.Whole.{blocks_are_leaner}
-use Rattle.lean_code.specs.Ends.{ends_by_word}
+use Rattle.lean_code.specs.Fit.{is_byte_act, puts_bytes, ends_by_word}
 use Rattle.lean_code.specs.Rows.{Keeps, Drops, Puts, Narrows, narrowed, Row, At, olds, puts}
-use Rattle.lean_code.specs.Small.{puts_small}
 use Rattle.lower_stmt.specs.Programs.{core_of}
 use Rattle.pic_map.specs.declared.Placed.{Placed}
 use Rattle.pic_world.specs.declared.Root.{Root}
@@ -121,18 +120,18 @@ both false b e f = e
 stays : (s t : Sym) (xs ys : List Sym) → (is_plain s ≡ true → is_plain t ≡ true) → (Plain xs → Plain ys) → Plain (s ∷ xs) → Plain (t ∷ ys)
 stays s t xs ys one more e = both (is_plain t) (all_plain ys) (one (front_of (is_plain s) (all_plain xs) e)) (more (rest_of (is_plain s) (all_plain xs) e))
 
-rows_plain : (rows : List Row) → puts_small rows ≡ true → Plain (olds rows) → Plain (puts rows)
+rows_plain : (rows : List Row) → puts_bytes rows ≡ true → Plain (olds rows) → Plain (puts rows)
 rows_plain [] small e = refl
-rows_plain (At (syms.Label label) act said ∷ rows) small e = stays (syms.Label label) (syms.Label label) (olds rows) (puts rows) (λ h. h) (rows_plain rows small) e
+rows_plain (At (syms.Label label) act said ∷ rows) small e = stays (syms.Label label) (syms.Label label) (olds rows) (puts rows) (λ h. h) (rows_plain rows (rest_of (is_byte_act act) (puts_bytes rows) small)) e
 rows_plain (At s Keeps said ∷ rows) small e = stays s s (olds rows) (puts rows) (λ h. h) (rows_plain rows small) e
 rows_plain (At s Drops said ∷ rows) small e = rows_plain rows small (rest_of (is_plain s) (all_plain (olds rows)) e)
 rows_plain (At s (Puts op n) said ∷ rows) small e =
-    both (nat_lt n 256 && (true && true)) (all_plain (puts rows)) (both (nat_lt n 256) (true && true) (front_of (nat_lt n 256) (puts_small rows) small) refl)
-    (rows_plain rows (rest_of (nat_lt n 256) (puts_small rows) small) (rest_of (is_plain s) (all_plain (olds rows)) e))
+    both (nat_lt n 256 && (true && true)) (all_plain (puts rows)) (both (nat_lt n 256) (true && true) (front_of (nat_lt n 256) (puts_bytes rows) small) refl)
+    (rows_plain rows (rest_of (nat_lt n 256) (puts_bytes rows) small) (rest_of (is_plain s) (all_plain (olds rows)) e))
 rows_plain (At s Narrows said ∷ rows) small e = stays s (narrowed s) (olds rows) (puts rows) (narrowed_plain s) (rows_plain rows small) e
 
 leaner_plain : (g b : SymBlock) → IsLeaner g b → Plain g.list.items → Plain b.list.items
-leaner_plain g b is e = ap all_plain is.after ∙ rows_plain is.rows is.small (ap all_plain (sym is.before) ∙ e)
+leaner_plain g b is e = ap all_plain is.after ∙ rows_plain is.rows is.numbers (ap all_plain (sym is.before) ∙ e)
 
 -- what a leaner block was made of
 record IsOfGiven (given : List SymBlock) (b : SymBlock) : Type 0 where

@@ -4,21 +4,18 @@ use Rattle.std.specs.List.{AllZip}
 use Rattle.sym_code.specs.Layout.{DataLayout}
 use Rattle.sym_code.specs.declared.code.BlockName.TheVariants.{Start}
 use Rattle.sym_code.specs.declared.code.SymBlock.{SymBlock}
-use Rattle.lean_code.specs.Ends.{ends_by_word}
+use Rattle.lean_code.specs.Fit.{puts_bytes, ends_by_word}
 use Rattle.lean_code.specs.Rows.{Row, olds, puts}
-use Rattle.lean_code.specs.Small.{puts_small}
-use Rattle.lean_code.specs.Steady.{is_steady}
 use Rattle.lean_pass.specs.Made.{IsLean}
 
--- It is made by these rows of a certificate, of which each number fits into a literal, and a skip and what stands behind it stay or go
--- together. The start block stays as it is, and each ends by a word that did.
+-- It is made by these rows of a certificate, of which each number fits into a literal. The start block stays as it is, and each ends by
+-- a word that did.
 pub record IsLeaner (given block : SymBlock) : Type 0 where
   pub name : block.name ≡ given.name
   pub rows : List Row
   pub before : given.list.items ≡ olds rows
   pub after : block.list.items ≡ puts rows
-  pub small : puts_small rows ≡ true
-  pub steady : is_steady rows ≡ true
+  pub numbers : puts_bytes rows ≡ true
   pub start : given.name ≡ Start → block.list.items ≡ given.list.items
   pub ends : ends_by_word true given.list.items ≡ true → ends_by_word true block.list.items ≡ true
 

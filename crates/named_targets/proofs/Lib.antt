@@ -5,6 +5,7 @@ mod Control
 mod Routines
 mod Starting
 mod Selecting
+mod Leaner
 pub mod Placing
 mod Rows
 mod Expressions

@@ -19,6 +19,9 @@ use Rattle.core_code.specs.View.{trees_in}
 use Rattle.core_code.specs.declared.code.Body.{Body}
 use Rattle.core_code.specs.declared.code.CoreProgram.{CoreProgram}
 use Rattle.isr_save.specs.Start.{start_code}
+use Rattle.lean_blocks.specs.Leaner.{IsLeaner}
+use Rattle.lean_blocks.proofs.Whole.{blocks_are_leaner}
+use Rattle.lower_stmt.specs.Programs.{core_of}
 use Rattle.pic_map.specs.declared.Placed.{Placed}
 use Rattle.pic_world.specs.Roots.{same_root}
 use Rattle.pic_world.specs.declared.Root.{Root}
@@ -36,6 +39,7 @@ use Rattle.sym_code.specs.declared.code.SymBlock.{SymBlock}
 use Rattle.sym_code.specs.declared.code.Target.{Target}
 use Rattle.sym_code.specs.declared.code.Target.TheVariants as targets
 use Rattle.bank_page.specs.Selected.{IsExact, front}
+use Rattle.code_place.specs.Layouts.{layout_of}
 use Rattle.code_place.specs.Places.{block_place, label_place, target_for}
 use Rattle.code_place.specs.Sizes.{Fit}
 use Rattle.flow_facts.specs.Thin.{IsThin, IsThinned}
@@ -43,6 +47,7 @@ use Rattle.program_code.specs.Passed.{AreBlocks}
 use Rattle.program_code.specs.Translated.{HasCalls}
 use Rattle.named_targets.specs.There.{HaveTargets, TargetsAreThere, EndsAreThere}
 use Rattle.named_targets.proofs.Control.{body_have}
+use Rattle.named_targets.proofs.Leaner.{lean_keeps, lean_have}
 use Rattle.named_targets.proofs.Joining.{code_for, IsOfCopy, block_kind, start_there, copy_block}
 use Rattle.named_targets.proofs.Lowering.{each_below}
 use Rattle.named_targets.proofs.Naming.{has_label, LabelsFound, all_found, named_below}

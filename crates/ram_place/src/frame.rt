@@ -66,6 +66,23 @@ pub fn frame_bytes(p: &Typed, function: FnId) -> u64
     }
 }
 
+/// How many bytes the parameters and the locals of a function of the program have together, which stand at the front of its frame. A
+/// helper has none of either.
+pub fn variable_bytes(p: &Typed, function: FnId) -> u64
+    ensures { result ≡ capped (sizes.variable_bytes (program_of p.now) function) }
+{
+    match function {
+        FnId::Helper(_) => 0,
+        FnId::User(number) => match p.functions.get(number as usize) {
+            Some(function) => plus(
+                variables_bytes(&p.structures, &function.params),
+                variables_bytes(&p.structures, &function.locals),
+            ),
+            None => 0,
+        },
+    }
+}
+
 /// How many words the block of a function of the program, or of a helper, is stated to have.
 pub fn block_words(p: &Typed, function: FnId) -> u64
     ensures { result ≡ capped (sizes.block_words (program_of p.now) function) }

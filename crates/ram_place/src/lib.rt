@@ -13,6 +13,6 @@ mod placing;
 mod room;
 mod words;
 
-pub use frame::{block_words, frame_bytes, start_words};
+pub use frame::{block_words, frame_bytes, start_words, variable_bytes};
 pub use pic_map::Placed;
 pub use placing::{PlaceError, place};

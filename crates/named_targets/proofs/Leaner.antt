@@ -1,0 +1,69 @@
+-- In leaner code the labels stay, and it names no other target.
+use Rattle.std.proofs.Common.{◌≡◌, ℕ, Bool, true, false, ◌||◌, List, [], ◌∷◌, Option, sym, ap, ◌∙◌, refl, subst}
+use Rattle.code_place.specs.Places.{label_of, is_label}
+use Rattle.lean_blocks.specs.Leaner.{IsLeaner}
+use Rattle.lean_code.specs.Rows.{Keeps, Drops, Puts, Narrows, narrowed, Row, At, olds, puts}
+use Rattle.sym_code.specs.declared.code.Label.{Label}
+use Rattle.sym_code.specs.declared.code.Sym.{Sym}
+use Rattle.sym_code.specs.declared.code.Sym.TheVariants as syms
+use Rattle.sym_code.specs.declared.code.SymBlock.{SymBlock}
+use Rattle.sym_code.specs.declared.code.Target.{Target}
+use Rattle.named_targets.specs.There.{HasTarget, HaveTargets}
+use Rattle.named_targets.proofs.Naming.{has_label}
+
+-- ---- labels
+behind : (b x y : Bool) → (x ≡ true → y ≡ true) → (b || x) ≡ true → (b || y) ≡ true
+behind true x y on e = refl
+behind false x y on e = on e
+
+same_labels : (label : Label) (s : Sym) → is_label label (label_of (narrowed s)) ≡ is_label label (label_of s)
+same_labels label (syms.File op file into) = refl
+same_labels label (syms.Movwf file) = refl
+same_labels label (syms.Clrf file) = refl
+same_labels label (syms.Bit op file bit) = refl
+same_labels label (syms.Literal op value) = refl
+same_labels label (syms.Plain op) = refl
+same_labels label (syms.Call target) = refl
+same_labels label (syms.Goto target) = refl
+same_labels label (syms.Label other) = refl
+same_labels label (syms.SelectBank bit on) = refl
+same_labels label (syms.SelectPage bit target) = refl
+
+rows_keep : (label : Label) (rows : List Row) → has_label label (olds rows) ≡ true → has_label label (puts rows) ≡ true
+rows_keep label [] e = e
+rows_keep label (At (syms.Label other) act said ∷ rows) e = behind (is_label label (label_of (syms.Label other))) (has_label label (olds rows)) (has_label label (puts rows)) (rows_keep label rows) e
+rows_keep label (At s Keeps said ∷ rows) e = behind (is_label label (label_of s)) (has_label label (olds rows)) (has_label label (puts rows)) (rows_keep label rows) e
+rows_keep label (At s Drops said ∷ rows) e = rows_keep label rows e
+rows_keep label (At s (Puts op n) said ∷ rows) e = rows_keep label rows e
+rows_keep label (At s Narrows said ∷ rows) e =
+    ap (λ b. b || has_label label (puts rows)) (same_labels label s) ∙ behind (is_label label (label_of s)) (has_label label (olds rows)) (has_label label (puts rows)) (rows_keep label rows) e
+
+pub lean_keeps : (label : Label) (given block : SymBlock) → IsLeaner given block → has_label label given.list.items ≡ true → has_label label block.list.items ≡ true
+lean_keeps label given block is e = ap (has_label label) is.after ∙ rows_keep label is.rows (ap (has_label label) (sym is.before) ∙ e)
+
+-- ---- targets
+module _ (target : Target → Option ℕ) where
+  narrowed_has : (s : Sym) → HasTarget target s → HasTarget target (narrowed s)
+  narrowed_has (syms.File op file into) h = h
+  narrowed_has (syms.Movwf file) h = h
+  narrowed_has (syms.Clrf file) h = h
+  narrowed_has (syms.Bit op file bit) h = h
+  narrowed_has (syms.Literal op value) h = h
+  narrowed_has (syms.Plain op) h = h
+  narrowed_has (syms.Call to) h = h
+  narrowed_has (syms.Goto to) h = h
+  narrowed_has (syms.Label label) h = h
+  narrowed_has (syms.SelectBank bit on) h = h
+  narrowed_has (syms.SelectPage bit to) h = h
+
+  rows_have : (rows : List Row) → HaveTargets target (olds rows) → HaveTargets target (puts rows)
+  rows_have [] h = h
+  rows_have (At (syms.Label label) act said ∷ rows) h = (h.0, rows_have rows h.1)
+  rows_have (At s Keeps said ∷ rows) h = (h.0, rows_have rows h.1)
+  rows_have (At s Drops said ∷ rows) h = rows_have rows h.1
+  rows_have (At s (Puts op n) said ∷ rows) h = (tt, rows_have rows h.1)
+  rows_have (At s Narrows said ∷ rows) h = (narrowed_has s h.0, rows_have rows h.1)
+
+  pub lean_have : (given block : SymBlock) → IsLeaner given block → HaveTargets target given.list.items → HaveTargets target block.list.items
+  lean_have given block is h =
+      subst (λ (list : List Sym). HaveTargets target list) (sym is.after) (rows_have is.rows (subst (λ (list : List Sym). HaveTargets target list) is.before h))
