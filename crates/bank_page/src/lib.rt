@@ -8,8 +8,10 @@
 pub mod kinds;
 pub mod known;
 mod needs;
+mod ready;
 mod selecting;
 
+pub use ready::can_select;
 pub use selecting::{put_made, selects};
 
 #[cfg(test)]

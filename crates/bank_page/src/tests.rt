@@ -23,19 +23,6 @@ fn placed(alloc: Global) -> Placed {
     }
 }
 
-// Whether selects can be put into a list.
-fn can_select(placed: &Placed, list: &[Sym]) -> bool
-    ensures { result ≡ are_ready placed.now list.now }
-{
-    match list {
-        [] => true,
-        [first, rest @ ..] => {
-            (is_select(*first) || is_label(*first) || needs_in(placed, list).is_some())
-                && can_select(placed, rest)
-        }
-    }
-}
-
 // A program of one block with its selects, or one without a block where selects can't be put into it.
 fn selected(alloc: Global, block: SymBlock, placed: &Placed) -> Result<SymProgram, AllocError> {
     let mut blocks = Vec::new(alloc);

@@ -1,7 +1,7 @@
 -- What is known of a program before its code is made, and what the passes ask for by it: numbers have room, selects can be put, blocks have room
 -- where they stand, and what they name has an address.
-use Rattle.std.proofs.Common.{◌≡◌, ℕ, ◌≤◌, true, List, [], ◌∷◌, length, map, None, ◌∙◌, arith}
-use Rattle.std.specs.List.{All}
+use Rattle.std.proofs.Common.{◌≡◌, ℕ, ◌≤◌, true, List, [], ◌∷◌, length, map, None, ◌∙◌, subst, arith}
+use Rattle.std.specs.List.{All, AllZip}
 use Rattle.std.proofs.lemmas.List.{length-map}
 use Rattle.c_typed.specs.Chains.{graph_of}
 use Rattle.c_typed.specs.Roots.{broken_root}
@@ -16,13 +16,17 @@ use Rattle.core_code.specs.declared.code.Byte.{Byte}
 use Rattle.core_code.specs.declared.code.Byte.TheVariants as bytes
 use Rattle.core_code.specs.declared.code.CoreProgram.{CoreProgram}
 use Rattle.lower_stmt.specs.Bodies.{body_of, bodies_of, first_bytes}
+use Rattle.lean_blocks.specs.Leaner.{IsLeaner}
+use Rattle.lean_blocks.proofs.Whole.{blocks_are_leaner}
 use Rattle.lower_stmt.specs.FirstBytes.{items_of}
+use Rattle.lower_stmt.specs.Programs.{core_of}
 use Rattle.pic_map.specs.MapView.{object_of, frame_of}
 use Rattle.pic_map.specs.declared.Placed.{Placed}
 use Rattle.sym_code.specs.declared.code.Sym.{Sym}
 use Rattle.sym_code.specs.declared.code.SymBlock.{SymBlock}
 use Rattle.bank_page.specs.Ready.{CanSelect}
 use Rattle.bank_page.specs.Selected.{bare_lists}
+use Rattle.code_place.specs.Layouts.{layout_of}
 use Rattle.code_place.specs.Places.{BlocksHaveAddresses, HasEnds}
 use Rattle.code_place.specs.Sizes.{Fit}
 use Rattle.flow_facts.proofs.Kept.{thinning_keeps}
@@ -37,12 +41,12 @@ use Rattle.named_targets.proofs.Placing.{all_is_there}
 use Rattle.named_targets.proofs.Whole as targets
 use Rattle.object_counts.proofs.Sized.{objects_few}
 use Rattle.image_links.specs.Addressed.{BlocksHaveOperands, BlocksStandInside}
-use Rattle.image_links.proofs.Addressed.{operands_have_addresses, selects_keep_operands}
+use Rattle.image_links.proofs.Addressed.{lean_keeps_operands, operands_have_addresses, selects_keep_operands}
 use Rattle.image_links.proofs.FewCopies.{copies_few}
 use Rattle.image_links.proofs.Laid.{frames_whole}
 use Rattle.image_links.proofs.Standing.{translations_fit}
 use Rattle.picc_core.specs.Blocks.{HasBlocks}
-use Rattle.picc_core.specs.Coded.{IsSymbolic}
+use Rattle.picc_core.specs.Coded.{IsRoomy, AsGiven, Seen, IsSymbolic}
 use Rattle.picc_core.specs.Founded.{IsFounded}
 
 -- ---- from the stages
@@ -93,32 +97,42 @@ module _ (typed : Typed) (copies : List FnCopy) (placed : Placed) (at : List ℕ
         let inside = (operands given joined).1 in
         blocks_can_select (program_of typed) copies core given placed bodies joined (frames_whole (program_of typed) copies placed founded.spread.placing) (λ k d lt. are_there placed _ (inside k d lt))
 
-    module _ (made : List SymBlock) (symbolic : IsSymbolic core copies placed made) where
-      pub blocks : AreBlocks (program_of typed) copies core symbolic.given symbolic.whole placed
+    module _ (made : List SymBlock) (symbolic : IsSymbolic (program_of typed) core copies placed at made) where
+      pub blocks : AreBlocks (program_of typed) copies core symbolic.given symbolic.lean symbolic.selects.whole placed
       blocks = record {
         sound = founded.sound;
         roots = founded.roots;
         numbers = founded.numbers;
         bodies = bodies;
         joined = symbolic.joined;
-        names = symbolic.names;
-        bare = symbolic.bare;
-        apart = symbolic.apart;
-        reaches = symbolic.reaches;
-        few = symbolic.few;
-        exact = symbolic.exact;
+        leaner = symbolic.leaner;
+        names = symbolic.selects.names;
+        bare = symbolic.selects.bare;
+        apart = symbolic.selects.apart;
+        reaches = symbolic.selects.reaches;
+        few = symbolic.selects.few;
+        exact = symbolic.selects.exact;
       }
 
+      -- code as it was selected has room by what is stated of it, and leaner code was seen to have it
       pub fit : Fit made at
-      fit = translations_fit typed copies core symbolic.given symbolic.whole made placed at blocks symbolic.thinned founded.calls founded.spread.placing statics founded.paged
+      fit = by symbolic.room where
+        by : IsRoomy symbolic.given symbolic.lean made at → Fit made at
+        by (AsGiven same) =
+            translations_fit typed copies core symbolic.given symbolic.selects.whole made placed at
+            (subst (λ (l : List SymBlock). AreBlocks (program_of typed) copies core symbolic.given l symbolic.selects.whole placed) same blocks) symbolic.selects.thinned founded.calls founded.spread.placing statics founded.paged
+        by (Seen has) = has
 
       pub ends : HasEnds made at
-      ends = targets.ends_are_there (program_of typed) copies core symbolic.given symbolic.whole made placed at blocks symbolic.thinned founded.calls fit
+      ends = targets.ends_are_there (program_of typed) copies core symbolic.given symbolic.lean symbolic.selects.whole made placed at blocks symbolic.selects.thinned founded.calls fit
 
-      lists_kept : bare_lists made ≡ bare_lists symbolic.given
-      lists_kept = (thinning_keeps placed (handler_at copies) symbolic.whole made symbolic.thinned symbolic.apart symbolic.reaches).lists ∙ symbolic.bare
+      lists_kept : bare_lists made ≡ bare_lists symbolic.lean
+      lists_kept = (thinning_keeps placed (handler_at copies) symbolic.selects.whole made symbolic.selects.thinned symbolic.selects.apart symbolic.selects.reaches).lists ∙ symbolic.selects.bare
+
+      leaner : AllZip IsLeaner symbolic.given symbolic.lean
+      leaner = blocks_are_leaner (layout_of placed) (handler_at copies) (core_of (program_of typed) copies).variable_bytes symbolic.given symbolic.lean symbolic.leaner
 
       pub named : BlocksHaveAddresses placed made at
       named =
-          all_is_there placed made at (targets.targets_are_there (program_of typed) copies core symbolic.given symbolic.whole made placed at blocks symbolic.thinned founded.calls fit)
-          (selects_keep_operands placed symbolic.given made lists_kept (operands symbolic.given symbolic.joined).0)
+          all_is_there placed made at (targets.targets_are_there (program_of typed) copies core symbolic.given symbolic.lean symbolic.selects.whole made placed at blocks symbolic.selects.thinned founded.calls fit)
+          (selects_keep_operands placed symbolic.lean made lists_kept (lean_keeps_operands placed symbolic.given symbolic.lean leaner (operands symbolic.given symbolic.joined).0))

@@ -8,6 +8,7 @@ pub mod Handed
 pub mod BlockViews
 pub mod CopyCounts
 pub mod Founding
+pub mod Leaning
 pub mod Named
 pub mod Translating
 pub mod OnlyCopies

@@ -42,7 +42,14 @@ pub record IsChecked (b : Built) : Type 0 where
 module _ (typed : Typed) (copies : List FnCopy) (placed : Placed) (at : List ℕ) (b : Built) (objects : b.map.objects ≡ placed.objects) (frames : b.map.frames ≡ placed.frames)
     (founded : IsFounded typed copies placed at) (code : IsCoded (program_of typed) copies placed at b.image b.map.main b.map.halt) where
   passed : IsPassed (program_of typed) copies code.core code.symbolic.given code.made placed at
-  passed = record { whole = code.symbolic.whole; blocks = blocks typed copies placed at founded code.core code.bodies code.statics code.made code.symbolic; thinned = code.symbolic.thinned; fit = code.fit; named = code.named }
+  passed = record {
+    lean = code.symbolic.lean;
+    whole = code.symbolic.selects.whole;
+    blocks = blocks typed copies placed at founded code.core code.bodies code.statics code.made code.symbolic;
+    thinned = code.symbolic.selects.thinned;
+    fit = code.fit;
+    named = code.named;
+  }
 
   objects_are : map object_of b.map.objects.items ≡ map object_of placed.objects.items
   objects_are = ap (λ (v : Vec ObjLine Global). map object_of v.items) objects

@@ -1,34 +1,56 @@
 -- What is known of the code of a compiled program, from byte code on: what each pass promises of its part.
-use Rattle.std.specs.Prelude.{ℕ, ◌≡◌, List, map, Some}
+use Rattle.std.specs.Prelude.{ℕ, ◌≡◌, List, map, Option, Some}
 use Rattle.std.specs.List.{All, AllZip}
 use Rattle.c_typed.specs.Trees.{Program}
 use Rattle.call_graph.specs.Numbers.{handler_at}
 use Rattle.call_graph.specs.declared.types.FnCopy.{FnCopy}
 use Rattle.core_code.specs.declared.code.CoreProgram.{CoreProgram}
 use Rattle.lower_stmt.specs.Bodies.{body_of, bodies_of, first_bytes}
+use Rattle.lean_pass.specs.Made.{IsLean}
 use Rattle.lower_stmt.specs.FirstBytes.{items_of}
+use Rattle.lower_stmt.specs.Programs.{core_of}
 use Rattle.pic_map.specs.declared.Placed.{Placed}
 use Rattle.sym_code.specs.declared.code.BlockName.TheVariants.{Copy}
 use Rattle.sym_code.specs.declared.code.Label.TheVariants.{Halt}
 use Rattle.sym_code.specs.declared.code.SymBlock.{SymBlock}
 use Rattle.bank_page.specs.Selected.{names_of, bare_lists, IsApart, IsWithin, Reaches, IsExact}
+use Rattle.code_place.specs.Layouts.{layout_of}
 use Rattle.code_place.specs.Places.{block_place, label_place, BlocksHaveAddresses, HoldsInstructions, IsErasedElsewhere, TargetsStand}
 use Rattle.code_place.specs.Sizes.{Fit}
 use Rattle.flow_facts.specs.Thin.{IsThinned}
 use Rattle.program_code.specs.Joined.{IsJoined}
 
--- The blocks are those that are joined from byte code, with the selects that they need, but for those that flow facts make needless.
-pub record IsSymbolic (core : CoreProgram) (copies : List FnCopy) (placed : Placed) (made : List SymBlock) : Type 0 where
-  pub given : List SymBlock
-  pub joined : IsJoined core copies given
+-- The blocks have the selects that they need, but for those that flow facts make needless.
+pub record HasSelects (placed : Placed) (handler : Option ℕ) (lean made : List SymBlock) : Type 0 where
   pub whole : List SymBlock
-  pub names : names_of whole ≡ names_of given
-  pub bare : bare_lists whole ≡ bare_lists given
+  pub names : names_of whole ≡ names_of lean
+  pub bare : bare_lists whole ≡ bare_lists lean
   pub apart : All IsApart whole
   pub reaches : All (Reaches placed) whole
-  pub few : AllZip IsWithin given whole
-  pub exact : AllZip (IsExact placed) given whole
-  pub thinned : IsThinned (handler_at copies) whole made
+  pub few : AllZip IsWithin lean whole
+  pub exact : AllZip (IsExact placed) lean whole
+  pub thinned : IsThinned handler whole made
+
+-- The code is as it was selected, or its blocks were seen to have room at their addresses.
+pub data IsRoomy (given lean made : List SymBlock) (at : List ℕ) : Type 0 where
+  AsGiven : lean ≡ given → IsRoomy given lean made at
+  Seen : Fit made at → IsRoomy given lean made at
+
+-- Leaner blocks with selects, which were seen to have room.
+pub record IsLeanTo (p : Program) (copies : List FnCopy) (placed : Placed) (at : List ℕ) (given made : List SymBlock) : Type 0 where
+  pub lean : List SymBlock
+  pub leaner : IsLean (layout_of placed) (handler_at copies) (core_of p copies).variable_bytes given lean
+  pub selects : HasSelects placed (handler_at copies) lean made
+  pub fit : Fit made at
+
+-- The blocks are those that are joined from byte code, without instructions on temporary bytes that nothing needs, and with selects.
+pub record IsSymbolic (p : Program) (core : CoreProgram) (copies : List FnCopy) (placed : Placed) (at : List ℕ) (made : List SymBlock) : Type 0 where
+  pub given : List SymBlock
+  pub joined : IsJoined core copies given
+  pub lean : List SymBlock
+  pub leaner : IsLean (layout_of placed) (handler_at copies) (core_of p copies).variable_bytes given lean
+  pub selects : HasSelects placed (handler_at copies) lean made
+  pub room : IsRoomy given lean made at
 
 -- The image has the words of such blocks at their addresses, and no others; main begins at the first copy's, and ends at the label for that.
 pub record IsCoded (p : Program) (copies : List FnCopy) (placed : Placed) (at image : List ℕ) (main halt : ℕ) : Type 0 where
@@ -36,7 +58,7 @@ pub record IsCoded (p : Program) (copies : List FnCopy) (placed : Placed) (at im
   pub bodies : map body_of core.bodies.items ≡ bodies_of p copies
   pub statics : map items_of core.statics.items ≡ first_bytes p
   pub made : List SymBlock
-  pub symbolic : IsSymbolic core copies placed made
+  pub symbolic : IsSymbolic p core copies placed at made
   pub fit : Fit made at
   pub named : BlocksHaveAddresses placed made at
   pub words : HoldsInstructions placed made at image

@@ -24,8 +24,9 @@ ghost use Rattle.picc_core.specs.declared.refusal.LimitKind.TheVariants as kinds
 ghost use Rattle.picc_core.specs.declared.refusal.Refusal.{Refusal};
 ghost use Rattle.picc_core.specs.declared.refusal.Refusal.TheVariants as refusals;
 
-use crate::joining::{Selects, joined, symbolic_by};
+use crate::joining::joined;
 use crate::known::{Built, Front};
+use crate::leaner::{Saving, symbolic_by};
 use crate::refusal::CompileError;
 use crate::stages::front;
 use c_check::Typed;
@@ -44,19 +45,19 @@ fn coded(
     copies: &Copies,
     placed: &Placed,
     at: &[u16],
-    selects: Selects,
+    saving: Saving,
 ) -> Result<Assembled, AllocError>
     requires { IsFounded typed.now copies.now.list.items placed.now at.now }
     ensures { IfOk result (λ made. IsCoded (program_of typed.now) copies.now.list.items placed.now at.now made.image made.main made.halt) }
 {
     let core = lower(alloc, typed, copies)?;
-    let program = symbolic_by(alloc, &core, copies, placed, selects)?;
+    let program = symbolic_by(alloc, typed, &core, copies, placed, at, saving)?;
     let made = assemble(alloc, &program, at, placed)?;
     Ok(made)
 }
 
 /// The image and the map of what is known of a text.
-fn built(alloc: Global, front: Front, selects: Selects) -> Result<Built, AllocError>
+fn built(alloc: Global, front: Front, saving: Saving) -> Result<Built, AllocError>
     requires { IsFounded front.typed front.copies.list.items front.placed front.at.items }
     ensures typed { IfOk result (λ built. built.typed ≡ front.typed) }
     ensures objects { IfOk result (λ built. built.map.objects ≡ front.placed.objects) }
@@ -71,7 +72,7 @@ fn built(alloc: Global, front: Front, selects: Selects) -> Result<Built, AllocEr
         at,
         words,
     } = front;
-    let assembled = coded(alloc, &typed, &copies, &placed, &at, selects)?;
+    let assembled = coded(alloc, &typed, &copies, &placed, &at, saving)?;
     let ram = placed.ram;
     Ok(Built {
         typed,
@@ -102,12 +103,21 @@ pub fn codes_of(alloc: Global, front: &Front) -> Result<Codes, AllocError>
     // Each copy has its block, a function the one that is selected for its body and a helper its routine, none is lost, and they stand in
     // the order of code.
     ensures plain { IfOk result (λ codes. IsJoined codes.core front.now.copies.list.items codes.plain.blocks.items) }
-    // The selects are those of `selects`, each for a need, but for those that flow facts which are consistent make needless.
-    ensures selected { IfOk result (λ codes. IsSymbolic codes.core front.now.copies.list.items front.now.placed codes.selected.blocks.items) }
+    // Instructions on temporary bytes are left out by a certificate; the selects are those of `selects`, each for a need, but for those that
+    // flow facts which are consistent make needless.
+    ensures selected { IfOk result (λ codes. IsSymbolic (program_of front.now.typed) codes.core front.now.copies.list.items front.now.placed front.now.at.items codes.selected.blocks.items) }
 {
     let core = lower(alloc, &front.typed, &front.copies)?;
     let plain = joined(alloc, &core, &front.copies)?;
-    let selected = symbolic_by(alloc, &core, &front.copies, &front.placed, Selects::Lean)?;
+    let selected = symbolic_by(
+        alloc,
+        &front.typed,
+        &core,
+        &front.copies,
+        &front.placed,
+        &front.at,
+        Saving::Lean,
+    )?;
     Ok(Codes {
         core,
         plain,
@@ -115,15 +125,15 @@ pub fn codes_of(alloc: Global, front: &Front) -> Result<Codes, AllocError>
     })
 }
 
-/// What a text is compiled to with these selects, or the first refusal that holds of it.
-fn compiled(alloc: Global, text: &[u8], selects: Selects) -> Result<Built, CompileError>
+/// What a text is compiled to where this is left out, or the first refusal that holds of it.
+fn compiled(alloc: Global, text: &[u8], saving: Saving) -> Result<Built, CompileError>
     ensures text_limit { 262144 < length text.now → result ≡ Err (Refused (refusals.Limit kinds.Text 0)) }
     ensures refused { IfErr result (TellsError text.now) }
     ensures tokens { (r : Refusal) → program_tokens text.now ≡ Err (Refused r) → IsRefusedUnless result r }
     ensures whole { IfOk result (IsCompiledTo text.now) }
 {
     let front = front(alloc, text)?;
-    let made = built(alloc, front, selects)?;
+    let made = built(alloc, front, saving)?;
     Ok(made)
 }
 
@@ -164,11 +174,11 @@ pub fn compile(alloc: Global, text: &[u8]) -> Result<Built, CompileError>
     // All this together.
     ensures whole { IfOk result (IsCompiledTo text.now) }
 {
-    compiled(alloc, text, Selects::Lean)
+    compiled(alloc, text, Saving::Lean)
 }
 
-/// The same where no flow facts are sought: each block has the selects that it needs by what its straight code tells. So its words are
-/// no fewer, and `compile` is measured by it.
+/// The same where nothing is left out, and no flow facts are sought: each block is as it was selected, with the selects that it needs by
+/// what its straight code tells. `compile` is measured by it.
 pub fn compile_plain(alloc: Global, text: &[u8]) -> Result<Built, CompileError>
     // A text over 262,144 bytes is refused so.
     ensures text_limit { 262144 < length text.now → result ≡ Err (Refused (refusals.Limit kinds.Text 0)) }
@@ -179,5 +189,5 @@ pub fn compile_plain(alloc: Global, text: &[u8]) -> Result<Built, CompileError>
     // All that is known of what `compile` makes.
     ensures whole { IfOk result (IsCompiledTo text.now) }
 {
-    compiled(alloc, text, Selects::Plain)
+    compiled(alloc, text, Saving::Plain)
 }

@@ -4,30 +4,23 @@ ghost use Rattle.std.specs.Prelude.{◌≡◌, ◌<◌, ◌≤◌, ◌++◌, Lis
 ghost use Rattle.std.specs.List.{All};
 ghost use Rattle.std.specs.List.Sorted.{IsNonDecreasingBy, IsPermutation};
 ghost use Rattle.call_graph.specs.Numbers.{handler_at};
-ghost use Rattle.bank_page.specs.Ready.{CanSelect};
-ghost use Rattle.flow_facts.specs.Thin.{IsThinned};
 ghost use Rattle.isr_save.specs.Start.{HasNumberedBytes};
 ghost use Rattle.select_wide.specs.Blocks.{views_of};
-ghost use Rattle.picc_core.specs.Coded.{IsSymbolic};
 ghost use Rattle.program_code.specs.Joined.{helper_at, helpers_from, IsJoined};
 ghost use Rattle.program_code.specs.Order.{block_rank};
-ghost use Rattle.sym_code.specs.declared.code.SymBlock.{SymBlock as Block};
 
 use crate::code_order::name_rank;
-use bank_page::selects;
 use call_graph::{Copies, FnCopy, FnId};
 use core_code::CoreProgram;
-use flow_facts::{thinned, thinned_plainly};
 use isr_save::start_block;
 use math_helpers::helper;
-use pic_map::Placed;
 use select_wide::{handler_at, select};
 use std::alloc::{AllocError, Global};
 use sym_code::{SymBlock, SymProgram};
 
 // The number of the handler's copy as blocks have it.
 #[tactic(auto, using(crate::proofs::Handed::small_number))]
-fn handler_of(copies: &Copies) -> Option<u16>
+pub(crate) fn handler_of(copies: &Copies) -> Option<u16>
     requires { length copies.now.list.items ≤ 65536 }
     ensures { result ≡ handler_at copies.now.list.items }
 {
@@ -94,50 +87,4 @@ pub(crate) fn joined(
     let mut order = in_code_order(blocks, copies)?;
     order.insert(0, start_block(alloc, core, handler)?)?;
     Ok(SymProgram { blocks: order })
-}
-
-/// What is known where selects are left out that set what is so already.
-#[derive(Clone, Copy)]
-pub(crate) enum Selects {
-    /// What flow facts tell, over jumps, loops and calls.
-    Lean,
-    /// What straight code tells alone.
-    Plain,
-}
-
-// The program without the selects that are needless by what is known. Some are so either way, where nothing comes.
-fn thinner(
-    alloc: Global,
-    program: &SymProgram,
-    handler: Option<u16>,
-    selects: Selects,
-) -> Result<SymProgram, AllocError>
-    ensures { IfOk result (λ made. IsThinned handler program.now.blocks.items made.blocks.items) }
-{
-    match selects {
-        Selects::Lean => thinned(alloc, program, handler),
-        Selects::Plain => thinned_plainly(alloc, program, handler),
-    }
-}
-
-/// The same with its selects, but for those that are needless by what is known.
-pub(crate) fn symbolic_by(
-    alloc: Global,
-    core: &CoreProgram,
-    copies: &Copies,
-    placed: &Placed,
-    known: Selects,
-) -> Result<SymProgram, AllocError>
-    requires copies { length copies.now.list.items ≤ 65536 }
-    requires few { length core.now.statics.items ≤ 65536 }
-    requires short { All HasNumberedBytes core.now.statics.items }
-    // Selects can be put into the blocks that are joined.
-    requires ready { (given : List Block) → IsJoined core.now copies.now.list.items given → All (CanSelect placed.now) given }
-    ensures { IfOk result (λ made. IsSymbolic core.now copies.now.list.items placed.now made.blocks.items) }
-{
-    let program = joined(alloc, core, copies)?;
-    let whole = selects(alloc, &program, placed)?;
-    let handler = handler_of(copies);
-    let made = thinner(alloc, &whole, handler, known)?;
-    Ok(made)
 }

@@ -15,6 +15,7 @@ mod compiling;
 mod deciding;
 mod joining;
 mod known;
+mod leaner;
 mod refusal;
 mod stages;
 mod typing;

@@ -7,9 +7,6 @@ lower-requires-clause-copies c = copies_low c.args.typed.now c.args.copies.now.l
 pub lower-requires-clause-statics : goal.lower-requires-clause-statics
 lower-requires-clause-statics c = statics_low c.args.typed.now c.args.copies.now.list.items c.args.placed.now c.args.at.now c.requires
 
-pub symbolic_by-requires-clause-copies : goal.symbolic_by-requires-clause-copies
-symbolic_by-requires-clause-copies c = copies_low c.args.typed.now c.args.copies.now.list.items c.args.placed.now c.args.at.now c.requires
-
 pub symbolic_by-requires-clause-few : goal.symbolic_by-requires-clause-few
 symbolic_by-requires-clause-few c = c.in_ok-core.ensures.few
 

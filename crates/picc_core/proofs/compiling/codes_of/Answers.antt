@@ -1,4 +1,5 @@
 use Rattle.picc_core.proofs.Founding.{copies_low, statics_low, ready}
+use Rattle.picc_core.proofs.Translating.{founded_at}
 use Rattle.picc_core.proofs.compiling.codes_of.Goals as goal
 
 pub lower-requires-clause-copies : goal.lower-requires-clause-copies
@@ -16,9 +17,6 @@ joined-requires-clause-few c = c.in_ok-core.ensures.few
 pub joined-requires-clause-short : goal.joined-requires-clause-short
 joined-requires-clause-short c = c.in_ok-core.ensures.short
 
-pub symbolic_by-requires-clause-copies : goal.symbolic_by-requires-clause-copies
-symbolic_by-requires-clause-copies c = copies_low c.args.front.now.typed c.args.front.now.copies.list.items c.args.front.now.placed c.args.front.now.at.items c.requires
-
 pub symbolic_by-requires-clause-few : goal.symbolic_by-requires-clause-few
 symbolic_by-requires-clause-few c = c.in_ok-core.ensures.few
 
@@ -27,3 +25,6 @@ symbolic_by-requires-clause-short c = c.in_ok-core.ensures.short
 
 pub symbolic_by-requires-clause-ready : goal.symbolic_by-requires-clause-ready
 symbolic_by-requires-clause-ready c = ready c.args.front.now.typed c.args.front.now.copies.list.items c.args.front.now.placed c.args.front.now.at.items c.requires c.in_ok-core.core c.in_ok-core.ensures.bodies c.in_ok-core.ensures.statics
+
+pub symbolic_by-requires-clause-founded : goal.symbolic_by-requires-clause-founded
+symbolic_by-requires-clause-founded c = founded_at _ _ _ _ _ c.deref.ensures.value c.requires

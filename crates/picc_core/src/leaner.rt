@@ -1,0 +1,133 @@
+//! From the joined blocks of a program to those that are given addresses: leaner, and with selects.
+
+ghost use Rattle.std.specs.Prelude.{◌≡◌, ◌≤◌, List, length, map, IfOk, IfSome};
+ghost use Rattle.std.specs.List.{All};
+ghost use Rattle.c_typed.specs.Nodes.{capped};
+ghost use Rattle.c_typed.specs.Views.{program_of};
+ghost use Rattle.call_graph.specs.declared.types.FnCopy.{FnCopy as Copied};
+ghost use Rattle.bank_page.specs.Ready.{CanSelect};
+ghost use Rattle.flow_facts.specs.Thin.{IsThinned};
+ghost use Rattle.isr_save.specs.Start.{HasNumberedBytes};
+ghost use Rattle.program_code.specs.Joined.{IsJoined};
+ghost use Rattle.ram_place.specs.Sizes as sizes;
+ghost use Rattle.picc_core.specs.Coded.{HasSelects, IsLeanTo, IsSymbolic};
+ghost use Rattle.picc_core.specs.Founded.{IsFounded};
+ghost use Rattle.sym_code.specs.declared.code.SymBlock.{SymBlock as Block};
+
+use crate::joining::{handler_of, joined};
+use bank_page::{can_select, selects};
+use c_check::Typed;
+use call_graph::{Copies, FnCopy};
+use code_place::fits;
+use core_code::CoreProgram;
+use flow_facts::{thinned, thinned_plainly};
+use lean_pass::lean;
+use pic_map::Placed;
+use ram_place::variable_bytes;
+use std::alloc::{AllocError, Global};
+use sym_code::SymProgram;
+
+/// What is left out of code.
+#[derive(Clone, Copy)]
+pub(crate) enum Saving {
+    /// Instructions on temporary bytes that nothing needs, and selects by what flow facts tell, over jumps, loops and calls.
+    Lean,
+    /// Selects by what straight code tells alone.
+    Plain,
+}
+
+// The program without the selects that are needless by what is known. Some are so either way, where nothing comes.
+fn thinner(
+    alloc: Global,
+    program: &SymProgram,
+    handler: Option<u16>,
+    saving: Saving,
+) -> Result<SymProgram, AllocError>
+    ensures { IfOk result (λ made. IsThinned handler program.now.blocks.items made.blocks.items) }
+{
+    match saving {
+        Saving::Lean => thinned(alloc, program, handler),
+        Saving::Plain => thinned_plainly(alloc, program, handler),
+    }
+}
+
+// The program with its selects, but for those that are needless by what is known.
+fn selected(
+    alloc: Global,
+    program: &SymProgram,
+    placed: &Placed,
+    handler: Option<u16>,
+    saving: Saving,
+) -> Result<SymProgram, AllocError>
+    requires { All (CanSelect placed.now) program.now.blocks.items }
+    ensures { IfOk result (λ made. HasSelects placed.now handler program.now.blocks.items made.blocks.items) }
+{
+    let whole = selects(alloc, program, placed)?;
+    let made = thinner(alloc, &whole, handler, saving)?;
+    Ok(made)
+}
+
+// How many bytes the variables of each copy have.
+fn variables_of(alloc: Global, typed: &Typed, copies: &[FnCopy]) -> Result<Vec<u64>, AllocError>
+    ensures { IfOk result (λ list. list.items ≡ map (λ (copy : Copied). capped (sizes.variable_bytes (program_of typed.now) copy.function)) copies.now) }
+{
+    let mut list = Vec::new(alloc);
+    for copy in copies {
+        list.push(variable_bytes(typed, copy.function))?;
+    }
+    Ok(list)
+}
+
+// The program without the instructions that nothing needs, with selects, where these can be put and each block has room.
+fn leaner(
+    alloc: Global,
+    given: &SymProgram,
+    typed: &Typed,
+    copies: &Copies,
+    placed: &Placed,
+    at: &[u16],
+) -> Result<Option<SymProgram>, AllocError>
+    requires founded { IsFounded typed.now copies.now.list.items placed.now at.now }
+    ensures { IfOk result (λ found. IfSome found (λ made. IsLeanTo (program_of typed.now) copies.now.list.items placed.now at.now given.now.blocks.items made.blocks.items)) }
+{
+    let variables = variables_of(alloc, typed, &copies.list)?;
+    let handler = handler_of(copies);
+    let blocks = lean(alloc, &given.blocks, handler, placed, &variables)?;
+    if !can_select(placed, &blocks) {
+        return Ok(None);
+    }
+    let program = SymProgram { blocks };
+    let made = selected(alloc, &program, placed, handler, Saving::Lean)?;
+    if fits(&made.blocks, at) {
+        Ok(Some(made))
+    } else {
+        Ok(None)
+    }
+}
+
+/// The symbolic code of a program, each copy's block with the selects that it needs.
+pub(crate) fn symbolic_by(
+    alloc: Global,
+    typed: &Typed,
+    core: &CoreProgram,
+    copies: &Copies,
+    placed: &Placed,
+    at: &[u16],
+    saving: Saving,
+) -> Result<SymProgram, AllocError>
+    requires founded { IsFounded typed.now copies.now.list.items placed.now at.now }
+    requires few { length core.now.statics.items ≤ 65536 }
+    requires short { All HasNumberedBytes core.now.statics.items }
+    // Selects can be put into the blocks that are joined.
+    requires ready { (given : List Block) → IsJoined core.now copies.now.list.items given → All (CanSelect placed.now) given }
+    ensures { IfOk result (λ made. IsSymbolic (program_of typed.now) core.now copies.now.list.items placed.now at.now made.blocks.items) }
+{
+    let given = joined(alloc, core, copies)?;
+    if let Saving::Lean = saving {
+        if let Some(made) = leaner(alloc, &given, typed, copies, placed, at)? {
+            return Ok(made);
+        }
+    }
+    let made = selected(alloc, &given, placed, handler_of(copies), saving)?;
+    Ok(made)
+}
