@@ -21,13 +21,13 @@ use sym_code::{BlockName, Label, Sym, SymBlock, SymProgram, Target};
 #[derive(Drop)]
 pub struct Marks {
     pub start: Option<u16>,
-    pub copies: BTreeMap<u32, u16>,
+    pub copies: BTreeMap<usize, u16>,
     pub halt: Option<u16>,
     pub restore: Option<u16>,
 }
 
 // Where something stands that has no place yet: of two with one number the first counts.
-fn put_first(places: &mut BTreeMap<u32, u16>, number: u32, at: u16) -> Result<(), AllocError>
+fn put_first(places: &mut BTreeMap<usize, u16>, number: usize, at: u16) -> Result<(), AllocError>
     ensures { OnOk result ((asked : ℕ) → get nat_cmp places.new asked ≡ option_or (get nat_cmp places.old asked) (at_if (nat_eq number asked) at)) }
 {
     match places.get(&number).copied() {
@@ -64,7 +64,7 @@ impl Marks {
                 self.start = self.start.or(Some(at));
                 Ok(())
             }
-            BlockName::Copy(copy) => put_first(&mut self.copies, copy as u32, at),
+            BlockName::Copy(copy) => put_first(&mut self.copies, copy as usize, at),
         }
     }
 
@@ -107,12 +107,12 @@ impl Marks {
     {
         match name {
             BlockName::Start => self.start,
-            BlockName::Copy(copy) => self.copies.get(&(copy as u32)).copied(),
+            BlockName::Copy(copy) => self.copies.get(&(copy as usize)).copied(),
         }
     }
 
     /// Where a target stands, from a block with these labels of its own.
-    pub fn target(&self, inner: &BTreeMap<u32, u16>, target: Target) -> Option<u16>
+    pub fn target(&self, inner: &BTreeMap<usize, u16>, target: Target) -> Option<u16>
         ensures { result ≡ target_in self.now inner.now target }
     {
         match target {
@@ -154,7 +154,7 @@ pub fn marks_of(alloc: Global, s: &SymProgram, at: &[u16]) -> Result<Marks, Allo
 
 #[tactic(auto, using(crate::proofs::Maps::or_none))]
 fn put_inner(
-    labels: &mut BTreeMap<u32, u16>,
+    labels: &mut BTreeMap<usize, u16>,
     label: Option<Label>,
     at: u16,
 ) -> Result<(), AllocError>
@@ -173,7 +173,7 @@ pub fn inner_labels(
     alloc: Global,
     block: &SymBlock,
     at: u16,
-) -> Result<BTreeMap<u32, u16>, AllocError>
+) -> Result<BTreeMap<usize, u16>, AllocError>
     requires { at + words_in block.now.list.items ≤ 8192 }
     ensures { IfOk result (AreInner block.now at) }
 {

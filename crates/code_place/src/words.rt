@@ -27,7 +27,7 @@ use sym_code::{
 pub struct Scope<'a> {
     pub placed: &'a Placed,
     pub marks: &'a Marks,
-    pub inner: &'a BTreeMap<u32, u16>,
+    pub inner: &'a BTreeMap<usize, u16>,
 }
 
 impl<'a> Scope<'a> {

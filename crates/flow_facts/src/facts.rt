@@ -22,10 +22,10 @@ pub struct FlowFacts {
     pub copies: Vec<BlockFacts>,
 }
 
-fn label_in(facts: &BlockFacts, number: u32) -> Option<Known>
+fn label_in(facts: &BlockFacts, number: usize) -> Option<Known>
     ensures { result ≡ stored.listed (slice_get facts.now.labels.items number) }
 {
-    match facts.labels.get(number as usize) {
+    match facts.labels.get(number) {
         Some(fact) => *fact,
         None => Some(Known::nothing()),
     }
@@ -64,7 +64,7 @@ impl FlowFacts {
         }
     }
 
-    fn inner(&self, own: BlockName, number: u32) -> Option<Known>
+    fn inner(&self, own: BlockName, number: usize) -> Option<Known>
         ensures { result ≡ stored.label_of (stored.of_block self.now own) number }
     {
         match self.of_block(own) {

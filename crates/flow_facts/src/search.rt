@@ -88,8 +88,8 @@ fn come_back(facts: &mut FlowFacts, name: BlockName, fact: Option<Known>) -> boo
     come(&mut facts.copies[at].back, fact)
 }
 
-fn come_to_inner(labels: &mut [Option<Known>], number: u32, fact: Option<Known>) -> bool {
-    let at = number as usize;
+fn come_to_inner(labels: &mut [Option<Known>], number: usize, fact: Option<Known>) -> bool {
+    let at = number;
     if at >= labels.len() {
         return false;
     }

@@ -37,7 +37,7 @@ fn put_negate_if(
     layout: RoutineLayout,
     sign: Operand,
     value: Value,
-    label: u32,
+    label: usize,
 ) -> Result<(), AllocError>
     ensures code { OnOk result (block.new.list.items ≡ block.old.list.items ++ negate_if_code layout sign value label) }
     ensures name { block.new.name ≡ block.old.name }

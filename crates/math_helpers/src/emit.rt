@@ -89,7 +89,7 @@ pub fn put_number(block: &mut SymBlock, value: u8) -> Result<(), AllocError>
 }
 
 /// A jump to a label of the block.
-pub fn put_jump(block: &mut SymBlock, label: u32) -> Result<(), AllocError>
+pub fn put_jump(block: &mut SymBlock, label: usize) -> Result<(), AllocError>
     ensures code { OnOk result (block.new.list.items ≡ block.old.list.items ++ jump label ∷ []) }
     ensures name { block.new.name ≡ block.old.name }
 {
@@ -97,7 +97,7 @@ pub fn put_jump(block: &mut SymBlock, label: u32) -> Result<(), AllocError>
 }
 
 /// A label of the block.
-pub fn put_label(block: &mut SymBlock, label: u32) -> Result<(), AllocError>
+pub fn put_label(block: &mut SymBlock, label: usize) -> Result<(), AllocError>
     ensures code { OnOk result (block.new.list.items ≡ block.old.list.items ++ mark label ∷ []) }
     ensures name { block.new.name ≡ block.old.name }
 {

@@ -27,7 +27,7 @@ pub fn put_round_end(
     block: &mut SymBlock,
     layout: RoutineLayout,
     counter: Value,
-    label: u32,
+    label: usize,
 ) -> Result<(), AllocError>
     ensures code { OnOk result (block.new.list.items ≡ block.old.list.items ++ round_end_code layout counter label) }
     ensures name { block.new.name ≡ block.old.name }

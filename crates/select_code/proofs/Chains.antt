@@ -119,9 +119,9 @@ if_both w e loops before tree holds fails test size o p q r s u v y end other is
     ∙ ap (λ j. o ++ if_code (form_by j (is_nothing fails)) (length o) t f g) (sym short)
     ∙ ap (λ z. o ++ code_of w e loops (length o) before z) (sym is)
 
-pub jump_same : (l m : List ℕ) (y z n k : Core) (short : Option Label) → short ≡ short_jump (reverse l) (tree_of y) (tree_of n) → l ≡ m → y ≡ z → n ≡ k → short_jump (reverse m) (tree_of z) (tree_of k) ≡ short
-jump_same l m y z n k short is a b d =
-    sym (is ∙ ap (λ v. short_jump (reverse v) (tree_of y) (tree_of n)) a ∙ ap (λ v. short_jump (reverse m) (tree_of v) (tree_of n)) b ∙ ap (λ v. short_jump (reverse m) (tree_of z) (tree_of v)) d)
+pub jump_same : (loops : List ℕ) (y z n k : Core) (short : Option Label) → short ≡ short_jump (reverse loops) (tree_of y) (tree_of n) → y ≡ z → n ≡ k → short_jump (reverse loops) (tree_of z) (tree_of k) ≡ short
+jump_same loops y z n k short is a b =
+    sym (is ∙ ap (λ v. short_jump (reverse loops) (tree_of v) (tree_of n)) a ∙ ap (λ v. short_jump (reverse loops) (tree_of z) (tree_of v)) b)
 
 -- A loop's turn.
 pub turn_short : (w : Given) (e : Ending) (loops : List ℕ) (o q : List Sym) (xs : List Core) (tree : Tree) (top : Label) (count : ℕ) → tree ≡ Many (trees_of (trees_in xs)) → Some count ≡ short_list (trees_in xs)

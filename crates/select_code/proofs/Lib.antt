@@ -1,3 +1,4 @@
 pub mod Parts
 pub mod Others
 pub mod Chains
+pub mod Starts

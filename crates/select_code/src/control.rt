@@ -8,6 +8,7 @@ ghost use Rattle.select_code.specs.Pieces.{first_label};
 ghost use Rattle.select_code.specs.Selected.{leave_code, call_code, jump_target, goes_to, is_nothing, short_jump, is_exit, short_list, single_code, code_of, parts_code, loop_code, turn_code, body_code, ending_of, byte_code};
 ghost use Rattle.select_code.specs.Sized.{is_byte_sized};
 
+use crate::loops::Loops;
 use crate::pieces::{
     make_first_label, make_second_label, put_bit_read, put_bit_write, put_copy, put_goto,
     put_jump_if_zero, put_label, put_set, put_test,
@@ -68,33 +69,21 @@ fn put_call(copy: u16, out: &mut SymBlock) -> Result<(), AllocError>
     out.put(Sym::Call(Target::Block(BlockName::Copy(copy))))
 }
 
-// Where the loop that is so many loops out begins, by what stood before it: the innermost loop is the last.
-#[tactic(auto, using(crate::proofs::Parts::from_back, crate::proofs::Parts::past_back))]
-fn loop_out(loops: &[usize], count: usize) -> Option<usize>
-    ensures { result ≡ slice_get (reverse loops.now) count }
-{
-    if count < loops.len() {
-        Some(loops[loops.len() - 1 - count])
-    } else {
-        None
-    }
-}
-
 // The label that an operation goes to, where all that it does is to go there.
 #[tactic(auto, using(core_code::proofs::Views::tree_set, core_code::proofs::Views::tree_address, core_code::proofs::Views::tree_copy, core_code::proofs::Views::tree_load, core_code::proofs::Views::tree_store, core_code::proofs::Views::tree_unary, core_code::proofs::Views::tree_binary, core_code::proofs::Views::tree_convert, core_code::proofs::Views::tree_bit_read, core_code::proofs::Views::tree_bit_write, core_code::proofs::Views::tree_call, core_code::proofs::Views::tree_leave, core_code::proofs::Views::tree_many, core_code::proofs::Views::tree_if, core_code::proofs::Views::tree_loop, core_code::proofs::Views::tree_exit, core_code::proofs::Views::tree_again))]
-fn jump_of(c: &Core, loops: &[usize]) -> Result<Option<Label>, AllocError>
-    ensures { IfOk result (λ to. to ≡ jump_target (reverse loops.now) (tree_of c.now)) }
+fn jump_of(c: &Core, loops: &Loops) -> Option<Label>
+    ensures { result ≡ jump_target (reverse loops.now.starts.items) (tree_of c.now) }
 {
     match c {
-        Core::Exit(count) => match loop_out(loops, *count) {
-            Some(at) => Ok(Some(make_second_label(at)?)),
-            None => Ok(None),
+        Core::Exit(count) => match loops.out(*count) {
+            Some(at) => Some(make_second_label(at)),
+            None => None,
         },
-        Core::Again(count) => match loop_out(loops, *count) {
-            Some(at) => Ok(Some(make_first_label(at)?)),
-            None => Ok(None),
+        Core::Again(count) => match loops.out(*count) {
+            Some(at) => Some(make_first_label(at)),
+            None => None,
         },
-        _ => Ok(None),
+        _ => None,
     }
 }
 
@@ -137,22 +126,22 @@ fn short_list(parts: &[Core]) -> Option<usize>
 }
 
 // The label of a condition's `no` part, where the condition is but a jump.
-fn short_jump(yes: &Core, no: &Core, loops: &[usize]) -> Result<Option<Label>, AllocError>
-    ensures { IfOk result (λ to. to ≡ short_jump (reverse loops.now) (tree_of yes.now) (tree_of no.now)) }
+fn short_jump(yes: &Core, no: &Core, loops: &Loops) -> Option<Label>
+    ensures { result ≡ short_jump (reverse loops.now.starts.items) (tree_of yes.now) (tree_of no.now) }
 {
     if is_empty(yes) {
         jump_of(no, loops)
     } else {
-        Ok(None)
+        None
     }
 }
 
 // What goes somewhere else, or nothing where the loop that is meant isn't there.
-fn put_jump(c: &Core, loops: &[usize], out: &mut SymBlock) -> Result<(), AllocError>
-    ensures put { OnOk result (out.new.list.items ≡ out.old.list.items ++ goes_to (jump_target (reverse loops.now) (tree_of c.now))) }
+fn put_jump(c: &Core, loops: &Loops, out: &mut SymBlock) -> Result<(), AllocError>
+    ensures put { OnOk result (out.new.list.items ≡ out.old.list.items ++ goes_to (jump_target (reverse loops.now.starts.items) (tree_of c.now))) }
     ensures name { out.new.name ≡ out.old.name }
 {
-    match jump_of(c, loops)? {
+    match jump_of(c, loops) {
         Some(label) => put_goto(label, out),
         None => Ok(()),
     }
@@ -165,10 +154,10 @@ fn select_single<W: Wide>(
     before: &[Core],
     wide: &W,
     ending: Ending,
-    loops: &[usize],
+    loops: &Loops,
     out: &mut SymBlock,
 ) -> Result<(), AllocError>
-    ensures put { OnOk result (out.new.list.items ≡ out.old.list.items ++ single_code (W.code wide.now) ending (reverse loops.now) (length out.old.list.items) (trees_in before.now) (tree_of c.now)) }
+    ensures put { OnOk result (out.new.list.items ≡ out.old.list.items ++ single_code (W.code wide.now) ending (reverse loops.now.starts.items) (length out.old.list.items) (trees_in before.now) (tree_of c.now)) }
     ensures name { out.new.name ≡ out.old.name }
 {
     match c {
@@ -207,11 +196,11 @@ pub fn select_with<W: Wide>(
     before: &[Core],
     wide: &W,
     ending: Ending,
-    loops: &mut Vec<usize>,
+    loops: &mut Loops,
     out: &mut SymBlock,
 ) -> Result<(), AllocError>
-    ensures put { OnOk result (out.new.list.items ≡ out.old.list.items ++ code_of (W.code wide.now) ending (reverse loops.old.items) (length out.old.list.items) (trees_in before.now) (tree_of c.now)) }
-    ensures loops { OnOk result (loops.new.items ≡ loops.old.items) }
+    ensures put { OnOk result (out.new.list.items ≡ out.old.list.items ++ code_of (W.code wide.now) ending (reverse loops.old.starts.items) (length out.old.list.items) (trees_in before.now) (tree_of c.now)) }
+    ensures loops { OnOk result (loops.new.starts.items ≡ loops.old.starts.items) }
     ensures name { out.new.name ≡ out.old.name }
 {
     match c {
@@ -224,16 +213,16 @@ pub fn select_with<W: Wide>(
         } => {
             let at = out.list.len();
             put_test(*test, *size, out)?;
-            if let Some(label) = short_jump(yes, no, loops)? {
+            if let Some(label) = short_jump(yes, no, loops) {
                 return put_jump_if_zero(label, out);
             }
-            let end = make_second_label(at)?;
+            let end = make_second_label(at);
             if is_empty(no) {
                 put_jump_if_zero(end, out)?;
                 select_with(yes, &[], wide, ending, loops, out)?;
                 return put_label(end, out);
             }
-            let otherwise = make_first_label(at)?;
+            let otherwise = make_first_label(at);
             put_jump_if_zero(otherwise, out)?;
             select_with(yes, &[], wide, ending, loops, out)?;
             put_goto(end, out)?;
@@ -253,12 +242,12 @@ fn select_parts<W: Wide>(
     count: usize,
     wide: &W,
     ending: Ending,
-    loops: &mut Vec<usize>,
+    loops: &mut Loops,
     out: &mut SymBlock,
 ) -> Result<(), AllocError>
     requires { count ≤ length parts.now }
-    ensures put { OnOk result (out.new.list.items ≡ out.old.list.items ++ parts_code (W.code wide.now) ending (reverse loops.old.items) (length out.old.list.items) [] (trees_of (trees_in parts.now)) count) }
-    ensures loops { OnOk result (loops.new.items ≡ loops.old.items) }
+    ensures put { OnOk result (out.new.list.items ≡ out.old.list.items ++ parts_code (W.code wide.now) ending (reverse loops.old.starts.items) (length out.old.list.items) [] (trees_of (trees_in parts.now)) count) }
+    ensures loops { OnOk result (loops.new.starts.items ≡ loops.old.starts.items) }
     ensures name { out.new.name ≡ out.old.name }
 {
     for k in 0..count {
@@ -274,20 +263,20 @@ fn select_loop<W: Wide>(
     body: &Core,
     wide: &W,
     ending: Ending,
-    loops: &mut Vec<usize>,
+    loops: &mut Loops,
     out: &mut SymBlock,
 ) -> Result<(), AllocError>
-    ensures put { OnOk result (out.new.list.items ≡ out.old.list.items ++ loop_code (length out.old.list.items) (turn_code (W.code wide.now) ending (length out.old.list.items ∷ reverse loops.old.items) (length out.old.list.items + 1) (tree_of body.now) (first_label (length out.old.list.items)))) }
-    ensures loops { OnOk result (loops.new.items ≡ loops.old.items) }
+    ensures put { OnOk result (out.new.list.items ≡ out.old.list.items ++ loop_code (length out.old.list.items) (turn_code (W.code wide.now) ending (length out.old.list.items ∷ reverse loops.old.starts.items) (length out.old.list.items + 1) (tree_of body.now) (first_label (length out.old.list.items)))) }
+    ensures loops { OnOk result (loops.new.starts.items ≡ loops.old.starts.items) }
     ensures name { out.new.name ≡ out.old.name }
 {
     let at = out.list.len();
-    let top = make_first_label(at)?;
-    let end = make_second_label(at)?;
+    let top = make_first_label(at);
+    let end = make_second_label(at);
     put_label(top, out)?;
-    loops.push(at)?;
+    loops.enter(at)?;
     select_turn(body, top, wide, ending, loops, out)?;
-    let _ = loops.pop();
+    loops.leave();
     put_label(end, out)
 }
 
@@ -298,11 +287,11 @@ fn select_turn<W: Wide>(
     top: Label,
     wide: &W,
     ending: Ending,
-    loops: &mut Vec<usize>,
+    loops: &mut Loops,
     out: &mut SymBlock,
 ) -> Result<(), AllocError>
-    ensures put { OnOk result (out.new.list.items ≡ out.old.list.items ++ turn_code (W.code wide.now) ending (reverse loops.old.items) (length out.old.list.items) (tree_of body.now) top) }
-    ensures loops { OnOk result (loops.new.items ≡ loops.old.items) }
+    ensures put { OnOk result (out.new.list.items ≡ out.old.list.items ++ turn_code (W.code wide.now) ending (reverse loops.old.starts.items) (length out.old.list.items) (tree_of body.now) top) }
+    ensures loops { OnOk result (loops.new.starts.items ≡ loops.old.starts.items) }
     ensures name { out.new.name ≡ out.old.name }
 {
     match body {
@@ -331,7 +320,7 @@ pub fn select_body<W: Wide>(
     ensures put { OnOk result (out.new.list.items ≡ out.old.list.items ++ body_code (W.code wide.now) ending (length out.old.list.items) (trees_in code.now)) }
     ensures name { out.new.name ≡ out.old.name }
 {
-    let mut loops = Vec::new(alloc);
+    let mut loops = Loops::new(alloc);
     select_parts(code, code.len(), wide, ending, &mut loops, out)
 }
 
@@ -359,7 +348,7 @@ pub fn select_byte(alloc: Global, c: &Core, out: &mut SymBlock) -> Result<bool, 
         return Ok(false);
     }
     let ending = ending_of(out.name);
-    let mut loops = Vec::new(alloc);
+    let mut loops = Loops::new(alloc);
     select_with(c, &[], &Nothing, ending, &mut loops, out)?;
     Ok(true)
 }

@@ -7,12 +7,14 @@
 #![tactic(auto)]
 
 mod control;
+mod loops;
 mod pieces;
 mod sized;
 #[cfg(test)]
 mod tests;
 
 pub use control::{Ending, Wide, select_body, select_byte, select_with};
+pub use loops::Loops;
 pub use pieces::{
     Flag, behind, put_clear, put_copy, put_file, put_flag, put_number, put_set, put_store, put_test,
 };

@@ -1,6 +1,6 @@
 //! Instructions by what they are for. Each call appends them and changes nothing else.
 
-ghost use Rattle.std.specs.Prelude.{◌≡◌, ◌++◌, ◌<◌, ◌%◌, length, IfOk, OnOk};
+ghost use Rattle.std.specs.Prelude.{◌≡◌, ◌++◌, ◌<◌, ◌%◌, ◌^◌, length, OnOk};
 ghost use Rattle.select_code.specs.Pieces.{byte_behind, clear_code, copy_code, file_code, flag_bit, flag_code, number_code, ors_code, set_code, store_code, test_code, is_clearable, label_code, goto_code, jump_code, bit_code, bit_read_code, bit_write_code, first_label, second_label};
 ghost use Rattle.core_code.specs.declared.code.Byte.TheVariants.{Device};
 
@@ -167,23 +167,19 @@ pub fn put_test(test: Byte, size: u8, out: &mut SymBlock) -> Result<(), AllocErr
 }
 
 // The first of the two labels of the construct that begins behind so many instructions.
-pub(crate) fn make_first_label(at: usize) -> Result<Label, AllocError>
-    ensures { IfOk result (λ label. label ≡ first_label at) }
+pub(crate) fn make_first_label(at: usize) -> Label
+    requires { at < 2 ^ 63 }
+    ensures { result ≡ first_label at }
 {
-    match u32::try_from(at) {
-        Ok(at) if at <= 0x7FFF_FFFF => Ok(Label::Inner(2 * at)),
-        _ => Err(AllocError),
-    }
+    Label::Inner(2 * at)
 }
 
 // The second of them.
-pub(crate) fn make_second_label(at: usize) -> Result<Label, AllocError>
-    ensures { IfOk result (λ label. label ≡ second_label at) }
+pub(crate) fn make_second_label(at: usize) -> Label
+    requires { at < 2 ^ 63 }
+    ensures { result ≡ second_label at }
 {
-    match u32::try_from(at) {
-        Ok(at) if at <= 0x7FFF_FFFF => Ok(Label::Inner(2 * at + 1)),
-        _ => Err(AllocError),
-    }
+    Label::Inner(2 * at + 1)
 }
 
 pub(crate) fn put_label(label: Label, out: &mut SymBlock) -> Result<(), AllocError>
@@ -249,8 +245,8 @@ pub(crate) fn put_bit_write(
     ensures name { out.new.name ≡ out.old.name }
 {
     let at = out.list.len();
-    let clear = make_first_label(at)?;
-    let end = make_second_label(at)?;
+    let clear = make_first_label(at);
+    let end = make_second_label(at);
     out.put(Sym::Bit {
         op: BitOperation::Btfss,
         file: Operand::Byte(from),

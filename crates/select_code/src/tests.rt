@@ -34,11 +34,11 @@ fn number(value: u8) -> Sym {
     }
 }
 
-fn goto(label: u32) -> Sym {
+fn goto(label: usize) -> Sym {
     Sym::Goto(Target::Label(Label::Inner(label)))
 }
 
-fn mark(label: u32) -> Sym {
+fn mark(label: usize) -> Sym {
     Sym::Label(Label::Inner(label))
 }
 

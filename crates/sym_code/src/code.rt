@@ -108,7 +108,7 @@ pub enum BlockName {
 /// the one where the handler goes to when it ends.
 #[derive(Clone, Copy, PartialEq, Eq, Debug)]
 pub enum Label {
-    Inner(u32),
+    Inner(usize),
     Halt,
     Restore,
 }

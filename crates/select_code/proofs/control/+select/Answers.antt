@@ -4,7 +4,7 @@ use Rattle.core_code.specs.Tree.{trees_of}
 use Rattle.core_code.specs.View.{tree_of, trees_in}
 use Rattle.core_code.proofs.Views.{tree_many, tree_if, tree_loop}
 use Rattle.select_code.specs.Pieces.{first_label, second_label}
-use Rattle.select_code.specs.Selected.{code_of, parts_code, single_code, loop_code, turn_code, short_list, is_nothing}
+use Rattle.select_code.specs.Selected.{code_of, parts_code, loop_code, turn_code, short_list, is_nothing}
 use Rattle.select_code.proofs.Chains.{parts_next, parts_length, jump_same, if_jump, if_one, if_both, turn_short, turn_whole, turn_other}
 use Rattle.select_code.proofs.Others.{no_turn, no_control}
 use Rattle.select_code.proofs.control.+select.Goals as goal
@@ -19,7 +19,7 @@ select_parts-loop-k-preserved g t c =
     let done = c.in_ok-select_with.ensures in
     let kept = c.loop-k.invariant in
     record {
-      put = parts_next w c.args.ending (reverse c.args.loops.now.items) c.args.out.now.list.items p c.select_with.new.out.list.items xs k x (omega (arith, c.loop-k-test.true, c.requires)) c.index-parts-k.is kept.put
+      put = parts_next w c.args.ending (reverse c.args.loops.now.starts.items) c.args.out.now.list.items p c.select_with.new.out.list.items xs k x (omega (arith, c.loop-k-test.true, c.requires)) c.index-parts-k.is kept.put
           (done.put ∙ ap (λ l. p ++ code_of w c.args.ending (reverse l) (length p) (trees_in (take k xs)) (tree_of x)) kept.loops);
       loops = done.loops ∙ kept.loops;
       name = done.name ∙ kept.name;
@@ -28,7 +28,7 @@ select_parts-loop-k-preserved g t c =
 pub select_turn-returns-in-Some-clause-put : goal.select_turn-returns-in-Some-clause-put
 select_turn-returns-in-Some-clause-put g t c =
     let w = g.W.Wide.code c.args.wide.now in
-    let loops = reverse c.args.loops.now.items in
+    let loops = reverse c.args.loops.now.starts.items in
     let o = c.args.out.now.list.items in
     let parts = c.in-Many.parts in
     let count = c.in-Some.count in
@@ -42,7 +42,7 @@ select_turn-returns-in-Some-clause-put g t c =
 pub select_turn-returns-in_ok-select_parts-in-Many-clause-put : goal.select_turn-returns-in_ok-select_parts-in-Many-clause-put
 select_turn-returns-in_ok-select_parts-in-Many-clause-put g t c =
     let w = g.W.Wide.code c.args.wide.now in
-    let loops = reverse c.args.loops.now.items in
+    let loops = reverse c.args.loops.now.starts.items in
     let o = c.args.out.now.list.items in
     let parts = c.in-Many.parts in
     let n = c.len.result in
@@ -62,7 +62,7 @@ select_turn-returns-in_ok-select_with-in_default g t c =
     let done = c.in_ok-select_with-in_default.ensures in
     record {
       put = on_ok_weaker c.put_goto-in_default.result
-          (λ h. turn_other w c.args.ending (reverse c.args.loops.now.items) c.args.out.now.list.items c.select_with.new.out.list.items c.put_goto-in_default.new.out.list.items (tree_of c.args.body.now) c.args.top
+          (λ h. turn_other w c.args.ending (reverse c.args.loops.now.starts.items) c.args.out.now.list.items c.select_with.new.out.list.items c.put_goto-in_default.new.out.list.items (tree_of c.args.body.now) c.args.top
           (no_turn c.args.body.now c.in_default.not-Many) done.put h)
           c.put_goto-in_default.ensures.put;
       loops = on_ok_weaker c.put_goto-in_default.result (λ h. done.loops) c.put_goto-in_default.ensures.put;
@@ -73,17 +73,17 @@ pub select_with-returns-in-Some-clause-put : goal.select_with-returns-in-Some-cl
 select_with-returns-in-Some-clause-put g t c =
     let k = c.in-If in
     on_ok_weaker c.put_jump_if_zero.result
-    (λ h. if_jump (g.W.Wide.code c.args.wide.now) c.args.ending (reverse c.args.loops.now.items) (trees_in c.args.before.now) (tree_of c.args.c.now) (tree_of k.yes.value) (tree_of k.no.value) k.test k.size
+    (λ h. if_jump (g.W.Wide.code c.args.wide.now) c.args.ending (reverse c.args.loops.now.starts.items) (trees_in c.args.before.now) (tree_of c.args.c.now) (tree_of k.yes.value) (tree_of k.no.value) k.test k.size
     c.args.out.now.list.items c.put_test.new.out.list.items c.put_jump_if_zero.new.out.list.items c.in-Some.label
     (ap tree_of k.is ∙ tree_if k.test k.size k.yes k.no)
-    (jump_same c.deref-in-If-3.result.now c.args.loops.now.items c.deref-in-If.result.now k.yes.value c.deref-in-If-2.result.now k.no.value c.in_ok-label-in-If.field-0 c.in_ok-label-in-If.ensures c.deref-in-If-3.ensures.value c.deref-in-If.ensures c.deref-in-If-2.ensures ∙ c.in-Some.is)
+    (jump_same c.args.loops.now.starts.items c.deref-in-If.result.now k.yes.value c.deref-in-If-2.result.now k.no.value c.short_jump.result c.short_jump.ensures c.deref-in-If.ensures c.deref-in-If-2.ensures ∙ c.in-Some.is)
     c.in_ok-put_test-in-If.ensures.put h)
     c.put_jump_if_zero.ensures.put
 
 pub select_with-returns-then-is_empty-clause-put : goal.select_with-returns-then-is_empty-clause-put
 select_with-returns-then-is_empty-clause-put g t c =
     let w = g.W.Wide.code c.args.wide.now in
-    let loops = reverse c.args.loops.now.items in
+    let loops = reverse c.args.loops.now.starts.items in
     let o = c.args.out.now.list.items in
     let q = c.put_jump_if_zero-then-is_empty.new.out.list.items in
     let k = c.in-If in
@@ -91,11 +91,11 @@ select_with-returns-then-is_empty-clause-put g t c =
     let here : c.len-at.result ≡ length o = omega (arith, c.len-at.ensures, counted) in
     on_ok_weaker c.put_label.result
     (λ h. if_one w c.args.ending loops (trees_in c.args.before.now) (tree_of c.args.c.now) (tree_of k.yes.value) (tree_of k.no.value) k.test k.size
-    o c.put_test.new.out.list.items q c.select_with.new.out.list.items c.put_label.new.out.list.items c.in_ok-end-in-If.end
+    o c.put_test.new.out.list.items q c.select_with.new.out.list.items c.put_label.new.out.list.items c.make_second_label-end.result
     (ap tree_of k.is ∙ tree_if k.test k.size k.yes k.no)
-    (jump_same c.deref-in-If-3.result.now c.args.loops.now.items c.deref-in-If.result.now k.yes.value c.deref-in-If-2.result.now k.no.value c.in_ok-label-in-If.field-0 c.in_ok-label-in-If.ensures c.deref-in-If-3.ensures.value c.deref-in-If.ensures c.deref-in-If-2.ensures ∙ c.in_default-2.is)
-    (sym (c.is_empty.ensures ∙ ap (λ v. is_nothing (tree_of v)) c.deref-in-If-4.ensures) ∙ c.if-is_empty.true)
-    (c.in_ok-end-in-If.ensures ∙ ap second_label here)
+    (jump_same c.args.loops.now.starts.items c.deref-in-If.result.now k.yes.value c.deref-in-If-2.result.now k.no.value c.short_jump.result c.short_jump.ensures c.deref-in-If.ensures c.deref-in-If-2.ensures ∙ c.in_default-short_jump.is)
+    (sym (c.is_empty.ensures ∙ ap (λ v. is_nothing (tree_of v)) c.deref-in-If-3.ensures) ∙ c.if-is_empty.true)
+    (c.make_second_label-end.ensures ∙ ap second_label here)
     c.in_ok-put_test-in-If.ensures.put
     c.in_ok-put_jump_if_zero-in-If.ensures.put
     (c.in_ok-select_with-in-If.ensures.put ∙ ap (λ v. q ++ code_of w c.args.ending loops (length q) [] (tree_of v)) c.deref-then-is_empty.ensures)
@@ -105,7 +105,7 @@ select_with-returns-then-is_empty-clause-put g t c =
 pub select_with-returns-in-Many-clause-put : goal.select_with-returns-in-Many-clause-put
 select_with-returns-in-Many-clause-put g t c =
     let w = g.W.Wide.code c.args.wide.now in
-    let loops = reverse c.args.loops.now.items in
+    let loops = reverse c.args.loops.now.starts.items in
     let o = c.args.out.now.list.items in
     let parts = c.in-Many.parts in
     let counted = parts.ok.0 in
@@ -119,7 +119,7 @@ select_with-returns-in-Many-clause-put g t c =
 pub select_with-returns-in_ok-select_with-in-If-3-clause-put : goal.select_with-returns-in_ok-select_with-in-If-3-clause-put
 select_with-returns-in_ok-select_with-in-If-3-clause-put g t c =
     let w = g.W.Wide.code c.args.wide.now in
-    let loops = reverse c.args.loops.now.items in
+    let loops = reverse c.args.loops.now.starts.items in
     let o = c.args.out.now.list.items in
     let q = c.put_jump_if_zero-in-If.new.out.list.items in
     let u = c.put_label-in-If.new.out.list.items in
@@ -129,19 +129,19 @@ select_with-returns-in_ok-select_with-in-If-3-clause-put g t c =
     on_ok_weaker c.put_label-in-If-2.result
     (λ h. if_both w c.args.ending loops (trees_in c.args.before.now) (tree_of c.args.c.now) (tree_of k.yes.value) (tree_of k.no.value) k.test k.size
     o c.put_test.new.out.list.items q c.select_with-in-If.new.out.list.items c.put_goto.new.out.list.items u c.select_with-in-If-2.new.out.list.items c.put_label-in-If-2.new.out.list.items
-    c.in_ok-end-in-If.end c.in_ok-otherwise-in-If.otherwise
+    c.make_second_label-end.result c.make_first_label-otherwise.result
     (ap tree_of k.is ∙ tree_if k.test k.size k.yes k.no)
-    (jump_same c.deref-in-If-3.result.now c.args.loops.now.items c.deref-in-If.result.now k.yes.value c.deref-in-If-2.result.now k.no.value c.in_ok-label-in-If.field-0 c.in_ok-label-in-If.ensures c.deref-in-If-3.ensures.value c.deref-in-If.ensures c.deref-in-If-2.ensures ∙ c.in_default-2.is)
-    (sym (c.is_empty.ensures ∙ ap (λ v. is_nothing (tree_of v)) c.deref-in-If-4.ensures) ∙ c.if-is_empty.false)
-    (c.in_ok-end-in-If.ensures ∙ ap second_label here)
-    (c.in_ok-otherwise-in-If.ensures ∙ ap first_label here)
+    (jump_same c.args.loops.now.starts.items c.deref-in-If.result.now k.yes.value c.deref-in-If-2.result.now k.no.value c.short_jump.result c.short_jump.ensures c.deref-in-If.ensures c.deref-in-If-2.ensures ∙ c.in_default-short_jump.is)
+    (sym (c.is_empty.ensures ∙ ap (λ v. is_nothing (tree_of v)) c.deref-in-If-3.ensures) ∙ c.if-is_empty.false)
+    (c.make_second_label-end.ensures ∙ ap second_label here)
+    (c.make_first_label-otherwise.ensures ∙ ap first_label here)
     c.in_ok-put_test-in-If.ensures.put
     c.in_ok-put_jump_if_zero-in-If-2.ensures.put
-    (c.in_ok-select_with-in-If-2.ensures.put ∙ ap (λ v. q ++ code_of w c.args.ending loops (length q) [] (tree_of v)) c.deref-in-If-5.ensures)
+    (c.in_ok-select_with-in-If-2.ensures.put ∙ ap (λ v. q ++ code_of w c.args.ending loops (length q) [] (tree_of v)) c.deref-in-If-4.ensures)
     c.in_ok-put_goto-in-If.ensures.put
     c.in_ok-put_label-in-If.ensures.put
     (c.in_ok-select_with-in-If-3.ensures.put
-    ∙ ap (λ v. u ++ code_of w c.args.ending (reverse c.select_with-in-If.new.loops.items) (length u) [] (tree_of v)) c.deref-in-If-6.ensures
+    ∙ ap (λ v. u ++ code_of w c.args.ending (reverse c.select_with-in-If.new.loops.starts.items) (length u) [] (tree_of v)) c.deref-in-If-5.ensures
     ∙ ap (λ l. u ++ code_of w c.args.ending (reverse l) (length u) [] (tree_of k.no.value)) c.in_ok-select_with-in-If-2.ensures.loops)
     h)
     c.put_label-in-If-2.ensures.put
@@ -149,7 +149,7 @@ select_with-returns-in_ok-select_with-in-If-3-clause-put g t c =
 pub select_with-returns-in-Loop-clause-put : goal.select_with-returns-in-Loop-clause-put
 select_with-returns-in-Loop-clause-put g t c =
     let w = g.W.Wide.code c.args.wide.now in
-    let loops = reverse c.args.loops.now.items in
+    let loops = reverse c.args.loops.now.starts.items in
     let o = c.args.out.now.list.items in
     on_ok_weaker c.select_loop.result
     (λ h. h
@@ -160,14 +160,13 @@ select_with-returns-in-Loop-clause-put g t c =
 pub select_with-returns-in_default : goal.select_with-returns-in_default
 select_with-returns-in_default g t c =
     let w = g.W.Wide.code c.args.wide.now in
-    let loops = reverse c.args.loops.now.items in
+    let loops = reverse c.args.loops.now.starts.items in
     let o = c.args.out.now.list.items in
     let before = trees_in c.args.before.now in
     let none = c.in_default in
     record {
       put = on_ok_weaker c.select_single.result
-          (λ h. h ∙ ap (λ l. o ++ single_code w c.args.ending (reverse l) (length o) before (tree_of c.args.c.now)) c.deref-in_default.ensures.value
-          ∙ ap (λ code. o ++ code) (no_control w c.args.ending loops (length o) before c.args.c.now none.not-Many none.not-If none.not-Loop))
+          (λ h. h ∙ ap (λ code. o ++ code) (no_control w c.args.ending loops (length o) before c.args.c.now none.not-Many none.not-If none.not-Loop))
           c.select_single.ensures.put;
       loops = on_ok_weaker c.select_single.result (λ h. refl) c.select_single.ensures.put;
       name = c.select_single.ensures.name;

@@ -6,7 +6,7 @@ use Rattle.select_code.proofs.control.+select.Given as goal
 
 abbrev pub invariant-select_parts-loop-k : goal.invariant-select_parts-loop-k
 invariant-select_parts-loop-k g l = record {
-  put : l.out.list.items ≡ l.initial.out.list.items ++ parts_code (g.W.Wide.code l.wide) l.ending (reverse l.initial.loops.items) (length l.initial.out.list.items) [] (trees_of (trees_in l.parts)) l.k;
-  loops : l.loops.items ≡ l.initial.loops.items;
+  put : l.out.list.items ≡ l.initial.out.list.items ++ parts_code (g.W.Wide.code l.wide) l.ending (reverse l.initial.loops.starts.items) (length l.initial.out.list.items) [] (trees_of (trees_in l.parts)) l.k;
+  loops : l.loops.starts.items ≡ l.initial.loops.starts.items;
   name : l.out.name ≡ l.initial.out.name;
 }
