@@ -1,11 +1,7 @@
 //! Blocks of code, which selects they get, and where each stands.
 
-ghost use Rattle.std.specs.Prelude.{◌≡◌, ◌++◌, ◌∷◌, [], true, IfOk};
-ghost use Rattle.bank_page.specs.Ready.{are_ready};
 
-use crate::kinds::{is_label, is_select};
-use crate::needs::needs_in;
-use crate::{put_made, selects};
+use crate::{can_select, put_made, selects};
 use core_code::Byte;
 use pic_map::{FrameLine, Placed};
 use pic_world::Root;
@@ -26,11 +22,13 @@ fn placed(alloc: Global) -> Placed {
 // A program of one block with its selects, or one without a block where selects can't be put into it.
 fn selected(alloc: Global, block: SymBlock, placed: &Placed) -> Result<SymProgram, AllocError> {
     let mut blocks = Vec::new(alloc);
-    if can_select(placed, &block.list) {
-        put_made(&mut blocks, block)?;
+    put_made(&mut blocks, block)?;
+    if can_select(placed, &blocks) {
         return selects(alloc, &SymProgram { blocks }, placed);
     }
-    Ok(SymProgram { blocks })
+    Ok(SymProgram {
+        blocks: Vec::new(alloc),
+    })
 }
 
 // Bit 0 of TRISB, 86h, decides whether TRISB is written.

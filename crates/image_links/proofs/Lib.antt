@@ -7,6 +7,8 @@ pub mod Evaluated
 pub mod Stated
 pub mod Lowered
 pub mod Bare
+pub mod Ready
+pub mod Selects
 pub mod Fronts
 pub mod Statics
 pub mod Thinned
@@ -16,6 +18,7 @@ pub mod Entered
 pub mod Laid
 pub mod Apart
 pub mod Had
+pub mod Cheaper
 pub mod Priced
 pub mod Chains
 pub mod Depths

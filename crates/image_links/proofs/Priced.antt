@@ -1,40 +1,59 @@
--- What instructions cost together with the selects before them.
-use Rattle.std.proofs.Common.{ℕ, List, arith}
+-- Leaner code follows the code that was selected, at prices within its bounds.
+use Rattle.std.proofs.Common.{◌≡◌, ◌×◌, ℕ, List, refl, arith}
 use Rattle.std.proofs.lemmas.Option.{slice_get_within}
 use Rattle.bank_page.specs.Links.{price_in}
-use Rattle.bank_prices.proofs.Cheaper.{cheaper_is_dear, cheaper_is_priced}
-use Rattle.bank_prices.proofs.Whole.{blocks_are_dear, routines_are_priced}
 use Rattle.bank_prices.specs.Prices.{AreSelected}
 use Rattle.c_typed.specs.Trees.{Program}
+use Rattle.call_graph.specs.Numbers.{handler_at}
 use Rattle.call_graph.specs.declared.types.FnCopy.{FnCopy}
+use Rattle.code_place.specs.Layouts.{layout_of, page_of}
 use Rattle.core_code.specs.declared.code.CoreProgram.{CoreProgram}
-use Rattle.code_place.specs.Layouts.{layout_of}
-use Rattle.math_helpers.specs.Routines.{helper_code}
+use Rattle.headline_trace.specs.Linked.{bare_setting}
+use Rattle.lean_links.specs.Links.{AreFollowed}
+use Rattle.lean_links.proofs.Followed.{lean_blocks_follow}
+use Rattle.lower_stmt.specs.Programs.{core_of}
+use Rattle.pic_map.specs.MapView.{object_of, frame_of}
 use Rattle.pic_map.specs.declared.Placed.{Placed}
+use Rattle.std.specs.Prelude.{map}
+use Rattle.ram_place.specs.Placement.{IsPlacing}
+use Rattle.sym_code.specs.Machine.{sym_start}
 use Rattle.sym_code.specs.Programs.{block_in}
+use Rattle.sym_code.specs.Runs.{weighed_of}
 use Rattle.sym_code.specs.declared.code.BlockName.TheVariants.{Copy}
 use Rattle.sym_code.specs.declared.code.SymBlock.{SymBlock}
 use Rattle.program_code.specs.Passed.{IsPassed}
-use Rattle.image_links.specs.Selection.{PricesAreHad, RoutinesHavePrices}
-use Rattle.image_links.proofs.Selects.{whole_same}
+use Rattle.image_links.specs.Selection.{LeanIsHad, limit_of}
+use Rattle.image_links.proofs.Cheaper.{follows_cheaper}
 use Rattle.image_links.proofs.Chosen.{routine_block}
 use Rattle.image_links.proofs.Laid.{frames_long, frames_whole, routine_room}
+use Rattle.image_links.proofs.Selects.{whole_same}
 use Rattle.image_links.proofs.Thinned.{kept}
 
-are_selected : (p : Program) (copies : List FnCopy) (core : CoreProgram) (given made : List SymBlock) (placed : Placed) (at : List ℕ) (passed : IsPassed p copies core given made placed at) → AreSelected placed given passed.whole
-are_selected p copies core given made placed at passed = record { each = passed.blocks.exact; same = whole_same p copies core given made placed at passed }
+module _ (p : Program) (copies : List FnCopy) (core : CoreProgram) (given made : List SymBlock) (placed : Placed) (at : List ℕ) (passed : IsPassed p copies core given made placed at) where
+  are_selected : AreSelected placed passed.lean passed.whole
+  are_selected = record { each = passed.blocks.exact; same = whole_same p copies core given made placed at passed }
 
-pub prices_had : PricesAreHad
-prices_had p copies core given made placed at passed placing c copy is user =
-    cheaper_is_dear (layout_of placed) (price_in (block_in passed.whole) (Copy c)) (price_in (block_in made) (Copy c)) (block_in given (Copy c)) ((kept p copies core given made placed at passed).prices (Copy c))
-    (blocks_are_dear placed given passed.whole (are_selected p copies core given made placed at passed) (frames_whole p copies placed placing) (Copy c))
+  -- by the prices with all selects
+  pub followed : AreFollowed (layout_of placed) (handler_at copies) (core_of p copies).variable_bytes given passed.lean (price_in (block_in passed.whole))
+  followed = lean_blocks_follow (layout_of placed) (handler_at copies) (core_of p copies).variable_bytes given passed.lean passed.blocks.leaner (price_in (block_in passed.whole))
 
-pub routine_prices_had : RoutinesHavePrices
-routine_prices_had p copies core given made placed at passed placing c copy h is routine =
-    let lt = slice_get_within copies c copy is in
-    let long = frames_long p copies placed placing in
-    cheaper_is_priced (price_in (block_in passed.whole) (Copy c)) (price_in (block_in made) (Copy c)) (helper_code h copy.root c) ((kept p copies core given made placed at passed).prices (Copy c))
-    (routines_are_priced placed given passed.whole (are_selected p copies core given made placed at passed) h copy.root c
-    (routine_block core copies given passed.blocks.joined c copy h is routine)
-    (frames_whole p copies placed placing c (omega arith))
-    (routine_room p copies placed placing c copy h is routine))
+pub lean_had : LeanIsHad
+lean_had p copies core given made placed at passed placing =
+    let f = followed p copies core given made placed at passed in
+    let selected = are_selected p copies core given made placed at passed in
+    record {
+      price = f.price;
+      sure = f.sure;
+      keeps = λ o e r m n goes.
+          let g = bare_setting given made (handler_at copies) placed at (limit_of copies) in
+          let h = bare_setting passed.lean made (handler_at copies) placed at (limit_of copies) in
+          let all = f.keeps (page_of made at) (limit_of copies) o e r m n goes in
+          (follows_cheaper h (price_in (block_in made)) (price_in (block_in passed.whole)) (λ name. (kept p copies core given made placed at passed).prices name) e o (sym_start h.program r m)
+          (weighed_of g f.price f.sure e o (sym_start g.program r m)) n all.0, all.1);
+      prices = λ c copy is user. f.dear placed passed.whole refl selected (frames_whole p copies placed placing) (Copy c);
+      routine_prices = λ c copy h is routine.
+          let lt = slice_get_within copies c copy is in
+          let long = frames_long p copies placed placing in
+          f.priced placed passed.whole refl selected h copy.root c (routine_block core copies given passed.blocks.joined c copy h is routine) (frames_whole p copies placed placing c (omega arith)) (routine_room p copies placed placing c copy h is routine);
+      sures = λ c copy is user n s there marked. f.sures (Copy c) n s there marked;
+    }

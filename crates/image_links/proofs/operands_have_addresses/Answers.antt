@@ -1,4 +1,4 @@
-use Rattle.image_links.proofs.Addressed.{operands_have_addresses, selects_keep_operands, made_have_operands}
+use Rattle.image_links.proofs.Addressed.{lean_keeps_operands, operands_have_addresses, selects_keep_operands, made_have_operands}
 use Rattle.image_links.proofs.operands_have_addresses.Goals as goal
 
 pub returns-clause-named : goal.returns-clause-named
@@ -6,6 +6,9 @@ returns-clause-named c = operands_have_addresses
 
 pub returns-clause-kept : goal.returns-clause-kept
 returns-clause-kept c = selects_keep_operands
+
+pub returns-clause-lean : goal.returns-clause-lean
+returns-clause-lean c = lean_keeps_operands
 
 pub returns-clause-made : goal.returns-clause-made
 returns-clause-made c = made_have_operands
