@@ -89,11 +89,10 @@ fn come_back(facts: &mut FlowFacts, name: BlockName, fact: Option<Known>) -> boo
 }
 
 fn come_to_inner(labels: &mut [Option<Known>], number: usize, fact: Option<Known>) -> bool {
-    let at = number;
-    if at >= labels.len() {
+    if number >= labels.len() {
         return false;
     }
-    come(&mut labels[at], fact)
+    come(&mut labels[number], fact)
 }
 
 fn come_to_label(facts: &mut FlowFacts, own: BlockName, label: Label, fact: Option<Known>) -> bool {
