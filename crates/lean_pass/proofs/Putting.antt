@@ -6,7 +6,7 @@ use Rattle.std.proofs.lemmas.Option.{none-some}
 use Rattle.std.proofs.lemmas.List.{take_more, take_all}
 use Rattle.std.proofs.lemmas.List.Elements.{AllZip-push}
 use Rattle.sym_code.specs.Layout.{DataLayout}
-use Rattle.sym_code.specs.Programs.{same_name}
+use Rattle.sym_code.specs.Programs.{same_name, block_in}
 use Rattle.sym_code.specs.WellFormed.{is_well_formed, are_well_formed}
 use Rattle.sym_code.specs.declared.code.BlockName.{BlockName}
 use Rattle.sym_code.specs.declared.code.BlockName.TheVariants as names
@@ -16,10 +16,13 @@ use Rattle.sym_code.specs.declared.code.SymBlock.{SymBlock}
 use Rattle.lean_code.specs.Rows as certified
 use Rattle.lean_code.specs.Rows.{olds, puts, is_label}
 use Rattle.lean_code.specs.Checked as listed
+use Rattle.lean_code.specs.Fit.{are_fit, AreByRows}
 use Rattle.lean_code.specs.Steady.{are_steady}
+use Rattle.lean_code.proofs.Fitting.{fit_is_fit}
 use Rattle.lean_code.specs.Checked.{rows_in, row_in, ListedBlock}
 use Rattle.lean_pass.specs.Made.{IsSeen, put_of, is_named, are_distinct, Serves, IsAsGiven, IsLean, Kept, Made, HasName}
-use Rattle.lean_pass.specs.Views.{act_of, row_of, rows_of, block_of, blocks_of, sketch_of}
+use Rattle.lean_pass.specs.Tests.{has_none}
+use Rattle.lean_pass.specs.Views.{act_of, row_of, rows_of, block_of, blocks_of, sketch_of, trues}
 use Rattle.lean_pass.specs.declared.rows.Act.{Act}
 use Rattle.lean_pass.specs.declared.rows.Act.TheVariants as acts
 use Rattle.lean_pass.specs.declared.rows.LeanBlock.{LeanBlock}
@@ -242,13 +245,67 @@ all_serve given blocks all distinct i d below =
     let h = beside given blocks all i d below in
     sym h.seen.code ∙ ap (λ (b : ListedBlock). olds (rows_in b.rows)) (sym (found_at blocks distinct i h.block h.got) ∙ ap (listed.block_in (blocks_of blocks)) h.seen.name)
 
-pub is_made : (l : DataLayout) (k : Sketch) (given made : List SymBlock) → listed.is_lean (sketch_of l k) ≡ true → are_steady (blocks_of k.blocks.items) ≡ true → AllZip (listed.IsBlockOf (sketch_of l k)) given made → IsLean l k.handler given made
-is_made l k given made tested steady all = Made (sketch_of l k) refl refl (record { tested = tested; blocks = all }) steady
+-- the block of a name in the given code, and in the code that is made
+module _ (k : listed.Sketch) (whole : List LeanBlock) (same : k.blocks ≡ blocks_of whole) (name : BlockName) where
+  abbrev rows_named : List LeanBlock → List certified.Row
+  rows_named blocks = rows_in (listed.block_in (blocks_of blocks) name).rows
+
+  given_named : (given : List SymBlock) (blocks : List LeanBlock) → AllZip IsSeen given blocks → block_in given name ≡ olds (rows_named blocks)
+  given_named [] [] all = refl
+  given_named [] (b ∷ blocks) all = absurd all
+  given_named (g ∷ given) [] all = absurd all
+  given_named (g ∷ given) (b ∷ blocks) all = by (same_name g.name name) (same_name b.name name) (ap (λ (n : BlockName). same_name n name) (sym all.0.name)) (given_named given blocks all.1)
+    where
+      by : (s t : Bool) → s ≡ t → block_in given name ≡ olds (rows_named blocks) → (if s then g.list.items else block_in given name) ≡ olds (rows_in (if t then block_of b else listed.block_in (blocks_of blocks) name).rows)
+      by true true is later = sym all.0.code
+      by false false is later = later
+      by true false is later = absurd (true≢false is)
+      by false true is later = never is
+
+  -- each block of the certificate is the one that counts
+  abbrev Count : List LeanBlock → Type 0
+  Count blocks = (i : ℕ) (b : LeanBlock) → slice_get blocks i ≡ Some b → listed.block_in (blocks_of whole) b.name ≡ block_of b
+
+  made_named : (given made : List SymBlock) (blocks : List LeanBlock) → AllZip IsSeen given blocks → AllZip (listed.IsBlockOf k) given made → Count blocks → block_in made name ≡ puts (rows_named blocks)
+  made_named [] [] [] seen all counts = refl
+  made_named [] [] (b ∷ blocks) seen all counts = absurd seen
+  made_named [] (m ∷ made) blocks seen all counts = absurd all
+  made_named (g ∷ given) [] blocks seen all counts = absurd all
+  made_named (g ∷ given) (m ∷ made) [] seen all counts = absurd seen
+  made_named (g ∷ given) (m ∷ made) (b ∷ blocks) seen all counts =
+      by (same_name m.name name) (same_name b.name name) (ap (λ (n : BlockName). same_name n name) (all.0.name ∙ sym seen.0.name)) (made_named given made blocks seen.1 all.1 (λ i x got. counts (suc i) x got))
+    where
+      found : listed.block_in k.blocks g.name ≡ block_of b
+      found = ap (λ (bs : List ListedBlock). listed.block_in bs g.name) same ∙ ap (listed.block_in (blocks_of whole)) (sym seen.0.name) ∙ counts 0 b refl
+
+      by : (s t : Bool) → s ≡ t → block_in made name ≡ puts (rows_named blocks) → (if s then m.list.items else block_in made name) ≡ puts (rows_in (if t then block_of b else listed.block_in (blocks_of blocks) name).rows)
+      by true true is later = all.0.after ∙ ap (λ (x : ListedBlock). puts (rows_in x.rows)) found
+      by false false is later = later
+      by true false is later = absurd (true≢false is)
+      by false true is later = never is
+
+by_rows : (l : DataLayout) (k : Sketch) (given made : List SymBlock) → AllZip IsSeen given k.blocks.items → are_distinct k.blocks.items ≡ true → AllZip (listed.IsBlockOf (sketch_of l k)) given made → AreByRows (sketch_of l k) given made
+by_rows l k given made seen distinct all = record {
+  given_is = λ name. given_named (sketch_of l k) k.blocks.items refl name given k.blocks.items seen;
+  made_is = λ name. made_named (sketch_of l k) k.blocks.items refl name given made k.blocks.items seen all (found_at k.blocks.items distinct);
+}
+
+none_listed : (l : DataLayout) (k : Sketch) → has_none k.hidden.has.items ≡ true → (a : ℕ) → (sketch_of l k).hidden a ≡ false
+none_listed l k none a = by k.hidden.has.items none
+  where
+    by : (has : List Bool) → has_none has ≡ true → listed.among a (trues 0 has) ≡ false
+    by [] e = refl
+    by (b ∷ bs) e = never e
+
+pub is_made : (l : DataLayout) (k : Sketch) (variables : ℕ → ℕ) (given made : List SymBlock) → listed.is_lean (sketch_of l k) ≡ true → are_steady (blocks_of k.blocks.items) ≡ true → are_fit variables (blocks_of k.blocks.items) ≡ true → has_none k.hidden.has.items ≡ true
+    → AllZip IsSeen given k.blocks.items → are_distinct k.blocks.items ≡ true → AllZip (listed.IsBlockOf (sketch_of l k)) given made → IsLean l k.handler variables given made
+is_made l k variables given made tested steady fit none seen distinct all =
+    Made (sketch_of l k) refl refl (record { tested = tested; blocks = all }) steady (fit_is_fit variables (sketch_of l k) fit (none_listed l k none)) (by_rows l k given made seen distinct all)
 
 -- ---- names
 
-pub kept_is : (l : DataLayout) (handler : Option ℕ) (given made : List SymBlock) → AllZip IsAsGiven given made → IsLean l handler given made
-kept_is l handler given made all = Kept all
+pub kept_is : (l : DataLayout) (handler : Option ℕ) (variables : ℕ → ℕ) (given made : List SymBlock) → AllZip IsAsGiven given made → IsLean l handler variables given made
+kept_is l handler variables given made all = Kept all
 
 kept_names : (given made : List SymBlock) → AllZip IsAsGiven given made → AllZip HasName given made
 kept_names [] [] all = tt
@@ -262,6 +319,6 @@ made_names k [] (m ∷ made) all = absurd all
 made_names k (g ∷ given) [] all = absurd all
 made_names k (g ∷ given) (m ∷ made) all = (record { name = all.0.name }, made_names k given made all.1)
 
-pub names_stay : (l : DataLayout) (handler : Option ℕ) (given made : List SymBlock) → IsLean l handler given made → AllZip HasName given made
-names_stay l handler given made (Kept all) = kept_names given made all
-names_stay l handler given made (Made k same handled by steady) = made_names k given made by.blocks
+pub names_stay : (l : DataLayout) (handler : Option ℕ) (variables : ℕ → ℕ) (given made : List SymBlock) → IsLean l handler variables given made → AllZip HasName given made
+names_stay l handler variables given made (Kept all) = kept_names given made all
+names_stay l handler variables given made (Made k same handled by steady fit rows) = made_names k given made by.blocks

@@ -5,10 +5,12 @@ ghost use Rattle.std.specs.List.{All, AllZip};
 ghost use Rattle.sym_code.specs.WellFormed.{is_well_formed, are_well_formed};
 ghost use Rattle.lean_code.specs.Rows as certified;
 ghost use Rattle.lean_code.specs.Checked as listed;
+ghost use Rattle.lean_code.specs.Fit.{are_fit};
 ghost use Rattle.lean_code.specs.Steady.{are_steady};
 ghost use Rattle.code_place.specs.Layouts.{layout_of};
 ghost use Rattle.lean_pass.specs.Made as stated;
-ghost use Rattle.lean_pass.specs.Views.{act_of, row_of, rows_of, block_of, blocks_of, sketch_of};
+ghost use Rattle.lean_pass.specs.Tests.{has_none};
+ghost use Rattle.lean_pass.specs.Views.{act_of, row_of, rows_of, block_of, blocks_of, sketch_of, variables_of};
 
 use crate::owners::no_block;
 use crate::rows::{Act, LeanBlock, Row, Sketch};
@@ -232,13 +234,16 @@ pub fn made_by(
     alloc: Global,
     sketch: &Sketch,
     placed: &Placed,
+    variables: &[u64],
     given: &[SymBlock],
 ) -> Result<Vec<SymBlock>, AllocError>
     requires seen { AllZip stated.IsSeen given.now sketch.now.blocks.items }
     requires distinct { stated.are_distinct sketch.now.blocks.items ≡ true }
     requires tested { listed.is_lean (sketch_of (layout_of placed.now) sketch.now) ≡ true }
     requires steady { are_steady (blocks_of sketch.now.blocks.items) ≡ true }
-    ensures { IfOk result (λ made. stated.IsLean (layout_of placed.now) sketch.now.handler given.now made.items) }
+    requires fit { are_fit (variables_of variables.now) (blocks_of sketch.now.blocks.items) ≡ true }
+    requires open_bytes { has_none sketch.now.hidden.has.items ≡ true }
+    ensures { IfOk result (λ made. stated.IsLean (layout_of placed.now) sketch.now.handler (variables_of variables.now) given.now made.items) }
 {
     let none = no_block(alloc);
     let made = made_blocks(alloc, sketch, &none, placed, given)?;

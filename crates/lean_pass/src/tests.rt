@@ -105,13 +105,18 @@ fn put_list(block: &mut SymBlock, list: &[Sym]) -> Result<(), AllocError> {
     Ok(())
 }
 
-// What main becomes.
-fn main_of(alloc: Global, list: &[Sym]) -> Result<Vec<SymBlock>, AllocError> {
+// What main becomes that has so many bytes of variables.
+fn main_with(alloc: Global, variables: u64, list: &[Sym]) -> Result<Vec<SymBlock>, AllocError> {
     let mut main = SymBlock::new(alloc, BlockName::Copy(0));
     put_list(&mut main, list)?;
     let mut blocks = Vec::new(alloc);
     blocks.push(main)?;
-    lean(alloc, &blocks, None, &placed(alloc)?)
+    lean(alloc, &blocks, None, &placed(alloc)?, &[variables])
+}
+
+// What main becomes.
+fn main_of(alloc: Global, list: &[Sym]) -> Result<Vec<SymBlock>, AllocError> {
+    main_with(alloc, 0, list)
 }
 
 // `ticks++` of an unsigned char.
@@ -164,6 +169,48 @@ fn statics_are_written_each_time(rt: HostRuntime) -> Result<(), AllocError> {
     ];
     let made = main_of(rt.alloc(), &given)?;
     assert_eq!(rt; code_of(made.get(0)), &given[..]);
+    Ok(())
+}
+
+// Nor is a local variable's access left out, or a jump; a temporary byte's is.
+#[test]
+fn what_counts_stays(rt: HostRuntime) -> Result<(), AllocError> {
+    let given = [
+        load(1),
+        Sym::Movwf(temporary(0)),
+        Sym::Movwf(temporary(0)),
+        Sym::Movwf(temporary(1)),
+        goto(Label::Inner(0)),
+        Sym::Label(Label::Inner(0)),
+        to_w(FileOperation::Movf, temporary(0)),
+        goto(Label::Halt),
+        Sym::Bit {
+            op: BitOperation::Btfsc,
+            file: Operand::Register(Register::Status),
+            bit: 0,
+        },
+        goto(Label::Inner(0)),
+        Sym::Clrf(temporary(1)),
+        goto(Label::Halt),
+    ];
+    let wanted = [
+        load(1),
+        Sym::Movwf(temporary(0)),
+        Sym::Movwf(temporary(0)),
+        goto(Label::Inner(0)),
+        Sym::Label(Label::Inner(0)),
+        load(1),
+        goto(Label::Halt),
+        Sym::Bit {
+            op: BitOperation::Btfsc,
+            file: Operand::Register(Register::Status),
+            bit: 0,
+        },
+        goto(Label::Inner(0)),
+        goto(Label::Halt),
+    ];
+    let made = main_with(rt.alloc(), 1, &given)?;
+    assert_eq!(rt; code_of(made.get(0)), &wanted[..]);
     Ok(())
 }
 
@@ -220,7 +267,7 @@ fn a_handler_stores_no_constant(rt: HostRuntime) -> Result<(), AllocError> {
     let mut blocks = Vec::new(alloc);
     blocks.push(main)?;
     blocks.push(handler)?;
-    let made = lean(alloc, &blocks, Some(1), &placed(alloc)?)?;
+    let made = lean(alloc, &blocks, Some(1), &placed(alloc)?, &[])?;
     let wanted = [load(5), Sym::Movwf(ticks()), goto(Label::Restore)];
     assert_eq!(rt; code_of(made.get(0)), &[goto(Label::Halt)][..]);
     assert_eq!(rt; code_of(made.get(1)), &wanted[..]);

@@ -3,5 +3,5 @@ mod Words
 mod Stretches
 pub mod Whole
 mod Routines
-mod Named
+pub mod Named
 pub mod Blocks

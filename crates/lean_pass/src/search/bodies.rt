@@ -1,11 +1,12 @@
 //! The blocks of a program while what can go is searched for.
 
+use crate::marks::is_marked;
 use crate::owners::Ground;
 use crate::rows::Act;
 use crate::search::bits::Bits;
 use crate::search::effects::{Effect, effect_of, no_effect, no_flags};
 use crate::search::known::Knowledge;
-use crate::walk::{same_label, same_name};
+use crate::walk::{is_label, same_label, same_name};
 use pic_world::Root;
 use std::alloc::{AllocError, Global};
 use sym_code::{BlockName, Label, LiteralOperation, PlainOperation, Sym, SymBlock, Target};
@@ -32,6 +33,8 @@ pub struct Place {
     pub effect: Effect,
     pub way: Way,
     pub act: Act,
+    /// It counts, or is the last word of its block: it isn't left out.
+    pub fixed: bool,
     /// It is left out, and W of the code that is made holds its result.
     pub carried: bool,
     /// It is left out since what it writes is so already.
@@ -216,21 +219,33 @@ fn way_of(blocks: &[SymBlock], list: &[Sym], sym: Sym) -> Way {
     }
 }
 
+// The place of the last instruction, in front of labels.
+fn last_word(list: &[Sym]) -> usize {
+    let mut last = 0;
+    for (at, sym) in list.iter().enumerate() {
+        if !is_label(*sym) {
+            last = at;
+        }
+    }
+    last
+}
+
 fn places_of(
     alloc: Global,
     ground: &Ground,
     blocks: &[SymBlock],
+    variables: &[u64],
     inside: bool,
     list: &[Sym],
 ) -> Result<Vec<Place>, AllocError> {
     let mut places = Vec::new(alloc);
+    let last = last_word(list);
     let mut group = 0;
     let mut skips = false;
     for (at, sym) in list.iter().enumerate() {
         let effect = effect_of(ground, inside, *sym);
         let way = way_of(blocks, list, *sym);
-        let is_label = way == Way::Label;
-        if !skips || is_label {
+        if !skips || is_label(*sym) {
             group = at;
         }
         skips = effect.skips;
@@ -239,6 +254,7 @@ fn places_of(
             effect,
             way,
             act: Act::Keeps,
+            fixed: at == last || is_marked(variables, *sym),
             carried: false,
             needless: false,
             group,
@@ -261,6 +277,7 @@ fn body_of(
     alloc: Global,
     ground: &Ground,
     blocks: &[SymBlock],
+    variables: &[u64],
     block: &SymBlock,
 ) -> Result<Body, AllocError> {
     let inside = is_inside(ground, block.name);
@@ -268,7 +285,7 @@ fn body_of(
     Ok(Body {
         name: block.name,
         inside,
-        places: places_of(alloc, ground, blocks, inside, &block.list)?,
+        places: places_of(alloc, ground, blocks, variables, inside, &block.list)?,
         known: vec![in alloc; Knowledge::unreached(); room]?,
         live: vec![in alloc; Live::nothing(); room]?,
         differs: vec![in alloc; Live::nothing(); room]?,
@@ -280,10 +297,11 @@ pub fn bodies_of(
     alloc: Global,
     ground: &Ground,
     blocks: &[SymBlock],
+    variables: &[u64],
 ) -> Result<Vec<Body>, AllocError> {
     let mut bodies = Vec::new(alloc);
     for block in blocks {
-        bodies.push(body_of(alloc, ground, blocks, block)?)?;
+        bodies.push(body_of(alloc, ground, blocks, variables, block)?)?;
     }
     Ok(bodies)
 }

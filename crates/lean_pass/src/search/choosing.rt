@@ -111,11 +111,33 @@ impl Body {
         }
     }
 
+    // The last place of a run of skips with the instruction behind them.
+    fn group_end(&self, at: usize, group: usize) -> usize {
+        for next in at..self.places.len() {
+            if self.is_last(next, group) {
+                return next;
+            }
+        }
+        at
+    }
+
+    // Whether something of such a run has to stay.
+    fn is_group_fixed(&self, group: usize, last: usize) -> bool {
+        for at in group..last.saturating_add(1) {
+            if let Some(place) = self.place(at) {
+                if place.fixed {
+                    return true;
+                }
+            }
+        }
+        false
+    }
+
     // Whether a run of skips with the instruction behind them can go as a whole.
     fn is_group_dead(&self, group: usize, last: usize, after: Live) -> bool {
         for at in group..last.saturating_add(1) {
             if let Some(place) = self.place(at) {
-                if !place.effect.silent || !is_dead(place.effect, after) {
+                if place.fixed || !place.effect.silent || !is_dead(place.effect, after) {
                     return false;
                 }
             }
@@ -127,21 +149,6 @@ impl Body {
         for at in group..last.saturating_add(1) {
             self.act(at, Act::Drops);
         }
-    }
-
-    // Whether nothing of the code that is made stands between a jump and its target.
-    fn is_next(&self, at: usize, target: usize) -> bool {
-        if target <= at {
-            return false;
-        }
-        for between in at.saturating_add(1)..target {
-            if let Some(place) = self.place(between) {
-                if !place.is_label() && !place.is_dropped() {
-                    return false;
-                }
-            }
-        }
-        true
     }
 
     fn is_needless_at(&self, at: usize, place: &Place, aims: Aims, after: Live) -> bool {
@@ -157,17 +164,14 @@ impl Body {
     }
 
     fn may_go(&self, at: usize, place: &Place, aims: Aims, after: Live) -> bool {
-        match place.way {
-            Way::Goto(Some(target)) => aims == Aims::Dead && self.is_next(at, target),
-            Way::On => {
-                let goes = match aims {
-                    Aims::Dead => is_dead(place.effect, after),
-                    _ => self.is_needless_at(at, place, aims, after),
-                };
-                place.effect.silent && goes
-            }
-            _ => false,
+        if place.fixed || place.way != Way::On {
+            return false;
         }
+        let goes = match aims {
+            Aims::Dead => is_dead(place.effect, after),
+            _ => self.is_needless_at(at, place, aims, after),
+        };
+        place.effect.silent && goes
     }
 
     fn choose_alone(&mut self, at: usize, place: &Place, aims: Aims, after: Live) -> bool {
@@ -192,10 +196,18 @@ impl Body {
         }
     }
 
+    // Where nothing comes, a run of skips with the instruction behind them goes as a whole, too.
+    fn leave_unreached(&mut self, at: usize, group: usize) -> bool {
+        let goes = !self.is_group_fixed(group, self.group_end(at, group));
+        if goes {
+            self.act(at, Act::Drops);
+        }
+        goes
+    }
+
     fn choose(&mut self, at: usize, place: &Place, aims: Aims, after: Live) -> bool {
         if !self.known_at(at).reached {
-            self.act(at, Act::Drops);
-            return true;
+            return self.leave_unreached(at, place.group);
         }
         let ends_group = !place.effect.skips && self.is_last(at, place.group);
         if aims == Aims::Dead
@@ -269,6 +281,7 @@ impl Body {
             _ => false,
         };
         let fits = is_move
+            && !place.fixed
             && place.act == Act::Keeps
             && place.group == at
             && place.effect.reads == Some(byte)

@@ -275,9 +275,10 @@ pub fn search(
     blocks: &[SymBlock],
     handler: Option<u16>,
     placed: &Placed,
+    variables: &[u64],
 ) -> Result<Option<Plans>, AllocError> {
     let ground = grounded(alloc, placed)?;
-    let mut bodies = bodies_of(alloc, &ground, blocks)?;
+    let mut bodies = bodies_of(alloc, &ground, blocks, variables)?;
     let mut summaries = vec![in alloc; Summary::nothing(); blocks.len()]?;
     let main = bytes_of(&ground, false);
     let isr = bytes_of(&ground, true);

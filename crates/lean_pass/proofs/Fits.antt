@@ -1,0 +1,48 @@
+-- Row after row it is tested what those need that stand before and behind.
+use Rattle.std.proofs.Common.{◌≡◌, ℕ, Bool, true, false, not, ◌&&◌, if◌then◌else◌, List, [], ◌∷◌, Option, Some, None, refl, sym, ap, ◌∙◌}
+use Rattle.sym_code.specs.declared.code.Sym.{Sym}
+use Rattle.sym_code.specs.declared.code.Sym.TheVariants as syms
+use Rattle.lean_code.specs.Checked.{row_in, rows_in}
+use Rattle.lean_code.specs.Fit.{fits_row, fits, has_word, ends_by_word}
+use Rattle.lean_code.specs.Rows.{Act, Keeps, Drops, Puts, Narrows, At, narrowed, old_of, is_label, is_none, is_dropped, put_by, in_front, puts}
+use Rattle.lean_code.specs.Rows as certified
+use Rattle.lean_pass.specs.Tests.{ends_behind}
+use Rattle.lean_pass.specs.Views.{row_of, rows_of}
+use Rattle.lean_pass.specs.declared.rows.Row.{Row}
+
+module _ (variables : ℕ → ℕ) (entire : Bool) where
+  abbrev tested : List Row → Bool
+  tested rows = fits variables entire (rows_in (rows_of rows))
+
+  pub fits_on : (whole : Bool) (left rest : List Row) (row : Row) → left ≡ row ∷ rest → fits_row variables entire (row_in (row_of row)) ≡ true → tested left ≡ whole → tested rest ≡ whole
+  fits_on whole left rest row is so e = ap (λ (c : Bool). c && tested rest) (sym so) ∙ ap tested (sym is) ∙ e
+
+  pub fits_off : (whole : Bool) (left rest : List Row) (row : Row) → left ≡ row ∷ rest → fits_row variables entire (row_in (row_of row)) ≡ false → tested left ≡ whole → false ≡ whole
+  fits_off whole left rest row is so e = ap (λ (c : Bool). c && tested rest) (sym so) ∙ ap tested (sym is) ∙ e
+
+  pub fits_end : (whole : Bool) (left : List Row) → left ≡ [] → tested left ≡ whole → true ≡ whole
+  fits_end whole left is e = ap tested (sym is) ∙ e
+
+-- ---- words
+abbrev made : List Row → List Sym
+made rows = puts (rows_in (rows_of rows))
+
+narrow_word : (s : Sym) → has_word (narrowed s) ≡ not (is_label s)
+narrow_word (syms.File op operand to) = refl
+narrow_word (syms.Label label) = refl
+narrow_word s = refl
+
+-- one row more
+word_behind : (last : Bool) (row : certified.Row) (list : List Sym) → ends_by_word last (in_front (put_by row) list) ≡ ends_by_word (if is_dropped row then last else not (is_label (old_of row))) list
+word_behind last (At (syms.Label label) act said) list = refl
+word_behind last (At s Keeps said) list = refl
+word_behind last (At s Drops said) list = refl
+word_behind last (At s (Puts op n) said) list = refl
+word_behind last (At s Narrows said) list = ap (λ (b : Bool). ends_by_word b list) (narrow_word s)
+
+pub ends_on : (whole last next : Bool) (left rest : List Row) (row : Row) → left ≡ row ∷ rest → next ≡ ends_behind last (row_of row) → ends_by_word last (made left) ≡ whole → ends_by_word next (made rest) ≡ whole
+ends_on whole last next left rest row is so e =
+    ap (λ (b : Bool). ends_by_word b (made rest)) so ∙ sym (word_behind last (row_in (row_of row)) (made rest)) ∙ ap (λ (l : List Row). ends_by_word last (made l)) (sym is) ∙ e
+
+pub ends_end : (whole last : Bool) (left : List Row) → left ≡ [] → ends_by_word last (made left) ≡ whole → last ≡ whole
+ends_end whole last left is e = ap (λ (l : List Row). ends_by_word last (made l)) (sym is) ∙ e

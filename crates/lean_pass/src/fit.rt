@@ -1,0 +1,122 @@
+//! The tests of what those need that stand before and behind: what counts stays, the start block stays as it is, numbers are bytes, and
+//! each block ends by a word.
+
+ghost use Rattle.std.specs.Prelude.{◌≡◌, ◌&&◌, true};
+ghost use Rattle.lean_code.specs.Checked as listed;
+ghost use Rattle.lean_code.specs.Fit as stated;
+ghost use Rattle.lean_code.specs.Rows.{puts};
+ghost use Rattle.lean_pass.specs.Tests as tests;
+ghost use Rattle.lean_pass.specs.Views.{act_of, row_of, rows_of, block_of, blocks_of, variables_of};
+
+use crate::marks::is_marked;
+use crate::rows::{Act, ByteSet, LeanBlock, Row};
+use crate::walk::{first_row, is_dropped, is_label, same_name};
+use sym_code::BlockName;
+
+fn loses_mark(variables: &[u64], row: &Row) -> bool
+    ensures { result ≡ stated.loses_mark (variables_of variables.now) (listed.row_in (row_of row.now)) }
+{
+    is_dropped(row) && is_marked(variables, row.sym)
+}
+
+fn is_byte_act(act: Act) -> bool
+    ensures { result ≡ stated.is_byte_act (act_of act) }
+{
+    match act {
+        Act::Puts { value, .. } => (value as u16) < 256,
+        Act::Keeps => true,
+        Act::Drops => true,
+        Act::Narrows => true,
+    }
+}
+
+fn is_keep(act: Act) -> bool
+    ensures { result ≡ stated.is_keep (act_of act) }
+{
+    match act {
+        Act::Keeps => true,
+        Act::Drops => false,
+        Act::Puts { .. } => false,
+        Act::Narrows => false,
+    }
+}
+
+fn fits_row(variables: &[u64], whole: bool, row: &Row) -> bool
+    ensures { result ≡ stated.fits_row (variables_of variables.now) whole (listed.row_in (row_of row.now)) }
+{
+    !loses_mark(variables, row) && (is_byte_act(row.act) && (!whole || is_keep(row.act)))
+}
+
+#[tactic(auto, using(crate::proofs::Fits::fits_on, crate::proofs::Fits::fits_off, crate::proofs::Fits::fits_end))]
+fn fits(variables: &[u64], whole: bool, rows: &[Row]) -> bool
+    ensures { result ≡ stated.fits (variables_of variables.now) whole (listed.rows_in (rows_of rows.now)) }
+{
+    let mut left = rows;
+    while let Some((row, rest)) = first_row(left) {
+        if !fits_row(variables, whole, row) {
+            return false;
+        }
+        left = rest;
+    }
+    true
+}
+
+// Whether the code that is made up to here ends by a word, where it did before this row.
+fn ends_behind(last: bool, row: &Row) -> bool
+    ensures { result ≡ tests.ends_behind last (row_of row.now) }
+{
+    if is_dropped(row) {
+        last
+    } else {
+        !is_label(row.sym)
+    }
+}
+
+#[tactic(auto, using(crate::proofs::Fits::ends_on, crate::proofs::Fits::ends_end))]
+fn ends_by_word(rows: &[Row]) -> bool
+    ensures { result ≡ stated.ends_by_word true (puts (listed.rows_in (rows_of rows.now))) }
+{
+    let mut last = true;
+    let mut left = rows;
+    while let Some((row, rest)) = first_row(left) {
+        last = ends_behind(last, row);
+        left = rest;
+    }
+    last
+}
+
+fn is_fit_block(variables: &[u64], block: &LeanBlock) -> bool
+    ensures { result ≡ stated.is_fit_block (variables_of variables.now) (block_of block.now) }
+{
+    fits(
+        variables,
+        same_name(block.name, BlockName::Start),
+        &block.rows,
+    ) && ends_by_word(&block.rows)
+}
+
+/// Whether each block passes.
+pub fn are_fit(variables: &[u64], blocks: &[LeanBlock]) -> bool
+    ensures { result ≡ stated.are_fit (variables_of variables.now) (blocks_of blocks.now) }
+{
+    match blocks {
+        [] => true,
+        [block, rest @ ..] => {
+            if is_fit_block(variables, block) {
+                are_fit(variables, rest)
+            } else {
+                false
+            }
+        }
+    }
+}
+
+/// Whether a set lists no byte.
+pub fn has_none(set: &ByteSet) -> bool
+    ensures { result ≡ tests.has_none set.now.has.items }
+{
+    match &*set.has {
+        [] => true,
+        [_, ..] => false,
+    }
+}
