@@ -10,7 +10,7 @@ use Rattle.core_code.specs.Machine as core
 use Rattle.core_code.specs.Machine.{Task, Put, PutBit, PutBack, Join, Waiting, after_read, is_own, is_valid, put, when, with_bit, has_bit, bit_read, bit_write, memory_with, after_write}
 use Rattle.core_code.specs.declared.code.Byte.{Byte}
 use Rattle.core_code.specs.declared.code.Byte.TheVariants.{Device}
-use Rattle.sym_code.specs.Cost.{least_prices, most_prices}
+use Rattle.sym_code.specs.Cost.{sure_prices, most_prices}
 use Rattle.sym_code.specs.Effect.{Thread, Memory, Port, Quiet, Reads, Silent, effect, effect_of, access_of, test, change}
 use Rattle.sym_code.specs.Machine.{Machine}
 use Rattle.sym_code.specs.Programs.{Position, position, onward, lands, label_from}
@@ -33,7 +33,7 @@ use Rattle.select_trace.proofs.Live.{IsUser, below, chain_user}
 use Rattle.select_trace.proofs.Memory.{Shown, agrees_shown}
 use Rattle.select_trace.proofs.Blocks.{block, bounds, next_lands}
 use Rattle.select_trace.proofs.Relation.{place, store_to, Left, Here, least_at, most_at, stop, further, Went, weaken, After}
-use Rattle.select_trace.proofs.Steps.{thread, machine, Fit, stands_at, stays, dear, word, word_to, effect_word, jump, past, skip, onward_is, skip_lands}
+use Rattle.select_trace.proofs.Steps.{thread, machine, Fit, stands_at, stays, dear, counted, of_byte, word, word_to, effect_word, jump, past, skip, onward_is, skip_lands}
 use Rattle.select_trace.proofs.Access.{own_valid, own_access, port_access, movlw_is}
 use Rattle.select_trace.proofs.Control.{left_to, here_left, when_after}
 use Rattle.select_trace.proofs.Stores.{device_small, read_bytes, write_bytes, fit_with}
@@ -110,9 +110,9 @@ module _ (s : Site) (t : Machine) (wc : World Held) (calm : Calm s wc) (f : ℕ)
       let ob = onward_is s t wc calm f ps (suc n) y (nat_eq (bit v (number % 8)) 0) h.1.1.0 refl in
       let la : lands s.g.program (onward s.g.program (position (names.Copy f) (suc n)) (nat_eq (bit v (number % 8)) 0)) ≡ true =
       ap (lands s.g.program) ob ∙ skip_lands s t wc calm f ps the_user (suc n) x y (nat_eq (bit v (number % 8)) 0) h.1.0 refl h.1.1.0 refl in
-      weaken s (at s t (thread s f n ps r) m wc) d 2 (s.price (names.Copy f) n + (s.price (names.Copy f) (suc n) + 0)) 1 6 (omega arith) (omega (arith, dr))
+      weaken s (at s t (thread s f n ps r) m wc) d 1 (s.price (names.Copy f) n + (s.price (names.Copy f) (suc n) + 0)) 1 6 (omega arith) (omega (arith, dr))
       (word s t wc calm f ps the_user n r m (syms.Literal Movlw (literals.Number 0)) r' None d 1 (s.price (names.Copy f) (suc n) + 0) h.0 refl refl (movlw_is s wc.inside f n ps r m 0)
-      (word_to s t wc calm f ps (at s t (next v) m wd) (suc n) r' m x (Reads (Port a) next) d 0 0 h.1.0 refl ef (λ c p. refl)
+      (word_to s t wc calm f ps the_user (at s t (next v) m wd) (suc n) r' m x (Reads (Port a) next) d 0 0 h.1.0 refl ef (λ c p. refl)
       (read_port s t wc calm (thread s f (suc n) ps r') m a next (effect_word s wc.inside f (suc n) ps r' m x h.1.0 refl ∙ ef) la)
       (stays s (at s t (next v) m wd) d (stands_at s t wd f pr (PutBit to (bit v number) ∷ c) st loops cm m (next v) (fit_read a) (w_fits r 0 (omega arith) fits)
       (by_bit v r' h.1.1 nb ob (bit_of v number)))))))
@@ -133,19 +133,19 @@ module _ (s : Site) (t : Machine) (wc : World Held) (calm : Calm s wc) (f : ℕ)
   -- a bit that was read is written as a byte
   pub put_bit_goes : (to : Byte) (value n : ℕ) (r : Registers) (c : List Task) → Fits r
       → ((r.w ≡ value) × Has (block s f) n (store_to to ∷ []) × Left s f loops (n + 1) c) ⊎ ((value ≡ 1) × Has (block s f) n (syms.Literal Movlw (literals.Number 1) ∷ store_to to ∷ []) × Left s f loops (n + 2) c)
-      → After s 1 4 (put s.q to (Number value) c f pr st cm wc) (at s t (thread s f n ps r) m wc)
+      → After s 0 4 (put s.q to (Number value) c f pr st cm wc) (at s t (thread s f n ps r) m wc)
   put_bit_goes to value n r c fits (inl h) =
       let v = at s t (thread s f n ps r) m wc in
-      after_map s 1 3 1 4 (put s.q to (Number value) c f pr st cm wc) v v (put_moves s.q to (Number value) c f pr st cm wc) (λ d w. weaken s v d 1 3 1 4 (omega arith) (omega arith) w)
+      after_map s (of_byte s to) 3 0 4 (put s.q to (Number value) c f pr st cm wc) v v (put_moves s.q to (Number value) c f pr st cm wc) (λ d w. weaken s v d (of_byte s to) 3 0 4 (omega arith) (omega arith) w)
       (put_goes s t wc calm f pr st loops ps cm m fit to (Number value) n r c fits h.0 h.1 (soon_left s f loops r (n + 1) c h.2))
   put_bit_goes to value n r c fits (inr h) =
       let r' : Registers = record r { w = 1 } in
       let v = at s t (thread s f n ps r) m wc in
       let v' = at s t (thread s f (suc n) ps r') m wc in
       let dr = dear s f the_user n 1 (syms.Literal Movlw (literals.Number 1) ∷ []) (h.1.0, tt) refl (omega arith) in
-      after_map s 1 3 1 4 (put s.q to (Number value) c f pr st cm wc) v' v (put_moves s.q to (Number value) c f pr st cm wc) (λ d w.
-      weaken s v d 2 (s.price (names.Copy f) n + 3) 1 4 (omega arith) (omega (arith, dr))
-      (word s t wc calm f ps the_user n r m (syms.Literal Movlw (literals.Number 1)) r' None d 1 3 h.1.0 refl refl (movlw_is s wc.inside f n ps r m 1) w))
+      after_map s (of_byte s to) 3 0 4 (put s.q to (Number value) c f pr st cm wc) v' v (put_moves s.q to (Number value) c f pr st cm wc) (λ d w.
+      weaken s v d (of_byte s to) (s.price (names.Copy f) n + 3) 0 4 (omega arith) (omega (arith, dr))
+      (word s t wc calm f ps the_user n r m (syms.Literal Movlw (literals.Number 1)) r' None d (of_byte s to) 3 h.1.0 refl refl (movlw_is s wc.inside f n ps r m 1) w))
       (put_goes s t wc calm f pr st loops ps cm m fit to (Number value) (suc n) r' c (w_fits r 1 (omega arith) fits) (sym h.0) h.1.1 (soon_left s f loops r' (suc n + 1) c (left_to s f loops (n + 2) (suc n + 1) c (omega arith) h.2)))
 
   -- ---- a bit is written
@@ -162,6 +162,11 @@ module _ (s : Site) (t : Machine) (wc : World Held) (calm : Calm s wc) (f : ℕ)
       ∙ ap (change s.g.program (position (names.Copy f) n) (thread s f n ps r) m (clear_bit b)) (port_access s wc.inside true r a va)
       ∙ ap (λ k. Reads (Port a) (λ x. record (thread s f (n + 1) ps r) { rest = Some (record { to = Port a; byte = k x }) })) (sym e.1)
 
+  -- which counts one
+  change_counts : (op : _) (g : ℕ → ℕ) (a b : ℕ) → ((op ≡ Bsf) × (g ≡ set_bit b)) ⊎ ((op ≡ Bcf) × (g ≡ clear_bit b)) → counted s (syms.Bit op (operands.Byte (Device a)) b) ≡ 1
+  change_counts op g a b (inl e) = ap (λ o. counted s (syms.Bit o (operands.Byte (Device a)) b)) e.0
+  change_counts op g a b (inr e) = ap (λ o. counted s (syms.Bit o (operands.Byte (Device a)) b)) e.0
+
   -- the instruction reads the register; its write is left
   change_goes : (op : _) (g : ℕ → ℕ) (a b n : ℕ) (r : Registers) (c : List Task) → Fits r → (is_register a && nat_eq (lowest a) a) ≡ true → ((op ≡ Bsf) × (g ≡ set_bit b)) ⊎ ((op ≡ Bcf) × (g ≡ clear_bit b))
       → slice_get (block s f) n ≡ Some (syms.Bit op (operands.Byte (Device a)) b) → g (device_value s.o a wc) < 256 → Left s f loops (suc n) (Join ∷ c)
@@ -175,9 +180,12 @@ module _ (s : Site) (t : Machine) (wc : World Held) (calm : Calm s wc) (f : ℕ)
       let la = next_lands s f the_user n x h refl in
       let ef : effect_of s.g wc.inside (position (names.Copy f) n) (thread s f n ps r) m x ≡ Reads (Port a) next =
       change_is op g a b n r va oe ∙ ap (λ k. Reads (Port a) (λ z. record (thread s f k ps r) { rest = Some (record { to = Port a; byte = g z }) })) (let q : n + 1 ≡ suc n = omega arith in q) in
-      word_to s t wc calm f ps (at s t (next v) m wd) n r m x (Reads (Port a) next) d 0 0 h refl ef (λ c p. refl)
+      let one : counted s x ≡ 1 = change_counts op g a b oe in
+      let hi = s.price (names.Copy f) n + 0 in
+      weaken s (at s t (thread s f n ps r) m wc) d (counted s x + 0) hi 1 hi (omega (arith, one)) (omega arith)
+      (word_to s t wc calm f ps the_user (at s t (next v) m wd) n r m x (Reads (Port a) next) d 0 0 h refl ef (λ c p. refl)
       (read_port s t wc calm (thread s f n ps r) m a next (effect_word s wc.inside f n ps r m x h refl ∙ ef) la)
-      (stays s (at s t (next v) m wd) d (stands_at s t wd f pr (PutBack a (g v) ∷ Join ∷ c) st loops cm m (next v) (fit_read a) fits (suc n, small, refl, refl, la, l)))
+      (stays s (at s t (next v) m wd) d (stands_at s t wd f pr (PutBack a (g v) ∷ Join ∷ c) st loops cm m (next v) (fit_read a) fits (suc n, small, refl, refl, la, l))))
 
   low_is : (n : ℕ) (r : Registers) (from : Byte) (k : ℕ) → access_of s.g wc.inside false r (operands.Byte from) ≡ Silent k
       → effect_of s.g wc.inside (position (names.Copy f) n) (thread s f n ps r) m (syms.Bit Btfss (operands.Byte from) 0) ≡ Quiet (record { rest = None; at = Some (onward s.g.program (position (names.Copy f) n) (nat_eq (bit (m k) 0) 1)); stack = ps; registers = r }) None
@@ -228,7 +236,7 @@ module _ (s : Site) (t : Machine) (wc : World Held) (calm : Calm s wc) (f : ℕ)
           let low : bit (m k) 0 ≡ x % 2 = ap (λ z. bit z 0) sh ∙ half x in
           let dr = dear s f the_user n 6 (syms.Bit Btfss (operands.Byte from) 0 ∷ syms.Goto (targets.Label (first_label n)) ∷ []) (h.0, (h.1.0, tt)) refl (let z = dear_three (syms.Bit Btfss (operands.Byte from) 0 ∷ syms.Goto (targets.Label (first_label n)) ∷ []) in omega (arith, z)) in
           weaken s (at s t (thread s f n ps r) m wc) d 1 (s.price (names.Copy f) n + (s.price (names.Copy f) (suc n) + 3)) 1 13 (omega arith) (omega (arith, dr))
-          (skip s t wc calm f ps the_user n r m (syms.Bit Btfss (operands.Byte from) 0) (syms.Goto (targets.Label (first_label n))) (nat_eq (bit (m k) 0) 1) r d 0 (s.price (names.Copy f) (suc n) + 3) h.0 refl refl h.1.0 refl refl
+          (skip s t wc calm f ps the_user n r m (syms.Bit Btfss (operands.Byte from) 0) (syms.Goto (targets.Label (first_label n))) (nat_eq (bit (m k) 0) 1) r d 1 (s.price (names.Copy f) (suc n) + 3) h.0 refl refl h.1.0 refl refl
           (low_is n r from k (own_access s wc.inside false r f the_user fit.root from o))
           (chosen (nat_eq (bit (m k) 0) 1) x va n8 nb (ap (λ z. nat_eq z 1) low))))
         where
@@ -236,7 +244,7 @@ module _ (s : Site) (t : Machine) (wc : World Held) (calm : Calm s wc) (f : ℕ)
           half x = omega arith
 
           chosen : (b : Bool) (x : ℕ) → (is_register a && nat_eq (lowest a) a) ≡ true → number < 8 → number % 8 ≡ number → b ≡ nat_eq (x % 2) 1
-              → Went s (at s t (thread s f (if b then suc (suc n) else suc n) ps r) m wc) (machine f pr (PutBack a (with_bit number (x % 2) v) ∷ Join ∷ c) st cm (after_device_read Number s.o a wc)) 0 (s.price (names.Copy f) (suc n) + 3)
+              → Went s (at s t (thread s f (if b then suc (suc n) else suc n) ps r) m wc) (machine f pr (PutBack a (with_bit number (x % 2) v) ∷ Join ∷ c) st cm (after_device_read Number s.o a wc)) 1 (s.price (names.Copy f) (suc n) + 3)
           chosen true x va n8 nb e =
               let p2 = suc (suc n) in
               let ev : set_bit (number % 8) v ≡ with_bit number (x % 2) v = ap (λ z. set_bit z v) nb ∙ sym (if_true (nat_eq (x % 2) 1) (set_bit number v) (clear_bit number v) (sym e)) in
@@ -245,8 +253,8 @@ module _ (s : Site) (t : Machine) (wc : World Held) (calm : Calm s wc) (f : ℕ)
               let d3 = dear_three code in
               let dr = dear s f the_user p2 3 code (h.1.1.0, tt) refl (omega (arith, d3)) in
               let sm : set_bit (number % 8) v < 256 = each_below set_bit set_below (number % 8) v (omega arith) (device_small s a wc fit.control) in
-              subst (λ z. Went s (at s t (thread s f p2 ps r) m wc) (machine f pr (PutBack a z ∷ Join ∷ c) st cm (after_device_read Number s.o a wc)) 0 (s.price (names.Copy f) (suc n) + 3)) ev
-              (weaken s (at s t (thread s f p2 ps r) m wc) w 1 (s.price (names.Copy f) p2 + 0) 0 (s.price (names.Copy f) (suc n) + 3) (omega arith) (omega (arith, dr))
+              subst (λ z. Went s (at s t (thread s f p2 ps r) m wc) (machine f pr (PutBack a z ∷ Join ∷ c) st cm (after_device_read Number s.o a wc)) 1 (s.price (names.Copy f) (suc n) + 3)) ev
+              (weaken s (at s t (thread s f p2 ps r) m wc) w 1 (s.price (names.Copy f) p2 + 0) 1 (s.price (names.Copy f) (suc n) + 3) (omega arith) (omega (arith, dr))
               (change_goes Bsf (set_bit (number % 8)) a (number % 8) p2 r c fits va (inl (refl, refl)) h.1.1.0 sm
               (n + 7, inr (2 * n + 1, suc (suc (suc (suc (suc (suc n))))), h.1.1.1.0, labels.1, h.1.1.1.1.1.1.0, last), l)))
           chosen false x va n8 nb e =
@@ -259,8 +267,8 @@ module _ (s : Site) (t : Machine) (wc : World Held) (calm : Calm s wc) (f : ℕ)
               let d3 = dear_three code in
               let dr = dear s f the_user p5 3 code (h.1.1.1.1.1.0, tt) refl (omega (arith, d3)) in
               let sm : clear_bit (number % 8) v < 256 = each_below clear_bit clear_below (number % 8) v (omega arith) (device_small s a wc fit.control) in
-              subst (λ z. Went s (at s t (thread s f p1 ps r) m wc) (machine f pr (PutBack a z ∷ Join ∷ c) st cm (after_device_read Number s.o a wc)) 0 (s.price (names.Copy f) (suc n) + 3)) ev
-              (weaken s (at s t (thread s f p1 ps r) m wc) w 2 (s.price (names.Copy f) p1 + (s.price (names.Copy f) p5 + 0)) 0 (s.price (names.Copy f) (suc n) + 3) (omega arith) (omega (arith, dr))
+              subst (λ z. Went s (at s t (thread s f p1 ps r) m wc) (machine f pr (PutBack a z ∷ Join ∷ c) st cm (after_device_read Number s.o a wc)) 1 (s.price (names.Copy f) (suc n) + 3)) ev
+              (weaken s (at s t (thread s f p1 ps r) m wc) w 2 (s.price (names.Copy f) p1 + (s.price (names.Copy f) p5 + 0)) 1 (s.price (names.Copy f) (suc n) + 3) (omega arith) (omega (arith, dr))
               (jump s t wc calm f ps the_user p1 r m (2 * n) p4 w 1 (s.price (names.Copy f) p5 + 0) h.1.0 labels.0 h.1.1.1.1.0
               (past s t wc calm f ps p4 r m (2 * n) w 1 (s.price (names.Copy f) p5 + 0) h.1.1.1.1.0
               (change_goes Bcf (clear_bit (number % 8)) a (number % 8) p5 r c fits va (inr (refl, refl)) h.1.1.1.1.1.0 sm (n + 7, inl last, l)))))
@@ -280,7 +288,7 @@ module _ (s : Site) (t : Machine) (wc : World Held) (calm : Calm s wc) (f : ℕ)
       when_after s 0 3 (is_register a && nat_eq (lowest a) a) (when (not (sets_gie a value wc)) next) v (λ va.
       when_after s 0 3 (not (sets_gie a value wc)) next v (λ gi.
       let fit' = fit_with s t wc calm f pr st loops ps cm m fit wd pr cm m (write_inside s t wc calm th m a value) (write_bytes a value wc small fit.control) fit.agree fit.bytes fit.passing in
-      let le : least_at s v ≡ 0 = cost_at s t wc calm th m least_prices in
+      let le : least_at s v ≡ 0 = cost_at s t wc calm th m (sure_prices s.sure) in
       let mo : most_at s v ≡ 0 = cost_at s t wc calm th m (most_prices s.price) in
       record {
         k = 1;

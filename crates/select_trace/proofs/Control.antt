@@ -35,7 +35,7 @@ use Rattle.select_trace.proofs.Machines.{at, Calm}
 use Rattle.select_trace.proofs.Live.{IsUser, is_live, below, chain_user}
 use Rattle.select_trace.proofs.Blocks.{block, code, parts, wide, ending, free_at, bounds, is_leaver}
 use Rattle.select_trace.proofs.Relation.{Joins, Left, Soon, Here, Went, weaken, After}
-use Rattle.select_trace.proofs.Steps.{thread, machine, Fit, stands_at, stays, total, dear, skip, jump, past}
+use Rattle.select_trace.proofs.Steps.{thread, machine, Fit, stands_at, stays, total, dear, skip_counted, jump, past}
 use Rattle.select_trace.proofs.Access.{zero_clear}
 use Rattle.select_trace.proofs.Testing.{total_append, test_goes}
 use Rattle.select_trace.proofs.Prices.{straight_append, dear_three, test_length}
@@ -210,14 +210,10 @@ module _ (s : Site) (t : Machine) (wc : World Held) (calm : Calm s wc) (f : ℕ)
           let dr = dear s f user n (4 * size + 16) head h (straight_append tc _ _ (test_free test size) refl) (omega (arith, d3, lh, le)) in
           subst (λ y. After s 1 (4 * size + 16) y (at s t (thread s f n ps r) m wc)) (sym (some holds q))
           (weaken s (at s t (thread s f n ps r) m wc) (d holds) 1 (total s f n tc + (s.price (names.Copy f) n' + (s.price (names.Copy f) (suc n') + 0))) 1 (4 * size + 16) (omega arith) (omega (arith, dr, tot))
-          (test_goes s t wc calm f user ps fit.root m fit.bytes (d holds) cm (is_live f pr (below st)) pr (below st) fit.agree test size n r 0 (s.price (names.Copy f) n' + (s.price (names.Copy f) (suc n') + 0)) holds fits own q ht
-          (λ r' fr z. fewer_lo (at s t (thread s f n' ps r') m wc) (d holds) (s.price (names.Copy f) n' + (s.price (names.Copy f) (suc n') + 0))
-          (skip s t wc calm f ps user n' r' m (syms.Bit Btfsc (operands.Register Status) 2) (syms.Goto (targets.Label to)) (nat_eq r'.z 0) r' (d holds) 0 (s.price (names.Copy f) (suc n') + 0) hj.0 refl refl hj.1.0 refl inner (zero_clear s wc.inside f n' ps r' m)
-          (choose holds r' fr n' len hj.1 (nat_eq r'.z 0) (ap (λ y. nat_eq y 0) z))))))
+          (test_goes s t wc calm f user ps fit.root m fit.bytes (d holds) cm (is_live f pr (below st)) pr (below st) fit.agree test size n r 1 (s.price (names.Copy f) n' + (s.price (names.Copy f) (suc n') + 0)) holds fits own q ht
+          (λ r' fr z. skip_counted s t wc calm f ps user n' r' m (syms.Bit Btfsc (operands.Register Status) 2) (syms.Goto (targets.Label to)) (nat_eq r'.z 0) r' (d holds) 0 (s.price (names.Copy f) (suc n') + 0) hj.0 refl refl hj.1.0 refl inner (zero_clear s wc.inside f n' ps r' m)
+          (choose holds r' fr n' len hj.1 (nat_eq r'.z 0) (ap (λ y. nat_eq y 0) z)))))
         where
-          fewer_lo : (v : Machine) (e : core.Machine) (hi : ℕ) → Went s v e 1 hi → Went s v e 0 hi
-          fewer_lo v e hi w = weaken s v e 1 hi 0 hi (omega arith) (omega arith) w
-
           choose : (holds : Bool) (r' : Registers) → Fits r' → (n' : ℕ) → n + length (head_code (test_code test size) to) ≡ suc (suc n') → Has (block s f) (suc n') (goto_code to) → (b : Bool) → b ≡ nat_eq (truth (not holds)) 0
               → Went s (at s t (thread s f (if b then suc (suc n') else suc n') ps r') m wc) (d holds) 0 (s.price (names.Copy f) (suc n') + 0)
           choose true r' fr n' len hg b e =

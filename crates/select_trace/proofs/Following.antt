@@ -9,12 +9,12 @@ use Rattle.pic_world.specs.World.{World, arrived, is_due, entered}
 use Rattle.pic_world.proofs.WorldLaws.{arrived_again, arrived_inside, arrived_as, due_as, entered_as}
 use Rattle.core_code.specs.Bytes as bytes
 use Rattle.core_code.specs.Bytes.{Held, Number, without_frame}
-use Rattle.core_code.specs.Cost.{one_if, load_cost, cost_of, leaving, least_of, task_most, least_task, step_most, step_least, context_cost}
+use Rattle.core_code.specs.Cost.{one_if, is_kept, load_cost, cost_of, leaving, least_of, task_most, least_task, step_most, step_least, context_cost}
 use Rattle.core_code.specs.Machine as core
 use Rattle.core_code.specs.Machine.{Task, Do, Put, PutBit, PutBack, Join, LoadFrom, StoreTo, Over, Waiting, InLoop, InCall, InHandler, when, tasks, operate, act, may_interrupt, core_step, core_step_at, put}
 use Rattle.core_code.specs.Tree.{Tree, Set, Address, Copy, Load, Store, Unary, Binary, Convert, BitRead, BitWrite, Call, Leave, Many, If, Loop, Exit, Again}
 use Rattle.core_code.specs.declared.code.Byte.TheVariants.{Device}
-use Rattle.sym_code.specs.Cost.{Prices, least_prices, most_prices, thread_cost, step_cost, step_cost_at}
+use Rattle.sym_code.specs.Cost.{Prices, sure_prices, most_prices, thread_cost, step_cost, step_cost_at}
 use Rattle.sym_code.specs.Effect.{Thread, Memory, Port, Rests, effect, effect_rest, effect_at, root_of}
 use Rattle.sym_code.specs.Layout.{shown}
 use Rattle.sym_code.specs.Machine as sym_machine
@@ -54,7 +54,7 @@ module _ (s : Site) (values : ValuesGo s) where
   -- ---- tasks
   module _ (t : Machine) (wc : World Held) (calm : Calm s wc) (f : ℕ) (pr : Option ℕ) (st : List Waiting) (ps : List Position) (cm : bytes.Memory) (m : Memory) where
     falls_goes : (l : ℕ) (ls : List ℕ) (before : List Tree) (x : Tree) (n : ℕ) (r : Registers) (c : List Task) → Fits r → Fit s t wc f pr st (l ∷ ls) ps cm m → sets_bytes x ≡ true → FallsIn s f l ls n x
-        → After s (least_of x st) (cost_of before x + leaving x st) (operate (core_of s) before x c f pr st cm wc) (at s t (thread s f n ps r) m wc)
+        → After s (least_of s.q x st) (cost_of before x + leaving x st) (operate (core_of s) before x c f pr st cm wc) (at s t (thread s f n ps r) m wc)
     unfolding cost_of operate
     falls_goes l ls before (Exit zero) n r c fits fit sb h = falls_exit s t wc calm ps cm m f pr st l ls n r fits fit h
     falls_goes l ls before (Many ts) n r c fits fit sb h = falls_many s t wc calm ps cm m f pr st l ls ts n r c fits fit sb h
@@ -76,7 +76,7 @@ module _ (s : Site) (values : ValuesGo s) where
     falls_goes l ls before (Again a) n r c fits fit sb h = absurd h
 
     do_goes : (loops : List ℕ) (before : List Tree) (x : Tree) (n : ℕ) (r : Registers) (c : List Task) → Knows s f cm before → Fits r → Fit s t wc f pr st loops ps cm m → Left s f loops n (Do before x ∷ c)
-        → After s (least_of x st) (cost_of before x + leaving x st) (operate (core_of s) before x c f pr st cm wc) (at s t (thread s f n ps r) m wc)
+        → After s (least_of s.q x st) (cost_of before x + leaving x st) (operate (core_of s) before x c f pr st cm wc) (at s t (thread s f n ps r) m wc)
     do_goes loops before x n r c known fits fit (sb, inl h) = operate_goes s values t wc calm f pr st loops ps cm m fit before x n r c known fits sb h.0 h.1
     do_goes [] before x n r c known fits fit (sb, inr h) = absurd h
     do_goes (l ∷ ls) before x n r c known fits fit (sb, inr h) = falls_goes l ls before x n r c fits fit sb h
@@ -95,16 +95,16 @@ module _ (s : Site) (values : ValuesGo s) where
     over_outside loops fit e = main_outside wc.inside (sym fit.root ∙ ap s.q.root e ∙ main_root s)
 
     -- a task, where the thread is
-    task_goes : (loops : List ℕ) (th : Thread) (c : List Task) → KnowsAll s f cm c → th.stack ≡ ps → Fits th.registers → Fit s t wc f pr st loops ps cm m → Here s f loops th c → After s (least_task c st) (task_most c st) (act (core_of s) c f pr st cm wc) (at s t th m wc)
+    task_goes : (loops : List ℕ) (th : Thread) (c : List Task) → KnowsAll s f cm c → th.stack ≡ ps → Fits th.registers → Fit s t wc f pr st loops ps cm m → Here s f loops th c → After s (least_task s.q c st) (task_most c st) (act (core_of s) c f pr st cm wc) (at s t th m wc)
     unfolding act
     task_goes loops th [] known e fits fit h =
         subst (λ (x : Thread). After s 1 4 (core.at_end f pr st cm wc) (at s t x m wc)) (same_thread th h.0 h.1 h.2 e) (end_goes s t wc calm ps cm m f pr st loops h.0 th.registers fits fit h.3)
     task_goes loops th (Do before x ∷ c) known e fits fit h =
-        subst (λ (y : Thread). After s (least_of x st) (cost_of before x + leaving x st) (operate (core_of s) before x c f pr st cm wc) (at s t y m wc)) (same_thread th h.0 h.1 h.2 e) (do_goes loops before x h.0 th.registers c known fits fit h.3)
+        subst (λ (y : Thread). After s (least_of s.q x st) (cost_of before x + leaving x st) (operate (core_of s) before x c f pr st cm wc) (at s t y m wc)) (same_thread th h.0 h.1 h.2 e) (do_goes loops before x h.0 th.registers c known fits fit h.3)
     task_goes loops th (Put to held ∷ c) known e fits fit h =
-        subst (λ (y : Thread). After s 1 3 (put s.q to held c f pr st cm wc) (at s t y m wc)) (same_thread th h.0 h.1 h.2 e) (put_goes s t wc calm f pr st loops ps cm m fit to held h.0 th.registers c fits h.3.0 h.3.1 h.3.2)
+        subst (λ (y : Thread). After s (one_if (is_kept s.q.variable_bytes to)) 3 (put s.q to held c f pr st cm wc) (at s t y m wc)) (same_thread th h.0 h.1 h.2 e) (put_goes s t wc calm f pr st loops ps cm m fit to held h.0 th.registers c fits h.3.0 h.3.1 h.3.2)
     task_goes loops th (PutBit to value ∷ c) known e fits fit h =
-        subst (λ (y : Thread). After s 1 4 (put s.q to (Number value) c f pr st cm wc) (at s t y m wc)) (same_thread th h.0 h.1 h.2 e) (put_bit_goes s t wc calm f pr st loops ps cm m fit to value h.0 th.registers c fits h.3)
+        subst (λ (y : Thread). After s 0 4 (put s.q to (Number value) c f pr st cm wc) (at s t y m wc)) (same_thread th h.0 h.1 h.2 e) (put_bit_goes s t wc calm f pr st loops ps cm m fit to value h.0 th.registers c fits h.3)
     task_goes loops th (PutBack a v ∷ c) known e fits fit h =
         subst (λ (y : Thread). After s 0 3 (put s.q (Device a) (Number v) c f pr st cm wc) (at s t y m wc)) (back_thread th h.0 a v h.2 h.3 e) (put_back_goes s t wc calm f pr st loops ps cm m fit a v h.0 th.registers c fits h.1 h.4 h.5)
     task_goes loops th (Join ∷ c) known e fits fit h =
@@ -163,7 +163,7 @@ module _ (s : Site) (values : ValuesGo s) where
   path_from : (d : core.Machine) (t t' u : Machine) (k lo hi : ℕ) → settled s.o t' ≡ settled s.o t → Path s t' k lo hi u → Stands s d u → Went s t d lo hi
   path_from d t t' u k lo hi q (stop t0 lo0 hi0 z) st = record { k = 0; u = t; path = stop t lo0 hi0 z; stands = stands_from d t t0 q st }
   path_from d t t' u k lo hi q (further t0 v u0 k0 l m lo0 hi0 x y z r) st =
-      let a = cost_from least_prices t t0 q in
+      let a = cost_from (sure_prices s.sure) t t0 q in
       let b = cost_from (most_prices s.price) t t0 q in
       record { k = suc k0; u = u0; path = further t v u0 k0 l m lo0 hi0 (step_from t t0 q ∙ x) (omega (arith, a, y)) (omega (arith, b, z)) r; stands = st }
 
@@ -173,7 +173,7 @@ module _ (s : Site) (values : ValuesGo s) where
   after_from lo hi core.Still t t' q w = (step_from t t' q ∙ w.0, w.1)
 
   act_goes : (d : core.Machine) (t : Machine) → KnowsAll s d.copy d.memory d.code → Stands s d t → is_due (arrived s.o d.world) ≡ false
-      → After s (least_task d.code d.stack) (task_most d.code d.stack) (act (core_of s) d.code d.copy d.passing d.stack d.memory (arrived s.o d.world)) t
+      → After s (least_task s.q d.code d.stack) (task_most d.code d.stack) (act (core_of s) d.code d.copy d.passing d.stack d.memory (arrived s.o d.world)) t
   act_goes d t known st due =
       let wc = arrived s.o d.world in
       let th = running t in
@@ -194,7 +194,7 @@ module _ (s : Site) (values : ValuesGo s) where
         level = st.level;
         frames = st.frames;
       } in
-      after_from (least_task d.code d.stack) (task_most d.code d.stack) (act (core_of s) d.code d.copy d.passing d.stack d.memory wc) t t' back
+      after_from (least_task s.q d.code d.stack) (task_most d.code d.stack) (act (core_of s) d.code d.copy d.passing d.stack d.memory wc) t t' back
       (task_goes t wc calm d.copy d.passing d.stack th.stack d.memory t.memory st.loops th d.code known refl st.registers fit st.here)
 
   -- ---- the handler is entered
@@ -233,7 +233,7 @@ module _ (s : Site) (values : ValuesGo s) where
       let u : Machine = record (settled s.o t) { isr = thread s h 0 [] r; entries = t.entries + 1; world = entered (arrived s.o t.world) } in
       let step : sym_step s.g s.e s.o t ≡ sym_machine.Goes u =
       enter_step t h du (s.chosen.same_handler ∙ eq) ∙ if_true (lands s.g.program (front s.g.program (names.Copy h))) (sym_machine.Goes u) sym_machine.Stops (front_lands s h uh) in
-      let le = enter_cost least_prices t du in
+      let le = enter_cost (sure_prices s.sure) t du in
       let mo = enter_cost (most_prices s.price) t du in
       let uw : u.world ≡ show s (entered wc) = ap entered st.world ∙ entered_as (shown (layout s)) wc in
       let ui : u.world.inside ≡ true = ap (λ (w : World ℕ). w.inside) uw ∙ inside_as s (entered wc) ∙ entered_inside wc in
@@ -272,7 +272,7 @@ module _ (s : Site) (values : ValuesGo s) where
   step_goes d t known st = by_due (is_due (arrived s.o d.world)) refl
     where
       by_due : (b : Bool) → is_due (arrived s.o d.world) ≡ b
-          → After s (if b then 1 else least_task d.code d.stack) (if b then context_cost else task_most d.code d.stack)
+          → After s (if b then 1 else least_task s.q d.code d.stack) (if b then context_cost else task_most d.code d.stack)
           (if b then core.enter s.q s.q.handler d.code d.copy d.passing d.stack d.memory (arrived s.o d.world) else act (core_of s) d.code d.copy d.passing d.stack d.memory (arrived s.o d.world)) t
       by_due true q = enter_goes d t s.q.handler refl st q
       by_due false q = act_goes d t known st q

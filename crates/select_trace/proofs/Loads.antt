@@ -94,7 +94,7 @@ module _ (s : Site) (t : Machine) (wc : World Held) (calm : Calm s wc) (f : ℕ)
   -- FSR and IRP become a pointer
   pointer_goes : (p : Byte) (x : Place) (n : ℕ) (r : Registers) (d : core.Machine) → Fits r → Has (block s f) n (pointer_code p) → is_own s.q f p 2 ≡ true → pointer_in cm p ≡ Some x
       → ((r' : Registers) → Fits r' → pointer r' ≡ layouts.address_of (layout s) (byte_in x.object x.offset) → Went s (at s t (thread s f (n + 5) ps r') m wc) d 0 0)
-      → Went s (at s t (thread s f n ps r) m wc) d 1 14
+      → Went s (at s t (thread s f n ps r) m wc) d 0 14
   unfolding pointer_in shown
   pointer_goes p x n r d fits h own e go =
       let parts = pointer_parts (cm p) (cm (behind p 1)) x e in
@@ -139,10 +139,10 @@ module _ (s : Site) (t : Machine) (wc : World Held) (calm : Calm s wc) (f : ℕ)
       let c3 = dear_one y3 (y4 ∷ []) in
       let c4 = dear_bit_register Bsf Status 7 [] in
       let dr = dear s f b_user n 14 (pointer_code p) h refl (omega (arith, c0, c1, c2, c3, c4)) in
-      weaken s (at s t (thread s f n ps r) m wc) d 4 (q n + (q n1 + (q n2 + (q n3 + (q n4 + 0))))) 1 14 (omega arith) dr
-      (word s t wc calm f ps b_user n r m y0 r1 None d 3 (q n1 + (q n2 + (q n3 + (q n4 + 0)))) h.0 refl refl (movf_silent s wc.inside f n ps r m (operands.Byte p) k0 ac0)
-      (word s t wc calm f ps b_user n1 r1 m y1 r2 None d 2 (q n2 + (q n3 + (q n4 + 0))) h.1.0 refl refl (to_fsr s wc.inside f n1 ps r1 m)
-      (word s t wc calm f ps b_user n2 r2 m y2 r3 None d 1 (q n3 + (q n4 + 0)) h.1.1.0 refl refl (clears_irp s wc.inside f n2 ps r2 m)
+      weaken s (at s t (thread s f n ps r) m wc) d 0 (q n + (q n1 + (q n2 + (q n3 + (q n4 + 0))))) 0 14 (omega arith) dr
+      (word s t wc calm f ps b_user n r m y0 r1 None d 0 (q n1 + (q n2 + (q n3 + (q n4 + 0)))) h.0 refl refl (movf_silent s wc.inside f n ps r m (operands.Byte p) k0 ac0)
+      (word s t wc calm f ps b_user n1 r1 m y1 r2 None d 0 (q n2 + (q n3 + (q n4 + 0))) h.1.0 refl refl (to_fsr s wc.inside f n1 ps r1 m)
+      (word s t wc calm f ps b_user n2 r2 m y2 r3 None d 0 (q n3 + (q n4 + 0)) h.1.1.0 refl refl (clears_irp s wc.inside f n2 ps r2 m)
       (skip s t wc calm f ps b_user n3 r3 m y3 y4 (nat_eq (bit v1 0) 0) r3 d 0 (q n4 + 0) h.1.1.1.0 refl refl h.1.1.1.1.0 refl refl (bit_clear s wc.inside f n3 ps r3 m (byte_behind p 1) k1 ac1)
       (by_bit (nat_eq (bit v1 0) 0) v1 r3 f3 f4 h.1.1.1.1.0 (ap (λ z. nat_eq z 0) (low_bit v1 v1s)) v1s (low_case v0 v1 a e0 e1 ad1) (high_case v0 v1 a e0 e1 ad1))))))
     where
@@ -159,19 +159,18 @@ module _ (s : Site) (t : Machine) (wc : World Held) (calm : Calm s wc) (f : ℕ)
           weaken s (at s t (thread s f (suc (suc (suc (suc (suc n))))) ps r3) m wc) d 0 0 0 (s.price (names.Copy f) (suc (suc (suc (suc n)))) + 0) (omega arith) (omega arith)
           (subst (λ k. Went s (at s t (thread s f k ps r3) m wc) d 0 0) (let z : n + 5 ≡ suc (suc (suc (suc (suc n)))) = omega arith in z) (go r3 f3 (low (same_nat v1 0 (sym e)))))
       by_bit false v1 r3 f3 f4 h e lt low high =
-          weaken s (at s t (thread s f (suc (suc (suc (suc n)))) ps r3) m wc) d 1 (s.price (names.Copy f) (suc (suc (suc (suc n)))) + 0) 0 (s.price (names.Copy f) (suc (suc (suc (suc n)))) + 0) (omega arith) (omega arith)
-          (word s t wc calm f ps b_user (suc (suc (suc (suc n)))) r3 m (syms.Bit Bsf (operands.Register Status) 7) (record r3 { irp = 1 }) None d 0 0 h refl refl (sets_irp s wc.inside f (suc (suc (suc (suc n)))) ps r3 m)
-          (subst (λ k. Went s (at s t (thread s f k ps (record r3 { irp = 1 })) m wc) d 0 0) (let z : n + 5 ≡ suc (suc (suc (suc (suc n)))) = omega arith in z) (go (record r3 { irp = 1 }) f4 (high (one v1 lt (sym e))))))
+          word s t wc calm f ps b_user (suc (suc (suc (suc n)))) r3 m (syms.Bit Bsf (operands.Register Status) 7) (record r3 { irp = 1 }) None d 0 0 h refl refl (sets_irp s wc.inside f (suc (suc (suc (suc n)))) ps r3 m)
+          (subst (λ k. Went s (at s t (thread s f k ps (record r3 { irp = 1 })) m wc) d 0 0) (let z : n + 5 ≡ suc (suc (suc (suc (suc n)))) = omega arith in z) (go (record r3 { irp = 1 }) f4 (high (one v1 lt (sym e)))))
         where
           one : (v : ℕ) → v < 2 → nat_eq v 0 ≡ false → v ≡ 1
           one v lt e = grind (arith)
 
   pub load_goes : (to p : Byte) (count n : ℕ) (r : Registers) (c : List Task) → Fits r → Has (block s f) n (load_code to p count) → Left s f loops (n + length (load_code to p count)) c
-      → After s 1 14 (when (is_own s.q f p 2) (load to (pointer_in cm p) count c f pr st cm wc)) (at s t (thread s f n ps r) m wc)
+      → After s 0 14 (when (is_own s.q f p 2) (load to (pointer_in cm p) count c f pr st cm wc)) (at s t (thread s f n ps r) m wc)
   load_goes to p count n r c fits h l =
-      when_after s 1 14 (is_own s.q f p 2) (load to (pointer_in cm p) count c f pr st cm wc) (at s t (thread s f n ps r) m wc) (λ own. by (pointer_in cm p) refl own)
+      when_after s 0 14 (is_own s.q f p 2) (load to (pointer_in cm p) count c f pr st cm wc) (at s t (thread s f n ps r) m wc) (λ own. by (pointer_in cm p) refl own)
     where
-      by : (o : Option Place) → pointer_in cm p ≡ o → is_own s.q f p 2 ≡ true → After s 1 14 (load to o count c f pr st cm wc) (at s t (thread s f n ps r) m wc)
+      by : (o : Option Place) → pointer_in cm p ≡ o → is_own s.q f p 2 ≡ true → After s 0 14 (load to o count c f pr st cm wc) (at s t (thread s f n ps r) m wc)
       by None e own = tt
       by (Some x) e own =
           let code = rising (load_byte_code to) count in
@@ -188,11 +187,11 @@ module _ (s : Site) (t : Machine) (wc : World Held) (calm : Calm s wc) (f : ℕ)
           zero_more a e = omega arith ∙ e
 
   pub store_all_goes : (p from : Byte) (count n : ℕ) (r : Registers) (c : List Task) → Fits r → Has (block s f) n (store_all_code p from count) → Left s f loops (n + length (store_all_code p from count)) c
-      → After s 1 14 (when (is_own s.q f p 2) (store (pointer_in cm p) from count c f pr st cm wc)) (at s t (thread s f n ps r) m wc)
+      → After s 0 14 (when (is_own s.q f p 2) (store (pointer_in cm p) from count c f pr st cm wc)) (at s t (thread s f n ps r) m wc)
   store_all_goes p from count n r c fits h l =
-      when_after s 1 14 (is_own s.q f p 2) (store (pointer_in cm p) from count c f pr st cm wc) (at s t (thread s f n ps r) m wc) (λ own. by (pointer_in cm p) refl own)
+      when_after s 0 14 (is_own s.q f p 2) (store (pointer_in cm p) from count c f pr st cm wc) (at s t (thread s f n ps r) m wc) (λ own. by (pointer_in cm p) refl own)
     where
-      by : (o : Option Place) → pointer_in cm p ≡ o → is_own s.q f p 2 ≡ true → After s 1 14 (store o from count c f pr st cm wc) (at s t (thread s f n ps r) m wc)
+      by : (o : Option Place) → pointer_in cm p ≡ o → is_own s.q f p 2 ≡ true → After s 0 14 (store o from count c f pr st cm wc) (at s t (thread s f n ps r) m wc)
       by None e own = tt
       by (Some x) e own =
           let code = rising (store_byte_code from) count in

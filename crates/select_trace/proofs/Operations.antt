@@ -1,5 +1,5 @@
 -- One task of byte code, and what symbolic code does then.
-use Rattle.std.proofs.Common.{◌≡◌, ℕ, ◌+◌, ◌-◌, ◌*◌, ◌<◌, ◌≤◌, Bool, true, false, not, ◌&&◌, ◌||◌, nat_lt, cond, if◌then◌else◌, List, [], length, Option, Some, None, refl, ap, arith}
+use Rattle.std.proofs.Common.{◌≡◌, ℕ, ◌+◌, ◌-◌, ◌*◌, ◌<◌, ◌≤◌, Bool, true, false, not, ◌&&◌, ◌||◌, cond, if◌then◌else◌, List, [], length, Option, Some, None, refl, arith}
 use Rattle.c_ints.specs.Range.{bytes_of}
 use Rattle.c_ints.specs.declared.operators.BinOp.{BinOp}
 use Rattle.c_ints.specs.declared.operators.UnOp.{UnOp}
@@ -7,7 +7,7 @@ use Rattle.c_ints.specs.declared.types.IntTy.{IntTy}
 use Rattle.pic_world.specs.World.{World}
 use Rattle.core_code.specs.Bytes as bytes
 use Rattle.core_code.specs.Bytes.{Held, Number, is_private, with_bytes}
-use Rattle.core_code.specs.Cost.{cost_of, leaving, least_of, least_unary, least_binary, unary_cost, binary_cost, widening_cost, copy_cost, one_if}
+use Rattle.core_code.specs.Cost.{cost_of, leaving, least_of, unary_cost, binary_cost, widening_cost, copy_cost}
 use Rattle.core_code.specs.Machine as core
 use Rattle.core_code.specs.Machine.{Task, Do, Put, PutBit, PutBack, Join, LoadFrom, StoreTo, Over, Waiting, InLoop, InCall, InHandler, is_own, is_valid, when, writes, and_then, operated, unary, convert, binary, binary_at, extent, fits_call, after_helper, has_operands, operate, act, exit, again, at_end, put}
 use Rattle.core_code.specs.Operands.{number_left, is_helped, fits_unary, fits_together}
@@ -23,7 +23,7 @@ use Rattle.select_code.specs.Sized.{is_cut}
 use Rattle.select_wide.specs.Links.{sets_bytes}
 use Rattle.select_wide.specs.Selection.{binary_code}
 use Rattle.select_wide.specs.Single.{unary_code, widening_code}
-use Rattle.select_trace.proofs.Truths.{and_left, and_right, lt_of, le_of, gt_of, of_nlt}
+use Rattle.select_trace.proofs.Truths.{and_left, and_right, lt_of, le_of, gt_of}
 use Rattle.select_trace.proofs.Standing.{Has}
 use Rattle.select_trace.proofs.Sites.{Site, core_of}
 use Rattle.select_trace.proofs.Machines.{at, lower, Calm}
@@ -58,38 +58,37 @@ module _ (s : Site) (values : ValuesGo s) (t : Machine) (wc : World Held) (calm 
   ready r fits = record { fits = fits; any = (t, loops, fit) }
 
   -- an answer is written
-  writes_go : (to : Byte) (o : Option Value) (n n' : ℕ) (r : Registers) (c : List Task) (cm0 : bytes.Memory) (lo hi : ℕ) → Left s f loops n' c
-      → ((v : Value) → o ≡ Some v → is_own s.q f to (byte_count v) ≡ true → Arrives s wc.inside (is_live f pr (below st)) f ps n r m n' (with_bytes cm0 to (byte_count v) (byte_of v)) lo hi)
-      → After s lo hi (writes s.q to o c f pr st cm0 wc) (at s t (thread s f n ps r) m wc)
-  writes_go to None n n' r c cm0 lo hi l go = tt
-  writes_go to (Some v) n n' r c cm0 lo hi l go =
+  writes_go : (to : Byte) (o : Option Value) (n n' : ℕ) (r : Registers) (c : List Task) (cm0 : bytes.Memory) (hi : ℕ) → Left s f loops n' c
+      → ((v : Value) → o ≡ Some v → is_own s.q f to (byte_count v) ≡ true → Arrives s wc.inside (is_live f pr (below st)) f ps n r m n' (with_bytes cm0 to (byte_count v) (byte_of v)) hi)
+      → After s 0 hi (writes s.q to o c f pr st cm0 wc) (at s t (thread s f n ps r) m wc)
+  writes_go to None n n' r c cm0 hi l go = tt
+  writes_go to (Some v) n n' r c cm0 hi l go =
       let cm' = with_bytes cm0 to (byte_count v) (byte_of v) in
-      when_after s lo hi (is_own s.q f to (byte_count v)) (core.goes c f pr st cm' wc) (at s t (thread s f n ps r) m wc) (λ own.
-      arrives_goes s t wc calm f pr st loops ps cm m fit n n' r cm' c lo hi (go v refl own) l)
+      when_after s 0 hi (is_own s.q f to (byte_count v)) (core.goes c f pr st cm' wc) (at s t (thread s f n ps r) m wc) (λ own.
+      arrives_goes s t wc calm f pr st loops ps cm m fit n n' r cm' c hi (go v refl own) l)
 
   unary_goes : (op : UnOp) (ty : IntTy) (to : Byte) (n : ℕ) (r : Registers) (c : List Task) → Fits r → Has (block s f) n (unary_code op ty to) → Left s f loops (n + length (unary_code op ty to)) c
-      → After s (least_unary op) (unary_cost op (bytes_of ty)) (unary s.q op ty to c f pr st cm wc) (at s t (thread s f n ps r) m wc)
+      → After s 0 (unary_cost op (bytes_of ty)) (unary s.q op ty to c f pr st cm wc) (at s t (thread s f n ps r) m wc)
   unary_goes op ty to n r c fits h l =
       let o = and_then (value_in ty cm to) (unary_value op) in
-      when_after s (least_unary op) (unary_cost op (bytes_of ty)) (fits_unary op ty && is_own s.q f to (bytes_of ty)) (writes s.q to o c f pr st cm wc) (at s t (thread s f n ps r) m wc) (λ a.
-      writes_go to o n (n + length (unary_code op ty to)) r c cm (least_unary op) (unary_cost op (bytes_of ty)) l (λ v e own.
+      when_after s 0 (unary_cost op (bytes_of ty)) (fits_unary op ty && is_own s.q f to (bytes_of ty)) (writes s.q to o c f pr st cm wc) (at s t (thread s f n ps r) m wc) (λ a.
+      writes_go to o n (n + length (unary_code op ty to)) r c cm (unary_cost op (bytes_of ty)) l (λ v e own.
       let x = then_some (value_in ty cm to) (unary_value op) v e in
       values.unary wc f pr st ps cm m r (ready r fits) op ty to n x.0 v h (and_left _ _ a) (and_right (fits_unary op ty) _ a) x.1 x.2 own))
 
   binary_goes : (before : List Tree) (op : BinOp) (ty : IntTy) (to x y : Byte) (n : ℕ) (r : Registers) (c : List Task) → Knows s f cm before → Fits r → Has (block s f) n (binary_code s.copies (s.q.root f) before op ty to x y) → Left s f loops (n + length (binary_code s.copies (s.q.root f) before op ty to x y)) c
-      → After s (least_binary op) (binary_cost op (number_left before y) (bytes_of ty)) (binary s.q before op ty to x y c f pr st cm wc) (at s t (thread s f n ps r) m wc)
+      → After s 0 (binary_cost op (number_left before y) (bytes_of ty)) (binary s.q before op ty to x y c f pr st cm wc) (at s t (thread s f n ps r) m wc)
   binary_goes before op ty to x y n r c known fits h l =
       let count = number_left before y in
-      let lo = least_binary op in
       let hi = binary_cost op count (bytes_of ty) in
       let code = binary_code s.copies (s.q.root f) before op ty to x y in
       let o = operated (extent s.q f st) op ty (value_in ty cm x) (value_in (right_type op ty) cm y) in
       let cm0 = after_helper s.q f (is_helped op count) cm in
-      when_after s lo hi (fits_together op ty count to x y && has_operands s.q f op ty x y && fits_call pr (is_helped op count) && (not (is_helped op count) || s.q.helped f op ty)) (writes s.q to o c f pr st cm0 wc) (at s t (thread s f n ps r) m wc) (λ a.
+      when_after s 0 hi (fits_together op ty count to x y && has_operands s.q f op ty x y && fits_call pr (is_helped op count) && (not (is_helped op count) || s.q.helped f op ty)) (writes s.q to o c f pr st cm0 wc) (at s t (thread s f n ps r) m wc) (λ a.
       let a1 = and_left _ _ a in
       let a2 = and_left _ _ a1 in
       let ops = and_right (fits_together op ty count to x y) _ a2 in
-      writes_go to o n (n + length code) r c cm0 lo hi l (λ v e own.
+      writes_go to o n (n + length code) r c cm0 hi l (λ v e own.
       let p = then_some (value_in ty cm x) (λ z. and_then (value_in (right_type op ty) cm y) (λ u. binary_value (extent s.q f st) op ty z u)) v e in
       let q = then_some (value_in (right_type op ty) cm y) (λ u. binary_value (extent s.q f st) op ty p.0 u) v p.2 in
       values.binary wc f pr st ps cm m r (ready r fits) before op ty to x y n p.0 q.0 v known h (and_left _ _ a2) (and_left _ _ ops) (and_right (is_own s.q f x (bytes_of ty)) _ ops)
@@ -102,27 +101,16 @@ module _ (s : Site) (values : ValuesGo s) (t : Machine) (wc : World Held) (calm 
       helped false h e q = absurd (cc)
 
   convert_goes : (from to : IntTy) (place : Byte) (n : ℕ) (r : Registers) (c : List Task) → Fits r → Has (block s f) n (cond (is_cut from to) [] (widening_code from to place)) → Left s f loops (n + length (cond (is_cut from to) [] (widening_code from to place))) c
-      → After s (one_if (nat_lt (bytes_of from) (bytes_of to))) (widening_cost (bytes_of to - bytes_of from)) (convert s.q from to place c f pr st cm wc) (at s t (thread s f n ps r) m wc)
+      → After s 0 (widening_cost (bytes_of to - bytes_of from)) (convert s.q from to place c f pr st cm wc) (at s t (thread s f n ps r) m wc)
   convert_goes from to place n r c fits h l = by (is_cut from to) refl h l
     where
-      lo : ℕ
-      lo = one_if (nat_lt (bytes_of from) (bytes_of to))
-
-      hi : ℕ
-      hi = widening_cost (bytes_of to - bytes_of from)
-
-      one_small : (b : Bool) → one_if b ≤ 1
-      one_small true = omega arith
-      one_small false = omega arith
-
       by : (b : Bool) → is_cut from to ≡ b → Has (block s f) n (cond b [] (widening_code from to place)) → Left s f loops (n + length (cond b [] (widening_code from to place))) c
-          → After s (one_if (nat_lt (bytes_of from) (bytes_of to))) (widening_cost (bytes_of to - bytes_of from)) (convert s.q from to place c f pr st cm wc) (at s t (thread s f n ps r) m wc)
+          → After s 0 (widening_cost (bytes_of to - bytes_of from)) (convert s.q from to place c f pr st cm wc) (at s t (thread s f n ps r) m wc)
       by true q h l =
           let le : bytes_of to ≤ bytes_of from = le_of (bytes_of to) (bytes_of from) q in
-          let zero : one_if (nat_lt (bytes_of from) (bytes_of to)) ≡ 0 = ap one_if (of_nlt (bytes_of from) (bytes_of to) le) in
           let o = and_then (value_in from cm place) (converted to) in
           let v0 = at s t (thread s f n ps r) m wc in
-          after_more s 0 0 (one_if (nat_lt (bytes_of from) (bytes_of to))) (widening_cost (bytes_of to - bytes_of from)) (convert s.q from to place c f pr st cm wc) v0 (omega (arith, zero)) (omega arith)
+          after_more s 0 0 0 (widening_cost (bytes_of to - bytes_of from)) (convert s.q from to place c f pr st cm wc) v0 (omega arith) (omega arith)
           (when_after s 0 0 (is_own s.q f place (bytes_of from)) (writes s.q place o c f pr st cm wc) v0 (λ a. cut o refl a le))
         where
           cut : (o : Option Value) → and_then (value_in from cm place) (converted to) ≡ o → is_own s.q f place (bytes_of from) ≡ true → bytes_of to ≤ bytes_of from → After s 0 0 (writes s.q place o c f pr st cm wc) (at s t (thread s f n ps r) m wc)
@@ -137,23 +125,21 @@ module _ (s : Site) (values : ValuesGo s) (t : Machine) (wc : World Held) (calm 
               (here_left s f loops n ps r c (left_to s f loops (n + 0) n c (omega arith) l))))
       by false q h l =
           let lt : bytes_of from < bytes_of to = gt_of (bytes_of to) (bytes_of from) q in
-          let small = one_small (nat_lt (bytes_of from) (bytes_of to)) in
           let o = and_then (value_in from cm place) (converted to) in
           let k = widening_cost (bytes_of to - bytes_of from) in
           let v0 = at s t (thread s f n ps r) m wc in
-          after_more s 1 k (one_if (nat_lt (bytes_of from) (bytes_of to))) k (convert s.q from to place c f pr st cm wc) v0 small (omega arith)
-          (when_after s 1 k (is_own s.q f place (bytes_of from)) (writes s.q place o c f pr st cm wc) v0 (λ a.
-          writes_go place o n (n + length (widening_code from to place)) r c cm 1 k l (λ v e own.
+          when_after s 0 k (is_own s.q f place (bytes_of from)) (writes s.q place o c f pr st cm wc) v0 (λ a.
+          writes_go place o n (n + length (widening_code from to place)) r c cm k l (λ v e own.
           let x = then_some (value_in from cm place) (converted to) v e in
-          values.widening wc f pr st ps cm m r (ready r fits) from to place n x.0 v lt h a x.1 x.2 own)))
+          values.widening wc f pr st ps cm m r (ready r fits) from to place n x.0 v lt h a x.1 x.2 own))
 
   pub operate_goes : (before : List Tree) (x : Tree) (n : ℕ) (r : Registers) (c : List Task) → Knows s f cm before → Fits r → sets_bytes x ≡ true → Has (block s f) n (code s f loops n before x) → Left s f loops (n + length (code s f loops n before x)) c
-      → After s (least_of x st) (cost_of before x + leaving x st) (operate (core_of s) before x c f pr st cm wc) (at s t (thread s f n ps r) m wc)
+      → After s (least_of s.q x st) (cost_of before x + leaving x st) (operate (core_of s) before x c f pr st cm wc) (at s t (thread s f n ps r) m wc)
   unfolding cost_of operate
   operate_goes before (Set to value) n r c known fits sb h l = set_goes s t wc calm f pr st loops ps cm m fit to value n r c fits (lt_of value 256 sb) h l
   operate_goes before (Address to place) n r c known fits sb h l = address_goes s t wc calm f pr st loops ps cm m fit to place n r c fits h l
   operate_goes before (Copy to from) n r c known fits sb h l =
-      after_more s 1 (if is_private from then 6 else 3) 1 (copy_cost (is_private from) + 0) (when (is_valid s.q f from) (core.copy (core_of s) to from c f pr st cm wc)) (at s t (thread s f n ps r) m wc) (omega arith) (by (is_private from))
+      after_more s (least_of s.q (Copy to from) st) (if is_private from then 6 else 3) (least_of s.q (Copy to from) st) (copy_cost (is_private from) + 0) (when (is_valid s.q f from) (core.copy (core_of s) to from c f pr st cm wc)) (at s t (thread s f n ps r) m wc) (omega arith) (by (is_private from))
       (copy_goes s t wc calm f pr st loops ps cm m fit to from n r c fits h l)
     where
       by : (b : Bool) → (if b then 6 else 3) ≤ copy_cost b + 0
@@ -162,12 +148,12 @@ module _ (s : Site) (values : ValuesGo s) (t : Machine) (wc : World Held) (calm 
   operate_goes before (Load to p count) n r c known fits sb h l = load_goes s t wc calm f pr st loops ps cm m fit to p count n r c fits h l
   operate_goes before (Store p from count) n r c known fits sb h l = store_all_goes s t wc calm f pr st loops ps cm m fit p from count n r c fits h l
   operate_goes before (Unary op ty to) n r c known fits sb h l =
-      after_more s (least_unary op) (unary_cost op (bytes_of ty)) (least_unary op) (unary_cost op (bytes_of ty) + 0) (unary s.q op ty to c f pr st cm wc) (at s t (thread s f n ps r) m wc) (omega arith) (omega arith) (unary_goes op ty to n r c fits h l)
+      after_more s 0 (unary_cost op (bytes_of ty)) 0 (unary_cost op (bytes_of ty) + 0) (unary s.q op ty to c f pr st cm wc) (at s t (thread s f n ps r) m wc) (omega arith) (omega arith) (unary_goes op ty to n r c fits h l)
   operate_goes before (Binary op ty to x y) n r c known fits sb h l =
-      after_more s (least_binary op) (binary_cost op (number_left before y) (bytes_of ty)) (least_binary op) (binary_cost op (number_left before y) (bytes_of ty) + 0) (binary s.q before op ty to x y c f pr st cm wc) (at s t (thread s f n ps r) m wc) (omega arith) (omega arith)
+      after_more s 0 (binary_cost op (number_left before y) (bytes_of ty)) 0 (binary_cost op (number_left before y) (bytes_of ty) + 0) (binary s.q before op ty to x y c f pr st cm wc) (at s t (thread s f n ps r) m wc) (omega arith) (omega arith)
       (binary_goes before op ty to x y n r c known fits h l)
   operate_goes before (Convert from to place) n r c known fits sb h l =
-      after_more s (one_if (nat_lt (bytes_of from) (bytes_of to))) (widening_cost (bytes_of to - bytes_of from)) (one_if (nat_lt (bytes_of from) (bytes_of to))) (widening_cost (bytes_of to - bytes_of from) + 0) (convert s.q from to place c f pr st cm wc) (at s t (thread s f n ps r) m wc) (omega arith) (omega arith)
+      after_more s 0 (widening_cost (bytes_of to - bytes_of from)) 0 (widening_cost (bytes_of to - bytes_of from) + 0) (convert s.q from to place c f pr st cm wc) (at s t (thread s f n ps r) m wc) (omega arith) (omega arith)
       (convert_goes from to place n r c fits h l)
   operate_goes before (BitRead to a number) n r c known fits sb h l = bit_read_goes s t wc calm f pr st loops ps cm m fit to a number n r c fits h l
   operate_goes before (BitWrite a number from) n r c known fits sb h l = bit_write_goes s t wc calm f pr st loops ps cm m fit a number from n r c fits h l

@@ -120,7 +120,7 @@ module _ (s : Site) (t : Machine) (wc : World Held) (calm : Calm s wc) (f : ℕ)
 
   -- two bytes become an address
   pair_goes : (to place : Byte) (object : Object) (offset n : ℕ) (r : Registers) (c : List Task) → Fits r → byte_in object offset ≡ place → InPlace s (Part object offset false) → Has (block s f) n (address_code to place) → Left s f loops (n + 4) c → is_own s.q f to 2 ≡ true
-      → Went s (at s t (thread s f n ps r) m wc) (machine f pr c st (with_bytes cm to 2 (byte_of (Pointer (record { object = object; offset = offset })))) wc) 1 8
+      → Went s (at s t (thread s f n ps r) m wc) (machine f pr c st (with_bytes cm to 2 (byte_of (Pointer (record { object = object; offset = offset })))) wc) 0 8
   unfolding shown
   pair_goes to place object offset n r c fits pe ip h l own =
       let l0 = behind to 0 in
@@ -160,30 +160,30 @@ module _ (s : Site) (t : Machine) (wc : World Held) (calm : Calm s wc) (f : ℕ)
       let la4 = dear_literal Movlw (literals.High place) (syms.Movwf (operands.Byte (byte_behind to 1)) ∷ []) in
       let la5 = dear_literal Movlw (literals.Low place) (syms.Movwf (operands.Byte to) ∷ syms.Literal Movlw (literals.High place) ∷ syms.Movwf (operands.Byte (byte_behind to 1)) ∷ []) in
       let dr = dear s f a_user n 8 (address_code to place) h refl (omega (arith, d3a, d3b, la4, la5)) in
-      weaken s (at s t (thread s f n ps r) m wc) d 4 (p n + (p n1 + (p n2 + (p n3 + 0)))) 1 8 (omega arith) dr
-      (word s t wc calm f ps a_user n r m (syms.Literal Movlw (literals.Low place)) r0 None d 3 (p n1 + (p n2 + (p n3 + 0))) h.0 refl refl (literal_is s wc.inside f n ps r m (literals.Low place))
-      (word s t wc calm f ps a_user n1 r0 m (syms.Movwf (operands.Byte to)) r0 (write k0 v0) d 2 (p n2 + (p n3 + 0)) h.1.0 refl refl (movwf_silent s wc.inside f n1 ps r0 m (operands.Byte to) k0 ac0)
-      (word s t wc calm f ps a_user n2 r0 m1 (syms.Literal Movlw (literals.High place)) r1 None d 1 (p n3 + 0) h.1.1.0 refl refl (literal_is s wc.inside f n2 ps r0 m1 (literals.High place))
+      weaken s (at s t (thread s f n ps r) m wc) d 0 (p n + (p n1 + (p n2 + (p n3 + 0)))) 0 8 (omega arith) dr
+      (word s t wc calm f ps a_user n r m (syms.Literal Movlw (literals.Low place)) r0 None d 0 (p n1 + (p n2 + (p n3 + 0))) h.0 refl refl (literal_is s wc.inside f n ps r m (literals.Low place))
+      (word s t wc calm f ps a_user n1 r0 m (syms.Movwf (operands.Byte to)) r0 (write k0 v0) d 0 (p n2 + (p n3 + 0)) h.1.0 refl refl (movwf_silent s wc.inside f n1 ps r0 m (operands.Byte to) k0 ac0)
+      (word s t wc calm f ps a_user n2 r0 m1 (syms.Literal Movlw (literals.High place)) r1 None d 0 (p n3 + 0) h.1.1.0 refl refl (literal_is s wc.inside f n2 ps r0 m1 (literals.High place))
       (word s t wc calm f ps a_user n3 r1 m1 (syms.Movwf (operands.Byte (byte_behind to 1))) r1 (write k1 v1) d 0 0 h.1.1.1.0 refl refl (movwf_silent s wc.inside f n3 ps r1 m1 (operands.Byte (byte_behind to 1)) k1 ac1)
       (stays s (at s t (thread s f (suc n3) ps r1) m2 wc) d (stands_at s t wc f pr c st loops cm2 m2 (thread s f (suc n3) ps r1) fit' f1
       (here_left s f loops (suc n3) ps r1 c (left_to s f loops (n + 4) (suc n3) c (omega arith) l))))))))
 
   pub address_goes : (to place : Byte) (n : ℕ) (r : Registers) (c : List Task) → Fits r → Has (block s f) n (address_code to place) → Left s f loops (n + 4) c
-      → After s 1 8 (when (is_valid s.q f place) (writes s.q to (address_of place) c f pr st cm wc)) (at s t (thread s f n ps r) m wc)
+      → After s 0 8 (when (is_valid s.q f place) (writes s.q to (address_of place) c f pr st cm wc)) (at s t (thread s f n ps r) m wc)
   unfolding is_valid
   address_goes to (Static o k) n r c fits h l =
       let v = at s t (thread s f n ps r) m wc in
       let place : Place = record { object = Fixed o; offset = k } in
       let next = core.goes c f pr st (with_bytes cm to 2 (byte_of (Pointer place))) wc in
-      when_after s 1 8 (nat_lt k (static_bytes s.q o)) (when (is_own s.q f to 2) next) v (λ va.
-      when_after s 1 8 (is_own s.q f to 2) next v (λ own.
+      when_after s 0 8 (nat_lt k (static_bytes s.q o)) (when (is_own s.q f to 2) next) v (λ va.
+      when_after s 0 8 (is_own s.q f to 2) next v (λ own.
       let lt = lt_of k (static_bytes s.q o) va in
       pair_goes to (Static o k) (Fixed o) k n r c fits refl (placed.object_in s.q (length s.copies) s.reaches (layout s) s.chosen.layout s.chosen.laid_out o k lt, omega arith) h l own))
   address_goes to (Frame g y) n r c fits h l =
       let v = at s t (thread s f n ps r) m wc in
       let place : Place = record { object = FrameOf g; offset = y } in
       let next = core.goes c f pr st (with_bytes cm to 2 (byte_of (Pointer place))) wc in
-      when_after s 1 8 (is_own s.q f (Frame g y) 1) (when (is_own s.q f to 2) next) v (λ va.
-      when_after s 1 8 (is_own s.q f to 2) next v (λ own. pair_goes to (Frame g y) (FrameOf g) y n r c fits refl (own_place g y va) h l own))
-  address_goes to (Result x k) n r c fits h l = when_after s 1 8 (is_own s.q f (Result x k) 1) core.Stuck (at s t (thread s f n ps r) m wc) (λ va. tt)
-  address_goes to (Device a) n r c fits h l = when_after s 1 8 _ core.Stuck (at s t (thread s f n ps r) m wc) (λ va. tt)
+      when_after s 0 8 (is_own s.q f (Frame g y) 1) (when (is_own s.q f to 2) next) v (λ va.
+      when_after s 0 8 (is_own s.q f to 2) next v (λ own. pair_goes to (Frame g y) (FrameOf g) y n r c fits refl (own_place g y va) h l own))
+  address_goes to (Result x k) n r c fits h l = when_after s 0 8 (is_own s.q f (Result x k) 1) core.Stuck (at s t (thread s f n ps r) m wc) (λ va. tt)
+  address_goes to (Device a) n r c fits h l = when_after s 0 8 _ core.Stuck (at s t (thread s f n ps r) m wc) (λ va. tt)

@@ -7,7 +7,7 @@ use Rattle.core_code.specs.Machine as core
 use Rattle.core_code.specs.Machine.{Task, Do, Put, PutBit, PutBack, Join, LoadFrom, StoreTo, Over, Waiting, InLoop, InCall, InHandler}
 use Rattle.core_code.specs.Tree.{Tree, Many, Loop, Exit, list_of}
 use Rattle.core_code.specs.declared.code.Byte.{Byte}
-use Rattle.sym_code.specs.Cost.{least_prices, most_prices, step_cost}
+use Rattle.sym_code.specs.Cost.{sure_prices, most_prices, step_cost}
 use Rattle.sym_code.specs.Effect.{Thread, Port, root_of}
 use Rattle.sym_code.specs.Layout.{address_of}
 use Rattle.sym_code.specs.Machine as sym_machine
@@ -179,7 +179,7 @@ pub record Stands (s : Site) (d : core.Machine) (t : Machine) : Type 0 where
 
 -- ---- paths
 abbrev pub least_at : Site → Machine → ℕ
-least_at s t = step_cost s.g least_prices s.o t
+least_at s t = step_cost s.g (sure_prices s.sure) s.o t
 
 abbrev pub most_at : Site → Machine → ℕ
 most_at s t = step_cost s.g (most_prices s.price) s.o t

@@ -14,7 +14,7 @@ use Rattle.core_code.specs.Runs as core_runs
 use Rattle.core_code.specs.Runs.{most_by, least_by}
 use Rattle.core_code.specs.declared.code.Byte.TheVariants.{Static, Frame, Result, Device}
 use Rattle.sym_code.specs.Correct.{IsBegun}
-use Rattle.sym_code.specs.Cost.{Prices, least_prices, most_prices, cost_by, step_cost}
+use Rattle.sym_code.specs.Cost.{Prices, sure_prices, most_prices, cost_by, step_cost}
 use Rattle.sym_code.specs.Effect.{Memory}
 use Rattle.sym_code.specs.Layout.{shown}
 use Rattle.sym_code.specs.Machine as sym_machine
@@ -75,7 +75,7 @@ module _ (s : Site) (values : ValuesGo s) (known : (n : ℕ) → KnowsAll s (cor
   goes_at k = (u : Machine) × (sym_step s.g s.e s.o (run k) ≡ sym_machine.Goes u)
 
   abbrev lower_least : ℕ → ℕ
-  lower_least k = cost_by s.g least_prices s.e s.o k t
+  lower_least k = cost_by s.g (sure_prices s.sure) s.e s.o k t
 
   abbrev lower_most : ℕ → ℕ
   lower_most k = cost_by s.g (most_prices s.price) s.e s.o k t
@@ -120,7 +120,7 @@ module _ (s : Site) (values : ValuesGo s) (known : (n : ℕ) → KnowsAll s (cor
       let more = path_run v u0 k0 l m (suc j) i (next_run j v now) (q ∙ omega arith) r in
       let ml = more.least in
       let mm = more.most in
-      let nl = next_cost least_prices j in
+      let nl = next_cost (sure_prices s.sure) j in
       let nm = next_cost (most_prices s.price) j in
       let al : lo0 ≤ least_at s (run j) + l = subst (λ y. lo0 ≤ least_at s y + l) (sym h) a in
       let am : most_at s (run j) + m ≤ hi0 = subst (λ y. most_at s y + m ≤ hi0) (sym h) b in
@@ -234,9 +234,9 @@ module _ (s : Site) (values : ValuesGo s) (known : (n : ℕ) → KnowsAll s (cor
   still_after lo hi (core.Goes d) u q a = absurd (cc)
 
   abbrev Link : ℕ → Type 0
-  Link n = Follows (event_as (shown (layout s))) (core_runs.run_of (core_of s)) (sym_runs.run_of s.g s.price s.e s.o t) n
+  Link n = Follows (event_as (shown (layout s))) (core_runs.run_of (core_of s)) (sym_runs.weighed_of s.g s.price s.sure s.e s.o t) n
 
-  follows_of : (n : ℕ) → Kept n → (link : Link n) × IsSlow (event_as (shown (layout s))) (core_runs.run_of (core_of s)) (sym_runs.run_of s.g s.price s.e s.o t) n link
+  follows_of : (n : ℕ) → Kept n → (link : Link n) × IsSlow (event_as (shown (layout s))) (core_runs.run_of (core_of s)) (sym_runs.weighed_of s.g s.price s.sure s.e s.o t) n link
   follows_of n k = (
     record {
       at = k.at;
@@ -299,7 +299,7 @@ at_zero s c t st = st
 
 -- What selection promises, where the code of operators gives their values.
 pub selects_law : ((s : Site) → ValuesGo s) → Selects
-selects_law values q copies bodies reaches g price chosen o input e r m entries b n ok =
-    let s : Site = record { q = q; copies = copies; bodies = bodies; reaches = reaches; g = g; price = price; chosen = chosen; e = e; o = o; entries = entries; input = input } in
+selects_law values q copies bodies reaches g price sure chosen o input e r m entries b n ok =
+    let s : Site = record { q = q; copies = copies; bodies = bodies; reaches = reaches; g = g; price = price; sure = sure; chosen = chosen; e = e; o = o; entries = entries; input = input } in
     let t = sym_start g.program r m in
     follows_of s (values s) (known_moment s) t n (keeps_on s (values s) (known_moment s) t (at_zero s (core_start (core_of s)) t (starts_stand s r m b)) n ok)

@@ -20,7 +20,8 @@ pub record Site : Type 0 where
   pub reaches : ℕ → ℕ → Bool
   pub g : Setting
   pub price : BlockName → ℕ → ℕ
-  pub chosen : IsSelected q copies bodies reaches g price
+  pub sure : BlockName → ℕ → ℕ
+  pub chosen : IsSelected q copies bodies reaches g price sure
   pub e : Entry
   pub o : Outside
   pub entries : AreEntries e

@@ -4,14 +4,17 @@ use Rattle.pic_world.specs.World.{World}
 use Rattle.pic_world.proofs.WorldLaws.{arrived_as}
 use Rattle.core_code.specs.Bytes as bytes
 use Rattle.core_code.specs.Bytes.{Held}
+use Rattle.core_code.specs.Cost.{one_if, is_kept}
 use Rattle.core_code.specs.Machine as core
 use Rattle.core_code.specs.Machine.{Task, Waiting}
+use Rattle.core_code.specs.declared.code.Byte.{Byte}
 use Rattle.math_helpers.specs.Shape.{is_straight, sum_from}
-use Rattle.sym_code.specs.Cost.{Prices, least_prices, most_prices, instruction_cost, thread_cost}
+use Rattle.sym_code.specs.Cost.{Prices, sure_prices, most_prices, instruction_cost, thread_cost}
 use Rattle.sym_code.specs.Effect.{Setting, Thread, Memory, Write, written, Effect, Stuck, Quiet, effect, effect_of, effect_at, effect_if, root_of, is_in_page, goto, jump_to}
 use Rattle.sym_code.specs.Layout.{shown}
 use Rattle.sym_code.specs.Machine as sym_machine
 use Rattle.sym_code.specs.Machine.{Machine, running, sym_step}
+use Rattle.sym_code.specs.Marks.{is_marked}
 use Rattle.sym_code.specs.Programs.{Position, position, is_word, lands, stand, onward, label_from}
 use Rattle.sym_code.specs.Registers.{Registers, Fits}
 use Rattle.sym_code.specs.declared.code.BlockName.TheVariants as names
@@ -116,6 +119,21 @@ dear s f u n hi x h q le =
 pub priced : (s : Site) (v : Machine) (d : core.Machine) (f : ℕ) → IsUser s f → (n lo lo' hi : ℕ) (x : List Sym) → Has (block s f) n x → is_straight x ≡ true → dear_words x ≤ hi → lo' ≤ lo → Went s v d lo (total s f n x) → Went s v d lo' hi
 priced s v d f u n lo lo' hi x h q le ll r = weaken s v d lo (total s f n x) lo' hi ll (dear s f u n hi x h q le) r
 
+-- An instruction that no pass leaves out counts one, and any other one may count nothing.
+abbrev pub counted : Site → Sym → ℕ
+counted s x = one_if (is_marked s.q.variable_bytes x)
+
+-- what a write of a byte counts, and a read of it
+abbrev pub of_byte : Site → Byte → ℕ
+of_byte s b = one_if (is_kept s.q.variable_bytes b)
+
+pub is_counted : (s : Site) (f : ℕ) → IsUser s f → (n : ℕ) (x : Sym) → slice_get (block s f) n ≡ Some x → counted s x ≤ s.sure (names.Copy f) n
+is_counted s f u n x h = by (is_marked s.q.variable_bytes x) refl
+  where
+    by : (b : Bool) → is_marked s.q.variable_bytes x ≡ b → one_if b ≤ s.sure (names.Copy f) n
+    by true e = s.chosen.sures f u.copy u.there u.user n x h e
+    by false e = omega arith
+
 -- ---- the instruction that stands at n
 effect_some : (g : Setting) (i : Bool) (th : Thread) (m : Memory) (p : Position) → effect_at g i th m (Some p) ≡ effect_if g i p th m (slice_get (g.program.block p.block) p.index)
 effect_some g true th m p = refl
@@ -143,33 +161,42 @@ module _ (s : Site) (t : Machine) (wc : World Held) (calm : Calm s wc) (f : ℕ)
       ∙ ap (λ (p : Position). c.word p.block p.index) (stand_word s.g.program (names.Copy f) n x h w)
 
   -- an instruction that goes to v, and then what follows
-  pub word_to : (v : Machine) (n : ℕ) (r : Registers) (m : Memory) (x : Sym) (y : Effect) (d : core.Machine) (lo hi : ℕ) → slice_get (block s f) n ≡ Some x → is_word (Some x) ≡ true → effect_of s.g wc.inside (position (names.Copy f) n) (thread s f n ps r) m x ≡ y → IsPlain y
-      → sym_step s.g s.e s.o (at s t (thread s f n ps r) m wc) ≡ sym_machine.Goes v → Went s v d lo hi → Went s (at s t (thread s f n ps r) m wc) d (suc lo) (s.price (names.Copy f) n + hi)
-  word_to v n r m x y d lo hi h w q plain step went =
+  pub word_to : (u : IsUser s f) (v : Machine) (n : ℕ) (r : Registers) (m : Memory) (x : Sym) (y : Effect) (d : core.Machine) (lo hi : ℕ) → slice_get (block s f) n ≡ Some x → is_word (Some x) ≡ true → effect_of s.g wc.inside (position (names.Copy f) n) (thread s f n ps r) m x ≡ y → IsPlain y
+      → sym_step s.g s.e s.o (at s t (thread s f n ps r) m wc) ≡ sym_machine.Goes v → Went s v d lo hi → Went s (at s t (thread s f n ps r) m wc) d (counted s x + lo) (s.price (names.Copy f) n + hi)
+  word_to u v n r m x y d lo hi h w q plain step went =
       let th = thread s f n ps r in
-      let a : least_at s (at s t th m wc) ≡ 1 = cost_at s t wc calm th m least_prices ∙ word_cost least_prices n r m x y h w q plain in
+      let a : least_at s (at s t th m wc) ≡ s.sure (names.Copy f) n = cost_at s t wc calm th m (sure_prices s.sure) ∙ word_cost (sure_prices s.sure) n r m x y h w q plain in
       let b : most_at s (at s t th m wc) ≡ s.price (names.Copy f) n = cost_at s t wc calm th m (most_prices s.price) ∙ word_cost (most_prices s.price) n r m x y h w q plain in
+      let counts = is_counted s f u n x h in
       record {
         k = suc went.k;
         u = went.u;
-        path = further (at s t th m wc) v went.u went.k lo hi (suc lo) (s.price (names.Copy f) n + hi) step (omega (arith, a)) (omega (arith, b)) went.path;
+        path = further (at s t th m wc) v went.u went.k lo hi (counted s x + lo) (s.price (names.Copy f) n + hi) step (omega (arith, a, counts)) (omega (arith, b)) went.path;
         stands = went.stands;
       }
 
   -- an instruction without an event
-  pub word_quiet : (n : ℕ) (r : Registers) (m : Memory) (x : Sym) (th' : Thread) (wr : Option Write) (d : core.Machine) (lo hi : ℕ) → slice_get (block s f) n ≡ Some x → is_word (Some x) ≡ true
+  pub word_quiet : (u : IsUser s f) (n : ℕ) (r : Registers) (m : Memory) (x : Sym) (th' : Thread) (wr : Option Write) (d : core.Machine) (lo hi : ℕ) → slice_get (block s f) n ≡ Some x → is_word (Some x) ≡ true
       → effect_of s.g wc.inside (position (names.Copy f) n) (thread s f n ps r) m x ≡ Quiet th' wr → sym_machine.lands_at s.g.program th'.at ≡ true
-      → Went s (at s t th' (written wr m) wc) d lo hi → Went s (at s t (thread s f n ps r) m wc) d (suc lo) (s.price (names.Copy f) n + hi)
-  word_quiet n r m x th' wr d lo hi h w q l went =
-      word_to (at s t th' (written wr m) wc) n r m x (Quiet th' wr) d lo hi h w q (λ c p. refl)
+      → Went s (at s t th' (written wr m) wc) d lo hi → Went s (at s t (thread s f n ps r) m wc) d (counted s x + lo) (s.price (names.Copy f) n + hi)
+  word_quiet u n r m x th' wr d lo hi h w q l went =
+      word_to u (at s t th' (written wr m) wc) n r m x (Quiet th' wr) d lo hi h w q (λ c p. refl)
       (quiet_goes s t wc calm (thread s f n ps r) m th' wr (effect_word s wc.inside f n ps r m x h w ∙ q) l) went
 
   -- that goes on behind it
+  pub word_counted : (u : IsUser s f) (n : ℕ) (r : Registers) (m : Memory) (x : Sym) (r' : Registers) (wr : Option Write) (d : core.Machine) (lo hi : ℕ) → slice_get (block s f) n ≡ Some x → is_word (Some x) ≡ true → is_leaver x ≡ false
+      → effect_of s.g wc.inside (position (names.Copy f) n) (thread s f n ps r) m x ≡ Quiet (thread s f (n + 1) ps r') wr
+      → Went s (at s t (thread s f (suc n) ps r') (written wr m) wc) d lo hi → Went s (at s t (thread s f n ps r) m wc) d (counted s x + lo) (s.price (names.Copy f) n + hi)
+  word_counted u n r m x r' wr d lo hi h w l q went =
+      word_quiet u n r m x (thread s f (suc n) ps r') wr d lo hi h w (q ∙ ap (λ k. Quiet (thread s f k ps r') wr) (omega arith)) (next_lands s f u n x h l) went
+
+  -- the same, where it isn't asked whether the instruction counts
   pub word : (u : IsUser s f) (n : ℕ) (r : Registers) (m : Memory) (x : Sym) (r' : Registers) (wr : Option Write) (d : core.Machine) (lo hi : ℕ) → slice_get (block s f) n ≡ Some x → is_word (Some x) ≡ true → is_leaver x ≡ false
       → effect_of s.g wc.inside (position (names.Copy f) n) (thread s f n ps r) m x ≡ Quiet (thread s f (n + 1) ps r') wr
-      → Went s (at s t (thread s f (suc n) ps r') (written wr m) wc) d lo hi → Went s (at s t (thread s f n ps r) m wc) d (suc lo) (s.price (names.Copy f) n + hi)
+      → Went s (at s t (thread s f (suc n) ps r') (written wr m) wc) d lo hi → Went s (at s t (thread s f n ps r) m wc) d lo (s.price (names.Copy f) n + hi)
   word u n r m x r' wr d lo hi h w l q went =
-      word_quiet n r m x (thread s f (suc n) ps r') wr d lo hi h w (q ∙ ap (λ k. Quiet (thread s f k ps r') wr) (omega arith)) (next_lands s f u n x h l) went
+      weaken s (at s t (thread s f n ps r) m wc) d (counted s x + lo) (s.price (names.Copy f) n + hi) lo (s.price (names.Copy f) n + hi) (omega arith) (omega arith)
+      (word_counted u n r m x r' wr d lo hi h w l q went)
 
   pub onward_is : (n : ℕ) (y : Sym) (b : Bool) → slice_get (block s f) (suc n) ≡ Some y → is_word (Some y) ≡ true → onward s.g.program (position (names.Copy f) n) b ≡ place s f (if b then suc (suc n) else suc n)
   onward_is n y false h w = ap (λ k. stand s.g.program (position (names.Copy f) k)) (omega arith)
@@ -183,14 +210,22 @@ module _ (s : Site) (t : Machine) (wc : World Held) (calm : Calm s wc) (f : ℕ)
   skip_lands u n x y true h l k j = next_lands s f u (suc n) y k j
 
   -- a skip over the instruction y
+  pub skip_counted : (u : IsUser s f) (n : ℕ) (r : Registers) (m : Memory) (x y : Sym) (b : Bool) (r' : Registers) (d : core.Machine) (lo hi : ℕ) → slice_get (block s f) n ≡ Some x → is_word (Some x) ≡ true → is_leaver x ≡ false
+      → slice_get (block s f) (suc n) ≡ Some y → is_word (Some y) ≡ true → is_leaver y ≡ false
+      → effect_of s.g wc.inside (position (names.Copy f) n) (thread s f n ps r) m x ≡ Quiet (record { rest = None; at = Some (onward s.g.program (position (names.Copy f) n) b); stack = ps; registers = r' }) None
+      → Went s (at s t (thread s f (if b then suc (suc n) else suc n) ps r') m wc) d lo hi → Went s (at s t (thread s f n ps r) m wc) d (counted s x + lo) (s.price (names.Copy f) n + hi)
+  skip_counted u n r m x y b r' d lo hi h w l k v j q went =
+      word_quiet u n r m x (thread s f (if b then suc (suc n) else suc n) ps r') None d lo hi h w
+      (q ∙ ap (λ p. Quiet (record { rest = None; at = Some p; stack = ps; registers = r' }) None) (onward_is n y b k v))
+      (skip_lands u n x y b h l k j) went
+
   pub skip : (u : IsUser s f) (n : ℕ) (r : Registers) (m : Memory) (x y : Sym) (b : Bool) (r' : Registers) (d : core.Machine) (lo hi : ℕ) → slice_get (block s f) n ≡ Some x → is_word (Some x) ≡ true → is_leaver x ≡ false
       → slice_get (block s f) (suc n) ≡ Some y → is_word (Some y) ≡ true → is_leaver y ≡ false
       → effect_of s.g wc.inside (position (names.Copy f) n) (thread s f n ps r) m x ≡ Quiet (record { rest = None; at = Some (onward s.g.program (position (names.Copy f) n) b); stack = ps; registers = r' }) None
-      → Went s (at s t (thread s f (if b then suc (suc n) else suc n) ps r') m wc) d lo hi → Went s (at s t (thread s f n ps r) m wc) d (suc lo) (s.price (names.Copy f) n + hi)
+      → Went s (at s t (thread s f (if b then suc (suc n) else suc n) ps r') m wc) d lo hi → Went s (at s t (thread s f n ps r) m wc) d lo (s.price (names.Copy f) n + hi)
   skip u n r m x y b r' d lo hi h w l k v j q went =
-      word_quiet n r m x (thread s f (if b then suc (suc n) else suc n) ps r') None d lo hi h w
-      (q ∙ ap (λ p. Quiet (record { rest = None; at = Some p; stack = ps; registers = r' }) None) (onward_is n y b k v))
-      (skip_lands u n x y b h l k j) went
+      weaken s (at s t (thread s f n ps r) m wc) d (counted s x + lo) (s.price (names.Copy f) n + hi) lo (s.price (names.Copy f) n + hi) (omega arith) (omega arith)
+      (skip_counted u n r m x y b r' d lo hi h w l k v j q went)
 
   pub goto_is : (i : Bool) (n : ℕ) (r : Registers) (m : Memory) (k j : ℕ) → label_from (block s f) (Inner k) 0 ≡ Some j
       → effect_of s.g i (position (names.Copy f) n) (thread s f n ps r) m (syms.Goto (targets.Label (Inner k))) ≡ Quiet (thread s f j ps r) None
@@ -201,9 +236,9 @@ module _ (s : Site) (t : Machine) (wc : World Held) (calm : Calm s wc) (f : ℕ)
 
   -- a jump to a label
   pub jump : (u : IsUser s f) (n : ℕ) (r : Registers) (m : Memory) (k j : ℕ) (d : core.Machine) (lo hi : ℕ) → slice_get (block s f) n ≡ Some (syms.Goto (targets.Label (Inner k))) → label_from (block s f) (Inner k) 0 ≡ Some j → slice_get (block s f) j ≡ Some (syms.Label (Inner k))
-      → Went s (at s t (thread s f j ps r) m wc) d lo hi → Went s (at s t (thread s f n ps r) m wc) d (suc lo) (s.price (names.Copy f) n + hi)
+      → Went s (at s t (thread s f j ps r) m wc) d lo hi → Went s (at s t (thread s f n ps r) m wc) d (1 + lo) (s.price (names.Copy f) n + hi)
   jump u n r m k j d lo hi h e l went =
-      word_quiet n r m (syms.Goto (targets.Label (Inner k))) (thread s f j ps r) None d lo hi h refl (goto_is wc.inside n r m k j e) (here_lands s f u j (syms.Label (Inner k)) l) went
+      word_quiet u n r m (syms.Goto (targets.Label (Inner k))) (thread s f j ps r) None d lo hi h refl (goto_is wc.inside n r m k j e) (here_lands s f u j (syms.Label (Inner k)) l) went
 
   -- where a label stands the code goes on behind it
   pub past : (n : ℕ) (r : Registers) (m : Memory) (k : ℕ) (d : core.Machine) (lo hi : ℕ) → slice_get (block s f) n ≡ Some (syms.Label (Inner k))

@@ -35,7 +35,7 @@ use Rattle.select_trace.proofs.Machines.{at, Calm}
 use Rattle.select_trace.proofs.Live.{IsUser, is_live, below}
 use Rattle.select_trace.proofs.Memory.{Shown, Agree, agrees_shown}
 use Rattle.select_trace.proofs.Blocks.{block}
-use Rattle.select_trace.proofs.Relation.{Went, weaken}
+use Rattle.select_trace.proofs.Relation.{Went}
 use Rattle.select_trace.proofs.Steps.{thread, total, word}
 use Rattle.select_trace.proofs.Access.{Own, own_valid, own_access, loaded, loaded_fits, movf_silent, clrw_is}
 use Rattle.select_trace.proofs.Tests.{pointer_parts, behind_none, own_part, own_behind, union, union_none, union_all, number_zero, pointer_address}
@@ -140,11 +140,10 @@ module _ (s : Site) (t : Machine) (wc : World Held) (calm : Calm s wc) (f : ℕ)
 
   pub ors_goes : (test : Byte) (k n : ℕ) (r : Registers) (lo hi : ℕ) → Fits r → is_own s.q f test (suc k) ≡ true → Has (block s f) n (ors_code test k) → r.z ≡ truth (nat_eq r.w 0)
       → ((r' : Registers) → Fits r' → r'.w ≡ union (value test) r.w k → r'.z ≡ truth (nat_eq r'.w 0) → Went s (at s t (thread s f (n + length (ors_code test k)) ps r') m wc) d lo hi)
-      → Went s (at s t (thread s f n ps r) m wc) d (k + lo) (total s f n (ors_code test k) + hi)
+      → Went s (at s t (thread s f n ps r) m wc) d lo (total s f n (ors_code test k) + hi)
   ors_goes test zero n r lo hi fits own h z go =
-      subst (λ k. Went s (at s t (thread s f k ps r) m wc) d (0 + lo) (0 + hi)) (let e : n + 0 ≡ n = omega arith in e)
-      (subst (λ k. Went s (at s t (thread s f (n + 0) ps r) m wc) d k (0 + hi)) (let e : lo ≡ 0 + lo = omega arith in e)
-      (subst (λ k. Went s (at s t (thread s f (n + 0) ps r) m wc) d lo k) (let e : hi ≡ 0 + hi = omega arith in e) (go r fits refl z)))
+      subst (λ k. Went s (at s t (thread s f k ps r) m wc) d lo (0 + hi)) (let e : n + 0 ≡ n = omega arith in e)
+      (subst (λ k. Went s (at s t (thread s f (n + 0) ps r) m wc) d lo k) (let e : hi ≡ 0 + hi = omega arith in e) (go r fits refl z))
   ors_goes test (suc k) n r lo hi fits own h z go =
       let x = ors_code test k in
       let b = byte_behind test (suc k) in
@@ -156,13 +155,12 @@ module _ (s : Site) (t : Machine) (wc : World Held) (calm : Calm s wc) (f : ℕ)
       let hy = has_back (block s f) n x y h in
       let len : n + length (x ++ y) ≡ suc n' = (let q = len_append x y in omega (arith, q)) in
       let tot : total s f n (x ++ y) ≡ total s f n x + (s.price (names.Copy f) n' + 0) = total_append s f n x y in
-      subst (λ v. Went s (at s t (thread s f n ps r) m wc) d v (total s f n (x ++ y) + hi)) (let e : k + suc lo ≡ suc k + lo = omega arith in e)
-      (subst (λ v. Went s (at s t (thread s f n ps r) m wc) d (k + suc lo) v) (let e : total s f n x + (s.price (names.Copy f) n' + hi) ≡ total s f n (x ++ y) + hi = omega (arith, tot) in e)
-      (ors_goes test k n r (suc lo) (s.price (names.Copy f) n' + hi) fits (own_shorter s f (suc k) test own) (has_front (block s f) n x y h) z (λ r' fr w zz.
+      subst (λ v. Went s (at s t (thread s f n ps r) m wc) d lo v) (let e : total s f n x + (s.price (names.Copy f) n' + hi) ≡ total s f n (x ++ y) + hi = omega (arith, tot) in e)
+      (ors_goes test k n r lo (s.price (names.Copy f) n' + hi) fits (own_shorter s f (suc k) test own) (has_front (block s f) n x y h) z (λ r' fr w zz.
       word s t wc calm f ps u n' r' m (syms.File Iorwf (operands.Byte b) into.W) (ored r' (value test (suc k))) None d lo hi hy.0 refl refl
       (iorwf_silent s wc.inside f n' ps r' m (operands.Byte b) (slot (layout s) (behind test (suc k))) (a r'))
       (subst (λ j. Went s (at s t (thread s f j ps (ored r' (value test (suc k)))) m wc) d lo hi) len
-      (go (ored r' (value test (suc k))) (ored_fits r' (value test (suc k)) fr (bytes_ok (slot (layout s) (behind test (suc k))))) (ap (λ v. bit_or v (value test (suc k))) w) refl)))))
+      (go (ored r' (value test (suc k))) (ored_fits r' (value test (suc k)) fr (bytes_ok (slot (layout s) (behind test (suc k))))) (ap (λ v. bit_or v (value test (suc k))) w) refl))))
     where
       access_at : (b c : Byte) → b ≡ c → Own s f c → (r' : Registers) → access_of s.g wc.inside false r' (operands.Byte b) ≡ Silent (slot (layout s) c)
       access_at b c e o r' = ap (λ z. access_of s.g wc.inside false r' (operands.Byte z)) e ∙ own_access s wc.inside false r' f u root c o
@@ -170,9 +168,9 @@ module _ (s : Site) (t : Machine) (wc : World Held) (calm : Calm s wc) (f : ℕ)
   pub test_goes : (cm : bytes.Memory) (l : ℕ → Bool) (pr : Option ℕ) (below : ℕ → Bool) → Agree s (is_live f pr below) cm m → (test : Byte) (size n : ℕ) (r : Registers) (lo hi : ℕ) (holds : Bool) → Fits r → is_own s.q f test size ≡ true
       → truth_in cm test size ≡ Some holds → Has (block s f) n (test_code test size)
       → ((r' : Registers) → Fits r' → r'.z ≡ truth (not holds) → Went s (at s t (thread s f (n + length (test_code test size)) ps r') m wc) d lo hi)
-      → Went s (at s t (thread s f n ps r) m wc) d (suc lo) (total s f n (test_code test size) + hi)
+      → Went s (at s t (thread s f n ps r) m wc) d lo (total s f n (test_code test size) + hi)
   test_goes cm l pr below agree test zero n r lo hi holds fits own e h go =
-      subst (λ k. Went s (at s t (thread s f n ps r) m wc) d (suc lo) k) (let q : s.price (names.Copy f) n + hi ≡ s.price (names.Copy f) n + 0 + hi = omega arith in q)
+      subst (λ k. Went s (at s t (thread s f n ps r) m wc) d lo k) (let q : s.price (names.Copy f) n + hi ≡ s.price (names.Copy f) n + 0 + hi = omega arith in q)
       (word s t wc calm f ps u n r m (syms.Plain Clrw) (record r { w = 0; z = 1 }) None d lo hi h.0 refl refl (clrw_is s wc.inside f n ps r m)
       (subst (λ k. Went s (at s t (thread s f k ps (record r { w = 0; z = 1 })) m wc) d lo hi) (let q : n + 1 ≡ suc n = omega arith in q)
       (go (record r { w = 0; z = 1 }) (cleared_fits r fits) (ap (λ b. truth (not b)) (no_bytes cm test holds e)))))
@@ -187,12 +185,8 @@ module _ (s : Site) (t : Machine) (wc : World Held) (calm : Calm s wc) (f : ℕ)
       let shows : (j : ℕ) → j < suc k → Shown s (cm (behind test j)) (value test j) = (λ j lt. agrees_shown s (behind test j) (cm (behind test j)) (value test j)
       (agree (behind test j) (own_valid s f pr below (behind test j) (own_part s f (suc k) j test own lt)))) in
       let z = tested s cm test k (value test) holds shows e in
-      subst (λ w. Went s (at s t (thread s f n ps r) m wc) d (suc lo) w) (let q : s.price (names.Copy f) n + (total s f (suc n) x + hi) ≡ s.price (names.Copy f) n + total s f (suc n) x + hi = omega arith in q)
+      subst (λ w. Went s (at s t (thread s f n ps r) m wc) d lo w) (let q : s.price (names.Copy f) n + (total s f (suc n) x + hi) ≡ s.price (names.Copy f) n + total s f (suc n) x + hi = omega arith in q)
       (word s t wc calm f ps u n r m (syms.File Movf (operands.Byte test) into.W) r1 None d lo (total s f (suc n) x + hi) h.0 refl refl (movf_silent s wc.inside f n ps r m (operands.Byte test) (slot (layout s) (behind test 0)) a)
-      (fewer_lo (at s t (thread s f (suc n) ps r1) m wc) k lo (total s f (suc n) x + hi)
       (ors_goes test k (suc n) r1 lo hi f1 own h.1 refl (λ r' fr w zz.
       subst (λ j. Went s (at s t (thread s f j ps r') m wc) d lo hi) (let q : n + suc (length x) ≡ suc n + length x = omega arith in q)
-      (go r' fr (zz ∙ ap (λ y. truth (nat_eq y 0)) w ∙ ap truth z))))))
-    where
-      fewer_lo : (v : Machine) (k lo hi : ℕ) → Went s v d (k + lo) hi → Went s v d lo hi
-      fewer_lo v k lo hi w = weaken s v d (k + lo) hi lo hi (omega arith) (omega arith) w
+      (go r' fr (zz ∙ ap (λ y. truth (nat_eq y 0)) w ∙ ap truth z)))))

@@ -39,7 +39,7 @@ use Rattle.select_trace.proofs.Memory.{InPlace, Shown, agrees_shown}
 use Rattle.select_trace.proofs.Blocks.{block}
 use Rattle.select_trace.proofs.Relation.{Left, Soon, Points, advanced, loads_code, stores_code, Loading, Storing, Went, weaken, After}
 use Rattle.select_trace.proofs.Relation as relation
-use Rattle.select_trace.proofs.Steps.{thread, machine, Fit, total, dear, word}
+use Rattle.select_trace.proofs.Steps.{thread, machine, Fit, total, dear, of_byte, word, word_counted}
 use Rattle.select_trace.proofs.Access.{own_valid, own_access, loaded, loaded_fits, movf_silent, movwf_silent, of_root, of_watched, of_constant}
 use Rattle.select_trace.proofs.Tests.{behind_more, own_behind}
 use Rattle.select_trace.proofs.Testing.{total_append}
@@ -137,7 +137,7 @@ module _ (s : Site) (t : Machine) (wc : World Held) (calm : Calm s wc) (f : ℕ)
       weaken s (at s t (thread s f n ps r) m wc) d lo hi lo (0 + hi) (omega arith) (omega arith)
       (subst (λ k. Went s (at s t (thread s f k ps r) m wc) d lo hi) (let z : n + 0 ≡ n = omega arith in z) go)
   step_went (suc j) n r d lo hi h go =
-      weaken s (at s t (thread s f n ps r) m wc) d (suc lo) (s.price (names.Copy f) n + hi) lo (s.price (names.Copy f) n + 0 + hi) (omega arith) (omega arith)
+      weaken s (at s t (thread s f n ps r) m wc) d lo (s.price (names.Copy f) n + hi) lo (s.price (names.Copy f) n + 0 + hi) (omega arith) (omega arith)
       (word s t wc calm f ps c_user n r m (syms.File Incf (operands.Register Fsr) into.File) (stepped (suc j) r) None d lo hi h.0 refl refl (advances s wc.inside f n ps r m)
       (subst (λ k. Went s (at s t (thread s f k ps (stepped (suc j) r)) m wc) d lo hi) (let z : n + 1 ≡ suc n = omega arith in z) go))
 
@@ -233,7 +233,7 @@ module _ (s : Site) (t : Machine) (wc : World Held) (calm : Calm s wc) (f : ℕ)
       weaken s (at s t (thread s f n ps r) m wc) d 1 (total s f n sc + (s.price (names.Copy f) n1 + 0)) 1 3 (omega arith) (omega (arith, dr, tot))
       (step_went j n r d 1 (s.price (names.Copy f) n1 + 0) hs
       (static_read s t wc calm f pr st loops ps cm m fit (operands.Register Indf) to o offset n1 r1 (loading (behind to 1) (Fixed o) (offset + 1) k c) (λ q. shared_indf false r1 o offset lt p1 q) (λ q. constant_indf r1 o offset lt p1 q) va f1 ht.0 ht.1
-      (λ r2 a b. next_loading to first j k offset (Fixed o) n (suc n1 + 1) r2 c e (pointer_same r1 r2 a b ∙ p1) (omega (arith, len)) h l)))
+      (λ r2 a b. next_loading to first j k offset (Fixed o) n (suc n1 + 1) r2 c e (pointer_same r1 r2 a b ∙ p1) (omega (arith, len)) h l) refl))
 
   load_frame : (to first : Byte) (j g offset k n : ℕ) (r : Registers) (c : List Task) → Fits r → to ≡ behind first j → Points s r j (FrameOf g) offset → Has (block s f) n (loads_code first j (suc k)) → Left s f loops (n + length (loads_code first j (suc k))) c
       → is_own s.q f to 1 ≡ true → is_reached s.q f st (FrameOf g) offset ≡ true
@@ -262,10 +262,10 @@ module _ (s : Site) (t : Machine) (wc : World Held) (calm : Calm s wc) (f : ℕ)
       let dr = dear s f c_user n 6 (sc ++ tail) hb (step_straight j mi (relation.store_to to ∷ []) refl) (omega (arith, d1, d2, d3)) in
       let v = at s t (thread s f n ps r) m wc in
       let v' = at s t (thread s f (suc n1) ps r2) m wc in
-      after_map s 1 (s.price (names.Copy f) (suc n1) + 0) 1 6 (put s.q to (cm (Frame g offset)) rest f pr st cm wc) v' v (put_moves s.q to (cm (Frame g offset)) rest f pr st cm wc) (λ d w.
-      weaken s v d 2 (total s f n sc + (s.price (names.Copy f) n1 + (s.price (names.Copy f) (suc n1) + 0))) 1 6 (omega arith) (omega (arith, dr, tot))
-      (step_went j n r d 2 (s.price (names.Copy f) n1 + (s.price (names.Copy f) (suc n1) + 0)) hs
-      (word s t wc calm f ps c_user n1 r1 m mi r2 None d 1 (s.price (names.Copy f) (suc n1) + 0) ht.0 refl refl (movf_silent s wc.inside f n1 ps r1 m (operands.Register Indf) k0 (frame_indf false r1 g offset fr.0 fr.1 p1)) w)))
+      after_map s (of_byte s to) (s.price (names.Copy f) (suc n1) + 0) 1 6 (put s.q to (cm (Frame g offset)) rest f pr st cm wc) v' v (put_moves s.q to (cm (Frame g offset)) rest f pr st cm wc) (λ d w.
+      weaken s v d (1 + of_byte s to) (total s f n sc + (s.price (names.Copy f) n1 + (s.price (names.Copy f) (suc n1) + 0))) 1 6 (omega arith) (omega (arith, dr, tot))
+      (step_went j n r d (1 + of_byte s to) (s.price (names.Copy f) n1 + (s.price (names.Copy f) (suc n1) + 0)) hs
+      (word_counted s t wc calm f ps c_user n1 r1 m mi r2 None d (of_byte s to) (s.price (names.Copy f) (suc n1) + 0) ht.0 refl refl (movf_silent s wc.inside f n1 ps r1 m (operands.Register Indf) k0 (frame_indf false r1 g offset fr.0 fr.1 p1)) w)))
       (store_goes s t wc calm f pr st loops ps cm m fit to (cm (Frame g offset)) (suc n1) r2 rest (loaded_fits s r1 (m k0) f1 (fit.bytes k0)) (agrees_shown s (Frame g offset) (cm (Frame g offset)) (m k0) (fit.agree (Frame g offset) fr.2)) ht.1.0
       (next_loading to first j k offset (FrameOf g) n (suc (suc n1)) r2 c e p1 (omega (arith, len)) h l))
 
@@ -320,8 +320,8 @@ module _ (s : Site) (t : Machine) (wc : World Held) (calm : Calm s wc) (f : ℕ)
       let tot : total s f n (sc ++ tail) ≡ total s f n sc + (s.price (names.Copy f) n1 + (s.price (names.Copy f) (suc n1) + 0)) = total_append s f n sc tail in
       let dr = dear s f c_user n 6 (sc ++ tail) hb (step_straight j mf (mi ∷ []) refl) (omega (arith, d1, d2, d3)) in
       let v = at s t (thread s f n ps r) m wc in
-      weaken s v d 2 (total s f n sc + (s.price (names.Copy f) n1 + (s.price (names.Copy f) (suc n1) + 0))) 1 6 (omega arith) (omega (arith, dr, tot))
-      (step_went j n r d 2 (s.price (names.Copy f) n1 + (s.price (names.Copy f) (suc n1) + 0)) hs
+      weaken s v d 1 (total s f n sc + (s.price (names.Copy f) n1 + (s.price (names.Copy f) (suc n1) + 0))) 1 6 (omega arith) (omega (arith, dr, tot))
+      (step_went j n r d 1 (s.price (names.Copy f) n1 + (s.price (names.Copy f) (suc n1) + 0)) hs
       (word s t wc calm f ps c_user n1 r1 m mf r2 None d 1 (s.price (names.Copy f) (suc n1) + 0) ht.0 refl refl (movf_silent s wc.inside f n1 ps r1 m (operands.Byte from) k0 (own_access s wc.inside false r1 f c_user fit.root from own))
       (go (suc n1) r2 (loaded_fits s r1 (m k0) f1 (fit.bytes k0)) refl p1 ht.1.0 (next_storing from first j k offset object n (suc (suc n1)) r2 c e (p1 ∙ ap (layouts.address_of (layout s)) be) (omega (arith, len)) h l))))
 
@@ -335,7 +335,7 @@ module _ (s : Site) (t : Machine) (wc : World Held) (calm : Calm s wc) (f : ℕ)
       let va = reached_static o offset re in
       let lt = lt_of offset (static_bytes s.q o) va in
       store_byte (Fixed o) (Static o offset) (noted (WriteOf (cells.Static o offset) held) wc) (bytes.with_byte cm (Static o offset) held) from first j offset k n r c refl lt fits e p h l own (λ n1 r2 f2 w2 p2 h2 soon.
-      static_store s t wc calm f pr st loops ps cm m fit (operands.Register Indf) o offset held n1 r2 (storing (Fixed o) (offset + 1) (behind from 1) k c) (shared_indf true r2 o offset lt p2 wa) f2 (w2 ∙ sh.0, sh.1) h2 soon va)
+      static_store s t wc calm f pr st loops ps cm m fit (operands.Register Indf) o offset held n1 r2 (storing (Fixed o) (offset + 1) (behind from 1) k c) (shared_indf true r2 o offset lt p2 wa) f2 (w2 ∙ sh.0, sh.1) h2 soon va refl)
 
   store_frame : (from first : Byte) (j g offset k n : ℕ) (r : Registers) (c : List Task) → Fits r → from ≡ behind first j → Points s r j (FrameOf g) offset
       → Has (block s f) n (stores_code first j (suc k)) → Left s f loops (n + length (stores_code first j (suc k))) c → is_own s.q f from 1 ≡ true → is_reached s.q f st (FrameOf g) offset ≡ true

@@ -7,7 +7,7 @@ use Rattle.c_ints.specs.declared.types.IntTy.{IntTy}
 use Rattle.pic_world.specs.World.{World}
 use Rattle.core_code.specs.Bytes as bytes
 use Rattle.core_code.specs.Bytes.{Held, Number, behind, same_byte, with_bytes}
-use Rattle.core_code.specs.Cost.{unary_cost, binary_cost, widening_cost, least_unary, least_binary}
+use Rattle.core_code.specs.Cost.{unary_cost, binary_cost, widening_cost}
 use Rattle.core_code.specs.Machine.{Task, Waiting, is_own, extent, fits_call, after_helper}
 use Rattle.core_code.specs.Operands.{number_left, is_helped, fits_unary, fits_together}
 use Rattle.core_code.specs.Tree.{Tree}
@@ -41,7 +41,7 @@ abbrev pub scene : Site → ℕ → ℕ → List Position → Registers → Memo
 scene s f n ps r m = record { thread = thread s f n ps r; memory = m }
 
 -- Without an event the thread comes from n to n', at most at this cost, and memory agrees with this one.
-pub record Arrives (s : Site) (i : Bool) (live : ℕ → Bool) (f : ℕ) (ps : List Position) (n : ℕ) (r : Registers) (m : Memory) (n' : ℕ) (cm' : bytes.Memory) (lo hi : ℕ) : Type 0 where
+pub record Arrives (s : Site) (i : Bool) (live : ℕ → Bool) (f : ℕ) (ps : List Position) (n : ℕ) (r : Registers) (m : Memory) (n' : ℕ) (cm' : bytes.Memory) (hi : ℕ) : Type 0 where
   pub steps : ℕ
   pub registers : Registers
   pub memory : Memory
@@ -49,11 +49,10 @@ pub record Arrives (s : Site) (i : Bool) (live : ℕ → Bool) (f : ℕ) (ps : L
   pub fits : Fits registers
   pub bytes : (k : ℕ) → memory k < 256
   pub agree : Agree s live cm' memory
-  pub some : lo ≤ steps
   pub cost : quiet_cost s.g s.price i steps (scene s f n ps r m) ≤ hi
 
 -- The code of an operation whose answer has so many bytes: they are shown, and no other byte changes.
-pub record Computes (s : Site) (i : Bool) (f : ℕ) (ps : List Position) (n : ℕ) (r : Registers) (m : Memory) (n' : ℕ) (to : Byte) (count : ℕ) (held : ℕ → Held) (lo hi : ℕ) : Type 0 where
+pub record Computes (s : Site) (i : Bool) (f : ℕ) (ps : List Position) (n : ℕ) (r : Registers) (m : Memory) (n' : ℕ) (to : Byte) (count : ℕ) (held : ℕ → Held) (hi : ℕ) : Type 0 where
   pub steps : ℕ
   pub registers : Registers
   pub memory : Memory
@@ -62,7 +61,6 @@ pub record Computes (s : Site) (i : Bool) (f : ℕ) (ps : List Position) (n : �
   pub bytes : (k : ℕ) → memory k < 256
   pub shows : (k : ℕ) → k < count → Shown s (held k) (memory (slot (layout s) (behind to k)))
   pub others : (j : ℕ) → ((k : ℕ) → k < count → j ≢ slot (layout s) (behind to k)) → memory j ≡ m j
-  pub some : lo ≤ steps
   pub cost : quiet_cost s.g s.price i steps (scene s f n ps r m) ≤ hi
 
 -- a byte of the own frame or a result agrees with what it shows
@@ -73,9 +71,9 @@ own_agrees s f (Result c k) h v o sh = sh
 own_agrees s f (Static c k) h v o sh = absurd (cc)
 own_agrees s f (Device a) h v o sh = absurd (cc)
 
-pub computes_arrive : (s : Site) (i : Bool) (f : ℕ) (pr : Option ℕ) (b : ℕ → Bool) (ps : List Position) (n : ℕ) (r : Registers) (m : Memory) (n' : ℕ) (cm : bytes.Memory) (to : Byte) (count : ℕ) (held : ℕ → Held) (lo hi : ℕ)
-    → OneToOne s (is_live f pr b) → Agree s (is_live f pr b) cm m → is_own s.q f to count ≡ true → Computes s i f ps n r m n' to count held lo hi → Arrives s i (is_live f pr b) f ps n r m n' (with_bytes cm to count held) lo hi
-computes_arrive s i f pr b ps n r m n' cm to count held lo hi inj agree own c = record {
+pub computes_arrive : (s : Site) (i : Bool) (f : ℕ) (pr : Option ℕ) (b : ℕ → Bool) (ps : List Position) (n : ℕ) (r : Registers) (m : Memory) (n' : ℕ) (cm : bytes.Memory) (to : Byte) (count : ℕ) (held : ℕ → Held) (hi : ℕ)
+    → OneToOne s (is_live f pr b) → Agree s (is_live f pr b) cm m → is_own s.q f to count ≡ true → Computes s i f ps n r m n' to count held hi → Arrives s i (is_live f pr b) f ps n r m n' (with_bytes cm to count held) hi
+computes_arrive s i f pr b ps n r m n' cm to count held hi inj agree own c = record {
   steps = c.steps;
   registers = c.registers;
   memory = c.memory;
@@ -85,18 +83,16 @@ computes_arrive s i f pr b ps n r m n' cm to count held lo hi inj agree own c = 
   agree = agree_bytes s (is_live f pr b) cm c.memory to count held
       (λ k lt. own_agrees s f (behind to k) (held k) (c.memory (slot (layout s) (behind to k))) (own_part s f count k to own lt) (c.shows k lt))
       (λ x v h. subst (λ y. Agrees s x (cm x) y) (sym (c.others (slot (layout s) x) (λ k lt e. true_false (same_byte x (behind to k)) (inj (behind to k) x (own_valid s f pr b (behind to k) (own_part s f count k to own lt)) v (sym e)) (h k lt)))) (agree x v));
-  some = c.some;
   cost = c.cost;
 }
 
 pub arrives_goes : (s : Site) (t : Machine) (wc : World Held) → Calm s wc → (f : ℕ) (pr : Option ℕ) (st : List Waiting) (loops : List ℕ) (ps : List Position) (cm : bytes.Memory) (m : Memory) → Fit s t wc f pr st loops ps cm m
-    → (n n' : ℕ) (r : Registers) (cm' : bytes.Memory) (c : List Task) (lo hi : ℕ) → Arrives s wc.inside (is_live f pr (below st)) f ps n r m n' cm' lo hi → Left s f loops n' c
-    → Went s (at s t (thread s f n ps r) m wc) (machine f pr c st cm' wc) lo hi
-arrives_goes s t wc calm f pr st loops ps cm m fit n n' r cm' c lo hi a l =
+    → (n n' : ℕ) (r : Registers) (cm' : bytes.Memory) (c : List Task) (hi : ℕ) → Arrives s wc.inside (is_live f pr (below st)) f ps n r m n' cm' hi → Left s f loops n' c
+    → Went s (at s t (thread s f n ps r) m wc) (machine f pr c st cm' wc) 0 hi
+arrives_goes s t wc calm f pr st loops ps cm m fit n n' r cm' c hi a l =
     let d = machine f pr c st cm' wc in
-    let some = a.some in
     let cost = a.cost in
-    weaken s (at s t (thread s f n ps r) m wc) d (a.steps + 0) (quiet_cost s.g s.price wc.inside a.steps (scene s f n ps r m) + 0) lo hi (omega arith) (omega arith)
+    weaken s (at s t (thread s f n ps r) m wc) d 0 (quiet_cost s.g s.price wc.inside a.steps (scene s f n ps r m) + 0) 0 hi (omega arith) (omega arith)
     (quiet_path s t wc calm d a.steps (scene s f n ps r m) (scene s f n' ps a.registers a.memory) 0 0 a.run
     (stays s (at s t (thread s f n' ps a.registers) a.memory wc) d
     (stands_at s t wc f pr c st loops cm' a.memory (thread s f n' ps a.registers) (fit_with s t wc calm f pr st loops ps cm m fit wc pr cm' a.memory refl fit.control a.agree a.bytes fit.passing) a.fits (here_left s f loops n' ps a.registers c l))))
@@ -118,13 +114,13 @@ pub record ValuesGo (s : Site) : Type 0 where
       → Agree s (is_live f pr b) (with_bytes cm at (byte_count v) (byte_of v)) m
   pub unary : (wc : World Held) (f : ℕ) (pr : Option ℕ) (st : List Waiting) (ps : List Position) (cm : bytes.Memory) (m : Memory) (r : Registers) → Ready s wc f pr st ps cm m r
       → (op : UnOp) (ty : IntTy) (to : Byte) (n : ℕ) (x v : Value) → Has (block s f) n (unary_code op ty to) → fits_unary op ty ≡ true → is_own s.q f to (bytes_of ty) ≡ true → value_in ty cm to ≡ Some x → unary_value op x ≡ Some v → is_own s.q f to (byte_count v) ≡ true
-      → Arrives s wc.inside (is_live f pr (below st)) f ps n r m (n + length (unary_code op ty to)) (with_bytes cm to (byte_count v) (byte_of v)) (least_unary op) (unary_cost op (bytes_of ty))
+      → Arrives s wc.inside (is_live f pr (below st)) f ps n r m (n + length (unary_code op ty to)) (with_bytes cm to (byte_count v) (byte_of v)) (unary_cost op (bytes_of ty))
   pub widening : (wc : World Held) (f : ℕ) (pr : Option ℕ) (st : List Waiting) (ps : List Position) (cm : bytes.Memory) (m : Memory) (r : Registers) → Ready s wc f pr st ps cm m r
       → (from to : IntTy) (at : Byte) (n : ℕ) (x v : Value) → bytes_of from < bytes_of to → Has (block s f) n (widening_code from to at) → is_own s.q f at (bytes_of from) ≡ true → value_in from cm at ≡ Some x → converted to x ≡ Some v → is_own s.q f at (byte_count v) ≡ true
-      → Arrives s wc.inside (is_live f pr (below st)) f ps n r m (n + length (widening_code from to at)) (with_bytes cm at (byte_count v) (byte_of v)) 1 (widening_cost (bytes_of to - bytes_of from))
+      → Arrives s wc.inside (is_live f pr (below st)) f ps n r m (n + length (widening_code from to at)) (with_bytes cm at (byte_count v) (byte_of v)) (widening_cost (bytes_of to - bytes_of from))
   pub binary : (wc : World Held) (f : ℕ) (pr : Option ℕ) (st : List Waiting) (ps : List Position) (cm : bytes.Memory) (m : Memory) (r : Registers) → Ready s wc f pr st ps cm m r
       → (before : List Tree) (op : BinOp) (ty : IntTy) (to x y : Byte) (n : ℕ) (a b v : Value) → Knows s f cm before → Has (block s f) n (binary_code s.copies (s.q.root f) before op ty to x y)
       → fits_together op ty (number_left before y) to x y ≡ true → is_own s.q f x (bytes_of ty) ≡ true → is_own s.q f y (bytes_of (right_type op ty)) ≡ true → fits_call pr (is_helped op (number_left before y)) ≡ true
       → (is_helped op (number_left before y) ≡ true → s.q.helped f op ty ≡ true)
       → value_in ty cm x ≡ Some a → value_in (right_type op ty) cm y ≡ Some b → binary_value (extent s.q f st) op ty a b ≡ Some v → is_own s.q f to (byte_count v) ≡ true
-      → Arrives s wc.inside (is_live f pr (below st)) f ps n r m (n + length (binary_code s.copies (s.q.root f) before op ty to x y)) (with_bytes (after_helper s.q f (is_helped op (number_left before y)) cm) to (byte_count v) (byte_of v)) (least_binary op) (binary_cost op (number_left before y) (bytes_of ty))
+      → Arrives s wc.inside (is_live f pr (below st)) f ps n r m (n + length (binary_code s.copies (s.q.root f) before op ty to x y)) (with_bytes (after_helper s.q f (is_helped op (number_left before y)) cm) to (byte_count v) (byte_of v)) (binary_cost op (number_left before y) (bytes_of ty))

@@ -13,7 +13,7 @@ use Rattle.c_ints.specs.declared.types.IntTy.TheVariants.{Char, SChar, UChar, Sh
 use Rattle.pic_world.specs.World.{World}
 use Rattle.core_code.specs.Bytes as bytes
 use Rattle.core_code.specs.Bytes.{Held, behind, same_byte, with_bytes}
-use Rattle.core_code.specs.Cost.{binary_cost, least_binary}
+use Rattle.core_code.specs.Cost.{binary_cost}
 use Rattle.core_code.specs.Machine.{Waiting, is_own}
 use Rattle.core_code.specs.Operands.{number_left, is_helped, fits_bytes, fits_together}
 use Rattle.core_code.specs.Tree.{Tree}
@@ -132,18 +132,17 @@ module _ (s : Site) (t : Machine) (wc : World Held) (f : ℕ) (pr : Option ℕ) 
       (lies to w lt ht) (lies left w lt hl) (lies right w lt hr)).straight
 
   -- what is known of the code of an operator, shifts aside
-  record Prepared (list : List Sym) (least most : ℕ) : Type 0 where
+  record Prepared (list : List Sym) (most : ℕ) : Type 0 where
     long : ℕ
     size : sizes.Fits list long
     cheap : long + 2 ≤ most
-    one : least ≤ 1
     straight : AreStraight P list
 
   abbrev Code : BinOp → List Tree → IntTy → Byte → Byte → Byte → List Sym
   Code op before ty to x y = binary_code s.copies (s.q.root f) before op ty to x y
 
   abbrev Prepares : BinOp → Type 0
-  Prepares op = (before : List Tree) (ty : IntTy) (to x y : Byte) → In to (bytes_of (type_of op ty)) → In x (bytes_of ty) → In y (bytes_of ty) → Prepared (Code op before ty to x y) (least_binary op) (binary_cost op (number_left before y) (bytes_of ty))
+  Prepares op = (before : List Tree) (ty : IntTy) (to x y : Byte) → In to (bytes_of (type_of op ty)) → In x (bytes_of ty) → In y (bytes_of ty) → Prepared (Code op before ty to x y) (binary_cost op (number_left before y) (bytes_of ty))
 
   order_at : (ty : IntTy) (usual : ℕ) (to x y : Byte) → usual < 2 → In to 2 → In x (bytes_of ty) → In y (bytes_of ty) → AreStraight P (comparisons.order_code (is_signed ty) usual to x y (bytes_of ty))
   order_at ty usual to x y u ht hx hy = (meanings.order P at (is_signed ty) usual to x y (bytes_of ty) u (wide ty) (lies to 2 (omega arith) ht) (lies x (bytes_of ty) (wide ty) hx) (lies y (bytes_of ty) (wide ty) hy)).straight
@@ -153,37 +152,35 @@ module _ (s : Site) (t : Machine) (wc : World Held) (f : ℕ) (pr : Option ℕ) 
     long = bytes_of ty * 6;
     size = sizes.sum_fits to x y (bytes_of ty) (wide ty);
     cheap = let z : 0 < bytes_of ty = wide ty in omega arith;
-    one = omega arith;
     straight = either_straight (same_byte to y) (sums.chain_code Sum to y x (bytes_of ty)) (sums.chain_code Sum to x y (bytes_of ty)) (chain_straight Sum to y x (bytes_of ty) (wide ty) ht hy hx) (chain_straight Sum to x y (bytes_of ty) (wide ty) ht hx hy);
   }
 
   sub_ready : Prepares Sub
-  sub_ready before ty to x y ht hx hy = record { long = bytes_of ty * 6; size = sizes.chain_fits Difference to x y (bytes_of ty) (wide ty); cheap = let z : 0 < bytes_of ty = wide ty in omega arith; one = omega arith; straight = chain_straight Difference to x y (bytes_of ty) (wide ty) ht hx hy }
+  sub_ready before ty to x y ht hx hy = record { long = bytes_of ty * 6; size = sizes.chain_fits Difference to x y (bytes_of ty) (wide ty); cheap = let z : 0 < bytes_of ty = wide ty in omega arith; straight = chain_straight Difference to x y (bytes_of ty) (wide ty) ht hx hy }
 
   and_ready : Prepares And
-  and_ready before ty to x y ht hx hy = record { long = bytes_of ty * 3; size = sizes.and_fits to x y (bytes_of ty) (wide ty); cheap = let z : 0 < bytes_of ty = wide ty in omega arith; one = omega arith; straight = bits_straight Andwf to x y (bytes_of ty) (wide ty) ht hx hy }
+  and_ready before ty to x y ht hx hy = record { long = bytes_of ty * 3; size = sizes.and_fits to x y (bytes_of ty) (wide ty); cheap = let z : 0 < bytes_of ty = wide ty in omega arith; straight = bits_straight Andwf to x y (bytes_of ty) (wide ty) ht hx hy }
 
   or_ready : Prepares Or
-  or_ready before ty to x y ht hx hy = record { long = bytes_of ty * 3; size = sizes.or_fits to x y (bytes_of ty) (wide ty); cheap = let z : 0 < bytes_of ty = wide ty in omega arith; one = omega arith; straight = bits_straight Iorwf to x y (bytes_of ty) (wide ty) ht hx hy }
+  or_ready before ty to x y ht hx hy = record { long = bytes_of ty * 3; size = sizes.or_fits to x y (bytes_of ty) (wide ty); cheap = let z : 0 < bytes_of ty = wide ty in omega arith; straight = bits_straight Iorwf to x y (bytes_of ty) (wide ty) ht hx hy }
 
   xor_ready : Prepares Xor
-  xor_ready before ty to x y ht hx hy = record { long = bytes_of ty * 3; size = sizes.xor_fits to x y (bytes_of ty) (wide ty); cheap = let z : 0 < bytes_of ty = wide ty in omega arith; one = omega arith; straight = bits_straight Xorwf to x y (bytes_of ty) (wide ty) ht hx hy }
+  xor_ready before ty to x y ht hx hy = record { long = bytes_of ty * 3; size = sizes.xor_fits to x y (bytes_of ty) (wide ty); cheap = let z : 0 < bytes_of ty = wide ty in omega arith; straight = bits_straight Xorwf to x y (bytes_of ty) (wide ty) ht hx hy }
 
-  equal_ready : (usual : ℕ) (ty : IntTy) (to x y : Byte) → usual < 2 → In to 2 → In x (bytes_of ty) → In y (bytes_of ty) → Prepared (comparisons.equality_code usual to x y (bytes_of ty)) 1 (10 * bytes_of ty + 20)
+  equal_ready : (usual : ℕ) (ty : IntTy) (to x y : Byte) → usual < 2 → In to 2 → In x (bytes_of ty) → In y (bytes_of ty) → Prepared (comparisons.equality_code usual to x y (bytes_of ty)) (10 * bytes_of ty + 20)
   equal_ready usual ty to x y u ht hx hy = record {
     long = bytes_of ty * 3 + 6;
     size = sizes.equality_fits usual to x y (bytes_of ty);
     cheap = omega arith;
-    one = omega arith;
     straight = (meanings.equality P at usual to x y (bytes_of ty) u (lies to 2 (omega arith) ht) (lies x (bytes_of ty) (wide ty) hx) (lies y (bytes_of ty) (wide ty) hy)).straight;
   }
 
-  order_ready : (usual : ℕ) (ty : IntTy) (to x y : Byte) → usual < 2 → In to 2 → In x (bytes_of ty) → In y (bytes_of ty) → Prepared (comparisons.order_code (is_signed ty) usual to x y (bytes_of ty)) 1 (10 * bytes_of ty + 30)
-  order_ready usual ty to x y u ht hx hy = record { long = bytes_of ty * 6 + 10; size = sizes.order_fits (is_signed ty) usual to x y (bytes_of ty); cheap = omega arith; one = omega arith; straight = order_at ty usual to x y u ht hx hy }
+  order_ready : (usual : ℕ) (ty : IntTy) (to x y : Byte) → usual < 2 → In to 2 → In x (bytes_of ty) → In y (bytes_of ty) → Prepared (comparisons.order_code (is_signed ty) usual to x y (bytes_of ty)) (10 * bytes_of ty + 30)
+  order_ready usual ty to x y u ht hx hy = record { long = bytes_of ty * 6 + 10; size = sizes.order_fits (is_signed ty) usual to x y (bytes_of ty); cheap = omega arith; straight = order_at ty usual to x y u ht hx hy }
 
   -- ---- what is asked
   abbrev pub Goes : BinOp → List Tree → IntTy → Byte → Byte → Byte → ℕ → Value → Type 0
-  Goes op before ty to x y n v = Arrives s wc.inside (is_live f pr (below st)) f ps n r m (n + length (Code op before ty to x y)) (with_bytes cm to (values.byte_count v) (byte_of v)) (least_binary op) (binary_cost op (number_left before y) (bytes_of ty))
+  Goes op before ty to x y n v = Arrives s wc.inside (is_live f pr (below st)) f ps n r m (n + length (Code op before ty to x y)) (with_bytes cm to (values.byte_count v) (byte_of v)) (binary_cost op (number_left before y) (bytes_of ty))
 
   -- the value that is computed shows what byte code holds
   abbrev pub Given : BinOp → List Tree → IntTy → Byte → Byte → Byte → ℕ → Quantity → Value → Type 0
@@ -197,7 +194,7 @@ module _ (s : Site) (t : Machine) (wc : World Held) (f : ℕ) (pr : Option ℕ) 
   in_is : (b : Byte) (n : ℕ) → is_own s.q f b n ≡ true → In b n
   in_is b n o = unaries.in_is s t wc f pr st loops ps cm m fit r fits b n o
 
-  by_code : (op : BinOp) (before : List Tree) (ty : IntTy) (to x y : Byte) (n : ℕ) (q : Quantity) (v : Value) → (In to (bytes_of (type_of op ty)) → In x (bytes_of ty) → In y (bytes_of (right_type op ty)) → Prepared (Code op before ty to x y) (least_binary op) (binary_cost op (number_left before y) (bytes_of ty))) → Given op before ty to x y n q v
+  by_code : (op : BinOp) (before : List Tree) (ty : IntTy) (to x y : Byte) (n : ℕ) (q : Quantity) (v : Value) → (In to (bytes_of (type_of op ty)) → In x (bytes_of ty) → In y (bytes_of (right_type op ty)) → Prepared (Code op before ty to x y) (binary_cost op (number_left before y) (bytes_of ty))) → Given op before ty to x y n q v
   by_code op before ty to x y n q v ready h help fit2 ox oy oto same count e shows =
       let o2 : is_own s.q f to (bytes_of q.ty) ≡ true = subst (λ k. is_own s.q f to k ≡ true) same oto in
       let hx = in_is x (bytes_of ty) ox in
@@ -206,9 +203,9 @@ module _ (s : Site) (t : Machine) (wc : World Held) (f : ℕ) (pr : Option ℕ) 
       let te : q.ty ≡ type_of op ty = type_is op (cut_to ty (pos (num x (bytes_of ty)))) (cut_to (right_type op ty) (pos (num y (bytes_of (right_type op ty))))) q e in
       let p = ready (subst (λ (z : IntTy). In to (bytes_of z)) te ht) hx hy in
       let list : List Sym = Code op before ty to x y in
-      subst (λ k. Arrives s wc.inside (is_live f pr (below st)) f ps n r m (n + length (Code op before ty to x y)) (with_bytes cm to k (byte_of v)) (least_binary op) (binary_cost op (number_left before y) (bytes_of ty))) (sym same)
-      (turns.turned s t wc f pr st loops ps cm m fit r fits n (least_binary op) (binary_cost op (number_left before y) (bytes_of ty)) list to (bytes_of q.ty) (pattern q.ty q.number) (byte_of v) h p.straight (straight_of P list p.straight p.size.ends)
-      (let a : length list ≤ p.long = p.size.most in let c = p.cheap in omega arith) p.one p.size.some
+      subst (λ k. Arrives s wc.inside (is_live f pr (below st)) f ps n r m (n + length (Code op before ty to x y)) (with_bytes cm to k (byte_of v)) (binary_cost op (number_left before y) (bytes_of ty))) (sym same)
+      (turns.turned s t wc f pr st loops ps cm m fit r fits n (binary_cost op (number_left before y) (bytes_of ty)) list to (bytes_of q.ty) (pattern q.ty q.number) (byte_of v) h p.straight (straight_of P list p.straight p.size.ends)
+      (let a : length list ≤ p.long = p.size.most in let c = p.cheap in omega arith)
       (binary_runs s.g s.price wc.inside f (s.q.frame_bytes f) (Copy f) n (scene s f n ps r m) s.copies (s.q.root f) before op ty to x y q own help fit2 (subst (λ (z : IntTy). In to (bytes_of z)) te ht) hx hy count
       (turns.begins s t wc f pr st loops ps cm m fit r fits n list p.size.some p.straight h) e)
       shows o2)
@@ -231,9 +228,9 @@ module _ (s : Site) (t : Machine) (wc : World Held) (f : ℕ) (pr : Option ℕ) 
     | inr z ↦ subst (λ w. sizes.Short (shift_code way to x w c) (8 * w + 18)) (sym z) (sizes.shift_four way to x c (omega (arith, lt, z)))
   ]
 
-  shift_list : (op : BinOp) (before : List Tree) (ty : IntTy) (to x y : Byte) (n : ℕ) (q : Quantity) (v : Value) (way : Way) (c : ℕ) → Code op before ty to x y ≡ shift_code way to x (bytes_of ty) c → least_binary op ≡ 0 →
+  shift_list : (op : BinOp) (before : List Tree) (ty : IntTy) (to x y : Byte) (n : ℕ) (q : Quantity) (v : Value) (way : Way) (c : ℕ) → Code op before ty to x y ≡ shift_code way to x (bytes_of ty) c →
       binary_cost op (number_left before y) (bytes_of ty) ≡ 8 * bytes_of ty + 20 → nat_lt 1 (bytes_of ty) ≡ true → c / 8 < bytes_of ty → type_of op ty ≡ ty → Given op before ty to x y n q v
-  shift_list op before ty to x y n q v way c is least most two lt keeps h help fit2 ox oy oto same count e shows = by (Code op before ty to x y) refl
+  shift_list op before ty to x y n q v way c is most two lt keeps h help fit2 ox oy oto same count e shows = by (Code op before ty to x y) refl
     where
       list : List Sym
       list = Code op before ty to x y
@@ -263,16 +260,16 @@ module _ (s : Site) (t : Machine) (wc : World Held) (f : ℕ) (pr : Option ℕ) 
       size = subst (λ (z : List Sym). sizes.Short z (8 * bytes_of ty + 18)) (sym is) (shift_size way to x ty c two lt)
 
       by : (z : List Sym) → Code op before ty to x y ≡ z → Goes op before ty to x y n v
-      by [] z = subst (λ k. Arrives s wc.inside (is_live f pr (below st)) f ps n r m (n + length (Code op before ty to x y)) (with_bytes cm to k (byte_of v)) (least_binary op) (binary_cost op (number_left before y) (bytes_of ty))) (sym same)
-          (turns.unmoved s t wc f pr st loops ps cm m fit r fits n (least_binary op) (binary_cost op (number_left before y) (bytes_of ty)) (Code op before ty to x y) to (bytes_of q.ty) (pattern q.ty q.number) (byte_of v) z least
+      by [] z = subst (λ k. Arrives s wc.inside (is_live f pr (below st)) f ps n r m (n + length (Code op before ty to x y)) (with_bytes cm to k (byte_of v)) (binary_cost op (number_left before y) (bytes_of ty))) (sym same)
+          (turns.unmoved s t wc f pr st loops ps cm m fit r fits n (binary_cost op (number_left before y) (bytes_of ty)) (Code op before ty to x y) to (bytes_of q.ty) (pattern q.ty q.number) (byte_of v) z
           (binary_runs (turns.bare s t wc f pr st loops ps cm m fit r fits) s.price wc.inside f (s.q.frame_bytes f) (Copy f) 0 (turns.bare_scene s t wc f pr st loops ps cm m fit r fits) s.copies (s.q.root f) before op ty to x y q
           (turns.bare_own s t wc f pr st loops ps cm m fit r fits) help fit2 ht hx hy count (turns.bare_begins s t wc f pr st loops ps cm m fit r fits (Code op before ty to x y) z) e)
           shows o2)
       by (a ∷ rest) z =
           let some : 0 < length (Code op before ty to x y) = (let g = ap length z in omega (arith, g)) in
-          subst (λ k. Arrives s wc.inside (is_live f pr (below st)) f ps n r m (n + length (Code op before ty to x y)) (with_bytes cm to k (byte_of v)) (least_binary op) (binary_cost op (number_left before y) (bytes_of ty))) (sym same)
-          (turns.turned s t wc f pr st loops ps cm m fit r fits n (least_binary op) (binary_cost op (number_left before y) (bytes_of ty)) (Code op before ty to x y) to (bytes_of q.ty) (pattern q.ty q.number) (byte_of v) h all (straight_of P (Code op before ty to x y) all (let d : sizes.Short (Code op before ty to x y) (8 * bytes_of ty + 18) = size in d.ends))
-          (let d : sizes.Short (Code op before ty to x y) (8 * bytes_of ty + 18) = size in let l : length (Code op before ty to x y) ≤ 8 * bytes_of ty + 18 = d.most in omega (arith, most, l)) (omega (arith, least)) some
+          subst (λ k. Arrives s wc.inside (is_live f pr (below st)) f ps n r m (n + length (Code op before ty to x y)) (with_bytes cm to k (byte_of v)) (binary_cost op (number_left before y) (bytes_of ty))) (sym same)
+          (turns.turned s t wc f pr st loops ps cm m fit r fits n (binary_cost op (number_left before y) (bytes_of ty)) (Code op before ty to x y) to (bytes_of q.ty) (pattern q.ty q.number) (byte_of v) h all (straight_of P (Code op before ty to x y) all (let d : sizes.Short (Code op before ty to x y) (8 * bytes_of ty + 18) = size in d.ends))
+          (let d : sizes.Short (Code op before ty to x y) (8 * bytes_of ty + 18) = size in let l : length (Code op before ty to x y) ≤ 8 * bytes_of ty + 18 = d.most in omega (arith, most, l))
           (binary_runs s.g s.price wc.inside f (s.q.frame_bytes f) (Copy f) n (scene s f n ps r m) s.copies (s.q.root f) before op ty to x y q own help fit2 ht hx hy count
           (turns.begins s t wc f pr st loops ps cm m fit r fits n (Code op before ty to x y) some all h) e)
           shows o2)
@@ -304,7 +301,7 @@ module _ (s : Site) (t : Machine) (wc : World Held) (f : ℕ) (pr : Option ℕ) 
       by (Some c) z =
           let known : m (number_at (layout s) y) ≡ c = subst (λ o. IsCount o (m (number_at (layout s) y))) z count in
           let fs : (nat_lt 1 (bytes_of ty) && bytes.is_same_or_misses (bytes_of ty) to x) ≡ true = subst (λ o. fits_bytes Shl (bytes_of ty) o to x y ≡ true) z fit2 in
-          shift_list Shl before ty to x y n q v Left c (ap (λ o. shifted_code o s.copies (s.q.root f) Shl ty to x y) z) refl (ap (λ o. binary_cost Shl o (bytes_of ty)) z ∙ refl) (and_left _ _ fs)
+          shift_list Shl before ty to x y n q v Left c (ap (λ o. shifted_code o s.copies (s.q.root f) Shl ty to x y) z) (ap (λ o. binary_cost Shl o (bytes_of ty)) z ∙ refl) (and_left _ _ fs)
           (counts ty y c hy known (not_bad (outcomes.shifts_badly ty (cut UChar (pos (num y 1)))) _ q e)) refl h help fit2 ox oy oto same count e shows
 
   shr_each : (before : List Tree) (ty : IntTy) (to x y : Byte) (n : ℕ) (q : Quantity) (v : Value) → Given Shr before ty to x y n q v
@@ -319,7 +316,7 @@ module _ (s : Site) (t : Machine) (wc : World Held) (f : ℕ) (pr : Option ℕ) 
       by (Some c) z =
           let known : m (number_at (layout s) y) ≡ c = subst (λ o. IsCount o (m (number_at (layout s) y))) z count in
           let fs : (nat_lt 1 (bytes_of ty) && bytes.is_same_or_misses (bytes_of ty) to x) ≡ true = subst (λ o. fits_bytes Shr (bytes_of ty) o to x y ≡ true) z fit2 in
-          shift_list Shr before ty to x y n q v (way_of Shr (is_signed ty)) c (ap (λ o. shifted_code o s.copies (s.q.root f) Shr ty to x y) z) refl (ap (λ o. binary_cost Shr o (bytes_of ty)) z ∙ refl) (and_left _ _ fs)
+          shift_list Shr before ty to x y n q v (way_of Shr (is_signed ty)) c (ap (λ o. shifted_code o s.copies (s.q.root f) Shr ty to x y) z) (ap (λ o. binary_cost Shr o (bytes_of ty)) z ∙ refl) (and_left _ _ fs)
           (counts ty y c hy known (not_bad (outcomes.shifts_badly ty (cut UChar (pos (num y 1)))) _ q e)) refl h help fit2 ox oy oto same count e shows
 
   -- each operator that calls no routine

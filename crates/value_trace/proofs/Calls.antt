@@ -17,7 +17,7 @@ use Rattle.pic_world.specs.World.{World}
 use Rattle.pic_world.specs.declared.Root.{Root}
 use Rattle.core_code.specs.Bytes as bytes
 use Rattle.core_code.specs.Bytes.{Held, behind, with_bytes, without_results}
-use Rattle.core_code.specs.Cost.{helper_cost, least_binary, binary_cost}
+use Rattle.core_code.specs.Cost.{helper_cost, binary_cost}
 use Rattle.core_code.specs.Machine.{Waiting, is_own, extent, fits_call, after_helper}
 use Rattle.core_code.specs.Operands.{number_left, is_helped, is_frames, fits_together, fits_helper}
 use Rattle.core_code.specs.Tree.{Tree}
@@ -77,7 +77,6 @@ record Uses (op : BinOp) (ty : IntTy) (count : Option ℕ) (to : Byte) : Type 0 
   kept : type_of op ty ≡ ty
   code : (list : List FnCopy) (root : Root) (before : List Tree) (x y : Byte) → number_left before y ≡ count → binary_code list root before op ty to x y ≡ helped_code list root op ty to x y (bytes_of ty) (bytes_of (right_type op ty))
   cost : 12 * bytes_of ty + 6 * bytes_of (right_type op ty) + 3 + helper_cost ≤ binary_cost op count (bytes_of ty)
-  least : least_binary op ≤ 1
   numbers : (e : Extent) (a b v : Value) → binary_value e op ty a b ≡ Some v → (p : Quantity) × (q : Quantity) × (z : Quantity) × (a ≡ Number p) × (b ≡ Number q) × (outcome op p q ≡ Some z) × (Number z ≡ v)
   same : (a : Quantity) (n : ℕ) → n < 256 ^ bytes_of (right_type op ty) → outcome op a (cut_to (right_type op ty) (pos n)) ≡ outcome op a (right_operand op ty n)
 
@@ -118,7 +117,6 @@ uses_mul ty count to fit =
       kept = refl;
       code = λ list root before x y e. refl;
       cost = dear_full ty;
-      least = omega arith;
       numbers = numbers;
       same = λ a n lt. refl;
     }
@@ -142,7 +140,6 @@ uses_div ty count to fit =
       kept = refl;
       code = λ list root before x y e. refl;
       cost = dear_full ty;
-      least = omega arith;
       numbers = numbers;
       same = λ a n lt. refl;
     }
@@ -166,7 +163,6 @@ uses_rem ty count to fit =
       kept = refl;
       code = λ list root before x y e. refl;
       cost = dear_full ty;
-      least = omega arith;
       numbers = numbers;
       same = λ a n lt. refl;
     }
@@ -190,7 +186,6 @@ uses_shl ty to fit =
       kept = refl;
       code = λ list root before x y e. ap (λ (o : Option ℕ). shifted_code o list root Shl ty to x y) e;
       cost = dear_shift ty;
-      least = omega arith;
       numbers = numbers;
       same = λ a n lt. ap (λ (z : ℤ). outcome Shl a (record { ty = ty; number = z })) (byte_cut n lt);
     }
@@ -214,7 +209,6 @@ uses_shr ty to fit =
       kept = refl;
       code = λ list root before x y e. ap (λ (o : Option ℕ). shifted_code o list root Shr ty to x y) e;
       cost = dear_shift ty;
-      least = omega arith;
       numbers = numbers;
       same = λ a n lt. ap (λ (z : ℤ). outcome Shr a (record { ty = ty; number = z })) (byte_cut n lt);
     }
@@ -288,7 +282,7 @@ module _ (s : Site) (t : Machine) (wc : World Held) (f : ℕ) (st : List Waiting
       → Has (block s f) n (binary_code s.copies (s.q.root f) before op ty to x y)
       → is_own s.q f x (bytes_of ty) ≡ true → is_own s.q f y (bytes_of (right_type op ty)) ≡ true
       → value_in ty cm x ≡ Some a → value_in (right_type op ty) cm y ≡ Some b → binary_value (extent s.q f st) op ty a b ≡ Some v → is_own s.q f to (byte_count v) ≡ true
-      → Arrives s wc.inside (is_live f None (below st)) f ps n r m (n + length (binary_code s.copies (s.q.root f) before op ty to x y)) (with_bytes (without_results (s.q.root f) cm) to (byte_count v) (byte_of v)) (least_binary op) (binary_cost op count (bytes_of ty))
+      → Arrives s wc.inside (is_live f None (below st)) f ps n r m (n + length (binary_code s.copies (s.q.root f) before op ty to x y)) (with_bytes (without_results (s.q.root f) cm) to (byte_count v) (byte_of v)) (binary_cost op count (bytes_of ty))
   helped_by before op ty to x y n a b v count known routine helped has ox oy ea eb ev ot =
       let h = routine.helper in
       let root = s.q.root f in
@@ -322,26 +316,12 @@ module _ (s : Site) (t : Machine) (wc : World Held) (f : ℕ) (st : List Waiting
       let ot' : is_own s.q f to w ≡ true = subst (λ i. is_own s.q f to i ≡ true) zw (subst (λ (c : Value). is_own s.q f to (byte_count c) ≡ true) (sym num.6) ot) in
       let cost : 12 * w + 6 * k + 3 + helper_cost ≤ binary_cost op count (bytes_of ty) =
       subst (λ i. 12 * i + 6 * k + 3 + helper_cost ≤ binary_cost op count (bytes_of ty)) (sym routine.left) (subst (λ i. 12 * bytes_of ty + 6 * i + 3 + helper_cost ≤ binary_cost op count (bytes_of ty)) (sym routine.right) routine.cost) in
-      let went : Arrives s wc.inside (is_live f None (below st)) f ps n r m (n + length (parts_code d root to x y w k)) (with_bytes (without_results root cm) to w (byte_of (Number z))) 1 (binary_cost op count (bytes_of ty)) =
+      let went : Arrives s wc.inside (is_live f None (below st)) f ps n r m (n + length (parts_code d root to x y w k)) (with_bytes (without_results root cm) to w (byte_of (Number z))) (binary_cost op count (bytes_of ty)) =
       helped_goes s t wc f st loops ps cm m fit r fits op ty h d found.2 routine.is to x y n (subst (Has (block s f) n) is has)
       (subst (λ i. is_own s.q f x i ≡ true) (sym routine.left) ox) (subst (λ i. is_own s.q f y i ≡ true) (sym routine.right) oy) ot' routine.frames z out' (binary_cost op count (bytes_of ty)) cost in
-      let went' : Arrives s wc.inside (is_live f None (below st)) f ps n r m (n + length code) (with_bytes (without_results root cm) to (byte_count v) (byte_of v)) 1 (binary_cost op count (bytes_of ty)) =
-      subst (λ (c : Value). Arrives s wc.inside (is_live f None (below st)) f ps n r m (n + length code) (with_bytes (without_results root cm) to (byte_count c) (byte_of c)) 1 (binary_cost op count (bytes_of ty))) num.6
-      (subst (λ i. Arrives s wc.inside (is_live f None (below st)) f ps n r m (n + length code) (with_bytes (without_results root cm) to i (byte_of (Number z))) 1 (binary_cost op count (bytes_of ty))) (sym zw)
-      (subst (λ (c : List Sym). Arrives s wc.inside (is_live f None (below st)) f ps n r m (n + length c) (with_bytes (without_results root cm) to w (byte_of (Number z))) 1 (binary_cost op count (bytes_of ty))) (sym is) went)) in
-      let some = went'.some in
-      let least = routine.least in
-      record {
-        steps = went'.steps;
-        registers = went'.registers;
-        memory = went'.memory;
-        run = went'.run;
-        fits = went'.fits;
-        bytes = went'.bytes;
-        agree = went'.agree;
-        some = omega (arith, some, least);
-        cost = went'.cost;
-      }
+      subst (λ (c : Value). Arrives s wc.inside (is_live f None (below st)) f ps n r m (n + length code) (with_bytes (without_results root cm) to (byte_count c) (byte_of c)) (binary_cost op count (bytes_of ty))) num.6
+      (subst (λ i. Arrives s wc.inside (is_live f None (below st)) f ps n r m (n + length code) (with_bytes (without_results root cm) to i (byte_of (Number z))) (binary_cost op count (bytes_of ty))) (sym zw)
+      (subst (λ (c : List Sym). Arrives s wc.inside (is_live f None (below st)) f ps n r m (n + length c) (with_bytes (without_results root cm) to w (byte_of (Number z))) (binary_cost op count (bytes_of ty))) (sym is) went))
 
 -- as selection asks
 pub helped_binary : (s : Site) (t : Machine) (wc : World Held) (f : ℕ) (pr : Option ℕ) (st : List Waiting) (loops : List ℕ) (ps : List Position) (cm : bytes.Memory) (m : Memory) → Fit s t wc f pr st loops ps cm m → (r : Registers) → Fits r
@@ -349,9 +329,9 @@ pub helped_binary : (s : Site) (t : Machine) (wc : World Held) (f : ℕ) (pr : O
     → fits_together op ty (number_left before y) to x y ≡ true → is_own s.q f x (bytes_of ty) ≡ true → is_own s.q f y (bytes_of (right_type op ty)) ≡ true → fits_call pr (is_helped op (number_left before y)) ≡ true
     → s.q.helped f op ty ≡ true
     → value_in ty cm x ≡ Some a → value_in (right_type op ty) cm y ≡ Some b → binary_value (extent s.q f st) op ty a b ≡ Some v → is_own s.q f to (byte_count v) ≡ true
-    → Arrives s wc.inside (is_live f pr (below st)) f ps n r m (n + length (binary_code s.copies (s.q.root f) before op ty to x y)) (with_bytes (after_helper s.q f (is_helped op (number_left before y)) cm) to (byte_count v) (byte_of v)) (least_binary op) (binary_cost op (number_left before y) (bytes_of ty))
+    → Arrives s wc.inside (is_live f pr (below st)) f ps n r m (n + length (binary_code s.copies (s.q.root f) before op ty to x y)) (with_bytes (after_helper s.q f (is_helped op (number_left before y)) cm) to (byte_count v) (byte_of v)) (binary_cost op (number_left before y) (bytes_of ty))
 helped_binary s t wc f None st loops ps cm m fit r fits before op ty to x y n a b v h has ft ox oy fc helped ea eb ev ot =
-    subst (λ c. Arrives s wc.inside (is_live f None (below st)) f ps n r m (n + length (binary_code s.copies (s.q.root f) before op ty to x y)) (with_bytes (after_helper s.q f c cm) to (byte_count v) (byte_of v)) (least_binary op) (binary_cost op (number_left before y) (bytes_of ty))) (sym h)
+    subst (λ c. Arrives s wc.inside (is_live f None (below st)) f ps n r m (n + length (binary_code s.copies (s.q.root f) before op ty to x y)) (with_bytes (after_helper s.q f c cm) to (byte_count v) (byte_of v)) (binary_cost op (number_left before y) (bytes_of ty))) (sym h)
     (helped_by s t wc f st loops ps cm m fit r fits before op ty to x y n a b v (number_left before y) refl (uses op ty (number_left before y) to x y h ft) helped has ox oy ea eb ev ot)
 helped_binary s t wc f (Some o) st loops ps cm m fit r fits before op ty to x y n a b v h has ft ox oy fc helped ea eb ev ot = absurd (no (is_helped op (number_left before y)) h fc)
   where

@@ -32,30 +32,26 @@ use Rattle.value_trace.proofs.Setup.{slot_is, has_drop, behind_lands}
 use Rattle.value_trace.proofs.Sizes.{straight_of, Short, copies_short}
 
 -- The thread comes from n to n' without an event, with these bytes of memory, at most at this cost.
-pub record Came (s : Site) (i : Bool) (f : ℕ) (ps : List Position) (n : ℕ) (r : Registers) (m : Memory) (n' : ℕ) (m' : Memory) (lo hi : ℕ) : Type 0 where
+pub record Came (s : Site) (i : Bool) (f : ℕ) (ps : List Position) (n : ℕ) (r : Registers) (m : Memory) (n' : ℕ) (m' : Memory) (hi : ℕ) : Type 0 where
   pub count : ℕ
   pub registers : Registers
   pub run : quiet_run s.g i count (scene s f n ps r m) ≡ Some (scene s f n' ps registers m')
   pub fits : Fits registers
   pub bytes : (k : ℕ) → m' k < 256
-  pub some : lo ≤ count
   pub cost : quiet_cost s.g s.price i count (scene s f n ps r m) ≤ hi
 
-pub came_then : (s : Site) (i : Bool) (f : ℕ) (ps : List Position) (n : ℕ) (r : Registers) (m : Memory) (n1 : ℕ) (m1 : Memory) (n2 : ℕ) (m2 : Memory) (lo hi lo' hi' : ℕ)
-    → (a : Came s i f ps n r m n1 m1 lo hi) → Came s i f ps n1 a.registers m1 n2 m2 lo' hi' → Came s i f ps n r m n2 m2 (lo + lo') (hi + hi')
-came_then s i f ps n r m n1 m1 n2 m2 lo hi lo' hi' a b =
+pub came_then : (s : Site) (i : Bool) (f : ℕ) (ps : List Position) (n : ℕ) (r : Registers) (m : Memory) (n1 : ℕ) (m1 : Memory) (n2 : ℕ) (m2 : Memory) (hi hi' : ℕ)
+    → (a : Came s i f ps n r m n1 m1 hi) → Came s i f ps n1 a.registers m1 n2 m2 hi' → Came s i f ps n r m n2 m2 (hi + hi')
+came_then s i f ps n r m n1 m1 n2 m2 hi hi' a b =
     let e = costs_then s.g s.price i a.count b.count (scene s f n ps r m) (scene s f n1 ps a.registers m1) a.run in
     let x = a.cost in
     let y = b.cost in
-    let z = a.some in
-    let v = b.some in
     record {
       count = a.count + b.count;
       registers = b.registers;
       run = runs_then s.g i a.count b.count (scene s f n ps r m) (scene s f n1 ps a.registers m1) a.run ∙ b.run;
       fits = b.fits;
       bytes = b.bytes;
-      some = omega (arith, z, v);
       cost = omega (arith, e, x, y);
     }
 
@@ -66,7 +62,7 @@ ended s f n ps end e1 e2 e3 =
     ∙ ap (λ (o : List Position). Some (record { thread = record end.thread { rest = None; at = Some (place s f n); stack = o }; memory = end.memory })) e3
 
 pub came_passes : (s : Site) (i : Bool) (f n : ℕ) (ps : List Position) (r : Registers) (m : Memory) (code : List Sym) (hi : ℕ) → (p : Passes s.g s.price i (Copy f) n code (scene s f n ps r m)) → sum_from (s.price (Copy f)) n code ≤ hi
-    → Came s i f ps n r m (n + length code) p.end.memory 0 hi
+    → Came s i f ps n r m (n + length code) p.end.memory hi
 came_passes s i f n ps r m code hi p le =
     let c = p.cost in
     record {
@@ -75,7 +71,6 @@ came_passes s i f n ps r m code hi p le =
       run = p.run ∙ ended s f (n + length code) ps p.end p.rest p.at p.stack;
       fits = p.fits;
       bytes = p.bytes;
-      some = omega arith;
       cost = omega (arith, c, le);
     }
 
@@ -93,7 +88,7 @@ sum_three s f n list u h straight =
 -- ---- copies
 pub record Moved (s : Site) (i : Bool) (f : ℕ) (ps : List Position) (n : ℕ) (r : Registers) (m : Memory) (to from : Byte) (w : ℕ) : Type 0 where
   pub memory : Memory
-  pub came : Came s i f ps n r m (n + length (copies_code to from w)) memory 0 (3 * (w * 2))
+  pub came : Came s i f ps n r m (n + length (copies_code to from w)) memory (3 * (w * 2))
   pub bytes_at : (k : ℕ) → k < w → memory (number_at (layout s) (byte_behind to k)) ≡ m (number_at (layout s) (byte_behind from k))
   pub others : (j : ℕ) → ((k : ℕ) → k < w → j ≢ number_at (layout s) (byte_behind to k)) → memory j ≡ m j
 
@@ -138,7 +133,7 @@ moves copies s i f ps n r m to from w u fits bytes some has among quiet all apar
 -- the same by bytes that have their names
 pub record Copied (s : Site) (i : Bool) (f : ℕ) (ps : List Position) (n : ℕ) (r : Registers) (m : Memory) (list : List Sym) (to from : ℕ → Byte) (w : ℕ) : Type 0 where
   pub memory : Memory
-  pub came : Came s i f ps n r m (n + length list) memory 0 (3 * (w * 2))
+  pub came : Came s i f ps n r m (n + length list) memory (3 * (w * 2))
   pub bytes_at : (k : ℕ) → k < w → memory (slot (layout s) (to k)) ≡ m (slot (layout s) (from k))
   pub others : (j : ℕ) → ((k : ℕ) → k < w → j ≢ slot (layout s) (to k)) → memory j ≡ m j
 

@@ -8,7 +8,7 @@ use Rattle.pic_world.specs.Roots.{same_root}
 use Rattle.pic_world.specs.World.{World}
 use Rattle.core_code.specs.Bytes as bytes
 use Rattle.core_code.specs.Bytes.{Held, with_bytes}
-use Rattle.core_code.specs.Cost.{unary_cost, binary_cost, widening_cost, least_unary, least_binary}
+use Rattle.core_code.specs.Cost.{unary_cost, binary_cost, widening_cost}
 use Rattle.core_code.specs.Machine.{Waiting, is_own, extent, after_helper}
 use Rattle.core_code.specs.Operands.{number_left, is_helped, fits_unary, fits_together}
 use Rattle.core_code.specs.Tree.{Tree}
@@ -61,13 +61,13 @@ module _ (s : Site) where
 
   pub unary_holds : (wc : World Held) (f : ℕ) (pr : Option ℕ) (st : List Waiting) (ps : List Position) (cm : bytes.Memory) (m : Memory) (r : Registers) → Ready s wc f pr st ps cm m r
       → (op : UnOp) (ty : IntTy) (to : Byte) (n : ℕ) (x v : Value) → Has (block s f) n (unary_code op ty to) → fits_unary op ty ≡ true → is_own s.q f to (bytes_of ty) ≡ true → value_in ty cm to ≡ Some x → unary_value op x ≡ Some v → is_own s.q f to (byte_count v) ≡ true
-      → Arrives s wc.inside (is_live f pr (below st)) f ps n r m (n + length (unary_code op ty to)) (with_bytes cm to (byte_count v) (byte_of v)) (least_unary op) (unary_cost op (bytes_of ty))
+      → Arrives s wc.inside (is_live f pr (below st)) f ps n r m (n + length (unary_code op ty to)) (with_bytes cm to (byte_count v) (byte_of v)) (unary_cost op (bytes_of ty))
   unary_holds wc f pr st ps cm m r ready op ty to n x v h fu o e u o2 =
       let any = ready.any in unaries.unary_go s any.0 wc f pr st any.1 ps cm m any.2 r ready.fits op ty to n x v h fu o e u o2
 
   pub widening_holds : (wc : World Held) (f : ℕ) (pr : Option ℕ) (st : List Waiting) (ps : List Position) (cm : bytes.Memory) (m : Memory) (r : Registers) → Ready s wc f pr st ps cm m r
       → (from to : IntTy) (at : Byte) (n : ℕ) (x v : Value) → bytes_of from < bytes_of to → Has (block s f) n (widening_code from to at) → is_own s.q f at (bytes_of from) ≡ true → value_in from cm at ≡ Some x → converted to x ≡ Some v → is_own s.q f at (byte_count v) ≡ true
-      → Arrives s wc.inside (is_live f pr (below st)) f ps n r m (n + length (widening_code from to at)) (with_bytes cm at (byte_count v) (byte_of v)) 1 (widening_cost (bytes_of to - bytes_of from))
+      → Arrives s wc.inside (is_live f pr (below st)) f ps n r m (n + length (widening_code from to at)) (with_bytes cm at (byte_count v) (byte_of v)) (widening_cost (bytes_of to - bytes_of from))
   widening_holds wc f pr st ps cm m r ready from to at n x v lt h o e u o2 =
       let any = ready.any in widenings.widening_go s any.0 wc f pr st any.1 ps cm m any.2 r ready.fits from to at n x v lt h o e u o2
 
@@ -80,9 +80,9 @@ module _ (s : Site) where
       → is_helped op (number_left before y) ≡ false
       → fits_together op ty (number_left before y) to x y ≡ true → is_own s.q f x (bytes_of ty) ≡ true → is_own s.q f y (bytes_of (right_type op ty)) ≡ true
       → value_in ty cm x ≡ Some a → value_in (right_type op ty) cm y ≡ Some b → binary_value (extent s.q f st) op ty a b ≡ Some v → is_own s.q f to (byte_count v) ≡ true
-      → Arrives s wc.inside (is_live f pr (below st)) f ps n r m (n + length (binary_code s.copies (s.q.root f) before op ty to x y)) (with_bytes (after_helper s.q f (is_helped op (number_left before y)) cm) to (byte_count v) (byte_of v)) (least_binary op) (binary_cost op (number_left before y) (bytes_of ty))
+      → Arrives s wc.inside (is_live f pr (below st)) f ps n r m (n + length (binary_code s.copies (s.q.root f) before op ty to x y)) (with_bytes (after_helper s.q f (is_helped op (number_left before y)) cm) to (byte_count v) (byte_of v)) (binary_cost op (number_left before y) (bytes_of ty))
   plain_binary wc f pr st ps cm m r ready before op ty to x y n a b v known h help fit ox oy ea eb e o =
       let any = ready.any in
-      subst (λ (w : Bool). Arrives s wc.inside (is_live f pr (below st)) f ps n r m (n + length (binary_code s.copies (s.q.root f) before op ty to x y)) (with_bytes (after_helper s.q f w cm) to (byte_count v) (byte_of v)) (least_binary op) (binary_cost op (number_left before y) (bytes_of ty))) (sym help)
+      subst (λ (w : Bool). Arrives s wc.inside (is_live f pr (below st)) f ps n r m (n + length (binary_code s.copies (s.q.root f) before op ty to x y)) (with_bytes (after_helper s.q f w cm) to (byte_count v) (byte_of v)) (binary_cost op (number_left before y) (bytes_of ty))) (sym help)
       (two.binary_go s any.0 wc f pr st any.1 ps cm m any.2 r ready.fits before op ty to x y n a b v h help fit ox oy
       (λ c k. known y c (own_fewer s f (bytes_of (right_type op ty)) 1 y (wide (right_type op ty)) oy) k) ea eb e o)

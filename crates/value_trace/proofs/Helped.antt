@@ -141,7 +141,7 @@ module _ (s : Site) (t : Machine) (wc : World Held) (f : ℕ) (st : List Waiting
       → is_own s.q f x (left_bytes h) ≡ true → is_own s.q f y (right_bytes h) ≡ true → is_own s.q f to (left_bytes h) ≡ true → is_frames to ≡ true
       → (q : Quantity) → outcome op (cut_to ty (pos (val (λ k. m (slot (layout s) (behind x k))) (left_bytes h)))) (right_operand op ty (val (λ k. m (slot (layout s) (behind y k))) (right_bytes h))) ≡ Some q
       → (hi : ℕ) → 12 * left_bytes h + 6 * right_bytes h + 3 + helper_cost ≤ hi
-      → Arrives s wc.inside (is_live f None (below st)) f ps n r m (n + length (parts_code d (s.q.root f) to x y (left_bytes h) (right_bytes h))) (with_bytes (without_results (s.q.root f) cm) to (left_bytes h) (byte_of (Number q))) 1 hi
+      → Arrives s wc.inside (is_live f None (below st)) f ps n r m (n + length (parts_code d (s.q.root f) to x y (left_bytes h) (right_bytes h))) (with_bytes (without_results (s.q.root f) cm) to (left_bytes h) (byte_of (Number q))) hi
   helped_goes op ty h d c ih to x y n has ox oy ot frames q out hi le =
       let i = wc.inside in
       let w = left_bytes h in
@@ -221,12 +221,11 @@ module _ (s : Site) (t : Machine) (wc : World Held) (f : ℕ) (st : List Waiting
       ∙ a.others (slot (layout s) z) (λ k lk. clear_of s f d h c u st fit.chain z k vz (omega (arith, lk, wv)))) in
       let n4 = n3 + length cd in
       let z4 : n4 ≡ n + length (ca ++ cb ++ enter_code d ++ cd) = omega (arith, l_ab, l_abc, l_all) in
-      let all : Came s i f ps n r m n4 md (0 + (0 + (1 + 0))) (3 * (w * 2) + (3 * (v * 2) + (3 + helper_cost + 3 * (w * 2)))) =
-      came_then s i f ps n r m n1 ma n4 md 0 (3 * (w * 2)) (0 + (1 + 0)) (3 * (v * 2) + (3 + helper_cost + 3 * (w * 2))) a.came
-      (came_then s i f ps n1 a.came.registers ma n2 mb n4 md 0 (3 * (v * 2)) (1 + 0) (3 + helper_cost + 3 * (w * 2)) b.came
-      (came_then s i f ps n2 b.came.registers mb n3 mc n4 md 1 (3 + helper_cost) 0 (3 * (w * 2)) got.came e.came)) in
+      let all : Came s i f ps n r m n4 md (3 * (w * 2) + (3 * (v * 2) + (3 + helper_cost + 3 * (w * 2)))) =
+      came_then s i f ps n r m n1 ma n4 md (3 * (w * 2)) (3 * (v * 2) + (3 + helper_cost + 3 * (w * 2))) a.came
+      (came_then s i f ps n1 a.came.registers ma n2 mb n4 md (3 * (v * 2)) (3 + helper_cost + 3 * (w * 2)) b.came
+      (came_then s i f ps n2 b.came.registers mb n3 mc n4 md (3 + helper_cost) (3 * (w * 2)) got.came e.came)) in
       let dear = all.cost in
-      let least = all.some in
       record {
         steps = all.count;
         registers = all.registers;
@@ -238,6 +237,5 @@ module _ (s : Site) (t : Machine) (wc : World Held) (f : ℕ) (st : List Waiting
             (λ k lt. own_agrees s f (behind to k) (byte_of (Number q) k) (md (slot (layout s) (behind to k))) (t_own k lt)
             (subst (λ z. Shown s (byte_of (Number q) k) z) (sym (e.bytes_at k lt ∙ subst (λ g. mc (slot (layout s) (Result g k)) ≡ byte_at got.answer k) (sym fit.root) (got.results k lt (omega (arith, lt, w4))))) (shows_number s q got.answer got.value k)))
             (λ z vz no. subst (λ g. Agrees s z (without_results root cm z) g) (sym (e.others (slot (layout s) z) (λ k lt g. true_false (same_byte z (behind to k)) (once (behind to k) z (own_valid s f None (below st) (behind to k) (t_own k lt)) vz (sym g)) (no k lt)))) (kept z vz));
-        some = omega (arith, least);
         cost = omega (arith, dear, le);
       }

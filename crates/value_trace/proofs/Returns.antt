@@ -77,7 +77,7 @@ inside_root false = refl
 pub record Returned (s : Site) (i : Bool) (f : ℕ) (ps : List Position) (n : ℕ) (r : Registers) (m : Memory) (h : Helper) (d : ℕ) (q : Quantity) : Type 0 where
   pub memory : Memory
   pub answer : ℕ
-  pub came : Came s i f ps n r m (n + 1) memory 1 (3 + helper_cost)
+  pub came : Came s i f ps n r m (n + 1) memory (3 + helper_cost)
   pub others : (j : ℕ) → ((o : ℕ) → o < frame_size h → j ≢ slot (layout s) (Frame d o)) → ((k : ℕ) → k < 4 → j ≢ slot (layout s) (Result (root_of i) k)) → memory j ≡ m j
   pub results : (k : ℕ) → k < layouts.bytes_of (width_of h) → k < 4 → memory (slot (layout s) (Result (root_of i) k)) ≡ byte_at answer k
   pub value : answer ≡ pattern q.ty q.number
@@ -166,7 +166,6 @@ module _ (answers : HelpersAnswer) (s : Site) (i : Bool) (f : ℕ) (u : IsUser s
           run = runs_then s.g i 1 a.count (scene s f n ps r m) sc first ∙ a.run ∙ ended s f (n + 1) ps a.end got.1 a.at a.returns;
           fits = a.fits;
           bytes = a.bytes;
-          some = omega arith;
           cost = omega (arith, both, price, one, dear);
         };
         others = λ j no_frame no_result. a.others j

@@ -63,15 +63,14 @@ module _ (s : Site) (t : Machine) (wc : World Held) (f : ℕ) (pr : Option ℕ) 
   }
 
   -- what has come of it
-  pub turned : (n lo hi : ℕ) (list : List Sym) (to : Byte) (count answer : ℕ) (held : ℕ → Held) → Has (block s f) n list → AreStraight (IsOwnOne wc.inside f (s.q.frame_bytes f)) list → is_straight list ≡ true → length list + 2 ≤ hi → lo ≤ 1 → 0 < length list →
+  pub turned : (n hi : ℕ) (list : List Sym) (to : Byte) (count answer : ℕ) (held : ℕ → Held) → Has (block s f) n list → AreStraight (IsOwnOne wc.inside f (s.q.frame_bytes f)) list → is_straight list ≡ true → length list + 2 ≤ hi →
       Computes s.g s.price wc.inside (Copy f) n list to count answer (scene s f n ps r m) → ((k : ℕ) → k < count → Shown s (held k) (byte_at answer k)) → is_own s.q f to count ≡ true →
-      Arrives s wc.inside (is_live f pr (below st)) f ps n r m (n + length list) (with_bytes cm to count held) lo hi
-  turned n lo hi list to count answer held h all straight le one some c shows own_to =
+      Arrives s wc.inside (is_live f pr (below st)) f ps n r m (n + length list) (with_bytes cm to count held) hi
+  turned n hi list to count answer held h all straight le c shows own_to =
       let end : Scene = c.passes.end in
       let a : sum_from (s.price (Copy f)) n list ≤ length list + 2 = cost_of s f user (root_of wc.inside) n list h all straight in
       let q : quiet_cost s.g s.price wc.inside c.passes.count (scene s f n ps r m) ≤ sum_from (s.price (Copy f)) n list = c.passes.cost in
-      let z : 0 < c.passes.count = c.passes.some some in
-      computes_arrive s wc.inside f pr (below st) ps n r m (n + length list) cm to count held lo hi (one_to_one s f pr st fit.passing fit.chain) fit.agree own_to (record {
+      computes_arrive s wc.inside f pr (below st) ps n r m (n + length list) cm to count held hi (one_to_one s f pr st fit.passing fit.chain) fit.agree own_to (record {
         steps = c.passes.count;
         registers = end.thread.registers;
         memory = end.memory;
@@ -80,7 +79,6 @@ module _ (s : Site) (t : Machine) (wc : World Held) (f : ℕ) (pr : Option ℕ) 
         bytes = c.passes.bytes;
         shows = λ k lt. subst (λ v. Shown s (held k) v) (sym (c.bytes k lt) ∙ ap end.memory (sym (slot_is (layout s) (behind to k)))) (shows k lt);
         others = λ j no. c.others j (λ k lt e. no k lt (e ∙ sym (slot_is (layout s) (behind to k))));
-        some = omega arith;
         cost = omega arith;
       })
     where
@@ -113,16 +111,16 @@ module _ (s : Site) (t : Machine) (wc : World Held) (f : ℕ) (pr : Option ℕ) 
     bytes = fit.bytes;
   })
 
-  pub unmoved : (n lo hi : ℕ) (list : List Sym) (to : Byte) (count answer : ℕ) (held : ℕ → Held) → list ≡ [] → lo ≡ 0 → Computes bare s.price wc.inside (Copy f) 0 list to count answer bare_scene → ((k : ℕ) → k < count → Shown s (held k) (byte_at answer k)) → is_own s.q f to count ≡ true →
-      Arrives s wc.inside (is_live f pr (below st)) f ps n r m (n + length list) (with_bytes cm to count held) lo hi
+  pub unmoved : (n hi : ℕ) (list : List Sym) (to : Byte) (count answer : ℕ) (held : ℕ → Held) → list ≡ [] → Computes bare s.price wc.inside (Copy f) 0 list to count answer bare_scene → ((k : ℕ) → k < count → Shown s (held k) (byte_at answer k)) → is_own s.q f to count ≡ true →
+      Arrives s wc.inside (is_live f pr (below st)) f ps n r m (n + length list) (with_bytes cm to count held) hi
   unfolding quiet_run quiet_cost
-  unmoved n lo hi list to count answer held e none c shows own_to =
+  unmoved n hi list to count answer held e c shows own_to =
       let few : c.passes.count ≤ length list = c.passes.few in
       let len : length list ≡ 0 = ap length e in
       let zero_steps : c.passes.count ≡ 0 = omega arith in
       let end : Some bare_scene ≡ Some c.passes.end = ap (λ k. quiet_run bare wc.inside k bare_scene) (sym zero_steps) ∙ c.passes.run in
       let same : (k : ℕ) → k < count → m (number_at (layout s) (behind to k)) ≡ byte_at answer k = λ k lt. ap (λ (x : Scene). x.memory (number_at (layout s) (behind to k))) (inside end) ∙ c.bytes k lt in
-      computes_arrive s wc.inside f pr (below st) ps n r m (n + length list) cm to count held lo hi (one_to_one s f pr st fit.passing fit.chain) fit.agree own_to (record {
+      computes_arrive s wc.inside f pr (below st) ps n r m (n + length list) cm to count held hi (one_to_one s f pr st fit.passing fit.chain) fit.agree own_to (record {
         steps = 0;
         registers = r;
         memory = m;
@@ -131,7 +129,6 @@ module _ (s : Site) (t : Machine) (wc : World Held) (f : ℕ) (pr : Option ℕ) 
         bytes = fit.bytes;
         shows = λ k lt. subst (λ v. Shown s (held k) v) (sym (same k lt) ∙ ap m (sym (slot_is (layout s) (behind to k)))) (shows k lt);
         others = λ j no. refl;
-        some = omega arith;
         cost = omega arith;
       })
     where

@@ -11,7 +11,7 @@ use Rattle.c_ints.specs.declared.types.IntTy.{IntTy}
 use Rattle.pic_world.specs.World.{World}
 use Rattle.core_code.specs.Bytes as bytes
 use Rattle.core_code.specs.Bytes.{Object, Fixed, FrameOf, Place, behind, same_object, with_bytes}
-use Rattle.core_code.specs.Cost.{binary_cost, least_binary}
+use Rattle.core_code.specs.Cost.{binary_cost}
 use Rattle.core_code.specs.Machine.{Waiting, is_own, extent, object_bytes}
 use Rattle.core_code.specs.Operands.{number_left, is_helped, fits_together}
 use Rattle.core_code.specs.Tree.{Tree}
@@ -269,7 +269,7 @@ module _ (s : Site) (t : Machine) (wc : World bytes.Held) (f : ℕ) (pr : Option
   pub binary_go : (before : List Tree) (op : BinOp) (ty : IntTy) (to x y : Byte) (n : ℕ) (a b v : Value) → Has (block s f) n (binary_code s.copies (s.q.root f) before op ty to x y) → is_helped op (number_left before y) ≡ false → fits_together op ty (number_left before y) to x y ≡ true →
       is_own s.q f x (bytes_of ty) ≡ true → is_own s.q f y (bytes_of (right_type op ty)) ≡ true → ((c : ℕ) → number_left before y ≡ Some c → cm y ≡ bytes.Number c) →
       value_in ty cm x ≡ Some a → value_in (right_type op ty) cm y ≡ Some b → binary_value (extent s.q f st) op ty a b ≡ Some v → is_own s.q f to (byte_count v) ≡ true →
-      Arrives s wc.inside (is_live f pr (below st)) f ps n r m (n + length (binary_code s.copies (s.q.root f) before op ty to x y)) (with_bytes cm to (byte_count v) (byte_of v)) (least_binary op) (binary_cost op (number_left before y) (bytes_of ty))
+      Arrives s wc.inside (is_live f pr (below st)) f ps n r m (n + length (binary_code s.copies (s.q.root f) before op ty to x y)) (with_bytes cm to (byte_count v) (byte_of v)) (binary_cost op (number_left before y) (bytes_of ty))
   binary_go before op ty to x y n a b v h help fit2 ox oy known ea eb e oto =
       let z : Answered s op ty (num x (bytes_of ty)) (num y (bytes_of (right_type op ty))) v = answered op ty x y a b v ox oy (kind ty cm x a ea) (kind (right_type op ty) cm y b eb) e in
       binaries.each s t wc f pr st loops ps cm m fit r fits op before ty to x y n z.value v h help fit2 ox oy oto z.count (known_count (number_left before y) y (one_own op ty y oy) known) z.is z.shows

@@ -13,7 +13,7 @@ use Rattle.c_ints.specs.declared.types.IntTy.TheVariants.{Char, SChar, UChar, Sh
 use Rattle.pic_world.specs.World.{World}
 use Rattle.core_code.specs.Bytes as bytes
 use Rattle.core_code.specs.Bytes.{Held, behind, with_bytes}
-use Rattle.core_code.specs.Cost.{unary_cost, least_unary}
+use Rattle.core_code.specs.Cost.{unary_cost}
 use Rattle.core_code.specs.Machine.{Waiting, is_own}
 use Rattle.core_code.specs.Operands.{fits_unary}
 use Rattle.core_code.specs.Values.{Value, Number, byte_count, byte_of, value_in, number_in, unary_value, unary_pointer}
@@ -140,7 +140,7 @@ module _ (s : Site) (t : Machine) (wc : World Held) (f : ℕ) (pr : Option ℕ) 
   unary_straight Bang ty to h k = (meanings.bang P at to (bytes_of ty) (lies to (bytes_of ty) (wide ty) h) (lies to 2 (omega arith) k)).straight
 
   abbrev Unary : UnOp → IntTy → Byte → ℕ → Quantity → Type 0
-  Unary op ty to n q = Arrives s wc.inside (is_live f pr (below st)) f ps n r m (n + length (unary_code op ty to)) (with_bytes cm to (bytes_of q.ty) (byte_of (Number q))) (least_unary op) (unary_cost op (bytes_of ty))
+  Unary op ty to n q = Arrives s wc.inside (is_live f pr (below st)) f ps n r m (n + length (unary_code op ty to)) (with_bytes cm to (bytes_of q.ty) (byte_of (Number q))) (unary_cost op (bytes_of ty))
 
   abbrev answer : UnOp → IntTy → Byte → ℕ
   answer op ty to = pattern (unary_type op ty) (cut (unary_type op ty) (exact_unary op (cut ty (pos (num to (bytes_of ty))))))
@@ -155,50 +155,50 @@ module _ (s : Site) (t : Machine) (wc : World Held) (f : ℕ) (pr : Option ℕ) 
       ends : (op : UnOp) (k : ℕ) → sizes.Fits (unary_code op ty to) k → AreStraight P (unary_code op ty to) → is_straight (unary_code op ty to) ≡ true
       ends op k z all = straight_of P (unary_code op ty to) all z.ends
 
-      some : (op : UnOp) (k : ℕ) → sizes.Fits (unary_code op ty to) k → k + 2 ≤ unary_cost op (bytes_of ty) → least_unary op ≤ 1 → Has (block s f) n (unary_code op ty to) → fits_unary op ty ≡ true → In to (bytes_of ty) → In to (bytes_of (unary_type op ty)) →
+      some : (op : UnOp) (k : ℕ) → sizes.Fits (unary_code op ty to) k → k + 2 ≤ unary_cost op (bytes_of ty) → Has (block s f) n (unary_code op ty to) → fits_unary op ty ≡ true → In to (bytes_of ty) → In to (bytes_of (unary_type op ty)) →
           is_own s.q f to (bytes_of (unary_type op ty)) ≡ true → q.ty ≡ unary_type op ty → answer op ty to ≡ pattern q.ty q.number → Unary op ty to n q
-      some op k z le one h fu i j o2 e a =
+      some op k z le h fu i j o2 e a =
           let all = unary_straight op ty to i j in
-          subst (λ (w : IntTy). Arrives s wc.inside (is_live f pr (below st)) f ps n r m (n + length (unary_code op ty to)) (with_bytes cm to (bytes_of w) (byte_of (Number q))) (least_unary op) (unary_cost op (bytes_of ty))) (sym e)
-          (turns.turned s t wc f pr st loops ps cm m fit r fits n (least_unary op) (unary_cost op (bytes_of ty)) (unary_code op ty to) to (bytes_of (unary_type op ty)) (answer op ty to) (byte_of (Number q)) h all (ends op k z all)
-          (let x : length (unary_code op ty to) ≤ k = z.most in omega arith) one z.some
+          subst (λ (w : IntTy). Arrives s wc.inside (is_live f pr (below st)) f ps n r m (n + length (unary_code op ty to)) (with_bytes cm to (bytes_of w) (byte_of (Number q))) (unary_cost op (bytes_of ty))) (sym e)
+          (turns.turned s t wc f pr st loops ps cm m fit r fits n (unary_cost op (bytes_of ty)) (unary_code op ty to) to (bytes_of (unary_type op ty)) (answer op ty to) (byte_of (Number q)) h all (ends op k z all)
+          (let x : length (unary_code op ty to) ≤ k = z.most in omega arith)
           (unary_runs s.g s.price wc.inside f (s.q.frame_bytes f) (Copy f) n (scene s f n ps r m) op ty to own fu i j (turns.begins s t wc f pr st loops ps cm m fit r fits n (unary_code op ty to) z.some all h))
           (λ k lt. shows op a k) o2)
 
       by : (op : UnOp) → Has (block s f) n (unary_code op ty to) → fits_unary op ty ≡ true → In to (bytes_of ty) → In to (bytes_of (unary_type op ty)) → is_own s.q f to (bytes_of (unary_type op ty)) ≡ true → q.ty ≡ unary_type op ty → answer op ty to ≡ pattern q.ty q.number → Unary op ty to n q
       by Plus h fu i j o2 e a =
-          subst (λ (w : IntTy). Arrives s wc.inside (is_live f pr (below st)) f ps n r m (n + 0) (with_bytes cm to (bytes_of w) (byte_of (Number q))) 0 0) (sym e)
-          (turns.unmoved s t wc f pr st loops ps cm m fit r fits n 0 0 [] to (bytes_of (unary_type Plus ty)) (answer Plus ty to) (byte_of (Number q)) refl refl
+          subst (λ (w : IntTy). Arrives s wc.inside (is_live f pr (below st)) f ps n r m (n + 0) (with_bytes cm to (bytes_of w) (byte_of (Number q))) 0) (sym e)
+          (turns.unmoved s t wc f pr st loops ps cm m fit r fits n 0 [] to (bytes_of (unary_type Plus ty)) (answer Plus ty to) (byte_of (Number q)) refl
           (unary_runs (turns.bare s t wc f pr st loops ps cm m fit r fits) s.price wc.inside f (s.q.frame_bytes f) (Copy f) 0 (turns.bare_scene s t wc f pr st loops ps cm m fit r fits) Plus ty to (turns.bare_own s t wc f pr st loops ps cm m fit r fits) fu i j (turns.bare_begins s t wc f pr st loops ps cm m fit r fits [] refl))
           (λ k lt. shows Plus a k) o2)
-      by Minus h fu i j o2 e a = some Minus (bytes_of ty * 1 + bytes_of ty * 2) (sizes.minus_fits to (bytes_of ty) (wide ty)) (let z : 0 < bytes_of ty = wide ty in omega arith) (omega arith) h fu i j o2 e a
-      by Not h fu i j o2 e a = some Not (bytes_of ty * 1) (sizes.complement_fits to (bytes_of ty) (wide ty)) (let z : 0 < bytes_of ty = wide ty in omega arith) (omega arith) h fu i j o2 e a
-      by Bang h fu i j o2 e a = some Bang (bytes_of ty + 7) (sizes.bang_fits to (bytes_of ty)) (omega arith) (omega arith) h fu i j o2 e a
+      by Minus h fu i j o2 e a = some Minus (bytes_of ty * 1 + bytes_of ty * 2) (sizes.minus_fits to (bytes_of ty) (wide ty)) (let z : 0 < bytes_of ty = wide ty in omega arith) h fu i j o2 e a
+      by Not h fu i j o2 e a = some Not (bytes_of ty * 1) (sizes.complement_fits to (bytes_of ty) (wide ty)) (let z : 0 < bytes_of ty = wide ty in omega arith) h fu i j o2 e a
+      by Bang h fu i j o2 e a = some Bang (bytes_of ty + 7) (sizes.bang_fits to (bytes_of ty)) (omega arith) h fu i j o2 e a
 
   pub unary_go : (op : UnOp) (ty : IntTy) (to : Byte) (n : ℕ) (x v : Value) → Has (block s f) n (unary_code op ty to) → fits_unary op ty ≡ true → is_own s.q f to (bytes_of ty) ≡ true → value_in ty cm to ≡ Some x → unary_value op x ≡ Some v → is_own s.q f to (byte_count v) ≡ true
-      → Arrives s wc.inside (is_live f pr (below st)) f ps n r m (n + length (unary_code op ty to)) (with_bytes cm to (byte_count v) (byte_of v)) (least_unary op) (unary_cost op (bytes_of ty))
+      → Arrives s wc.inside (is_live f pr (below st)) f ps n r m (n + length (unary_code op ty to)) (with_bytes cm to (byte_count v) (byte_of v)) (unary_cost op (bytes_of ty))
   unfolding unary_value
   unary_go op ty to n x v h fu o e u o2 = by (kind ty cm to x e)
     where
-      by : Kind ty cm to x → Arrives s wc.inside (is_live f pr (below st)) f ps n r m (n + length (unary_code op ty to)) (with_bytes cm to (byte_count v) (byte_of v)) (least_unary op) (unary_cost op (bytes_of ty))
+      by : Kind ty cm to x → Arrives s wc.inside (is_live f pr (below st)) f ps n r m (n + length (unary_code op ty to)) (with_bytes cm to (byte_count v) (byte_of v)) (unary_cost op (bytes_of ty))
       by (Counts k c is) =
           let e1 : Number (cut_to (unary_type op ty) (exact_unary op (cut ty (pos k)))) ≡ v = some_value (ap (unary_value op) (sym is) ∙ u) in
           let k1 : k ≡ num to (bytes_of ty) = counted ty to k o c in
           put v e1 (ap (λ z. pattern (unary_type op ty) (cut (unary_type op ty) (exact_unary op (cut ty (pos z))))) (sym k1)) o2
         where
           put : (w : Value) → Number (cut_to (unary_type op ty) (exact_unary op (cut ty (pos k)))) ≡ w → answer op ty to ≡ pattern (unary_type op ty) (cut (unary_type op ty) (exact_unary op (cut ty (pos k)))) → is_own s.q f to (byte_count w) ≡ true →
-              Arrives s wc.inside (is_live f pr (below st)) f ps n r m (n + length (unary_code op ty to)) (with_bytes cm to (byte_count w) (byte_of w)) (least_unary op) (unary_cost op (bytes_of ty))
+              Arrives s wc.inside (is_live f pr (below st)) f ps n r m (n + length (unary_code op ty to)) (with_bytes cm to (byte_count w) (byte_of w)) (unary_cost op (bytes_of ty))
           put w e1 a o3 =
-              subst (λ (z : Value). is_own s.q f to (byte_count z) ≡ true → Arrives s wc.inside (is_live f pr (below st)) f ps n r m (n + length (unary_code op ty to)) (with_bytes cm to (byte_count z) (byte_of z)) (least_unary op) (unary_cost op (bytes_of ty))) e1
+              subst (λ (z : Value). is_own s.q f to (byte_count z) ≡ true → Arrives s wc.inside (is_live f pr (below st)) f ps n r m (n + length (unary_code op ty to)) (with_bytes cm to (byte_count z) (byte_of z)) (unary_cost op (bytes_of ty))) e1
               (λ o4. unary_at op ty to n (cut_to (unary_type op ty) (exact_unary op (cut ty (pos k)))) h fu o o4 refl a) o3
       by (Points p two is_p is) = pointer op h fu (ap (unary_value op) (sym is) ∙ u)
         where
-          pointer : (op : UnOp) → Has (block s f) n (unary_code op ty to) → fits_unary op ty ≡ true → unary_pointer op ≡ Some v → Arrives s wc.inside (is_live f pr (below st)) f ps n r m (n + length (unary_code op ty to)) (with_bytes cm to (byte_count v) (byte_of v)) (least_unary op) (unary_cost op (bytes_of ty))
+          pointer : (op : UnOp) → Has (block s f) n (unary_code op ty to) → fits_unary op ty ≡ true → unary_pointer op ≡ Some v → Arrives s wc.inside (is_live f pr (below st)) f ps n r m (n + length (unary_code op ty to)) (with_bytes cm to (byte_count v) (byte_of v)) (unary_cost op (bytes_of ty))
           pointer Plus h fu u = absurd (cc)
           pointer Minus h fu u = absurd (cc)
           pointer Not h fu u = absurd (cc)
           pointer Bang h fu u =
               let a : Aims s p (num to (bytes_of ty)) = aimed ty to p o two is_p in
-              subst (λ (z : Value). is_own s.q f to (byte_count z) ≡ true → Arrives s wc.inside (is_live f pr (below st)) f ps n r m (n + length (unary_code Bang ty to)) (with_bytes cm to (byte_count z) (byte_of z)) (least_unary Bang) (unary_cost Bang (bytes_of ty))) (some_value u)
+              subst (λ (z : Value). is_own s.q f to (byte_count z) ≡ true → Arrives s wc.inside (is_live f pr (below st)) f ps n r m (n + length (unary_code Bang ty to)) (with_bytes cm to (byte_count z) (byte_of z)) (unary_cost Bang (bytes_of ty))) (some_value u)
               (λ o4. unary_at Bang ty to n (cut_to Int (truth false)) h fu o o4 refl
               (not_zero ty (num to (bytes_of ty)) (let b = a.above in let i = a.is in omega (arith, b, i)) (let b = a.below in let i = a.is in let z = two_span ty two in omega (arith, b, i, z)))) o2

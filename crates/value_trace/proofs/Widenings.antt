@@ -74,7 +74,7 @@ module _ (s : Site) (t : Machine) (wc : World Held) (f : ℕ) (pr : Option ℕ) 
   in_is b n o = unaries.in_is s t wc f pr st loops ps cm m fit r fits b n o
 
   abbrev Widens : IntTy → IntTy → Byte → ℕ → Value → Type 0
-  Widens from to x n v = is_own s.q f x (byte_count v) ≡ true → Arrives s wc.inside (is_live f pr (below st)) f ps n r m (n + length (widening_code from to x)) (with_bytes cm x (byte_count v) (byte_of v)) 1 (widening_cost (bytes_of to - bytes_of from))
+  Widens from to x n v = is_own s.q f x (byte_count v) ≡ true → Arrives s wc.inside (is_live f pr (below st)) f ps n r m (n + length (widening_code from to x)) (with_bytes cm x (byte_count v) (byte_of v)) (widening_cost (bytes_of to - bytes_of from))
 
   number_go : (from to : IntTy) (x : Byte) (n k : ℕ) → bytes_of from < bytes_of to → Has (block s f) n (widening_code from to x) → is_own s.q f x (bytes_of from) ≡ true → number_in cm x (bytes_of from) ≡ Some k → Widens from to x n (Number (cut_to to (cut from (pos k))))
   number_go from to x n k lt h o c o2 =
@@ -85,8 +85,8 @@ module _ (s : Site) (t : Machine) (wc : World Held) (f : ℕ) (pr : Option ℕ) 
       (moves.means_widened s.g s.price wc.inside f (s.q.frame_bytes f) own (Copy f) n (scene s f n ps r m) (is_signed from) x (bytes_of from) (bytes_of to - bytes_of from) (wide from)
       (subst (λ w. IsIn (root_of wc.inside) f (s.q.frame_bytes f) x w) (let e : bytes_of to ≡ bytes_of from + (bytes_of to - bytes_of from) = omega arith in e) j)).straight in
       let e : k ≡ unaries.num s t wc f pr st loops ps cm m fit r fits x (bytes_of from) = unaries.counted s t wc f pr st loops ps cm m fit r fits from x k o c in
-      turns.turned s t wc f pr st loops ps cm m fit r fits n 1 (widening_cost (bytes_of to - bytes_of from)) (widening_code from to x) x (bytes_of to) _ (byte_of (Number (cut_to to (cut from (pos k))))) h all (straight_of P (widening_code from to x) all z.ends)
-      (let a : length (widening_code from to x) ≤ 3 + (bytes_of to - bytes_of from) * 2 = z.most in let b : 3 + (bytes_of to - bytes_of from) * 2 + 2 ≤ widening_cost (bytes_of to - bytes_of from) = costs (bytes_of to - bytes_of from) (omega arith) in omega arith) (omega arith) z.some
+      turns.turned s t wc f pr st loops ps cm m fit r fits n (widening_cost (bytes_of to - bytes_of from)) (widening_code from to x) x (bytes_of to) _ (byte_of (Number (cut_to to (cut from (pos k))))) h all (straight_of P (widening_code from to x) all z.ends)
+      (let a : length (widening_code from to x) ≤ 3 + (bytes_of to - bytes_of from) * 2 = z.most in let b : 3 + (bytes_of to - bytes_of from) * 2 + 2 ≤ widening_cost (bytes_of to - bytes_of from) = costs (bytes_of to - bytes_of from) (omega arith) in omega arith)
       (convert_runs s.g s.price wc.inside f (s.q.frame_bytes f) (Copy f) n (scene s f n ps r m) from to x own i j (turns.begins s t wc f pr st loops ps cm m fit r fits n (widening_code from to x) z.some all h))
       (λ l ll. shows_number s (cut_to to (cut from (pos k))) _ (ap (λ y. pattern to (cut to (cut from (pos y)))) (sym e)) l) o2
 
@@ -94,7 +94,7 @@ module _ (s : Site) (t : Machine) (wc : World Held) (f : ℕ) (pr : Option ℕ) 
   unfolding converted
   widening_go from to x n a v lt h o e u o2 = by (kind from cm x a e)
     where
-      by : Kind from cm x a → Arrives s wc.inside (is_live f pr (below st)) f ps n r m (n + length (widening_code from to x)) (with_bytes cm x (byte_count v) (byte_of v)) 1 (widening_cost (bytes_of to - bytes_of from))
+      by : Kind from cm x a → Arrives s wc.inside (is_live f pr (below st)) f ps n r m (n + length (widening_code from to x)) (with_bytes cm x (byte_count v) (byte_of v)) (widening_cost (bytes_of to - bytes_of from))
       by (Counts k c is) = subst (Widens from to x n) (some_value (ap (converted to) (sym is) ∙ u)) (number_go from to x n k lt h o c) o2
       by (Points p two is_p is) = absurd (no_pointer (bytes_of to) p v (omega (arith, two, lt)) (ap (converted to) (sym is) ∙ u))
 

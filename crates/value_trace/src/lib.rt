@@ -8,7 +8,8 @@
 ghost use Rattle.select_wide.specs.Links.{Selects};
 
 /// Whatever main may find, and under every schedule: what symbolic code does in the world is what byte code does there, as long as byte
-/// code isn't stuck, and between any two moments it takes no more and no fewer instructions than byte code says.
+/// code isn't stuck. Between any two moments it takes no more instructions than byte code says, and no fewer of those that no pass leaves
+/// out.
 pub fn selection_keeps()
     ensures keeps { Selects }
 {}
