@@ -47,9 +47,11 @@ lean_had p copies core given made placed at passed placing =
       keeps = λ o e r m n goes.
           let g = bare_setting given made (handler_at copies) placed at (limit_of copies) in
           let h = bare_setting passed.lean made (handler_at copies) placed at (limit_of copies) in
-          let all = f.keeps (page_of made at) (limit_of copies) o e r m n goes in
-          (follows_cheaper h (price_in (block_in made)) (price_in (block_in passed.whole)) (λ name. (kept p copies core given made placed at passed).prices name) e o (sym_start h.program r m)
-          (weighed_of g f.price f.sure e o (sym_start g.program r m)) n all.0, all.1);
+          let all = f.keeps (page_of made at) (limit_of copies) o e r m n goes in (
+            follows_cheaper h (price_in (block_in made)) (price_in (block_in passed.whole)) (λ name. (kept p copies core given made placed at passed).prices name) e o (sym_start h.program r m)
+                (weighed_of g f.price f.sure e o (sym_start g.program r m)) n all.0,
+            all.1,
+          );
       prices = λ c copy is user. f.dear placed passed.whole refl selected (frames_whole p copies placed placing) (Copy c);
       routine_prices = λ c copy h is routine.
           let lt = slice_get_within copies c copy is in
