@@ -21,7 +21,7 @@ use Rattle.src_values.specs.declared.objects.CopyOf.{CopyOf}
 use Rattle.lower_trace.proofs.CodeLeft.{Scene, number, ground_in}
 use Rattle.lower_trace.proofs.Kept.{SceneLaws, own_copy}
 use Rattle.lower_trace.proofs.ListBytes.{Listed}
-use Rattle.lower_trace.proofs.Operations.{true_le}
+use Rattle.lower_trace.proofs.Operations.{or_first, true_le}
 use Rattle.lower_trace.proofs.Written.{both, and_left, and_right, nat_same}
 
 -- ---- lists
@@ -64,10 +64,6 @@ flag_itself false = refl
 
 qualified_itself : (a : Qualified) → same_qualified a a ≡ true
 qualified_itself a = both _ _ (type_itself a.ty) (both _ _ (flag_itself a.constant) (flag_itself a.volatile))
-
-or_first : (a b : Bool) → a ≡ true → (a || b) ≡ true
-or_first true b e = refl
-or_first false b e = absurd (cc)
 
 local_named : (z : Scene) (c : CopyOf) (local : ℕ) (v : VariableTree) → slice_get (function_at z.program c.function).locals local ≡ Some v → IsPlaceOf z.program c.function (tree.Name (names.Local local) v.ty 0)
 unfolding place_rule_holds

@@ -17,8 +17,8 @@ use Rattle.lower_trace.proofs.CodeLeft.{Scene, todo}
 use Rattle.lower_trace.proofs.FixedWrites.{move_then}
 use Rattle.lower_trace.proofs.Mirrors.{HasDatum}
 use Rattle.lower_trace.proofs.Moving.{binary_any_then}
-use Rattle.lower_trace.proofs.Operating.{itself, or_true, value_number}
-use Rattle.lower_trace.proofs.Operations.{Comes, comes_within, le_true, own_frame}
+use Rattle.lower_trace.proofs.Operating.{itself, value_number}
+use Rattle.lower_trace.proofs.Operations.{Comes, comes_within, le_true, own_frame, or_second}
 use Rattle.lower_trace.proofs.Placed.{Placed, todo_join}
 use Rattle.lower_trace.proofs.Written.{both, bytes_there}
 use Rattle.pic_world.specs.World.{World, arrived, is_due}
@@ -65,9 +65,9 @@ module _ (z : Scene) (g : Setting) (T : Machine → Type 0) (n : ℕ) (s : List 
       let m' = with_bytes m (Frame n b) 2 (core.byte_of (core.Number v)) in
       let vx = value_number z n b (uint x) m (uint_range x lt) hx in
       let own = own_frame g.program n b 2 room in
-      comes_within g T (20 + q) (1 + l) (20 + q) l c
+      comes_within g T (20 + q) l (20 + q) l c
       (binary_any_then g T n s w due now ops.Add int.UInt (Frame n b) (Frame n b) (Frame n b) (core.Number (uint x)) (core.Number (uint x)) (core.Number v) r m c q l 20
-      (λ before. both _ _ (itself n b 2) (itself n b 2)) (λ count. refl) own own vx vx (λ s' e. refl) own (λ count. omega arith) (omega arith) p
+      (λ before. both _ _ (itself n b 2) (itself n b 2)) (λ count. refl) own own vx vx (λ s' e. refl) own (λ count. omega arith) p
       (λ d pd. next d m' (above_written n b b 2 m (core.byte_of (core.Number v)) (omega arith))
       (subst (λ t. HasDatum z n b (datum.Number t) m') (uint_sum x x) (λ j few. bytes_there m n b 2 (core.byte_of (core.Number v)) j few)) pd))
       (omega arith) (omega arith)
@@ -83,10 +83,10 @@ module _ (z : Scene) (g : Setting) (T : Machine → Type 0) (n : ℕ) (s : List 
       let vv = value_number z n b (uint v) m (uint_range v vl) hv in
       let vx = value_number z n y (uint x) m (uint_range x lt) hx in
       let own = own_frame g.program n b 2 room in
-      comes_within g T (20 + q) (1 + l) (20 + q) l c
+      comes_within g T (20 + q) l (20 + q) l c
       (binary_any_then g T n s w due now ops.Add int.UInt (Frame n b) (Frame n b) (Frame n y) (core.Number (uint v)) (core.Number (uint x)) (core.Number sum) r m c q l 20
-      (λ before. both _ _ (itself n b 2) (or_true (same_byte (Frame n b) (Frame n y)) _ (or_true (not (nat_eq n n)) _ (or_true (nat_le (b + 2) y) (nat_le (y + 2) b) (le_true (y + 2) b low))))) (λ count. refl)
-      own (own_frame g.program n y 2 (omega arith)) vv vx (λ s' e. refl) own (λ count. omega arith) (omega arith)
+      (λ before. both _ _ (itself n b 2) (or_second (same_byte (Frame n b) (Frame n y)) _ (or_second (not (nat_eq n n)) _ (or_second (nat_le (b + 2) y) (nat_le (y + 2) b) (le_true (y + 2) b low))))) (λ count. refl)
+      own (own_frame g.program n y 2 (omega arith)) vv vx (λ s' e. refl) own (λ count. omega arith)
       (subst (λ t. Placed g n None t s m w c) (ap (λ t. todo (if t then operator ops.Add int.UInt (Frame n b) (Frame n y) ∷ [] else []) r) odd) p)
       (λ d pd. next d m' (above_written n b b 2 m (core.byte_of (core.Number sum)) (omega arith))
       (subst (λ t. HasDatum z n b (datum.Number t) m') (uint_sum v x) (λ j few. bytes_there m n b 2 (core.byte_of (core.Number sum)) j few)) pd))
@@ -169,7 +169,7 @@ module _ (z : Scene) (g : Setting) (T : Machine → Type 0) (n : ℕ) (s : List 
   scaled_then size x b y r m c q l some lt xl low room hy p next =
       let m1 = with_bytes m (Frame n b) 2 (λ j. m (Frame n (y + j))) in
       let above1 = above_written n b b 2 m (λ j. m (Frame n (y + j))) (omega arith) in
-      comes_within g T (6 * 2 + (40 * 40 + q)) (2 + l) (1612 + q) l c
+      comes_within g T (6 * 2 + (40 * 40 + q)) l (1612 + q) l c
       (move_then g T n None s w due now small b y 2 (todo (multiples (Frame n b) (Frame n y) size 64) r) m c (40 * 40 + q) l (inr low) room (omega arith)
       (subst (λ t. Placed g n None t s m w c) (todo_join (copies (Frame n b) (Frame n y) 2) (multiples (Frame n b) (Frame n y) size 64) r) p)
       (λ d1 p1.
