@@ -126,10 +126,8 @@ module _ (z : Scene) (laws : SceneLaws z) (n : ℕ) (root : Root) (root_is : (co
   side_then Computed b done at r m c q l placed room (Into o f, e, hx, go) one p next =
       let inside : IsPlaced z.program (spots.Memory (Into o (f + 1))) = subst (IsPlaced z.program) e placed in
       let stays : f + 1 ≡ f + 1 + 0 = omega arith in
-      comes_within (core_in z) T (20 + q) l (20 + q) l c
-      (advance_then o f b r m c q l inside.0 inside.1 room hx one p
-      (λ d m' above far hy pd. next d m' above far (Into o (f + 1), e ∙ ap (λ i. spots.Memory (Into o i)) stays, hy, tt) pd))
-      (omega arith) (omega arith)
+      advance_then o f b r m c q l inside.0 inside.1 room hx one p
+      (λ d m' above far hy pd. next d m' above far (Into o (f + 1), e ∙ ap (λ i. spots.Memory (Into o i)) stays, hy, tt) pd)
 
   -- both sides
   pub sides_then : (p q : place.Spot) (b done : ℕ) (to from : spot.Spot) (r : List Task) (m : Memory) (c : Machine) (x l : ℕ) → IsPlaced z.program to → IsPlaced z.program from → b + pointer_bytes p + pointer_bytes q ≤ (core_in z).program.frame_bytes n → Trails z n b p to done 1 m → Trails z n (b + pointer_bytes p) q from done 1 m → HasOne true root m

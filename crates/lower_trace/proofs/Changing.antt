@@ -108,10 +108,8 @@ module _ (z : Scene) (g : Setting) (T : Machine → Type 0) (n : ℕ) (s : List 
       → ((d : Machine) (m' : Memory) → OnlyAbove n b m m' → HasDatum z n b (datum.Number (cut_to to x.number)) m' → Placed g n None r s m' w d → Comes g T q l d) → Comes g T (24 + q) l c
   widen_case true to x b r m c q l e xr le room hx p next =
       let m' = with_bytes m (Frame n b) (bytes_of to) (core.byte_of (core.Number (cut_to to x.number))) in
-      comes_within g T (24 + q) l (24 + q) l c
-      (convert_then z g T n s w due now to x b r m c q l xr e (omega arith) room hx (subst (λ y. Placed g n None y s m w c) (ap (λ f. todo (if f then code.Convert x.ty to (Frame n b) ∷ [] else []) r) e) p)
-      (λ d pd. next d m' (above_written n b b (bytes_of to) m (core.byte_of (core.Number (cut_to to x.number))) (omega arith)) (λ i lt. bytes_there m n b (bytes_of to) (core.byte_of (core.Number (cut_to to x.number))) i lt) pd))
-      (omega arith) (omega arith)
+      convert_then z g T n s w due now to x b r m c q l xr e (omega arith) room hx (subst (λ y. Placed g n None y s m w c) (ap (λ f. todo (if f then code.Convert x.ty to (Frame n b) ∷ [] else []) r) e) p)
+      (λ d pd. next d m' (above_written n b b (bytes_of to) m (core.byte_of (core.Number (cut_to to x.number))) (omega arith)) (λ i lt. bytes_there m n b (bytes_of to) (core.byte_of (core.Number (cut_to to x.number))) i lt) pd)
   widen_case false to x b r m c q l e xr le room hx p next =
       let ge = not_less (bytes_of x.ty) (bytes_of to) e in
       comes_within g T q l (24 + q) l c

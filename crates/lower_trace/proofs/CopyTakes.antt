@@ -1,7 +1,6 @@
 -- A byte of a structure that is copied through pointers is read on its way.
 use Rattle.core_code.specs.Bytes as bytes
 use Rattle.core_code.specs.Bytes.{Memory, is_private, same_byte, with_byte}
-use Rattle.core_code.specs.Cost.{is_kept, one_if}
 use Rattle.core_code.specs.Machine.{Machine, Put, Task, Do as Todo, after_read, held_at, is_valid, noting_if, static_bytes}
 use Rattle.core_code.specs.Tree as code
 use Rattle.core_code.specs.declared.code.Byte.TheVariants.{Device, Frame, Result, Static}
@@ -25,7 +24,7 @@ use Rattle.lower_trace.proofs.Loading.{ReachesAll, isolated}
 use Rattle.lower_trace.proofs.Members.{byte_is_so}
 use Rattle.lower_trace.proofs.Mirrors.{Carries, HasDatum, Mirrors, Trails, core_byte}
 use Rattle.lower_trace.proofs.NumberBytes.{pointer_back}
-use Rattle.lower_trace.proofs.Operations.{Comes, comes_here, comes_within, copy_then, or_second, own_frame, read_then}
+use Rattle.lower_trace.proofs.Operations.{Comes, comes_here, comes_within, copy_then, own_frame, read_sure, read_then}
 use Rattle.lower_trace.proofs.Placed.{Placed}
 use Rattle.lower_trace.proofs.Pointing.{load_frame_then, load_static_then, load_then}
 use Rattle.lower_trace.proofs.Reading.{lt_true, noted_if, readable, set_agrees}
@@ -51,7 +50,7 @@ use Rattle.src_values.specs.declared.objects.Pointer.{Pointer}
 use Rattle.src_values.specs.declared.objects.Spot as spot
 use Rattle.src_values.specs.declared.objects.Spot.TheVariants as spots
 use Rattle.src_values.specs.declared.objects.Undef.{Undef}
-use Rattle.std.proofs.Common.{List, None, Option, Some, [], ap, arith, false, if◌then◌else◌, refl, subst, suc, sym, true, ℕ, ◌+◌, ◌-◌, ◌<◌, ◌||◌, ◌∙◌, ◌∷◌, ◌≡◌, ◌≤◌}
+use Rattle.std.proofs.Common.{List, None, Option, Some, [], ap, arith, false, if◌then◌else◌, refl, subst, suc, sym, true, ℕ, ◌+◌, ◌-◌, ◌<◌, ◌∙◌, ◌∷◌, ◌≡◌, ◌≤◌}
 
 -- a fixed place is one of the copy's own
 abbrev pub OwnIf : Scene → CopyOf → place.Spot → spot.Spot → Type 0
@@ -144,8 +143,7 @@ module _ (z : Scene) (laws : SceneLaws z) (cp : CopyOf) (k : List Pending) (l : 
       let s = stack_after z (ground_in z cp) k in
       let o = objects.Variable d i in
       let source_is : behind Y done ≡ core_byte z o f = sym (byte_is_so (core_byte z o f) (behind Y done) h) in
-      let variables = (core_in z).program.variable_bytes in
-      let sure : 1 ≤ one_if (is_kept variables (Frame n way) || is_kept variables (core_byte z o f)) = let q = ap one_if (or_second (is_kept variables (Frame n way)) (is_kept variables (core_byte z o f)) (laws.kept o f there inside)) in omega arith in
+      let sure = read_sure (core_in z).program.variable_bytes (Frame n way) (core_byte z o f) (laws.kept o f there inside) in
       comes_within (core_in z) T (6 + x) (1 + e) (20 + x) (1 + e) c
       (copy_then (core_in z) T n None s w due now (Frame n way) (core_byte z o f) r m c x e 1 sure refl (own_byte z laws cp k o f around own inside own_room).valid (own_frame (core_in z).program n way 1 room)
       (subst (λ y. Placed (core_in z) n None (Todo [] (code.Copy (Frame n way) y) ∷ r) s m w c) source_is pl) next)

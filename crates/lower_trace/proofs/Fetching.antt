@@ -1,10 +1,10 @@
 -- Fixed places are read, byte by byte.
-use Rattle.std.proofs.Common.{◌≡◌, ℕ, zero, suc, ◌+◌, ◌-◌, ◌<◌, ◌≤◌, inl, Bool, true, false, ◌||◌, if◌then◌else◌, List, [], ◌∷◌, ◌++◌, length, length-append, None, refl, sym, ap, ◌∙◌, subst, ⊎_elim, arith}
+use Rattle.std.proofs.Common.{◌≡◌, ℕ, zero, suc, ◌+◌, ◌-◌, ◌<◌, ◌≤◌, inl, Bool, true, false, if◌then◌else◌, List, [], ◌∷◌, ◌++◌, length, length-append, None, refl, sym, ap, ◌∙◌, subst, ⊎_elim, arith}
 use Rattle.std.specs.Prelude.{slice_index_or}
 use Rattle.std.proofs.lemmas.Bool.{cases_lt}
 use Rattle.core_code.specs.Bytes as bytes
 use Rattle.core_code.specs.Bytes.{Held, Memory, is_private, with_byte, with_bytes}
-use Rattle.core_code.specs.Cost.{is_kept, one_if}
+use Rattle.core_code.specs.Cost.{is_kept}
 use Rattle.core_code.specs.Machine.{Machine, Task, Do as Todo, Put, is_valid, held_at, after_read}
 use Rattle.core_code.specs.Tree as code
 use Rattle.core_code.specs.Tree.{Tree}
@@ -30,7 +30,7 @@ use Rattle.lower_trace.proofs.Flow.{arrive}
 use Rattle.lower_trace.proofs.Giving.{Around, placed_of, mirrors, agrees_written, holds_written, value_high}
 use Rattle.lower_trace.proofs.Kept.{SceneLaws, own_copy}
 use Rattle.lower_trace.proofs.Mirrors.{Mirrors, Agrees, Holds, HasIf, HasRead, HasReadAt, in_place}
-use Rattle.lower_trace.proofs.Operations.{Comes, comes_within, beyond_is, or_second, own_frame, copy_then, put_then, read_then}
+use Rattle.lower_trace.proofs.Operations.{Comes, comes_within, beyond_is, own_frame, copy_then, put_then, read_sure, read_then}
 use Rattle.lower_trace.proofs.Placed.{Placed}
 use Rattle.lower_trace.proofs.Written.{nat_apart, and_false, on, off, byte_same}
 
@@ -136,10 +136,8 @@ module _ (z : Scene) (laws : SceneLaws z) (cp : CopyOf) (k : List Pending) (l : 
       let later : R ≡ reading_at z g k next read' =
       ap (λ i. todo (copies_from (Frame g.copy to) from i (count - i)) r) (sym len) ∙ sym (hidden_code z from next pointer (Frame g.copy to) count read' r hidden) ∙ sym (reads.code next read') in
       let m' = with_byte c.memory (Frame n (to + j)) (c.memory (Frame n y)) in
-      let variables = (core_in z).program.variable_bytes in
-      let sure : 1 ≤ one_if (is_kept variables (Frame n (to + j)) || is_kept variables (Frame n y)) = let e = ap one_if (or_second (is_kept variables (Frame n (to + j))) (is_kept variables (Frame n y)) kept) in omega arith in
       comes_within (core_in z) T (6 + 0) (1 + 0) 6 1 c
-      (copy_then (core_in z) T n None (stack_after z g k) W (due_below z (arrived z.outside w) due) (again_below z w) (Frame n (to + j)) (Frame n y) R c.memory c 0 0 1 sure refl (own_frame (core_in z).program n y 1 (omega arith)) (own_frame (core_in z).program n (to + j) 1 (omega arith))
+      (copy_then (core_in z) T n None (stack_after z g k) W (due_below z (arrived z.outside w) due) (again_below z w) (Frame n (to + j)) (Frame n y) R c.memory c 0 0 1 (read_sure (core_in z).program.variable_bytes (Frame n (to + j)) (Frame n y) kept) refl (own_frame (core_in z).program n y 1 (omega arith)) (own_frame (core_in z).program n (to + j) 1 (omega arith))
       (subst (λ x. Placed (core_in z) n None x (stack_after z g k) c.memory W c) now (placed_of z (state cp (Fetch at read) k l w) c h))
       (λ d pd.
       arrive z cp (Fetch next read') k l w m' d (subst (λ x. Placed (core_in z) n None x (stack_after z g k) m' W d) later pd)

@@ -1,6 +1,6 @@
 -- Operators whose left operand is a pointer, and pointers that are moved.
 use Rattle.c_ints.specs.Operators.{cut_to}
-use Rattle.c_ints.specs.Range.{bytes_of, least, pattern}
+use Rattle.c_ints.specs.Range.{bytes_of, pattern}
 use Rattle.c_ints.specs.declared.operators.BinOp.{BinOp}
 use Rattle.c_ints.specs.declared.types.IntTy.TheVariants as int
 use Rattle.c_ints.specs.declared.types.IntTy.{IntTy}

@@ -13,7 +13,7 @@ use Rattle.lower_expr.specs.Bytes as lower
 use Rattle.lower_expr.specs.Bytes.{beyond, byte_at}
 use Rattle.lower_expr.specs.Puts.{sets}
 use Rattle.lower_trace.proofs.CodeLeft.{todo}
-use Rattle.lower_trace.proofs.Placed.{Placed, front, other, todo_join, operates, most_operates, least_operates, does, most_does, least_does}
+use Rattle.lower_trace.proofs.Placed.{Placed, front, other, todo_join, operates, most_operates, least_operates, does, most_does}
 use Rattle.lower_trace.proofs.Walks.{Walk, stay, walk_first, walk_within}
 use Rattle.lower_trace.proofs.Written.{nat_same, and_left, and_right, both}
 
@@ -75,6 +75,13 @@ or_first false b e = absurd (cc)
 pub or_second : (a b : Bool) → b ≡ true → (a || b) ≡ true
 or_second true b e = refl
 or_second false b e = e
+
+-- of a copy of such a byte, or to one, an instruction is sure
+pub read_sure : (variables : ℕ → ℕ) (x y : Byte) → is_kept variables y ≡ true → 1 ≤ one_if (is_kept variables x || is_kept variables y)
+read_sure variables x y kept = let e = ap one_if (or_second (is_kept variables x) (is_kept variables y) kept) in omega arith
+
+write_sure : (variables : ℕ → ℕ) (x y : Byte) → is_kept variables x ≡ true → 1 ≤ one_if (is_kept variables x || is_kept variables y)
+write_sure variables x y kept = let e = ap one_if (or_first (is_kept variables x) (is_kept variables y) kept) in omega arith
 
 -- w is the world with the arrivals, and no handler is due
 module _ (g : Setting) (T : Machine → Type 0) (n : ℕ) (a : Option ℕ) (s : List Waiting) (w : World Held) (due : is_due w ≡ false) (again : arrived g.outside w ≡ w) where
@@ -162,7 +169,7 @@ module _ (g : Setting) (T : Machine → Type 0) (n : ℕ) (a : Option ℕ) (s : 
       let em = most_operates g n a (Do [] (code.Copy x y) ∷ r) s m w c p (code.Copy x y) r f due in
       let el = least_operates g n a (Do [] (code.Copy x y) ∷ r) s m w c p (code.Copy x y) r f due in
       let cheap : cost_of f.before (code.Copy x y) ≤ 3 = rw seen (omega arith) in
-      let sure : one_if (is_kept g.program.variable_bytes x || is_kept g.program.variable_bytes y) ≡ 1 = ap one_if (or_second (is_kept g.program.variable_bytes x) (is_kept g.program.variable_bytes y) (seen_kept g.program.variable_bytes y seen)) in
+      let sure = read_sure g.program.variable_bytes x y (seen_kept g.program.variable_bytes y seen) in
       comes_within g T (3 + 0) (1 + 0) 3 1 c
       (comes_first g T 0 0 3 1 c d
       (operates g n a (Do [] (code.Copy x y) ∷ r) s m w c p (code.Copy x y) r f due ∙ rw (valid, seen) refl)
@@ -182,7 +189,7 @@ module _ (g : Setting) (T : Machine → Type 0) (n : ℕ) (a : Option ℕ) (s : 
       let em = most_operates g n a (Do [] (code.Copy x y) ∷ r) s m w c p (code.Copy x y) r f due in
       let el = least_operates g n a (Do [] (code.Copy x y) ∷ r) s m w c p (code.Copy x y) r f due in
       let cheap : cost_of f.before (code.Copy x y) ≤ 6 = rw hidden (omega arith) in
-      let sure : one_if (is_kept g.program.variable_bytes x || is_kept g.program.variable_bytes y) ≡ 1 = ap one_if (or_first (is_kept g.program.variable_bytes x) (is_kept g.program.variable_bytes y) kept) in
+      let sure = write_sure g.program.variable_bytes x y kept in
       comes_within g T (6 + 0) (1 + 0) 6 1 c
       (comes_first g T 0 0 6 1 c d
       (operates g n a (Do [] (code.Copy x y) ∷ r) s m w c p (code.Copy x y) r f due ∙ rw (valid, hidden, own, there, may) refl)
