@@ -101,7 +101,7 @@ module _ (z : Scene) (laws : SceneLaws z) (n : ℕ) (root : Root) (root_is : (co
   advance_then : (o : object.Object) (f b : ℕ) (r : List Task) (m : Memory) (c : Machine) (q l : ℕ) → IsThere z.program o → f + 1 ≤ object_bytes z.program o → b + 2 ≤ (core_in z).program.frame_bytes n → HasDatum z n b (datum.Pointer (Into o f)) m → HasOne true root m
       → Placed (core_in z) n None (Todo [] (code.Binary ops.Add int.UInt (Frame n b) (Frame n b) (Result root 0)) ∷ r) s m w c
       → ((d : Machine) (m' : Memory) → OnlyAbove n b m m' → ((t : ℕ) → b + 2 ≤ t → m' (Frame n t) ≡ m (Frame n t)) → HasDatum z n b (datum.Pointer (Into o (f + 1))) m' → Placed (core_in z) n None r s m' w d → Comes (core_in z) T q l d)
-      → Comes (core_in z) T (20 + q) (1 + l) c
+      → Comes (core_in z) T (20 + q) l c
   unfolding fits_together binary_value extent offset_of
   advance_then o f b r m c q l there le room hx one p next =
       let mv = λ (s' : List Waiting). moved_so z laws (extent (core_in z).program n s') o f (pos 1) (pos 1) 0 0 (Into o (f + 1)) (λ t. refl) there refl (moved_one z o f le) in
@@ -112,7 +112,7 @@ module _ (z : Scene) (laws : SceneLaws z) (n : ℕ) (root : Root) (root_is : (co
       let m' = with_bytes m (Frame n b) 2 (core.byte_of result) in
       binary_any_then (core_in z) T n s w due now ops.Add int.UInt (Frame n b) (Frame n b) (Result root 0) (core.Pointer (record { object = object_as z.copies o; offset = offset_as z.program o + f })) (core.Number (uint 1)) result r m c q l 20
       (λ before. both _ _ (itself n b 2) refl) (λ i. refl) (own_frame (core_in z).program n b 2 room) (own_two (core_in z).program n root root_is)
-      (pointer_value z n b o f m hx) (one_value root m one) (λ s' e. gives s') (own_frame (core_in z).program n b 2 room) (λ i. omega arith) (omega arith) p
+      (pointer_value z n b o f m hx) (one_value root m one) (λ s' e. gives s') (own_frame (core_in z).program n b 2 room) (λ i. omega arith) p
       (λ d pd. next d m' (above_written n b b 2 m (core.byte_of result) (omega arith)) (λ t ge. bytes_clear m n b 2 (core.byte_of result) (Frame n t) (inr (inr (omega arith)))) (λ j few. bytes_there m n b 2 (core.byte_of result) j few) pd)
 
   -- one side of a copy
@@ -126,10 +126,8 @@ module _ (z : Scene) (laws : SceneLaws z) (n : ℕ) (root : Root) (root_is : (co
   side_then Computed b done at r m c q l placed room (Into o f, e, hx, go) one p next =
       let inside : IsPlaced z.program (spots.Memory (Into o (f + 1))) = subst (IsPlaced z.program) e placed in
       let stays : f + 1 ≡ f + 1 + 0 = omega arith in
-      comes_within (core_in z) T (20 + q) (1 + l) (20 + q) l c
-      (advance_then o f b r m c q l inside.0 inside.1 room hx one p
-      (λ d m' above far hy pd. next d m' above far (Into o (f + 1), e ∙ ap (λ i. spots.Memory (Into o i)) stays, hy, tt) pd))
-      (omega arith) (omega arith)
+      advance_then o f b r m c q l inside.0 inside.1 room hx one p
+      (λ d m' above far hy pd. next d m' above far (Into o (f + 1), e ∙ ap (λ i. spots.Memory (Into o i)) stays, hy, tt) pd)
 
   -- both sides
   pub sides_then : (p q : place.Spot) (b done : ℕ) (to from : spot.Spot) (r : List Task) (m : Memory) (c : Machine) (x l : ℕ) → IsPlaced z.program to → IsPlaced z.program from → b + pointer_bytes p + pointer_bytes q ≤ (core_in z).program.frame_bytes n → Trails z n b p to done 1 m → Trails z n (b + pointer_bytes p) q from done 1 m → HasOne true root m
@@ -244,8 +242,8 @@ module _ (z : Scene) (laws : SceneLaws z) (cp : CopyOf) (k : List Pending) (l : 
         on (bytes.same_byte (Result root 1) (Result root 1)) (bytes.Number 0) (m1 (Result root 1)) (byte_same (Result root 1)),
       ) in
       let same_frames : (i : ℕ) → SameFrame i m m2 = λ i t. refl in
-      comes_within (core_in z) T (4 + (4 + x)) (1 + (1 + e)) (40 + x) e c
-      (set_result_then (core_in z) T n None s w due now root 0 1 (Todo [] (code.Set (Result root 1) 0) ∷ B) m c (4 + x) (1 + e) (own_result (core_in z) n 0 root root_is (omega arith)) (subst (λ y. Placed (core_in z) n None y s m w c) split pl)
+      comes_within (core_in z) T (4 + (4 + x)) e (40 + x) e c
+      (set_result_then (core_in z) T n None s w due now root 0 1 (Todo [] (code.Set (Result root 1) 0) ∷ B) m c (4 + x) e (own_result (core_in z) n 0 root root_is (omega arith)) (subst (λ y. Placed (core_in z) n None y s m w c) split pl)
       (λ d1 p1. set_result_then (core_in z) T n None s w due now root 1 0 B m1 d1 x e (own_result (core_in z) n 1 root root_is (omega arith)) p1
       (λ d2 p2. next d2 m2 (trails_far z n p b 0 0 to m m2 (λ t ge. refl) parts.0) (subst (λ y. Trails z n y q from 0 0 m2) second_is (trails_far z n q (beyond b (pointer_bytes p)) 0 0 from m m2 (λ t ge. refl) parts.1)) one
       (agrees_same z (cp ∷ callers k) l m m2 (λ ob at th lt. untouched root m ob at) agrees)

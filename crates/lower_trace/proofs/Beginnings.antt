@@ -55,10 +55,6 @@ abbrev pub eval_most : Expression → ℕ
 eval_most (tree.Constant q line) = 4 * bytes_of q.ty
 eval_most _ = 0
 
-abbrev pub eval_least : Expression → ℕ
-eval_least (tree.Constant q line) = bytes_of q.ty
-eval_least _ = 0
-
 -- the bytes of a constant are bytes of the frame
 abbrev pub HasRoom : Scene → CopyOf → List Pending → Expression → Type 0
 HasRoom z cp k (tree.Constant q line) = base (ground_in z cp) k + bytes_of q.ty ≤ (core_in z).program.frame_bytes (number z cp)
@@ -66,7 +62,7 @@ HasRoom z cp k _ = Unit {0}
 
 module _ (z : Scene) (laws : SceneLaws z) where
   pub eval_goes : (e : Expression) (k : List Pending) (cp : CopyOf) (l : source.Memory) (w : World value.Byte) (c : Machine) → Around z cp k → HasRoom z cp k e → is_due (arrived z.outside w) ≡ false
-      → Mirrors z (state cp (Eval e) k l w) c → Follow z (eval_most e) (eval_least e) c (eval e k cp l (arrived z.outside w))
+      → Mirrors z (state cp (Eval e) k l w) c → Follow z (eval_most e) 0 c (eval e k cp l (arrived z.outside w))
   unfolding expr_code active
   eval_goes (tree.Constant q line) k cp l w c around room due h = constant_goes z laws q line k cp l w c around room due h
   eval_goes (tree.Read place ty line) k cp l w c around room due h = rests z cp (Eval (tree.Read place ty line)) (Find place) k (In (tree.Read place ty line) Nothing ∷ k) l l w c h refl (simp todo_join) refl h.agrees (tt, h.holds) tt

@@ -64,7 +64,7 @@ module _ (z : Scene) (laws : SceneLaws z) (cp : CopyOf) (k : List Pending) (l : 
   bit_as (byte ∷ []) w c le are due h =
       let v = value_from (types.Int int.UChar) (byte ∷ []) in
       subst (λ o. Follow z 6 0 c o) (sym (ends v (arrived z.outside w)))
-      (comes_within (core_in z) (Mirrors z (state cp (Value v) k' l (arrived z.outside w))) 4 1 6 0 c
+      (comes_within (core_in z) (Mirrors z (state cp (Value v) k' l (arrived z.outside w))) 4 0 6 0 c
       (bit_done z laws cp k l register bit to count pointer r reads around room known small_bit (spots.Bit register bit) byte v k' w c (let q = one_byte byte in omega arith) (number_byte z byte are.2 ∙ value_read_back z (types.Int int.UChar) (byte ∷ []) are refl 0 (let q = one_byte byte in omega arith)) rest stack based holds (live (spots.Bit register bit) (byte ∷ []) v) due h)
       (omega arith) (omega arith))
   bit_as (x ∷ y ∷ more) w c le are due h = absurd (omega arith)

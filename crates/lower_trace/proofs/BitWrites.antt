@@ -138,12 +138,12 @@ module _ (z : Scene) (laws : SceneLaws z) (cp : CopyOf) (k : List Pending) (l : 
       code_is (spots.Bit register bit_is) 0 ∙ ap (λ i. todo (bit_row cp.root register bit_is (Frame i from)) R) (own_copy z cp) in
       let later : PutBack register (core_machine.with_bit bit_is (low % 2) (device_value z.outside register W)) ≡ PutBack register (core_machine.with_bit bit_is low old) =
       ap (λ y. PutBack register (core_machine.with_bit bit_is y (device_value z.outside register W))) (bit_again (pattern int.UChar q)) ∙ ap (λ y. PutBack register (core_machine.with_bit bit_is low y)) (value_as (held z) z.outside register V) in
-      comes_within (core_in z) T (4 + (40 + 13)) (1 + (1 + 1)) 57 1 c
-      (set_result_then (core_in z) T n None (stack_after z g k) W no ag cp.root 0 1 (Todo [] (code.Binary ops.And int.UChar (Frame n from) (Frame n from) (Result cp.root 0)) ∷ Todo [] (code.BitWrite register bit_is (Frame n from)) ∷ R) c.memory c (40 + 13) (1 + 1) own
+      comes_within (core_in z) T (4 + (40 + 13)) 1 57 1 c
+      (set_result_then (core_in z) T n None (stack_after z g k) W no ag cp.root 0 1 (Todo [] (code.Binary ops.And int.UChar (Frame n from) (Frame n from) (Result cp.root 0)) ∷ Todo [] (code.BitWrite register bit_is (Frame n from)) ∷ R) c.memory c (40 + 13) 1 own
       (subst (λ y. Placed (core_in z) n None y (stack_after z g k) c.memory W c) now (placed_of z (state cp (Write (spots.Bit register bit_is) v 0) k l w) c h))
       (λ d pd. binary_any_then (core_in z) T n (stack_after z g k) W no ag ops.And int.UChar (Frame n from) (Frame n from) (Result cp.root 0) (core.Number x) (core.Number one) (core.Number o) (Todo [] (code.BitWrite register bit_is (Frame n from)) ∷ R) m1 d 13 1 40
       (λ before. both _ _ (itself n from 1) refl) (λ i. refl) (own_frame (core_in z).program n from 1 room) own
-      (value_number z n from x m1 qr hx) (one_there c.memory cp.root) (λ s e. refl) (own_frame (core_in z).program n from 1 room) (λ i. omega arith) (omega arith) pd
+      (value_number z n from x m1 qr hx) (one_there c.memory cp.root) (λ s e. refl) (own_frame (core_in z).program n from 1 room) (λ i. omega arith) pd
       (λ e pe. bit_write_then (core_in z) T n None (stack_after z g k) W no ag register bit_is from low R m2 e (bit_there (core_in z).program n register bit_is known small_bit) room bit_is_there pe
       (λ f pf. mirrors z cp (PutBit register bit_is v old) k l w' m2 f
       (subst (λ y. Placed (core_in z) n None (y ∷ Join ∷ R) (stack_after z g k) m2 (world_as (held z) (arrived z.outside w')) f) later

@@ -17,7 +17,7 @@ use Rattle.lower_trace.proofs.Flow.{arrive}
 use Rattle.lower_trace.proofs.Giving.{Around, agrees_written, holds_written, mirrors, placed_of, value_high}
 use Rattle.lower_trace.proofs.Kept.{SceneLaws, own_copy}
 use Rattle.lower_trace.proofs.Mirrors.{Agrees, HasIf, Holds, Mirrors}
-use Rattle.lower_trace.proofs.Operations.{Comes, comes_first, comes_here, comes_within, own_frame, own_put}
+use Rattle.lower_trace.proofs.Operations.{Comes, comes_first, comes_free, comes_here, comes_within, own_frame, own_put}
 use Rattle.lower_trace.proofs.Placed.{Placed, does, front, least_does, least_operates, most_does, most_operates, operates, other}
 use Rattle.lower_trace.proofs.Reading.{lt_true}
 use Rattle.lower_trace.proofs.Written.{both, bytes_there}
@@ -58,16 +58,15 @@ module _ (g : Setting) (T : Machine → Type 0) (n : ℕ) (a : Option ℕ) (s : 
       (omega arith) (omega arith)
 
   -- the bit is written as a byte
-  pub put_bit_then : (to : Byte) (v : ℕ) (r : List Task) (m : Memory) (c : Machine) (q l : ℕ) → is_own g.program n to 1 ≡ true → Placed g n a (PutBit to v ∷ r) s m w c → ((d : Machine) → Placed g n a r s (with_byte m to (bytes.Number v)) w d → Comes g T q l d) → Comes g T (4 + q) (1 + l) c
+  pub put_bit_then : (to : Byte) (v : ℕ) (r : List Task) (m : Memory) (c : Machine) (q l : ℕ) → is_own g.program n to 1 ≡ true → Placed g n a (PutBit to v ∷ r) s m w c → ((d : Machine) → Placed g n a r s (with_byte m to (bytes.Number v)) w d → Comes g T q l d) → Comes g T (4 + q) l c
   unfolding act
   put_bit_then to v r m c q l own p next =
       let f = other c.code (PutBit to v) r tt p.code in
       let d : Machine = record { copy = n; passing = a; code = f.rest; stack = c.stack; memory = with_byte m to (bytes.Number v); world = w } in
       let em = most_does g n a (PutBit to v ∷ r) s m w c p (PutBit to v) r f due in
-      let el = least_does g n a (PutBit to v ∷ r) s m w c p (PutBit to v) r f due in
-      comes_first g T q l 4 1 c d
+      comes_free g T q l 4 c d
       (does g n a (PutBit to v ∷ r) s m w c p (PutBit to v) r f due ∙ own_put g.program to (bytes.Number v) f.rest n a c.stack m w own)
-      (omega arith) (omega arith)
+      (omega arith)
       (next d (record { copy = refl; passing = refl; code = f.behind; stack = p.stack; memory = refl; world = now }))
 
   -- the register is written back, which is an event
@@ -119,7 +118,7 @@ module _ (z : Scene) (laws : SceneLaws z) (cp : CopyOf) (k : List Pending) (l : 
   -- and its value goes on
   pub bit_done : (at : spot.Spot) (byte : value.Byte) (v : Datum) (k' : List Pending) (w : World value.Byte) (c : Machine) → byte_count v ≤ 1 → bytes.Number (number_in byte) ≡ held z (byte_of v 0)
       → r ≡ code_after (ground_in z cp) k' → stack_after z (ground_in z cp) k ≡ stack_after z (ground_in z cp) k' → base (ground_in z cp) k' ≡ to → ((m : Memory) → Holds z (ground_in z cp) k m → Holds z (ground_in z cp) k' m) → active cp (Fetch at (byte ∷ [])) k ≡ active cp (Value v) k' → is_due (arrived z.outside w) ≡ false
-      → Mirrors z (state cp (Fetch at (byte ∷ [])) k l w) c → Comes (core_in z) (Mirrors z (state cp (Value v) k' l (arrived z.outside w))) 4 1 c
+      → Mirrors z (state cp (Fetch at (byte ∷ [])) k l w) c → Comes (core_in z) (Mirrors z (state cp (Value v) k' l (arrived z.outside w))) 4 0 c
   bit_done at byte v k' w c few same_byte_is rest stack based holds live due h =
       let n = number z cp in
       let g = ground_in z cp in
@@ -131,7 +130,7 @@ module _ (z : Scene) (laws : SceneLaws z) (cp : CopyOf) (k : List Pending) (l : 
       let low = reads.based in
       let high = value_high z cp k around in
       let now : reading_at z g k at (byte ∷ []) ≡ PutBit (Frame n to) (number_in byte) ∷ code_after g k' = reads.code at (byte ∷ []) ∙ ap (λ i. PutBit (Frame i to) (number_in byte) ∷ r) (own_copy z cp) ∙ ap (λ y. PutBit (Frame n to) (number_in byte) ∷ y) rest in
-      comes_within (core_in z) T (4 + 0) (1 + 0) 4 1 c
+      comes_within (core_in z) T (4 + 0) 0 4 0 c
       (put_bit_then (core_in z) T n None (stack_after z g k) W (due_below z (arrived z.outside w) due) (again_below z w) (Frame n to) (number_in byte) (code_after g k') c.memory c 0 0 (own_frame (core_in z).program n to 1 room)
       (subst (λ y. Placed (core_in z) n None y (stack_after z g k) c.memory W c) now (placed_of z (state cp (Fetch at (byte ∷ [])) k l w) c h))
       (λ d pd. arrive z cp (Value v) k' l w m' d (subst (λ y. Placed (core_in z) n None (code_after g k') y m' W d) stack pd)

@@ -118,7 +118,7 @@ call_case z laws f arguments ty line values k cp l w c count reached there far a
     ∙ ap (λ i. todo (copies (Frame q 0) (Frame i b) count) (Todo [] (code.Call q) ∷ r)) (own_copy z cp) in
     let no = due_below z (arrived z.outside w) due in
     let ag = again_below z w in
-    comes_within (core_in z) T (6 * count + (6 + 0)) (count + (1 + 0)) (6 * count + 6) 1 c
+    comes_within (core_in z) T (6 * count + (6 + 0)) (1 + 0) (6 * count + 6) 1 c
     (passes_then (core_in z) T n q s W no ag may far small count b (Todo [] (code.Call q) ∷ r) c.memory c (6 + 0) (1 + 0) params frame (omega arith) room
     (subst (λ x. Placed (core_in z) n None x s c.memory W c) now (placed_of z (state cp Calls (In e (Passed values) ∷ k) l w) c h))
     (λ d pd. call_then (core_in z) T n q s W no ag may far small count b r c.memory d 0 0 pd

@@ -26,8 +26,8 @@ use Rattle.lower_trace.proofs.Kept.{SceneLaws, holds_near}
 use Rattle.lower_trace.proofs.Mirrors.{Agrees, HasDatum, Holds, core_byte}
 use Rattle.lower_trace.proofs.Moving.{binary_any_then}
 use Rattle.lower_trace.proofs.Narrowing.{narrow_bytes, pattern_cut}
-use Rattle.lower_trace.proofs.Operating.{IsPlain, convert_then, itself, or_true, plain_alone, plain_cost, plain_gives, plain_least, plain_right, value_number}
-use Rattle.lower_trace.proofs.Operations.{Comes, comes_within, le_true, own_frame}
+use Rattle.lower_trace.proofs.Operating.{IsPlain, convert_then, itself, plain_alone, plain_cost, plain_gives, plain_right, value_number}
+use Rattle.lower_trace.proofs.Operations.{Comes, comes_within, le_true, own_frame, or_second}
 use Rattle.lower_trace.proofs.Passing.{apart_of}
 use Rattle.lower_trace.proofs.Placed.{Placed}
 use Rattle.lower_trace.proofs.Written.{IsClear, both, bytes_clear, bytes_there}
@@ -108,10 +108,8 @@ module _ (z : Scene) (g : Setting) (T : Machine → Type 0) (n : ℕ) (s : List 
       → ((d : Machine) (m' : Memory) → OnlyAbove n b m m' → HasDatum z n b (datum.Number (cut_to to x.number)) m' → Placed g n None r s m' w d → Comes g T q l d) → Comes g T (24 + q) l c
   widen_case true to x b r m c q l e xr le room hx p next =
       let m' = with_bytes m (Frame n b) (bytes_of to) (core.byte_of (core.Number (cut_to to x.number))) in
-      comes_within g T (24 + q) (1 + l) (24 + q) l c
-      (convert_then z g T n s w due now to x b r m c q l xr e (omega arith) room hx (subst (λ y. Placed g n None y s m w c) (ap (λ f. todo (if f then code.Convert x.ty to (Frame n b) ∷ [] else []) r) e) p)
-      (λ d pd. next d m' (above_written n b b (bytes_of to) m (core.byte_of (core.Number (cut_to to x.number))) (omega arith)) (λ i lt. bytes_there m n b (bytes_of to) (core.byte_of (core.Number (cut_to to x.number))) i lt) pd))
-      (omega arith) (omega arith)
+      convert_then z g T n s w due now to x b r m c q l xr e (omega arith) room hx (subst (λ y. Placed g n None y s m w c) (ap (λ f. todo (if f then code.Convert x.ty to (Frame n b) ∷ [] else []) r) e) p)
+      (λ d pd. next d m' (above_written n b b (bytes_of to) m (core.byte_of (core.Number (cut_to to x.number))) (omega arith)) (λ i lt. bytes_there m n b (bytes_of to) (core.byte_of (core.Number (cut_to to x.number))) i lt) pd)
   widen_case false to x b r m c q l e xr le room hx p next =
       let ge = not_less (bytes_of x.ty) (bytes_of to) e in
       comes_within g T q l (24 + q) l c
@@ -130,14 +128,14 @@ module _ (z : Scene) (g : Setting) (T : Machine → Type 0) (n : ℕ) (s : List 
       → ((d : Machine) (m' : Memory) → OnlyAbove n b m m' → (keeps ≡ true → (j : ℕ) → j < i → m' (Frame n (b + j)) ≡ m (Frame n (y + j))) → Placed g n None r s m' w d → Comes g T q l d) → Comes g T (24 + q) l c
   keep_then true b y i r m c q l few apart room from p next =
       let m' = with_bytes m (Frame n b) i (λ j. m (Frame n (y + j))) in
-      comes_within g T (6 * i + q) (i + l) (24 + q) l c
+      comes_within g T (6 * i + q) l (24 + q) l c
       (move_then g T n None s w due now small b y i r m c q l (inr apart) room from p
       (λ d pd. next d m' (above_written n b b i m (λ j. m (Frame n (y + j))) (omega arith)) (λ e j lt. bytes_there m n b i (λ j. m (Frame n (y + j))) j lt) pd))
       (omega arith) (omega arith)
   keep_then false b y i r m c q l few apart room from p next = comes_within g T q l (24 + q) l c (next c m (above_same n b m) (λ e. absurd (cc)) p) (omega arith) (omega arith)
 
 misses_low : (n b y w : ℕ) → y + w ≤ b → misses (Frame n b) w (Frame n y) w ≡ true
-misses_low n b y w le = or_true (not (nat_eq n n)) _ (or_true (nat_le (b + w) y) (nat_le (y + w) b) (le_true (y + w) b le))
+misses_low n b y w le = or_second (not (nat_eq n n)) _ (or_second (nat_le (b + w) y) (nat_le (y + w) b) (le_true (y + w) b le))
 
 -- an operator on two numbers, of which the right one lies lower
 abbrev pub IsSum : BinOp → Type 0
@@ -185,7 +183,7 @@ sum_type ops.Eq ty p = absurd p
 sum_type ops.Ne ty p = absurd p
 
 sum_low : (n b y w : ℕ) → y + w ≤ b → (is_same_or_misses w (Frame n b) (Frame n b) && is_same_or_misses w (Frame n b) (Frame n y)) ≡ true
-sum_low n b y w le = both _ _ (itself n b w) (or_true (same_byte (Frame n b) (Frame n y)) _ (misses_low n b y w le))
+sum_low n b y w le = both _ _ (itself n b w) (or_second (same_byte (Frame n b) (Frame n y)) _ (misses_low n b y w le))
 
 sum_fits_low : (op : BinOp) (w : ℕ) (count : Option ℕ) (n b y : ℕ) → IsSum op → y + w ≤ b → fits_bytes op w count (Frame n b) (Frame n b) (Frame n y) ≡ true
 sum_fits_low ops.Add w count n b y p le = sum_low n b y w le
@@ -208,7 +206,7 @@ sum_fits_low ops.Ne w count n b y p le = absurd p
 pub sum_then : (z : Scene) (g : Setting) (T : Machine → Type 0) (n : ℕ) (s : List Waiting) (w : World Held) (due : is_due w ≡ false) (now : arrived g.outside w ≡ w) (op : BinOp) (x y : Quantity) (b at : ℕ) (r : List Task) (m : Memory) (c : Machine) (q l : ℕ) → IsSum op → IsInRange x.ty x.number → IsInRange y.ty y.number → y.ty ≡ x.ty
     → at + bytes_of x.ty ≤ b → b + bytes_of x.ty ≤ g.program.frame_bytes n → HasDatum z n b (datum.Number x) m → HasDatum z n at (datum.Number y) m
     → Placed g n None (Todo [] (code.Binary op x.ty (Frame n b) (Frame n b) (Frame n at)) ∷ r) s m w c
-    → ((d : Machine) (m' : Memory) → OnlyAbove n b m m' → ((t : ℕ) → b + bytes_of x.ty ≤ t → m' (Frame n t) ≡ m (Frame n t)) → HasDatum z n b (datum.Number (value_of op x y)) m' → Placed g n None r s m' w d → Comes g T q l d) → Comes g T (10 * bytes_of x.ty + 30 + q) (1 + l) c
+    → ((d : Machine) (m' : Memory) → OnlyAbove n b m m' → ((t : ℕ) → b + bytes_of x.ty ≤ t → m' (Frame n t) ≡ m (Frame n t)) → HasDatum z n b (datum.Number (value_of op x y)) m' → Placed g n None r s m' w d → Comes g T q l d) → Comes g T (10 * bytes_of x.ty + 30 + q) l c
 unfolding fits_together binary_value
 sum_then z g T n s w due now op x y b at r m c q l sum xr yr same_ty low room hx hy p next =
     let plain = sum_plain op sum in
@@ -224,7 +222,7 @@ sum_then z g T n s w due now op x y b at r m c q l sum xr yr same_ty low room hx
     (value_number z n b x m xr hx) vy
     (λ s' e. ap (λ o. option_map core.Number o) (plain_gives op x y plain))
     (own_frame g.program n b (bytes_of v.ty) (omega arith))
-    (λ count. plain_cost op count i plain) (let e = plain_least op plain in omega arith) p
+    (λ count. plain_cost op count i plain) p
     (λ d pd. next d m' (above_written n b b (bytes_of v.ty) m (core.byte_of (core.Number v)) (omega arith)) (λ t le. bytes_clear m n b (bytes_of v.ty) (core.byte_of (core.Number v)) (Frame n t) (inr (inr (omega arith)))) (λ j lt. bytes_there m n b (bytes_of v.ty) (core.byte_of (core.Number v)) j lt) pd)
 
 raise_below : (n b kept : ℕ) (x : Byte) → b ≤ kept → IsBelow n b x → IsBelow n kept x
@@ -247,13 +245,13 @@ pub change_then : (z : Scene) (g : Setting) (T : Machine → Type 0) (n : ℕ) (
     → at + bytes_of to ≤ b → i ≤ 4 → i ≤ bytes_of x.ty → b + i ≤ kept → b + bytes_of to ≤ kept → b + bytes_of to ≤ g.program.frame_bytes n → kept + i ≤ g.program.frame_bytes n → HasDatum z n b (datum.Number x) m → HasDatum z n at (datum.Number y) m
     → Placed g n None (todo (wider x.ty to (Frame n b)) (todo (copies_if keeps (Frame n kept) (Frame n b) i) (Todo [] (code.Binary op to (Frame n b) (Frame n b) (Frame n at)) ∷ r))) s m w c
     → ((d : Machine) (m' : Memory) → OnlyAbove n b m m' → HasDatum z n b (datum.Number (value_of op (cut_to to x.number) y)) m' → (keeps ≡ true → (j : ℕ) → j < i → m' (Frame n (kept + j)) ≡ held z (byte_of (datum.Number x) j)) → Placed g n None r s m' w d → Comes g T q l d)
-    → Comes g T (24 + (24 + (10 * bytes_of to + 30 + q))) (1 + l) c
+    → Comes g T (24 + (24 + (10 * bytes_of to + 30 + q))) l c
 change_then z g T n s w due now op to x y keeps b at kept i r m c q l small sum xr yr same_ty le low few part above_b above_to room kept_room hx hy p next =
     let v = cut_to to x.number in
     let vr : IsInRange to v.number = in_range to x.number in
-    widen_then z g T n s w due now small to x b (todo (copies_if keeps (Frame n kept) (Frame n b) i) (Todo [] (code.Binary op to (Frame n b) (Frame n b) (Frame n at)) ∷ r)) m c (24 + (10 * bytes_of to + 30 + q)) (1 + l) xr le room hx p
+    widen_then z g T n s w due now small to x b (todo (copies_if keeps (Frame n kept) (Frame n b) i) (Todo [] (code.Binary op to (Frame n b) (Frame n b) (Frame n at)) ∷ r)) m c (24 + (10 * bytes_of to + 30 + q)) l xr le room hx p
     (λ d1 m1 above1 h1 p1.
-    keep_then z g T n s w due now small keeps kept b i (Todo [] (code.Binary op to (Frame n b) (Frame n b) (Frame n at)) ∷ r) m1 d1 (10 * bytes_of to + 30 + q) (1 + l) few above_b kept_room (omega arith) p1
+    keep_then z g T n s w due now small keeps kept b i (Todo [] (code.Binary op to (Frame n b) (Frame n b) (Frame n at)) ∷ r) m1 d1 (10 * bytes_of to + 30 + q) l few above_b kept_room (omega arith) p1
     (λ d2 m2 above2 h2 p2.
     sum_then z g T n s w due now op v y b at r m2 d2 q l sum vr yr same_ty low room
     (datum_above z n b kept (datum.Number v) m1 m2 above_to above2 h1)

@@ -271,7 +271,7 @@ module _ (z : Scene) (laws : SceneLaws z) where
   -- A truth value is set at its place, and the code of so many choices joins.
   truth_set : (held_value : Bool) (i : ℕ) (k : List Pending) (cp : CopyOf) (l : source.Memory) (w : World value.Byte) (m : Memory) (c : Machine) → Around z cp k → base (ground_in z cp) k + 2 ≤ (core_in z).program.frame_bytes (number z cp) → is_due (arrived z.outside w) ≡ false → Agrees z (active cp (Value (truth_value held_value)) k) l m → Holds z (ground_in z cp) k m
       → Placed (core_in z) (number z cp) None (todo (sets (Frame (ground_in z cp).copy (base (ground_in z cp) k)) (if held_value then 1 else 0) 2) (joins i (code_after (ground_in z cp) k))) (stack_after z (ground_in z cp) k) m (world_as (held z) (arrived z.outside w)) c
-      → Comes (core_in z) (Mirrors z (state cp (Value (truth_value held_value)) k l (arrived z.outside w))) (8 + 4 * i) 2 c
+      → Comes (core_in z) (Mirrors z (state cp (Value (truth_value held_value)) k l (arrived z.outside w))) (8 + 4 * i) 0 c
   truth_set held_value i k cp l w m c around room due agrees holds p =
       let n = number z cp in
       let g = ground_in z cp in
@@ -283,7 +283,7 @@ module _ (z : Scene) (laws : SceneLaws z) where
       let h : ℕ → Held = λ j. bytes.Number (byte_at x j) in
       let m' = with_bytes m (Frame n b) 2 h in
       let small = laws.small n in
-      comes_within (core_in z) T (4 * 2 + (4 * i + 0)) (2 + 0) (8 + 4 * i) 2 c
+      comes_within (core_in z) T (4 * 2 + (4 * i + 0)) 0 (8 + 4 * i) 0 c
       (sets_then (core_in z) T n None s W (due_below z (arrived z.outside w) due) (again_below z w) 2 b x (joins i (code_after g k)) m c (4 * i + 0) 0 room (omega arith)
       (subst (λ f. Placed (core_in z) n None (todo (sets (Frame f b) x 2) (joins i (code_after g k))) s m W c) (own_copy z cp) p)
       (λ d pd. joins_then (core_in z) T n None W (due_below z (arrived z.outside w) due) (again_below z w) i (code_after g k) s m' d 0 0 pd
@@ -334,8 +334,8 @@ module _ (z : Scene) (laws : SceneLaws z) where
       let T = Mirrors z (state cp (Value (truth_value held_value)) k l (arrived z.outside w)) in
       let x = test_size (value_width g.layout left) in
       let other = expr_code g.layout g.copy b true right ++ tested (Frame g.copy b) (value_width g.layout right) 1 0 ∷ [] in
-      comes_within (core_in z) T (4 * x + 16 + (8 + 4 * 1)) (1 + 2) (4 * byte_count v + 28) 1 c
-      (choice_then (core_in z) T n None (world_as (held z) (arrived z.outside w)) (due_below z (arrived z.outside w) due) (again_below z w) (Frame g.copy b) x held_value (first_side op b g other) (second_side op b g other) (code_after g k) (stack_after z g k) c.memory c (8 + 4 * 1) 2
+      comes_within (core_in z) T (4 * x + 16 + (8 + 4 * 1)) (1 + 0) (4 * byte_count v + 28) 1 c
+      (choice_then (core_in z) T n None (world_as (held z) (arrived z.outside w)) (due_below z (arrived z.outside w) due) (again_below z w) (Frame g.copy b) x held_value (first_side op b g other) (second_side op b g other) (code_after g k) (stack_after z g k) c.memory c (8 + 4 * 1) 0
       (own_test b x cp (omega arith)) (truth_there vt v held_value b x cp c.memory t lt size h.value is)
       (subst (λ y. Placed (core_in z) n None (Todo [] y ∷ code_after g k) (stack_after z g k) c.memory (world_as (held z) (arrived z.outside w)) c) (row_is op b (value_width g.layout left) g other) (placed_of z (state cp (Value v) (In e Nothing ∷ k) l w) c h))
       (λ d pd. truth_set held_value 1 k cp l w c.memory d around two due h.agrees h.holds.1
@@ -394,8 +394,8 @@ module _ (z : Scene) (laws : SceneLaws z) where
       let n = number z cp in
       let T = Mirrors z (state cp (Value (truth_value held_value)) k l (arrived z.outside w)) in
       let x = test_size (value_width g.layout right) in
-      comes_within (core_in z) T (4 * x + 16 + (8 + 4 * 2)) (1 + 2) (4 * byte_count v + 32) 1 c
-      (choice_then (core_in z) T n None (world_as (held z) (arrived z.outside w)) (due_below z (arrived z.outside w) due) (again_below z w) (Frame g.copy b) x held_value (sets (Frame g.copy b) 1 2) (sets (Frame g.copy b) 0 2) (Join ∷ code_after g k) (stack_after z g k) c.memory c (8 + 4 * 2) 2
+      comes_within (core_in z) T (4 * x + 16 + (8 + 4 * 2)) (1 + 0) (4 * byte_count v + 32) 1 c
+      (choice_then (core_in z) T n None (world_as (held z) (arrived z.outside w)) (due_below z (arrived z.outside w) due) (again_below z w) (Frame g.copy b) x held_value (sets (Frame g.copy b) 1 2) (sets (Frame g.copy b) 0 2) (Join ∷ code_after g k) (stack_after z g k) c.memory c (8 + 4 * 2) 0
       (own_test b x cp (omega arith)) (truth_there vt v held_value b x cp c.memory t lt size h.value is)
       (placed_of z (state cp (Value v) (In e (One u) ∷ k) l w) c h)
       (λ d pd. truth_set held_value 2 k cp l w c.memory d around two due h.agrees h.holds.1
@@ -421,8 +421,8 @@ module _ (z : Scene) (laws : SceneLaws z) where
       let n = number z cp in
       let T = Mirrors z (state cp (Value (truth_value b)) k l (arrived z.outside w)) in
       let x = test_size (value_width g.layout operand) in
-      comes_within (core_in z) T (4 * x + 16 + (8 + 4 * 1)) (1 + 2) (4 * byte_count v + 28) 1 c
-      (choice_then (core_in z) T n None (world_as (held z) (arrived z.outside w)) (due_below z (arrived z.outside w) due) (again_below z w) (Frame g.copy at) x (not b) (sets (Frame g.copy at) 0 2) (sets (Frame g.copy at) 1 2) (code_after g k) (stack_after z g k) c.memory c (8 + 4 * 1) 2
+      comes_within (core_in z) T (4 * x + 16 + (8 + 4 * 1)) (1 + 0) (4 * byte_count v + 28) 1 c
+      (choice_then (core_in z) T n None (world_as (held z) (arrived z.outside w)) (due_below z (arrived z.outside w) due) (again_below z w) (Frame g.copy at) x (not b) (sets (Frame g.copy at) 0 2) (sets (Frame g.copy at) 1 2) (code_after g k) (stack_after z g k) c.memory c (8 + 4 * 1) 0
       (own_test at x cp (omega arith)) (truth_there vt v (not b) at x cp c.memory t lt size h.value is)
       (placed_of z (state cp (Value v) (In e Nothing ∷ k) l w) c h)
       (λ d pd. truth_set b 1 k cp l w c.memory d around two due h.agrees h.holds.1

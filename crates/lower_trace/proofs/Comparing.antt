@@ -316,7 +316,7 @@ module _ (z : Scene) (laws : SceneLaws z) (e : Expression) (cases : List TCase) 
     -- up to the choice
     tested : (T : Machine → Type 0) (x y : ℕ) (equal : Bool) → int_eq q.number label.value.number ≡ equal
         → ((d : Machine) → Placed (core_in z) N None (Todo [] (picked equal (code.Exit (segments_before label.target (labels_in parts))) (many [])) ∷ Join ∷ todo (comparing G parts rest) []) loops (with_answer q label m) V d → Comes (core_in z) T x y d)
-        → Comes (core_in z) T (14 * bytes_of q.ty + 44 + x) (bytes_of q.ty + 2 + y) c
+        → Comes (core_in z) T (14 * bytes_of q.ty + 44 + x) (1 + y) c
     tested T x y equal is_equal next =
         let i = bytes_of q.ty in
         let b = G.base in
@@ -329,8 +329,8 @@ module _ (z : Scene) (laws : SceneLaws z) (e : Expression) (cases : List TCase) 
         let start : Placed (core_in z) N None (one_test label rest q.ty i (Frame N b) (Frame N (b + i)) (Frame N (b + 2 * i)) 2) loops m V c =
         subst (λ f. Placed (core_in z) N None f loops m V c) (labelled (labels_in parts) label.target (todo (comparing G parts (label ∷ rest)) []) (code_after G k) is.there ∙ test_is q label rest type (omega arith))
         (subst (λ f. Placed (core_in z) N None (if_labelled (labels_in parts) (todo (comparing G parts (label ∷ rest)) []) (code_after G k)) f m V c) (labelled (labels_in parts) label.target loops (stack_after z G k) is.there) p) in
-        comes_within (core_in z) T (4 * i + (10 * i + 20 + (4 * 2 + 16 + x))) (i + (1 + (1 + y))) (14 * i + 44 + x) (i + 2 + y) c
-        (sets_then (core_in z) T N None loops V no ag i (b + i) (pattern label.value.ty label.value.number) (Todo [] (code.Binary ops.Eq q.ty (Frame N (b + 2 * i)) (Frame N b) (Frame N (b + i))) ∷ chooses) m c (10 * i + 20 + (4 * 2 + 16 + x)) (1 + (1 + y)) (omega arith) (omega arith) start
+        comes_within (core_in z) T (4 * i + (10 * i + 20 + (4 * 2 + 16 + x))) (1 + y) (14 * i + 44 + x) (1 + y) c
+        (sets_then (core_in z) T N None loops V no ag i (b + i) (pattern label.value.ty label.value.number) (Todo [] (code.Binary ops.Eq q.ty (Frame N (b + 2 * i)) (Frame N b) (Frame N (b + i))) ∷ chooses) m c (10 * i + 20 + (4 * 2 + 16 + x)) (1 + y) (omega arith) (omega arith) start
         (λ d pd. equal_then z (core_in z) T N loops V no ag q label.value b chooses (with_label q label m) d (4 * 2 + 16 + x) (1 + y) range is.range is.same room value_kept label_there pd
         (λ f pf. if_then (core_in z) T N None V no ag (Frame N (b + 2 * i)) 2 equal (code.Exit segment) (many []) R loops (with_answer q label m) f x y
         (own_frame (core_in z).program N (b + 2 * i) 2 room)
@@ -339,12 +339,12 @@ module _ (z : Scene) (laws : SceneLaws z) (e : Expression) (cases : List TCase) 
         (omega arith) (omega arith)
 
     label_case : (equal : Bool) → int_eq q.number label.value.number ≡ equal
-        → FollowOn z (14 * bytes_of q.ty + 48) (bytes_of q.ty + 2) c (if equal then jump switch label.target ss k cp l (arrived z.outside w) else Went (state cp (Compares (datum.Number q) rest) (Doing switch Chooses ∷ k) l (arrived z.outside w)) None)
+        → FollowOn z (14 * bytes_of q.ty + 48) 1 c (if equal then jump switch label.target ss k cp l (arrived z.outside w) else Went (state cp (Compares (datum.Number q) rest) (Doing switch Chooses ∷ k) l (arrived z.outside w)) None)
     unfolding active
     label_case true is_equal =
         let last = statements_behind label.target ss in
         let T : Machine → Type 0 = λ d. Mirrors z (state cp Past (Before last ∷ Doing switch Turns ∷ k) l (arrived z.outside w)) d ⊎ Led z cp last (Doing switch Turns ∷ k) l (arrived z.outside w) d in
-        comes_within (core_in z) T (14 * bytes_of q.ty + 44 + 4) (bytes_of q.ty + 2 + 0) (14 * bytes_of q.ty + 48) (bytes_of q.ty + 2) c
+        comes_within (core_in z) T (14 * bytes_of q.ty + 44 + 4) (1 + 0) (14 * bytes_of q.ty + 48) 1 c
         (tested T 4 0 true is_equal
         (λ d pd. led_then z e cases default ss line k cp l w (with_answer q label m) due agrees_behind holds_behind label.target (Join ∷ todo (comparing G parts rest) []) d is.few is.there pd))
         (omega arith) (omega arith)
@@ -355,7 +355,7 @@ module _ (z : Scene) (laws : SceneLaws z) (e : Expression) (cases : List TCase) 
         let ag = again_below z w in
         let R = todo (comparing G parts rest) [] in
         let m' = with_answer q label m in
-        comes_within (core_in z) T (14 * bytes_of q.ty + 44 + 4) (bytes_of q.ty + 2 + 0) (14 * bytes_of q.ty + 48) (bytes_of q.ty + 2) c
+        comes_within (core_in z) T (14 * bytes_of q.ty + 44 + 4) (1 + 0) (14 * bytes_of q.ty + 48) 1 c
         (tested T (4 + 0) 0 false is_equal
         (λ d pd. many_then (core_in z) T N None V no ag [] (Join ∷ R) loops m' d (4 + 0) 0 pd
         (λ f pf. join_then (core_in z) T N None V no ag R loops m' f 0 0 pf
@@ -369,12 +369,12 @@ module _ (z : Scene) (laws : SceneLaws z) (e : Expression) (cases : List TCase) 
   pub compares_label : (v : Datum) (ty : IntTy) (label : TCase) (rest : List TCase) (w : World value.Byte) (c : Machine) → type_of e ≡ types.Int ty → HasType z.program (type_of e) v → IsLabel ty (record { value = e; cases = cases; default = default; body = ss }) label → Around z cp (Doing (tree.Switch e cases default ss line) Chooses ∷ k)
       → (ground_in z cp).base + 2 * bytes_of ty + 2 ≤ (core_in z).program.frame_bytes (number z cp) → is_due (arrived z.outside w) ≡ false
       → Mirrors z (state cp (Compares v (label ∷ rest)) (Doing (tree.Switch e cases default ss line) Chooses ∷ k) l w) c
-      → FollowOn z (14 * bytes_of ty + 48) (bytes_of ty + 2) c (compares v (label ∷ rest) (Doing (tree.Switch e cases default ss line) Chooses ∷ k) cp l (arrived z.outside w))
+      → FollowOn z (14 * bytes_of ty + 48) 1 c (compares v (label ∷ rest) (Doing (tree.Switch e cases default ss line) Chooses ∷ k) cp l (arrived z.outside w))
   unfolding active
   compares_label datum.Missing ty label rest w c type t is around room due h = let q = h.value.0 in absurd (omega arith)
   compares_label (datum.Pointer y) ty label rest w c type t is around room due h = let q : is_pointer (types.Int ty) ≡ true = ap is_pointer (sym type) ∙ t.0 in absurd (cc)
   compares_label (datum.Number q) ty label rest w c type t is around room due h =
       let same : q.ty ≡ ty = ap operation_type (sym t.0 ∙ type) in
-      subst (λ y. FollowOn z (14 * bytes_of y + 48) (bytes_of y + 2) c (compares (datum.Number q) (label ∷ rest) (Doing switch Chooses ∷ k) cp l (arrived z.outside w))) same
+      subst (λ y. FollowOn z (14 * bytes_of y + 48) 1 c (compares (datum.Number q) (label ∷ rest) (Doing switch Chooses ∷ k) cp l (arrived z.outside w))) same
       (label_case q label rest w c.memory c due t.0 t.1 (subst (λ y. IsLabel y parts label) (sym same) is) around (subst (λ y. G.base + 2 * bytes_of y + 2 ≤ (core_in z).program.frame_bytes N) (sym same) room) h.value.1 h.agrees h.holds (placed_of z (state cp (Compares (datum.Number q) (label ∷ rest)) (Doing switch Chooses ∷ k) l w) c h)
       (int_eq q.number label.value.number) refl)

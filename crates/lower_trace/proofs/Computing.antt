@@ -88,7 +88,7 @@ plain_answer p live op ty x y plain = ap (λ f. unless_bad f (on_values p live o
 pub binary_given : (z : Scene) (laws : SceneLaws z) (op : BinOp) (left right : Expression) (ty : Ty) (line : ℕ) (x y : Quantity) (k : List Pending) (cp : CopyOf) (l : source.Memory) (w : World value.Byte) (c : Machine) → Around z cp k → IsPlain op → type_of left ≡ types.Int x.ty → y.ty ≡ x.ty → IsInRange x.ty x.number → IsInRange y.ty y.number
     → base (ground_in z cp) k + bytes_of x.ty + bytes_of x.ty ≤ (core_in z).program.frame_bytes (number z cp) → base (ground_in z cp) k + bytes_of (result_type op x.ty) ≤ (core_in z).program.frame_bytes (number z cp) → is_due (arrived z.outside w) ≡ false
     → Mirrors z (state cp (Value (datum.Number y)) (In (tree.Binary op left right ty line) (One (datum.Number x)) ∷ k) l w) c
-    → Follow z (10 * bytes_of x.ty + 30) 1 c (take_in (source_in z) (tree.Binary op left right ty line) (One (datum.Number x)) (datum.Number y) k cp l (arrived z.outside w))
+    → Follow z (10 * bytes_of x.ty + 30) 0 c (take_in (source_in z) (tree.Binary op left right ty line) (One (datum.Number x)) (datum.Number y) k cp l (arrived z.outside w))
 unfolding active
 binary_given z laws op left right ty line x y k cp l w c around plain type same xr yr room out due h =
     let e = tree.Binary op left right ty line in
@@ -111,8 +111,8 @@ binary_given z laws op left right ty line x y k cp l w c around plain type same 
     ∙ ap (λ f. Todo [] (code.Binary op x.ty (Frame f b) (Frame f b) (Frame f (b + i))) ∷ code_after g k) (own_copy z cp) in
     let hx : HasDatum z n b (datum.Number x) c.memory = subst (λ f. HasDatum z f b (datum.Number x) c.memory) (own_copy z cp) h.holds.0.0 in
     let hy : HasDatum z n (b + i) (datum.Number y) c.memory = subst (λ f. HasDatum z n f (datum.Number y) c.memory) second (subst (λ f. HasDatum z f (beyond b (value_width g.layout left)) (datum.Number y) c.memory) (own_copy z cp) h.value) in
-    subst (λ a. Follow z (10 * i + 30) 1 c (answered a line k cp l (arrived z.outside w))) (sym (plain_answer z.program (active cp (Value (datum.Number y)) k) op ty x y plain))
-    (comes_within (core_in z) T (10 * i + 30 + 0) (1 + 0) (10 * i + 30) 1 c
+    subst (λ a. Follow z (10 * i + 30) 0 c (answered a line k cp l (arrived z.outside w))) (sym (plain_answer z.program (active cp (Value (datum.Number y)) k) op ty x y plain))
+    (comes_within (core_in z) T (10 * i + 30 + 0) 0 (10 * i + 30) 0 c
     (binary_then z (core_in z) T n s W (due_below z (arrived z.outside w) due) (again_below z w) op x y b (code_after g k) c.memory c 0 0 plain xr yr same room out hx hy
     (subst (λ f. Placed (core_in z) n None f s c.memory W c) now (placed_of z (state cp (Value (datum.Number y)) (In e (One (datum.Number x)) ∷ k) l w) c h))
     (λ d pd. comes_here (core_in z) T d
@@ -131,7 +131,7 @@ signed_row unary.Bang ty at size r s = absurd s
 pub unary_given : (z : Scene) (laws : SceneLaws z) (op : UnOp) (operand : Expression) (ty : Ty) (line : ℕ) (x : Quantity) (k : List Pending) (cp : CopyOf) (l : source.Memory) (w : World value.Byte) (c : Machine) → Around z cp k → IsSigned op → ty ≡ types.Int x.ty → nat_lt 1 (bytes_of x.ty) ≡ true → IsInRange x.ty x.number
     → base (ground_in z cp) k + bytes_of x.ty ≤ (core_in z).program.frame_bytes (number z cp) → base (ground_in z cp) k + bytes_of (unary_type op x.ty) ≤ (core_in z).program.frame_bytes (number z cp) → is_due (arrived z.outside w) ≡ false
     → Mirrors z (state cp (Value (datum.Number x)) (In (tree.Unary op operand ty line) Nothing ∷ k) l w) c
-    → Follow z (10 * bytes_of x.ty) 1 c (take_in (source_in z) (tree.Unary op operand ty line) Nothing (datum.Number x) k cp l (arrived z.outside w))
+    → Follow z (10 * bytes_of x.ty) 0 c (take_in (source_in z) (tree.Unary op operand ty line) Nothing (datum.Number x) k cp l (arrived z.outside w))
 unfolding active unary_answer
 unary_given z laws op operand ty line x k cp l w c around signed type two xr room out due h =
     let e = tree.Unary op operand ty line in
@@ -144,7 +144,7 @@ unary_given z laws op operand ty line x k cp l w c around signed type two xr roo
     let s = stack_after z g k in
     let now : todo (unary_row op (operation_type ty) (Frame g.copy b) (value_width g.layout operand)) (code_after g k) ≡ Todo [] (code.Unary op x.ty (Frame n b)) ∷ code_after g k =
     ap (λ t. todo (unary_row op (operation_type t) (Frame g.copy b) (value_width g.layout operand)) (code_after g k)) type ∙ signed_row op x.ty (Frame g.copy b) (value_width g.layout operand) (code_after g k) signed ∙ ap (λ i. Todo [] (code.Unary op x.ty (Frame i b)) ∷ code_after g k) (own_copy z cp) in
-    comes_within (core_in z) T (10 * bytes_of x.ty + 0) (1 + 0) (10 * bytes_of x.ty) 1 c
+    comes_within (core_in z) T (10 * bytes_of x.ty + 0) 0 (10 * bytes_of x.ty) 0 c
     (unary_then z (core_in z) T n s W (due_below z (arrived z.outside w) due) (again_below z w) op x b (code_after g k) c.memory c 0 0 signed two xr room out (subst (λ i. HasDatum z i b (datum.Number x) c.memory) (own_copy z cp) h.value)
     (subst (λ f. Placed (core_in z) n None f s c.memory W c) now (placed_of z (state cp (Value (datum.Number x)) (In e Nothing ∷ k) l w) c h))
     (λ d pd. comes_here (core_in z) T d
@@ -157,7 +157,7 @@ unary_given z laws op operand ty line x k cp l w c around signed type two xr roo
 pub widened_given : (z : Scene) (laws : SceneLaws z) (operand : Expression) (to : IntTy) (line : ℕ) (x : Quantity) (k : List Pending) (cp : CopyOf) (l : source.Memory) (w : World value.Byte) (c : Machine) → Around z cp k → type_of operand ≡ types.Int x.ty → nat_lt (bytes_of x.ty) (bytes_of to) ≡ true → IsInRange x.ty x.number
     → base (ground_in z cp) k + bytes_of x.ty ≤ (core_in z).program.frame_bytes (number z cp) → base (ground_in z cp) k + bytes_of to ≤ (core_in z).program.frame_bytes (number z cp) → is_due (arrived z.outside w) ≡ false
     → Mirrors z (state cp (Value (datum.Number x)) (In (tree.Convert operand (types.Int to) line) Nothing ∷ k) l w) c
-    → Follow z (8 + 4 * (bytes_of to - bytes_of x.ty)) 1 c (take_in (source_in z) (tree.Convert operand (types.Int to) line) Nothing (datum.Number x) k cp l (arrived z.outside w))
+    → Follow z (8 + 4 * (bytes_of to - bytes_of x.ty)) 0 c (take_in (source_in z) (tree.Convert operand (types.Int to) line) Nothing (datum.Number x) k cp l (arrived z.outside w))
 unfolding active converted
 widened_given z laws operand to line x k cp l w c around type wider_is xr room out due h =
     let e = tree.Convert operand (types.Int to) line in
@@ -172,7 +172,7 @@ widened_given z laws operand to line x k cp l w c around type wider_is xr room o
     ap (λ t. todo (widened t (types.Int to) (Frame g.copy b)) (code_after g k)) type
     ∙ ap (λ f. todo (if f then code.Convert x.ty to (Frame g.copy b) ∷ [] else []) (code_after g k)) wider_is
     ∙ ap (λ i. Todo [] (code.Convert x.ty to (Frame i b)) ∷ code_after g k) (own_copy z cp) in
-    comes_within (core_in z) T (8 + 4 * (bytes_of to - bytes_of x.ty) + 0) (1 + 0) (8 + 4 * (bytes_of to - bytes_of x.ty)) 1 c
+    comes_within (core_in z) T (8 + 4 * (bytes_of to - bytes_of x.ty) + 0) 0 (8 + 4 * (bytes_of to - bytes_of x.ty)) 0 c
     (convert_words_then z (core_in z) T n s W (due_below z (arrived z.outside w) due) (again_below z w) to x b (code_after g k) c.memory c 0 0 xr wider_is room out (subst (λ i. HasDatum z i b (datum.Number x) c.memory) (own_copy z cp) h.value)
     (subst (λ f. Placed (core_in z) n None f s c.memory W c) now (placed_of z (state cp (Value (datum.Number x)) (In e Nothing ∷ k) l w) c h))
     (λ d pd. comes_here (core_in z) T d

@@ -39,8 +39,8 @@ use Rattle.lower_trace.proofs.Kept.{SceneLaws, bytes_small, own_copy}
 use Rattle.lower_trace.proofs.Members.{if_datum}
 use Rattle.lower_trace.proofs.Mirrors.{HasDatum, Mirrors}
 use Rattle.lower_trace.proofs.Operating.{itself, value_number}
-use Rattle.lower_trace.proofs.Operations.{Comes, beyond_is, comes_first, comes_within, own_frame, own_put}
-use Rattle.lower_trace.proofs.Placed.{Front, Placed, front, least_operates, list_again, most_operates, operates, plain_tasks}
+use Rattle.lower_trace.proofs.Operations.{Comes, beyond_is, comes_free, comes_within, own_frame, own_put}
+use Rattle.lower_trace.proofs.Placed.{Front, Placed, front, list_again, most_operates, operates, plain_tasks}
 use Rattle.lower_trace.proofs.Written.{and_false, both, bytes_there, byte_same, nat_apart}
 use Rattle.pic_world.specs.World.{World, arrived, is_due, world_as}
 use Rattle.src_rules.specs.Giving.{answered, take_in}
@@ -96,9 +96,8 @@ module _ (g : Setting) (T : Machine → Type 0) (n : ℕ) (a : Option ℕ) (s : 
       let f = front c.code (many ts) r p.code in
       let d : Machine = record { copy = n; passing = a; code = tasks [] (list_of (trees_of ts)) f.rest; stack = c.stack; memory = m; world = w } in
       let em = most_operates g n a (Todo [] (many ts) ∷ r) s m w c p (many ts) r f due in
-      let el = least_operates g n a (Todo [] (many ts) ∷ r) s m w c p (many ts) r f due in
-      comes_within g T (0 + q) (0 + l) q l c
-      (comes_first g T q l 0 0 c d (operates g n a (Todo [] (many ts) ∷ r) s m w c p (many ts) r f due) (omega arith) (omega arith)
+      comes_within g T (0 + q) l q l c
+      (comes_free g T q l 0 c d (operates g n a (Todo [] (many ts) ∷ r) s m w c p (many ts) r f due) (omega arith)
       (next f.rest d (record { copy = refl; passing = refl; code = ap (λ y. tasks [] y f.rest) (list_again ts); left = f.behind; stack = p.stack; memory = refl; world = again })))
       (omega arith) (omega arith)
 
@@ -106,7 +105,7 @@ module _ (g : Setting) (T : Machine → Type 0) (n : ℕ) (a : Option ℕ) (s : 
   front_of before t us rest r m c x = record { before = before; rest = tasks (before ++ t ∷ []) us rest; is = x.code; behind = plain_tasks (before ++ t ∷ []) us rest ∙ ap (todo us) x.left }
 
   exact_set_then : (before us : List Tree) (off_is v : ℕ) (rest r : List Task) (m : Memory) (c : Machine) (q l : ℕ) → off_is < g.program.frame_bytes n → Exact g n a before (code.Set (Frame n off_is) v ∷ us) rest r s m w c
-      → ((d : Machine) → Exact g n a (before ++ code.Set (Frame n off_is) v ∷ []) us rest r s (with_byte m (Frame n off_is) (Number v)) w d → Comes g T q l d) → Comes g T (4 + q) (1 + l) c
+      → ((d : Machine) → Exact g n a (before ++ code.Set (Frame n off_is) v ∷ []) us rest r s (with_byte m (Frame n off_is) (Number v)) w d → Comes g T q l d) → Comes g T (4 + q) l c
   unfolding operate cost_of front_of
   exact_set_then before us off_is v rest r m c q l lt x next =
       let t = code.Set (Frame n off_is) v in
@@ -115,17 +114,16 @@ module _ (g : Setting) (T : Machine → Type 0) (n : ℕ) (a : Option ℕ) (s : 
       let m' = with_byte m (Frame n off_is) (Number v) in
       let d : Machine = record { copy = n; passing = a; code = tasks (before ++ t ∷ []) us rest; stack = c.stack; memory = m'; world = w } in
       let em = most_operates g n a (Todo [] t ∷ todo us r) s m w c p t (todo us r) f due in
-      let el = least_operates g n a (Todo [] t ∷ todo us r) s m w c p t (todo us r) f due in
-      comes_first g T q l 4 1 c d
+      comes_free g T q l 4 c d
       (operates g n a (Todo [] t ∷ todo us r) s m w c p t (todo us r) f due ∙ own_put g.program (Frame n off_is) (Number v) (tasks (before ++ t ∷ []) us rest) n a c.stack m w (own_frame g.program n off_is 1 (omega arith)))
-      (omega arith) (omega arith)
+      (omega arith)
       (next d (record { copy = refl; passing = refl; code = refl; left = x.left; stack = x.stack; memory = refl; world = again }))
 
   pub exact_sets_then : (k : ℕ) (before us : List Tree) (b v : ℕ) (rest r : List Task) (m : Memory) (c : Machine) (q l : ℕ) → b + k ≤ g.program.frame_bytes n → g.program.frame_bytes n ≤ 65535 → Exact g n a before (sets (Frame n b) v k ++ us) rest r s m w c
-      → ((d : Machine) → Exact g n a (before ++ sets (Frame n b) v k) us rest r s (with_bytes m (Frame n b) k (λ i. Number (byte_at v i))) w d → Comes g T q l d) → Comes g T (4 * k + q) (k + l) c
+      → ((d : Machine) → Exact g n a (before ++ sets (Frame n b) v k) us rest r s (with_bytes m (Frame n b) k (λ i. Number (byte_at v i))) w d → Comes g T q l d) → Comes g T (4 * k + q) l c
   unfolding sets
   exact_sets_then zero before us b v rest r m c q l le small x next =
-      comes_within g T q l (4 * 0 + q) (0 + l) c (next c (subst (λ y. Exact g n a y us rest r s m w c) (sym (append-nil before)) x)) (omega arith) (omega arith)
+      comes_within g T q l (4 * 0 + q) l c (next c (subst (λ y. Exact g n a y us rest r s m w c) (sym (append-nil before)) x)) (omega arith) (omega arith)
   exact_sets_then (suc k) before us b v rest r m c q l le small x next =
       let here : lower.behind (Frame n b) k ≡ Frame n (b + k) = ap (Frame n) (beyond_is b k (omega arith)) in
       let t = code.Set (Frame n (b + k)) (byte_at v k) in
@@ -134,8 +132,8 @@ module _ (g : Setting) (T : Machine → Type 0) (n : ℕ) (a : Option ℕ) (s : 
       ap (λ y. sets (Frame n b) v k ++ code.Set y (byte_at v k) ∷ [] ++ us) here ∙ append_assoc (sets (Frame n b) v k) (t ∷ []) us in
       let joined : before ++ sets (Frame n b) v k ++ t ∷ [] ≡ before ++ (sets (Frame n b) v k ++ code.Set (lower.behind (Frame n b) k) (byte_at v k) ∷ []) =
       append_assoc before (sets (Frame n b) v k) (t ∷ []) ∙ ap (λ y. before ++ (sets (Frame n b) v k ++ code.Set y (byte_at v k) ∷ [])) (sym here) in
-      comes_within g T (4 * k + (4 + q)) (k + (1 + l)) (4 * suc k + q) (suc k + l) c
-      (exact_sets_then k before (t ∷ us) b v rest r m c (4 + q) (1 + l) (omega arith) small (subst (λ y. Exact g n a before y rest r s m w c) split x)
+      comes_within g T (4 * k + (4 + q)) l (4 * suc k + q) l c
+      (exact_sets_then k before (t ∷ us) b v rest r m c (4 + q) l (omega arith) small (subst (λ y. Exact g n a before y rest r s m w c) split x)
       (λ d xd. exact_set_then (before ++ sets (Frame n b) v k) us (b + k) (byte_at v k) rest r m' d q l (omega arith) xd
       (λ e xe. next e (subst (λ y. Exact g n a y us rest r s (with_bytes m (Frame n b) (suc k) (λ i. Number (byte_at v i))) w e) joined xe))))
       (omega arith) (omega arith)
@@ -211,7 +209,6 @@ module _ (z : Scene) (laws : SceneLaws z) (T : Machine → Type 0) (n : ℕ) (s 
       let m' = with_bytes m (Frame n b) (bytes_of o.ty) (core.byte_of (core.Number o)) in
       let d : Machine = record { copy = n; passing = None; code = rest; stack = c.stack; memory = m'; world = w } in
       let em = most_operates g n None (Todo [] tree_is ∷ r) s m w c p tree_is r f due in
-      let el = least_operates g n None (Todo [] tree_is ∷ r) s m w c p tree_is r f due in
       let few = bytes_small ty in
       let cheap : binary_cost op (number_left before (Frame n y)) (bytes_of ty) ≤ 52 = subst (λ i. binary_cost op i (bytes_of ty) ≤ 52) (sym known) (shift_cheap op t (bytes_of ty) shift few) in
       let fits = shift_fits op ty t n b y shift two in
@@ -219,12 +216,10 @@ module _ (z : Scene) (laws : SceneLaws z) (T : Machine → Type 0) (n : ℕ) (s 
       let ox = own_frame g.program n b (bytes_of ty) room in
       let oy = own_frame g.program n y (bytes_of (right_type op ty)) from in
       let og = own_frame g.program n b (bytes_of o.ty) out in
-      comes_within g T (52 + q) (0 + l) (52 + q) l c
-      (comes_first g T q l 52 0 c d
+      comes_free g T q l 52 c d
       (operates g n None (Todo [] tree_is ∷ r) s m w c p tree_is r f due ∙ rw (known, fits, alone, ox, oy, vx, vu, is, og) refl)
-      (omega arith) (omega arith)
-      (next d (record { copy = refl; passing = refl; code = e.left; stack = e.stack; memory = refl; world = again })))
-      (omega arith) (omega arith)
+      (omega arith)
+      (next d (record { copy = refl; passing = refl; code = e.left; stack = e.stack; memory = refl; world = again }))
 
 some_type : (bad : Bool) (r v : Quantity) → (if bad then None else Some r) ≡ Some v → v.ty ≡ r.ty
 some_type true r v e = absurd (cc)
@@ -275,8 +270,8 @@ module _ (z : Scene) (laws : SceneLaws z) where
       let u : Quantity = record { ty = int.UChar; number = pos t.0 } in
       let alike : outcome op x u ≡ outcome op x y = ap (λ i. if has_no_value op x.ty x.number i then None else Some (cut_to (numbers.type_of op x.ty) (numbers.exact op x.ty x.number i))) (sym t.1) in
       let typed : bytes_of v.ty ≡ bytes_of x.ty = shift_typed op x y v shift is in
-      comes_within (core_in z) T (4 * suc size + (52 + 0)) (suc size + 0) 70 0 c
-      (exact_many_then (core_in z) T n None s W (due_below z (arrived z.outside w) due) (again_below z w) (sets Y number_is (suc size) ++ shifted ∷ []) r c.memory c (4 * suc size + (52 + 0)) (suc size + 0)
+      comes_within (core_in z) T (4 * suc size + (52 + 0)) 0 70 0 c
+      (exact_many_then (core_in z) T n None s W (due_below z (arrived z.outside w) due) (again_below z w) (sets Y number_is (suc size) ++ shifted ∷ []) r c.memory c (4 * suc size + (52 + 0)) 0
       (subst (λ f. Placed (core_in z) n None f s c.memory W c) now (placed_of z (state cp (Value (datum.Number x)) (In e Nothing ∷ k) l w) c h))
       (λ rest d xd. exact_sets_then (core_in z) T n None s W (due_below z (arrived z.outside w) due) (again_below z w) (suc size) [] (shifted ∷ []) at number_is rest r c.memory d (52 + 0) 0 (omega arith) (omega arith) xd
       (λ d2 x2. exact_shift_then z laws T n s W (due_below z (arrived z.outside w) due) (again_below z w) op x.ty (sets Y number_is (suc size)) b at (byte_at number_is 0) x u v rest r m1 d2 0 0 shift two (known_sets n at number_is size (omega arith)) (omega arith) (let f = ap bytes_of rt in omega arith) (omega arith)

@@ -163,11 +163,11 @@ module _ (z : Scene) (laws : SceneLaws z) where
       let alike : outcome op x0 u ≡ outcome op x0 y = ap (λ j. if has_no_value op t x0.number j then None else Some (cut_to (numbers.type_of op t) (numbers.exact op t x0.number j))) (sym q.1) in
       let typed : bytes_of r.ty ≡ bytes_of t = shift_typed op x0 y r shift is in
       let set_bits = λ (j : ℕ). bytes.Number (byte_at N j) in
-      comes_within (core_in z) T (24 + (4 * suc less + (52 + 0))) (suc less + 0) 94 0 c
-      (widen_then z (core_in z) T n (stack_after z g k) W due_is now_is small t x left_at (Todo [] (many ts) ∷ R) c.memory c (4 * suc less + (52 + 0)) (suc less + 0) p.range le room hx
+      comes_within (core_in z) T (24 + (4 * suc less + (52 + 0))) 0 94 0 c
+      (widen_then z (core_in z) T n (stack_after z g k) W due_is now_is small t x left_at (Todo [] (many ts) ∷ R) c.memory c (4 * suc less + (52 + 0)) 0 p.range le room hx
       (subst (λ f. Placed (core_in z) n None f (stack_after z g k) c.memory W c) now (placed_of z (state cp (Value (datum.Number x)) (In e (AtWith at (datum.Number y)) ∷ k) l w) c h))
       (λ d1 m1 above1 h1 p1.
-      exact_many_then (core_in z) T n None (stack_after z g k) W due_is now_is ts R m1 d1 (4 * suc less + (52 + 0)) (suc less + 0) p1
+      exact_many_then (core_in z) T n None (stack_after z g k) W due_is now_is ts R m1 d1 (4 * suc less + (52 + 0)) 0 p1
       (λ after d2 x2. exact_sets_then (core_in z) T n None (stack_after z g k) W due_is now_is (suc less) [] (shifted ∷ []) right_at N after R m1 d2 (52 + 0) 0 (omega arith) (omega arith) x2
       (λ d3 x3.
       let m2 = with_bytes m1 (Frame n right_at) (suc less) set_bits in

@@ -49,7 +49,7 @@ byte_is x (suc (suc (suc (suc k)))) lt = absurd (omega arith)
 -- ---- constants
 pub constant_goes : (z : Scene) (laws : SceneLaws z) (q : Quantity) (line : ℕ) (k : List Pending) (cp : CopyOf) (l : source.Memory) (w : World value.Byte) (c : Machine) → Around z cp k → base (ground_in z cp) k + bytes_of q.ty ≤ (core_in z).program.frame_bytes (number z cp) → is_due (arrived z.outside w) ≡ false
     → Mirrors z (state cp (Eval (tree.Constant q line)) k l w) c
-    → Comes (core_in z) (Mirrors z (state cp (Value (datum.Number q)) k l (arrived z.outside w))) (4 * bytes_of q.ty) (bytes_of q.ty) c
+    → Comes (core_in z) (Mirrors z (state cp (Value (datum.Number q)) k l (arrived z.outside w))) (4 * bytes_of q.ty) 0 c
 unfolding expr_code active bits
 constant_goes z laws q line k cp l w c around room due h =
     let n = number z cp in
@@ -58,7 +58,7 @@ constant_goes z laws q line k cp l w c around room due h =
     let w' = world_as (held z) (arrived z.outside w) in
     let small = laws.small n in
     let few = bytes_small q.ty in
-    comes_within (core_in z) (Mirrors z (state cp (Value (datum.Number q)) k l (arrived z.outside w))) (4 * cnt + 0) (cnt + 0) (4 * cnt) cnt c
+    comes_within (core_in z) (Mirrors z (state cp (Value (datum.Number q)) k l (arrived z.outside w))) (4 * cnt + 0) 0 (4 * cnt) 0 c
     (sets_then (core_in z) (Mirrors z (state cp (Value (datum.Number q)) k l (arrived z.outside w))) n None (stack_after z (ground_in z cp) k) w' (due_below z (arrived z.outside w) due) (again_below z w)
     cnt b (bits q) (code_after (ground_in z cp) k) c.memory c 0 0 room (omega arith)
     (subst (λ i. Placed (core_in z) n None (todo (expr_code (ground_in z cp).layout i b true (tree.Constant q line)) (code_after (ground_in z cp) k)) (stack_after z (ground_in z cp) k) c.memory w' c) (own_copy z cp) (placed_of z (state cp (Eval (tree.Constant q line)) k l w) c h))

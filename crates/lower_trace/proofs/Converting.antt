@@ -77,7 +77,7 @@ pub widening_goes : (z : Scene) (laws : SceneLaws z) (to : IntTy) (x : Quantity)
     → (v : Datum) → byte_count v ≤ bytes_of to → ((i : ℕ) → i < byte_count v → held z (byte_of (datum.Number (cut_to to x.number)) i) ≡ held z (byte_of v i))
     → Agrees z (active cp (Value v) k) l c.memory → Holds z (ground_in z cp) k c.memory → HasDatum z (number z cp) (base (ground_in z cp) k) (datum.Number x) c.memory
     → Placed (core_in z) (number z cp) None (Todo [] (code.Convert x.ty to (Frame (number z cp) (base (ground_in z cp) k))) ∷ code_after (ground_in z cp) k) (stack_after z (ground_in z cp) k) c.memory (world_as (held z) (arrived z.outside w)) c
-    → Comes (core_in z) (Mirrors z (state cp (Value v) k l (arrived z.outside w))) (8 + 4 * (bytes_of to - bytes_of x.ty)) 1 c
+    → Comes (core_in z) (Mirrors z (state cp (Value v) k l (arrived z.outside w))) (8 + 4 * (bytes_of to - bytes_of x.ty)) 0 c
 unfolding active
 widening_goes z laws to x k cp l w c around wider_is xr room out due v few same agrees holds hx p =
     let n = number z cp in
@@ -87,7 +87,7 @@ widening_goes z laws to x k cp l w c around wider_is xr room out due v few same 
     let W = world_as (held z) (arrived z.outside w) in
     let T = Mirrors z (state cp (Value v) k l (arrived z.outside w)) in
     let s = stack_after z g k in
-    comes_within (core_in z) T (8 + 4 * (bytes_of to - bytes_of x.ty) + 0) (1 + 0) (8 + 4 * (bytes_of to - bytes_of x.ty)) 1 c
+    comes_within (core_in z) T (8 + 4 * (bytes_of to - bytes_of x.ty) + 0) 0 (8 + 4 * (bytes_of to - bytes_of x.ty)) 0 c
     (convert_words_then z (core_in z) T n s W (due_below z (arrived z.outside w) due) (again_below z w) to x b (code_after g k) c.memory c 0 0 xr wider_is room out hx p
     (λ d pd. comes_here (core_in z) T d
     (gives z laws cp k l (arrived z.outside w) c.memory (bytes_of to) (core.byte_of (core.Number q)) v d around few same
@@ -120,7 +120,7 @@ number_case : (z : Scene) (laws : SceneLaws z) (operand : Expression) (to : IntT
     → Mirrors z (state cp (Value (datum.Number x)) (In (tree.Convert operand (types.Int to) line) Nothing ∷ k) l w) c → Comes (core_in z) (Mirrors z (state cp (Value (datum.Number (cut_to to x.number))) k l (arrived z.outside w))) (if more then 8 + 4 * (bytes_of to - bytes_of x.ty) else 0) 0 c
 unfolding converted
 number_case z laws operand to line x true k cp l w c e room type xr due h =
-    comes_within (core_in z) (Mirrors z (state cp (Value (datum.Number (cut_to to x.number))) k l (arrived z.outside w))) (8 + 4 * (bytes_of to - bytes_of x.ty)) 1 (8 + 4 * (bytes_of to - bytes_of x.ty)) 0 c
+    comes_within (core_in z) (Mirrors z (state cp (Value (datum.Number (cut_to to x.number))) k l (arrived z.outside w))) (8 + 4 * (bytes_of to - bytes_of x.ty)) 0 (8 + 4 * (bytes_of to - bytes_of x.ty)) 0 c
     (widened_given z laws operand to line x k cp l w c room.around type e xr room.before room.behind due h)
     (omega arith) (omega arith)
 number_case z laws operand to line x false k cp l w c e room type xr due h =
@@ -145,7 +145,7 @@ number_cast z laws operand to line x true k cp l w c e room type xr due h =
     let now : todo (widened (type_of operand) (types.Int to) (Frame g.copy b)) (code_after g k) ≡ Todo [] (code.Convert x.ty to (Frame n b)) ∷ code_after g k =
     ap (λ t. todo (widened t (types.Int to) (Frame g.copy b)) (code_after g k)) type ∙ ap (λ ts. todo ts (code_after g k)) (is_wider_so x.ty to (Frame g.copy b) e) ∙ ap (λ i. Todo [] (code.Convert x.ty to (Frame i b)) ∷ code_after g k) (own_copy z cp) in
     let few = bytes_small to in
-    comes_within (core_in z) (Mirrors z (state cp (Value (datum.Number (cut_to to x.number))) k l (arrived z.outside w))) (8 + 4 * (bytes_of to - bytes_of x.ty)) 1 24 0 c
+    comes_within (core_in z) (Mirrors z (state cp (Value (datum.Number (cut_to to x.number))) k l (arrived z.outside w))) (8 + 4 * (bytes_of to - bytes_of x.ty)) 0 24 0 c
     (widening_goes z laws to x k cp l w c room.around e xr room.before room.behind due (datum.Number (cut_to to x.number)) (omega arith) (λ i lt. refl) h.agrees h.holds.1
     (subst (λ i. HasDatum z i b (datum.Number x) c.memory) (own_copy z cp) h.value)
     (subst (λ f. Placed (core_in z) n None f (stack_after z g k) c.memory (world_as (held z) (arrived z.outside w)) c) now (placed_of z (state cp (Value (datum.Number x)) (In (tree.Cast operand (types.Int to) line) Nothing ∷ k) l w) c h)))
@@ -175,7 +175,7 @@ null_case z laws operand row line x true k cp l w c e zero room type xr due h =
     let b = base g k in
     let now : todo (widened (type_of operand) (types.Pointer row) (Frame g.copy b)) (code_after g k) ≡ Todo [] (code.Convert x.ty int.UInt (Frame n b)) ∷ code_after g k =
     ap (λ t. todo (widened t (types.Pointer row) (Frame g.copy b)) (code_after g k)) type ∙ ap (λ ts. todo ts (code_after g k)) (is_wider_so x.ty int.UInt (Frame g.copy b) e) ∙ ap (λ i. Todo [] (code.Convert x.ty int.UInt (Frame i b)) ∷ code_after g k) (own_copy z cp) in
-    comes_within (core_in z) (Mirrors z (state cp (Value (datum.Pointer Null)) k l (arrived z.outside w))) (8 + 4 * (2 - bytes_of x.ty)) 1 (8 + 4 * (2 - bytes_of x.ty)) 0 c
+    comes_within (core_in z) (Mirrors z (state cp (Value (datum.Pointer Null)) k l (arrived z.outside w))) (8 + 4 * (2 - bytes_of x.ty)) 0 (8 + 4 * (2 - bytes_of x.ty)) 0 c
     (widening_goes z laws int.UInt x k cp l w c room.around e xr room.before room.behind due (datum.Pointer Null) (omega arith)
     (λ i lt. null_byte z int.UInt (pattern int.UInt (cut int.UInt x.number) / 256 ^ i % 256) i (ap (λ y. y / 256 ^ i % 256) (pattern_cut int.UInt x.number) ∙ ap (λ y. pattern int.UInt y / 256 ^ i % 256) zero ∙ zero_bytes int.UInt i))
     h.agrees h.holds.1
@@ -203,7 +203,7 @@ null_cast z laws operand row line x true k cp l w c e zero room type xr due h =
     let b = base g k in
     let now : todo (widened (type_of operand) (types.Pointer row) (Frame g.copy b)) (code_after g k) ≡ Todo [] (code.Convert x.ty int.UInt (Frame n b)) ∷ code_after g k =
     ap (λ t. todo (widened t (types.Pointer row) (Frame g.copy b)) (code_after g k)) type ∙ ap (λ ts. todo ts (code_after g k)) (is_wider_so x.ty int.UInt (Frame g.copy b) e) ∙ ap (λ i. Todo [] (code.Convert x.ty int.UInt (Frame i b)) ∷ code_after g k) (own_copy z cp) in
-    comes_within (core_in z) (Mirrors z (state cp (Value (datum.Pointer Null)) k l (arrived z.outside w))) (8 + 4 * (2 - bytes_of x.ty)) 1 24 0 c
+    comes_within (core_in z) (Mirrors z (state cp (Value (datum.Pointer Null)) k l (arrived z.outside w))) (8 + 4 * (2 - bytes_of x.ty)) 0 24 0 c
     (widening_goes z laws int.UInt x k cp l w c room.around e xr room.before room.behind due (datum.Pointer Null) (omega arith)
     (λ i lt. null_byte z int.UInt (pattern int.UInt (cut int.UInt x.number) / 256 ^ i % 256) i (ap (λ y. y / 256 ^ i % 256) (pattern_cut int.UInt x.number) ∙ ap (λ y. pattern int.UInt y / 256 ^ i % 256) zero ∙ zero_bytes int.UInt i))
     h.agrees h.holds.1

@@ -106,8 +106,8 @@ module _ (z : Scene) (laws : SceneLaws z) (cp : CopyOf) (l : source.Memory) wher
       let none : 0 - 0 ≡ 0 = omega arith in
       let T = Mirrors z (state cp (Value datum.Missing) k l (arrived z.outside w)) in
       let split = node.code 0 ∙ ap (λ y. todo (copying root p q (Frame n b) 0 y) r) none ∙ copying_begins root p q (Frame n b) 0 r through in
-      comes_within (core_in z) T (4 + (4 + 0)) (1 + (1 + 0)) 8 0 c
-      (set_result_then (core_in z) T n None s W (due_below z (arrived z.outside w) due) (again_below z w) root 0 1 (Todo [] (code.Set (Result root 1) 0) ∷ r) m c (4 + 0) (1 + 0) (own_result (core_in z) n 0 root root_is (omega arith))
+      comes_within (core_in z) T (4 + (4 + 0)) 0 8 0 c
+      (set_result_then (core_in z) T n None s W (due_below z (arrived z.outside w) due) (again_below z w) root 0 1 (Todo [] (code.Set (Result root 1) 0) ∷ r) m c (4 + 0) 0 (own_result (core_in z) n 0 root root_is (omega arith))
       (subst (λ y. Placed (core_in z) n None y s m W c) split (placed_of z (state cp (CopyRead to from 0) f l w) c h))
       (λ d1 p1. set_result_then (core_in z) T n None s W (due_below z (arrived z.outside w) due) (again_below z w) root 1 0 r m1 d1 0 0 (own_result (core_in z) n 1 root root_is (omega arith)) p1
       (λ d2 p2. arrive z cp (Value datum.Missing) k l w m2 d2 p2

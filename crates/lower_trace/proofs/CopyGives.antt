@@ -71,7 +71,7 @@ module _ (z : Scene) (laws : SceneLaws z) (cp : CopyOf) (k : List Pending) (l : 
       let named = own_byte z laws cp k o f around own ok.inside own_room in
       let target : behind X done ≡ core_byte z o f = sym (byte_is_so (core_byte z o f) (behind X done) h) in
       comes_within (core_in z) U 6 1 20 1 c
-      (write_then (core_in z) U n None s w due now (core_byte z o f) (Frame n on_way) r m c refl (valid_frame (core_in z) n on_way (omega arith)) named.own named.valid (ap (λ y. may_hold (core_in z).program (core_byte z o f) y w) is ∙ may)
+      (write_then (core_in z) U n None s w due now (core_byte z o f) (Frame n on_way) r m c (laws.kept o f there ok.inside) refl (valid_frame (core_in z) n on_way (omega arith)) named.own named.valid (ap (λ y. may_hold (core_in z).program (core_byte z o f) y w) is ∙ may)
       (subst (λ y. Placed (core_in z) n None (Todo [] (code.Copy y (Frame n on_way)) ∷ r) s m w c) target pl)
       (λ y py. next y (subst (λ t. Placed (core_in z) n None r s (memory_with (core_byte z o f) t m) (arrived (core_in z).outside (after_write (core_byte z o f) t w)) y) is py)))
       (omega arith) (omega arith)
@@ -81,7 +81,7 @@ module _ (z : Scene) (laws : SceneLaws z) (cp : CopyOf) (k : List Pending) (l : 
       let s = stack_after z (ground_in z cp) k in
       let X = object_as z.copies o in
       let off = offset_as z.program o + f in
-      comes_within (core_in z) U (14 + 6) (1 + 1) 20 1 c
+      comes_within (core_in z) U (14 + 6) 1 20 1 c
       (store_then (core_in z) U n None s w due now (Frame n b) (Frame n on_way) 1 (record { object = X; offset = off }) r m c 6 1 (own_frame (core_in z).program n b 2 (omega arith))
       (pointer_back z n b o f m (trails_pointer z n b done (Into o f) m h)) pl
       (λ y py. store_byte_then (core_in z) U n None s w due now X off (Frame n on_way) 0 r m y (own_frame (core_in z).program n on_way 1 room) (λ s' e. reach o f s' ok.alive ok.free there ok.inside e) (ap (λ t. may_hold (core_in z).program (core_byte z o f) t w) is ∙ may) py
@@ -161,7 +161,7 @@ module _ (z : Scene) (laws : SceneLaws z) (cp : CopyOf) (k : List Pending) (l : 
       let high = value_high z cp k around in
       let based = node.based in
       let hq = subst (λ y. Trails z n y q from done 0 c.memory) (second_is z laws cp k l around resumables p q b size through node.based room) parts.1 in
-      comes_within (core_in z) U (3 + 20) (1 + 1) 24 1 c
+      comes_within (core_in z) U (3 + 20) 1 24 1 c
       (put_then (core_in z) U n None (stack_after z g k) W (due_below z V due) (again_below z w) (Frame n on_way) (held z byte) (Todo [] (given (side_of p (Frame n b)) (Frame n on_way) done) ∷ left_code done left) c.memory c 20 1 (own_frame (core_in z).program n on_way 1 room)
       (subst (λ y. Placed (core_in z) n None y (stack_after z g k) c.memory W c) (carry_code z laws cp k l around resumables p q b size through node room reach own_room from byte left part ∙ ap (λ t. putting_if t z (Frame n on_way) (byte ∷ []) (Todo [] (given (side_of p (Frame n b)) (Frame n on_way) done) ∷ left_code done left)) seen)
       (placed_of z (state cp (CopyWrite to from byte left) k l w) c h))

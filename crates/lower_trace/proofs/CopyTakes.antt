@@ -24,7 +24,7 @@ use Rattle.lower_trace.proofs.Loading.{ReachesAll, isolated}
 use Rattle.lower_trace.proofs.Members.{byte_is_so}
 use Rattle.lower_trace.proofs.Mirrors.{Carries, HasDatum, Mirrors, Trails, core_byte}
 use Rattle.lower_trace.proofs.NumberBytes.{pointer_back}
-use Rattle.lower_trace.proofs.Operations.{Comes, comes_here, comes_within, copy_then, own_frame, read_then}
+use Rattle.lower_trace.proofs.Operations.{Comes, comes_here, comes_within, copy_then, own_frame, read_sure, read_then}
 use Rattle.lower_trace.proofs.Placed.{Placed}
 use Rattle.lower_trace.proofs.Pointing.{load_frame_then, load_static_then, load_then}
 use Rattle.lower_trace.proofs.Reading.{lt_true, noted_if, readable, set_agrees}
@@ -143,8 +143,9 @@ module _ (z : Scene) (laws : SceneLaws z) (cp : CopyOf) (k : List Pending) (l : 
       let s = stack_after z (ground_in z cp) k in
       let o = objects.Variable d i in
       let source_is : behind Y done ≡ core_byte z o f = sym (byte_is_so (core_byte z o f) (behind Y done) h) in
+      let sure = read_sure (core_in z).program.variable_bytes (Frame n way) (core_byte z o f) (laws.kept o f there inside) in
       comes_within (core_in z) T (6 + x) (1 + e) (20 + x) (1 + e) c
-      (copy_then (core_in z) T n None s w due now (Frame n way) (core_byte z o f) r m c x e refl (own_byte z laws cp k o f around own inside own_room).valid (own_frame (core_in z).program n way 1 room)
+      (copy_then (core_in z) T n None s w due now (Frame n way) (core_byte z o f) r m c x e 1 sure refl (own_byte z laws cp k o f around own inside own_room).valid (own_frame (core_in z).program n way 1 room)
       (subst (λ y. Placed (core_in z) n None (Todo [] (code.Copy (Frame n way) y) ∷ r) s m w c) source_is pl) next)
       (omega arith) (omega arith)
   take_variable (Bit register bit) d i f done r T w m c x e due now fits own there alive free inside h pl next = absurd h
@@ -153,7 +154,7 @@ module _ (z : Scene) (laws : SceneLaws z) (cp : CopyOf) (k : List Pending) (l : 
       let s = stack_after z (ground_in z cp) k in
       let o = objects.Variable d i in
       let off = variable_offset z.program d.function i + f in
-      comes_within (core_in z) T (14 + (6 + x)) (1 + (1 + e)) (20 + x) (1 + e) c
+      comes_within (core_in z) T (14 + (6 + x)) (1 + e) (20 + x) (1 + e) c
       (load_then (core_in z) T n None s w due now (Frame n way) (Frame n (b + pointer_bytes p)) 1 (record { object = bytes.FrameOf (number z d); offset = off }) r m c (6 + x) (1 + e) (own_frame (core_in z).program n (b + pointer_bytes p) 2 (omega arith))
       (pointer_back z n (b + pointer_bytes p) o f m (trails_pointer z n (b + pointer_bytes p) done (Into o f) m h)) pl
       (λ y py. load_frame_then (core_in z) T n None s w due now (Frame n way) (number z d) off 0 r m y x e (own_frame (core_in z).program n way 1 room) (λ s' is. reach o f s' alive free there inside is) py next))
@@ -228,7 +229,7 @@ module _ (z : Scene) (laws : SceneLaws z) (cp : CopyOf) (k : List Pending) (l : 
       let n = number z cp in
       let s = stack_after z (ground_in z cp) k in
       let o = objects.Fixed i in
-      comes_within (core_in z) U (14 + 3) (1 + 1) 17 1 c
+      comes_within (core_in z) U (14 + 3) 1 17 1 c
       (load_then (core_in z) U n None s w due now (Frame n way) (Frame n (b + pointer_bytes p)) 1 (record { object = bytes.Fixed i; offset = 0 + f }) r m c 3 1 (own_frame (core_in z).program n (b + pointer_bytes p) 2 (omega arith))
       (pointer_back z n (b + pointer_bytes p) o f m (trails_pointer z n (b + pointer_bytes p) done (Into o f) m h)) pl
       (λ y py. load_static_then (core_in z) U n None s w due now (Frame n way) i (0 + f) 0 r m y (own_frame (core_in z).program n way 1 room) (λ s' is. reach o f s' refl refl there inside is) py next))

@@ -1,5 +1,6 @@
 -- A byte of a structure that is copied goes to its place, and the pointers to both places go on with the next one.
 use Rattle.core_code.specs.Bytes.{Held, Memory, with_byte}
+use Rattle.core_code.specs.Cost.{is_kept, one_if}
 use Rattle.core_code.specs.Machine.{Machine, Put, Setting, Task, Waiting, act, after_write, is_others, is_valid, may_hold, memory_with, put}
 use Rattle.core_code.specs.declared.code.Byte.TheVariants.{Device, Frame, Result, Static}
 use Rattle.core_code.specs.declared.code.Byte.{Byte}
@@ -35,15 +36,16 @@ use Rattle.src_values.specs.declared.objects.Spot.TheVariants as spots
 use Rattle.std.proofs.Common.{List, None, Option, Some, ap, arith, false, if◌then◌else◌, refl, subst, sym, true, ℕ, ◌+◌, ◌-◌, ◌<◌, ◌∙◌, ◌∷◌, ◌≡◌}
 use Rattle.std.proofs.lemmas.Grind.{common_steps}
 
--- ---- a byte that was read goes to any byte that may be accessed by its name, which may be an event
-pub put_any_then : (g : Setting) (T : Machine → Type 0) (n : ℕ) (a : Option ℕ) (s : List Waiting) (w : World Held) (due : is_due w ≡ false) (x : Byte) (h : Held) (r : List Task) (m : Memory) (c : Machine) → is_others n x ≡ false → is_valid g.program n x ≡ true → may_hold g.program x h w ≡ true
+-- ---- a byte that was read goes to any byte of the source that may be accessed by its name, which may be an event
+pub put_any_then : (g : Setting) (T : Machine → Type 0) (n : ℕ) (a : Option ℕ) (s : List Waiting) (w : World Held) (due : is_due w ≡ false) (x : Byte) (h : Held) (r : List Task) (m : Memory) (c : Machine) → is_kept g.program.variable_bytes x ≡ true → is_others n x ≡ false → is_valid g.program n x ≡ true → may_hold g.program x h w ≡ true
     → Placed g n a (Put x h ∷ r) s m w c → ((d : Machine) → Placed g n a r s (memory_with x h m) (arrived g.outside (after_write x h w)) d → T d) → Comes g T 3 1 c
 unfolding act put
-put_any_then g T n a s w due x h r m c own there may p next =
+put_any_then g T n a s w due x h r m c kept own there may p next =
     let f = other c.code (Put x h) r tt p.code in
     let d : Machine = record { copy = n; passing = a; code = f.rest; stack = c.stack; memory = memory_with x h m; world = after_write x h w } in
     let em = most_does g n a (Put x h ∷ r) s m w c p (Put x h) r f due in
     let el = least_does g n a (Put x h ∷ r) s m w c p (Put x h) r f due in
+    let sure : one_if (is_kept g.program.variable_bytes x) ≡ 1 = ap one_if kept in
     comes_within g T (3 + 0) (1 + 0) 3 1 c
     (comes_first g T 0 0 3 1 c d
     (does g n a (Put x h ∷ r) s m w c p (Put x h) r f due ∙ rw (own, there, may) refl)

@@ -24,8 +24,8 @@ use Rattle.lower_trace.proofs.CodeLeft.{Scene}
 use Rattle.lower_trace.proofs.Cuts.{cut_in_range}
 use Rattle.lower_trace.proofs.Mirrors.{HasDatum}
 use Rattle.lower_trace.proofs.NumberBytes.{truth_is}
-use Rattle.lower_trace.proofs.Operating.{value_number, or_true}
-use Rattle.lower_trace.proofs.Operations.{Comes, first, own_frame, le_true}
+use Rattle.lower_trace.proofs.Operating.{value_number}
+use Rattle.lower_trace.proofs.Operations.{Comes, first_free, le_true, or_second, own_frame}
 use Rattle.lower_trace.proofs.Placed.{Placed}
 use Rattle.lower_trace.proofs.Written.{both, bytes_there}
 
@@ -41,7 +41,7 @@ some_bytes int.Long = omega arith
 some_bytes int.ULong = omega arith
 
 low_misses : (n b w y : ℕ) → 0 < w → b + w ≤ y → misses (Frame n y) 1 (bytes.behind (Frame n b) 1) (w - 1) ≡ true
-low_misses n b w y lt le = or_true (not (nat_eq n n)) _ (or_true (nat_le (y + 1) (b + 1)) _ (le_true (b + 1 + (w - 1)) y (omega arith)))
+low_misses n b w y lt le = or_second (not (nat_eq n n)) _ (or_second (nat_le (y + 1) (b + 1)) _ (le_true (b + 1 + (w - 1)) y (omega arith)))
 
 equality_fits : (n b w : ℕ) → 0 < w → fits_equality w (Frame n (b + 2 * w)) (Frame n b) (Frame n (b + w)) ≡ true
 equality_fits n b w lt = both _ _ (low_misses n b w (b + 2 * w) lt (omega arith)) (low_misses n (b + w) w (b + 2 * w) lt (omega arith))
@@ -50,7 +50,7 @@ pub equal_then : (z : Scene) (g : Setting) (T : Machine → Type 0) (n : ℕ) (s
     → b + 2 * bytes_of x.ty + 2 ≤ g.program.frame_bytes n → HasDatum z n b (datum.Number x) m → HasDatum z n (b + bytes_of x.ty) (datum.Number y) m
     → Placed g n None (Todo [] (code.Binary ops.Eq x.ty (Frame n (b + 2 * bytes_of x.ty)) (Frame n b) (Frame n (b + bytes_of x.ty))) ∷ r) s m w c
     → ((d : Machine) → Placed g n None r s (with_bytes m (Frame n (b + 2 * bytes_of x.ty)) 2 (core.byte_of (core.Number (value_of ops.Eq x y)))) w d → Comes g T q l d)
-    → Comes g T (10 * bytes_of x.ty + 20 + q) (1 + l) c
+    → Comes g T (10 * bytes_of x.ty + 20 + q) l c
 unfolding operate cost_of fits_together binary_value
 equal_then z g T n s w due again x y b r m c q l xr yr same room hx hy p next =
     let k = bytes_of x.ty in
@@ -63,10 +63,9 @@ equal_then z g T n s w due again x y b r m c q l xr yr same room hx hy p next =
     let oy = own_frame g.program n (b + k) k (omega arith) in
     let og = own_frame g.program n (b + 2 * k) 2 room in
     let fits = equality_fits n b k (some_bytes x.ty) in
-    first g T n None s w due again (code.Binary ops.Eq x.ty A X Y) r m (with_bytes m A 2 (core.byte_of (core.Number (value_of ops.Eq x y)))) c q l (10 * k + 20) 1 p
+    first_free g T n None s w due again (code.Binary ops.Eq x.ty A X Y) r m (with_bytes m A 2 (core.byte_of (core.Number (value_of ops.Eq x y)))) c q l (10 * k + 20) p
     (λ before rest s'. rw (fits, ox, oy, vx, vy, og) refl)
     (λ before s'. omega arith)
-    (λ s'. omega arith)
     next
 
 truth_kept : (b : Bool) → source.truth_of (datum.Number (record { ty = int.Int; number = cut int.Int (truth b) })) ≡ Some b

@@ -4,6 +4,7 @@ use Rattle.std.specs.Prelude.{slice_index_or}
 use Rattle.std.proofs.lemmas.Bool.{cases_lt}
 use Rattle.core_code.specs.Bytes as bytes
 use Rattle.core_code.specs.Bytes.{Held, Memory, is_private, with_byte, with_bytes}
+use Rattle.core_code.specs.Cost.{is_kept}
 use Rattle.core_code.specs.Machine.{Machine, Task, Do as Todo, Put, is_valid, held_at, after_read}
 use Rattle.core_code.specs.Tree as code
 use Rattle.core_code.specs.Tree.{Tree}
@@ -29,7 +30,7 @@ use Rattle.lower_trace.proofs.Flow.{arrive}
 use Rattle.lower_trace.proofs.Giving.{Around, placed_of, mirrors, agrees_written, holds_written, value_high}
 use Rattle.lower_trace.proofs.Kept.{SceneLaws, own_copy}
 use Rattle.lower_trace.proofs.Mirrors.{Mirrors, Agrees, Holds, HasIf, HasRead, HasReadAt, in_place}
-use Rattle.lower_trace.proofs.Operations.{Comes, comes_within, beyond_is, own_frame, copy_then, put_then, read_then}
+use Rattle.lower_trace.proofs.Operations.{Comes, comes_within, beyond_is, own_frame, copy_then, put_then, read_sure, read_then}
 use Rattle.lower_trace.proofs.Placed.{Placed}
 use Rattle.lower_trace.proofs.Written.{nat_apart, and_false, on, off, byte_same}
 
@@ -116,10 +117,10 @@ module _ (z : Scene) (laws : SceneLaws z) (cp : CopyOf) (k : List Pending) (l : 
 
   -- a byte of the own frame is read and written at once
   pub fetch_hidden : (at next : spot.Spot) (read : List value.Byte) (byte : value.Byte) (y : ℕ) (w : World value.Byte) (c : Machine) → length read < count → to + count ≤ (core_in z).program.frame_bytes (number z cp)
-      → behind from (length read) ≡ Frame (number z cp) y → is_private from ≡ true → y < (core_in z).program.frame_bytes (number z cp) → c.memory (Frame (number z cp) y) ≡ held z byte → is_due (arrived z.outside w) ≡ false
+      → behind from (length read) ≡ Frame (number z cp) y → is_kept (core_in z).program.variable_bytes (Frame (number z cp) y) ≡ true → is_private from ≡ true → y < (core_in z).program.frame_bytes (number z cp) → c.memory (Frame (number z cp) y) ≡ held z byte → is_due (arrived z.outside w) ≡ false
       → Mirrors z (state cp (Fetch at read) k l w) c → Comes (core_in z) (Mirrors z (state cp (Fetch next (read ++ byte ∷ [])) k l (arrived z.outside w))) 6 1 c
   unfolding active is_valid
-  fetch_hidden at next read byte y w c lt room source_is hidden valid byte_is due h =
+  fetch_hidden at next read byte y w c lt room source_is kept hidden valid byte_is due h =
       let n = number z cp in
       let g = ground_in z cp in
       let j = length read in
@@ -136,7 +137,7 @@ module _ (z : Scene) (laws : SceneLaws z) (cp : CopyOf) (k : List Pending) (l : 
       ap (λ i. todo (copies_from (Frame g.copy to) from i (count - i)) r) (sym len) ∙ sym (hidden_code z from next pointer (Frame g.copy to) count read' r hidden) ∙ sym (reads.code next read') in
       let m' = with_byte c.memory (Frame n (to + j)) (c.memory (Frame n y)) in
       comes_within (core_in z) T (6 + 0) (1 + 0) 6 1 c
-      (copy_then (core_in z) T n None (stack_after z g k) W (due_below z (arrived z.outside w) due) (again_below z w) (Frame n (to + j)) (Frame n y) R c.memory c 0 0 refl (own_frame (core_in z).program n y 1 (omega arith)) (own_frame (core_in z).program n (to + j) 1 (omega arith))
+      (copy_then (core_in z) T n None (stack_after z g k) W (due_below z (arrived z.outside w) due) (again_below z w) (Frame n (to + j)) (Frame n y) R c.memory c 0 0 1 (read_sure (core_in z).program.variable_bytes (Frame n (to + j)) (Frame n y) kept) refl (own_frame (core_in z).program n y 1 (omega arith)) (own_frame (core_in z).program n (to + j) 1 (omega arith))
       (subst (λ x. Placed (core_in z) n None x (stack_after z g k) c.memory W c) now (placed_of z (state cp (Fetch at read) k l w) c h))
       (λ d pd.
       arrive z cp (Fetch next read') k l w m' d (subst (λ x. Placed (core_in z) n None x (stack_after z g k) m' W d) later pd)
@@ -220,7 +221,7 @@ module _ (z : Scene) (laws : SceneLaws z) (cp : CopyOf) (k : List Pending) (l : 
       let m' = with_byte c.memory (Frame n (to + j)) last in
       let now : reading_at z g k at all ≡ Put (Frame n (to + j)) last ∷ R = reads.code at all ∙ seen_code z from at pointer (Frame g.copy to) count all r seen ∙ ap (λ i. putting z (Frame i to) all R) (own_copy z cp) ∙ putting_last z n to j all R refl in
       let other : m' y ≡ c.memory y = off (bytes.same_byte y (Frame n (to + j))) last (c.memory y) (no_frame y n (to + j) public) in
-      comes_within (core_in z) T (3 + 3) (1 + 1) 6 1 c
+      comes_within (core_in z) T (3 + 3) 1 6 1 c
       (put_then (core_in z) T n None (stack_after z g k) W (due_below z (arrived z.outside w) due) (again_below z w) (Frame n (to + j)) last R c.memory c 3 1 (own_frame (core_in z).program n (to + j) 1 (omega arith))
       (subst (λ t. Placed (core_in z) n None t (stack_after z g k) c.memory W c) now (placed_of z (state cp (Fetch at all) k l w) c h))
       (λ d pd.
@@ -282,7 +283,7 @@ module _ (z : Scene) (laws : SceneLaws z) (cp : CopyOf) (k : List Pending) (l : 
       let m' = with_byte c.memory (Frame n (to + j)) last in
       let now : reading_at z g k at every ≡ Put (Frame n (to + j)) last ∷ code_after g k' =
       reads.code at every ∙ seen_code z from at pointer (Frame g.copy to) count every r seen ∙ ap (λ i. putting z (Frame i to) every (todo (copies_from (Frame g.copy to) from (length every) (count - length every)) r)) (own_copy z cp) ∙ putting_last z n to j every (todo (copies_from (Frame g.copy to) from (length every) (count - length every)) r) refl ∙ ap (λ y. Put (Frame n (to + j)) last ∷ y) (no_copies every all ∙ rest) in
-      comes_within (core_in z) T (3 + 0) (1 + 0) 3 0 c
+      comes_within (core_in z) T (3 + 0) 0 3 0 c
       (put_then (core_in z) T n None (stack_after z g k) W (due_below z (arrived z.outside w) due) (again_below z w) (Frame n (to + j)) last (code_after g k') c.memory c 0 0 (own_frame (core_in z).program n (to + j) 1 (omega arith))
       (subst (λ t. Placed (core_in z) n None t (stack_after z g k) c.memory W c) now (placed_of z (state cp (Fetch at every) k l w) c h))
       (λ d pd.

@@ -199,7 +199,7 @@ module _ (z : Scene) (laws : SceneLaws z) (cp : CopyOf) (k : List Pending) (l : 
       let next_is : done + 1 ≡ size - left = omega arith in
       let later : rest done ≡ todo (copying cp.root (Fixed X) (Fixed Y) (Frame n b) size (size - left)) (code_after g k) = ap (λ i. todo (copies_from X Y i (beyond 0 size - i)) (code_after g k)) next_is in
       comes_within (core_in z) U 3 1 6 1 c
-      (put_any_then (core_in z) U n None (stack_after z g k) W (due_below z V due) (core_byte z o f) (held z byte) (rest done) c.memory c named.own named.valid (byte_holds z o f byte W laws o_there open_is set)
+      (put_any_then (core_in z) U n None (stack_after z g k) W (due_below z V due) (core_byte z o f) (held z byte) (rest done) c.memory c (laws.kept o f o_there ok.inside) named.own named.valid (byte_holds z o f byte W laws o_there open_is set)
       (subst (λ y. Placed (core_in z) n None y (stack_after z g k) c.memory W c) (node.carry from byte left ∙ ap (λ y. Put y (held z byte) ∷ rest done) target) (placed_of z (state cp (CopyWrite to from byte left) k l w) c h))
       (λ d pd. copied_arrives z laws cp k l around reach (Fixed X) (Fixed Y) b size node o f (spots.Memory (Into p (e + 1))) byte left c.memory w w' d o_there ok.inside h.agrees h.holds
       (next_there X o f left part o_there ok.inside has.0, next_there Y p e left part there within has.1)
@@ -242,7 +242,7 @@ module _ (z : Scene) (laws : SceneLaws z) (cp : CopyOf) (k : List Pending) (l : 
       set_agrees z (l p e) (c.memory (core_byte z p e)) (ap is_unset x.same ∙ x.set) (h.agrees p e there x.alive x.inside) ∙ ap (held z) x.same in
       let next_is : done + 1 ≡ size - left = omega arith in
       let later : rest done ≡ todo (copying cp.root (Fixed X) (Fixed Y) (Frame n b) size (size - left)) (code_after g k) = ap (λ i. todo (copies_from X Y i (beyond 0 size - i)) (code_after g k)) next_is in
-      write_then (core_in z) U n None (stack_after z g k) W (due_below z V due) (again_below z w) (core_byte z o f) (core_byte z p e) (rest done) c.memory c refl source_named.valid named.own named.valid
+      write_then (core_in z) U n None (stack_after z g k) W (due_below z V due) (again_below z w) (core_byte z o f) (core_byte z p e) (rest done) c.memory c (laws.kept o f o_there ok.inside) refl source_named.valid named.own named.valid
       (ap (λ y. may_hold (core_in z).program (core_byte z o f) y W) holds_byte ∙ byte_holds z o f byte W laws o_there open_is x.set)
       (subst (λ y. Placed (core_in z) n None y (stack_after z g k) c.memory W c) (code_now left part (omega arith) ∙ ap (λ y. Todo [] (code.Copy y (behind Y done)) ∷ rest done) target ∙ ap (λ y. Todo [] (code.Copy (core_byte z o f) y) ∷ rest done) source_is) (placed_of z (state cp (CopyRead to from (suc left)) k l w) c h))
       (λ r pr. copied_arrives z laws cp k l around reach (Fixed X) (Fixed Y) b size node o f (spots.Memory (Into p (e + 1))) byte left c.memory w w' r o_there ok.inside h.agrees h.holds

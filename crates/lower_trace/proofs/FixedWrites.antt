@@ -140,9 +140,9 @@ module _ (z : Scene) (laws : SceneLaws z) (cp : CopyOf) (k : List Pending) (l : 
 module _ (g : Setting) (T : Machine → Type 0) (n : ℕ) (a : Option ℕ) (s : List Waiting) (w : World Held) (due : is_due w ≡ false) (now : arrived g.outside w ≡ w) (small : g.program.frame_bytes n ≤ 96) where
   -- so many bytes become others of the frame, which lie higher, or have no byte in common with them
   pub move_then : (b y i : ℕ) (r : List Task) (m : Memory) (c : Machine) (q l : ℕ) → ((b ≤ y) ⊎ (y + i ≤ b)) → b + i ≤ g.program.frame_bytes n → y + i ≤ g.program.frame_bytes n → Placed g n a (todo (copies (Frame n b) (Frame n y) i) r) s m w c
-      → ((d : Machine) → Placed g n a r s (with_bytes m (Frame n b) i (λ j. m (Frame n (y + j)))) w d → Comes g T q l d) → Comes g T (6 * i + q) (i + l) c
+      → ((d : Machine) → Placed g n a r s (with_bytes m (Frame n b) i (λ j. m (Frame n (y + j)))) w d → Comes g T q l d) → Comes g T (6 * i + q) l c
   unfolding copies
-  move_then b y zero r m c q l apart room from p next = comes_within g T q l (6 * 0 + q) (0 + l) c (next c p) (omega arith) (omega arith)
+  move_then b y zero r m c q l apart room from p next = comes_within g T q l (6 * 0 + q) l c (next c p) (omega arith) (omega arith)
   move_then b y (suc i) r m c q l apart room from p next =
       let to_is : lower.behind (Frame n b) i ≡ Frame n (b + i) = ap (Frame n) (beyond_is b i (omega arith)) in
       let from_is : lower.behind (Frame n y) i ≡ Frame n (y + i) = ap (Frame n) (beyond_is y i (omega arith)) in
@@ -152,8 +152,8 @@ module _ (g : Setting) (T : Machine → Type 0) (n : ℕ) (a : Option ℕ) (s : 
       ∙ ap (λ x. todo (copies (Frame n b) (Frame n y) i) (Todo [] (code.Copy x (lower.behind (Frame n y) i)) ∷ r)) to_is
       ∙ ap (λ x. todo (copies (Frame n b) (Frame n y) i) (Todo [] (code.Copy (Frame n (b + i)) x) ∷ r)) from_is in
       let clear : m' (Frame n (y + i)) ≡ m (Frame n (y + i)) = bytes_clear m n b i (λ j. m (Frame n (y + j))) (Frame n (y + i)) (inr (⊎_elim (λ le. inr (omega arith)) (λ le. inl (omega arith)) apart)) in
-      comes_within g T (6 * i + (6 + q)) (i + (1 + l)) (6 * suc i + q) (suc i + l) c
-      (move_then b y i (Todo [] (code.Copy (Frame n (b + i)) (Frame n (y + i))) ∷ r) m c (6 + q) (1 + l) (⊎_elim (λ le. inl le) (λ le. inr (omega arith)) apart) (omega arith) (omega arith) (subst (λ x. Placed g n a x s m w c) split p)
-      (λ d pd. copy_then g T n a s w due now (Frame n (b + i)) (Frame n (y + i)) r m' d q l refl (valid_frame g n (y + i) (omega arith)) (own_frame g.program n (b + i) 1 (omega arith)) pd
+      comes_within g T (6 * i + (6 + q)) (0 + l) (6 * suc i + q) l c
+      (move_then b y i (Todo [] (code.Copy (Frame n (b + i)) (Frame n (y + i))) ∷ r) m c (6 + q) (0 + l) (⊎_elim (λ le. inl le) (λ le. inr (omega arith)) apart) (omega arith) (omega arith) (subst (λ x. Placed g n a x s m w c) split p)
+      (λ d pd. copy_then g T n a s w due now (Frame n (b + i)) (Frame n (y + i)) r m' d q l 0 (omega arith) refl (valid_frame g n (y + i) (omega arith)) (own_frame g.program n (b + i) 1 (omega arith)) pd
       (λ e pe. next e (subst (λ x. Placed g n a r s (with_byte m' (Frame n (b + i)) x) w e) clear pe))))
       (omega arith) (omega arith)

@@ -83,9 +83,9 @@ object_there z m r k h (objects.Variable c n) at = frame_there m r k h _ _
 module _ (g : Setting) (T : Machine → Type 0) (n : ℕ) (a : Option ℕ) (s : List Waiting) (w : World Held) (due : is_due w ≡ false) (again : arrived g.outside w ≡ w) (root : Root) (is_root : g.program.root n ≡ root) (small : g.program.frame_bytes n ≤ 96) where
   -- own bytes become results
   pub results_then : (k b : ℕ) (r : List Task) (m : Memory) (c : Machine) (q l : ℕ) → k ≤ 4 → b + k ≤ g.program.frame_bytes n → Placed g n a (todo (copies (Result root 0) (Frame n b) k) r) s m w c
-      → ((d : Machine) → Placed g n a r s (with_bytes m (Result root 0) k (λ i. m (Frame n (b + i)))) w d → Comes g T q l d) → Comes g T (6 * k + q) (k + l) c
+      → ((d : Machine) → Placed g n a r s (with_bytes m (Result root 0) k (λ i. m (Frame n (b + i)))) w d → Comes g T q l d) → Comes g T (6 * k + q) l c
   unfolding copies
-  results_then zero b r m c q l few room p next = comes_within g T q l (6 * 0 + q) (0 + l) c (next c p) (omega arith) (omega arith)
+  results_then zero b r m c q l few room p next = comes_within g T q l (6 * 0 + q) l c (next c p) (omega arith) (omega arith)
   results_then (suc k) b r m c q l few room p next =
       let to : behind (Result root 0) k ≡ Result root (0 + k) = ap (Result root) (little_is k (omega arith)) ∙ (let e : k ≡ 0 + k = omega arith in ap (Result root) e) in
       let from : behind (Frame n b) k ≡ Frame n (b + k) = ap (Frame n) (beyond_is b k (omega arith)) in
@@ -94,17 +94,17 @@ module _ (g : Setting) (T : Machine → Type 0) (n : ℕ) (a : Option ℕ) (s : 
       todo_join (copies (Result root 0) (Frame n b) k) (code.Copy (behind (Result root 0) k) (behind (Frame n b) k) ∷ []) r
       ∙ ap (λ x. todo (copies (Result root 0) (Frame n b) k) (Todo [] (code.Copy x (behind (Frame n b) k)) ∷ r)) to
       ∙ ap (λ x. todo (copies (Result root 0) (Frame n b) k) (Todo [] (code.Copy (Result root (0 + k)) x) ∷ r)) from in
-      comes_within g T (6 * k + (6 + q)) (k + (1 + l)) (6 * suc k + q) (suc k + l) c
-      (results_then k b (Todo [] (code.Copy (Result root (0 + k)) (Frame n (b + k))) ∷ r) m c (6 + q) (1 + l) (omega arith) (omega arith) (subst (λ x. Placed g n a x s m w c) split p)
-      (λ d pd. copy_then g T n a s w due again (Result root (0 + k)) (Frame n (b + k)) r m' d q l refl (valid_frame g n (b + k) (omega arith)) (own_result g n (0 + k) root is_root (omega arith)) pd
+      comes_within g T (6 * k + (6 + q)) (0 + l) (6 * suc k + q) l c
+      (results_then k b (Todo [] (code.Copy (Result root (0 + k)) (Frame n (b + k))) ∷ r) m c (6 + q) (0 + l) (omega arith) (omega arith) (subst (λ x. Placed g n a x s m w c) split p)
+      (λ d pd. copy_then g T n a s w due again (Result root (0 + k)) (Frame n (b + k)) r m' d q l 0 (omega arith) refl (valid_frame g n (b + k) (omega arith)) (own_result g n (0 + k) root is_root (omega arith)) pd
       (λ e pe. next e (subst (λ x. Placed g n a r s (with_byte m' (Result root (0 + k)) x) w e) (frame_there m root k (λ i. m (Frame n (b + i))) n (b + k)) pe))))
       (omega arith) (omega arith)
 
   -- results become own bytes
   pub taken_then : (k b : ℕ) (r : List Task) (m : Memory) (c : Machine) (q l : ℕ) → k ≤ 4 → b + k ≤ g.program.frame_bytes n → Placed g n a (todo (copies (Frame n b) (Result root 0) k) r) s m w c
-      → ((d : Machine) → Placed g n a r s (with_bytes m (Frame n b) k (λ i. m (Result root i))) w d → Comes g T q l d) → Comes g T (6 * k + q) (k + l) c
+      → ((d : Machine) → Placed g n a r s (with_bytes m (Frame n b) k (λ i. m (Result root i))) w d → Comes g T q l d) → Comes g T (6 * k + q) l c
   unfolding copies
-  taken_then zero b r m c q l few room p next = comes_within g T q l (6 * 0 + q) (0 + l) c (next c p) (omega arith) (omega arith)
+  taken_then zero b r m c q l few room p next = comes_within g T q l (6 * 0 + q) l c (next c p) (omega arith) (omega arith)
   taken_then (suc k) b r m c q l few room p next =
       let from : behind (Result root 0) k ≡ Result root k = ap (Result root) (little_is k (omega arith)) in
       let to : behind (Frame n b) k ≡ Frame n (b + k) = ap (Frame n) (beyond_is b k (omega arith)) in
@@ -113,9 +113,9 @@ module _ (g : Setting) (T : Machine → Type 0) (n : ℕ) (a : Option ℕ) (s : 
       todo_join (copies (Frame n b) (Result root 0) k) (code.Copy (behind (Frame n b) k) (behind (Result root 0) k) ∷ []) r
       ∙ ap (λ x. todo (copies (Frame n b) (Result root 0) k) (Todo [] (code.Copy x (behind (Result root 0) k)) ∷ r)) to
       ∙ ap (λ x. todo (copies (Frame n b) (Result root 0) k) (Todo [] (code.Copy (Frame n (b + k)) x) ∷ r)) from in
-      comes_within g T (6 * k + (6 + q)) (k + (1 + l)) (6 * suc k + q) (suc k + l) c
-      (taken_then k b (Todo [] (code.Copy (Frame n (b + k)) (Result root k)) ∷ r) m c (6 + q) (1 + l) (omega arith) (omega arith) (subst (λ x. Placed g n a x s m w c) split p)
-      (λ d pd. copy_then g T n a s w due again (Frame n (b + k)) (Result root k) r m' d q l refl (valid_result g n k root is_root (omega arith)) (own_frame g.program n (b + k) 1 (omega arith)) pd
+      comes_within g T (6 * k + (6 + q)) (0 + l) (6 * suc k + q) l c
+      (taken_then k b (Todo [] (code.Copy (Frame n (b + k)) (Result root k)) ∷ r) m c (6 + q) (0 + l) (omega arith) (omega arith) (subst (λ x. Placed g n a x s m w c) split p)
+      (λ d pd. copy_then g T n a s w due again (Frame n (b + k)) (Result root k) r m' d q l 0 (omega arith) refl (valid_result g n k root is_root (omega arith)) (own_frame g.program n (b + k) 1 (omega arith)) pd
       (λ e pe. next e (subst (λ x. Placed g n a r s (with_byte m' (Frame n (b + k)) x) w e) (bytes_clear m n b k (λ i. m (Result root i)) (Result root k) tt) pe))))
       (omega arith) (omega arith)
 
@@ -132,7 +132,7 @@ handed_case z laws true ty v d k l w c is around reached room few count due agre
     let x = width g.layout ty in
     let T = Mirrors z (state d (Value v) k l (arrived z.outside w)) in
     let W = world_as (held z) (arrived z.outside w) in
-    comes_within (core_in z) T (6 * x + 0) (x + 0) (6 * x) 0 c
+    comes_within (core_in z) T (6 * x + 0) 0 (6 * x) 0 c
     (taken_then (core_in z) T n None (stack_after z g k) W (due_below z (arrived z.outside w) due) (again_below z w) d.root (laws.roots d reached) (laws.small n) x b (code_after g k) c.memory c 0 0 few room p
     (λ e pe. comes_here (core_in z) T e
     (gives z laws d k l (arrived z.outside w) c.memory x (λ i. c.memory (Result d.root i)) v e around count there

@@ -98,7 +98,7 @@ module _ (z : Scene) (laws : SceneLaws z) where
       let now : todo (step_row (step_of (wanted k) g.layout op operation) num s g.layout.root (Frame g.copy b) (place_width g.layout to) (place_type to).ty) (code_after g k) ≡ todo (sets (Frame n p) num i) R =
       todo_join (sets (Frame g.copy p) num (width g.layout operation)) (update_row (step_of (wanted k) g.layout op operation) s g.layout.root (Frame g.copy b) (place_width g.layout to) (place_type to).ty) (code_after g k)
       ∙ ap (λ x. todo (sets (Frame g.copy p) num x) R) wide ∙ ap (λ x. todo (sets (Frame x p) num i) R) (own_copy z cp) in
-      comes_within (core_in z) T (4 * i + 0) (i + 0) 16 0 c
+      comes_within (core_in z) T (4 * i + 0) 0 16 0 c
       (sets_then (core_in z) T n None (stack_after z g k) W (due_below z (arrived z.outside w) due) (again_below z w) i p num R c.memory c 0 0 room (let q = laws.small n in omega arith)
       (subst (λ x. Placed (core_in z) n None x (stack_after z g k) c.memory W c) now (placed_of z (state cp (Found at) (In e Nothing ∷ k) l w) c h))
       (λ d pd.
@@ -177,7 +177,7 @@ module _ (z : Scene) (laws : SceneLaws z) where
       row_writes z g.layout.root s at A L i rest ∙ ap (λ t. writing z g.layout.root s at A (Frame g.copy t) i 0 rest) (sym left_is) in
       let old_at : beyond (stored g b e) wide ≡ kept = ap (λ t. beyond t wide) left_is ∙ ap (beyond left_at) count_is in
       subst (λ a. Follow z (78 + 10 * bytes_of o) 0 c (changes a e at (is_postfix op) (datum.Number x) line k cp l (arrived z.outside w))) (sym (number_changed z (active cp (Value (datum.Number x)) k) f o size x y sum))
-      (comes_within (core_in z) T (24 + (24 + (10 * bytes_of o + 30 + 0))) (1 + 0) (78 + 10 * bytes_of o) 0 c
+      (comes_within (core_in z) T (24 + (24 + (10 * bytes_of o + 30 + 0))) 0 (78 + 10 * bytes_of o) 0 c
       (change_then z (core_in z) T n (stack_after z g k) W (due_below z (arrived z.outside w) due) (again_below z w) f o x y keeps left_at right_at kept i R c.memory c 0 0 small sum p.range (in_range o (pos 1)) refl le (omega arith) (omega arith) (omega arith) (omega arith) (omega arith) (omega arith) (omega arith) hx hy
       (subst (λ t. Placed (core_in z) n None t (stack_after z g k) c.memory W c) now (placed_of z (state cp (Value (datum.Number x)) (In e (At at) ∷ k) l w) c h))
       (λ d m' only hr keep pd.

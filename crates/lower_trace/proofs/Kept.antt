@@ -8,6 +8,7 @@ use Rattle.c_ints.specs.declared.types.IntTy.TheVariants as int
 use Rattle.c_typed.specs.Trees as tree
 use Rattle.c_typed.specs.Trees.{Expression, Expressions, Place, Item, Statement}
 use Rattle.core_code.specs.Bytes.{Memory, same_byte}
+use Rattle.core_code.specs.Cost.{is_kept}
 use Rattle.core_code.specs.Machine.{static_bytes, object_bytes as core_bytes}
 use Rattle.core_code.specs.declared.code.Byte.TheVariants.{Frame, Result}
 use Rattle.lower_expr.specs.Bytes.{behind, beyond, operation_type}
@@ -50,6 +51,8 @@ pub record SceneLaws (z : Scene) : Type 0 where
   -- variables stand below the temporary bytes
   pub below : (c : CopyOf) (i at : ℕ) → IsReached z.program c → i < length (variables_of (function_at z.program c.function)) → at < object_bytes z.program (objects.Variable c i)
       → variable_offset z.program c.function i + at < (ground_in z c).base
+  -- and each byte of an object is one that the source has
+  pub kept : (object : object.Object) (at : ℕ) → IsThere z.program object → at < object_bytes z.program object → is_kept (core_in z).program.variable_bytes (core_byte z object at) ≡ true
   -- two bytes of objects are one byte in byte code where they are one byte in the source
   pub spots : (a : object.Object) (i : ℕ) (b : object.Object) (j : ℕ) → IsThere z.program a → i < object_bytes z.program a → IsThere z.program b → j < object_bytes z.program b
       → same_byte (core_byte z a i) (core_byte z b j) ≡ (same_object a b && nat_eq i j)

@@ -189,7 +189,7 @@ module _ (z : Scene) (given : IsLowerable z.program z.copies) (input : All (λ b
       let place_wide = width_is z cp (place_type place).ty (omega arith) in
       let left = beyond_is (behind_pointer g.layout g.copy b place) (width g.layout ty) (omega arith) in
       let front = pointer_bytes (spot_of g.layout g.copy place) in
-      led_by z _ _ 44 1 c _ (omega arith) (omega arith)
+      led_by z _ _ 44 0 c _ (omega arith) (omega arith)
       (step_moved z (scene_laws z given) op place target size line spot x (b + front + 2) (b + front) 2 k cp l w c counted.0 (λ y is. step_few z (step_minus op) x y size (any_small p (proper z given input)) t.1 is) (points_there p x t.1) wide (left ∙ (omega arith)) at
       (record {
         around = around_in z cp e (At spot) k (around z given input (state cp (Holds (datum.Pointer x)) (In e (At spot) ∷ k) l w) known);
@@ -242,7 +242,7 @@ module _ (z : Scene) (given : IsLowerable z.program z.copies) (input : All (λ b
       let place_wide = width_is z cp (place_type place).ty (omega arith) in
       let left = value_at z cp less (behind_pointer g.layout g.copy b place) right (omega arith) in
       let front = pointer_bytes (spot_of g.layout g.copy place) in
-      led_by z _ _ 1632 1 c _ (omega arith) (omega arith)
+      led_by z _ _ 1632 0 c _ (omega arith) (omega arith)
       (update_moved z (scene_laws z given) minus place right target size line spot x q (b + front + 2) (b + front) 2 k cp l w c two u.1 counted.0 counted.1 (points_there p x t.1) (left ∙ (omega arith)) at
       (record {
         around = around_in z cp e (AtWith spot (datum.Number q)) k (around z given input (state cp (Holds (datum.Pointer x)) (In e (AtWith spot (datum.Number q)) ∷ k) l w) known);

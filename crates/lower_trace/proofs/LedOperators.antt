@@ -105,7 +105,7 @@ module _ (z : Scene) (given : IsLowerable z.program z.copies) (input : All (λ b
       let bytes = ap (type_bytes z.program.sizes) o.is in
       let result = ap bytes_of (kind ∙ o.same) in
       let small_type = bytes_small q.ty in
-      led_by z _ _ (10 * bytes_of q.ty) 1 c _ (omega arith) (omega arith)
+      led_by z _ _ (10 * bytes_of q.ty) 0 c _ (omega arith) (omega arith)
       (unary_given z (scene_laws z given) op operand ty line q k cp l w c (around_in z cp e Nothing k (around z given input (state cp (Holds (datum.Number q)) (In e Nothing ∷ k) l w) known)) signed o.is o.wide t.1 (omega arith) (omega arith) due h)
 
   bang_on : (operand : Expression) (ty : Ty) (line : ℕ) (v : Datum) (k : List Pending) (cp : CopyOf) (l : source.Memory) (w : World Byte) (c : Machine) → Known z (state cp (Holds v) (In (tree.Unary unop.Bang operand ty line) Nothing ∷ k) l w) → is_due (arrived z.outside w) ≡ false
@@ -205,5 +205,5 @@ module _ (z : Scene) (given : IsLowerable z.program z.copies) (input : All (λ b
       let right_bytes = ap (type_bytes sizes) (sym same) in
       let few = result_few op x.ty in
       let small_type = bytes_small x.ty in
-      led_by z _ _ (10 * bytes_of x.ty + 30) 1 c _ (omega arith) (omega arith)
+      led_by z _ _ (10 * bytes_of x.ty + 30) 0 c _ (omega arith) (omega arith)
       (binary_given z (scene_laws z given) op left right ty line x y k cp l w c (around_in z cp e (One (datum.Number x)) k (around z given input (state cp (Holds (datum.Number y)) (In e (One (datum.Number x)) ∷ k) l w) known)) plain u.0 alike u.1 t.1 (omega arith) (omega arith) due h)

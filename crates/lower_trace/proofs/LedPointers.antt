@@ -158,7 +158,7 @@ module _ (z : Scene) (given : IsLowerable z.program z.copies) (input : All (λ b
       let parts = (binary_parts (room sizes left) (value_bytes sizes left) (room sizes right) (value_bytes sizes right) (type_bytes sizes ty)).2 in
       let left_bytes = pointer_bytes_are sizes (type_of left) u.0 in
       let right_bytes = ap (type_bytes sizes) t.0 in
-      led_by z _ _ 1632 1 c _ (omega arith) (omega arith)
+      led_by z _ _ 1632 0 c _ (omega arith) (omega arith)
       (offset_given z (scene_laws z given) minus left right size ty line x q k cp l w c (around_in z cp e (One (datum.Pointer x)) k (around z given input (state cp (Holds (datum.Number q)) (In e (One (datum.Pointer x)) ∷ k) l w) known))
       u.0 two t.1 counted.0 counted.1 (points_there p x u.1) (in_room (nat_eq size 1) _ _ (omega arith)) due h)
 
@@ -192,7 +192,7 @@ module _ (z : Scene) (given : IsLowerable z.program z.copies) (input : All (λ b
       let parts = (binary_parts (room sizes left) (value_bytes sizes left) (room sizes right) (value_bytes sizes right) (type_bytes sizes ty)).2 in
       let left_bytes = ap (type_bytes sizes) u.0 in
       let right_bytes = pointer_bytes_are sizes (type_of right) t.0 in
-      led_by z _ _ 1632 1 c _ (omega arith) (omega arith)
+      led_by z _ _ 1632 0 c _ (omega arith) (omega arith)
       (turned_given z (scene_laws z given) left right size ty line x q k cp l w c (around_in z cp e (One (datum.Number q)) k (around z given input (state cp (Holds (datum.Pointer x)) (In e (One (datum.Number q)) ∷ k) l w) known))
       (ap is_pointer u.0) two u.1 counted.0 counted.1 (points_there p x t.1) (in_room (nat_eq size 1) _ _ (omega arith)) due h)
 
@@ -226,7 +226,7 @@ module _ (z : Scene) (given : IsLowerable z.program z.copies) (input : All (λ b
       let parts = (binary_parts (room sizes left) (value_bytes sizes left) (room sizes right) (value_bytes sizes right) 2).2 in
       let left_bytes = pointer_bytes_are sizes (type_of left) u.0 in
       let right_bytes = pointer_bytes_are sizes (type_of right) t.0 in
-      led_by z _ _ 2250 1 c _ (omega arith) (omega arith)
+      led_by z _ _ 2250 0 c _ (omega arith) (omega arith)
       (difference_given z (scene_laws z given) bounded x y size left right line k cp l w c (around_in z cp e (One (datum.Pointer x)) k (around z given input st known)) (resumables z st known) counted.0
       (λ many. divide left right size line (datum.Pointer x) (datum.Pointer y) k cp l w known many) u.1 t.1 (omega arith) due h)
 
@@ -245,6 +245,6 @@ module _ (z : Scene) (given : IsLowerable z.program z.copies) (input : All (λ b
       let parts = (binary_parts (room sizes left) (value_bytes sizes left) (room sizes right) (value_bytes sizes right) (type_bytes sizes ty)).2 in
       let left_bytes = pointer_bytes_are sizes (type_of left) u.0 in
       let right_bytes = pointer_bytes_are sizes (type_of right) t.0 in
-      led_by z _ _ 50 1 c _ (omega arith) (omega arith)
+      led_by z _ _ 50 0 c _ (omega arith) (omega arith)
       (pointers_given z (scene_laws z given) some op left right ty line to.target x y k cp l w c (around_in z cp e (One (datum.Pointer x)) k (around z given input (state cp (Holds (datum.Pointer y)) (In e (One (datum.Pointer x)) ∷ k) l w) known))
       test to.is u.1 t.1 (lives_all z cp k) (omega arith) due h)

@@ -16,7 +16,7 @@ use Rattle.src_values.specs.Memory as source
 use Rattle.src_values.specs.declared.objects.Byte.{Byte}
 use Rattle.src_values.specs.declared.objects.CopyOf.{CopyOf}
 use Rattle.lower_trace.specs.Lowering.{IsLowerable}
-use Rattle.lower_trace.proofs.Beginnings.{HasRoom, eval_goes, eval_most, eval_least}
+use Rattle.lower_trace.proofs.Beginnings.{HasRoom, eval_goes, eval_most}
 use Rattle.lower_trace.proofs.CodeLeft.{Scene, arm_count, switch_on}
 use Rattle.lower_trace.proofs.Comparing.{begin_switch}
 use Rattle.lower_trace.proofs.Ends.{Again, body_past, before_past, arm_past, begin_leave, begin_break, begin_continue, turn_repeats, switch_past}
@@ -98,7 +98,7 @@ module _ (z : Scene) (given : IsLowerable z.program z.copies) (input : All (λ b
 
   pub evals : (e : Expression) (k : List Pending) → Law z (Eval e) k
   unfolding act
-  evals e k cp l w c known due h = led_by z (Eval e) k (eval_most e) (eval_least e) c _ (eval_low e) (omega arith) (eval_goes z (scene_laws z given) e k cp l w c (around z given input (state cp (Eval e) k l w) known) (constant_room e k cp l w known) due h)
+  evals e k cp l w c known due h = led_by z (Eval e) k (eval_most e) 0 c _ (eval_low e) (omega arith) (eval_goes z (scene_laws z given) e k cp l w c (around z given input (state cp (Eval e) k l w) known) (constant_room e k cp l w known) due h)
 
   pub finds : (place : Place) (k : List Pending) → Law z (Find place) k
   unfolding act

@@ -21,10 +21,11 @@ use Rattle.lower_trace.specs.Lowering.{IsLowerable}
 use Rattle.lower_trace.proofs.CodeLeft.{Scene}
 use Rattle.lower_trace.proofs.Known.{around, small}
 use Rattle.lower_trace.proofs.Leads.{Law, IsSilent, on_led}
-use Rattle.lower_trace.proofs.PriceTests.{compare_one, compare_room}
+use Rattle.lower_trace.proofs.PriceTests.{compare_room}
+use Rattle.lower_trace.proofs.Prices.{some_label}
 use Rattle.lower_trace.proofs.Rooms.{two_parts}
 use Rattle.lower_trace.proofs.Scenes.{frame_is, scene_laws}
-use Rattle.lower_trace.proofs.SwitchCases.{compare_most, compare_least, compares_stands}
+use Rattle.lower_trace.proofs.SwitchCases.{compare_most, compares_stands}
 
 -- a comparison makes no event
 silent_either : (b : Bool) (x y : Outcome) → IsSilent x → IsSilent y → IsSilent (if b then x else y)
@@ -54,8 +55,8 @@ module _ (z : Scene) (given : IsLowerable z.program z.copies) (input : All (λ b
       let own = (two_parts (room sizes e) (2 * value_bytes sizes e + 2)).1 in
       let whole = (two_parts (switch_room (room sizes e) (value_bytes sizes e)) (statements_room sizes ss)).0 in
       let fits = known.stack.0.0 in
-      on_led z (compares v labels (Doing t Chooses ∷ k) cp l (arrived z.outside w)) (compare_most (type_bytes sizes (type_of e)) labels) (compare_least (type_bytes sizes (type_of e)) labels) (Compares v labels) (Doing t Chooses ∷ k) cp l w c refl
+      on_led z (compares v labels (Doing t Chooses ∷ k) cp l (arrived z.outside w)) (compare_most (type_bytes sizes (type_of e)) labels) (some_label labels) (Compares v labels) (Doing t Chooses ∷ k) cp l w c refl
       (silent_compares e cases default ss line v labels k cp l (arrived z.outside w)) refl due
-      (compare_room (type_bytes sizes (type_of e)) labels (omega arith)) (compare_one (type_bytes sizes (type_of e)) labels)
+      (compare_room (type_bytes sizes (type_of e)) labels (omega arith)) (omega arith)
       (compares_stands z (scene_laws z given) e cases default ss line k cp l v labels w c s.focus s.stack known.stack.0.1.0 (around z given input (state cp (Compares v labels) (Doing t Chooses ∷ k) l w) known) (omega arith) due h)
   comparisons v labels _ cp l w c known due h = absurd known.stands.focus.1

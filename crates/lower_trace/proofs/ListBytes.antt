@@ -6,6 +6,7 @@ use Rattle.c_typed.specs.Trees as tree
 use Rattle.c_typed.specs.Trees.{Expression, Item, Statement}
 use Rattle.core_code.specs.Bytes as bytes
 use Rattle.core_code.specs.Bytes.{Held, Memory, with_byte}
+use Rattle.core_code.specs.Cost.{is_kept, one_if}
 use Rattle.core_code.specs.Machine.{Machine, Task, Do as Todo}
 use Rattle.core_code.specs.Tree as code
 use Rattle.core_code.specs.declared.code.Byte.{Byte}
@@ -67,8 +68,9 @@ module _ (z : Scene) (laws : SceneLaws z) (cp : CopyOf) (k : List Pending) (l : 
       let T = Mirrors z (state cp x k l' (arrived z.outside w)) in
       let inside = writable z live cp.root o at e in
       let below = laws.below cp i at around.reached there inside in
+      let sure : 1 ≤ one_if (is_kept (core_in z).program.variable_bytes (core_byte z o at)) = let q = ap one_if (laws.kept o at (around.reached, there) inside) in omega arith in
       comes_within (core_in z) T (4 + 0) (1 + 0) 4 1 c
-      (set_then (core_in z) T n None (stack_after z g k) W (due_below z (arrived z.outside w) due) (again_below z w) (variable_offset z.program cp.function i + at) byte r m c 0 0 (omega arith) p
+      (set_then (core_in z) T n None (stack_after z g k) W (due_below z (arrived z.outside w) due) (again_below z w) (variable_offset z.program cp.function i + at) byte r m c 0 0 1 sure (omega arith) p
       (λ d pd. arrive z cp x k l' w m' d
       (subst (λ y. Placed (core_in z) (number z y) None (code_at z g x k) (stack_at z g x k) m' W d) (sym same)
       (subst (λ y. Placed (core_in z) n None y (stack_at z g x k) m' W d) (sym next)

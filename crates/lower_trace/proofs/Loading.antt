@@ -151,7 +151,7 @@ module _ (z : Scene) (laws : SceneLaws z) (cp : CopyOf) (k : List Pending) (l : 
       let zero_to : to ≡ to + 0 = omega arith in
       let zero_count : count ≡ count - 0 = omega arith in
       let vo = variable_offset z.program d.function i + f in
-      comes_within (core_in z) T (14 + (6 + 0)) (1 + (1 + 0)) 20 1 c
+      comes_within (core_in z) T (14 + (6 + 0)) (1 + 0) 20 1 c
       (load_then (core_in z) T n None (stack_after z (ground_in z cp) k) W (due_below z (arrived z.outside w) due) (again_below z w) (Frame n to) (Frame n at_pointer) count (record { object = bytes.FrameOf (number z d); offset = vo }) r c.memory c (6 + 0) (1 + 0)
       (own_frame (core_in z).program n at_pointer 2 (omega arith))
       (subst (λ y. pointer_in c.memory (Frame y at_pointer) ≡ Some (record { object = bytes.FrameOf (number z d); offset = vo })) (own_copy z cp) (pointer_back z (ground_in z cp).copy at_pointer o f c.memory (has refl)))
@@ -234,7 +234,7 @@ module _ (z : Scene) (laws : SceneLaws z) (cp : CopyOf) (k : List Pending) (l : 
       let zero_to : to ≡ to + 0 = omega arith in
       let zero_count : count ≡ count - 0 = omega arith in
       let zero_off : 0 + f ≡ f = omega arith in
-      comes_within (core_in z) T (14 + 3) (1 + 1) 20 1 c
+      comes_within (core_in z) T (14 + 3) 1 20 1 c
       (load_then (core_in z) T n None (stack_after z (ground_in z cp) k) W (due_below z V due) (again_below z w) (Frame n to) (Frame n at_pointer) count (record { object = bytes.Fixed i; offset = 0 + f }) r c.memory c 3 1
       (own_frame (core_in z).program n at_pointer 2 (omega arith))
       (subst (λ y. pointer_in c.memory (Frame y at_pointer) ≡ Some (record { object = bytes.Fixed i; offset = 0 + f })) (own_copy z cp) (pointer_back z (ground_in z cp).copy at_pointer o f c.memory (has refl)))
@@ -263,7 +263,7 @@ module _ (z : Scene) (laws : SceneLaws z) (cp : CopyOf) (k : List Pending) (l : 
       let last = held z (slice_index_or read j values.Unset) in
       let m' = with_byte c.memory (Frame n (to + j)) last in
       let zero_off : 0 + f ≡ f = omega arith in
-      comes_within (core_in z) T (3 + 3) (1 + 1) 20 1 c
+      comes_within (core_in z) T (3 + 3) 1 20 1 c
       (put_then (core_in z) T n None (stack_after z (ground_in z cp) k) W (due_below z V due) (again_below z w) (Frame n (to + j)) last (loading (Frame n (to + suc j)) (bytes.Fixed i) (0 + f) (count - suc j) r) c.memory c 3 1 (own_frame (core_in z).program n (to + j) 1 (omega arith))
       (subst (λ y. Placed (core_in z) n None y (stack_after z (ground_in z cp) k) c.memory W c) (code_static i f read j refl) (placed_of z (state cp (Fetch (spots.Memory (Into o f)) read) k l w) c h))
       (λ x px. static_last T i f (suc j) read byte w w' m' x refl lt there ok.inside due is

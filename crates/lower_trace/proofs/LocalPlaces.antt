@@ -1,5 +1,5 @@
 -- A local that begins with a list, where it lies and how many bytes it has.
-use Rattle.std.proofs.Common.{◌≡◌, ℕ, zero, suc, ◌+◌, ◌-◌, ◌<◌, ◌≤◌, Bool, true, false, ◌&&◌, ◌||◌, nat_le, List, [], ◌∷◌, ◌++◌, length, length-append, map, Some, option_map, refl, sym, ap, ◌∙◌, arith}
+use Rattle.std.proofs.Common.{◌≡◌, ℕ, zero, suc, ◌+◌, ◌-◌, ◌<◌, ◌≤◌, Bool, true, false, ◌&&◌, nat_le, List, [], ◌∷◌, ◌++◌, length, length-append, map, Some, option_map, refl, sym, ap, ◌∙◌, arith}
 use Rattle.std.specs.Prelude.{slice_get, slice_index, unwrap_or}
 use Rattle.c_ints.specs.declared.types.IntTy.{IntTy}
 use Rattle.c_ints.specs.declared.types.IntTy.TheVariants as int
@@ -21,7 +21,7 @@ use Rattle.src_values.specs.declared.objects.CopyOf.{CopyOf}
 use Rattle.lower_trace.proofs.CodeLeft.{Scene, number, ground_in}
 use Rattle.lower_trace.proofs.Kept.{SceneLaws, own_copy}
 use Rattle.lower_trace.proofs.ListBytes.{Listed}
-use Rattle.lower_trace.proofs.Operations.{true_le}
+use Rattle.lower_trace.proofs.Operations.{or_first, true_le}
 use Rattle.lower_trace.proofs.Written.{both, and_left, and_right, nat_same}
 
 -- ---- lists
@@ -64,10 +64,6 @@ flag_itself false = refl
 
 qualified_itself : (a : Qualified) → same_qualified a a ≡ true
 qualified_itself a = both _ _ (type_itself a.ty) (both _ _ (flag_itself a.constant) (flag_itself a.volatile))
-
-or_first : (a b : Bool) → a ≡ true → (a || b) ≡ true
-or_first true b e = refl
-or_first false b e = absurd (cc)
 
 local_named : (z : Scene) (c : CopyOf) (local : ℕ) (v : VariableTree) → slice_get (function_at z.program c.function).locals local ≡ Some v → IsPlaceOf z.program c.function (tree.Name (names.Local local) v.ty 0)
 unfolding place_rule_holds

@@ -180,13 +180,13 @@ module _ (z : Scene) (laws : SceneLaws z) where
       let m3 = with_bytes m2 (Frame n b) 2 (core.byte_of result) in
       let zero_is : lower.behind (Result root 0) 0 ≡ Result root 0 = ap (Result root) (little_is 0 (omega arith)) in
       let one_is : lower.behind (Result root 0) 1 ≡ Result root 1 = ap (Result root) (little_is 1 (omega arith)) in
-      comes_within (core_in z) T (4 + (4 + (20 + 0))) (1 + (1 + (1 + 0))) 28 0 c
-      (set_result_then (core_in z) T n None (stack_after z g k) W no ag root 0 lo (Todo [] (code.Set (Result root 1) hi) ∷ sum) c.memory c (4 + (20 + 0)) (1 + (1 + 0)) (own_result (core_in z) n 0 root same_root_is (omega arith))
+      comes_within (core_in z) T (4 + (4 + (20 + 0))) 0 28 0 c
+      (set_result_then (core_in z) T n None (stack_after z g k) W no ag root 0 lo (Todo [] (code.Set (Result root 1) hi) ∷ sum) c.memory c (4 + (20 + 0)) 0 (own_result (core_in z) n 0 root same_root_is (omega arith))
       (subst (λ t. Placed (core_in z) n None t (stack_after z g k) c.memory W c) (ap (λ t. Todo [] (code.Set t lo) ∷ Todo [] (code.Set (lower.behind (Result root 0) 1) hi) ∷ sum) zero_is ∙ ap (λ t. Todo [] (code.Set (Result root 0) lo) ∷ Todo [] (code.Set t hi) ∷ sum) one_is) p)
-      (λ d1 p1. set_result_then (core_in z) T n None (stack_after z g k) W no ag root 1 hi sum m1 d1 (20 + 0) (1 + 0) (own_result (core_in z) n 1 root same_root_is (omega arith)) p1
+      (λ d1 p1. set_result_then (core_in z) T n None (stack_after z g k) W no ag root 1 hi sum m1 d1 (20 + 0) 0 (own_result (core_in z) n 1 root same_root_is (omega arith)) p1
       (λ d2 p2. binary_any_then (core_in z) T n (stack_after z g k) W no ag ops.Add int.UInt (Frame n b) (Frame n b) (Result root 0) (core.Pointer (record { object = object_as z.copies o; offset = offset_as z.program o + f })) (core.Number (record { ty = int.UInt; number = d })) result (code_after g k) m2 d2 0 0 20
       (λ before. both _ _ (itself n b 2) refl) (λ i. refl) (own_frame (core_in z).program n b 2 room) (own_two (core_in z).program n root same_root_is)
-      (pointer_value z n b o f m2 hx) number_is (λ s e. gives s) (own_frame (core_in z).program n b 2 room) (λ i. omega arith) (omega arith) p2
+      (pointer_value z n b o f m2 hx) number_is (λ s e. gives s) (own_frame (core_in z).program n b 2 room) (λ i. omega arith) p2
       (λ d3 p3. next d3 m3
       (agrees_above z laws cp (cp ∷ callers k) l m2 m3 b around.reached (value_high z cp k around) (above_written n b b 2 m2 (core.byte_of result) (omega arith)) (agrees_same z (cp ∷ callers k) l c.memory m2 (λ ob at th lt. untouched root c.memory lo hi ob at) agrees))
       (holds_above z cp k m2 m3 b around (omega arith) (above_written n b b 2 m2 (core.byte_of result) (omega arith)) (holds_frames z cp.root cp k c.memory m2 resumables same_frames (others_then root c.memory m1 m2 (set_others root 0 (bytes.Number lo) c.memory) (set_others root 1 (bytes.Number hi) m1)) holds))

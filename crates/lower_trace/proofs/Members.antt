@@ -50,16 +50,16 @@ use Rattle.std.proofs.Common.{Bool, List, None, Option, Some, [], ap, arith, fal
 module _ (g : Setting) (T : Machine → Type 0) (n : ℕ) (a : Option ℕ) (s : List Waiting) (w : World Held) (due : is_due w ≡ false) (now : arrived g.outside w ≡ w) where
   pub address_then : (o : bytes.Object) (offset b : ℕ) (r : List Task) (m : Memory) (c : Machine) (q l : ℕ) → is_valid g.program n (bytes.byte_in o offset) ≡ true → b + 2 ≤ g.program.frame_bytes n
       → Placed g n a (Todo [] (code.Address (Frame n b) (bytes.byte_in o offset)) ∷ r) s m w c
-      → ((d : Machine) → Placed g n a r s (with_bytes m (Frame n b) 2 (core.byte_of (core.Pointer (record { object = o; offset = offset })))) w d → Comes g T q l d) → Comes g T (8 + q) (1 + l) c
+      → ((d : Machine) → Placed g n a r s (with_bytes m (Frame n b) 2 (core.byte_of (core.Pointer (record { object = o; offset = offset })))) w d → Comes g T q l d) → Comes g T (8 + q) l c
   unfolding operate cost_of
   address_then (bytes.Fixed i) offset b r m c q l valid room p next =
       let own = own_frame g.program n b 2 room in
-      first_on g T n a s w due now (code.Address (Frame n b) (Static i offset)) r m (with_bytes m (Frame n b) 2 (core.byte_of (core.Pointer (record { object = bytes.Fixed i; offset = offset })))) c q l 8 1 p
-      (λ before rest s' e. rw (valid, own) refl) (λ before s'. omega arith) (λ s'. omega arith) next
+      first_on g T n a s w due now (code.Address (Frame n b) (Static i offset)) r m (with_bytes m (Frame n b) 2 (core.byte_of (core.Pointer (record { object = bytes.Fixed i; offset = offset })))) c q l 8 p
+      (λ before rest s' e. rw (valid, own) refl) (λ before s'. omega arith) next
   address_then (bytes.FrameOf i) offset b r m c q l valid room p next =
       let own = own_frame g.program n b 2 room in
-      first_on g T n a s w due now (code.Address (Frame n b) (Frame i offset)) r m (with_bytes m (Frame n b) 2 (core.byte_of (core.Pointer (record { object = bytes.FrameOf i; offset = offset })))) c q l 8 1 p
-      (λ before rest s' e. rw (valid, own) refl) (λ before s'. omega arith) (λ s'. omega arith) next
+      first_on g T n a s w due now (code.Address (Frame n b) (Frame i offset)) r m (with_bytes m (Frame n b) 2 (core.byte_of (core.Pointer (record { object = bytes.FrameOf i; offset = offset })))) c q l 8 p
+      (λ before rest s' e. rw (valid, own) refl) (λ before s'. omega arith) next
 
 -- ---- pointers and spots
 spot_pointer : Pointer → spot.Spot → Pointer
@@ -111,7 +111,7 @@ module _ (z : Scene) (laws : SceneLaws z) where
       let same : core_byte z o f ≡ byte = byte_is_so (core_byte z o f) byte is in
       let now : todo (address_row (spot_of g.layout g.copy sought) (Frame g.copy b)) (code_after g k) ≡ Todo [] (code.Address (Frame n b) (core_byte z o f)) ∷ code_after g k =
       ap (λ y. todo (address_row y (Frame g.copy b)) (code_after g k)) e ∙ ap (λ y. Todo [] (code.Address (Frame g.copy b) y) ∷ code_after g k) (sym same) ∙ ap (λ i. Todo [] (code.Address (Frame i b) (core_byte z o f)) ∷ code_after g k) (own_copy z cp) in
-      comes_within (core_in z) T (8 + 0) (1 + 0) 8 0 c
+      comes_within (core_in z) T (8 + 0) 0 8 0 c
       (address_then (core_in z) T n None (stack_after z g k) W (due_below z (arrived z.outside w) due) (again_below z w) (object_as z.copies o) (offset_as z.program o + f) b (code_after g k) c.memory c 0 0
       (ap (is_valid (core_in z).program n) same ∙ valid byte refl) room
       (subst (λ y. Placed (core_in z) n None y (stack_after z g k) c.memory W c) now (placed_of z (state cp (Found (spots.Memory (Into o f))) (In (tree.Address sought ty line) Nothing ∷ k) l w) c h))

@@ -1,12 +1,12 @@
 -- Operators whose left operand is a pointer, and pointers that are moved.
 use Rattle.c_ints.specs.Operators.{cut_to}
-use Rattle.c_ints.specs.Range.{bytes_of, least, pattern}
+use Rattle.c_ints.specs.Range.{bytes_of, pattern}
 use Rattle.c_ints.specs.declared.operators.BinOp.{BinOp}
 use Rattle.c_ints.specs.declared.types.IntTy.TheVariants as int
 use Rattle.c_ints.specs.declared.types.IntTy.{IntTy}
 use Rattle.core_code.specs.Bytes as bytes
 use Rattle.core_code.specs.Bytes.{Held, Memory, with_byte, with_bytes}
-use Rattle.core_code.specs.Cost.{binary_cost, cost_of, least_binary, least_of, leaving}
+use Rattle.core_code.specs.Cost.{binary_cost, cost_of, leaving}
 use Rattle.core_code.specs.Machine as core_machine
 use Rattle.core_code.specs.Machine.{Machine, Setting, Task, Do as Todo, Waiting, extent, goes, is_own, operate}
 use Rattle.core_code.specs.Operands.{fits_together, is_helped, number_left}
@@ -22,8 +22,8 @@ use Rattle.lower_trace.proofs.Kept.{SceneLaws}
 use Rattle.lower_trace.proofs.Mirrors.{HasDatum}
 use Rattle.lower_trace.proofs.Narrowing.{rem_of}
 use Rattle.lower_trace.proofs.NumberBytes.{pointer_back}
-use Rattle.lower_trace.proofs.Operations.{Comes, comes_first, le_true, own_put}
-use Rattle.lower_trace.proofs.Placed.{Placed, front, least_operates, most_operates, operates}
+use Rattle.lower_trace.proofs.Operations.{Comes, comes_free, le_true, own_put}
+use Rattle.lower_trace.proofs.Placed.{Placed, front, most_operates, operates}
 use Rattle.lower_trace.specs.Lowering.{object_as, offset_as}
 use Rattle.pic_world.specs.World.{World, arrived, is_due}
 use Rattle.pic_world.specs.declared.Root.{Root}
@@ -40,52 +40,46 @@ use Rattle.std.specs.Prelude.{int_lt, unwrap_or}
 
 module _ (g : Setting) (T : Machine → Type 0) (n : ℕ) (a : Option ℕ) (s : List Waiting) (w : World Held) (due : is_due w ≡ false) (now : arrived g.outside w ≡ w) where
   -- an operation that only changes memory, where what waits counts too
-  pub first_on : (t : Tree) (r : List Task) (m m' : Memory) (c : Machine) (q l x y : ℕ) → Placed g n a (Todo [] t ∷ r) s m w c
+  pub first_on : (t : Tree) (r : List Task) (m m' : Memory) (c : Machine) (q l x : ℕ) → Placed g n a (Todo [] t ∷ r) s m w c
       → ((before : List Tree) (rest : List Task) (s' : List Waiting) → plain_behind s' ≡ s → operate g before t rest n a s' m w ≡ goes rest n a s' m' w)
       → ((before : List Tree) (s' : List Waiting) → cost_of before t + leaving t s' ≤ x)
-      → ((s' : List Waiting) → y ≤ least_of t s')
-      → ((d : Machine) → Placed g n a r s m' w d → Comes g T q l d) → Comes g T (x + q) (y + l) c
-  first_on t r m m' c q l x y p runs most least next =
+      → ((d : Machine) → Placed g n a r s m' w d → Comes g T q l d) → Comes g T (x + q) l c
+  first_on t r m m' c q l x p runs most next =
       let f = front c.code t r p.code in
       let d : Machine = record { copy = n; passing = a; code = f.rest; stack = c.stack; memory = m'; world = w } in
       let em = most_operates g n a (Todo [] t ∷ r) s m w c p t r f due in
-      let el = least_operates g n a (Todo [] t ∷ r) s m w c p t r f due in
       let hm = most f.before c.stack in
-      let hl = least c.stack in
-      comes_first g T q l x y c d
+      comes_free g T q l x c d
       (operates g n a (Todo [] t ∷ r) s m w c p t r f due ∙ runs f.before f.rest c.stack p.stack)
-      (omega arith)
       (omega arith)
       (next d (record { copy = refl; passing = refl; code = f.behind; stack = p.stack; memory = refl; world = now }))
 
   -- a byte of a result becomes a number
   pub set_result_then : (root : Root) (i v : ℕ) (r : List Task) (m : Memory) (c : Machine) (q l : ℕ) → is_own g.program n (Result root i) 1 ≡ true → Placed g n a (Todo [] (code.Set (Result root i) v) ∷ r) s m w c
-      → ((d : Machine) → Placed g n a r s (with_byte m (Result root i) (bytes.Number v)) w d → Comes g T q l d) → Comes g T (4 + q) (1 + l) c
+      → ((d : Machine) → Placed g n a r s (with_byte m (Result root i) (bytes.Number v)) w d → Comes g T q l d) → Comes g T (4 + q) l c
   unfolding operate cost_of
   set_result_then root i v r m c q l own p next =
-      first_on (code.Set (Result root i) v) r m (with_byte m (Result root i) (bytes.Number v)) c q l 4 1 p
+      first_on (code.Set (Result root i) v) r m (with_byte m (Result root i) (bytes.Number v)) c q l 4 p
       (λ before rest s' e. own_put g.program (Result root i) (bytes.Number v) rest n a s' m w own)
       (λ before s'. omega arith)
-      (λ s'. omega arith)
       next
 
 -- An operator without a helper, on two values that stand there.
 pub binary_any_then : (g : Setting) (T : Machine → Type 0) (n : ℕ) (s : List Waiting) (w : World Held) (due : is_due w ≡ false) (now : arrived g.outside w ≡ w) (op : BinOp) (ty : IntTy) (to x y : Byte) (v u o : Value) (r : List Task) (m : Memory) (c : Machine) (q l cost : ℕ)
     → ((before : List Tree) → fits_together op ty (number_left before y) to x y ≡ true) → ((count : Option ℕ) → is_helped op count ≡ false) → is_own g.program n x (bytes_of ty) ≡ true → is_own g.program n y (bytes_of (right_type op ty)) ≡ true
     → value_in ty m x ≡ Some v → value_in (right_type op ty) m y ≡ Some u → ((s' : List Waiting) → plain_behind s' ≡ s → binary_value (extent g.program n s') op ty v u ≡ Some o) → is_own g.program n to (core.byte_count o) ≡ true
-    → ((count : Option ℕ) → binary_cost op count (bytes_of ty) ≤ cost) → 1 ≤ least_binary op
+    → ((count : Option ℕ) → binary_cost op count (bytes_of ty) ≤ cost)
     → Placed g n None (Todo [] (code.Binary op ty to x y) ∷ r) s m w c
-    → ((d : Machine) → Placed g n None r s (with_bytes m to (core.byte_count o) (core.byte_of o)) w d → Comes g T q l d) → Comes g T (cost + q) (1 + l) c
+    → ((d : Machine) → Placed g n None r s (with_bytes m to (core.byte_count o) (core.byte_of o)) w d → Comes g T q l d) → Comes g T (cost + q) l c
 unfolding operate cost_of
-binary_any_then g T n s w due now op ty to x y v u o r m c q l cost fits alone ox oy vx vy gives own most least p next =
-    first_on g T n None s w due now (code.Binary op ty to x y) r m (with_bytes m to (core.byte_count o) (core.byte_of o)) c q l cost 1 p
+binary_any_then g T n s w due now op ty to x y v u o r m c q l cost fits alone ox oy vx vy gives own most p next =
+    first_on g T n None s w due now (code.Binary op ty to x y) r m (with_bytes m to (core.byte_count o) (core.byte_of o)) c q l cost p
     (λ before rest s' e.
     let f = fits before in
     let h = alone (number_left before y) in
     let b = gives s' e in
     rw (f, h, ox, oy, vx, vy, b, own) refl)
     (λ before s'. let e = most (number_left before y) in omega arith)
-    (λ s'. least)
     next
 
 -- ---- pointers that are moved

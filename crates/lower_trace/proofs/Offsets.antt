@@ -25,8 +25,8 @@ use Rattle.lower_trace.proofs.Giving.{Around, placed_of, value_high}
 use Rattle.lower_trace.proofs.Kept.{SceneLaws, own_copy}
 use Rattle.lower_trace.proofs.Members.{if_datum}
 use Rattle.lower_trace.proofs.Mirrors.{HasDatum, Mirrors}
-use Rattle.lower_trace.proofs.Operating.{apart_operands, or_true}
-use Rattle.lower_trace.proofs.Operations.{Comes, beyond_is, comes_within, le_true}
+use Rattle.lower_trace.proofs.Operating.{apart_operands}
+use Rattle.lower_trace.proofs.Operations.{Comes, beyond_is, comes_within, le_true, or_second}
 use Rattle.lower_trace.proofs.Placed.{Placed, todo_join}
 use Rattle.lower_trace.proofs.PointerSums.{PointsThere, SameMove, mover, pointer_sum_then, signed}
 use Rattle.lower_trace.proofs.Scaling.{scaled_then, uint}
@@ -146,19 +146,19 @@ pub one_size : (x size : ℕ) → nat_eq size 1 ≡ true → x < 65536 → x ≡
 one_size x size e lt = let is : size ≡ 1 = grind (arith, common_steps) in let q : x * size ≡ x * 1 = ap (λ t. x * t) is in let o : x * 1 ≡ x = omega arith in omega arith
 
 misses_high : (n b y : ℕ) → b + 2 ≤ y → misses (Frame n b) 2 (Frame n y) 2 ≡ true
-misses_high n b y le = let e = le_true (b + 2) y le in or_true (not (nat_eq n n)) _ (rw e refl)
+misses_high n b y le = let e = le_true (b + 2) y le in or_second (not (nat_eq n n)) _ (rw e refl)
 
 module _ (z : Scene) (laws : SceneLaws z) where
   -- the pointer at b is moved by the number at `index`, which is scaled at `scaled_at`, if an element has more than one byte
   pub elements_then : (one : Bool) (minus : Bool) (size : ℕ) (x y : Pointer) (q : Quantity) (n b index scaled_at : ℕ) (T : Machine → Type 0) (s : List Waiting) (w : World Held) (due : is_due w ≡ false) (now : arrived (core_in z).outside w ≡ w) (r : List Task) (m : Memory) (c : Machine) → nat_eq size 1 ≡ one → bytes_of q.ty ≡ 2 → IsInRange q.ty q.number → 1 ≤ size → size < 2199023255552 → PointsThere z.program x
       → moved z.program x (moved_by minus size q.number) ≡ Some y → index + 2 ≤ scaled_at → b + 2 ≤ scaled_at → misses (Frame n b) 2 (Frame n index) 2 ≡ true → b + 2 ≤ (core_in z).program.frame_bytes n → index + 2 ≤ (core_in z).program.frame_bytes n → (one ≡ false → scaled_at + 2 ≤ (core_in z).program.frame_bytes n) → HasDatum z n b (datum.Pointer x) m → HasDatum z n index (datum.Number q) m
       → Placed (core_in z) n None (todo (if one then operator (mover minus) int.UInt (Frame n b) (Frame n index) ∷ [] else (scaled (Frame n scaled_at) (Frame n index) size ++ operator (mover minus) int.UInt (Frame n b) (Frame n scaled_at) ∷ [])) r) s m w c
-      → ((d : Machine) (m' : Memory) → OnlyAbove n b m m' → HasDatum z n b (datum.Pointer y) m' → Placed (core_in z) n None r s m' w d → Comes (core_in z) T 0 0 d) → Comes (core_in z) T 1632 1 c
+      → ((d : Machine) (m' : Memory) → OnlyAbove n b m m' → HasDatum z n b (datum.Pointer y) m' → Placed (core_in z) n None r s m' w d → Comes (core_in z) T 0 0 d) → Comes (core_in z) T 1632 0 c
   elements_then true minus size x y q n b index scaled_at T s w due now r m c one two range some few there is low front_is apart room from far_room hx hq p next =
       let num = pattern q.ty q.number in
       let lt = few_pattern q.ty q.number two range in
       let hn : HasDatum z n index (datum.Number (uint (num * size % 65536))) m = subst (λ t. HasDatum z n index (datum.Number (uint t)) m) (one_size num size one lt) (bits_there z n index q m two range hq) in
-      comes_within (core_in z) T (20 + 0) (1 + 0) 1632 1 c
+      comes_within (core_in z) T (20 + 0) 0 1632 0 c
       (pointer_sum_then z laws minus x y (moved_by minus size q.number) (num * size % 65536) n b index T s w due now r m c 0 0 there is (omega arith) (same_distance minus q.ty q.number size two range) apart room from hx hn p
       (λ d m' far above h pd. next d m' above h pd))
       (omega arith) (omega arith)
@@ -167,8 +167,8 @@ module _ (z : Scene) (laws : SceneLaws z) where
       let lt = few_pattern q.ty q.number two range in
       let hn = bits_there z n index q m two range hq in
       let far_in = far_room refl in
-      comes_within (core_in z) T (1612 + (20 + 0)) (1 + 0) 1632 1 c
-      (scaled_then z (core_in z) T n s w due now (laws.small n) size num scaled_at index (Todo [] (code.Binary (mover minus) int.UInt (Frame n b) (Frame n b) (Frame n scaled_at)) ∷ r) m c (20 + 0) (1 + 0) some few lt low far_in hn
+      comes_within (core_in z) T (1612 + (20 + 0)) 0 1632 0 c
+      (scaled_then z (core_in z) T n s w due now (laws.small n) size num scaled_at index (Todo [] (code.Binary (mover minus) int.UInt (Frame n b) (Frame n b) (Frame n scaled_at)) ∷ r) m c (20 + 0) 0 some few lt low far_in hn
       (subst (λ t. Placed (core_in z) n None t s m w c) (todo_join (scaled (Frame n scaled_at) (Frame n index) size) (operator (mover minus) int.UInt (Frame n b) (Frame n scaled_at) ∷ []) r) p)
       (λ d1 m1 above1 h1 p1.
       pointer_sum_then z laws minus x y (moved_by minus size q.number) (num * size % 65536) n b scaled_at T s w due now r m1 d1 0 0 there is (omega arith) (same_distance minus q.ty q.number size two range) (misses_high n b scaled_at front_is) room far_in
@@ -182,7 +182,7 @@ module _ (z : Scene) (laws : SceneLaws z) where
   offset_case : (o : Option Pointer) (minus : Bool) (left right : Expression) (size : ℕ) (ty : Ty) (line : ℕ) (x : Pointer) (q : Quantity) (k : List Pending) (cp : CopyOf) (l : source.Memory) (w : World value.Byte) (c : Machine) → moved z.program x (moved_by minus size q.number) ≡ o → Around z cp k → is_pointer (type_of left) ≡ true → bytes_of q.ty ≡ 2 → IsInRange q.ty q.number → 1 ≤ size → size < 2199023255552 → PointsThere z.program x
       → base (ground_in z cp) k + (if nat_eq size 1 then 4 else 6) ≤ (core_in z).program.frame_bytes (number z cp) → is_due (arrived z.outside w) ≡ false
       → Mirrors z (state cp (Value (datum.Number q)) (In (tree.Offset (mover minus) left right size ty line) (One (datum.Pointer x)) ∷ k) l w) c
-      → Follow z 1632 1 c (answered (pointer_or_outside o) line k cp l (arrived z.outside w))
+      → Follow z 1632 0 c (answered (pointer_or_outside o) line k cp l (arrived z.outside w))
   unfolding active
   offset_case None minus left right size ty line x q k cp l w c is around points two range some few there room due h = tt
   offset_case (Some y) minus left right size ty line x q k cp l w c is around points two range some few there room due h =
@@ -229,7 +229,7 @@ module _ (z : Scene) (laws : SceneLaws z) where
   pub offset_given : (minus : Bool) (left right : Expression) (size : ℕ) (ty : Ty) (line : ℕ) (x : Pointer) (q : Quantity) (k : List Pending) (cp : CopyOf) (l : source.Memory) (w : World value.Byte) (c : Machine) → Around z cp k → is_pointer (type_of left) ≡ true → bytes_of q.ty ≡ 2 → IsInRange q.ty q.number → 1 ≤ size → size < 2199023255552 → PointsThere z.program x
       → base (ground_in z cp) k + (if nat_eq size 1 then 4 else 6) ≤ (core_in z).program.frame_bytes (number z cp) → is_due (arrived z.outside w) ≡ false
       → Mirrors z (state cp (Value (datum.Number q)) (In (tree.Offset (mover minus) left right size ty line) (One (datum.Pointer x)) ∷ k) l w) c
-      → Follow z 1632 1 c (take_in (source_in z) (tree.Offset (mover minus) left right size ty line) (One (datum.Pointer x)) (datum.Number q) k cp l (arrived z.outside w))
+      → Follow z 1632 0 c (take_in (source_in z) (tree.Offset (mover minus) left right size ty line) (One (datum.Pointer x)) (datum.Number q) k cp l (arrived z.outside w))
   unfolding offset_answer
   offset_given minus left right size ty line x q k cp l w c around points two range some few there room due h =
       offset_case (moved z.program x (distance (mover minus) size q.number)) minus left right size ty line x q k cp l w c (ap (λ t. moved z.program x t) (sym (distance_is minus size q.number))) around points two range some few there room due h

@@ -1,5 +1,5 @@
 -- Operators on numbers.
-use Rattle.std.proofs.Common.{◌≡◌, ℕ, zero, suc, ◌+◌, ◌-◌, ◌*◌, ◌≤◌, Bool, true, false, not, ◌&&◌, ◌||◌, nat_eq, nat_le, nat_lt, pos, List, [], ◌∷◌, Option, Some, None, option_map, refl, sym, ap, ◌∙◌, arith}
+use Rattle.std.proofs.Common.{◌≡◌, ℕ, zero, suc, ◌+◌, ◌-◌, ◌*◌, ◌≤◌, true, false, not, ◌&&◌, nat_eq, nat_le, nat_lt, pos, List, [], ◌∷◌, Option, Some, None, option_map, refl, sym, ap, ◌∙◌, arith}
 use Rattle.std.proofs.lemmas.Grind.{common_steps}
 use Rattle.c_ints.specs.Operators.{cut_to, outcome, value_of, type_of as result_type, unary_type, exact_unary}
 use Rattle.c_ints.specs.Quantity.{Quantity}
@@ -11,7 +11,7 @@ use Rattle.c_ints.specs.declared.operators.UnOp.TheVariants as unary
 use Rattle.c_ints.specs.declared.types.IntTy.{IntTy}
 use Rattle.core_code.specs.Bytes as bytes
 use Rattle.core_code.specs.Bytes.{Held, Memory, with_bytes, misses, is_same_or_misses, same_byte}
-use Rattle.core_code.specs.Cost.{cost_of, binary_cost, unary_cost, widening_cost, least_binary, least_unary}
+use Rattle.core_code.specs.Cost.{cost_of, binary_cost, unary_cost, widening_cost}
 use Rattle.core_code.specs.Machine.{Setting, Machine, Task, Waiting, Do as Todo, operate}
 use Rattle.core_code.specs.Operands.{number_left, is_helped, fits_bytes, fits_unary, fits_together}
 use Rattle.core_code.specs.Tree as code
@@ -26,7 +26,7 @@ use Rattle.lower_trace.proofs.Cuts.{again}
 use Rattle.lower_trace.proofs.Kept.{bytes_small}
 use Rattle.lower_trace.proofs.Mirrors.{HasDatum}
 use Rattle.lower_trace.proofs.NumberBytes.{number_is_none, number_back}
-use Rattle.lower_trace.proofs.Operations.{Comes, comes_within, first, own_frame, le_true}
+use Rattle.lower_trace.proofs.Operations.{Comes, comes_within, first_free, le_true, or_second, own_frame}
 use Rattle.lower_trace.proofs.Placed.{Placed}
 use Rattle.lower_trace.proofs.Written.{both, byte_same}
 
@@ -59,18 +59,14 @@ apart_operands n b w = grind (arith, common_steps)
 pub itself : (n b w : ℕ) → is_same_or_misses w (Frame n b) (Frame n b) ≡ true
 itself n b w = rw (byte_same (Frame n b)) refl
 
-pub or_true : (a b : Bool) → b ≡ true → (a || b) ≡ true
-or_true true b e = refl
-or_true false b e = e
-
 low_apart : (n b w : ℕ) → misses (Frame n b) 1 (bytes.behind (Frame n b) 1) (w - 1) ≡ true
-low_apart n b w = or_true (not (nat_eq n n)) _ (let e : nat_le (b + 1) (b + 1) ≡ true = le_true (b + 1) (b + 1) (omega arith) in rw e refl)
+low_apart n b w = or_second (not (nat_eq n n)) _ (let e : nat_le (b + 1) (b + 1) ≡ true = le_true (b + 1) (b + 1) (omega arith) in rw e refl)
 
 high_apart : (n b w : ℕ) → misses (Frame n b) 1 (bytes.behind (Frame n (b + w)) 1) (w - 1) ≡ true
-high_apart n b w = or_true (not (nat_eq n n)) _ (let e : nat_le (b + 1) (b + w + 1) ≡ true = le_true (b + 1) (b + w + 1) (omega arith) in rw e refl)
+high_apart n b w = or_second (not (nat_eq n n)) _ (let e : nat_le (b + 1) (b + w + 1) ≡ true = le_true (b + 1) (b + w + 1) (omega arith) in rw e refl)
 
 sum_fits : (n b w : ℕ) → (is_same_or_misses w (Frame n b) (Frame n b) && is_same_or_misses w (Frame n b) (Frame n (b + w))) ≡ true
-sum_fits n b w = both _ _ (itself n b w) (or_true (same_byte (Frame n b) (Frame n (b + w))) _ (apart_operands n b w))
+sum_fits n b w = both _ _ (itself n b w) (or_second (same_byte (Frame n b) (Frame n (b + w))) _ (apart_operands n b w))
 
 pub plain_fits : (op : BinOp) (w : ℕ) (count : Option ℕ) (n b : ℕ) → IsPlain op → fits_bytes op w count (Frame n b) (Frame n b) (Frame n (b + w)) ≡ true
 plain_fits ops.Add w count n b p = sum_fits n b w
@@ -162,31 +158,13 @@ plain_cost ops.Rem count w p = absurd p
 plain_cost ops.Shl count w p = absurd p
 plain_cost ops.Shr count w p = absurd p
 
-pub plain_least : (op : BinOp) → IsPlain op → least_binary op ≡ 1
-plain_least ops.Add p = refl
-plain_least ops.And p = refl
-plain_least ops.Or p = refl
-plain_least ops.Xor p = refl
-plain_least ops.Sub p = refl
-plain_least ops.Eq p = refl
-plain_least ops.Ne p = refl
-plain_least ops.Lt p = refl
-plain_least ops.Gt p = refl
-plain_least ops.Le p = refl
-plain_least ops.Ge p = refl
-plain_least ops.Mul p = absurd p
-plain_least ops.Div p = absurd p
-plain_least ops.Rem p = absurd p
-plain_least ops.Shl p = absurd p
-plain_least ops.Shr p = absurd p
-
 -- ---- one operation on two numbers
 pub binary_then : (z : Scene) (g : Setting) (T : Machine → Type 0) (n : ℕ) (s : List Waiting) (w : World Held) (due : is_due w ≡ false) (again : arrived g.outside w ≡ w) (op : BinOp) (x y : Quantity) (b : ℕ) (r : List Task) (m : Memory) (c : Machine) (q l : ℕ) → IsPlain op → IsInRange x.ty x.number → IsInRange y.ty y.number → y.ty ≡ x.ty
     → b + bytes_of x.ty + bytes_of x.ty ≤ g.program.frame_bytes n → b + bytes_of (result_type op x.ty) ≤ g.program.frame_bytes n
     → HasDatum z n b (datum.Number x) m → HasDatum z n (b + bytes_of x.ty) (datum.Number y) m
     → Placed g n None (Todo [] (code.Binary op x.ty (Frame n b) (Frame n b) (Frame n (b + bytes_of x.ty))) ∷ r) s m w c
     → ((d : Machine) → Placed g n None r s (with_bytes m (Frame n b) (bytes_of (result_type op x.ty)) (core.byte_of (core.Number (value_of op x y)))) w d → Comes g T q l d)
-    → Comes g T (10 * bytes_of x.ty + 30 + q) (1 + l) c
+    → Comes g T (10 * bytes_of x.ty + 30 + q) l c
 unfolding operate cost_of fits_together binary_value
 binary_then z g T n s w due again op x y b r m c q l plain xr yr same room out hx hy p next =
     let k = bytes_of x.ty in
@@ -199,13 +177,12 @@ binary_then z g T n s w due again op x y b r m c q l plain xr yr same room out h
     let oy = own_frame g.program n (b + k) k (omega arith) in
     let og = own_frame g.program n b (bytes_of (result_type op x.ty)) out in
     let gives = plain_gives op x y plain in
-    first g T n None s w due again (code.Binary op x.ty X X Y) r m (with_bytes m X (bytes_of (result_type op x.ty)) (core.byte_of (core.Number (value_of op x y)))) c q l (10 * k + 30) 1 p
+    first_free g T n None s w due again (code.Binary op x.ty X X Y) r m (with_bytes m X (bytes_of (result_type op x.ty)) (core.byte_of (core.Number (value_of op x y)))) c q l (10 * k + 30) p
     (λ before rest s'.
     let fits = plain_fits op k (number_left before Y) n b plain in
     let alone = plain_alone op (number_left before Y) plain in
     rw (fits, alone, right, ox, oy, vx, vy, gives, og) refl)
     (λ before s'. let e = plain_cost op (number_left before Y) k plain in omega arith)
-    (λ s'. let e = plain_least op plain in omega arith)
     next
 
 -- ---- one operation on one number
@@ -226,17 +203,11 @@ signed_cost unary.Minus w s = omega arith
 signed_cost unary.Not w s = omega arith
 signed_cost unary.Bang w s = absurd s
 
-signed_least : (op : UnOp) → IsSigned op → least_unary op ≡ 1
-signed_least unary.Plus s = absurd s
-signed_least unary.Minus s = refl
-signed_least unary.Not s = refl
-signed_least unary.Bang s = absurd s
-
 pub unary_then : (z : Scene) (g : Setting) (T : Machine → Type 0) (n : ℕ) (s : List Waiting) (w : World Held) (due : is_due w ≡ false) (again : arrived g.outside w ≡ w) (op : UnOp) (x : Quantity) (b : ℕ) (r : List Task) (m : Memory) (c : Machine) (q l : ℕ) → IsSigned op → nat_lt 1 (bytes_of x.ty) ≡ true → IsInRange x.ty x.number
     → b + bytes_of x.ty ≤ g.program.frame_bytes n → b + bytes_of (unary_type op x.ty) ≤ g.program.frame_bytes n → HasDatum z n b (datum.Number x) m
     → Placed g n None (Todo [] (code.Unary op x.ty (Frame n b)) ∷ r) s m w c
     → ((d : Machine) → Placed g n None r s (with_bytes m (Frame n b) (bytes_of (unary_type op x.ty)) (core.byte_of (core.Number (cut_to (unary_type op x.ty) (exact_unary op x.number))))) w d → Comes g T q l d)
-    → Comes g T (10 * bytes_of x.ty + q) (1 + l) c
+    → Comes g T (10 * bytes_of x.ty + q) l c
 unfolding operate cost_of core.unary_value
 unary_then z g T n s w due again op x b r m c q l signed two xr room out hx p next =
     let k = bytes_of x.ty in
@@ -245,10 +216,9 @@ unary_then z g T n s w due again op x b r m c q l signed two xr room out hx p ne
     let ox = own_frame g.program n b k room in
     let og = own_frame g.program n b (bytes_of (unary_type op x.ty)) out in
     let fits = signed_fits op x.ty signed two in
-    first g T n None s w due again (code.Unary op x.ty X) r m (with_bytes m X (bytes_of (unary_type op x.ty)) (core.byte_of (core.Number (cut_to (unary_type op x.ty) (exact_unary op x.number))))) c q l (10 * k) 1 p
+    first_free g T n None s w due again (code.Unary op x.ty X) r m (with_bytes m X (bytes_of (unary_type op x.ty)) (core.byte_of (core.Number (cut_to (unary_type op x.ty) (exact_unary op x.number))))) c q l (10 * k) p
     (λ before rest s'. rw (fits, ox, vx, og) refl)
     (λ before s'. let e = signed_cost op k signed in omega arith)
-    (λ s'. let e = signed_least op signed in omega arith)
     next
 
 widening_most : (k : ℕ) → widening_cost k ≤ 8 + 4 * k
@@ -259,7 +229,7 @@ pub convert_words_then : (z : Scene) (g : Setting) (T : Machine → Type 0) (n :
     → b + bytes_of x.ty ≤ g.program.frame_bytes n → b + bytes_of to ≤ g.program.frame_bytes n → HasDatum z n b (datum.Number x) m
     → Placed g n None (Todo [] (code.Convert x.ty to (Frame n b)) ∷ r) s m w c
     → ((d : Machine) → Placed g n None r s (with_bytes m (Frame n b) (bytes_of to) (core.byte_of (core.Number (cut_to to x.number)))) w d → Comes g T q l d)
-    → Comes g T (8 + 4 * (bytes_of to - bytes_of x.ty) + q) (1 + l) c
+    → Comes g T (8 + 4 * (bytes_of to - bytes_of x.ty) + q) l c
 unfolding operate cost_of core.converted
 convert_words_then z g T n s w due again to x b r m c q l xr wider room out hx p next =
     let X = Frame n b in
@@ -267,10 +237,9 @@ convert_words_then z g T n s w due again to x b r m c q l xr wider room out hx p
     let ox = own_frame g.program n b (bytes_of x.ty) room in
     let og = own_frame g.program n b (bytes_of to) out in
     let cost = widening_most (bytes_of to - bytes_of x.ty) in
-    first g T n None s w due again (code.Convert x.ty to X) r m (with_bytes m X (bytes_of to) (core.byte_of (core.Number (cut_to to x.number)))) c q l (8 + 4 * (bytes_of to - bytes_of x.ty)) 1 p
+    first_free g T n None s w due again (code.Convert x.ty to X) r m (with_bytes m X (bytes_of to) (core.byte_of (core.Number (cut_to to x.number)))) c q l (8 + 4 * (bytes_of to - bytes_of x.ty)) p
     (λ before rest s'. rw (ox, vx, og) refl)
     (λ before s'. omega arith)
-    (λ s'. rw wider (omega arith))
     next
 
 -- a conversion to more bytes costs at most 24, since no type has more bytes than four
@@ -278,9 +247,9 @@ pub convert_then : (z : Scene) (g : Setting) (T : Machine → Type 0) (n : ℕ) 
     → b + bytes_of x.ty ≤ g.program.frame_bytes n → b + bytes_of to ≤ g.program.frame_bytes n → HasDatum z n b (datum.Number x) m
     → Placed g n None (Todo [] (code.Convert x.ty to (Frame n b)) ∷ r) s m w c
     → ((d : Machine) → Placed g n None r s (with_bytes m (Frame n b) (bytes_of to) (core.byte_of (core.Number (cut_to to x.number)))) w d → Comes g T q l d)
-    → Comes g T (24 + q) (1 + l) c
+    → Comes g T (24 + q) l c
 convert_then z g T n s w due again to x b r m c q l xr wider room out hx p next =
     let few = bytes_small to in
-    comes_within g T (8 + 4 * (bytes_of to - bytes_of x.ty) + q) (1 + l) (24 + q) (1 + l) c
+    comes_within g T (8 + 4 * (bytes_of to - bytes_of x.ty) + q) l (24 + q) l c
     (convert_words_then z g T n s w due again to x b r m c q l xr wider room out hx p next)
     (omega arith) (omega arith)

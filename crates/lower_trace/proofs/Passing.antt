@@ -13,7 +13,7 @@ use Rattle.lower_expr.specs.Bytes.{behind}
 use Rattle.lower_expr.specs.Puts.{copies}
 use Rattle.lower_trace.proofs.CodeLeft.{todo, plain_behind}
 use Rattle.lower_trace.proofs.Entering.{frame_kept}
-use Rattle.lower_trace.proofs.Operations.{Comes, comes_first, comes_within, beyond_is, own_frame}
+use Rattle.lower_trace.proofs.Operations.{Comes, comes_first, comes_free, comes_within, beyond_is, own_frame}
 use Rattle.lower_trace.proofs.Placed.{Placed, front, operates, most_operates, least_operates, plain_tasks, todo_join}
 use Rattle.lower_trace.proofs.Reading.{lt_true}
 use Rattle.lower_trace.proofs.Written.{nat_same, nat_apart, bytes_clear}
@@ -57,28 +57,27 @@ module _ (g : Setting) (T : Machine → Type 0) (n callee : ℕ) (s : List Waiti
 
   pass_then : (a : Option ℕ) (k y : ℕ) (r : List Task) (m : Memory) (c : Machine) (q l : ℕ) → may_call g.program n a callee ≡ true → k < g.program.parameter_bytes callee → k < g.program.frame_bytes callee → y < g.program.frame_bytes n
       → Placed g n a (Todo [] (code.Copy (Frame callee k) (Frame n y)) ∷ r) s m w c
-      → ((d : Machine) → Placed g n (Some callee) r s (with_byte (opened a callee m) (Frame callee k) (m (Frame n y))) w d → Comes g T q l d) → Comes g T (6 + q) (1 + l) c
+      → ((d : Machine) → Placed g n (Some callee) r s (with_byte (opened a callee m) (Frame callee k) (m (Frame n y))) w d → Comes g T q l d) → Comes g T (6 + q) l c
   unfolding operate cost_of is_valid
   pass_then a k y r m c q l call params frame own p next =
       let t = code.Copy (Frame callee k) (Frame n y) in
       let f = front c.code t r p.code in
       let d : Machine = record { copy = n; passing = Some callee; code = f.rest; stack = c.stack; memory = with_byte (opened a callee m) (Frame callee k) (m (Frame n y)); world = w } in
       let em = most_operates g n a (Todo [] t ∷ r) s m w c p t r f due in
-      let el = least_operates g n a (Todo [] t ∷ r) s m w c p t r f due in
       let valid = own_frame g.program n y 1 (omega arith) in
       let x = lt_true k (g.program.parameter_bytes callee) params in
       let z = lt_true k (g.program.frame_bytes callee) frame in
       let o : is_others n (Frame callee k) ≡ true = is_other in
-      comes_first g T q l 6 1 c d
+      comes_free g T q l 6 c d
       (operates g n a (Todo [] t ∷ r) s m w c p t r f due ∙ passes_so a k y f.rest c.stack m valid o call x z f.before)
-      (omega arith) (omega arith)
+      (omega arith)
       (next d (record { copy = refl; passing = refl; code = f.behind; stack = p.stack; memory = refl; world = again }))
 
   -- so many bytes of parameters
   pub passes_then : (k b : ℕ) (r : List Task) (m : Memory) (c : Machine) (q l : ℕ) → k ≤ g.program.parameter_bytes callee → k ≤ g.program.frame_bytes callee → k ≤ 96 → b + k ≤ g.program.frame_bytes n
-      → Placed g n None (todo (copies (Frame callee 0) (Frame n b) k) r) s m w c → ((d : Machine) → Placed g n (passing_after k) r s (memory_after m b k) w d → Comes g T q l d) → Comes g T (6 * k + q) (k + l) c
+      → Placed g n None (todo (copies (Frame callee 0) (Frame n b) k) r) s m w c → ((d : Machine) → Placed g n (passing_after k) r s (memory_after m b k) w d → Comes g T q l d) → Comes g T (6 * k + q) l c
   unfolding copies
-  passes_then zero b r m c q l params frame few room p next = comes_within g T q l (6 * 0 + q) (0 + l) c (next c p) (omega arith) (omega arith)
+  passes_then zero b r m c q l params frame few room p next = comes_within g T q l (6 * 0 + q) l c (next c p) (omega arith) (omega arith)
   passes_then (suc k) b r m c q l params frame few room p next =
       let to : behind (Frame callee 0) k ≡ Frame callee (0 + k) = ap (Frame callee) (beyond_is 0 k (omega arith)) in
       let from : behind (Frame n b) k ≡ Frame n (b + k) = ap (Frame n) (beyond_is b k (omega arith)) in
@@ -86,8 +85,8 @@ module _ (g : Setting) (T : Machine → Type 0) (n callee : ℕ) (s : List Waiti
       todo_join (copies (Frame callee 0) (Frame n b) k) (code.Copy (behind (Frame callee 0) k) (behind (Frame n b) k) ∷ []) r
       ∙ ap (λ x. todo (copies (Frame callee 0) (Frame n b) k) (Todo [] (code.Copy x (behind (Frame n b) k)) ∷ r)) to
       ∙ ap (λ x. todo (copies (Frame callee 0) (Frame n b) k) (Todo [] (code.Copy (Frame callee (0 + k)) x) ∷ r)) from in
-      comes_within g T (6 * k + (6 + q)) (k + (1 + l)) (6 * suc k + q) (suc k + l) c
-      (passes_then k b (Todo [] (code.Copy (Frame callee (0 + k)) (Frame n (b + k))) ∷ r) m c (6 + q) (1 + l) (omega arith) (omega arith) (omega arith) (omega arith) (subst (λ x. Placed g n None x s m w c) split p)
+      comes_within g T (6 * k + (6 + q)) l (6 * suc k + q) l c
+      (passes_then k b (Todo [] (code.Copy (Frame callee (0 + k)) (Frame n (b + k))) ∷ r) m c (6 + q) l (omega arith) (omega arith) (omega arith) (omega arith) (subst (λ x. Placed g n None x s m w c) split p)
       (λ d pd. pass_then (passing_after k) (0 + k) (b + k) r (memory_after m b k) d q l (may_after k) (omega arith) (omega arith) (omega arith) pd
       (λ e pe. next e
       (subst (λ x. Placed g n (Some callee) r s (with_byte x (Frame callee (0 + k)) (m (Frame n (b + k)))) w e) (opened_after m b k)

@@ -113,9 +113,9 @@ module _ (g : Setting) (n : ℕ) (a : Option ℕ) (left : List Task) (behind : L
   unfolding step_most
   most_now x e due = let d : is_due (arrived g.outside c.world) ≡ false = ap is_due p.world ∙ due in rw d (ap (λ y. task_most y c.stack) e)
 
-  least_now : (x : List Task) → c.code ≡ x → is_due w ≡ false → step_least g c ≡ least_task x c.stack
+  least_now : (x : List Task) → c.code ≡ x → is_due w ≡ false → step_least g c ≡ least_task g.program x c.stack
   unfolding step_least
-  least_now x e due = let d : is_due (arrived g.outside c.world) ≡ false = ap is_due p.world ∙ due in rw d (ap (λ y. least_task y c.stack) e)
+  least_now x e due = let d : is_due (arrived g.outside c.world) ≡ false = ap is_due p.world ∙ due in rw d (ap (λ y. least_task g.program y c.stack) e)
 
   pub most_due : is_due w ≡ true → step_most g c ≡ 100
   unfolding step_most
@@ -133,7 +133,7 @@ module _ (g : Setting) (n : ℕ) (a : Option ℕ) (left : List Task) (behind : L
   pub most_operates : (t : Tree) (r : List Task) (f : Front c.code t r) → is_due w ≡ false → step_most g c ≡ cost_of f.before t + leaving t c.stack
   most_operates t r f due = most_now (Do f.before t ∷ f.rest) f.is due
 
-  pub least_operates : (t : Tree) (r : List Task) (f : Front c.code t r) → is_due w ≡ false → step_least g c ≡ least_of t c.stack
+  pub least_operates : (t : Tree) (r : List Task) (f : Front c.code t r) → is_due w ≡ false → step_least g c ≡ least_of g.program t c.stack
   least_operates t r f due = least_now (Do f.before t ∷ f.rest) f.is due
 
   -- another task does
@@ -143,7 +143,7 @@ module _ (g : Setting) (n : ℕ) (a : Option ℕ) (left : List Task) (behind : L
   pub most_does : (x : Task) (r : List Task) (f : Other c.code x r) → is_due w ≡ false → step_most g c ≡ task_most (x ∷ f.rest) c.stack
   most_does x r f due = most_now (x ∷ f.rest) f.is due
 
-  pub least_does : (x : Task) (r : List Task) (f : Other c.code x r) → is_due w ≡ false → step_least g c ≡ least_task (x ∷ f.rest) c.stack
+  pub least_does : (x : Task) (r : List Task) (f : Other c.code x r) → is_due w ≡ false → step_least g c ≡ least_task g.program (x ∷ f.rest) c.stack
   least_does x r f due = least_now (x ∷ f.rest) f.is due
 
   -- no code is left
@@ -153,5 +153,5 @@ module _ (g : Setting) (n : ℕ) (a : Option ℕ) (left : List Task) (behind : L
   pub most_ends : left ≡ [] → is_due w ≡ false → step_most g c ≡ task_most [] c.stack
   most_ends e due = most_now [] (no_code c.code (p.code ∙ e)) due
 
-  pub least_ends : left ≡ [] → is_due w ≡ false → step_least g c ≡ least_task [] c.stack
+  pub least_ends : left ≡ [] → is_due w ≡ false → step_least g c ≡ least_task g.program [] c.stack
   least_ends e due = least_now [] (no_code c.code (p.code ∙ e)) due

@@ -137,7 +137,7 @@ module _ (z : Scene) (laws : SceneLaws z) (cp : CopyOf) (k : List Pending) (l : 
       let U = Mirrors z (state cp (Write (spots.Memory (Into o (f + 1))) v (0 + 1)) k (source.with_byte l o f (byte_of v 0)) w') in
       let zero_from : from ≡ from + 0 = omega arith in
       let zero_count : count ≡ count - 0 = omega arith in
-      comes_within (core_in z) U (14 + 6) (1 + 1) 20 1 c
+      comes_within (core_in z) U (14 + 6) 1 20 1 c
       (store_then (core_in z) U n None (stack_after z g k) W (due_below z (arrived z.outside w) due) (again_below z w) (Frame n at_pointer) (Frame n from) count (record { object = X; offset = off }) r c.memory c 6 1
       (own_frame (core_in z).program n at_pointer 2 (omega arith))
       (subst (λ y. pointer_in c.memory (Frame y at_pointer) ≡ Some (record { object = X; offset = off })) (own_copy z cp) (pointer_back z g.copy at_pointer o f c.memory (has refl)))

@@ -93,13 +93,11 @@ module _ (z : Scene) (laws : SceneLaws z) (cp : CopyOf) (k : List Pending) (l : 
       let m' = with_byte c.memory (Frame n (to + j)) last in
       let has : HasRead z n to read (length read - 1) c.memory = subst (λ y. HasRead z y to read (length read - 1) c.memory) (own_copy z cp) (reads.has (spots.Memory (Into (objects.Fixed i) f)) read c.memory h.value) in
       let more_read : HasRead z n to read (suc j) m' = read_more z n to read c.memory last j (λ y lt. has y (omega arith)) refl in
-      comes_within (core_in z) T (3 + q) (1 + e) (3 + q) e c
-      (put_then (core_in z) T n None (stack_after z (ground_in z cp) k) W (due_below z (arrived z.outside w) due) (again_below z w) (Frame n (to + j)) last r c.memory c q e (own_frame (core_in z).program n (to + j) 1 (omega arith))
+      put_then (core_in z) T n None (stack_after z (ground_in z cp) k) W (due_below z (arrived z.outside w) due) (again_below z w) (Frame n (to + j)) last r c.memory c q e (own_frame (core_in z).program n (to + j) 1 (omega arith))
       (subst (λ y. Placed (core_in z) n None y (stack_after z (ground_in z cp) k) c.memory W c)
       (code_static z laws cp k l to count at_pointer r reads around room apart reach i f read j all ∙ ap (λ y. Put (Frame n (to + j)) last ∷ y) (no_bytes (Frame n (to + suc j)) (bytes.Fixed i) (0 + f) (suc j) count r (omega arith)))
       (placed_of z (state cp (Fetch (spots.Memory (Into (objects.Fixed i) f)) read) k l w) c h))
-      (λ d pd. next d m' (subst (λ y. OnlyAbove n to c.memory y) (sym (one_written c.memory n (to + j) last)) (above_written n to (to + j) 1 c.memory (λ y. last) (omega arith))) (λ y lt. more_read y (omega arith) ∙ same_bytes y lt) pd))
-      (omega arith) (omega arith)
+      (λ d pd. next d m' (subst (λ y. OnlyAbove n to c.memory y) (sym (one_written c.memory n (to + j) last)) (above_written n to (to + j) 1 c.memory (λ y. last) (omega arith))) (λ y lt. more_read y (omega arith) ∙ same_bytes y lt) pd)
 
   -- ---- the next byte, or the value
   module _ (k' : List Pending) (ty : Ty) (x : Pointer) (there : SpotIsThere z.program (spots.Memory x)) (size : count ≡ type_bytes z.program.sizes ty) (some : 0 < count) (type_is : read_type k ≡ ty)
@@ -195,7 +193,7 @@ module _ (z : Scene) (laws : SceneLaws z) (cp : CopyOf) (l : source.Memory) wher
       (λ v w2 m m' d short no_handler agrees holds only hv pd.
       let T = Mirrors z (state cp (Value v) k l (arrived z.outside w2)) in
       let W = world_as (held z) (arrived z.outside w2) in
-      comes_within (core_in z) T (6 * count + 0) (count + 0) 24 0 d
+      comes_within (core_in z) T (6 * count + 0) 0 24 0 d
       (move_then (core_in z) T n None (stack_after z g k) W (due_below z (arrived z.outside w2) no_handler) (again_below z w2) small b to count (code_after g k) m' d 0 0 (inl (omega arith)) (omega arith) (omega arith)
       (subst (λ y. Placed (core_in z) n None y (stack_after z g k) m' W d) r_is pd)
       (λ d2 pd2. comes_here (core_in z) T d2

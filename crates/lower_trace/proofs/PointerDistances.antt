@@ -131,7 +131,7 @@ module _ (z : Scene) (laws : SceneLaws z) (bounded : (o : object.Object) → IsT
   -- the distance of two places in one object, in bytes
   distance_then : (a : object.Object) (f g n b : ℕ) (T : Machine → Type 0) (s : List Waiting) (w : World Held) (due : is_due w ≡ false) (now : arrived (core_in z).outside w ≡ w) (r : List Task) (m : Memory) (c : Machine) (q l : ℕ) → IsPointer z.program (Into a f) → IsPointer z.program (Into a g) → b + 4 ≤ (core_in z).program.frame_bytes n → HasDatum z n b (datum.Pointer (Into a f)) m → HasDatum z n (b + 2) (datum.Pointer (Into a g)) m
       → Placed (core_in z) n None (Todo [] (code.Binary ops.Sub int.UInt (Frame n b) (Frame n b) (Frame n (b + 2))) ∷ r) s m w c
-      → ((d : Machine) (m' : Memory) → OnlyAbove n b m m' → HasDatum z n b (datum.Number (sint (far f g))) m' → Placed (core_in z) n None r s m' w d → Comes (core_in z) T q l d) → Comes (core_in z) T (50 + q) (1 + l) c
+      → ((d : Machine) (m' : Memory) → OnlyAbove n b m m' → HasDatum z n b (datum.Number (sint (far f g))) m' → Placed (core_in z) n None r s m' w d → Comes (core_in z) T q l d) → Comes (core_in z) T (50 + q) l c
   unfolding fits_together
   distance_then a f g n b T s w due now r m c q l pf pg room hx hy p next =
       let o = offset_as z.program a in
@@ -143,7 +143,7 @@ module _ (z : Scene) (laws : SceneLaws z) (bounded : (o : object.Object) → IsT
       let m' = with_bytes m (Frame n b) 2 (core.byte_of v) in
       binary_any_then (core_in z) T n s w due now ops.Sub int.UInt (Frame n b) (Frame n b) (Frame n (b + 2)) (core.Pointer X) (core.Pointer Y) v r m c q l 50
       (λ before. plain_fits ops.Sub 2 (number_left before (Frame n (b + 2))) n b tt) (λ count. refl) (own_frame (core_in z).program n b 2 (omega arith)) (own_frame (core_in z).program n (b + 2) 2 (omega arith))
-      (pointer_value z n b a f m hx) (pointer_value z n (b + 2) a g m hy) (λ s' e. gives_it (extent (core_in z).program n s')) (own_frame (core_in z).program n b 2 (omega arith)) (λ count. omega arith) (omega arith) p
+      (pointer_value z n b a f m hx) (pointer_value z n (b + 2) a g m hy) (λ s' e. gives_it (extent (core_in z).program n s')) (own_frame (core_in z).program n b 2 (omega arith)) (λ count. omega arith) p
       (λ d pd. next d m' (above_written n b b 2 m (core.byte_of v) (omega arith))
       (λ i lt. bytes_there m n b 2 (core.byte_of v) i lt ∙ ap (λ t. held z (values.Number (t / 256 ^ i % 256))) (pattern_cut int.UInt (far f g) ∙ same_pattern (far f g))) pd)
 
@@ -174,7 +174,7 @@ module _ (z : Scene) (laws : SceneLaws z) (bounded : (o : object.Object) → IsT
       T = Mirrors z (state cp (Value (datum.Number answer)) k l (arrived z.outside w))
 
       row_then : (huge one : Bool) (c : Machine) → nat_lt 32767 size ≡ huge → nat_eq size 1 ≡ one → Agrees z (active cp (Value (datum.Number answer)) k) l c.memory → Holds z (ground_in z cp) k c.memory → HasDatum z n b (datum.Pointer (Into a f)) c.memory → HasDatum z n (b + 2) (datum.Pointer (Into a g)) c.memory
-          → Placed (core_in z) n None (todo (difference_row (Frame n b) size) (code_after (ground_in z cp) k)) (stack_after z (ground_in z cp) k) c.memory W c → Comes (core_in z) T 2250 1 c
+          → Placed (core_in z) n None (todo (difference_row (Frame n b) size) (code_after (ground_in z cp) k)) (stack_after z (ground_in z cp) k) c.memory W c → Comes (core_in z) T 2250 0 c
       row_then true one c huge_is one_is agrees holds hx hy p =
           let small = laws.small n in
           let large = lt_of 32767 size huge_is in
@@ -184,7 +184,7 @@ module _ (z : Scene) (laws : SceneLaws z) (bounded : (o : object.Object) → IsT
           let range = far_range f g (omega arith) (omega arith) in
           let none : answer ≡ sint (pos 0) = ap (cut_to int.Int) (div_none (far f g) f g size refl (omega arith) (omega arith) large) ∙ ap (λ t. record { ty = int.Int; number = t }) (unchanged int.Int (pos 0) (size_range 0 (omega arith))) in
           let m' = with_bytes c.memory (Frame n b) 2 (λ i. bytes.Number (byte_at 0 i)) in
-          comes_within (core_in z) T (4 * 2 + 0) (2 + 0) 2250 1 c
+          comes_within (core_in z) T (4 * 2 + 0) 0 2250 0 c
           (sets_then (core_in z) T n None (stack_after z (ground_in z cp) k) W (due_below z (arrived z.outside w) due) (again_below z w) 2 b 0 (code_after (ground_in z cp) k) c.memory c 0 0 (omega arith) (omega arith)
           (subst (λ t. Placed (core_in z) n None t (stack_after z (ground_in z cp) k) c.memory W c) (ap (λ t. todo (if t then sets (Frame n b) 0 2 else (operator ops.Sub int.UInt (Frame n b) (lower.behind (Frame n b) 2) ∷ [] ++ quotient_row (Frame n b) size)) (code_after (ground_in z cp) k)) huge_is) p)
           (λ d pd. lands answer c.memory m' d agrees holds (above_written n b b 2 c.memory (λ i. bytes.Number (byte_at 0 i)) (omega arith)) (subst (λ t. HasDatum z n b (datum.Number t) m') (sym none) (set_there z n b 0 c.memory (omega arith))) pd))
@@ -202,7 +202,7 @@ module _ (z : Scene) (laws : SceneLaws z) (bounded : (o : object.Object) → IsT
           ap (λ t. todo (if t then sets (Frame n b) 0 2 else (operator ops.Sub int.UInt (Frame n b) (lower.behind (Frame n b) 2) ∷ [] ++ quotient_row (Frame n b) size)) (code_after (ground_in z cp) k)) huge_is
           ∙ ap (λ t. todo (operator ops.Sub int.UInt (Frame n b) (lower.behind (Frame n b) 2) ∷ [] ++ (if t then [] else (sets (lower.behind (Frame n b) 2) size 2 ++ operator ops.Div int.Int (Frame n b) (lower.behind (Frame n b) 2) ∷ []))) (code_after (ground_in z cp) k)) one_is
           ∙ ap (λ t. Todo [] (code.Binary ops.Sub int.UInt (Frame n b) (Frame n b) (Frame n t)) ∷ code_after (ground_in z cp) k) second in
-          comes_within (core_in z) T (50 + 0) (1 + 0) 2250 1 c
+          comes_within (core_in z) T (50 + 0) 0 2250 0 c
           (distance_then a f g n b T (stack_after z (ground_in z cp) k) W (due_below z (arrived z.outside w) due) (again_below z w) (code_after (ground_in z cp) k) c.memory c 0 0 pf pg room hx hy
           (subst (λ t. Placed (core_in z) n None t (stack_after z (ground_in z cp) k) c.memory W c) now p)
           (λ d m' above h pd. lands answer c.memory m' d agrees holds above (subst (λ t. HasDatum z n b (datum.Number t) m') (sym is) h) pd))
@@ -226,8 +226,8 @@ module _ (z : Scene) (laws : SceneLaws z) (bounded : (o : object.Object) → IsT
           ∙ ap (λ t. Todo [] (code.Binary ops.Sub int.UInt (Frame n b) (Frame n b) (Frame n (b + 2))) ∷ t) (todo_join (sets (Frame n (b + 2)) size 2) (operator ops.Div int.Int (Frame n b) (Frame n (b + 2)) ∷ []) r) in
           let outcome_is : outcome ops.Div (sint (far f g)) (sint (pos size)) ≡ Some answer = ap (λ t. if t then None else Some answer) (divides_well (far f g) size some) in
           let cut_size : sint (pos size) ≡ sint (pos size) = refl in
-          comes_within (core_in z) T (50 + (4 * 2 + (2138 + 0))) (1 + (2 + 0)) 2250 1 c
-          (distance_then a f g n b T s W (due_below z (arrived z.outside w) due) (again_below z w) (todo (sets (Frame n (b + 2)) size 2) D) c.memory c (4 * 2 + (2138 + 0)) (2 + 0) pf pg room hx hy
+          comes_within (core_in z) T (50 + (4 * 2 + (2138 + 0))) 0 2250 0 c
+          (distance_then a f g n b T s W (due_below z (arrived z.outside w) due) (again_below z w) (todo (sets (Frame n (b + 2)) size 2) D) c.memory c (4 * 2 + (2138 + 0)) 0 pf pg room hx hy
           (subst (λ t. Placed (core_in z) n None t s c.memory W c) now p)
           (λ d1 m1 above1 h1 p1. sets_then (core_in z) T n None s W (due_below z (arrived z.outside w) due) (again_below z w) 2 (b + 2) size D m1 d1 (2138 + 0) 0 (omega arith) (omega arith) p1
           (λ d2 p2.
@@ -250,7 +250,7 @@ module _ (z : Scene) (laws : SceneLaws z) (bounded : (o : object.Object) → IsT
   same_case : (one : Bool) (a c_a : object.Object) (f g size : ℕ) (left right : Expression) (line : ℕ) (k : List Pending) (cp : CopyOf) (l : source.Memory) (w : World value.Byte) (c : Machine) → same_object a c_a ≡ one → Around z cp k → Resumables cp.root k → 1 ≤ size → (nat_eq size 1 ≡ false → (core_in z).program.helped (number z cp) ops.Div int.Int ≡ true) → IsPointer z.program (Into a f) → IsPointer z.program (Into c_a g)
       → base (ground_in z cp) k + 4 ≤ (core_in z).program.frame_bytes (number z cp) → is_due (arrived z.outside w) ≡ false
       → Mirrors z (state cp (Value (datum.Pointer (Into c_a g))) (In (tree.Difference left right size line) (One (datum.Pointer (Into a f))) ∷ k) l w) c
-      → Follow z 2250 1 c (answered (if one then answers.Gives (datum.Number (cut_to int.Int (int_div (far f g) (pos size)))) else answers.Fails Order) line k cp l (arrived z.outside w))
+      → Follow z 2250 0 c (answered (if one then answers.Gives (datum.Number (cut_to int.Int (int_div (far f g) (pos size)))) else answers.Fails Order) line k cp l (arrived z.outside w))
   unfolding active
   same_case false a c_a f g size left right line k cp l w c one around resumables some there pf pg room due h = tt
   same_case true a c_a f g size left right line k cp l w c one around resumables some there pf pg room due h =
@@ -271,7 +271,7 @@ module _ (z : Scene) (laws : SceneLaws z) (bounded : (o : object.Object) → IsT
   pub difference_given : (x y : Pointer) (size : ℕ) (left right : Expression) (line : ℕ) (k : List Pending) (cp : CopyOf) (l : source.Memory) (w : World value.Byte) (c : Machine) → Around z cp k → Resumables cp.root k → 1 ≤ size → (nat_eq size 1 ≡ false → (core_in z).program.helped (number z cp) ops.Div int.Int ≡ true) → IsPointer z.program x → IsPointer z.program y
       → base (ground_in z cp) k + 4 ≤ (core_in z).program.frame_bytes (number z cp) → is_due (arrived z.outside w) ≡ false
       → Mirrors z (state cp (Value (datum.Pointer y)) (In (tree.Difference left right size line) (One (datum.Pointer x)) ∷ k) l w) c
-      → Follow z 2250 1 c (take_in (source_in z) (tree.Difference left right size line) (One (datum.Pointer x)) (datum.Pointer y) k cp l (arrived z.outside w))
+      → Follow z 2250 0 c (take_in (source_in z) (tree.Difference left right size line) (One (datum.Pointer x)) (datum.Pointer y) k cp l (arrived z.outside w))
   unfolding difference_answer
   difference_given Null y size left right line k cp l w c around resumables some there px py room due h = tt
   difference_given (Into a f) Null size left right line k cp l w c around resumables some there px py room due h = tt

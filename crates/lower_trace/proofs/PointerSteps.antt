@@ -32,8 +32,7 @@ use Rattle.lower_trace.proofs.Increments.{keeps_is}
 use Rattle.lower_trace.proofs.Kept.{SceneLaws, at_same, own_copy}
 use Rattle.lower_trace.proofs.Mirrors.{HasDatum, Mirrors}
 use Rattle.lower_trace.proofs.Offsets.{distance_is, moved_by, one_element, same_distance}
-use Rattle.lower_trace.proofs.Operating.{or_true}
-use Rattle.lower_trace.proofs.Operations.{beyond_is, comes_within, le_true}
+use Rattle.lower_trace.proofs.Operations.{beyond_is, comes_within, le_true, or_second}
 use Rattle.lower_trace.proofs.Placed.{Placed}
 use Rattle.lower_trace.proofs.PointerSums.{PointsThere, SameMove, mover, null_moved, pointer_sum_then, signed}
 use Rattle.lower_trace.proofs.Scaling.{uint}
@@ -97,7 +96,7 @@ one_int : (cut_to int.Int (pos 1)).number ≡ pos 1
 one_int = omega (arith, ints)
 
 pub misses_under : (n b y : ℕ) → y + 2 ≤ b → misses (Frame n b) 2 (Frame n y) 2 ≡ true
-misses_under n b y le = or_true (not (nat_eq n n)) _ (or_true (nat_le (b + 2) y) (nat_le (y + 2) b) (le_true (y + 2) b le))
+misses_under n b y le = or_second (not (nat_eq n n)) _ (or_second (nat_le (b + 2) y) (nat_le (y + 2) b) (le_true (y + 2) b le))
 
 -- ---- elements that are larger than any object
 none_few : (minus : Bool) (size : ℕ) → signed minus size ≡ pos 0 → size < 65536
@@ -138,7 +137,7 @@ module _ (z : Scene) (laws : SceneLaws z) where
       → beyond (behind_pointer (ground_in z cp).layout (ground_in z cp).copy (base (ground_in z cp) k) to) (width (ground_in z cp).layout (types.Pointer row)) ≡ left_at → behind_pointer (ground_in z cp).layout (ground_in z cp).copy (base (ground_in z cp) k) to ≡ right_at
       → (p : Moves z cp k to left_at right_at count) → is_due (arrived z.outside w) ≡ false
       → Mirrors z (state cp (Value (datum.Pointer x)) (In (tree.Step op to (types.Pointer row) size (types.Pointer p.target) line) (At at) ∷ k) l w) c
-      → Follow z 44 1 c (changes (then_converted (types.Pointer p.target) (pointer_or_outside o)) (tree.Step op to (types.Pointer row) size (types.Pointer p.target) line) at (is_postfix op) (datum.Pointer x) line k cp l (arrived z.outside w))
+      → Follow z 44 0 c (changes (then_converted (types.Pointer p.target) (pointer_or_outside o)) (tree.Step op to (types.Pointer row) size (types.Pointer p.target) line) at (is_postfix op) (datum.Pointer x) line k cp l (arrived z.outside w))
   unfolding active converted
   step_case None op to row size line at x left_at right_at count k cp l w c is some small there count_is left_is right_is p due h = tt
   step_case (Some y) op to row size line at x left_at right_at count k cp l w c is some small there count_is left_is right_is p due h =
@@ -182,8 +181,8 @@ module _ (z : Scene) (laws : SceneLaws z) where
       row_writes z g.layout.root s at A L i rest ∙ ap (λ t. writing z g.layout.root s at A (Frame g.copy t) i 0 rest) (sym left_is) in
       let old_at : beyond (stored g b e) wide ≡ kept = ap (λ t. beyond t wide) left_is ∙ ap (beyond left_at) count_is in
       let same : SameMove (step_minus op) size (moved_by (step_minus op) size (pos 1)) = subst (λ t. SameMove (step_minus op) t (moved_by (step_minus op) size (pos 1))) (one_step size few) (same_distance (step_minus op) int.Int (pos 1) size refl (omega (arith, ints), omega (arith, ints))) in
-      comes_within (core_in z) T (24 + (20 + 0)) (1 + 0) 44 1 c
-      (keep_then z (core_in z) T n (stack_after z g k) W (due_below z (arrived z.outside w) due) (again_below z w) low keeps kept left_at i (Todo [] (code.Binary (mover (step_minus op)) int.UInt (Frame n left_at) (Frame n left_at) (Frame n right_at)) ∷ R) c.memory c (20 + 0) (1 + 0) (omega arith) (omega arith) (omega arith) (omega arith)
+      comes_within (core_in z) T (24 + (20 + 0)) 0 44 0 c
+      (keep_then z (core_in z) T n (stack_after z g k) W (due_below z (arrived z.outside w) due) (again_below z w) low keeps kept left_at i (Todo [] (code.Binary (mover (step_minus op)) int.UInt (Frame n left_at) (Frame n left_at) (Frame n right_at)) ∷ R) c.memory c (20 + 0) 0 (omega arith) (omega arith) (omega arith) (omega arith)
       (subst (λ t. Placed (core_in z) n None t (stack_after z g k) c.memory W c) now (placed_of z (state cp (Value (datum.Pointer x)) (In e (At at) ∷ k) l w) c h))
       (λ d1 m1 above1 keep1 p1.
       let low1 = lower_above n left_at kept c.memory m1 (omega arith) above1 in
@@ -216,9 +215,9 @@ module _ (z : Scene) (laws : SceneLaws z) where
       → beyond (behind_pointer (ground_in z cp).layout (ground_in z cp).copy (base (ground_in z cp) k) to) (width (ground_in z cp).layout (types.Pointer row)) ≡ left_at → behind_pointer (ground_in z cp).layout (ground_in z cp).copy (base (ground_in z cp) k) to ≡ right_at
       → (p : Moves z cp k to left_at right_at count) → is_due (arrived z.outside w) ≡ false
       → Mirrors z (state cp (Value (datum.Pointer x)) (In (tree.Step op to (types.Pointer row) size (types.Pointer p.target) line) (At at) ∷ k) l w) c
-      → Follow z 44 1 c (take_in (source_in z) (tree.Step op to (types.Pointer row) size (types.Pointer p.target) line) (At at) (datum.Pointer x) k cp l (arrived z.outside w))
+      → Follow z 44 0 c (take_in (source_in z) (tree.Step op to (types.Pointer row) size (types.Pointer p.target) line) (At at) (datum.Pointer x) k cp l (arrived z.outside w))
   step_moved op to row size line at x left_at right_at count k cp l w c some few there count_is left_is right_is p due h =
-      subst (λ a. Follow z 44 1 c (changes a (tree.Step op to (types.Pointer row) size (types.Pointer p.target) line) at (is_postfix op) (datum.Pointer x) line k cp l (arrived z.outside w)))
+      subst (λ a. Follow z 44 0 c (changes a (tree.Step op to (types.Pointer row) size (types.Pointer p.target) line) at (is_postfix op) (datum.Pointer x) line k cp l (arrived z.outside w)))
       (sym (pointer_changed z (active cp (Value (datum.Pointer x)) k) (step_operator op) row p.target size x (cut_to int.Int (pos 1))))
       (step_case (moved z.program x (distance (step_operator op) size (cut_to int.Int (pos 1)).number)) op to row size line at x left_at right_at count k cp l w c same some (λ y e. few y (same ∙ e)) there count_is left_is right_is p due h)
     where

@@ -6,7 +6,7 @@ use Rattle.c_ints.specs.declared.types.IntTy.TheVariants as int
 use Rattle.c_typed.specs.Trees.{Program}
 use Rattle.core_code.specs.Bytes as core_bytes
 use Rattle.core_code.specs.Bytes.{Held, Memory, misses, same_byte, with_bytes}
-use Rattle.core_code.specs.Cost.{binary_cost, least_binary}
+use Rattle.core_code.specs.Cost.{binary_cost}
 use Rattle.core_code.specs.Machine.{Machine, Task, Do as Todo, Waiting, extent, is_own}
 use Rattle.core_code.specs.Operands.{fits_together, is_helped, number_left}
 use Rattle.core_code.specs.Tree as code
@@ -18,8 +18,8 @@ use Rattle.lower_trace.proofs.CodeLeft.{Scene, core_in}
 use Rattle.lower_trace.proofs.Kept.{SceneLaws}
 use Rattle.lower_trace.proofs.Mirrors.{HasDatum}
 use Rattle.lower_trace.proofs.Moving.{binary_any_then, moved_so, pointer_value}
-use Rattle.lower_trace.proofs.Operating.{itself, or_true, value_number}
-use Rattle.lower_trace.proofs.Operations.{Comes, own_frame}
+use Rattle.lower_trace.proofs.Operating.{itself, value_number}
+use Rattle.lower_trace.proofs.Operations.{Comes, own_frame, or_second}
 use Rattle.lower_trace.proofs.Placed.{Placed}
 use Rattle.lower_trace.proofs.Scaling.{uint, uint_range}
 use Rattle.lower_trace.proofs.Written.{both, bytes_clear, bytes_there}
@@ -57,7 +57,7 @@ PointsThere p (Into o f) = IsThere p o
 mover_fits : (minus : Bool) (count : Option ℕ) (n b at : ℕ) → misses (Frame n b) 2 (Frame n at) 2 ≡ true → fits_together (mover minus) int.UInt count (Frame n b) (Frame n b) (Frame n at) ≡ true
 unfolding fits_together
 mover_fits true count n b at e = both _ _ (itself n b 2) (rw e refl)
-mover_fits false count n b at e = both _ _ (itself n b 2) (or_true (same_byte (Frame n b) (Frame n at)) _ e)
+mover_fits false count n b at e = both _ _ (itself n b 2) (or_second (same_byte (Frame n b) (Frame n at)) _ e)
 
 mover_moves : (minus : Bool) (e : Extent) (x : core_bytes.Place) (num : ℕ) → binary_value e (mover minus) int.UInt (core.Pointer x) (core.Number (uint num)) ≡ core.moved e x.object (pos x.offset +ℤ signed minus num)
 unfolding binary_value
@@ -75,10 +75,6 @@ mover_right false = refl
 mover_cost : (minus : Bool) (count : Option ℕ) → binary_cost (mover minus) count 2 ≤ 20
 mover_cost true count = omega arith
 mover_cost false count = omega arith
-
-mover_least : (minus : Bool) → 1 ≤ least_binary (mover minus)
-mover_least true = omega arith
-mover_least false = omega arith
 
 mover_null : (minus : Bool) (e : Extent) → binary_value e (mover minus) int.UInt (core.Number (uint 0)) (core.Number (uint 0)) ≡ Some (core.Number (uint 0))
 unfolding binary_value
@@ -122,7 +118,7 @@ module _ (z : Scene) (laws : SceneLaws z) where
   pub pointer_sum_then : (minus : Bool) (x y : Pointer) (by : ℤ) (num n b at : ℕ) (T : Machine → Type 0) (s : List Waiting) (w : World Held) (due : is_due w ≡ false) (now : arrived (core_in z).outside w ≡ w) (r : List Task) (m : Memory) (c : Machine) (q l : ℕ) → PointsThere z.program x → moved z.program x by ≡ Some y → num < 65536 → SameMove minus num by
       → misses (Frame n b) 2 (Frame n at) 2 ≡ true → b + 2 ≤ (core_in z).program.frame_bytes n → at + 2 ≤ (core_in z).program.frame_bytes n → HasDatum z n b (datum.Pointer x) m → HasDatum z n at (datum.Number (uint num)) m
       → Placed (core_in z) n None (Todo [] (code.Binary (mover minus) int.UInt (Frame n b) (Frame n b) (Frame n at)) ∷ r) s m w c
-      → ((d : Machine) (m' : Memory) → ((t : ℕ) → b + 2 ≤ t → m' (Frame n t) ≡ m (Frame n t)) → OnlyAbove n b m m' → HasDatum z n b (datum.Pointer y) m' → Placed (core_in z) n None r s m' w d → Comes (core_in z) T q l d) → Comes (core_in z) T (20 + q) (1 + l) c
+      → ((d : Machine) (m' : Memory) → ((t : ℕ) → b + 2 ≤ t → m' (Frame n t) ≡ m (Frame n t)) → OnlyAbove n b m m' → HasDatum z n b (datum.Pointer y) m' → Placed (core_in z) n None r s m' w d → Comes (core_in z) T q l d) → Comes (core_in z) T (20 + q) l c
   unfolding extent
   pointer_sum_then minus Null y by num n b at T s w due now r m c q l there is lt same apart room from hx hy p next =
       let null = null_moved z by y is in
@@ -133,7 +129,7 @@ module _ (z : Scene) (laws : SceneLaws z) where
       binary_any_then (core_in z) T n s w due now (mover minus) int.UInt (Frame n b) (Frame n b) (Frame n at) (core.Number (uint 0)) (core.Number (uint 0)) (core.Number (uint 0)) r m c q l 20
       (λ before. mover_fits minus (number_left before (Frame n at)) n b at apart) (mover_alone minus) (own_frame (core_in z).program n b 2 room) (ap (λ t. is_own (core_in z).program n (Frame n at) (bytes_of t)) (mover_right minus) ∙ own_frame (core_in z).program n at 2 from)
       (value_number z n b (uint 0) m (uint_range 0 (omega arith)) null_there) (ap (λ t. value_in t m (Frame n at)) (mover_right minus) ∙ value_number z n at (uint 0) m (uint_range 0 (omega arith)) zero_there)
-      (λ s' e. mover_null minus (extent (core_in z).program n s')) (own_frame (core_in z).program n b 2 room) (mover_cost minus) (mover_least minus) p
+      (λ s' e. mover_null minus (extent (core_in z).program n s')) (own_frame (core_in z).program n b 2 room) (mover_cost minus) p
       (λ d pd. next d m' (λ t le. bytes_clear m n b 2 (core.byte_of (core.Number (uint 0))) (Frame n t) (inr (inr (omega arith)))) (above_written n b b 2 m (core.byte_of (core.Number (uint 0))) (omega arith))
       (subst (λ t. HasDatum z n b (datum.Pointer t) m') (sym null.0) (λ j few. bytes_there m n b 2 (core.byte_of (core.Number (uint 0))) j few ∙ null_byte j few)) pd)
   pointer_sum_then minus (Into o f) y by num n b at T s w due now r m c q l there is lt same apart room from hx hy p next =
@@ -149,6 +145,6 @@ module _ (z : Scene) (laws : SceneLaws z) where
       binary_any_then (core_in z) T n s w due now (mover minus) int.UInt (Frame n b) (Frame n b) (Frame n at) (core.Pointer from_is) (core.Number (uint num)) result r m c q l 20
       (λ before. mover_fits minus (number_left before (Frame n at)) n b at apart) (mover_alone minus) (own_frame (core_in z).program n b 2 room) (ap (λ t. is_own (core_in z).program n (Frame n at) (bytes_of t)) (mover_right minus) ∙ own_frame (core_in z).program n at 2 from)
       (pointer_value z n b o f m hx) (ap (λ t. value_in t m (Frame n at)) (mover_right minus) ∙ value_number z n at (uint num) m (uint_range num lt) hy)
-      (λ s' e. gives s') (own_frame (core_in z).program n b 2 room) (mover_cost minus) (mover_least minus) p
+      (λ s' e. gives s') (own_frame (core_in z).program n b 2 room) (mover_cost minus) p
       (λ d pd. next d m' (λ t le. bytes_clear m n b 2 (core.byte_of result) (Frame n t) (inr (inr (omega arith)))) (above_written n b b 2 m (core.byte_of result) (omega arith))
       (subst (λ t. HasDatum z n b (datum.Pointer t) m') (sym y_is) (λ j few. bytes_there m n b 2 (core.byte_of result) j few)) pd)

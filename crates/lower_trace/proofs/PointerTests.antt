@@ -33,7 +33,7 @@ use Rattle.lower_trace.proofs.Kept.{SceneLaws, bytes_small, own_copy}
 use Rattle.lower_trace.proofs.Mirrors.{HasDatum, Mirrors, core_byte}
 use Rattle.lower_trace.proofs.Moving.{binary_any_then, pointer_value}
 use Rattle.lower_trace.proofs.NumberBytes.{core_object_same}
-use Rattle.lower_trace.proofs.Operating.{IsPlain, plain_alone, plain_cost, plain_fits, plain_least, plain_right, value_number}
+use Rattle.lower_trace.proofs.Operating.{IsPlain, plain_alone, plain_cost, plain_fits, plain_right, value_number}
 use Rattle.lower_trace.proofs.Operations.{beyond_is, comes_here, comes_within, own_frame}
 use Rattle.lower_trace.proofs.Placed.{Placed}
 use Rattle.lower_trace.proofs.PointerSums.{null_byte}
@@ -371,7 +371,7 @@ module _ (z : Scene) (laws : SceneLaws z) (some : (o : object.Object) → IsTher
       → base (ground_in z cp) k + 4 ≤ (core_in z).program.frame_bytes (number z cp) → is_due (arrived z.outside w) ≡ false
       → ((s : List Waiting) → plain_behind s ≡ stack_after z (ground_in z cp) k → AnswersAs a (binary_value (extent (core_in z).program (number z cp) s) op int.UInt (pointer_as z x) (pointer_as z y)))
       → Mirrors z (state cp (Value_is (datum.Pointer y)) (In (tree.Binary op left right ty line) (One (datum.Pointer x)) ∷ k) l w) c
-      → Follow z 50 1 c (answered a line k cp l (arrived z.outside w))
+      → Follow z 50 0 c (answered a line k cp l (arrived z.outside w))
   unfolding active fits_together
   test_case (answers.Fails kind) op left right ty line target x y k cp l w c is around test points px py lives room due as_answer h = tt
   test_case answers.Strays op left right ty line target x y k cp l w c is around test points px py lives room due as_answer h = tt
@@ -399,13 +399,13 @@ module _ (z : Scene) (laws : SceneLaws z) (some : (o : object.Object) → IsTher
       let hx : HasDatum z n b (datum.Pointer x) c.memory = subst (λ f. HasDatum z f b (datum.Pointer x) c.memory) (own_copy z cp) h.holds.0.0 in
       let hy : HasDatum z n (b + 2) (datum.Pointer y) c.memory = subst (λ f. HasDatum z n f (datum.Pointer y) c.memory) second (subst (λ f. HasDatum z f (beyond b (value_width g.layout left)) (datum.Pointer y) c.memory) (own_copy z cp) h.value) in
       let right_is = plain_right op int.UInt plain in
-      comes_within (core_in z) T (50 + 0) (1 + 0) 50 1 c
+      comes_within (core_in z) T (50 + 0) 0 50 0 c
       (binary_any_then (core_in z) T n s W (due_below z (arrived z.outside w) due) (again_below z w) op int.UInt (Frame n b) (Frame n b) (Frame n (b + 2)) (pointer_as z x) (pointer_as z y) (core.Number q) (code_after g k) c.memory c 0 0 50
       (λ before. plain_fits op 2 (number_left before (Frame n (b + 2))) n b plain) (λ count. plain_alone op count plain)
       (own_frame (core_in z).program n b 2 (omega arith)) (ap (λ t. core_machine.is_own (core_in z).program n (Frame n (b + 2)) (bytes_of t)) right_is ∙ own_frame (core_in z).program n (b + 2) 2 (omega arith))
       (pointer_there z n b x c.memory hx) (ap (λ t. value_in t c.memory (Frame n (b + 2))) right_is ∙ pointer_there z n (b + 2) y c.memory hy)
       (λ s' e'. as_answer s' e') (own_frame (core_in z).program n b (bytes_of q.ty) (omega arith))
-      (λ count. plain_cost op count 2 plain) (let o = plain_least op plain in omega arith)
+      (λ count. plain_cost op count 2 plain)
       (subst (λ f. Placed (core_in z) n None f s c.memory W c) now (placed_of z (state cp (Value_is (datum.Pointer y)) (In e (One (datum.Pointer x)) ∷ k) l w) c h))
       (λ d pd. comes_here (core_in z) T d
       (gives z laws cp k l (arrived z.outside w) c.memory (bytes_of q.ty) (core.byte_of (core.Number q)) v d around (omega arith) (λ j lt. refl)
@@ -417,10 +417,10 @@ module _ (z : Scene) (laws : SceneLaws z) (some : (o : object.Object) → IsTher
   pub pointers_given : (op : BinOp) (left right : Expression) (ty : Ty) (line target : ℕ) (x y : Pointer) (k : List Pending) (cp : CopyOf) (l : source.Memory) (w : World value.Byte) (c : Machine) → Around z cp k → IsTest op → type_of left ≡ types.Pointer target → IsPointer z.program x → IsPointer z.program y → LivesAll z cp k
       → base (ground_in z cp) k + 4 ≤ (core_in z).program.frame_bytes (number z cp) → is_due (arrived z.outside w) ≡ false
       → Mirrors z (state cp (Value_is (datum.Pointer y)) (In (tree.Binary op left right ty line) (One (datum.Pointer x)) ∷ k) l w) c
-      → Follow z 50 1 c (take_in (source_in z) (tree.Binary op left right ty line) (One (datum.Pointer x)) (datum.Pointer y) k cp l (arrived z.outside w))
+      → Follow z 50 0 c (take_in (source_in z) (tree.Binary op left right ty line) (One (datum.Pointer x)) (datum.Pointer y) k cp l (arrived z.outside w))
   unfolding active extent
   pointers_given op left right ty line target x y k cp l w c around test points px py lives room due h =
-      subst (λ a. Follow z 50 1 c (answered a line k cp l (arrived z.outside w))) (sym (test_asks z.program (cp ∷ callers k) op ty x y test))
+      subst (λ a. Follow z 50 0 c (answered a line k cp l (arrived z.outside w))) (sym (test_asks z.program (cp ∷ callers k) op ty x y test))
       (test_case (on_pointers z.program (cp ∷ callers k) op x y) op left right ty line target x y k cp l w c refl around test points px py lives room due
       (λ s e. tests_agree z laws (cp ∷ callers k) (extent (core_in z).program (number z cp) s) (record { some = some; size = λ o. refl; lives = λ o there alive. lives o s there alive e }) op x y test px py)
       h)

@@ -57,7 +57,7 @@ module _ (z : Scene) (laws : SceneLaws z) where
       → beyond (behind_pointer (ground_in z cp).layout (ground_in z cp).copy (base (ground_in z cp) k) to) (value_width (ground_in z cp).layout right) ≡ left_at → behind_pointer (ground_in z cp).layout (ground_in z cp).copy (base (ground_in z cp) k) to ≡ right_at
       → (p : Moves z cp k to left_at right_at count) → is_due (arrived z.outside w) ≡ false
       → Mirrors z (state cp (Value (datum.Pointer x)) (In (tree.Update (mover minus) to right (types.Pointer row) size (types.Pointer p.target) line) (AtWith at (datum.Number q)) ∷ k) l w) c
-      → Follow z 1632 1 c (changes (then_converted (types.Pointer p.target) (pointer_or_outside o)) (tree.Update (mover minus) to right (types.Pointer row) size (types.Pointer p.target) line) at false (datum.Pointer x) line k cp l (arrived z.outside w))
+      → Follow z 1632 0 c (changes (then_converted (types.Pointer p.target) (pointer_or_outside o)) (tree.Update (mover minus) to right (types.Pointer row) size (types.Pointer p.target) line) at false (datum.Pointer x) line k cp l (arrived z.outside w))
   unfolding active converted
   update_case None minus to right row size line at x q left_at right_at count k cp l w c is two range some few there left_is right_is p due h = tt
   update_case (Some y) minus to right row size line at x q left_at right_at count k cp l w c is two range some few there left_is right_is p due h =
@@ -113,8 +113,8 @@ module _ (z : Scene) (laws : SceneLaws z) where
       → beyond (behind_pointer (ground_in z cp).layout (ground_in z cp).copy (base (ground_in z cp) k) to) (value_width (ground_in z cp).layout right) ≡ left_at → behind_pointer (ground_in z cp).layout (ground_in z cp).copy (base (ground_in z cp) k) to ≡ right_at
       → (p : Moves z cp k to left_at right_at count) → is_due (arrived z.outside w) ≡ false
       → Mirrors z (state cp (Value (datum.Pointer x)) (In (tree.Update (mover minus) to right (types.Pointer row) size (types.Pointer p.target) line) (AtWith at (datum.Number q)) ∷ k) l w) c
-      → Follow z 1632 1 c (take_in (source_in z) (tree.Update (mover minus) to right (types.Pointer row) size (types.Pointer p.target) line) (AtWith at (datum.Number q)) (datum.Pointer x) k cp l (arrived z.outside w))
+      → Follow z 1632 0 c (take_in (source_in z) (tree.Update (mover minus) to right (types.Pointer row) size (types.Pointer p.target) line) (AtWith at (datum.Number q)) (datum.Pointer x) k cp l (arrived z.outside w))
   update_moved minus to right row size line at x q left_at right_at count k cp l w c two range some few there left_is right_is p due h =
-      subst (λ a. Follow z 1632 1 c (changes a (tree.Update (mover minus) to right (types.Pointer row) size (types.Pointer p.target) line) at false (datum.Pointer x) line k cp l (arrived z.outside w)))
+      subst (λ a. Follow z 1632 0 c (changes a (tree.Update (mover minus) to right (types.Pointer row) size (types.Pointer p.target) line) at false (datum.Pointer x) line k cp l (arrived z.outside w)))
       (sym (pointer_changed z (active cp (Value (datum.Pointer x)) k) (mover minus) row p.target size x q))
       (update_case (moved z.program x (distance (mover minus) size q.number)) minus to right row size line at x q left_at right_at count k cp l w c (ap (λ t. moved z.program x t) (sym (distance_is minus size q.number))) two range some few there left_is right_is p due h)

@@ -10,9 +10,9 @@ use Rattle.core_code.specs.Tree.{Tree}
 use Rattle.core_code.specs.declared.code.Byte.{Byte}
 use Rattle.core_code.specs.declared.code.Byte.TheVariants.{Static, Frame}
 use Rattle.lower_trace.proofs.CodeLeft.{plain, plain_behind}
-use Rattle.lower_trace.proofs.Operations.{Comes, comes_here, comes_first, comes_within, own_put}
+use Rattle.lower_trace.proofs.Operations.{Comes, comes_here, comes_first, comes_free, comes_within, own_put}
 use Rattle.lower_trace.proofs.Reading.{lt_true}
-use Rattle.lower_trace.proofs.Placed.{Placed, front, other, operates, most_operates, least_operates, does, most_does, least_does}
+use Rattle.lower_trace.proofs.Placed.{Placed, front, other, operates, most_operates, does, most_does, least_does}
 
 plain_loading : (to : Byte) (object : Object) (offset n : ℕ) (c : List Task) → plain (loading to object offset n c) ≡ loading to object offset n (plain c)
 plain_loading to object offset zero c = refl
@@ -25,31 +25,29 @@ plain_storing object offset from (suc n) c = refl
 module _ (g : Setting) (T : Machine → Type 0) (n : ℕ) (a : Option ℕ) (s : List Waiting) (w : World Held) (due : is_due w ≡ false) (again : arrived g.outside w ≡ w) where
   -- the pointer is read, and its bytes are left
   pub load_then : (to pointer : Byte) (count : ℕ) (x : Place) (r : List Task) (m : Memory) (c : Machine) (q l : ℕ) → is_own g.program n pointer 2 ≡ true → pointer_in m pointer ≡ Some x
-      → Placed g n a (Do [] (code.Load to pointer count) ∷ r) s m w c → ((d : Machine) → Placed g n a (loading to x.object x.offset count r) s m w d → Comes g T q l d) → Comes g T (14 + q) (1 + l) c
+      → Placed g n a (Do [] (code.Load to pointer count) ∷ r) s m w c → ((d : Machine) → Placed g n a (loading to x.object x.offset count r) s m w d → Comes g T q l d) → Comes g T (14 + q) l c
   unfolding operate cost_of
   load_then to pointer count x r m c q l own is p next =
       let t = code.Load to pointer count in
       let f = front c.code t r p.code in
       let d : Machine = record { copy = n; passing = a; code = loading to x.object x.offset count f.rest; stack = c.stack; memory = m; world = w } in
       let em = most_operates g n a (Do [] t ∷ r) s m w c p t r f due in
-      let el = least_operates g n a (Do [] t ∷ r) s m w c p t r f due in
-      comes_first g T q l 14 1 c d
+      comes_free g T q l 14 c d
       (operates g n a (Do [] t ∷ r) s m w c p t r f due ∙ rw (own, is) refl)
-      (omega arith) (omega arith)
+      (omega arith)
       (next d (record { copy = refl; passing = refl; code = plain_loading to x.object x.offset count f.rest ∙ ap (loading to x.object x.offset count) f.behind; stack = p.stack; memory = refl; world = again }))
 
   pub store_then : (pointer from : Byte) (count : ℕ) (x : Place) (r : List Task) (m : Memory) (c : Machine) (q l : ℕ) → is_own g.program n pointer 2 ≡ true → pointer_in m pointer ≡ Some x
-      → Placed g n a (Do [] (code.Store pointer from count) ∷ r) s m w c → ((d : Machine) → Placed g n a (storing x.object x.offset from count r) s m w d → Comes g T q l d) → Comes g T (14 + q) (1 + l) c
+      → Placed g n a (Do [] (code.Store pointer from count) ∷ r) s m w c → ((d : Machine) → Placed g n a (storing x.object x.offset from count r) s m w d → Comes g T q l d) → Comes g T (14 + q) l c
   unfolding operate cost_of
   store_then pointer from count x r m c q l own is p next =
       let t = code.Store pointer from count in
       let f = front c.code t r p.code in
       let d : Machine = record { copy = n; passing = a; code = storing x.object x.offset from count f.rest; stack = c.stack; memory = m; world = w } in
       let em = most_operates g n a (Do [] t ∷ r) s m w c p t r f due in
-      let el = least_operates g n a (Do [] t ∷ r) s m w c p t r f due in
-      comes_first g T q l 14 1 c d
+      comes_free g T q l 14 c d
       (operates g n a (Do [] t ∷ r) s m w c p t r f due ∙ rw (own, is) refl)
-      (omega arith) (omega arith)
+      (omega arith)
       (next d (record { copy = refl; passing = refl; code = plain_storing x.object x.offset from count f.rest ∙ ap (storing x.object x.offset from count) f.behind; stack = p.stack; memory = refl; world = again }))
 
   -- a byte of a frame is read and written at once

@@ -18,8 +18,8 @@ use Rattle.src_values.specs.declared.objects.Spot.{Spot}
 use Rattle.src_values.specs.declared.objects.Spot.TheVariants as spots
 use Rattle.lower_trace.proofs.Costs.{either}
 use Rattle.lower_trace.proofs.ListBytes as blank
-use Rattle.lower_trace.proofs.Prices.{counted_room, compared_most, skim_end, skim_most, some_label, some_line, step_room}
-use Rattle.lower_trace.proofs.SwitchCases.{compare_least, compare_most}
+use Rattle.lower_trace.proofs.Prices.{counted_room, compared_most, skim_end, skim_most, some_line, step_room}
+use Rattle.lower_trace.proofs.SwitchCases.{compare_most}
 
 -- ---- one byte more, or all are done
 pub either_room : (b : Bool) (more done rest : ℕ) → more ≤ step_room → done ≤ rest → either b more done ≤ (if b then step_room else rest)
@@ -108,10 +108,6 @@ blank_one covered left line = blank_one_by (nat_lt covered left) covered left li
 pub compare_room : (bytes : ℕ) (labels : List TCase) → bytes ≤ 96 → compare_most bytes labels ≤ compared_most labels
 compare_room bytes [] few = omega arith
 compare_room bytes (label ∷ labels) few = omega arith
-
-pub compare_one : (bytes : ℕ) (labels : List TCase) → some_label labels ≤ compare_least bytes labels
-compare_one bytes [] = omega arith
-compare_one bytes (label ∷ labels) = omega arith
 
 -- ---- structures that are read for nothing
 not_none : (n : ℕ) → 0 < n → nat_eq n 0 ≡ false

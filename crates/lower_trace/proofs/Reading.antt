@@ -81,7 +81,7 @@ module _ (z : Scene) (laws : SceneLaws z) (cp : CopyOf) (k : List Pending) (l : 
       let low = laws.below cp i offset around.reached is ok.inside in
       let high = value_high z cp k around in
       let b = reads.based in
-      fetch_hidden z laws cp k l from to count pointer r reads around at next read (l (objects.Variable cp i) offset) (variable_offset z.program cp.function i + offset) w c lt room target hidden (omega arith)
+      fetch_hidden z laws cp k l from to count pointer r reads around at next read (l (objects.Variable cp i) offset) (variable_offset z.program cp.function i + offset) w c lt room target (laws.kept (objects.Variable cp i) offset (around.reached, is) ok.inside) hidden (omega arith)
       (set_agrees z (l (objects.Variable cp i) offset) (c.memory (core_byte z (objects.Variable cp i) offset)) ok.set (h.agrees (objects.Variable cp i) offset (around.reached, is) ok.alive ok.inside))
       due h
 

@@ -69,7 +69,7 @@ module _ (z : Scene) (laws : SceneLaws z) (cp : CopyOf) (k : List Pending) (l : 
       code_is at done ∙ ap (λ ts. todo ts r) (copies_step X (Frame g.copy from) done count lt) ∙ ap (λ y. Todo [] (code.Copy y (behind (Frame g.copy from) done)) ∷ R) target ∙ ap (λ y. Todo [] (code.Copy (Device address) y) ∷ R) source_is in
       let has : HasDatum z g.copy (stored_at g k) v c.memory = subst (λ y. HasDatum z g.copy (stored_at g k) y c.memory) (plain_at v done) h.value in
       let holds_byte : c.memory (Frame n (from + done)) ≡ bytes.Number number_is = ap (λ i. c.memory (Frame i (from + done))) (sym (own_copy z cp)) ∙ ap (λ i. c.memory (Frame g.copy (i + done))) (sym from_is) ∙ has done part ∙ ap (held z) byte_is in
-      write_then (core_in z) T n None (stack_after z g k) W (due_below z V due) (again_below z w) (Device address) (Frame n (from + done)) R c.memory c refl (own_frame (core_in z).program n (from + done) 1 (omega arith)) refl valid
+      write_then (core_in z) T n None (stack_after z g k) W (due_below z V due) (again_below z w) (Device address) (Frame n (from + done)) R c.memory c refl refl (own_frame (core_in z).program n (from + done) 1 (omega arith)) refl valid
       (ap (λ y. may_hold (core_in z).program (Device address) y W) holds_byte ∙ ap not (gie_as (held z) address number_is V ∙ gie))
       (subst (λ y. Placed (core_in z) n None y (stack_after z g k) c.memory W c) now (placed_of z (state cp (Write at v done) k l w) c h))
       (λ d pd.

@@ -120,7 +120,7 @@ return_case z laws e line v d k k' cp l w c is resumables reached few count room
     let values : (i : ℕ) → i < byte_count v → m' (Result g.layout.root i) ≡ held z (byte_of v i) =
     λ i lt. ap (λ q. m' (Result q i)) (own_root z cp) ∙ result_there m cp.root x (λ j. m (Frame n (b + j))) i (omega arith) ∙ ap (λ j. m (Frame j (b + i))) (sym (own_copy z cp)) ∙ h.value i lt in
     subst (λ y. Comes (core_in z) (Mirrors z (state cp (Leaves v) y l (arrived z.outside w))) (6 * x + 4) 1 c) (sym is)
-    (comes_within (core_in z) T (6 * x + 4) (x + 1) (6 * x + 4) 1 c
+    (comes_within (core_in z) T (6 * x + 4) 1 (6 * x + 4) 1 c
     (results_then (core_in z) T n None s W (due_below z (arrived z.outside w) due) (again_below z w) cp.root (laws.roots cp reached) (laws.small n) x b r m c 4 1 few room (subst (λ y. Placed (core_in z) n None y s m W c) split start)
     (λ e' pe. function_left z cp l w due (code_after g k) s m' e' pe v d k' (subst (λ y. Through n e'.stack (stack_after z g y)) is (through z g n k e'.stack pe.stack)) agrees holds values))
     (omega arith) (omega arith))

@@ -17,8 +17,8 @@ use Rattle.lower_trace.proofs.CodeLeft.{Scene, todo}
 use Rattle.lower_trace.proofs.FixedWrites.{move_then}
 use Rattle.lower_trace.proofs.Mirrors.{HasDatum}
 use Rattle.lower_trace.proofs.Moving.{binary_any_then}
-use Rattle.lower_trace.proofs.Operating.{itself, or_true, value_number}
-use Rattle.lower_trace.proofs.Operations.{Comes, comes_within, le_true, own_frame}
+use Rattle.lower_trace.proofs.Operating.{itself, value_number}
+use Rattle.lower_trace.proofs.Operations.{Comes, comes_within, le_true, own_frame, or_second}
 use Rattle.lower_trace.proofs.Placed.{Placed, todo_join}
 use Rattle.lower_trace.proofs.Written.{both, bytes_there}
 use Rattle.pic_world.specs.World.{World, arrived, is_due}
@@ -65,12 +65,10 @@ module _ (z : Scene) (g : Setting) (T : Machine → Type 0) (n : ℕ) (s : List 
       let m' = with_bytes m (Frame n b) 2 (core.byte_of (core.Number v)) in
       let vx = value_number z n b (uint x) m (uint_range x lt) hx in
       let own = own_frame g.program n b 2 room in
-      comes_within g T (20 + q) (1 + l) (20 + q) l c
-      (binary_any_then g T n s w due now ops.Add int.UInt (Frame n b) (Frame n b) (Frame n b) (core.Number (uint x)) (core.Number (uint x)) (core.Number v) r m c q l 20
-      (λ before. both _ _ (itself n b 2) (itself n b 2)) (λ count. refl) own own vx vx (λ s' e. refl) own (λ count. omega arith) (omega arith) p
+      binary_any_then g T n s w due now ops.Add int.UInt (Frame n b) (Frame n b) (Frame n b) (core.Number (uint x)) (core.Number (uint x)) (core.Number v) r m c q l 20
+      (λ before. both _ _ (itself n b 2) (itself n b 2)) (λ count. refl) own own vx vx (λ s' e. refl) own (λ count. omega arith) p
       (λ d pd. next d m' (above_written n b b 2 m (core.byte_of (core.Number v)) (omega arith))
-      (subst (λ t. HasDatum z n b (datum.Number t) m') (uint_sum x x) (λ j few. bytes_there m n b 2 (core.byte_of (core.Number v)) j few)) pd))
-      (omega arith) (omega arith)
+      (subst (λ t. HasDatum z n b (datum.Number t) m') (uint_sum x x) (λ j few. bytes_there m n b 2 (core.byte_of (core.Number v)) j few)) pd)
 
   -- the number itself is added, if the digit is 1
   odd_then : (odd : Bool) (size x v b y : ℕ) (r : List Task) (m : Memory) (c : Machine) (q l : ℕ) → nat_eq (size % 2) 1 ≡ odd → x < 65536 → v < 65536 → y + 2 ≤ b → b + 2 ≤ g.program.frame_bytes n → HasDatum z n b (datum.Number (uint v)) m → HasDatum z n y (datum.Number (uint x)) m
@@ -83,14 +81,12 @@ module _ (z : Scene) (g : Setting) (T : Machine → Type 0) (n : ℕ) (s : List 
       let vv = value_number z n b (uint v) m (uint_range v vl) hv in
       let vx = value_number z n y (uint x) m (uint_range x lt) hx in
       let own = own_frame g.program n b 2 room in
-      comes_within g T (20 + q) (1 + l) (20 + q) l c
-      (binary_any_then g T n s w due now ops.Add int.UInt (Frame n b) (Frame n b) (Frame n y) (core.Number (uint v)) (core.Number (uint x)) (core.Number sum) r m c q l 20
-      (λ before. both _ _ (itself n b 2) (or_true (same_byte (Frame n b) (Frame n y)) _ (or_true (not (nat_eq n n)) _ (or_true (nat_le (b + 2) y) (nat_le (y + 2) b) (le_true (y + 2) b low))))) (λ count. refl)
-      own (own_frame g.program n y 2 (omega arith)) vv vx (λ s' e. refl) own (λ count. omega arith) (omega arith)
+      binary_any_then g T n s w due now ops.Add int.UInt (Frame n b) (Frame n b) (Frame n y) (core.Number (uint v)) (core.Number (uint x)) (core.Number sum) r m c q l 20
+      (λ before. both _ _ (itself n b 2) (or_second (same_byte (Frame n b) (Frame n y)) _ (or_second (not (nat_eq n n)) _ (or_second (nat_le (b + 2) y) (nat_le (y + 2) b) (le_true (y + 2) b low))))) (λ count. refl)
+      own (own_frame g.program n y 2 (omega arith)) vv vx (λ s' e. refl) own (λ count. omega arith)
       (subst (λ t. Placed g n None t s m w c) (ap (λ t. todo (if t then operator ops.Add int.UInt (Frame n b) (Frame n y) ∷ [] else []) r) odd) p)
       (λ d pd. next d m' (above_written n b b 2 m (core.byte_of (core.Number sum)) (omega arith))
-      (subst (λ t. HasDatum z n b (datum.Number t) m') (uint_sum v x) (λ j few. bytes_there m n b 2 (core.byte_of (core.Number sum)) j few)) pd))
-      (omega arith) (omega arith)
+      (subst (λ t. HasDatum z n b (datum.Number t) m') (uint_sum v x) (λ j few. bytes_there m n b 2 (core.byte_of (core.Number sum)) j few)) pd)
   odd_then false size x v b y r m c q l odd lt vl low room hv hx p next =
       comes_within g T q l (20 + q) l c
       (next c m (above_same n b m) (subst (λ t. HasDatum z n b (datum.Number (uint t)) m) (let e : v ≡ (v + 0) % 65536 = omega arith in e) hv)
@@ -169,7 +165,7 @@ module _ (z : Scene) (g : Setting) (T : Machine → Type 0) (n : ℕ) (s : List 
   scaled_then size x b y r m c q l some lt xl low room hy p next =
       let m1 = with_bytes m (Frame n b) 2 (λ j. m (Frame n (y + j))) in
       let above1 = above_written n b b 2 m (λ j. m (Frame n (y + j))) (omega arith) in
-      comes_within g T (6 * 2 + (40 * 40 + q)) (2 + l) (1612 + q) l c
+      comes_within g T (6 * 2 + (40 * 40 + q)) l (1612 + q) l c
       (move_then g T n None s w due now small b y 2 (todo (multiples (Frame n b) (Frame n y) size 64) r) m c (40 * 40 + q) l (inr low) room (omega arith)
       (subst (λ t. Placed g n None t s m w c) (todo_join (copies (Frame n b) (Frame n y) 2) (multiples (Frame n b) (Frame n y) size 64) r) p)
       (λ d1 p1.

@@ -18,6 +18,7 @@ use Rattle.c_typed.specs.declared.program.Initial.{Initial}
 use Rattle.c_typed.specs.declared.types.Qualified.{Qualified}
 use Rattle.call_graph.specs.declared.types.FnCopy.{FnCopy}
 use Rattle.core_code.specs.Bytes.{Held, same_byte}
+use Rattle.core_code.specs.Cost.{is_kept}
 use Rattle.core_code.specs.FirstBytes.{first_held}
 use Rattle.core_code.specs.Machine.{static_bytes, object_bytes as core_bytes}
 use Rattle.core_code.specs.Tree as code
@@ -46,6 +47,7 @@ use Rattle.lower_trace.proofs.CodeLeft.{Scene, number, ground_in, core_in}
 use Rattle.lower_trace.proofs.Entering.{copy_is, copy_self, bool_cases}
 use Rattle.lower_trace.proofs.Kept.{SceneLaws}
 use Rattle.lower_trace.proofs.Mirrors.{core_byte, at_byte}
+use Rattle.lower_trace.proofs.Reading.{lt_true}
 use Rattle.lower_trace.proofs.Numbering.{IsNumbered, numbered, numbers_apart, handler_numbered, main_numbered, function_there, at_is, roots_agree}
 use Rattle.lower_trace.proofs.Variables.{base_is, params_is, locals_is, in_frame, in_all, is_in, same_variable, joined_bytes}
 use Rattle.lower_trace.proofs.Written.{nat_same, same_nat}
@@ -101,6 +103,10 @@ module _ (z : Scene) (given : IsLowerable z.program z.copies) where
   unfolding core_of
   parameters_is c r = ap (size_or_none (λ f. variables_bytes p.sizes f.params)) (function_is c r)
 
+  pub variables_is : (c : CopyOf) → IsReached p c → (core_in z).program.variable_bytes (number z c) ≡ variables_bytes p.sizes (function_at p c.function).params + variables_bytes p.sizes (function_at p c.function).locals
+  unfolding core_of
+  variables_is c r = ap (size_or_none (λ f. variables_bytes p.sizes f.params + variables_bytes p.sizes f.locals)) (function_is c r)
+
   small_at : (n : ℕ) (copy : FnCopy) → slice_get z.copies n ≡ Some copy → IsSmallCopy p copy
   small_at n copy e = subst (IsSmallCopy p) (at_is z.copies n copy copy e) (given.small_copies n copy (slice_get_within z.copies n copy e))
 
@@ -154,6 +160,15 @@ module _ (z : Scene) (given : IsLowerable z.program z.copies) where
       let w = x.inside in
       let b = base_at c r in
       omega (arith, l, w, b)
+
+  kept : (o : object.Object) (at : ℕ) → IsThere p o → at < object_bytes p o → is_kept (core_in z).program.variable_bytes (core_byte z o at) ≡ true
+  kept (objects.Fixed n) at there inside = refl
+  kept (objects.Variable c i) at there inside =
+      let l = below c i at there.0 there.1 inside in
+      let b = base_at c there.0 in
+      let j = joined_bytes p.sizes (function_at p c.function).params (function_at p c.function).locals in
+      let v = variables_is c there.0 in
+      lt_true (variable_offset p c.function i + at) ((core_in z).program.variable_bytes (number z c)) (omega (arith, l, b, j, v))
 
   -- ---- two bytes
   apart_spots : (a b : CopyOf) (x y i j : ℕ) → IsReached p a → IsReached p b → same_copy a b ≡ false → same_byte (core_byte z (objects.Variable a x) i) (core_byte z (objects.Variable b y) j) ≡ (same_object (objects.Variable a x) (objects.Variable b y) && nat_eq i j)
@@ -279,6 +294,7 @@ module _ (z : Scene) (given : IsLowerable z.program z.copies) where
   scene_laws = record {
     apart = λ c d rc rd e. numbers_apart p z.copies given.known given.acyclic c d rc rd e;
     below = below;
+    kept = kept;
     spots = spots;
     statics = static_size;
     watched = static_watched;

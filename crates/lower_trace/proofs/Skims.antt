@@ -272,8 +272,8 @@ module _ (z : Scene) (laws : SceneLaws z) (cp : CopyOf) (l : source.Memory) (sou
       ∙ ap (λ t. todo (copies (Frame g.copy b) (Frame g.copy t) (width g.layout ty)) (code_after g k)) (sym (ap (λ t. beyond b (pointer_bytes t)) computed))
       ∙ ap (λ t. todo (copies (Frame t b) (Frame t to) (width g.layout ty)) (code_after g k)) (own_copy z cp)
       ∙ ap (λ t. todo (copies (Frame n b) (Frame n to) t) (code_after g k)) wide in
-      comes_within (core_in z) T (3 + (6 * size + 0)) (size + 0) (20 + 6 * size) 0 c
-      (pointed_all z laws cp f l to (width g.layout ty) b (code_after g f) (reads_read z g sought ty line start k Computed computed) around (omega arith) (omega arith) reach T p.0 (size - 1) y.read datum.Missing w c (6 * size + 0) (size + 0) (omega arith) (omega arith) (omega arith) (λ i lt. absurd (omega arith)) due
+      comes_within (core_in z) T (3 + (6 * size + 0)) 0 (20 + 6 * size) 0 c
+      (pointed_all z laws cp f l to (width g.layout ty) b (code_after g f) (reads_read z g sought ty line start k Computed computed) around (omega arith) (omega arith) reach T p.0 (size - 1) y.read datum.Missing w c (6 * size + 0) 0 (omega arith) (omega arith) (omega arith) (λ i lt. absurd (omega arith)) due
       (λ d m' only hv pd. move_then (core_in z) T n None (stack_after z g k) W (due_below z V due) (again_below z w) small b to size (code_after g k) m' d 0 0 (inl (omega arith)) (omega arith) (omega arith)
       (subst (λ t. Placed (core_in z) n None t (stack_after z g k) m' W d) r_is pd)
       (λ d2 pd2. comes_here (core_in z) T d2

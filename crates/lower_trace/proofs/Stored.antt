@@ -70,7 +70,7 @@ front_case z laws true y bytes v k cp l w m c is around room from high count few
     let b = base g k in
     let T = Mirrors z (state cp (Value v) k l (arrived z.outside w)) in
     let W = world_as (held z) (arrived z.outside w) in
-    comes_within (core_in z) T (6 * bytes + 0) (bytes + 0) 24 0 c
+    comes_within (core_in z) T (6 * bytes + 0) 0 24 0 c
     (move_then (core_in z) T n None (stack_after z g k) W (due_below z (arrived z.outside w) due) (again_below z w) (laws.small n) b y bytes (code_after g k) m c 0 0 (inl high) room from p
     (λ d pd. comes_here (core_in z) T d
     (gives z laws cp k l (arrived z.outside w) m bytes (λ j. m (Frame n (y + j))) v d around count (λ i lt. hv refl i lt)

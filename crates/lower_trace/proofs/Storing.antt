@@ -259,7 +259,7 @@ module _ (z : Scene) (laws : SceneLaws z) (cp : CopyOf) (k : List Pending) (l : 
       let holds_byte : c.memory (Frame n (from + done)) ≡ held z byte = ap (λ i. c.memory (Frame i (from + done))) (sym (own_copy z cp)) ∙ ap (λ i. c.memory (Frame g.copy (i + done))) (sym from_is) ∙ has done part in
       let m' = with_byte c.memory x (held z byte) in
       let kept : (d : CopyOf) → IsReached z.program d → SameTemps z d c.memory m' = temps_kept z laws object offset there inside c.memory (held z byte) in
-      write_then (core_in z) T n None (stack_after z g k) W (due_below z (arrived z.outside w) due) (again_below z w) x (Frame n (from + done)) R c.memory c refl (own_frame (core_in z).program n (from + done) 1 (omega arith)) own valid
+      write_then (core_in z) T n None (stack_after z g k) W (due_below z (arrived z.outside w) due) (again_below z w) x (Frame n (from + done)) R c.memory c (laws.kept object offset there inside) refl (own_frame (core_in z).program n (from + done) 1 (omega arith)) own valid
       (ap (λ y. may_hold (core_in z).program x y W) holds_byte ∙ may)
       (subst (λ y. Placed (core_in z) n None y (stack_after z g k) c.memory W c) now (placed_of z (state cp (Write at v done) k l w) c h))
       (λ d pd.

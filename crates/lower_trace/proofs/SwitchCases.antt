@@ -26,6 +26,7 @@ use Rattle.lower_trace.proofs.Ends.{FollowOn}
 use Rattle.lower_trace.proofs.Giving.{Around}
 use Rattle.lower_trace.proofs.Kept.{SceneLaws}
 use Rattle.lower_trace.proofs.Mirrors.{Mirrors}
+use Rattle.lower_trace.proofs.Prices.{some_label}
 
 promoted_int : (ty : Ty) → is_promoted ty ≡ true → (int : IntTy) × (ty ≡ types.Int int)
 promoted_int (types.Int int) e = (int, refl)
@@ -36,15 +37,11 @@ abbrev pub compare_most : ℕ → List TCase → ℕ
 compare_most bytes [] = 4
 compare_most bytes (label ∷ labels) = 14 * bytes + 48
 
-abbrev pub compare_least : ℕ → List TCase → ℕ
-compare_least bytes [] = 0
-compare_least bytes (label ∷ labels) = bytes + 2
-
 pub compares_stands : (z : Scene) (laws : SceneLaws z) (e : Expression) (cases : List TCase) (default : Option ℕ) (ss : Statements) (line : ℕ) (k : List Pending) (cp : CopyOf) (l : source.Memory) (v : Datum) (labels : List TCase) (w : World value.Byte) (c : Machine)
     → FocusStands z.program cp (Compares v labels) (Doing (tree.Switch e cases default ss line) Chooses ∷ k) → StackStands z.program cp (Doing (tree.Switch e cases default ss line) Chooses ∷ k) → AreInRange cases → Around z cp (Doing (tree.Switch e cases default ss line) Chooses ∷ k)
     → (ground_in z cp).base + 2 * type_bytes z.program.sizes (type_of e) + 2 ≤ (core_in z).program.frame_bytes (number z cp) → is_due (arrived z.outside w) ≡ false
     → Mirrors z (state cp (Compares v labels) (Doing (tree.Switch e cases default ss line) Chooses ∷ k) l w) c
-    → FollowOn z (compare_most (type_bytes z.program.sizes (type_of e)) labels) (compare_least (type_bytes z.program.sizes (type_of e)) labels) c (compares v labels (Doing (tree.Switch e cases default ss line) Chooses ∷ k) cp l (arrived z.outside w))
+    → FollowOn z (compare_most (type_bytes z.program.sizes (type_of e)) labels) (some_label labels) c (compares v labels (Doing (tree.Switch e cases default ss line) Chooses ∷ k) cp l (arrived z.outside w))
 compares_stands z laws e cases default ss line k cp l v [] w c focus stack ranges around room due h =
     compares_none z e cases default ss line k cp l v w c (default_is e cases default ss stack.0.2) due h
 compares_stands z laws e cases default ss line k cp l v (label ∷ rest) w c focus stack ranges around room due h =
@@ -52,5 +49,5 @@ compares_stands z laws e cases default ss line k cp l v (label ∷ rest) w c foc
     let fits = subst (λ t. cases_fit t (count_of ss) cases ≡ true) i.1 stack.0.1 in
     let are = labels_are i.0 e cases default ss focus.1.1.0 (label ∷ rest) focus.1.1.1 fits ranges in
     let has : HasType z.program (type_of e) v = subst (λ t. HasType z.program t v) focus.1.0 focus.2 in
-    subst (λ t. FollowOn z (compare_most (type_bytes z.program.sizes t) (label ∷ rest)) (compare_least (type_bytes z.program.sizes t) (label ∷ rest)) c (compares v (label ∷ rest) (Doing (tree.Switch e cases default ss line) Chooses ∷ k) cp l (arrived z.outside w))) (sym i.1)
+    subst (λ t. FollowOn z (compare_most (type_bytes z.program.sizes t) (label ∷ rest)) 1 c (compares v (label ∷ rest) (Doing (tree.Switch e cases default ss line) Chooses ∷ k) cp l (arrived z.outside w))) (sym i.1)
     (compares_label z laws e cases default ss line k cp l v i.0 label rest w c i.1 has are.0 around (subst (λ t. (ground_in z cp).base + 2 * type_bytes z.program.sizes t + 2 ≤ (core_in z).program.frame_bytes (number z cp)) i.1 room) due h)

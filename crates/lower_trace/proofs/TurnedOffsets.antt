@@ -31,8 +31,8 @@ use Rattle.lower_trace.proofs.Members.{if_datum}
 use Rattle.lower_trace.proofs.Mirrors.{HasDatum, Mirrors}
 use Rattle.lower_trace.proofs.Moving.{binary_any_then, moved_so, pointer_value}
 use Rattle.lower_trace.proofs.Offsets.{bits_there, distance_is, few_pattern, moved_by, one_size, same_distance}
-use Rattle.lower_trace.proofs.Operating.{itself, or_true, value_number}
-use Rattle.lower_trace.proofs.Operations.{Comes, beyond_is, comes_within, le_true, own_frame}
+use Rattle.lower_trace.proofs.Operating.{itself, value_number}
+use Rattle.lower_trace.proofs.Operations.{Comes, beyond_is, comes_within, le_true, own_frame, or_second}
 use Rattle.lower_trace.proofs.Placed.{Placed, todo_join}
 use Rattle.lower_trace.proofs.PointerSums.{PointsThere, SameMove, behind_by, no_move, null_byte, null_moved}
 use Rattle.lower_trace.proofs.Scaling.{scaled_then, uint, uint_range}
@@ -83,7 +83,7 @@ unfolding fits_together
 sum_fits_at count n to x y e f = both _ _ e f
 
 apart_high : (n b y : ℕ) → b + 2 ≤ y → is_same_or_misses 2 (Frame n b) (Frame n y) ≡ true
-apart_high n b y le = let e = le_true (b + 2) y le in or_true _ _ (or_true (not (nat_eq n n)) _ (rw e refl))
+apart_high n b y le = let e = le_true (b + 2) y le in or_second _ _ (or_second (not (nat_eq n n)) _ (rw e refl))
 
 there_at : {A : Type 0} (P : A → ℕ → Type 0) (order : Order) (x y : A) (px py : ℕ) → P x px → P y py → P (ordered order x y) (first_at order px py)
 there_at P PointerFirst x y px py h i = h
@@ -98,7 +98,7 @@ module _ (z : Scene) (laws : SceneLaws z) where
   pub sum_into_then : (order : Order) (x y : Pointer) (by : ℤ) (num n b px py : ℕ) (T : Machine → Type 0) (s : List Waiting) (w : World Held) (due : is_due w ≡ false) (now : arrived (core_in z).outside w ≡ w) (r : List Task) (m : Memory) (c : Machine) (q l : ℕ) → PointsThere z.program x → moved z.program x by ≡ Some y → num < 65536 → SameMove false num by
       → is_same_or_misses 2 (Frame n b) (Frame n px) ≡ true → is_same_or_misses 2 (Frame n b) (Frame n py) ≡ true → b + 2 ≤ (core_in z).program.frame_bytes n → px + 2 ≤ (core_in z).program.frame_bytes n → py + 2 ≤ (core_in z).program.frame_bytes n → HasDatum z n px (datum.Pointer x) m → HasDatum z n py (datum.Number (uint num)) m
       → Placed (core_in z) n None (Todo [] (code.Binary ops.Add int.UInt (Frame n b) (Frame n (first_at order px py)) (Frame n (last_at order px py))) ∷ r) s m w c
-      → ((d : Machine) (m' : Memory) → OnlyAbove n b m m' → HasDatum z n b (datum.Pointer y) m' → Placed (core_in z) n None r s m' w d → Comes (core_in z) T q l d) → Comes (core_in z) T (20 + q) (1 + l) c
+      → ((d : Machine) (m' : Memory) → OnlyAbove n b m m' → HasDatum z n b (datum.Pointer y) m' → Placed (core_in z) n None r s m' w d → Comes (core_in z) T q l d) → Comes (core_in z) T (20 + q) l c
   unfolding extent
   sum_into_then order Null y by num n b px py T s w due now r m c q l there is lt same fx fy room rx ry hx hy p next =
       let null = null_moved z by y is in
@@ -115,7 +115,7 @@ module _ (z : Scene) (laws : SceneLaws z) where
       (λ before. sum_fits_at _ n b first last (there_at {A = ℕ} (λ u t. is_same_or_misses 2 (Frame n b) (Frame n t) ≡ true) order 0 0 px py fx fy) (then_at {A = ℕ} (λ u t. is_same_or_misses 2 (Frame n b) (Frame n t) ≡ true) order 0 0 px py fx fy)) (λ count. refl)
       (own_frame (core_in z).program n first 2 (there_at {A = ℕ} (λ u t. t + 2 ≤ (core_in z).program.frame_bytes n) order 0 0 px py rx ry)) (own_frame (core_in z).program n last 2 (then_at {A = ℕ} (λ u t. t + 2 ≤ (core_in z).program.frame_bytes n) order 0 0 px py rx ry))
       (there_at {A = ℕ} (λ u t. value_in int.UInt m (Frame n t) ≡ Some zero) order 0 0 px py v1 v2) (then_at {A = ℕ} (λ u t. value_in int.UInt m (Frame n t) ≡ Some zero) order 0 0 px py v1 v2)
-      (λ s' e. adds_none (extent (core_in z).program n s')) (own_frame (core_in z).program n b 2 room) (λ count. omega arith) (omega arith) p
+      (λ s' e. adds_none (extent (core_in z).program n s')) (own_frame (core_in z).program n b 2 room) (λ count. omega arith) p
       (λ d pd. next d m' (above_written n b b 2 m (core.byte_of zero) (omega arith))
       (subst (λ t. HasDatum z n b (datum.Pointer t) m') (sym null.0) (λ j few. bytes_there m n b 2 (core.byte_of zero) j few ∙ null_byte j few)) pd)
   sum_into_then order (Into o f) y by num n b px py T s w due now r m c q l there is lt same fx fy room rx ry hx hy p next =
@@ -136,19 +136,19 @@ module _ (z : Scene) (laws : SceneLaws z) where
       (λ before. sum_fits_at _ n b first last (there_at {A = ℕ} (λ u i. is_same_or_misses 2 (Frame n b) (Frame n i) ≡ true) order 0 0 px py fx fy) (then_at {A = ℕ} (λ u i. is_same_or_misses 2 (Frame n b) (Frame n i) ≡ true) order 0 0 px py fx fy)) (λ count. refl)
       (own_frame (core_in z).program n first 2 (there_at {A = ℕ} (λ u i. i + 2 ≤ (core_in z).program.frame_bytes n) order 0 0 px py rx ry)) (own_frame (core_in z).program n last 2 (then_at {A = ℕ} (λ u i. i + 2 ≤ (core_in z).program.frame_bytes n) order 0 0 px py rx ry))
       (there_at (λ u i. value_in int.UInt m (Frame n i) ≡ Some u) order (core.Pointer from_is) (core.Number (uint num)) px py v1 v2) (then_at (λ u i. value_in int.UInt m (Frame n i) ≡ Some u) order (core.Pointer from_is) (core.Number (uint num)) px py v1 v2)
-      (λ s' e. gives s') (own_frame (core_in z).program n b 2 room) (λ count. omega arith) (omega arith) p
+      (λ s' e. gives s') (own_frame (core_in z).program n b 2 room) (λ count. omega arith) p
       (λ d pd. next d m' (above_written n b b 2 m (core.byte_of result) (omega arith))
       (subst (λ i. HasDatum z n b (datum.Pointer i) m') (sym y_is) (λ j few. bytes_there m n b 2 (core.byte_of result) j few)) pd)
 
   turned_then : (one : Bool) (size : ℕ) (x y : Pointer) (q : Quantity) (n b : ℕ) (T : Machine → Type 0) (s : List Waiting) (w : World Held) (due : is_due w ≡ false) (now : arrived (core_in z).outside w ≡ w) (r : List Task) (m : Memory) (c : Machine) → nat_eq size 1 ≡ one → bytes_of q.ty ≡ 2 → IsInRange q.ty q.number → 1 ≤ size → size < 2199023255552 → PointsThere z.program x
       → moved z.program x (moved_by false size q.number) ≡ Some y → b + 4 ≤ (core_in z).program.frame_bytes n → (one ≡ false → b + 6 ≤ (core_in z).program.frame_bytes n) → HasDatum z n (b + 2) (datum.Pointer x) m → HasDatum z n b (datum.Number q) m
       → Placed (core_in z) n None (todo (if one then operator ops.Add int.UInt (Frame n b) (Frame n (b + 2)) ∷ [] else (scaled (Frame n (b + 4)) (Frame n b) size ++ code.Binary ops.Add int.UInt (Frame n b) (Frame n (b + 2)) (Frame n (b + 4)) ∷ [])) r) s m w c
-      → ((d : Machine) (m' : Memory) → OnlyAbove n b m m' → HasDatum z n b (datum.Pointer y) m' → Placed (core_in z) n None r s m' w d → Comes (core_in z) T 0 0 d) → Comes (core_in z) T 1632 1 c
+      → ((d : Machine) (m' : Memory) → OnlyAbove n b m m' → HasDatum z n b (datum.Pointer y) m' → Placed (core_in z) n None r s m' w d → Comes (core_in z) T 0 0 d) → Comes (core_in z) T 1632 0 c
   turned_then true size x y q n b T s w due now r m c one two range some few there is room far_room hx hq p next =
       let num = pattern q.ty q.number in
       let lt = few_pattern q.ty q.number two range in
       let hn : HasDatum z n b (datum.Number (uint (num * size % 65536))) m = subst (λ t. HasDatum z n b (datum.Number (uint t)) m) (one_size num size one lt) (bits_there z n b q m two range hq) in
-      comes_within (core_in z) T (20 + 0) (1 + 0) 1632 1 c
+      comes_within (core_in z) T (20 + 0) 0 1632 0 c
       (sum_into_then PointerLast x y (moved_by false size q.number) (num * size % 65536) n b (b + 2) b T s w due now r m c 0 0 there is (omega arith) (same_distance false q.ty q.number size two range)
       (apart_high n b (b + 2) (omega arith)) (itself n b 2) (omega arith) (omega arith) (omega arith) hx hn p next)
       (omega arith) (omega arith)
@@ -157,8 +157,8 @@ module _ (z : Scene) (laws : SceneLaws z) where
       let lt = few_pattern q.ty q.number two range in
       let hn = bits_there z n b q m two range hq in
       let far_in = far_room refl in
-      comes_within (core_in z) T (1612 + (20 + 0)) (1 + 0) 1632 1 c
-      (scaled_then z (core_in z) T n s w due now (laws.small n) size num (b + 4) b (Todo [] (code.Binary ops.Add int.UInt (Frame n b) (Frame n (b + 2)) (Frame n (b + 4))) ∷ r) m c (20 + 0) (1 + 0) some few lt (omega arith) (omega arith) hn
+      comes_within (core_in z) T (1612 + (20 + 0)) 0 1632 0 c
+      (scaled_then z (core_in z) T n s w due now (laws.small n) size num (b + 4) b (Todo [] (code.Binary ops.Add int.UInt (Frame n b) (Frame n (b + 2)) (Frame n (b + 4))) ∷ r) m c (20 + 0) 0 some few lt (omega arith) (omega arith) hn
       (subst (λ t. Placed (core_in z) n None t s m w c) (todo_join (scaled (Frame n (b + 4)) (Frame n b) size) (code.Binary ops.Add int.UInt (Frame n b) (Frame n (b + 2)) (Frame n (b + 4)) ∷ []) r) p)
       (λ d1 m1 above1 h1 p1.
       sum_into_then PointerFirst x y (moved_by false size q.number) (num * size % 65536) n b (b + 2) (b + 4) T s w due now r m1 d1 0 0 there is (omega arith) (same_distance false q.ty q.number size two range)
@@ -173,7 +173,7 @@ module _ (z : Scene) (laws : SceneLaws z) where
   turned_case : (o : Option Pointer) (left right : Expression) (size : ℕ) (ty : Ty) (line : ℕ) (x : Pointer) (q : Quantity) (k : List Pending) (cp : CopyOf) (l : source.Memory) (w : World value.Byte) (c : Machine) → moved z.program x (moved_by false size q.number) ≡ o → Around z cp k → is_pointer (type_of left) ≡ false → bytes_of q.ty ≡ 2 → IsInRange q.ty q.number → 1 ≤ size → size < 2199023255552 → PointsThere z.program x
       → base (ground_in z cp) k + (if nat_eq size 1 then 4 else 6) ≤ (core_in z).program.frame_bytes (number z cp) → is_due (arrived z.outside w) ≡ false
       → Mirrors z (state cp (Value (datum.Pointer x)) (In (tree.Offset ops.Add left right size ty line) (One (datum.Number q)) ∷ k) l w) c
-      → Follow z 1632 1 c (answered (pointer_or_outside o) line k cp l (arrived z.outside w))
+      → Follow z 1632 0 c (answered (pointer_or_outside o) line k cp l (arrived z.outside w))
   unfolding active
   turned_case None left right size ty line x q k cp l w c is around points two range some few there room due h = tt
   turned_case (Some y) left right size ty line x q k cp l w c is around points two range some few there room due h =
@@ -215,7 +215,7 @@ module _ (z : Scene) (laws : SceneLaws z) where
   pub turned_given : (left right : Expression) (size : ℕ) (ty : Ty) (line : ℕ) (x : Pointer) (q : Quantity) (k : List Pending) (cp : CopyOf) (l : source.Memory) (w : World value.Byte) (c : Machine) → Around z cp k → is_pointer (type_of left) ≡ false → bytes_of q.ty ≡ 2 → IsInRange q.ty q.number → 1 ≤ size → size < 2199023255552 → PointsThere z.program x
       → base (ground_in z cp) k + (if nat_eq size 1 then 4 else 6) ≤ (core_in z).program.frame_bytes (number z cp) → is_due (arrived z.outside w) ≡ false
       → Mirrors z (state cp (Value (datum.Pointer x)) (In (tree.Offset ops.Add left right size ty line) (One (datum.Number q)) ∷ k) l w) c
-      → Follow z 1632 1 c (take_in (source_in z) (tree.Offset ops.Add left right size ty line) (One (datum.Number q)) (datum.Pointer x) k cp l (arrived z.outside w))
+      → Follow z 1632 0 c (take_in (source_in z) (tree.Offset ops.Add left right size ty line) (One (datum.Number q)) (datum.Pointer x) k cp l (arrived z.outside w))
   unfolding offset_answer
   turned_given left right size ty line x q k cp l w c around points two range some few there room due h =
       turned_case (moved z.program x (distance ops.Add size q.number)) left right size ty line x q k cp l w c (ap (λ t. moved z.program x t) (sym (distance_is false size q.number))) around points two range some few there room due h

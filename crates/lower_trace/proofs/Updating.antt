@@ -183,7 +183,7 @@ module _ (z : Scene) (laws : SceneLaws z) where
       let later : R ≡ writing z g.layout.root s at (Frame g.copy b) (Frame g.copy (stored g b e)) i 0 (code_after g (In e (Stores at v) ∷ k)) =
       row_writes z g.layout.root s at (Frame g.copy b) L i (code_after g (In e (Stores at v) ∷ k)) ∙ ap (λ t. writing z g.layout.root s at (Frame g.copy b) (Frame g.copy t) i 0 (code_after g (In e (Stores at v) ∷ k))) (sym left_is) in
       subst (λ a. Follow z (78 + 10 * bytes_of o) 0 c (changes a e at false (datum.Number x) line k cp l (arrived z.outside w))) (sym (number_changed z (active cp (Value (datum.Number x)) k) op o size x y sum))
-      (comes_within (core_in z) T (24 + (24 + (10 * bytes_of o + 30 + 0))) (1 + 0) (78 + 10 * bytes_of o) 0 c
+      (comes_within (core_in z) T (24 + (24 + (10 * bytes_of o + 30 + 0))) 0 (78 + 10 * bytes_of o) 0 c
       (change_then z (core_in z) T n (stack_after z g k) W (due_below z (arrived z.outside w) due) (again_below z w) op o x y false left_at right_at kept i R c.memory c 0 0 small sum p.range yr yt le (omega arith) (omega arith) (omega arith) (omega arith) (omega arith) (omega arith) (omega arith) hx hy
       (subst (λ f. Placed (core_in z) n None f (stack_after z g k) c.memory W c) now (placed_of z (state cp (Value (datum.Number x)) (In e (AtWith at (datum.Number y)) ∷ k) l w) c h))
       (λ d m' only hr keep pd.
