@@ -1,7 +1,7 @@
 -- At lower prices a run costs less between any two moments, so it still follows what it followed.
 use Rattle.std.proofs.Common.{◌≡◌, ℕ, suc, ◌+◌, ◌≤◌, Bool, true, false, if◌then◌else◌, Option, Some, None, arith}
 use Rattle.pic_world.specs.World.{Outside, Happening, is_due}
-use Rattle.run_links.specs.Runs.{Run, Follows}
+use Rattle.run_links.specs.Runs.{Run, Follows, IsSlow}
 use Rattle.core_code.specs.Cost.{context_cost}
 use Rattle.sym_code.specs.Cost.{most_prices, instruction_cost, thread_cost, step_cost_at, cost_by}
 use Rattle.sym_code.specs.Effect.{Setting, Memory, Thread, Rest, Effect, Leaves, effect}
@@ -50,8 +50,8 @@ module _ (g : Setting) (less more : BlockName → ℕ → ℕ) (cheaper : (name 
     few_less : (n i j : ℕ) → i ≤ j → j ≤ n → few j + all i ≤ few i + all j
     few_less n = chain (λ i j. few j + all i ≤ few i + all j) n (λ i. omega arith) (λ i j l lt before. on i j before)
 
-    pub follows_cheaper : (a : Run (Happening ℕ)) (n : ℕ) → Follows (λ event. event) a (run_of g more e o t) n → Follows (λ event. event) a (run_of g less e o t) n
-    follows_cheaper a n link = record {
+    abbrev follow : (a : Run (Happening ℕ)) (n : ℕ) → Follows (λ event. event) a (run_of g more e o t) n → Follows (λ event. event) a (run_of g less e o t) n
+    follow a n link = record {
       at = link.at;
       starts = link.starts;
       rises = link.rises;
@@ -63,3 +63,8 @@ module _ (g : Setting) (less more : BlockName → ℕ → ℕ) (cheaper : (name 
           omega arith;
       rests = link.rests;
     }
+
+    pub led_cheaper : (a : Run (Happening ℕ)) (n : ℕ)
+        → (link : Follows (λ event. event) a (run_of g more e o t) n) × IsSlow (λ event. event) a (run_of g more e o t) n link
+        → (link : Follows (λ event. event) a (run_of g less e o t) n) × IsSlow (λ event. event) a (run_of g less e o t) n link
+    led_cheaper a n led = (follow a n led.0, led.1)

@@ -1,5 +1,5 @@
 -- Leaner code follows the code that was selected, at prices within its bounds.
-use Rattle.std.proofs.Common.{◌≡◌, ◌×◌, ℕ, List, refl, arith}
+use Rattle.std.proofs.Common.{◌≡◌, ℕ, List, refl, arith}
 use Rattle.std.proofs.lemmas.Option.{slice_get_within}
 use Rattle.bank_page.specs.Links.{price_in}
 use Rattle.bank_prices.specs.Prices.{AreSelected}
@@ -23,7 +23,7 @@ use Rattle.sym_code.specs.declared.code.BlockName.TheVariants.{Copy}
 use Rattle.sym_code.specs.declared.code.SymBlock.{SymBlock}
 use Rattle.program_code.specs.Passed.{IsPassed}
 use Rattle.image_links.specs.Selection.{LeanIsHad, limit_of}
-use Rattle.image_links.proofs.Cheaper.{follows_cheaper}
+use Rattle.image_links.proofs.Cheaper.{led_cheaper}
 use Rattle.image_links.proofs.Chosen.{routine_block}
 use Rattle.image_links.proofs.Laid.{frames_long, frames_whole, routine_room}
 use Rattle.image_links.proofs.Selects.{whole_same}
@@ -47,11 +47,8 @@ lean_had p copies core given made placed at passed placing =
       keeps = λ o e r m n goes.
           let g = bare_setting given made (handler_at copies) placed at (limit_of copies) in
           let h = bare_setting passed.lean made (handler_at copies) placed at (limit_of copies) in
-          let all = f.keeps (page_of made at) (limit_of copies) o e r m n goes in (
-            follows_cheaper h (price_in (block_in made)) (price_in (block_in passed.whole)) (λ name. (kept p copies core given made placed at passed).prices name) e o (sym_start h.program r m)
-                (weighed_of g f.price f.sure e o (sym_start g.program r m)) n all.0,
-            all.1,
-          );
+          led_cheaper h (price_in (block_in made)) (price_in (block_in passed.whole)) (λ name. (kept p copies core given made placed at passed).prices name) e o (sym_start h.program r m)
+          (weighed_of g f.price f.sure e o (sym_start g.program r m)) n (f.keeps (page_of made at) (limit_of copies) o e r m n goes);
       prices = λ c copy is user. f.dear placed passed.whole refl selected (frames_whole p copies placed placing) (Copy c);
       routine_prices = λ c copy h is routine.
           let lt = slice_get_within copies c copy is in
