@@ -1,3 +1,4 @@
 mod Counted
 mod Named
 pub mod Followed
+pub mod Shaped
