@@ -1,5 +1,5 @@
 -- The program of byte code that a typed program with its copies becomes: what its machine runs.
-use Rattle.std.specs.Prelude.{ℕ, Bool, true, false, not, ◌&&◌, nat_eq, List, [], Option, Some, None, is_some, map, slice_get}
+use Rattle.std.specs.Prelude.{ℕ, ◌+◌, Bool, true, false, not, ◌&&◌, nat_eq, List, [], Option, Some, None, is_some, map, slice_get}
 use Rattle.std.specs.List.{list_any}
 use Rattle.c_typed.specs.Calls.{int_helper, statements_calls}
 use Rattle.c_typed.specs.Room.{frame_size, variables_bytes}
