@@ -1,5 +1,5 @@
 -- Where `break` and `continue` lead to, as numbers of loops of the code (ISO/IEC 9899:1990, 6.6.6.2 and 6.6.6.3).
-use Rattle.std.specs.Prelude.{ℕ, ◌+◌, true, false}
+use Rattle.std.specs.Prelude.{ℕ, ◌+◌, ◌*◌, ◌^◌, ◌≤◌, true, false}
 use Rattle.lower_stmt.specs.declared.jumps.Jumps.{Jumps}
 
 -- the body of a function, in which neither stands
@@ -17,3 +17,8 @@ in_body = record { leave = 1; turn = 0; again = false }
 -- A segment of a switch with so many segments behind it, each of which is a loop round it.
 abbrev pub in_segment : Jumps → ℕ → Jumps
 in_segment j behind = record { leave = behind; turn = j.turn + (behind + 1); again = j.again }
+
+-- The numbers of loops fit below a part with so many nodes. Round a statement of a switch stand at most a loop for each case
+-- and two more, and so no more than two for each node of the switch.
+abbrev pub HasRoom : Jumps → ℕ → Type 0
+HasRoom j nodes = j.turn + 2 * nodes ≤ 2 ^ 32

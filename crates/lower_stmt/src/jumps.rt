@@ -1,9 +1,7 @@
 //! Where `break` and `continue` lead to from a statement.
 
-ghost use Rattle.std.specs.Prelude.{◌≡◌, IfOk};
+ghost use Rattle.std.specs.Prelude.{◌≡◌, ◌+◌, ◌<◌, ◌^◌};
 ghost use Rattle.lower_stmt.specs.Jumps as jumps;
-
-use std::alloc::AllocError;
 
 /// How many loops of the code stand between a statement and the loop that `break` leaves, 0 for the innermost (ISO/IEC
 /// 9899:1990, 6.6.6.3), and between it and the loop that `continue` is about (6.6.6.2). `continue` begins that loop
@@ -51,19 +49,14 @@ impl Jumps {
 
     /// Those of a segment of a switch with so many segments after it: each of them is a loop round this one, and so is
     /// the segment itself.
-    pub fn in_segment(self, behind: usize) -> Result<Jumps, AllocError>
-        ensures { IfOk result (λ inner. inner ≡ jumps.in_segment self behind) }
+    pub fn in_segment(self, behind: usize) -> Jumps
+        requires { self.turn + (behind + 1) < 2 ^ 64 }
+        ensures { result ≡ jumps.in_segment self behind }
     {
-        match behind.checked_add(1) {
-            Some(round) => match self.turn.checked_add(round) {
-                Some(turn) => Ok(Jumps {
-                    leave: behind,
-                    turn,
-                    again: self.again,
-                }),
-                None => Err(AllocError),
-            },
-            None => Err(AllocError),
+        Jumps {
+            leave: behind,
+            turn: self.turn + (behind + 1),
+            again: self.again,
         }
     }
 }

@@ -1,8 +1,9 @@
 //! The code of a whole program.
 
-ghost use Rattle.std.specs.Prelude.{◌≡◌, ◌≤◌, true, length, map, slice_get, IfOk};
+ghost use Rattle.std.specs.Prelude.{◌≡◌, ◌≤◌, ◌^◌, true, length, map, slice_get, IfOk};
 ghost use Rattle.std.specs.List.{All};
 ghost use Rattle.c_typed.specs.Sound.{is_sound};
+ghost use Rattle.c_typed.specs.TreeNodes.{nodes_of_body};
 ghost use Rattle.c_typed.specs.Views.{function_of, program_of, size_of};
 ghost use Rattle.core_code.specs.View.{trees_in};
 ghost use Rattle.lower_expr.specs.Layout.{layout_of};
@@ -45,6 +46,7 @@ fn site_of<'a>(
 // The statements of a function, and the end of its body.
 #[tactic(auto, using(std::proofs::lemmas::List::append_assoc))]
 fn body_code(site: &Site, function: &Function) -> Result<Vec<Core>, AllocError>
+    requires { nodes_of_body (function_of function.now).body ≤ 2 ^ 28 }
     ensures { IfOk result (λ code. trees_in code.items ≡ laws.body_code (ground_of site.now) (function_of function.now)) }
 {
     let mut code = Vec::new(site.alloc);
@@ -62,7 +64,8 @@ fn code_of(
     root: Root,
     function: &Function,
 ) -> Result<Vec<Core>, AllocError>
-    requires { length list.now ≤ 65536 }
+    requires copies { length list.now ≤ 65536 }
+    requires small { nodes_of_body (function_of function.now).body ≤ 2 ^ 28 }
     ensures { IfOk result (λ code. trees_in code.items ≡ laws.code_of (program_of p.now) list.now copy root (Some (function_of function.now))) }
 {
     let places = places_of(alloc, p, list, root, function)?;

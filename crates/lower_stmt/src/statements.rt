@@ -3,13 +3,15 @@
 //! Each function of the recursion has a frame of its own, hence `inline(never)`: statements nest deep, and each level
 //! takes only what one function needs.
 
-ghost use Rattle.std.specs.Prelude.{◌≡◌, ◌-◌, map, IfOk, OnOk};
+ghost use Rattle.std.specs.Prelude.{◌≡◌, ◌+◌, ◌-◌, length, map, IfOk, OnOk};
 ghost use Rattle.std.specs.Option.{option_map};
+ghost use Rattle.c_typed.specs.TreeNodes.{statement_nodes, nodes_of_body, arm_nodes, arms_nodes, last_nodes};
 ghost use Rattle.c_typed.specs.Views.{expression_of, statement_of, statements_of, arm_of, arms_of, last_arm_of};
 ghost use Rattle.core_code.specs.View.{trees_in};
 ghost use Rattle.lower_expr.specs.Puts.{Appends};
 ghost use Rattle.lower_stmt.specs.Ground.{ground_of};
 ghost use Rattle.lower_stmt.specs.Jumps as jumping;
+ghost use Rattle.lower_stmt.specs.Jumps.{HasRoom};
 ghost use Rattle.lower_stmt.specs.Nesting as nesting;
 ghost use Rattle.lower_stmt.specs.Statements as code;
 ghost use Rattle.lower_stmt.specs.Switches as switches;
@@ -102,6 +104,7 @@ fn put_statement(
     statement: &TStmt,
     out: &mut Vec<Core>,
 ) -> Result<(), AllocError>
+    requires { HasRoom jumps (statement_nodes (statement_of statement.now)) }
     ensures { OnOk result (Appends out.old.items out.new.items (code.stmt_code (ground_of site.now) jumps (statement_of statement.now))) }
 {
     match statement {
@@ -155,6 +158,7 @@ pub fn put_statements(
     statements: &[TStmt],
     out: &mut Vec<Core>,
 ) -> Result<(), AllocError>
+    requires { HasRoom jumps (nodes_of_body (statements_of (map statement_of statements.now))) }
     ensures { OnOk result (Appends out.old.items out.new.items (code.stmts_code (ground_of site.now) jumps (statements_of (map statement_of statements.now)))) }
 {
     for statement in statements {
@@ -174,6 +178,7 @@ fn put_arm(
     otherwise: Vec<Core>,
     out: &mut Vec<Core>,
 ) -> Result<(), AllocError>
+    requires { HasRoom jumps (arm_nodes (arm_of arm.now)) }
     ensures { OnOk result (Appends out.old.items out.new.items (code.arm_code (ground_of site.now) jumps (arm_of arm.now) (trees_in otherwise.items))) }
 {
     put_value(site, &arm.condition, out)?;
@@ -198,6 +203,7 @@ fn put_last(
     otherwise: &Option<Box<TStmt>>,
     out: &mut Vec<Core>,
 ) -> Result<(), AllocError>
+    requires { HasRoom jumps (last_nodes (last_arm_of otherwise.now)) }
     ensures { OnOk result (Appends out.old.items out.new.items (code.last_code (ground_of site.now) jumps (last_arm_of otherwise.now))) }
 {
     match otherwise {
@@ -217,6 +223,7 @@ fn put_arms(
     last: Vec<Core>,
     out: &mut Vec<Core>,
 ) -> Result<(), AllocError>
+    requires { HasRoom jumps (arms_nodes (arms_of (map arm_of arms.now))) }
     ensures { OnOk result (Appends out.old.items out.new.items (code.arms_code (ground_of site.now) jumps (trees_in last.items) (arms_of (map arm_of arms.now)))) }
 {
     let mut rest = last;
@@ -236,6 +243,7 @@ fn put_arms(
 #[inline(never)]
 #[tactic(auto, using(core_code::proofs::Views::tree_exit, std::proofs::lemmas::List::append_assoc))]
 fn put_body(site: &Site, body: &TStmt, out: &mut Vec<Core>) -> Result<(), AllocError>
+    requires { HasRoom jumping.in_body (statement_nodes (statement_of body.now)) }
     ensures { OnOk result (Appends out.old.items out.new.items (code.once (code.stmt_code (ground_of site.now) jumping.in_body (statement_of body.now)))) }
 {
     let mut once = Vec::new(site.alloc);
@@ -253,6 +261,7 @@ fn put_while(
     body: &TStmt,
     out: &mut Vec<Core>,
 ) -> Result<(), AllocError>
+    requires { HasRoom jumping.in_while (statement_nodes (statement_of body.now)) }
     ensures { OnOk result (Appends out.old.items out.new.items (code.while_code (ground_of site.now) (option_map expression_of condition.now) (code.stmt_code (ground_of site.now) jumping.in_while (statement_of body.now)))) }
 {
     let mut turn = Vec::new(site.alloc);
@@ -270,6 +279,7 @@ fn put_do(
     body: &TStmt,
     out: &mut Vec<Core>,
 ) -> Result<(), AllocError>
+    requires { HasRoom jumping.in_body (statement_nodes (statement_of body.now)) }
     ensures { OnOk result (Appends out.old.items out.new.items (code.do_code (ground_of site.now) (option_map expression_of condition.now) (code.stmt_code (ground_of site.now) jumping.in_body (statement_of body.now)))) }
 {
     let mut turn = Vec::new(site.alloc);
@@ -289,6 +299,7 @@ fn put_for(
     body: &TStmt,
     out: &mut Vec<Core>,
 ) -> Result<(), AllocError>
+    requires { HasRoom jumping.in_body (statement_nodes (statement_of body.now)) }
     ensures { OnOk result (Appends out.old.items out.new.items (code.for_code (ground_of site.now) (option_map expression_of begin.now) (option_map expression_of condition.now) (option_map expression_of step.now) (code.stmt_code (ground_of site.now) jumping.in_body (statement_of body.now)))) }
 {
     put_any(site, begin, out)?;
@@ -310,12 +321,13 @@ fn put_reached(
     statement: &TStmt,
     out: &mut Vec<Core>,
 ) -> Result<(), AllocError>
+    requires { HasRoom (jumping.in_segment jumps behind) (statement_nodes (statement_of statement.now)) }
     ensures { OnOk result (Appends out.old.items out.new.items (nesting.reached begun (code.stmt_code (ground_of site.now) (jumping.in_segment jumps behind) (statement_of statement.now)))) }
 {
     if begun == 0 {
         Ok(())
     } else {
-        put_statement(site, jumps.in_segment(behind)?, statement, out)
+        put_statement(site, jumps.in_segment(behind), statement, out)
     }
 }
 
@@ -353,6 +365,7 @@ fn put_switch(
     default: Option<u32>,
     out: &mut Vec<Core>,
 ) -> Result<(), AllocError>
+    requires { HasRoom jumps (1 + length cases.now + nodes_of_body (statements_of (map statement_of statements.now))) }
     ensures { OnOk result (Appends out.old.items out.new.items (code.switch_code (ground_of site.now) jumps (expression_of value.now) cases.now default (statements_of (map statement_of statements.now)))) }
 {
     put_value(site, value, out)?;

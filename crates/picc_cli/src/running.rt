@@ -1,6 +1,6 @@
 //! The run of a program by the source machine, with its events as printed lines.
 
-ghost use Rattle.std.specs.Prelude.{ℕ, ◌≡◌, ◌<◌, ◌^◌, ◌+◌, ◌⊎◌, ◌++◌, false, map, option_map, IsTrue, IfSome, IfNone, OnOk, OnErr};
+ghost use Rattle.std.specs.Prelude.{ℕ, ◌≡◌, ◌<◌, ◌≤◌, ◌^◌, ◌+◌, ◌⊎◌, ◌++◌, false, length, map, option_map, IsTrue, IfSome, IfNone, OnOk, OnErr};
 ghost use Rattle.c_typed.specs.Views.{program_of};
 ghost use Rattle.call_graph.specs.Copies.{AreCopies};
 ghost use Rattle.host_io.specs.Host.{HasCause, NoFailure, PrintsPrefix};
@@ -24,13 +24,14 @@ use picc_core::Front;
 use src_machine::{Source, SrcEnd};
 use std::alloc::Global;
 
-/// Runs a program for at most so many steps, and prints the line of each event as it comes. No program that is placed has
-/// more than 65,536 static objects.
+/// Runs a program for at most so many steps, and prints the line of each event as it comes.
 #[tactic(auto, using(crate::proofs::TracedRun::run_never))]
 pub fn run<H: Host>(alloc: Global, host: &mut H, known: Front, script: &Script, steps: u32) -> Ended
     requires copies { AreCopies (program_of known.typed) known.copies.list.items }
     requires placed { IsPlacing (program_of known.typed) known.copies.list.items (map object_of known.placed.objects.items) (map frame_of known.placed.frames.items) }
     requires given { IsGiven (setting_by known.typed script.now) }
+    // An event tells an object's number in 16 bits.
+    requires few { length known.typed.statics.items ≤ 65536 }
     ensures same_file { H.open_file host.new ≡ H.open_file host.old }
     ensures same_contents { H.contents host.new ≡ H.contents host.old }
     ensures same_kind { H.kind host.new ≡ H.kind host.old }
@@ -42,9 +43,6 @@ pub fn run<H: Host>(alloc: Global, host: &mut H, known: Front, script: &Script, 
     ensures ran { (s : Setting) → s.program ≡ program_of known.typed → s.outside ≡ outside_by script.now → IsGiven s → Ran s (map_of (map object_of known.placed.objects.items) (map frame_of known.placed.frames.items)) steps result (H.printed host.old) (H.printed host.new) }
 {
     let Front { typed, placed, .. } = known;
-    if typed.statics.len() > 65_536 {
-        return Ended::NoMemory;
-    }
     let map = Map {
         main: 0,
         halt: 0,

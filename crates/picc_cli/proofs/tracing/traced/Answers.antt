@@ -1,4 +1,4 @@
-use Rattle.std.proofs.Common.{ℕ, ◌<◌, List, ◌∙◌, subst}
+use Rattle.std.proofs.Common.{ℕ, ◌<◌, List, ◌∙◌, subst, arith}
 use Rattle.std.specs.List.{All}
 use Rattle.picc_cli.specs.CommandView.{asked_of}
 use Rattle.picc_cli.proofs.TraceFiles.{run_known, refused_known}
@@ -15,6 +15,9 @@ returns-clause-knows g c =
     let tells = rw c.in-Err-Refused.field-0-is at c.in-Err-Refused.ensures.refused in
     refused_known (asked_of c.args.asked) _ _ _ _ c.in-Err-Refused.refusal _ _ c.in-Ok.ensures.bytes c.in-Ok.ensures.same_contents c.in-Ok-script_in.ensures.found
     c.deref.ensures.value tells c.in-Err-Refused.refusal-is
+
+pub run-requires-clause-few : goal.run-requires-clause-few
+run-requires-clause-few g c = let few = c.in-Ok-front.ensures.founded.few in omega (arith, few)
 
 pub run-requires-clause-given : goal.run-requires-clause-given
 run-requires-clause-given g c = record {
