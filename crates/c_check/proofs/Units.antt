@@ -1,6 +1,6 @@
 -- Functions and units: the names that a unit defines, parameters, bodies and the typed program.
-use Rattle.std.proofs.Common.{◌≡◌, ℕ, suc, ◌+◌, ◌<◌, ◌≤◌, Bool, true, false, ◌||◌, if◌then◌else◌, List, [], ◌∷◌, ◌++◌, map, length, drop, get_or, Option, Some, None, Result, Ok, Err, refl, sym, ap, subst, ◌∙◌, append-nil, append_assoc, bytes_eq, Vec, Global, arith}
-use Rattle.std.proofs.lemmas.List.{length-map, map-append}
+use Rattle.std.proofs.Common.{◌≡◌, ℕ, ◌+◌, ◌<◌, ◌≤◌, Bool, true, false, ◌||◌, if◌then◌else◌, List, [], ◌∷◌, ◌++◌, map, length, drop, get_or, Result, Ok, Err, refl, sym, ap, subst, ◌∙◌, append-nil, append_assoc, bytes_eq, Vec, Global, arith}
+use Rattle.std.proofs.lemmas.List.{map-append}
 use Rattle.std.specs.List.{list_any}
 use Rattle.std.specs.Prelude.{◌^◌}
 use Rattle.indexmap.specs.IndexSet.{insert_key}
@@ -37,7 +37,7 @@ use Rattle.sound_types.proofs.Units.{judged_sound}
 use Rattle.typed_size.specs.Sizes.{size_of}
 use Rattle.typed_size.proofs.Counts.{size_counts}
 use Rattle.typed_size.proofs.Units.{judged_bounded}
-use Rattle.c_operate.specs.Answers.{Learns, Refuses}
+use Rattle.c_operate.specs.Answers.{Refuses}
 use Rattle.c_operate.specs.Tables.{known_of}
 use Rattle.c_operate.specs.declared.checker.Checker.{Checker}
 use Rattle.c_operate.specs.declared.error.CheckError.{CheckError}
