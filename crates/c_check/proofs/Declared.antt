@@ -1,11 +1,11 @@
 -- Declarations of functions and objects, and the loops over declarators.
-use Rattle.std.proofs.Common.{◌≡◌, ℕ, Bool, true, false, not, ◌&&◌, ◌||◌, if◌then◌else◌, List, [], ◌∷◌, ◌++◌, map, slice_get, Option, Some, None, is_some, Result, Ok, Err, refl, sym, ap, subst, ◌∙◌}
-use Rattle.c_tree.specs.Programs.{BegunTree, DeclarationTree, DeclaredTrees, InitTree}
+use Rattle.std.proofs.Common.{◌≡◌, ℕ, Bool, true, false, not, ◌||◌, List, [], ◌∷◌, ◌++◌, slice_get, Option, Some, None, is_some, Result, Ok, Err, refl, sym, ap, subst, ◌∙◌}
+use Rattle.c_tree.specs.Programs.{BegunTree, DeclarationTree, InitTree}
 use Rattle.c_typed.specs.Trees.{Statement}
 use Rattle.c_typed.specs.declared.types.Qualified.{Qualified}
 use Rattle.c_typed.specs.declared.types.Ty.{Ty}
 use Rattle.type_rules.specs.Declarations as rule
-use Rattle.type_rules.specs.Declarators.{Context, in_block, in_file, line_in, name_in, outline_of, specified}
+use Rattle.type_rules.specs.Declarators.{Context, in_file, line_in, name_in, outline_of, specified}
 use Rattle.type_rules.specs.Faults as kind
 use Rattle.type_rules.specs.Faults.{Fault}
 use Rattle.type_rules.specs.Known.{Binding, ObjectName, BitName, FunctionName, TypeNamed, EnumeratorName, Known, Rule, given, known_here, tried, go_on, ◌>>=◌}

@@ -1,22 +1,18 @@
 -- The loops over statements, arms, labels and declarations, one element more at a time.
-use Rattle.std.proofs.Common.{◌≡◌, ℕ, ◌+◌, ◌<◌, ◌≤◌, Bool, true, false, List, [], ◌∷◌, ◌++◌, map, length, drop, get_or, Option, Some, None, Result, Ok, Err, refl, sym, ap, subst, ◌∙◌, append-nil, append_assoc, drop_of_length-le}
+use Rattle.std.proofs.Common.{◌≡◌, ℕ, ◌+◌, List, [], ◌∷◌, ◌++◌, Some, None, Result, Ok, Err, refl, sym, ap, subst, ◌∙◌, append_assoc}
 use Rattle.c_ints.specs.declared.types.IntTy.{IntTy}
-use Rattle.c_tree.specs.ProgramViews as views
 use Rattle.c_tree.specs.Programs as tree
-use Rattle.c_tree.specs.Programs.{ArmTree, Arms, BegunTree, BlockTree, DeclarationTree, Items, Statements, StatementTree}
+use Rattle.c_tree.specs.Programs.{ArmTree, Arms, BlockTree, DeclarationTree, Items, Statements, StatementTree}
 use Rattle.c_tree.specs.declared.statement.Statement.{Statement}
-use Rattle.c_tree.specs.declared.statement.SwitchItem.{SwitchItem}
 use Rattle.c_typed.specs.Trees as typed
 use Rattle.type_rules.specs.Declarations as declarations
 use Rattle.type_rules.specs.Faults.{Fault}
-use Rattle.type_rules.specs.Known.{Known, Rule, given, go_on, ◌>>=◌}
-use Rattle.type_rules.specs.Specifiers.{Specified}
+use Rattle.type_rules.specs.Known.{Known, given, go_on, ◌>>=◌}
 use Rattle.type_rules.specs.Statements as rule
 use Rattle.c_operate.specs.Answers.{Refuses}
 use Rattle.c_operate.specs.declared.error.CheckError.{CheckError}
-use Rattle.c_operate.specs.declared.error.CheckError.TheVariants as errors
-use Rattle.c_check.specs.StatementViews.{behind, block_list, arms_behind, chain_arms}
-use Rattle.c_check.proofs.Lists.{passes_on, rest_is}
+use Rattle.c_check.specs.StatementViews.{behind, block_list, arms_behind}
+use Rattle.c_check.proofs.Lists.{passes_on}
 
 -- ---- statements
 

@@ -1,17 +1,15 @@
 -- The labels of a switch, and the numbers of those that were seen.
-use Rattle.std.proofs.Common.{◌≡◌, ℕ, ◌^◌, ◌-◌, ℤ, pos, negsuc, ◌≤ℤ◌, ◌<ℤ◌, to_z, of_z, w64, Bool, true, false, not, ◌||◌, List, [], ◌∷◌, ◌++◌, map, length, Result, Ok, Err, if◌then◌else◌, int_eq, refl, sym, ap, ◌∙◌, subst, arith}
+use Rattle.std.proofs.Common.{◌≡◌, ℕ, ◌^◌, ◌-◌, ℤ, pos, negsuc, ◌≤ℤ◌, ◌<ℤ◌, to_z, of_z, w64, Bool, true, false, not, ◌||◌, List, [], ◌∷◌, ◌++◌, map, Ok, Err, if◌then◌else◌, int_eq, refl, sym, ap, ◌∙◌, arith}
 use Rattle.std.proofs.lemmas.Int.{ints, to_z-of_z}
-use Rattle.std.proofs.lemmas.List.{map-append, length-map}
+use Rattle.std.proofs.lemmas.List.{map-append}
 use Rattle.std.specs.List.{list_any}
 use Rattle.c_ints.specs.Operators.{cut_to}
 use Rattle.c_ints.specs.Quantity.{Quantity}
 use Rattle.c_ints.specs.declared.types.IntTy.{IntTy}
 use Rattle.c_tree.specs.Trees.{Tree}
-use Rattle.c_typed.specs.Views.{statement_of}
 use Rattle.c_typed.specs.declared.statement.TCase.{TCase}
 use Rattle.type_rules.specs.Constants.{constant_value}
 use Rattle.type_rules.specs.Faults as kind
-use Rattle.type_rules.specs.Faults.{Fault}
 use Rattle.type_rules.specs.Known.{Known, Rule, given, tried, go_on, ◌>>=◌}
 use Rattle.type_rules.specs.Statements as rule
 use Rattle.c_check.specs.StatementViews.{case_rule}

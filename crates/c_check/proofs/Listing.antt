@@ -114,6 +114,9 @@ one_counted others i x n m whole h is step so_far =
     let e : items_in (left others i) ≡ suc (items_in (left others (i + 1))) = ap items_in (first_left others i x h is) in
     omega (arith, step, so_far, e)
 
+pub one_behind : (n i : ℕ) → n ≡ 1 + i → n + 1 ≡ 1 + (i + 1)
+one_behind n i h = omega (arith, h)
+
 pub all_counted : (others : List NextInit) (i n whole : ℕ) → length others ≤ i → n + items_in (left others i) ≡ whole → n ≡ whole
 all_counted others i n whole h so_far =
     let e : items_in (left others i) ≡ 0 = ap (λ xs. items_in (more_inits (map next_init_of xs))) (drop_all i others h) in

@@ -1,7 +1,9 @@
 -- The rules of objects, path by path: their types, static objects, locals.
-use Rattle.std.proofs.Common.{◌≡◌, ℕ, Bool, true, false, not, ◌&&◌, ◌||◌, nat_lt, List, [], ◌∷◌, map, Option, Some, None, Result, Ok, Err, sym, ap, subst, ◌∙◌, Vec, Global}
+use Rattle.std.proofs.Common.{◌≡◌, ℕ, ◌*◌, Bool, true, false, not, ◌&&◌, ◌||◌, nat_le, nat_lt, List, [], ◌∷◌, map, Option, Some, None, Result, Ok, Err, sym, ap, subst, ◌∙◌, Vec, Global}
+use Rattle.std.proofs.lemmas.Bool.{lt-leb, ltb-true}
 use Rattle.c_tree.specs.Programs.{InitTree}
 use Rattle.c_typed.specs.Sameness.{is_array}
+use Rattle.c_typed.specs.Sound.{kept}
 use Rattle.c_typed.specs.Trees as typed
 use Rattle.c_typed.specs.Trees.{Statement}
 use Rattle.c_typed.specs.Views.{statement_of}
@@ -9,6 +11,7 @@ use Rattle.c_typed.specs.declared.expression.Object.TheVariants as object
 use Rattle.c_typed.specs.declared.program.Initial.{Initial}
 use Rattle.c_typed.specs.declared.statement.TStmt.{TStmt}
 use Rattle.c_typed.specs.declared.types.Qualified.{Qualified}
+use Rattle.c_typed.specs.declared.types.Ty.TheVariants.{Array}
 use Rattle.type_rules.specs.Faults as kind
 use Rattle.type_rules.specs.Faults.{Fault}
 use Rattle.type_rules.specs.Known.{ObjectName, Known, Rule, go_on, given, tried, ◌>>=◌}
@@ -17,7 +20,7 @@ use Rattle.type_rules.specs.Names.{bind}
 use Rattle.type_rules.specs.Objects as rule
 use Rattle.type_rules.specs.Objects.{whole_slot}
 use Rattle.type_rules.specs.Outlines.{Outline, ObjectDeclared, is_function, object_type}
-use Rattle.type_rules.specs.Rows.{like, target_of, array_of, bytes_of, is_complete}
+use Rattle.type_rules.specs.Rows.{plain, like, place_of_row, with_row, target_of, array_of, bytes_of, is_complete}
 use Rattle.type_rules.specs.Slots.{Slot, Begun, nothing_begun}
 use Rattle.type_rules.specs.Specifiers.{Specified}
 use Rattle.c_operate.specs.Answers.{Answers, Learns, Refuses}
@@ -84,6 +87,19 @@ module _ (ty : Qualified) (row n line : ℕ) (count : Option ℕ) (element targe
       refused_as (λ t. t) result after (rule.closed_array ty row count line known) (errors.Kind kinds.Size line) answer
       (closed_from ∙ ap (go_on (λ w. behind_whole w n line)) given_whole
       ∙ ap (go_on (λ _. given whole)) (tried_true (not (rule.sized after whole n)) kind.Size [] line after (ap not (sym tested ∙ so))))
+
+too_many : (n : ℕ) → nat_lt 65535 n ≡ true → nat_le n 65535 ≡ false
+too_many n h = lt-leb n 65535 (ltb-true 65535 n h)
+
+-- No array has so many elements.
+pub closed_long : (ty : Qualified) (row n line : ℕ) (count : Option ℕ) (known end : Known) (long : Bool) (result : Result Qualified CheckError) → count ≡ Some n → long ≡ nat_lt 65535 n → long ≡ true → result ≡ Err (errors.Kind kinds.Size line) → Answers (λ t. t) result end (rule.closed_array ty row count line known)
+closed_long ty row n line count known end long result is tested so answer =
+    let element : Qualified = like ty (target_of known row).ty in
+    let whole : Qualified = like element (Array (place_of_row known.targets (plain element.ty)) n (kept (n * bytes_of known element.ty))) in
+    let after : Known = record known { targets = with_row known.targets (plain element.ty) } in
+    refused_as (λ t. t) result end (rule.closed_array ty row count line known) (errors.Kind kinds.Size line) answer
+    (ap (λ c. rule.closed_array ty row c line known) is
+    ∙ ap (go_on (λ _. given whole)) (tried_true (not (rule.sized after whole n)) kind.Size [] line after (ap (λ w. not (w && nat_le (bytes_of after whole.ty) 65535)) (too_many n (sym tested ∙ so)))))
 
 -- ---- static objects
 

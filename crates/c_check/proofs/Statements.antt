@@ -1,5 +1,5 @@
 -- What the rules say of each kind of statement, as the checker's functions answer it.
-use Rattle.std.proofs.Common.{◌≡◌, ℕ, List, [], ◌∷◌, ◌++◌, map, Option, Some, None, Result, Ok, Err, refl, sym, ap, ◌∙◌}
+use Rattle.std.proofs.Common.{◌≡◌, ℕ, List, [], ◌∷◌, ◌++◌, map, Option, Some, None, Result, Ok, Err, refl, ap, ◌∙◌}
 use Rattle.c_ints.specs.Conversions.{promoted}
 use Rattle.c_ints.specs.declared.types.IntTy.{IntTy}
 use Rattle.c_tree.proofs.ProgramShapes as shapes
@@ -19,7 +19,7 @@ use Rattle.type_rules.specs.Declarations.{block_declarations}
 use Rattle.type_rules.specs.Expressions.{value_of}
 use Rattle.type_rules.specs.Faults as kind
 use Rattle.type_rules.specs.Faults.{Fault}
-use Rattle.type_rules.specs.Known.{Known, Rule, given, wanted, go_on, ◌>>=◌}
+use Rattle.type_rules.specs.Known.{Known, given, wanted, go_on, ◌>>=◌}
 use Rattle.type_rules.specs.Names.{leave}
 use Rattle.type_rules.specs.Statements as rule
 use Rattle.type_rules.specs.Terms.{Operand}

@@ -1,14 +1,15 @@
 -- Functions and units: the names that a unit defines, parameters, bodies and the typed program.
-use Rattle.std.proofs.Common.{◌≡◌, ℕ, suc, ◌+◌, ◌<◌, ◌≤◌, Bool, true, false, ◌||◌, if◌then◌else◌, List, [], ◌∷◌, ◌++◌, map, length, drop, get_or, Option, Some, None, Result, Ok, Err, refl, sym, ap, subst, ◌∙◌, append-nil, append_assoc, bytes_eq, Vec, Global, arith}
+use Rattle.std.proofs.Common.{◌≡◌, ℕ, ◌+◌, ◌<◌, ◌≤◌, Bool, true, false, ◌||◌, if◌then◌else◌, List, [], ◌∷◌, ◌++◌, map, length, drop, get_or, Result, Ok, Err, refl, sym, ap, subst, ◌∙◌, append-nil, append_assoc, length-append, bytes_eq, Vec, Global, arith}
 use Rattle.std.proofs.lemmas.List.{length-map, map-append}
 use Rattle.std.specs.List.{list_any}
 use Rattle.std.specs.Prelude.{◌^◌}
 use Rattle.indexmap.specs.IndexSet.{insert_key}
 use Rattle.c_tree.specs.ProgramViews.{block_of, declaration_of, item_of}
 use Rattle.c_tree.specs.Programs as tree
-use Rattle.c_tree.specs.Programs.{BlockTree, DeclarationTree, ItemTree, spelled_unit}
-use Rattle.c_tree.specs.Trees.{DeclaratorTree, SpecTrees}
+use Rattle.c_tree.specs.Programs.{BlockTree, DeclarationTree, ItemTree, spelled_block, spelled_declaration, spelled_unit}
+use Rattle.c_tree.specs.Trees.{DeclaratorTree, SpecTrees, spelled_declarator, spelled_specs}
 use Rattle.c_tree.specs.Views.{declarator_of, specs_of}
+use Rattle.c_tree.specs.Words.{Symbols}
 use Rattle.c_tree.specs.declared.statement.Declaration.{Declaration}
 use Rattle.c_tree.specs.declared.statement.Function as code
 use Rattle.c_tree.specs.declared.statement.Item.{Item}
@@ -26,6 +27,7 @@ use Rattle.c_typed.specs.declared.types.Structure.{Structure}
 use Rattle.c_typed.specs.declared.types.Qualified.{Qualified}
 use Rattle.c_typed.specs.declared.types.Ty.{Ty}
 use Rattle.type_rules.specs.Declarations.{block_declarations, file_declaration}
+use Rattle.type_rules.specs.Declarators.{name_in}
 use Rattle.type_rules.specs.Faults.{Fault}
 use Rattle.type_rules.specs.Known.{Scope, Shape, Known, Rule, given, known_first, known_here, go_on, ◌>>=◌}
 use Rattle.type_rules.specs.Names.{enter_with, leave}
@@ -37,7 +39,7 @@ use Rattle.sound_types.proofs.Units.{judged_sound}
 use Rattle.typed_size.specs.Sizes.{size_of}
 use Rattle.typed_size.proofs.Counts.{size_counts}
 use Rattle.typed_size.proofs.Units.{judged_bounded}
-use Rattle.c_operate.specs.Answers.{Learns, Refuses}
+use Rattle.c_operate.specs.Answers.{Refuses}
 use Rattle.c_operate.specs.Tables.{known_of}
 use Rattle.c_operate.specs.declared.checker.Checker.{Checker}
 use Rattle.c_operate.specs.declared.error.CheckError.{CheckError}
@@ -69,6 +71,31 @@ pub name_added : (old new : List (Vec ℕ Global)) (k : Vec ℕ Global) (name : 
 name_added old new k name is put =
     let names : List (Vec ℕ Global) → List (List ℕ) = map (λ (n : Vec ℕ Global). n.items) in
     ap names put ∙ name_put (λ (n : Vec ℕ Global). n.items) old k ∙ ap (λ n. rule.with_name n (names old)) is
+
+-- A unit defines no more functions than it has tokens.
+one_named_by : (known : Bool) (name : List ℕ) (names : List (List ℕ)) → length (if known then names else names ++ name ∷ []) ≤ length names + 1
+one_named_by true name names = omega arith
+one_named_by false name names = omega (arith, length-append names (name ∷ []))
+
+one_named : (name : List ℕ) (names : List (List ℕ)) → length (rule.with_name name names) ≤ length names + 1
+one_named name names = one_named_by (rule.is_among name names) name names
+
+defined_few : (unit : List ItemTree) (names : List (List ℕ)) → length (rule.defined_in unit names) ≤ length names + length (spelled_unit unit)
+defined_few [] names = omega arith
+defined_few (tree.Function s d (tree.Block line ds ss closing) ∷ is) names =
+    let here : Symbols = spelled_block (tree.Block line ds ss closing) in
+    let rest = defined_few is (rule.with_name (name_in d) names) in
+    let one = one_named (name_in d) names in
+    omega (arith, rest, one, length-append (spelled_specs s ++ (spelled_declarator d ++ here)) (spelled_unit is), length-append (spelled_specs s) (spelled_declarator d ++ here), length-append (spelled_declarator d) here)
+defined_few (tree.Declaration d ∷ is) names =
+    let rest = defined_few is names in
+    omega (arith, rest, length-append (spelled_declaration d) (spelled_unit is))
+
+pub names_few : (unit : List ItemTree) (names : List (Vec ℕ Global)) → map (λ (n : Vec ℕ Global). n.items) names ≡ rule.defined_in unit [] → length (spelled_unit unit) ≤ 262144 → length names ≤ 262144
+names_few unit names is few =
+    let counted : length (map (λ (n : Vec ℕ Global). n.items) names) ≡ length (rule.defined_in unit []) = ap length is in
+    let most = defined_few unit [] in
+    omega (arith, counted, most, few, length-map names (λ (n : Vec ℕ Global). n.items))
 
 -- ---- parameters as variables, one more
 

@@ -1,6 +1,6 @@
 //! Initializers, from the tree's root down (ISO/IEC 9899:1990, 6.5.7).
 
-ghost use Rattle.std.specs.Prelude.{◌≡◌, ◌+◌, false, map, IfErr, IfOk};
+ghost use Rattle.std.specs.Prelude.{◌≡◌, ◌+◌, false, map, IfOk};
 ghost use Rattle.c_tree.specs.ProgramViews.{init_of, more_inits, next_init_of};
 ghost use Rattle.c_tree.specs.Views.{assign_of};
 ghost use Rattle.type_rules.specs.Expressions.{value_of};
@@ -10,7 +10,6 @@ ghost use Rattle.type_rules.specs.Slots.{nothing_begun};
 ghost use Rattle.c_operate.specs.Answers.{Answers};
 ghost use Rattle.c_operate.specs.Tables.{known_of, types_in};
 ghost use Rattle.c_operate.specs.Terms.{operand_of};
-ghost use Rattle.c_operate.specs.declared.error.CheckError.TheVariants.{NoMemory};
 ghost use Rattle.c_check.specs.Views.{any_slot, begun_of, list_closed};
 
 use crate::parts::{put_text, put_value};
@@ -86,34 +85,24 @@ fn items(
     checker: &mut Checker,
     slot: Option<Slot>,
     sink: &mut Sink,
-) -> Result<u32, CheckError>
+) -> Result<usize, CheckError>
     ensures begun { Answers (λ _. begun_of sink.new) result (known_of checker.new) (rule.more_begins (more_inits (map next_init_of others.now)) (any_slot slot) 1 (begun_of sink.old) (known_of checker.old)) }
     ensures count { IfOk result (λ n. n ≡ 1 + rule.items_in (more_inits (map next_init_of others.now))) }
 {
-    let mut count: u32 = 1;
+    let mut count: usize = 1;
     for next in others {
         let part = part(&checker.types, slot, count)?;
         initialize(&next.init, checker, part, true, sink)?;
-        count = one_more(count)?;
+        count += 1;
     }
     Ok(count)
-}
-
-fn one_more(count: u32) -> Result<u32, CheckError>
-    ensures ok { IfOk result (λ n. n ≡ count + 1) }
-    ensures err { IfErr result (λ e. e ≡ NoMemory) }
-{
-    match count.checked_add(1) {
-        Some(next) => Ok(next),
-        None => Err(CheckError::NoMemory),
-    }
 }
 
 // Ends a list of so many items, whose opening bracket stands on this line.
 fn close_list(
     types: &Types,
     slot: Option<Slot>,
-    count: u32,
+    count: usize,
     sink: &mut Sink,
     line: u32,
 ) -> Result<(), CheckError>

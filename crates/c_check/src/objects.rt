@@ -86,7 +86,14 @@ pub(crate) fn object_type(
     Ok(ty)
 }
 
-fn is_sized(types: &Types, whole: Qualified, length: u32) -> bool
+// Whether no array has so many elements.
+fn is_long(length: usize) -> bool
+    ensures { result ≡ nat_lt 65535 length }
+{
+    MOST < length as u64
+}
+
+fn is_sized(types: &Types, whole: Qualified, length: usize) -> bool
     ensures { (known : Known) → result ≡ rule.sized (types_in types.now known) whole length }
 {
     let bytes = types.bytes_of(whole.ty);
@@ -98,7 +105,7 @@ fn closed_array(
     types: &mut Types,
     ty: Qualified,
     row: u32,
-    length: Option<u32>,
+    length: Option<usize>,
     line: u32,
 ) -> Result<Qualified, CheckError>
     ensures { (known : Known) → Answers (λ ty. ty) result (types_in types.new known) (rule.closed_array ty row length line (types_in types.old known)) }
@@ -106,8 +113,11 @@ fn closed_array(
     let Some(length) = length else {
         return refused(Kind::Initializer, line);
     };
+    if is_long(length) {
+        return refused(Kind::Size, line);
+    }
     let element = like(ty, types.target(row).ty);
-    let whole = types.array_of(element, length)?;
+    let whole = types.array_of(element, length as u32)?;
     if is_sized(types, whole, length) {
         Ok(whole)
     } else {
@@ -119,7 +129,7 @@ fn closed_array(
 fn closed(
     types: &mut Types,
     ty: Qualified,
-    length: Option<u32>,
+    length: Option<usize>,
     line: u32,
 ) -> Result<Qualified, CheckError>
     ensures { (known : Known) → Answers (λ ty. ty) result (types_in types.new known) (rule.closed ty length line (types_in types.old known)) }

@@ -1,6 +1,7 @@
 //! What an initializer gives to a part of an object (ISO/IEC 9899:1990, 6.5.7).
 
 ghost use Rattle.std.specs.Prelude.{◌≡◌, ℕ, ◌+◌, ◌++◌, pos, IfErr, IfOk, OnOk};
+ghost use Rattle.std.specs.Prelude as list;
 ghost use Rattle.c_ints.specs.Range as range;
 ghost use Rattle.c_tree.specs.Words.{quoted};
 ghost use Rattle.c_typed.specs.Views.{expression_of, item_of, place_of};
@@ -19,7 +20,7 @@ use crate::types::is_char;
 use c_ints::{IntTy, Value};
 use c_operate::checker::Checker;
 use c_operate::conversion::{assigned, is_assignable};
-use c_operate::error::{CheckError, Kind, number, refused};
+use c_operate::error::{CheckError, Kind, refused};
 use c_operate::term::{Operand, read_from};
 use c_operate::types::Types;
 use c_tree::word::Text;
@@ -361,22 +362,19 @@ fn refused_text(slot: Slot, inside: bool, sink: &Sink, line: u32) -> Result<(), 
     }
 }
 
-// How many bytes of an array a string of so many characters gives. It may leave out its end 0; an array without a length
+// How many bytes of an array a string of these characters gives. It may leave out its end 0; an array without a length
 // has it.
-fn text_size(length: u32, count: u32) -> Result<u32, CheckError>
-    ensures ok { IfOk result (λ n. n ≡ rule.text_size length count) }
-    ensures err { IfErr result (λ e. e ≡ NoMemory) }
+fn text_size(length: u32, text: &[u8]) -> usize
+    ensures { result ≡ rule.text_size length (list.length text.now) }
 {
-    if length != 0 {
-        return Ok(length);
-    }
-    match count.checked_add(1) {
-        Some(size) => Ok(size),
-        None => Err(CheckError::NoMemory),
+    if length == 0 {
+        text.len() + 1
+    } else {
+        length as usize
     }
 }
 
-fn count_characters(length: u32, size: u32, sink: &mut Sink)
+fn count_characters(length: u32, size: usize, sink: &mut Sink)
     ensures { (characters : ℕ) → size ≡ rule.text_size length characters → begun_of sink.new ≡ rule.with_count length characters (begun_of sink.old) }
 {
     if length == 0 {
@@ -393,11 +391,10 @@ fn put_characters(
 ) -> Result<(), CheckError>
     ensures { (known : Known) → Answers (λ _. begun_of sink.new) result known (rule.begin_characters (slot_of slot) length bytes.items line (begun_of sink.old) known) }
 {
-    let count = number(bytes.len())?;
-    if length != 0 && length < count {
+    if length != 0 && (length as usize) < bytes.len() {
         return refused(Kind::Initializer, line);
     }
-    let size = text_size(length, count)?;
+    let size = text_size(length, &bytes);
     count_characters(length, size, sink);
     if sink.fixed {
         put_bytes(sink, slot.offset, &bytes)

@@ -28,7 +28,7 @@ pub(crate) struct Sink {
     pub fixed: bool,
     pub initial: Vec<Initial>,
     pub items: Vec<TItem>,
-    pub length: Option<u32>,
+    pub length: Option<usize>,
     pub line: u32,
 }
 
@@ -49,7 +49,7 @@ impl Sink {
 
 // How many bytes stand before what has so many elements of this size before it. No memory has an object that is too
 // long for such a number.
-fn behind(start: u64, bytes: u64, count: u32) -> Result<u64, CheckError>
+fn behind(start: u64, bytes: u64, count: usize) -> Result<u64, CheckError>
     ensures ok { IfOk result (λ offset. offset ≡ start + bytes * count) }
     ensures err { IfErr result (λ e. e ≡ NoMemory) }
 {
@@ -59,7 +59,7 @@ fn behind(start: u64, bytes: u64, count: u32) -> Result<u64, CheckError>
     }
 }
 
-fn element(types: &Types, slot: Slot, row: u32, number: u32) -> Result<Slot, CheckError>
+fn element(types: &Types, slot: Slot, row: u32, number: usize) -> Result<Slot, CheckError>
     ensures ok { (known : Known) → IfOk result (λ s. slot_of s ≡ rule.element_slot (types_in types.now known) (slot_of slot) (like slot.ty (target_of (types_in types.now known) row).ty) number) }
     ensures err { IfErr result (λ e. e ≡ NoMemory) }
 {
@@ -74,12 +74,12 @@ fn member(
     types: &Types,
     slot: Slot,
     structure: u32,
-    number: u32,
+    number: usize,
 ) -> Result<Option<Slot>, CheckError>
     ensures ok { (known : Known) → IfOk result (λ s. any_slot s ≡ rule.member_slot slot.offset (slice_get (fields_of (types_in types.now known) structure) number)) }
     ensures err { IfErr result (λ e. e ≡ NoMemory) }
 {
-    match types.member_at(structure, number as usize) {
+    match types.member_at(structure, number) {
         Some(field) => Ok(Some(Slot {
             ty: field.ty,
             offset: behind(slot.offset, field.offset, 1)?,
@@ -88,7 +88,7 @@ fn member(
     }
 }
 
-fn part_of(types: &Types, slot: Slot, number: u32) -> Result<Option<Slot>, CheckError>
+fn part_of(types: &Types, slot: Slot, number: usize) -> Result<Option<Slot>, CheckError>
     ensures ok { (known : Known) → IfOk result (λ s. any_slot s ≡ rule.part_by (types_in types.now known) (slot_of slot) slot.ty.ty number) }
     ensures err { IfErr result (λ e. e ≡ NoMemory) }
 {
@@ -110,14 +110,14 @@ fn part_of(types: &Types, slot: Slot, number: u32) -> Result<Option<Slot>, Check
 }
 
 // Whether an array of this length, 0 where it isn't known, has no element of the number.
-fn is_past(length: u32, number: u32) -> bool
+fn is_past(length: u32, number: usize) -> bool
     ensures { result ≡ (not (nat_eq length 0) && nat_le length number) }
 {
-    length != 0 && length <= number
+    length != 0 && length as usize <= number
 }
 
 // A scalar is its own first part.
-fn scalar_part(slot: Slot, number: u32) -> Option<Slot>
+fn scalar_part(slot: Slot, number: usize) -> Option<Slot>
     ensures { any_slot result ≡ (if nat_eq number 0 then Some (slot_of slot) else None) }
 {
     if number == 0 { Some(slot) } else { None }
@@ -127,7 +127,7 @@ fn scalar_part(slot: Slot, number: u32) -> Option<Slot>
 pub(crate) fn part(
     types: &Types,
     slot: Option<Slot>,
-    number: u32,
+    number: usize,
 ) -> Result<Option<Slot>, CheckError>
     ensures ok { (known : Known) → IfOk result (λ s. any_slot s ≡ rule.part (types_in types.now known) (any_slot slot) number) }
     ensures err { IfErr result (λ e. e ≡ NoMemory) }
@@ -139,7 +139,7 @@ pub(crate) fn part(
 }
 
 /// Whether a list of so many items has one more than there are parts.
-pub(crate) fn has_more(types: &Types, slot: Option<Slot>, count: u32) -> Result<bool, CheckError>
+pub(crate) fn has_more(types: &Types, slot: Option<Slot>, count: usize) -> Result<bool, CheckError>
     ensures ok { (known : Known) → IfOk result (λ more. more ≡ lists.has_more (types_in types.now known) (any_slot slot) count) }
     ensures err { IfErr result (λ e. e ≡ NoMemory) }
 {
@@ -157,7 +157,7 @@ fn is_unsized(ty: Ty) -> bool
 }
 
 /// An array without a length takes it from the number of items.
-pub(crate) fn count_items(slot: Option<Slot>, count: u32, sink: &mut Sink)
+pub(crate) fn count_items(slot: Option<Slot>, count: usize, sink: &mut Sink)
     ensures { begun_of sink.new ≡ lists.with_items (any_slot slot) count (begun_of sink.old) }
 {
     if let Some(slot) = slot {

@@ -234,6 +234,7 @@ fn typed(unit: &Unit, checker: Checker, functions: Vec<TypedFunction>) -> Result
 
 // What is known at the beginning of a unit.
 fn begun(alloc: Global, unit: &Unit) -> Result<Checker, CheckError>
+    requires { length (spelled_unit (unit_of unit.now)) ≤ 262144 }
     ensures ok { IfOk result (λ c. known_of c ≡ known_first (rule.defined_in (unit_of unit.now) [])) }
     ensures err { IfErr result (λ e. e ≡ NoMemory) }
 {

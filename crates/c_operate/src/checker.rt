@@ -1,6 +1,6 @@
 //! What is known of a unit while it is checked.
 
-ghost use Rattle.std.specs.Prelude.{◌≡◌, map, IfOk};
+ghost use Rattle.std.specs.Prelude.{◌≡◌, ◌≤◌, length, map, IfOk};
 ghost use Rattle.type_rules.specs.Known.{known_first};
 ghost use Rattle.c_operate.specs.Tables.{known_of};
 
@@ -27,6 +27,7 @@ pub struct Checker {
 impl Checker {
     /// The tables at the beginning of a unit that defines the functions of these names, in this order.
     pub fn new(alloc: Global, definitions: IndexSet<Vec<u8>>) -> Result<Checker, CheckError>
+        requires { length definitions.keys ≤ 262144 }
         ensures { IfOk result (λ c. known_of c ≡ known_first (map (λ name. name.items) definitions.keys)) }
     {
         let mut scopes = Scopes::new(alloc);

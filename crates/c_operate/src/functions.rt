@@ -1,14 +1,6 @@
 //! The functions of a unit (ISO/IEC 9899:1990, 6.5.4.3 and 6.7.1).
 
-ghost use Rattle.std.specs.Prelude.{◌≡◌, true, Some, ◌∷◌, [], not, map, slice_get, Ok, IfOk, IfErr};
-ghost use Rattle.std.specs.Option.{option_map};
-ghost use Rattle.c_typed.specs.Sameness.{same_qualified};
-ghost use Rattle.type_rules.specs.Declarations as declarations;
-ghost use Rattle.type_rules.specs.Faults as kind;
-ghost use Rattle.type_rules.specs.Known.{Known, tried};
-ghost use Rattle.c_operate.specs.Answers.{Answers, Learns};
-ghost use Rattle.c_operate.specs.Tables.{functions_in, signature_of};
-ghost use Rattle.c_operate.specs.declared.error.CheckError.TheVariants.{NoMemory};
+ghost use Rattle.std.specs.Prelude.{◌≤◌, length};
 
 use crate::error::{CheckError, Kind, number, refused};
 use c_typed::{Qualified, Ty};
@@ -26,6 +18,11 @@ pub struct Signature {
 }
 
 impl Signature {
+    ghost use Rattle.std.specs.Prelude.{◌≡◌, Some};
+    ghost use Rattle.c_typed.specs.Sameness.{same_qualified};
+    ghost use Rattle.type_rules.specs.Declarations as declarations;
+    ghost use Rattle.c_operate.specs.Tables.{signature_of};
+
     fn same_result(&self, returns: Qualified) -> bool
         ensures { result ≡ same_qualified self.now.result returns }
     {
@@ -46,16 +43,26 @@ impl Signature {
 }
 
 /// The functions that are declared, in the order of their first declaration, and the names of those that
-/// the unit defines, in the order of their definitions.
+/// the unit defines, in the order of their definitions. These are so few that a `u32` numbers them.
 #[derive(Drop)]
 pub struct Functions {
     declared: Vec<Signature>,
     definitions: IndexSet<Vec<u8>>,
+    ghost few: { length definitions.keys ≤ 262144 },
 }
 
 impl Functions {
+    ghost use Rattle.std.specs.Prelude.{◌≡◌, ◌≤◌, true, ◌∷◌, [], not, length, map, slice_get, Ok};
+    ghost use Rattle.std.specs.Option.{option_map};
+    ghost use Rattle.type_rules.specs.Declarations as declarations;
+    ghost use Rattle.type_rules.specs.Faults as kind;
+    ghost use Rattle.type_rules.specs.Known.{Known, tried};
+    ghost use Rattle.c_operate.specs.Answers.{Answers, Learns};
+    ghost use Rattle.c_operate.specs.Tables.{functions_in, signature_of};
+
     /// No functions so far, of a unit that defines those of these names.
     pub fn new(alloc: Global, definitions: IndexSet<Vec<u8>>) -> Functions
+        requires { length definitions.keys ≤ 262144 }
         ensures { (known : Known) → functions_in result known ≡ record known { signatures = []; definitions = map (λ name. name.items) definitions.keys } }
     {
         Functions {
@@ -71,13 +78,12 @@ impl Functions {
         self.declared.get(function as usize)
     }
 
-    fn definition_of(&self, name: &[u8]) -> Result<Option<u32>, CheckError>
-        ensures ok { IfOk result (λ n. n ≡ declarations.definition_from (map (λ name. name.items) self.now.definitions.keys) name.now 0) }
-        ensures err { IfErr result (λ e. e ≡ NoMemory) }
+    fn definition_of(&self, name: &[u8]) -> Option<u32>
+        ensures { result ≡ declarations.definition_from (map (λ name. name.items) self.now.definitions.keys) name.now 0 }
     {
         match self.definitions.get_index_of(name) {
-            Some(index) => Ok(Some(number(index)?)),
-            None => Ok(None),
+            Some(index) => Some(index as u32),
+            None => None,
         }
     }
 
@@ -91,7 +97,7 @@ impl Functions {
         ensures { (known : Known) → Answers (λ number. number) result (functions_in self.new known) (declarations.new_function name.now returns params.items (functions_in self.old known)) }
     {
         let function = number(self.declared.len())?;
-        let definition = self.definition_of(name)?;
+        let definition = self.definition_of(name);
         self.declared.push(Signature {
             result: returns,
             params,

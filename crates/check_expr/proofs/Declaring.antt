@@ -6,7 +6,7 @@ use Rattle.std.proofs.Math.ListN.{get_or}
 use Rattle.std.proofs.lemmas.List.{drop_more, drop_all, append-nil}
 use Rattle.c_tree.specs.Lists.{more_specs, more_members, more_declarators, suffixes_of, more_params}
 use Rattle.c_tree.specs.Trees as tree
-use Rattle.c_tree.specs.Trees.{Tree, SpecTrees, SpecTree, MoreSpecs, MemberTree, MoreMembers, DeclaratorTree, MoreDeclarators, SuffixTree, SuffixTrees, ParamTree, MoreParams, TypeTree, EnumeratorTree, MoreEnumerators}
+use Rattle.c_tree.specs.Trees.{Tree, SpecTrees, SpecTree, MemberTree, MoreMembers, DeclaratorTree, SuffixTree, SuffixTrees, ParamTree, MoreParams, TypeTree, EnumeratorTree, MoreEnumerators}
 use Rattle.c_tree.specs.Views.{spec_of, member_of, next_declarator_of, suffix_of, next_param_of}
 use Rattle.c_tree.specs.Words.{Symbol, Symbols, keyed}
 use Rattle.c_tree.specs.declared.expression.Spec.{Spec}
@@ -15,14 +15,14 @@ use Rattle.c_tree.specs.declared.expression.NextDeclarator.{NextDeclarator}
 use Rattle.c_tree.specs.declared.expression.NextParam.{NextParam}
 use Rattle.c_tree.specs.declared.expression.Suffix.{Suffix}
 use Rattle.c_tree.specs.declared.word.Word.{Word}
-use Rattle.c_operate.specs.Answers.{Refuses, Answers, Learns}
+use Rattle.c_operate.specs.Answers.{Refuses}
 use Rattle.c_operate.specs.declared.error.CheckError.{CheckError}
-use Rattle.type_rules.specs.Declarators.{Context, of_member, of_param, body_opened, structure_in, structure_of, specified, spec_rule, members, field, suffixes, suffix, param, outline_of, line_in, name_in}
+use Rattle.type_rules.specs.Declarators.{Context, of_member, of_param, body_opened, structure_in, structure_of, specified, spec_rule, members, field, suffixes, suffix, param, outline_of, line_in}
 use Rattle.type_rules.specs.Declarators as rule
 use Rattle.type_rules.specs.Faults as kind
 use Rattle.type_rules.specs.Faults.{Fault}
 use Rattle.type_rules.specs.Known.{Scope, Known, Rule, Open, Closed, given, tried, go_on}
-use Rattle.type_rules.specs.Names.{enter_list, leave_list, in_file}
+use Rattle.type_rules.specs.Names.{enter_list, leave_list}
 use Rattle.type_rules.specs.Outlines.{Param, Made, ArrayMade, FunctionMade, Outline, object_outline, outlined, param_outlined, param_rule, member_rule, declarator_line}
 use Rattle.type_rules.specs.Rows.{is_absent, progress_of, set_progress}
 use Rattle.type_rules.specs.Specifiers as rule_specifiers

@@ -1,5 +1,5 @@
 -- A list of the code, and the nested tree that it stands for: the rule on the tree is the list's.
-use Rattle.std.proofs.Common.{◌≡◌, ℕ, List, [], ◌∷◌, ◌++◌, Result, Ok, Err, refl, sym, ap, ◌∙◌}
+use Rattle.std.proofs.Common.{◌≡◌, ℕ, List, [], ◌∷◌, ◌++◌, Ok, refl, sym, ap, ◌∙◌}
 use Rattle.c_token.specs.declared.token.Punct.TheVariants as marks
 use Rattle.c_token.specs.declared.token.TokKind.{TokKind}
 use Rattle.c_tree.specs.Lists.{posted, prefixed, joined, listed, ChoiceParts, chosen, assigned}

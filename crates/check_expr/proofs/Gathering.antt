@@ -1,25 +1,20 @@
 -- What the checker keeps of a list of specifiers is what the rules gather: word by word, and at the end.
-use Rattle.std.proofs.Common.{◌≡◌, ℕ, ◌+◌, ◌≤◌, suc, nat_lt, nat_le, nat_eq, Bool, true, false, not, ◌&&◌, ◌||◌, List, [], ◌∷◌, length, Option, Some, None, Ok, Err, refl, sym, zero, is_some, arith}
+use Rattle.std.proofs.Common.{◌≡◌, ℕ, ◌+◌, ◌≤◌, suc, nat_lt, nat_le, nat_eq, Bool, true, false, not, ◌&&◌, ◌||◌, List, [], ◌∷◌, length, Some, None, Ok, Err, refl, sym, zero, is_some, arith}
 use Rattle.std.proofs.lemmas.Bool.{lt-leb, leb-true, true≢false}
 use Rattle.c_token.specs.declared.token.Keyword.{Keyword}
 use Rattle.c_token.specs.declared.token.Keyword.TheVariants as words
-use Rattle.c_typed.specs.declared.types.Qualified.{Qualified}
-use Rattle.c_typed.specs.declared.types.Ty.{Ty}
 use Rattle.type_rules.specs.Faults as kind
-use Rattle.type_rules.specs.Faults.{Fault}
 use Rattle.type_rules.specs.Known.{Known}
 use Rattle.type_rules.specs.Names.{in_file}
 use Rattle.type_rules.specs.Specifiers as rule
-use Rattle.type_rules.specs.Specifiers.{Gathered, times, has, once_each, single_words, storage_words, is_orderly, qualifies_once, may_stand, specifiers, said}
+use Rattle.type_rules.specs.Specifiers.{Gathered, times, has, once_each, single_words, storage_words, is_orderly, qualifies_once, may_stand, specifiers}
 use Rattle.check_expr.specs.Gathering as gathering
-use Rattle.check_expr.specs.Gathering.{is_plain, is_auto, storage_in, base_of, base_kept, first_of, named_of, kept_of, worded, based, base_type, fits}
+use Rattle.check_expr.specs.Gathering.{is_plain, is_auto, storage_in, base_of, first_of, kept_of, worded, based, base_type, fits}
 use Rattle.check_expr.specs.Views.{is_typedef, is_static, is_register, site_of, specified_of}
 use Rattle.check_expr.specs.declared.specifiers.Base.{Base}
 use Rattle.check_expr.specs.declared.specifiers.Base.TheVariants as bases
-use Rattle.check_expr.specs.declared.specifiers.NamedType.{NamedType}
 use Rattle.check_expr.specs.declared.specifiers.Site.{Site}
 use Rattle.check_expr.specs.declared.specifiers.Site.TheVariants as sites
-use Rattle.check_expr.specs.declared.specifiers.Specified.{Specified}
 use Rattle.check_expr.specs.declared.specifiers.Storage.{Storage}
 use Rattle.check_expr.specs.declared.specifiers.Storage.TheVariants as storages
 use Rattle.check_expr.specs.declared.specifiers.Words.{Words}

@@ -1,26 +1,25 @@
 -- Pointers, suffixes, parameters and members: what the rules say step by step, as the calls answer it.
-use Rattle.std.proofs.Common.{◌≡◌, ℕ, ◌+◌, ◌<◌, Bool, true, false, not, ◌||◌, if◌then◌else◌, List, [], ◌∷◌, ◌++◌, length, drop, map, Option, Some, None, is_some, Result, Ok, Err, refl, sym, ap, subst, ◌∙◌, append_assoc, arith}
+use Rattle.std.proofs.Common.{◌≡◌, ℕ, ◌+◌, ◌<◌, Bool, true, false, not, ◌||◌, if◌then◌else◌, List, [], ◌∷◌, ◌++◌, length, drop, map, Option, Some, None, is_some, Result, Ok, Err, refl, sym, ap, subst, ◌∙◌, arith}
 use Rattle.std.proofs.Math.ListN.{get_or}
 use Rattle.std.proofs.lemmas.List.{drop_more}
 use Rattle.std.specs.Prelude.{slice_get}
 use Rattle.c_token.specs.declared.token.Keyword.TheVariants as words
 use Rattle.c_token.specs.declared.token.TokKind.TheVariants as kinds
 use Rattle.c_tree.specs.Kinds.{is_key}
-use Rattle.c_tree.specs.Words.{Symbol, Symbols, keyed, spell_pointer, spell_pointers, flat}
+use Rattle.c_tree.specs.Words.{Symbol, Symbols, keyed, spell_pointers}
 use Rattle.c_tree.specs.declared.word.Pointer.{Pointer}
 use Rattle.c_tree.specs.declared.word.Word.{Word}
 use Rattle.c_typed.specs.Sameness.{is_void, is_struct}
 use Rattle.c_typed.specs.declared.types.Qualified.{Qualified}
 use Rattle.c_typed.specs.declared.types.Ty.{Ty}
 use Rattle.c_typed.specs.declared.types.Ty.TheVariants as types
-use Rattle.c_operate.specs.Answers.{Refuses, fault_of}
+use Rattle.c_operate.specs.Answers.{Refuses}
 use Rattle.c_operate.specs.declared.error.CheckError.{CheckError}
 use Rattle.c_operate.specs.declared.error.CheckError.TheVariants as errors
 use Rattle.type_rules.specs.Faults as kind
 use Rattle.type_rules.specs.Faults.{Fault}
-use Rattle.type_rules.specs.Known.{Known, Rule, given, go_on, tried, known_here}
+use Rattle.type_rules.specs.Known.{Known, Rule, given, go_on, tried}
 use Rattle.type_rules.specs.Names.{entry_of}
-use Rattle.type_rules.specs.Outlines as rule
 use Rattle.type_rules.specs.Outlines.{Param, Made, ArrayMade, FunctionMade, Declared, ObjectDeclared, FunctionDeclared, Outline, array_or_part, behind, started, array_started, outlined, pointer_outline, param_outlined, param_tests, bind_param, param_rule, member_tests, member_rule, is_again, is_function, object_type, declarator_line}
 use Rattle.type_rules.specs.Rows.{plain, like, target_of, pointer_to, array_of, is_complete, fields_of, add_member}
 use Rattle.type_rules.specs.Specifiers.{Specified}

@@ -1,5 +1,5 @@
 -- Rules one behind the other.
-use Rattle.std.proofs.Common.{◌≡◌, List, [], Result, Ok, Err, refl, sym, ap, ◌∙◌}
+use Rattle.std.proofs.Common.{◌≡◌, Result, Ok, Err, refl, ap, ◌∙◌}
 use Rattle.type_rules.specs.Faults.{Fault}
 use Rattle.type_rules.specs.Known.{Known, Rule, given, go_on, ◌>>=◌}
 use Rattle.type_rules.specs.Terms.{Term, Operand, Form, ValueForm, PlaceForm, FunctionForm, TypeForm, used, indexed, value_in}

@@ -1,5 +1,5 @@
 -- What the checker keeps of a list of specifiers, as the rules gather it.
-use Rattle.std.specs.Prelude.{◌≡◌, ℕ, Bool, true, false, not, ◌&&◌, ◌||◌, if◌then◌else◌, List, [], ◌∷◌, Option, Some, None, is_some, Result, Ok, Err}
+use Rattle.std.specs.Prelude.{◌≡◌, Bool, true, false, not, ◌&&◌, ◌||◌, if◌then◌else◌, List, [], ◌∷◌, Option, Some, None, is_some, Result, Ok, Err}
 use Rattle.c_ints.specs.declared.types.IntTy.{IntTy}
 use Rattle.c_ints.specs.declared.types.IntTy.TheVariants as int
 use Rattle.c_token.specs.declared.token.Keyword.{Keyword}

@@ -1,5 +1,5 @@
 -- What specifiers and declarators say to the checker, as the rules speak of it.
-use Rattle.std.specs.Prelude.{ℕ, Bool, true, false, List, [], map, Option, Result, Ok, Err}
+use Rattle.std.specs.Prelude.{Bool, true, false, [], map, Result, Ok, Err}
 use Rattle.type_rules.specs.Declarators as rule_declarators
 use Rattle.type_rules.specs.Faults.{Fault}
 use Rattle.type_rules.specs.Known.{Known}

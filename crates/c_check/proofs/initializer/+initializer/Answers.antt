@@ -1,4 +1,4 @@
-use Rattle.std.proofs.Common.{◌+◌, map}
+use Rattle.std.proofs.Common.{◌+◌, map, refl}
 use Rattle.c_tree.specs.ProgramViews.{more_inits, next_init_of}
 use Rattle.type_rules.specs.Initializers.{items_in, more_begins}
 use Rattle.c_operate.specs.Tables.{known_of}
@@ -6,18 +6,19 @@ use Rattle.c_operate.specs.Terms.{operand_of}
 use Rattle.type_rules.specs.Initializers.{begins}
 use Rattle.c_tree.specs.ProgramViews.{init_of}
 use Rattle.c_check.specs.Views.{any_slot, begun_of}
-use Rattle.c_check.proofs.Listing.{item_read, item_wrong, all_read, one_counted, all_counted, value_answered, value_wrong, text_answered, list_answered, first_wrong, more_wrong}
+use Rattle.c_check.proofs.Listing.{item_read, item_wrong, all_read, one_counted, one_behind, all_counted, value_answered, value_wrong, text_answered, list_answered, first_wrong, more_wrong}
 use Rattle.c_operate.proofs.Steps.{passed_on}
 use Rattle.c_check.proofs.initializer.+initializer.Goals as goal
 
 pub items-loop-next-preserved : goal.items-loop-next-preserved
 items-loop-next-preserved t c = (
-  one_counted c.args.others.now c.loop-next.next-index c.next-item.result c.loop-next.count _ (1 + items_in (more_inits (map next_init_of c.args.others.now))) c.loop-next-test.true c.next-item.is c.in_ok-count.ensures.ok c.loop-next.invariant.0,
-  item_read c.args.others.now c.loop-next.next-index c.next-item.result (any_slot c.args.slot) _ c.loop-next.count _ (begun_of c.loop-next.sink) _ (known_of c.loop-next.checker) _ _ c.loop-next-test.true c.next-item.is (c.in_ok-part.ensures.ok (known_of c.loop-next.checker)) c.in_ok-initialize.ensures c.in_ok-count.ensures.ok c.loop-next.invariant.1,
+  one_counted c.args.others.now c.loop-next.next-index c.next-item.result c.loop-next.count (c.loop-next.count + 1) (1 + items_in (more_inits (map next_init_of c.args.others.now))) c.loop-next-test.true c.next-item.is refl c.loop-next.invariant.0,
+  one_behind c.loop-next.count c.loop-next.next-index c.loop-next.invariant.1,
+  item_read c.args.others.now c.loop-next.next-index c.next-item.result (any_slot c.args.slot) _ c.loop-next.count (c.loop-next.count + 1) (begun_of c.loop-next.sink) _ (known_of c.loop-next.checker) _ _ c.loop-next-test.true c.next-item.is (c.in_ok-part.ensures.ok (known_of c.loop-next.checker)) c.in_ok-initialize.ensures refl c.loop-next.invariant.2,
 )
 
 pub items-returns-clause-begun : goal.items-returns-clause-begun
-items-returns-clause-begun t c = all_read c.args.others.now c.loop-next.next-index (any_slot c.args.slot) c.loop-next.count (begun_of c.loop-next.sink) (known_of c.loop-next.checker) _ c.loop-next-test.false c.loop-next.invariant.1
+items-returns-clause-begun t c = all_read c.args.others.now c.loop-next.next-index (any_slot c.args.slot) c.loop-next.count (begun_of c.loop-next.sink) (known_of c.loop-next.checker) _ c.loop-next-test.false c.loop-next.invariant.2
 
 pub items-returns-clause-count : goal.items-returns-clause-count
 items-returns-clause-count t c = all_counted c.args.others.now c.loop-next.next-index c.loop-next.count _ c.loop-next-test.false c.loop-next.invariant.0
@@ -26,7 +27,7 @@ pub items-returns-in_err-initialize-clause-begun : goal.items-returns-in_err-ini
 items-returns-in_err-initialize-clause-begun t c =
     let whole = more_begins (more_inits (map next_init_of c.args.others.now)) (any_slot c.args.slot) 1 (begun_of c.args.sink.now) (known_of c.args.checker.now) in
     passed_on _ c.from_residual-in_err-initialize.result _ whole c.in_err-initialize.field-0.0 c.from_residual-in_err-initialize.ensures.1
-    (item_wrong c.args.others.now c.loop-next.next-index c.next-item.result (any_slot c.args.slot) (any_slot c.in_ok-part.part) c.loop-next.count (begun_of c.loop-next.sink) (known_of c.loop-next.checker) c.in_err-initialize.field-0.0 whole c.loop-next-test.true c.next-item.is (c.in_ok-part.ensures.ok (known_of c.loop-next.checker)) c.in_err-initialize.ensures c.loop-next.invariant.1)
+    (item_wrong c.args.others.now c.loop-next.next-index c.next-item.result (any_slot c.args.slot) (any_slot c.in_ok-part.part) c.loop-next.count (begun_of c.loop-next.sink) (known_of c.loop-next.checker) c.in_err-initialize.field-0.0 whole c.loop-next-test.true c.next-item.is (c.in_ok-part.ensures.ok (known_of c.loop-next.checker)) c.in_err-initialize.ensures c.loop-next.invariant.2)
 
 pub initialize-returns-in_err-operand-in-Assign : goal.initialize-returns-in_err-operand-in-Assign
 initialize-returns-in_err-operand-in-Assign t c =

@@ -1,8 +1,12 @@
 use Rattle.type_rules.specs.Objects as rule
 use Rattle.c_operate.specs.Tables.{types_in}
-use Rattle.c_check.proofs.Making.{closed_refused, closed_sized, closed_large}
+use Rattle.c_check.proofs.Making.{closed_long, closed_refused, closed_sized, closed_large}
 use Rattle.c_operate.proofs.Steps.{passed_on}
 use Rattle.c_check.proofs.objects.closed_array.Goals as goal
+
+pub returns-then-is_long : goal.returns-then-is_long
+returns-then-is_long c = λ known.
+    closed_long c.args.ty c.args.row c.in-Some.length c.args.line c.args.length (types_in c.args.types.now known) (types_in c.args.types.now known) c.is_long.result c.refused-then-is_long.result c.in-Some.is c.is_long.ensures c.if-is_long.true c.refused-then-is_long.ensures
 
 pub returns-in_err-whole : goal.returns-in_err-whole
 returns-in_err-whole c = λ known.

@@ -1,4 +1,4 @@
-use Rattle.std.proofs.Common.{◌+◌, [], map, drop, sym, ap}
+use Rattle.std.proofs.Common.{◌+◌, map, drop, ap}
 use Rattle.std.proofs.lemmas.Result.{err_from_is_err_and}
 use Rattle.c_tree.specs.Lists.{suffixes_of, more_members, more_params, more_enumerators}
 use Rattle.c_tree.specs.Views.{cond_of, declarator_of, member_of, next_declarator_of, next_param_of, param_of, spec_of, specs_of, struct_body_of, suffix_of, enumerator_of, next_enumerator_of}

@@ -1,7 +1,7 @@
 use Rattle.std.proofs.Common.{w64}
 use Rattle.std.proofs.lemmas.Int.{to_z-of_z}
 use Rattle.std.proofs.lemmas.Result.{err_from_is_err_and}
-use Rattle.c_tree.specs.Views.{cond_of, enumerator_of}
+use Rattle.c_tree.specs.Views.{cond_of}
 use Rattle.c_tree.specs.Words.{named}
 use Rattle.c_tree.proofs.Shapes.{show_enumerator_bare, show_enumerator_valued}
 use Rattle.c_operate.specs.Tables.{known_of}

@@ -1,5 +1,4 @@
 use Rattle.std.proofs.Common.{sym, ap}
-use Rattle.c_token.specs.declared.token.Punct.TheVariants as marks
 use Rattle.c_token.specs.declared.token.TokKind.TheVariants as kinds
 use Rattle.type_rules.specs.Expressions.{selected}
 use Rattle.type_rules.specs.Places.{pointed_member}
