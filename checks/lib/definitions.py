@@ -14,6 +14,7 @@ from concurrent.futures import ProcessPoolExecutor
 from code_text import Shown, is_select
 from machines import FLAGS, Chip, Core, Source, Symbolic, layout_of, marked_prices, prices_by
 from interpreter import REACHED, definition
+from links import unfollowed
 import programs
 
 STEPS, EVENTS = 40000, 150
@@ -80,6 +81,15 @@ def costs(source, core, plain, lean, selected, nodes):
         rests = i == len(core.events) and core.end == 'still'
         if steps[i] >= (least[i] + 1) * nodes and not rests:
             raise Differs('event %d: %d steps at least cost %d and %d nodes' % (i, steps[i], least[i], nodes))
+
+
+def links(core, plain, lean):
+    """The runs of symbolic code follow that of byte code at each of its moments, also where no event is near."""
+    ways = [(plain, 'most', 'marked of functions')] if plain is lean else [(plain, None, 'marked of functions'), (lean, 'most', None)]
+    for run, most, least in ways:
+        i = unfollowed(core, run, most, least)
+        if i is not None:
+            raise Differs('no place belongs to moment %d of byte code, at most %s, at least %s' % (i, most, least))
 
 
 def instructions(chip, selected):
@@ -188,8 +198,10 @@ def follow(shown, inputs, pairs, rng, tally):
     compared(source, lean, ('the source', 'the leaner code'))
     compared(source, selected, ('the source', 'symbolic code with selects'))
     costs(source, core, plain, lean, selected, shown.nodes)
+    links(core, plain, lean)
     for name, run in (('source', source), ('byte code', core), ('symbolic', plain), ('leaner', lean), ('selected', selected)):
         tally[name + ' steps'] += run.steps
+    tally['scripts'] += 1
     tally['events'] += len(source.events)
     tally['ends ' + (source.end if isinstance(source.end, str) else source.end[1][0])] += 1
     return source, selected

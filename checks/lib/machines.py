@@ -19,11 +19,12 @@ def outside_of(inputs, pairs):
 
 
 class Machine:
-    """A run. `events` is the trace as the map shows it, `marks` has for each event what was counted when it was made; `end` is 'goes',
-    'still', 'stuck', or an undefined step with its kind and line."""
+    """A run. `events` is the trace as the map shows it, `marks` has for each event what was counted when it was made, `moments` for each
+    step the length of the trace and what was counted behind it; `end` is 'goes', 'still', 'stuck', or an undefined step with its
+    kind and line."""
 
     def __init__(self):
-        self.steps, self.end, self.events, self.marks = 0, 'goes', [], []
+        self.steps, self.end, self.events, self.marks, self.moments = 0, 'goes', [], [], []
 
     def run(self, most_steps, most_events):
         while self.end == 'goes' and self.steps < most_steps and len(self.events) < most_events:
@@ -40,6 +41,7 @@ class Machine:
         for event in trace[len(self.events):]:
             self.events.append(show(event))
             self.marks.append(count)
+        self.moments.append((len(trace), count))
 
     def flat(self):
         """Memory as a table, where a step made it of a function."""
