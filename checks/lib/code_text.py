@@ -367,6 +367,8 @@ class Shown:
         self.first = tuple(tuple(map(first_byte, x.parts)) for x in core if x.head == 'First')
         self.bodies = {x.parts[0]: tuple(operation(y, x.parts[0]) for y in x.below) for x in core if x.head == 'Body'}
         self.plain = blocks(tops['Plain'])
+        # where no pass makes code leaner, both are the same
+        self.lean = blocks(tops['Lean']) if 'Lean' in tops else self.plain
         self.selected = blocks(tops['Selected'])
         self.addresses = {name(x.parts[0]): x.parts[1][1] for x in tops['Selected'].below}
         self.prices = {block: prices_in(self.selected[block]) for block in self.selected}
@@ -382,7 +384,7 @@ class Shown:
         return self.addresses[block] // 2048
 
     def price(self, block, index):
-        """What an instruction without selects costs, with those that stand before it in the code with selects."""
+        """What an instruction of the leaner code costs, with the selects that stand before it in the code with selects."""
         return self.prices[block][index]
 
     @staticmethod
@@ -392,7 +394,7 @@ class Shown:
 
     @staticmethod
     def copy(x):
-        root, function_, called, at, size, parameters = x.parts
+        root, function_, called, at, size, parameters, variables = x.parts
         if function_[0] == 'Helper':
             function_ = ('Helper', (function_[1],))
-        return Record(root=(root,), function=function_, name=codes(called), address=at[1], size=size[1], parameters=parameters[1])
+        return Record(root=(root,), function=function_, name=codes(called), address=at[1], size=size[1], parameters=parameters[1], variables=variables[1])

@@ -11,9 +11,10 @@ import tempfile
 from collections import Counter
 from concurrent.futures import ProcessPoolExecutor
 
-from code_text import Shown
-from machines import FLAGS, Chip, Core, Source, Symbolic, layout_of
+from code_text import Shown, is_select
+from machines import FLAGS, Chip, Core, Source, Symbolic, layout_of, marked_prices, prices_by
 from interpreter import REACHED, definition
+from links import unfollowed
 import programs
 
 STEPS, EVENTS = 40000, 150
@@ -61,29 +62,42 @@ def rising(what, differences):
         high = (i, d)
 
 
-def costs(source, core, plain, selected, nodes):
-    """Between any two events a run costs at most no more than the one above it, and at least no less."""
-    both = range(min(map(len, (source.events, core.events, plain.events, selected.events))) + 1)
-    steps, most, least = [0] + source.marks, {}, {}
-    for name, run in (('core', core), ('plain', plain), ('selected', selected)):
-        most[name], least[name] = [0] + [mark[0] for mark in run.marks], [0] + [mark[1] for mark in run.marks]
-    rising('8192 a step less the most cost of byte code', [(i, 8192 * steps[i] - most['core'][i]) for i in both])
-    rising('the most cost of byte code less that of symbolic code', [(i, most['core'][i] - most['plain'][i]) for i in both])
-    rising('the most cost without selects less that with them', [(i, most['plain'][i] - most['selected'][i]) for i in both])
-    rising('the least cost of symbolic code less that of byte code', [(i, least['plain'][i] - least['core'][i]) for i in both])
-    rising('the least cost with selects less that without them', [(i, least['selected'][i] - least['plain'][i]) for i in both])
+def costs(source, core, plain, lean, selected, nodes):
+    """Between any two events a run costs at most no more than the one above it, and at least no less. A pass may leave out what isn't
+    marked: of the code before it only marked instructions count at least, and nothing at most."""
+    both = range(min(len(run.events) for run in (source, core, plain, lean, selected)) + 1)
+    steps, least = [0] + source.marks, core.counted('least')
+    rising('8192 a step less the most cost of byte code', [(i, 8192 * steps[i] - core.counted('most')[i]) for i in both])
+    for what, more, less in (
+        ('the most cost of byte code less that of the leaner code', core.counted('most'), lean.counted('most')),
+        ('the most cost without selects less that with them', lean.counted('most'), selected.counted('most')),
+        ('what is marked in the code of functions less the least cost of byte code', plain.counted('marked of functions'), least),
+        ('the least cost of the leaner code less what is marked before', lean.counted('least'), plain.counted('marked')),
+        ('the least cost with selects less that without them', selected.counted('least'), lean.counted('least')),
+    ):
+        rising(what, [(i, more[i] - less[i]) for i in both])
     for i in both:
         # a run that rests is within any bound
         rests = i == len(core.events) and core.end == 'still'
-        if steps[i] >= (least['core'][i] + 1) * nodes and not rests:
-            raise Differs('event %d: %d steps at least cost %d and %d nodes' % (i, steps[i], least['core'][i], nodes))
+        if steps[i] >= (least[i] + 1) * nodes and not rests:
+            raise Differs('event %d: %d steps at least cost %d and %d nodes' % (i, steps[i], least[i], nodes))
+
+
+def links(core, plain, lean):
+    """The runs of symbolic code follow that of byte code at each of its moments, also where no event is near."""
+    ways = [(plain, 'most', 'marked of functions')] if plain is lean else [(plain, None, 'marked of functions'), (lean, 'most', None)]
+    for run, most, least in ways:
+        i = unfollowed(core, run, most, least)
+        if i is not None:
+            raise Differs('no place belongs to moment %d of byte code, at most %s, at least %s' % (i, most, least))
 
 
 def instructions(chip, selected):
     """Where nothing arrives, the chip's instructions between two events are those that symbolic code counts."""
     both = range(min(len(chip.events), len(selected.events)))
-    rising('the most cost of symbolic code less the instructions', [(i, selected.marks[i][0] - chip.marks[i]) for i in both])
-    rising('the instructions less the least cost of symbolic code', [(i, chip.marks[i] - selected.marks[i][1]) for i in both])
+    most, least = selected.counted('most')[1:], selected.counted('least')[1:]
+    rising('the most cost of symbolic code less the instructions', [(i, most[i] - chip.marks[i]) for i in both])
+    rising('the instructions less the least cost of symbolic code', [(i, chip.marks[i] - least[i]) for i in both])
 
 
 def contents(shown, chip):
@@ -100,12 +114,17 @@ def contents(shown, chip):
 
 
 def code(shown, program):
-    """The byte code that is printed is that which the definitions make."""
+    """The byte code that is printed is that which the definitions make, and selects are all that the last symbolic code has more."""
     for c, copy in enumerate(shown.copies):
         if copy.function[0] == 'User' and program.body(c) != shown.bodies[c]:
             raise Differs('the byte code of copy %d is not that of the definitions' % c)
+        sizes = program.frame_bytes(c), program.parameter_bytes(c), program.variable_bytes(c)
+        if copy.function[0] == 'User' and sizes != (copy.size, copy.parameters, copy.variables):
+            raise Differs('the frame of copy %d has %r bytes in the definitions, and not %r' % (c, sizes, (copy.size, copy.parameters, copy.variables)))
     if program.first != shown.first:
         raise Differs('first bytes %r are not %r' % (shown.first, program.first))
+    if {name: tuple(x for x in block if not is_select(x)) for name, block in shown.selected.items()} != shown.lean:
+        raise Differs('the code with selects has other instructions than that without')
 
 
 def words(shown):
@@ -154,6 +173,17 @@ def random_pairs(rng, most):
     return [(rng.randrange(most), rng.choice(FLAGS[:3] * 4 + FLAGS)) for _ in range(count)]
 
 
+def symbolic(shown, inputs, pairs, rng, events):
+    """The runs of the three codes of a program: one run for the first two where they are the same."""
+    run = lambda blocks, banked, prices: Symbolic(shown, inputs, pairs, rng, blocks, banked, prices).run(STEPS * 3, events)
+    marked, priced = marked_prices(shown), prices_by(shown.price)
+    if shown.plain is shown.lean:
+        plain = lean = run(shown.lean, False, {**priced, **marked})
+    else:
+        plain, lean = run(shown.plain, False, marked), run(shown.lean, False, priced)
+    return plain, lean, run(shown.selected, True, prices_by(lambda block, index: 1))
+
+
 def follow(shown, inputs, pairs, rng, tally):
     """All languages above the chip under one schedule."""
     source = Source(shown, inputs, pairs).run(STEPS, EVENTS)
@@ -163,13 +193,15 @@ def follow(shown, inputs, pairs, rng, tally):
     code(shown, core.setting.program)
     core.run(STEPS * 2, len(source.events) + 20)
     compared(source, core, ('the source', 'byte code'))
-    plain = Symbolic(shown, inputs, pairs, rng, False).run(STEPS * 3, len(source.events) + 1)
-    selected = Symbolic(shown, inputs, pairs, rng, True).run(STEPS * 3, len(source.events) + 1)
+    plain, lean, selected = symbolic(shown, inputs, pairs, rng, len(source.events) + 1)
     compared(source, plain, ('the source', 'symbolic code'))
+    compared(source, lean, ('the source', 'the leaner code'))
     compared(source, selected, ('the source', 'symbolic code with selects'))
-    costs(source, core, plain, selected, shown.nodes)
-    for name, run in (('source', source), ('byte code', core), ('symbolic', plain), ('selected', selected)):
+    costs(source, core, plain, lean, selected, shown.nodes)
+    links(core, plain, lean)
+    for name, run in (('source', source), ('byte code', core), ('symbolic', plain), ('leaner', lean), ('selected', selected)):
         tally[name + ' steps'] += run.steps
+    tally['scripts'] += 1
     tally['events'] += len(source.events)
     tally['ends ' + (source.end if isinstance(source.end, str) else source.end[1][0])] += 1
     return source, selected

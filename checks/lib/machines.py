@@ -19,11 +19,12 @@ def outside_of(inputs, pairs):
 
 
 class Machine:
-    """A run. `events` is the trace as the map shows it, `marks` has for each event what was counted when it was made; `end` is 'goes',
-    'still', 'stuck', or an undefined step with its kind and line."""
+    """A run. `events` is the trace as the map shows it, `marks` has for each event what was counted when it was made, `moments` for each
+    step the length of the trace and what was counted behind it; `end` is 'goes', 'still', 'stuck', or an undefined step with its
+    kind and line."""
 
     def __init__(self):
-        self.steps, self.end, self.events, self.marks = 0, 'goes', [], []
+        self.steps, self.end, self.events, self.marks, self.moments = 0, 'goes', [], [], []
 
     def run(self, most_steps, most_events):
         while self.end == 'goes' and self.steps < most_steps and len(self.events) < most_events:
@@ -31,10 +32,16 @@ class Machine:
             self.steps += 1
         return self
 
+    def counted(self, name):
+        """What was counted under this name at the start and at each event, where several counts are kept."""
+        k = self.names.index(name)
+        return [0] + [mark[k] for mark in self.marks]
+
     def noted(self, trace, show, count):
         for event in trace[len(self.events):]:
             self.events.append(show(event))
             self.marks.append(count)
+        self.moments.append((len(trace), count))
 
     def flat(self):
         """Memory as a table, where a step made it of a function."""
@@ -110,7 +117,7 @@ class Core(Machine):
         self.keys = [('Static', n, at) for n, o in enumerate(shown.objects) for at in range(o.size)]
         self.keys += [('Frame', c, at) for c, copy in enumerate(shown.copies) for at in range(copy.size)]
         self.keys += [('Result', (root,), k) for root in ('Main', 'Isr') for k in range(4)]
-        self.most = self.least = 0
+        self.names, self.most, self.least = ('most', 'least'), 0, 0
         self.flat()
 
     def step(self):
@@ -152,20 +159,35 @@ def random_registers(random):
     return Record(w=random.randrange(256), fsr=random.randrange(256), **bits)
 
 
-class Symbolic(Machine):
-    """Symbolic code with selects or without. Before main's first instruction statics hold their first bytes, all else anything; and
-    at each entry the handler's registers do."""
+@functools.lru_cache(1)
+def marked_prices(shown):
+    """By what runs of the code before the pass that makes it leaner are counted: what is marked in it, in any block or in those of
+    functions alone."""
+    is_marked, variables = definition(SYM + 'Marks', 'is_marked'), Function(1, lambda c: shown.copies[c].variables)
+    marks = {block: [int(is_marked(variables, x)) for x in shown.plain[block]] for block in shown.plain}
+    functions = {block for block in marks if block[0] == 'Copy' and shown.copies[block[1]].function[0] == 'User'}
+    sure = definition(SYM + 'Cost', 'sure_prices')
+    return {'marked': sure(Function(2, lambda block, index: marks[block][index])),
+            'marked of functions': sure(Function(2, lambda block, index: marks[block][index] if block in functions else 0))}
 
-    def __init__(self, shown, inputs, pairs, random, banked):
+
+def prices_by(price):
+    """By what runs are counted at most, with this price of an instruction, and at least."""
+    return {'most': definition(SYM + 'Cost', 'most_prices')(Function(2, price)), 'least': value(SYM + 'Cost', 'least_prices')}
+
+
+class Symbolic(Machine):
+    """Symbolic code with selects or without: given are its blocks, and the prices by which its runs are counted. Before main's first
+    instruction statics hold their first bytes, all else anything; and at each entry the handler's registers do."""
+
+    def __init__(self, shown, inputs, pairs, random, blocks, banked, prices):
         super().__init__()
-        layout, blocks = layout_of(shown), shown.selected if banked else shown.plain
+        layout = layout_of(shown)
         program = Record(block=Function(1, lambda name: blocks.get(name, ())), handler=NONE if shown.handler is None else some(shown.handler), layout=layout)
         limits = {False: 8, True: 8}
         self.setting = Record(program=program, banked=banked, page_of=Function(1, shown.page_of), limit=Function(1, lambda inside: limits[inside]))
         self.outside = outside_of(inputs, pairs)
         self.step_of, self.cost_of = definition(SYM + 'Machine', 'sym_step'), definition(SYM + 'Cost', 'step_cost')
-        self.least_prices = value(SYM + 'Cost', 'least_prices')
-        self.most_prices = definition(SYM + 'Cost', 'most_prices')(Function(2, shown.price if not banked else lambda name, index: 1))
         self.show = lambda e: ('End',) if e[0] == 'Ended' else (e[0][:-2], e[1], e[2])
         table = {k: random.randrange(256) for k in range(368)}
         general, address, held = definition(SYM + 'Layout', 'general_at'), definition(SYM + 'Layout', 'address_of'), definition(SYM + 'Layout', 'shown')
@@ -176,15 +198,14 @@ class Symbolic(Machine):
         self.state = start(program, random_registers(random), Memory(1, table, Function(1, lambda k: 0)))
         entries = {}
         self.entry = Function(1, lambda k: entries[k] if k in entries else entries.setdefault(k, random_registers(random)))
-        self.most = self.least = 0
+        self.names, self.prices, self.costs = tuple(prices), tuple(prices.values()), (0,) * len(prices)
 
     def step(self):
         next_ = self.step_of(self.setting, self.entry, self.outside, self.state)
         if next_[0] == 'Goes':
-            self.most += self.cost_of(self.setting, self.most_prices, self.outside, self.state)
-            self.least += self.cost_of(self.setting, self.least_prices, self.outside, self.state)
+            self.costs = tuple(cost + self.cost_of(self.setting, price, self.outside, self.state) for cost, price in zip(self.costs, self.prices))
             self.state = next_[1]
-            self.noted(self.state.world.trace, self.show, (self.most, self.least))
+            self.noted(self.state.world.trace, self.show, self.costs)
         else:
             self.end = 'still' if next_[0] == 'Still' else 'stuck'
 

@@ -12,7 +12,7 @@
 //!
 //!     Program   as the crate typed_text prints a typed tree
 //!     Objects   Object name, at(address), bytes(size) [, const]
-//!     Copies    Copy root, User(function) | Helper(name), name, at(address), bytes(size), parameters(bytes), by number
+//!     Copies    Copy root, User(function) | Helper(name), name, at(address), bytes(size), parameters(bytes), variables(bytes), by number
 //!     Core      First byte ..., a line for each static object: a number, Low(object) or High(object)
 //!               Body copy, root; its operations
 //!     a byte    F(offset) of the own frame | Frame(copy, offset) | Static(object, offset) | Result(root, k) | Device(address)

@@ -1,6 +1,6 @@
 //! Where objects and frames stand.
 
-use c_typed::{FnId, Typed};
+use c_typed::{FnId, Typed, Variable};
 use call_graph::FnCopy;
 use pic_map::{FrameLine, ObjLine};
 use picc_core::Front;
@@ -23,17 +23,24 @@ fn put_object(out: &mut Listing, object: &ObjLine) -> Result<(), AllocError> {
     out.end()
 }
 
-/// How many bytes of the frame are those of parameters. A helper has none.
-fn parameter_bytes(typed: &Typed, function: FnId) -> u64 {
+fn bytes_of(typed: &Typed, variables: &[Variable]) -> u64 {
     let mut bytes: u64 = 0;
-    if let FnId::User(number) = function {
-        if let Some(function) = typed.functions.get(number as usize) {
-            for variable in &function.params {
-                bytes = bytes.saturating_add(typed.bytes_of(variable.ty.ty));
-            }
-        }
+    for variable in variables {
+        bytes = bytes.saturating_add(typed.bytes_of(variable.ty.ty));
     }
     bytes
+}
+
+/// How many bytes of the frame are those of parameters, and how many those of parameters and locals. A helper has none.
+fn variable_bytes(typed: &Typed, function: FnId) -> (u64, u64) {
+    if let FnId::User(number) = function {
+        if let Some(function) = typed.functions.get(number as usize) {
+            let parameters = bytes_of(typed, &function.params);
+            let locals = bytes_of(typed, &function.locals);
+            return (parameters, parameters.saturating_add(locals));
+        }
+    }
+    (0, 0)
 }
 
 fn put_function(out: &mut Listing, function: FnId) -> Result<(), AllocError> {
@@ -57,7 +64,9 @@ fn put_copy(
     out.word(of_root(copy.root))?;
     put_function(out, copy.function)?;
     put_place(out, &frame.name, frame.address, frame.size)?;
-    out.numbered("parameters", parameter_bytes(typed, copy.function))?;
+    let (parameters, variables) = variable_bytes(typed, copy.function);
+    out.numbered("parameters", parameters)?;
+    out.numbered("variables", variables)?;
     out.end()
 }
 
