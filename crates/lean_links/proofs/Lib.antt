@@ -1,4 +1,3 @@
 mod Counted
 mod Named
 pub mod Followed
-pub mod Shaped

@@ -6,14 +6,8 @@
 #![tactic(auto)]
 
 ghost use Rattle.lean_links.specs.Links.{LeanBlocksFollow};
-ghost use Rattle.lean_links.specs.Shapes.{LeanBlocksAreLike};
 
 /// Blocks that the pass makes follow the given ones.
 pub fn lean_blocks_follow()
     ensures { LeanBlocksFollow }
-{}
-
-/// They keep the start block, have no more words, have what holds of each given instruction, and end by words.
-pub fn lean_blocks_are_like()
-    ensures { LeanBlocksAreLike }
 {}
