@@ -1,7 +1,7 @@
 -- The numbers of variables' bytes that the pass is given are those of byte code.
-use Rattle.std.proofs.Common.{◌≡◌, ℕ, zero, suc, ◌+◌, ◌^◌, ◌-◌, ◌≤◌, List, [], ◌∷◌, map, min, Option, Some, None, refl, sym, ap, ◌∙◌, subst, arith}
-use Rattle.std.specs.Prelude.{slice_get, slice_index_or}
-use Rattle.std.proofs.lemmas.Nat.{min-eq_left}
+use Rattle.std.proofs.Common.{◌≡◌, ℕ, zero, suc, ◌+◌, ◌≤◌, List, [], ◌∷◌, map, Option, Some, None, refl, ap, ◌∙◌, subst, arith}
+use Rattle.std.specs.Prelude.{IfSome, slice_get, slice_index_or}
+use Rattle.std.proofs.Math.Nat.{min-eq_left}
 use mathlib.Core.Path.{fun_ext}
 use Rattle.c_typed.specs.Nodes.{capped}
 use Rattle.c_typed.specs.Room.{frame_size, variables_bytes}
@@ -14,15 +14,18 @@ use Rattle.call_graph.specs.Numbers.{handler_at}
 use Rattle.call_graph.specs.declared.types.FnCopy.{FnCopy}
 use Rattle.code_place.specs.Layouts.{layout_of}
 use Rattle.code_place.specs.Sizes.{Fit}
+use Rattle.core_code.specs.declared.code.CoreProgram.{CoreProgram}
 use Rattle.image_links.proofs.Laid.{frame_few}
 use Rattle.lean_pass.specs.Made.{IsAsGiven, IsLean, Kept}
 use Rattle.lean_pass.specs.Views.{variables_of}
 use Rattle.lower_stmt.specs.Programs.{core_of, size_or_none, function_at, function_in}
 use Rattle.pic_map.specs.declared.Placed.{Placed}
+use Rattle.program_code.specs.Joined.{IsJoined}
 use Rattle.ram_place.specs.Sizes as sizes
 use Rattle.std.specs.List.{AllZip}
 use Rattle.sym_code.specs.declared.code.SymBlock.{SymBlock}
-use Rattle.picc_core.specs.Coded.{HasSelects, IsLeanTo}
+use Rattle.sym_code.specs.declared.code.SymProgram.{SymProgram}
+use Rattle.picc_core.specs.Coded.{HasSelects, IsLeanTo, AsGiven, Seen, IsSymbolic}
 use Rattle.picc_core.specs.Founded.{IsFounded}
 
 -- ---- lists
@@ -76,7 +79,35 @@ module _ (typed : Typed) (copies : List FnCopy) (placed : Placed) (at : List ℕ
     fit = fit;
   }
 
--- ---- blocks as they were selected
-pub all_as_given : (blocks : List SymBlock) → AllZip IsAsGiven blocks blocks
-all_as_given [] = tt
-all_as_given (b ∷ blocks) = (record { name = refl; code = refl }, all_as_given blocks)
+  -- the same, of lists that were lent
+  pub lean_lent : (lent_copies : List FnCopy) (list lent_list : List ℕ) (handler : Option ℕ) (given lent_given lean made lent_made : List SymBlock) → lent_copies ≡ copies → list ≡ map bytes lent_copies → lent_list ≡ list
+      → lent_given ≡ given → lent_made ≡ made → handler ≡ handler_at copies → IsLean (layout_of placed) handler (variables_of lent_list) lent_given lean → HasSelects placed handler lean made → Fit lent_made at
+      → IsLeanTo p copies placed at given made
+  lean_lent lent_copies list lent_list handler given lent_given lean made lent_made of_copies is of_list of_given of_made same leaner selects fit =
+      lean_to list handler given lean made (is ∙ ap (map bytes) of_copies) same
+      (subst (λ (g : List SymBlock). IsLean (layout_of placed) handler (variables_of list) g lean) of_given (subst (λ (l : List ℕ). IsLean (layout_of placed) handler (variables_of l) lent_given lean) of_list leaner)) selects
+      (subst (λ (m : List SymBlock). Fit m at) of_made fit)
+
+  -- ---- all that is known of the code
+  leaner_symbolic : (core : CoreProgram) (given made : List SymBlock) → IsJoined core copies given → IsLeanTo p copies placed at given made → IsSymbolic p core copies placed at made
+  leaner_symbolic core given made joined is = record { given = given; joined = joined; lean = is.lean; leaner = is.leaner; selects = is.selects; room = Seen is.fit }
+
+  pub found_symbolic : (core : CoreProgram) (given : List SymBlock) (found : Option SymProgram) (made : SymProgram) → IsJoined core copies given → IfSome found (λ m. IsLeanTo p copies placed at given m.blocks.items) → found ≡ Some made
+      → IsSymbolic p core copies placed at made.blocks.items
+  found_symbolic core given found made joined all is =
+      leaner_symbolic core given made.blocks.items joined (subst (λ (o : Option SymProgram). IfSome o (λ m. IsLeanTo p copies placed at given m.blocks.items)) is all)
+
+  all_as_given : (blocks : List SymBlock) → AllZip IsAsGiven blocks blocks
+  all_as_given [] = tt
+  all_as_given (b ∷ blocks) = (record { name = refl; code = refl }, all_as_given blocks)
+
+  -- as it was selected
+  pub given_symbolic : (core : CoreProgram) (handler : Option ℕ) (given made : List SymBlock) → IsJoined core copies given → handler ≡ handler_at copies → HasSelects placed handler given made → IsSymbolic p core copies placed at made
+  given_symbolic core handler given made joined same selects = record {
+    given = given;
+    joined = joined;
+    lean = given;
+    leaner = Kept (all_as_given given);
+    selects = subst (λ (h : Option ℕ). HasSelects placed h given made) same selects;
+    room = AsGiven refl;
+  }
