@@ -367,9 +367,10 @@ class Shown:
         self.first = tuple(tuple(map(first_byte, x.parts)) for x in core if x.head == 'First')
         self.bodies = {x.parts[0]: tuple(operation(y, x.parts[0]) for y in x.below) for x in core if x.head == 'Body'}
         self.plain = blocks(tops['Plain'])
-        # where no pass makes code leaner, both are the same
-        self.lean = blocks(tops['Lean']) if 'Lean' in tops else self.plain
         self.selected = blocks(tops['Selected'])
+        # the code before selects were put into it, which is the first one where nothing was left out
+        lean = {name: tuple(x for x in block if not is_select(x)) for name, block in self.selected.items()}
+        self.lean = self.plain if lean == self.plain else lean
         self.addresses = {name(x.parts[0]): x.parts[1][1] for x in tops['Selected'].below}
         self.prices = {block: prices_in(self.selected[block]) for block in self.selected}
         image = tops['Image']

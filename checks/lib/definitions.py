@@ -11,7 +11,7 @@ import tempfile
 from collections import Counter
 from concurrent.futures import ProcessPoolExecutor
 
-from code_text import Shown, is_select
+from code_text import Shown
 from machines import FLAGS, Chip, Core, Source, Symbolic, layout_of, marked_prices, prices_by
 from interpreter import REACHED, definition
 from links import unfollowed
@@ -114,7 +114,7 @@ def contents(shown, chip):
 
 
 def code(shown, program):
-    """The byte code that is printed is that which the definitions make, and selects are all that the last symbolic code has more."""
+    """The byte code that is printed is that which the definitions make, and leaner code has the same blocks."""
     for c, copy in enumerate(shown.copies):
         if copy.function[0] == 'User' and program.body(c) != shown.bodies[c]:
             raise Differs('the byte code of copy %d is not that of the definitions' % c)
@@ -123,8 +123,8 @@ def code(shown, program):
             raise Differs('the frame of copy %d has %r bytes in the definitions, and not %r' % (c, sizes, (copy.size, copy.parameters, copy.variables)))
     if program.first != shown.first:
         raise Differs('first bytes %r are not %r' % (shown.first, program.first))
-    if {name: tuple(x for x in block if not is_select(x)) for name, block in shown.selected.items()} != shown.lean:
-        raise Differs('the code with selects has other instructions than that without')
+    if shown.lean.keys() != shown.plain.keys() or shown.lean[('Start',)] != shown.plain[('Start',)]:
+        raise Differs('the leaner code has other blocks, or another start block')
 
 
 def words(shown):
