@@ -17,7 +17,7 @@
 //!               Body copy, root; its operations
 //!     a byte    F(offset) of the own frame | Frame(copy, offset) | Static(object, offset) | Result(root, k) | Device(address)
 //!     Plain     Block Start | Copy(number), at(address); its instructions, without selects, in the order of code
-//!     Selected  the same with selects
+//!     Selected  the leaner code with its selects
 //!     Image     main(address), halt(address); a Word address, word for each word that isn't erased
 //!
 //! No clause says what the text is; nothing stands on it but checks and readers.

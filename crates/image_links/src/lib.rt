@@ -88,10 +88,10 @@ pub fn translations_are_faithful()
     ensures { TranslationsAreFaithful }
 {}
 
-/// Each block with its selects has at most the words that are stated of it: the start block, the block of a function's copy, and that of
-/// a helper's. So each has room where blocks of the stated words are placed, if they stand in the same order; and in what the passes make
-/// they do, since copies and blocks are sorted by the same ranks. So no block of it lacks room where `pages` puts it. A program has fewer
-/// than 8,192 copies, since each block has a word.
+/// Where the code is as it was selected, each block with its selects has at most the words that are stated of it: the start block, the block
+/// of a function's copy, and that of a helper's. So each has room where blocks of the stated words are placed, if they stand in the same
+/// order; and in what the passes make they do, since copies and blocks are sorted by the same ranks. So no block of such code lacks room
+/// where `pages` puts it; of leaner code that is tested. A program has fewer than 8,192 copies, since each block has a word.
 pub fn blocks_have_room()
     ensures stated { BlocksAreStated }
     ensures fit { BlocksFit }

@@ -89,7 +89,7 @@ fn built(alloc: Global, front: Front, saving: Saving) -> Result<Built, AllocErro
     })
 }
 
-/// Byte code, and symbolic code without selects and with those that it needs.
+/// Byte code, symbolic code as it was selected, and what is placed: leaner where that has room, with its selects.
 #[derive(Drop)]
 pub struct Codes {
     pub core: CoreProgram,
@@ -177,7 +177,7 @@ pub fn compile(alloc: Global, text: &[u8]) -> Result<Built, CompileError>
     compiled(alloc, text, Saving::Lean)
 }
 
-/// The same where nothing is left out, and no flow facts are sought: each block is as it was selected, with the selects that it needs by
+/// The same where no instruction is left out but selects, and no flow facts are sought: each block is as it was selected, with the selects that it needs by
 /// what its straight code tells. `compile` is measured by it.
 pub fn compile_plain(alloc: Global, text: &[u8]) -> Result<Built, CompileError>
     // A text over 262,144 bytes is refused so.

@@ -4,8 +4,8 @@ ghost use Rattle.std.specs.Prelude.{◌≡◌, ◌<◌, ◌-◌, ◌^◌, ◌++�
 
 use std::alloc::{AllocError, Global};
 
-/// For each loop what stood before it in the block, innermost last. No list is longer than that, so that each loop has two
-/// numbers for its labels.
+/// For each loop what stood before it in the block, innermost last: below 2 ^ 63, as the length of any list is, so that each loop has
+/// two numbers for its labels.
 #[derive(Drop)]
 pub struct Loops {
     pub starts: Vec<usize>,
