@@ -5,8 +5,9 @@
 # schedule that is read off a run of the chip with arrivals at any instruction. Between any two events each language has to cost no more
 # than the one above it allows; a run of symbolic code has a place for each moment of the run of byte code, also where no event is
 # near; each block has room where it stands, and as it was selected no more words than are stated for it; objects end with what was
-# written; and `picc trace` ends at the undefined step that the definitions meet. The programs: three small ones of examples/, and eight random ones from seed 1. `definitions.sh COUNT
-# [SEED]` runs so many random ones, and the texts of examples/, of all crates of examples and of checks/cases/ too.
+# written; and `picc trace` ends at the undefined step that the definitions meet. The programs: three small ones of examples/, and
+# eight random ones from seed 1. `definitions.sh COUNT [SEED]` runs so many random ones, and the texts of examples/, of all crates of
+# examples and of checks/cases/ too.
 # PICC names a program in place of the launcher, `-` for none; PICC_SHOW one in place of picc_show; PROCESSES says how many processes work at the same time.
 set -u
 . "$(dirname -- "$0")/lib/common.sh" || exit 1
