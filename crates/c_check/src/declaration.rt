@@ -91,7 +91,7 @@ fn add_function(
     name: &[u8],
     returns: Qualified,
     params: Vec<Ty>,
-) -> Result<u32, CheckError>
+) -> Result<usize, CheckError>
     ensures { Answers (λ n. n) result (known_of checker.new) (rule.function_added None name.now returns params.items (known_of checker.old)) }
 {
     let function = checker.functions.add(name, returns, params)?;
@@ -120,7 +120,7 @@ fn function_number(
     bad: bool,
     defines: bool,
     line: u32,
-) -> Result<u32, CheckError>
+) -> Result<usize, CheckError>
     ensures { Answers (λ n. n) result (known_of checker.new) (function_known (innermost_in (known_of checker.old).scopes name.now) name.now returns types.items bad defines line (known_of checker.old)) }
 {
     match checker.scopes.innermost(name) {
@@ -351,7 +351,7 @@ fn typed_object(
     specified: Specified,
     ty: Qualified,
     name: &[u8],
-    declarator: u32,
+    declarator: usize,
     line: u32,
 ) -> Result<Vec<TStmt>, CheckError>
     ensures { Answers (λ made. map statement_of made.items) result (known_of checker.new) (rule.block_object (specified_of specified) ty (rule.init_in (equals_of init.now)) name.now declarator line (known_of checker.old)) }
@@ -375,7 +375,7 @@ fn block_object(
     ensures { Answers (λ made. map statement_of made.items) result (known_of checker.new) (object_in_block (specified_of specified) (outline_of outline) (equals_of init.now) name.now line (known_of checker.old)) }
 {
     let ty = object_type(&checker.types, specified, outline, is_given(init), line)?;
-    let declarator = checker.body.next_declarator()?;
+    let declarator = checker.body.next_declarator(line)?;
     typed_object(init, checker, specified, ty, name, declarator, line)
 }
 

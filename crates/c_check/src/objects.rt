@@ -104,7 +104,7 @@ fn is_sized(types: &Types, whole: Qualified, length: usize) -> bool
 fn closed_array(
     types: &mut Types,
     ty: Qualified,
-    row: u32,
+    row: usize,
     length: Option<usize>,
     line: u32,
 ) -> Result<Qualified, CheckError>
@@ -154,7 +154,7 @@ fn closed(
 fn map_name(
     alloc: Global,
     function: &[u8],
-    declarator: u32,
+    declarator: usize,
     name: &[u8],
 ) -> Result<Vec<u8>, AllocError>
     ensures { IfOk result (λ whole. whole.items ≡ rule.block_name function.now declarator name.now) }
@@ -191,7 +191,7 @@ fn bind_object(
 fn begin_static(
     init: &Init,
     checker: &mut Checker,
-    number: u32,
+    number: usize,
     name: &[u8],
     ty: Qualified,
     line: u32,
@@ -234,7 +234,7 @@ pub(crate) fn static_object(
 pub(crate) fn block_static(
     init: Option<&Init>,
     checker: &mut Checker,
-    declarator: u32,
+    declarator: usize,
     name: &[u8],
     ty: Qualified,
     line: u32,

@@ -28,7 +28,7 @@ use c_typed::{Initial, InitialByte, Object, TExpr, TItem, TPlace, Ty, is_scalar,
 use check_expr::constants::folded;
 use std::alloc::Global;
 
-fn static_number(object: Object) -> Option<u32>
+fn static_number(object: Object) -> Option<usize>
     ensures { result ≡ rule.static_number object }
 {
     match object {
@@ -38,7 +38,7 @@ fn static_number(object: Object) -> Option<u32>
 }
 
 #[tactic(auto, using(crate::proofs::Addresses::names))]
-fn static_name(place: &TPlace) -> Option<u32>
+fn static_name(place: &TPlace) -> Option<usize>
     ensures { result ≡ rule.static_name (place_of place.now) }
 {
     match place {
@@ -49,7 +49,7 @@ fn static_name(place: &TPlace) -> Option<u32>
 
 // The static object whose address a value is: its name with `&`, or the name of an array.
 #[tactic(auto, using(crate::proofs::Addresses::addresses))]
-fn static_address(value: &TExpr) -> Option<u32>
+fn static_address(value: &TExpr) -> Option<usize>
     ensures { result ≡ rule.static_address (expression_of value.now) }
 {
     match value {
@@ -167,7 +167,7 @@ fn put_number(sink: &mut Sink, offset: u64, ty: IntTy, value: Value) -> Result<(
 }
 
 #[tactic(auto, using(crate::proofs::Puts::address_put))]
-fn push_address(begun: &mut Vec<Initial>, offset: u64, object: u32) -> Result<(), CheckError>
+fn push_address(begun: &mut Vec<Initial>, offset: u64, object: usize) -> Result<(), CheckError>
     ensures ok { OnOk result (begun.new.items ≡ begun.old.items ++ rule.address_bytes offset object) }
     ensures err { IfErr result (λ e. e ≡ NoMemory) }
 {
@@ -182,7 +182,7 @@ fn push_address(begun: &mut Vec<Initial>, offset: u64, object: u32) -> Result<()
     Ok(())
 }
 
-fn put_address(sink: &mut Sink, offset: u64, object: u32) -> Result<(), CheckError>
+fn put_address(sink: &mut Sink, offset: u64, object: usize) -> Result<(), CheckError>
     ensures ok { OnOk result (begun_of sink.new ≡ rule.with_initial (rule.address_bytes offset object) (begun_of sink.old)) }
     ensures err { IfErr result (λ e. e ≡ NoMemory) }
 {

@@ -59,7 +59,7 @@ fn behind(start: u64, bytes: u64, count: usize) -> Result<u64, CheckError>
     }
 }
 
-fn element(types: &Types, slot: Slot, row: u32, number: usize) -> Result<Slot, CheckError>
+fn element(types: &Types, slot: Slot, row: usize, number: usize) -> Result<Slot, CheckError>
     ensures ok { (known : Known) → IfOk result (λ s. slot_of s ≡ rule.element_slot (types_in types.now known) (slot_of slot) (like slot.ty (target_of (types_in types.now known) row).ty) number) }
     ensures err { IfErr result (λ e. e ≡ NoMemory) }
 {
@@ -73,7 +73,7 @@ fn element(types: &Types, slot: Slot, row: u32, number: usize) -> Result<Slot, C
 fn member(
     types: &Types,
     slot: Slot,
-    structure: u32,
+    structure: usize,
     number: usize,
 ) -> Result<Option<Slot>, CheckError>
     ensures ok { (known : Known) → IfOk result (λ s. any_slot s ≡ rule.member_slot slot.offset (slice_get (fields_of (types_in types.now known) structure) number)) }

@@ -14,7 +14,7 @@ ghost use Rattle.c_check.specs.StatementViews.{body_of, case_rule, default_rule,
 
 use c_ints::{IntTy, convert};
 use c_operate::checker::Checker;
-use c_operate::error::{CheckError, Kind, number, refused};
+use c_operate::error::{CheckError, Kind, refused};
 use c_tree::expression::Cond;
 use c_tree::statement::Label;
 use c_typed::{TCase, TExpr, TStmt};
@@ -28,7 +28,7 @@ pub(crate) struct SwitchBody {
     ty: IntTy,
     cases: Vec<TCase>,
     seen: IndexSet<i64>,
-    default: Option<u32>,
+    default: Option<usize>,
     statements: Vec<TStmt>,
 }
 
@@ -86,7 +86,7 @@ fn case(
     value: &Cond,
     checker: &mut Checker,
     body: &mut SwitchBody,
-    target: u32,
+    target: usize,
     line: u32,
 ) -> Result<(), CheckError>
     requires sees { Sees body.now }
@@ -111,7 +111,7 @@ fn case(
 fn default(
     checker: &mut Checker,
     body: &mut SwitchBody,
-    target: u32,
+    target: usize,
     line: u32,
 ) -> Result<(), CheckError>
     requires sees { Sees body.now }
@@ -134,7 +134,7 @@ pub(crate) fn labelled(
     requires sees { Sees body.now }
     ensures { Labels result body.new body.old.ty (known_of checker.new) (rule.label_rule (label_of label.now) body.old.ty (body_of body.old) (known_of checker.old)) }
 {
-    let target = number(body.statements.len())?;
+    let target = body.statements.len();
     match label {
         Label::Case { keyword, value, .. } => case(value, checker, body, target, *keyword),
         Label::Default { keyword, .. } => default(checker, body, target, *keyword),

@@ -1,5 +1,5 @@
 -- The tables of the checker, as the rules speak of them: what is known at a place.
-use Rattle.std.specs.Prelude.{pos, List, [], map, reverse}
+use Rattle.std.specs.Prelude.{pos, List, [], length, map, reverse}
 use Rattle.c_ints.specs.Range.{cut}
 use Rattle.c_ints.specs.declared.types.IntTy.TheVariants as int
 use Rattle.c_typed.specs.Views.{static_of, variable_of}
@@ -60,7 +60,7 @@ abbrev pub scopes_of : Scopes → List Scope
 scopes_of s = reverse (map (λ m. map (λ e. (e.0.items, binding_of e.1)) m.entries) s.open.items)
 
 abbrev pub scopes_in : Scopes → Known → Known
-scopes_in s known = record known { scopes = scopes_of s; lists = s.lists }
+scopes_in s known = record known { scopes = scopes_of s; lists = length s.lists.items }
 
 -- ---- functions, static objects, the body
 
@@ -74,7 +74,7 @@ abbrev pub statics_in : Statics → Known → Known
 statics_in s known = record known { statics = map static_of s.entries.items }
 
 abbrev pub body_of : Body → rule.Body
-body_of b = record { name = b.name.items; result = b.result; locals = map variable_of b.locals.items; declarators = b.declarators }
+body_of b = record { name = b.name.items; result = b.result; locals = map variable_of b.locals.items; declarators = length b.declarators.items }
 
 abbrev pub body_in : Body → Known → Known
 body_in b known = record known { body = body_of b }

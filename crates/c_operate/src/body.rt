@@ -11,15 +11,15 @@ use crate::error::{CheckError, number};
 use c_typed::{Qualified, Ty, Variable};
 use std::alloc::Global;
 
-/// The body of a function: the function's name, the type of its result, its locals so far, and how many
-/// declarators of the body came already.
+/// The body of a function: the function's name, the type of its result, its locals so far, and the lines
+/// of the declarators of the body that came already.
 #[derive(Drop)]
 pub struct Body {
     alloc: Global,
     name: Vec<u8>,
     result: Ty,
     locals: Vec<Variable>,
-    declarators: u32,
+    declarators: Vec<u32>,
 }
 
 impl Body {
@@ -32,7 +32,7 @@ impl Body {
             name: Vec::new(alloc),
             result: Ty::Void,
             locals: Vec::new(alloc),
-            declarators: 0,
+            declarators: Vec::new(alloc),
         }
     }
 
@@ -45,7 +45,7 @@ impl Body {
             name: name.to_vec(alloc)?,
             result: returns,
             locals: Vec::new(alloc),
-            declarators: 0,
+            declarators: Vec::new(alloc),
         })
     }
 
@@ -63,15 +63,12 @@ impl Body {
         self.result
     }
 
-    /// The number of the next declarator among those of the body, from 0.
-    pub fn next_declarator(&mut self) -> Result<u32, CheckError>
+    /// The number of the next declarator among those of the body, from 0; it stands in this line.
+    pub fn next_declarator(&mut self, line: u32) -> Result<usize, CheckError>
         ensures { (known : Known) → Answers (λ number. number) result (body_in self.new known) (objects.next_declarator (body_in self.old known)) }
     {
-        let declarator = self.declarators;
-        let Some(next) = declarator.checked_add(1) else {
-            return Err(CheckError::NoMemory);
-        };
-        self.declarators = next;
+        let declarator = self.declarators.len();
+        self.declarators.push(line)?;
         Ok(declarator)
     }
 

@@ -19,7 +19,7 @@ use c_typed::{TExpr, Ty};
 use std::alloc::Global;
 
 // The number of the function that a term names without brackets.
-fn function_of(term: &Term) -> Option<u32>
+fn function_of(term: &Term) -> Option<usize>
     ensures { result ≡ rule.function_named (form_of term.now.form) }
 {
     match &term.form {
@@ -29,7 +29,7 @@ fn function_of(term: &Term) -> Option<u32>
 }
 
 // The number of a function among those that the unit defines, if it defines it.
-fn definition_of(functions: &Functions, function: u32) -> Option<u32>
+fn definition_of(functions: &Functions, function: usize) -> Option<u32>
     ensures { result ≡ rule.definition_in (slice_get (map signature_of functions.now.declared.items) function) }
 {
     match functions.signature(function) {

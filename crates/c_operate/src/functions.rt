@@ -2,7 +2,7 @@
 
 ghost use Rattle.std.specs.Prelude.{◌≤◌, length};
 
-use crate::error::{CheckError, Kind, number, refused};
+use crate::error::{CheckError, Kind, refused};
 use c_typed::{Qualified, Ty};
 use indexmap::IndexSet;
 use std::alloc::Global;
@@ -43,7 +43,7 @@ impl Signature {
 }
 
 /// The functions that are declared, in the order of their first declaration, and the names of those that
-/// the unit defines, in the order of their definitions. These are so few that a `u32` numbers them.
+/// the unit defines, in the order of their definitions. The latter are so few that a `u32` numbers them.
 #[derive(Drop)]
 pub struct Functions {
     declared: Vec<Signature>,
@@ -72,10 +72,10 @@ impl Functions {
     }
 
     /// The function of a number among those declared.
-    pub fn signature(&self, function: u32) -> Option<&Signature>
+    pub fn signature(&self, function: usize) -> Option<&Signature>
         ensures { option_map (λ s. signature_of s.now) result ≡ slice_get (map signature_of self.now.declared.items) function }
     {
-        self.declared.get(function as usize)
+        self.declared.get(function)
     }
 
     fn definition_of(&self, name: &[u8]) -> Option<u32>
@@ -93,10 +93,10 @@ impl Functions {
         name: &[u8],
         returns: Qualified,
         params: Vec<Ty>,
-    ) -> Result<u32, CheckError>
+    ) -> Result<usize, CheckError>
         ensures { (known : Known) → Answers (λ number. number) result (functions_in self.new known) (declarations.new_function name.now returns params.items (functions_in self.old known)) }
     {
-        let function = number(self.declared.len())?;
+        let function = self.declared.len();
         let definition = self.definition_of(name);
         self.declared.push(Signature {
             result: returns,
@@ -107,7 +107,7 @@ impl Functions {
         Ok(function)
     }
 
-    fn is_same(&self, function: u32, returns: Qualified, params: &[Ty], defines: bool) -> bool
+    fn is_same(&self, function: usize, returns: Qualified, params: &[Ty], defines: bool) -> bool
         ensures { result ≡ declarations.is_same (slice_get (map signature_of self.now.declared.items) function) returns params.now defines }
     {
         match self.signature(function) {
@@ -120,7 +120,7 @@ impl Functions {
     /// which may come once.
     pub fn refuse_other(
         &self,
-        function: u32,
+        function: usize,
         returns: Qualified,
         params: &[Ty],
         defines: bool,
@@ -136,10 +136,10 @@ impl Functions {
     }
 
     /// Notes that the body of a function comes.
-    pub fn set_defined(&mut self, function: u32)
+    pub fn set_defined(&mut self, function: usize)
         ensures { (known : Known) → declarations.set_defined true function (functions_in self.old known) ≡ Ok (functions_in self.new known, functions_in self.new known) }
     {
-        if let Some(signature) = self.declared.get_mut(function as usize) {
+        if let Some(signature) = self.declared.get_mut(function) {
             signature.defined = true;
         }
     }

@@ -238,7 +238,7 @@ pub(crate) fn deref_place(
 pub(crate) fn member_place(
     alloc: Global,
     whole: TPlace,
-    member: u32,
+    member: usize,
     offset: u64,
     ty: Qualified,
     line: u32,

@@ -101,21 +101,21 @@ fn index_type(ty: IntTy) -> Ty
 }
 
 /// Whether a pointer may be moved: what it points to is no void and no structure without a body.
-pub(crate) fn counts_in(types: &Types, target: u32) -> bool
+pub(crate) fn counts_in(types: &Types, target: usize) -> bool
     ensures { (known : Known) → result ≡ rule.counts_in (types_in types.now known) target }
 {
     types.is_complete(types.target(target).ty)
 }
 
 /// How many bytes what a pointer points to has.
-pub(crate) fn element_bytes(types: &Types, target: u32) -> u64
+pub(crate) fn element_bytes(types: &Types, target: usize) -> u64
     ensures { (known : Known) → result ≡ rule.element_bytes (types_in types.now known) target }
 {
     types.bytes_of(types.target(target).ty)
 }
 
 // The operation that moves a pointer to this by one of the two sides.
-fn moved(types: &Types, target: u32, left: Ty, right: Ty) -> Option<Operation>
+fn moved(types: &Types, target: usize, left: Ty, right: Ty) -> Option<Operation>
     ensures { (known : Known) → option_map operation_of result ≡ rule.moved (types_in types.now known) target left right }
 {
     if counts_in(types, target) {
@@ -131,7 +131,7 @@ fn moved(types: &Types, target: u32, left: Ty, right: Ty) -> Option<Operation>
     }
 }
 
-fn pointer_and_integer(types: &Types, op: BinOp, target: u32, b: IntTy) -> Option<Operation>
+fn pointer_and_integer(types: &Types, op: BinOp, target: usize, b: IntTy) -> Option<Operation>
     ensures { (known : Known) → option_map operation_of result ≡ rule.pointer_and_integer (types_in types.now known) op target b }
 {
     match op {
@@ -153,7 +153,7 @@ fn pointer_and_integer(types: &Types, op: BinOp, target: u32, b: IntTy) -> Optio
     }
 }
 
-fn integer_and_pointer(types: &Types, op: BinOp, a: IntTy, target: u32) -> Option<Operation>
+fn integer_and_pointer(types: &Types, op: BinOp, a: IntTy, target: usize) -> Option<Operation>
     ensures { (known : Known) → option_map operation_of result ≡ rule.integer_and_pointer (types_in types.now known) op a target }
 {
     match op {
@@ -177,13 +177,13 @@ fn integer_and_pointer(types: &Types, op: BinOp, a: IntTy, target: u32) -> Optio
 }
 
 // Whether two pointers point to one type, qualifiers aside.
-fn point_alike(types: &Types, a: u32, b: u32) -> bool
+fn point_alike(types: &Types, a: usize, b: usize) -> bool
     ensures { (known : Known) → result ≡ rule.point_alike (types_in types.now known) a b }
 {
     same_type(types.target(a).ty, types.target(b).ty)
 }
 
-fn difference(types: &Types, a: u32, b: u32) -> Option<Operation>
+fn difference(types: &Types, a: usize, b: usize) -> Option<Operation>
     ensures { (known : Known) → option_map operation_of result ≡ rule.difference (types_in types.now known) a b }
 {
     if !point_alike(types, a, b) {
@@ -201,7 +201,7 @@ fn difference(types: &Types, a: u32, b: u32) -> Option<Operation>
     })
 }
 
-fn points_to_void(types: &Types, target: u32) -> bool
+fn points_to_void(types: &Types, target: usize) -> bool
     ensures { (known : Known) → result ≡ rule.points_to_void (types_in types.now known) target }
 {
     is_void(types.target(target).ty)
@@ -209,7 +209,7 @@ fn points_to_void(types: &Types, target: u32) -> bool
 
 // Two pointers that are compared, by whether they point to one type and which of them points to void. A side that isn't
 // void, or a null constant, takes the other's type.
-fn equality_by(alike: bool, a: (u32, bool, bool), b: (u32, bool, bool)) -> Option<Operation>
+fn equality_by(alike: bool, a: (usize, bool, bool), b: (usize, bool, bool)) -> Option<Operation>
     ensures { option_map operation_of result ≡ (if alike then Some (rule.on_one (Pointer a.0) (Pointer b.0) rule.plain_int) else if a.2 || (b.1 && not b.2) then Some (rule.on_one (Pointer a.0) (Pointer a.0) rule.plain_int) else if b.2 || a.1 then Some (rule.on_one (Pointer b.0) (Pointer b.0) rule.plain_int) else None) }
 {
     if alike {
@@ -224,7 +224,7 @@ fn equality_by(alike: bool, a: (u32, bool, bool), b: (u32, bool, bool)) -> Optio
 }
 
 // Two pointers that are compared: their rows, and whether they are null constants.
-fn equality(types: &Types, a: u32, a_null: bool, b: u32, b_null: bool) -> Option<Operation>
+fn equality(types: &Types, a: usize, a_null: bool, b: usize, b_null: bool) -> Option<Operation>
     ensures { (known : Known) → option_map operation_of result ≡ rule.equality (types_in types.now known) a a_null b b_null }
 {
     let alike = point_alike(types, a, b);
@@ -256,7 +256,7 @@ fn is_equality(op: BinOp) -> bool
 }
 
 // Two pointers that are compared, and that have to point to one type.
-fn ordered(types: &Types, a: u32, b: u32) -> Option<Operation>
+fn ordered(types: &Types, a: usize, b: usize) -> Option<Operation>
     ensures { (known : Known) → option_map operation_of result ≡ (if rule.point_alike (types_in types.now known) a b then Some (rule.on_one (Pointer a) (Pointer b) rule.plain_int) else None) }
 {
     if point_alike(types, a, b) {
@@ -266,7 +266,7 @@ fn ordered(types: &Types, a: u32, b: u32) -> Option<Operation>
     }
 }
 
-fn on_pointers(types: &Types, op: BinOp, a: u32, b: u32) -> Option<Operation>
+fn on_pointers(types: &Types, op: BinOp, a: usize, b: usize) -> Option<Operation>
     ensures { (known : Known) → option_map operation_of result ≡ rule.on_pointers (types_in types.now known) op a b }
 {
     match op {
@@ -310,7 +310,7 @@ fn beside_integer(
 }
 
 // An operator whose left operand is a pointer.
-fn beside_pointer(types: &Types, op: BinOp, a: u32, a_null: bool, right: Side) -> Option<Operation>
+fn beside_pointer(types: &Types, op: BinOp, a: usize, a_null: bool, right: Side) -> Option<Operation>
     ensures { (known : Known) → option_map operation_of result ≡ rule.operation_on (types_in types.now known) op a_null right.null (Pointer a) right.ty }
 {
     match right.ty {

@@ -10,7 +10,7 @@ ghost use Rattle.c_operate.specs.Tables.{field_of, types_in};
 ghost use Rattle.c_operate.specs.Terms.{form_of, lvalue_reach, operand_of, operation_of, reach_of, term_of};
 
 use crate::conversion::converted;
-use crate::error::{CheckError, Kind, number, refused};
+use crate::error::{CheckError, Kind, refused};
 use crate::nodes::{address_node, deref_place, member_place, offset_node};
 use crate::operation::{Operation, operation_of};
 use crate::term::{
@@ -270,7 +270,7 @@ pub fn member(
         return refused(Kind::Member, line);
     };
     let ty = part_type(ty, field.ty);
-    let place = member_place(alloc, whole.place, number(index)?, field.offset, ty, line)?;
+    let place = member_place(alloc, whole.place, index, field.offset, ty, line)?;
     let place = Lvalue {
         place,
         through: whole.through,

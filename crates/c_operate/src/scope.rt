@@ -29,7 +29,7 @@ pub enum Binding {
         bit: u8,
     },
     /// The function of this number among those that are declared.
-    Function(u32),
+    Function(usize),
     /// A type. `incomplete` says that it has arrays of what wasn't complete where it was named.
     TypeName {
         ty: Qualified,
@@ -57,13 +57,13 @@ impl Names {
 }
 
 /// The names of the scopes that are open, the innermost last. The first is that of the file. The
-/// names of the device's registers and bits stand in a scope round it. `lists` counts the open scopes that
-/// are those of parameters.
+/// names of the device's registers and bits stand in a scope round it. `lists` has the places among the open
+/// scopes of those of parameters.
 #[derive(Drop)]
 pub struct Scopes {
     alloc: Global,
     open: Vec<IndexMap<Vec<u8>, Binding>>,
-    lists: usize,
+    lists: Vec<usize>,
 }
 
 fn builtin(name: &[u8]) -> Option<Binding>
@@ -103,7 +103,7 @@ impl Scopes {
         Scopes {
             alloc,
             open: Vec::new(alloc),
-            lists: 0,
+            lists: Vec::new(alloc),
         }
     }
 
@@ -126,10 +126,7 @@ impl Scopes {
     pub fn enter_list(&mut self) -> Result<(), CheckError>
         ensures { (known : Known) → Learns result (scopes_in self.new known) (names.enter_list (scopes_in self.old known)) }
     {
-        let Some(lists) = self.lists.checked_add(1) else {
-            return Err(CheckError::NoMemory);
-        };
-        self.lists = lists;
+        self.lists.push(self.open.len())?;
         self.enter()
     }
 
@@ -137,7 +134,7 @@ impl Scopes {
     pub fn leave_list(&mut self) -> Names
         ensures { (known : Known) → names.leave_list (scopes_in self.old known) ≡ Ok (scope_of result, scopes_in self.new known) }
     {
-        self.lists = self.lists.saturating_sub(1);
+        let _list = self.lists.pop();
         match self.open.pop() {
             Some(entries) => Names { entries },
             None => Names::none(self.alloc),
@@ -157,7 +154,7 @@ impl Scopes {
     pub fn is_file(&self) -> bool
         ensures { (known : Known) → result ≡ names.in_file (scopes_in self.now known) }
     {
-        self.open.len() <= self.lists.saturating_add(1)
+        self.open.len() <= self.lists.len() + 1
     }
 
     /// What a name stands for.

@@ -6,7 +6,7 @@ ghost use Rattle.type_rules.specs.Objects as objects;
 ghost use Rattle.c_operate.specs.Answers.{Answers};
 ghost use Rattle.c_operate.specs.Tables.{statics_in};
 
-use crate::error::{CheckError, number};
+use crate::error::CheckError;
 use c_typed::{Initial, Qualified, Static};
 use std::alloc::Global;
 
@@ -29,10 +29,10 @@ impl Statics {
     }
 
     /// Puts an object that begins as 0 after the others, and gives its number.
-    pub fn add(&mut self, name: Vec<u8>, ty: Qualified, line: u32) -> Result<u32, CheckError>
+    pub fn add(&mut self, name: Vec<u8>, ty: Qualified, line: u32) -> Result<usize, CheckError>
         ensures { (known : Known) → Answers (λ number. number) result (statics_in self.new known) (objects.add_static name.items ty line (statics_in self.old known)) }
     {
-        let object = number(self.entries.len())?;
+        let object = self.entries.len();
         self.entries.push(Static {
             name,
             ty,
@@ -43,10 +43,10 @@ impl Statics {
     }
 
     /// Gives an object the type that its initializer completed, and the bytes that it begins with.
-    pub fn complete(&mut self, object: u32, ty: Qualified, initial: Vec<Initial>)
+    pub fn complete(&mut self, object: usize, ty: Qualified, initial: Vec<Initial>)
         ensures { (known : Known) → objects.complete_static object ty initial.items (statics_in self.old known) ≡ Ok (statics_in self.new known, statics_in self.new known) }
     {
-        if let Some(entry) = self.entries.get_mut(object as usize) {
+        if let Some(entry) = self.entries.get_mut(object) {
             entry.ty = ty;
             entry.initial = initial;
         }

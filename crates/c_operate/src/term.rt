@@ -63,7 +63,7 @@ pub(crate) enum Form {
     Lvalue(Lvalue),
     /// The name of the function of this number among those declared; `bare` where no brackets stand
     /// round it.
-    Function { number: u32, bare: bool },
+    Function { number: usize, bare: bool },
     /// The name of a type.
     TypeName,
 }
@@ -169,7 +169,7 @@ pub(crate) fn array_start(
     alloc: Global,
     types: &mut Types,
     place: TPlace,
-    element: u32,
+    element: usize,
     line: u32,
 ) -> Result<TExpr, CheckError>
     ensures { (known : Known) → Answers expression_of result (types_in types.new known) (rule.array_start (place_of place) element line (types_in types.old known)) }

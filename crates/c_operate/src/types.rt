@@ -14,7 +14,7 @@ ghost use Rattle.c_operate.specs.Answers.{Answers, Learns, kind_of};
 ghost use Rattle.c_operate.specs.Tables.{field_of, progress_of, shape_of, tag_of, types_in};
 ghost use Rattle.c_operate.specs.declared.error.CheckError.TheVariants.{NoMemory};
 
-use crate::error::{CheckError, Kind, copied, number};
+use crate::error::{CheckError, Kind, copied};
 use c_typed::{Member, Qualified, Structure, Ty};
 use indexmap::{IndexMap, IndexSet};
 use std::alloc::Global;
@@ -37,7 +37,7 @@ struct Shape {
 /// What a tag is that of: the structure of this number, or an enumeration.
 #[derive(Clone, Copy, PartialEq, Eq)]
 pub enum Tag {
-    Structure(u32),
+    Structure(usize),
     Enumeration,
 }
 
@@ -141,19 +141,19 @@ impl Types {
     }
 
     /// The row of a type that is pointed to.
-    fn row(&mut self, target: Qualified) -> Result<u32, CheckError>
+    fn row(&mut self, target: Qualified) -> Result<usize, CheckError>
         ensures err { IfErr result (λ e. e ≡ NoMemory) }
         ensures said { (known : Known) → Answers (λ row. row) result (types_in self.new known) (rows.row_of target (types_in self.old known)) }
     {
         let (index, _) = self.targets.insert_full(target)?;
-        number(index)
+        Ok(index)
     }
 
     /// The type of a row.
-    pub fn target(&self, row: u32) -> Qualified
+    pub fn target(&self, row: usize) -> Qualified
         ensures { (known : Known) → result ≡ rows.target_of (types_in self.now known) row }
     {
-        match self.targets.get_index(row as usize) {
+        match self.targets.get_index(row) {
             Some(target) => *target,
             None => plain(Ty::Void),
         }
@@ -188,7 +188,7 @@ impl Types {
         ensures { (known : Known) → result ≡ rows.bytes_of (types_in self.now known) ty }
     {
         match ty {
-            Ty::Struct(number) => match self.shapes.get(number as usize) {
+            Ty::Struct(number) => match self.shapes.get(number) {
                 Some(shape) => shape.size,
                 None => 0,
             },
@@ -210,17 +210,17 @@ impl Types {
     }
 
     /// How far the body of a structure is.
-    pub fn progress(&self, number: u32) -> Progress
+    pub fn progress(&self, number: usize) -> Progress
         ensures { (known : Known) → progress_of result ≡ rows.progress_of (types_in self.now known) number }
     {
-        match self.shapes.get(number as usize) {
+        match self.shapes.get(number) {
             Some(shape) => shape.body,
             None => Progress::Absent,
         }
     }
 
     /// Why a body of a structure can't stand where no body may: it is a second one, or one too many.
-    pub fn second_body(&self, number: u32) -> Kind
+    pub fn second_body(&self, number: usize) -> Kind
         ensures { (known : Known) → kind_of result ≡ (if rows.is_absent (rows.progress_of (types_in self.now known) number) then kind.Declare else kind.Again) }
     {
         match self.progress(number) {
@@ -231,11 +231,11 @@ impl Types {
     }
 
     /// A structure without a body so far.
-    fn add_structure(&mut self) -> Result<u32, CheckError>
+    fn add_structure(&mut self) -> Result<usize, CheckError>
         ensures err { IfErr result (λ e. e ≡ NoMemory) }
         ensures said { (known : Known) → Answers (λ number. number) result (types_in self.new known) (rows.new_structure (types_in self.old known)) }
     {
-        let index = number(self.shapes.len())?;
+        let index = self.shapes.len();
         let shape = Shape {
             fields: IndexMap::new(self.alloc),
             size: 0,
@@ -265,14 +265,14 @@ impl Types {
     }
 
     /// A structure without a tag.
-    pub fn untagged(&mut self) -> Result<u32, CheckError>
+    pub fn untagged(&mut self) -> Result<usize, CheckError>
         ensures { (known : Known) → Answers (λ number. number) result (types_in self.new known) (rows.new_structure (types_in self.old known)) }
     {
         self.add_structure()
     }
 
     /// The structure of a tag that isn't declared yet.
-    pub fn declare_tag(&mut self, tag: &[u8]) -> Result<u32, CheckError>
+    pub fn declare_tag(&mut self, tag: &[u8]) -> Result<usize, CheckError>
         ensures { (known : Known) → Answers (λ number. number) result (types_in self.new known) (rows.new_tag tag.now (types_in self.old known)) }
     {
         let structure = self.add_structure()?;
@@ -282,51 +282,51 @@ impl Types {
     }
 
     /// Says how far the body of a structure is.
-    pub fn set_progress(&mut self, number: u32, body: Progress)
+    pub fn set_progress(&mut self, number: usize, body: Progress)
         ensures { (known : Known) → rows.set_progress number (progress_of body) (types_in self.old known) ≡ Ok (types_in self.new known, types_in self.new known) }
     {
-        if let Some(shape) = self.shapes.get_mut(number as usize) {
+        if let Some(shape) = self.shapes.get_mut(number) {
             shape.body = body;
         }
     }
 
     /// Whether a structure has a member of the name.
-    pub fn has_member(&self, number: u32, name: &[u8]) -> bool
+    pub fn has_member(&self, number: usize, name: &[u8]) -> bool
         ensures { (known : Known) → result ≡ is_some (entry_of (rows.fields_of (types_in self.now known) number) name.now) }
     {
-        match self.shapes.get(number as usize) {
+        match self.shapes.get(number) {
             Some(shape) => shape.fields.contains_key(name),
             None => false,
         }
     }
 
     /// Puts a member after those that a structure has.
-    pub fn add_member(&mut self, number: u32, name: &[u8], ty: Qualified) -> Result<(), CheckError>
+    pub fn add_member(&mut self, number: usize, name: &[u8], ty: Qualified) -> Result<(), CheckError>
         ensures { (known : Known) → Learns result (types_in self.new known) (rows.add_member number name.now ty (types_in self.old known)) }
     {
         let bytes = self.bytes_of(ty.ty);
         let name = copied(self.alloc, name)?;
-        if let Some(shape) = self.shapes.get_mut(number as usize) {
+        if let Some(shape) = self.shapes.get_mut(number) {
             shape.add(name, ty, bytes)?;
         }
         Ok(())
     }
 
     /// The member of a name, and its number.
-    pub fn member(&self, number: u32, name: &[u8]) -> Option<(usize, Field)>
+    pub fn member(&self, number: usize, name: &[u8]) -> Option<(usize, Field)>
         ensures { (known : Known) → option_map (λ m. (m.0, field_of m.1)) result ≡ member_from (rows.fields_of (types_in self.now known) number) name.now 0 }
     {
-        match self.shapes.get(number as usize) {
+        match self.shapes.get(number) {
             Some(shape) => found(&shape.fields, name),
             None => None,
         }
     }
 
     /// The member of a number.
-    pub fn member_at(&self, number: u32, index: usize) -> Option<Field>
+    pub fn member_at(&self, number: usize, index: usize) -> Option<Field>
         ensures { (known : Known) → option_map field_of result ≡ option_map (λ m. m.1) (slice_get (rows.fields_of (types_in self.now known) number) index) }
     {
-        let shape = self.shapes.get(number as usize)?;
+        let shape = self.shapes.get(number)?;
         let (_, field) = shape.fields.get_index(index)?;
         Some(*field)
     }

@@ -12,9 +12,9 @@ use c_ints::{BinOp, IntTy, UnOp, Value};
 #[derive(Clone, Copy, PartialEq, Eq, Debug)]
 pub enum Object {
     /// The object of this number in `Typed::statics`.
-    Static(u32),
+    Static(usize),
     /// The parameter of this number of the function that the node stands in.
-    Param(u32),
+    Param(usize),
     /// The local of this number of the function that the node stands in.
     Local(u32),
     /// The device register with this lowest address.
@@ -208,7 +208,7 @@ pub enum TPlace {
     /// The member of this number of a structure, `offset` bytes after the structure's start.
     Member {
         whole: Box<TPlace>,
-        member: u32,
+        member: usize,
         offset: u64,
         ty: Qualified,
         line: u32,

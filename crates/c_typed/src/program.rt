@@ -14,7 +14,7 @@ use crate::types::{Qualified, Structure, Ty, bytes_of};
 pub enum InitialByte {
     Number(u8),
     /// Byte 0 or 1 of the address of the static object of this number.
-    Address { object: u32, byte: u8 },
+    Address { object: usize, byte: u8 },
 }
 
 /// A byte of a static object that is given a value, and its place in the object.

@@ -55,7 +55,7 @@ pub fn same_type(a: Ty, b: Ty) -> bool
     }
 }
 
-fn same_array(first: u32, count: u32, bytes: u64, other: Ty) -> bool
+fn same_array(first: usize, count: u32, bytes: u64, other: Ty) -> bool
     ensures { result ≡ stated.same_type (Array first count bytes) other }
 {
     match other {

@@ -66,7 +66,7 @@ pub enum TStmt {
     Switch {
         value: TExpr,
         cases: Vec<TCase>,
-        default: Option<u32>,
+        default: Option<usize>,
         statements: Vec<TStmt>,
         line: u32,
     },
@@ -96,7 +96,7 @@ pub struct TArm {
 #[derive(Clone, Copy, PartialEq, Eq, Debug)]
 pub struct TCase {
     pub value: Value,
-    pub target: u32,
+    pub target: usize,
     pub line: u32,
 }
 

@@ -12,17 +12,17 @@ pub enum Ty {
     Void,
     Int(IntTy),
     /// A pointer to the type of this row of `Typed::targets`.
-    Pointer(u32),
+    Pointer(usize),
     /// An array of elements of the type of a row of `Typed::targets`, which has no qualifiers: those
     /// of the elements stand at the array. `length` is 0 where it isn't known yet; `size` is the number
     /// of bytes.
     Array {
-        element: u32,
+        element: usize,
         length: u32,
         size: u64,
     },
     /// The structure of this number in `Typed::structures`.
-    Struct(u32),
+    Struct(usize),
 }
 
 impl Ty {
@@ -71,7 +71,7 @@ pub fn bytes_of(structures: &[Structure], ty: Ty) -> u64
         Ty::Int(ty) => c_ints::size(ty) as u64,
         Ty::Pointer(_) => 2,
         Ty::Array { size, .. } => size,
-        Ty::Struct(number) => match structures.get(number as usize) {
+        Ty::Struct(number) => match structures.get(number) {
             Some(structure) => structure.size,
             None => 0,
         },

@@ -60,7 +60,7 @@ fn declares_tags(site: Site) -> bool
 }
 
 // The structure that a tag is that of.
-fn of_structure(found: Tag, line: u32) -> Result<u32, CheckError>
+fn of_structure(found: Tag, line: u32) -> Result<usize, CheckError>
     ensures { (context : rule.Context) (tag : List ℕ) (known : Known) → Answers (λ number. number) result known (rule.tag_or_new (Some (tables.tag_of found)) context tag line known) }
 {
     match found {
@@ -75,7 +75,7 @@ fn structure_of(
     types: &mut Types,
     context: Context,
     line: u32,
-) -> Result<u32, CheckError>
+) -> Result<usize, CheckError>
     ensures { (known : Known) → Answers (λ number. number) result (types_in types.new known) (rule.structure_of (context_of context) tag.now line (types_in types.old known)) }
 {
     match types.tagged(tag) {
@@ -96,7 +96,7 @@ fn structure_in(
     types: &mut Types,
     context: Context,
     line: u32,
-) -> Result<u32, CheckError>
+) -> Result<usize, CheckError>
     ensures { (known : Known) → Answers (λ number. number) result (types_in types.new known) (rule.structure_in (context_of context) (spell_tag tag.now) line (types_in types.old known)) }
 {
     match tag {
@@ -120,7 +120,7 @@ fn opened(
     types: &mut Types,
     context: Context,
     line: u32,
-) -> Result<u32, CheckError>
+) -> Result<usize, CheckError>
     ensures { (known : Known) → Answers (λ number. number) result (types_in types.new known) (rule.body_opened (context_of context) (spell_tag tag.now) line (types_in types.old known)) }
 {
     let structure = structure_in(tag, types, context, line)?;
@@ -190,7 +190,7 @@ fn specifier(
 fn structure_body(
     body: &StructBody,
     checker: &mut Checker,
-    structure: u32,
+    structure: usize,
 ) -> Result<(), CheckError>
     ensures { Learns result (known_of checker.new) (body_rule (struct_body_of body.now) structure (known_of checker.old)) }
 {
@@ -203,7 +203,7 @@ fn structure_body(
 }
 
 #[cycle(declarator)]
-fn members(member: &Member, checker: &mut Checker, structure: u32) -> Result<(), CheckError>
+fn members(member: &Member, checker: &mut Checker, structure: usize) -> Result<(), CheckError>
     ensures { Learns result (known_of checker.new) (rule.members (member_of member.now) structure (known_of checker.old)) }
 {
     let specified = specified(&member.specs, checker, MEMBER)?;
@@ -218,7 +218,7 @@ fn members(member: &Member, checker: &mut Checker, structure: u32) -> Result<(),
 fn field(
     declarator: &Declarator,
     checker: &mut Checker,
-    structure: u32,
+    structure: usize,
     specified: Specified,
 ) -> Result<(), CheckError>
     ensures { Learns result (known_of checker.new) (rule.field (declarator_of declarator.now) (specified_of specified) structure (known_of checker.old)) }

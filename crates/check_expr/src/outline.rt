@@ -15,7 +15,7 @@ ghost use Rattle.check_expr.specs.Views.{declared_of, made_of, outline_of, param
 
 use crate::specifiers::{Specified, is_register};
 use c_operate::checker::Checker;
-use c_operate::error::{CheckError, Kind, copied, number, refused};
+use c_operate::error::{CheckError, Kind, copied, refused};
 use c_operate::scope::{Binding, Names, Scopes};
 use c_operate::types::{Types, like, plain};
 use c_tree::expression::Declarator;
@@ -246,7 +246,7 @@ fn outermost_outline(
 }
 
 // What is declared where it is an array, and the row of its elements.
-fn array_in(declared: &Declared) -> Option<(Qualified, u32)>
+fn array_in(declared: &Declared) -> Option<(Qualified, usize)>
     ensures { result ≡ array_of_declared (declared_of declared.now) }
 {
     match declared {
@@ -329,7 +329,7 @@ fn param_type(
 fn bind_param(
     scopes: &mut Scopes,
     name: &[u8],
-    number: u32,
+    number: usize,
     ty: Qualified,
     fixed: bool,
 ) -> Result<(), CheckError>
@@ -356,7 +356,7 @@ pub(crate) fn add_param(
 {
     let ty = param_type(checker, &outline, name, line)?;
     let fixed = is_register(specified.storage);
-    let index = number(list.params.len())?;
+    let index = list.params.len();
     bind_param(&mut checker.scopes, name, index, ty, fixed)?;
     let name = copied(checker.alloc, name)?;
     list.params.push(ParamShape {
@@ -371,7 +371,7 @@ pub(crate) fn add_param(
 // The type of a member, if it may have it.
 fn member_type(
     types: &Types,
-    structure: u32,
+    structure: usize,
     outline: &Outline,
     name: &[u8],
     line: u32,
@@ -397,7 +397,7 @@ fn member_type(
 /// Puts a member after those of a structure.
 pub(crate) fn add_field(
     types: &mut Types,
-    structure: u32,
+    structure: usize,
     outline: Outline,
     name: &[u8],
     line: u32,

@@ -43,7 +43,7 @@ pub enum Storage {
 /// it has arrays of what wasn't complete.
 #[derive(Clone, Copy)]
 pub enum Base {
-    Structure(u32),
+    Structure(usize),
     Enumeration,
     Named { ty: Qualified, incomplete: bool },
 }

@@ -53,17 +53,17 @@ pub fn bytes_of_place(places: &Locals, place: &TPlace) -> u16
     width(places, place.ty().ty)
 }
 
-fn offset_at(offsets: &[u16], number: u32) -> u16
+fn offset_at(offsets: &[u16], number: usize) -> u16
     ensures { result ≡ slice_index offsets.now number }
 {
-    match offsets.get(number as usize) {
+    match offsets.get(number) {
         Some(offset) => *offset,
         None => 0,
     }
 }
 
 #[tactic(auto, using(crate::proofs::Numbers::static_number_is))]
-fn static_number(number: u32) -> u16
+fn static_number(number: usize) -> u16
     ensures { result ≡ stated.static_number number }
 {
     if number < 0xffff {
@@ -88,7 +88,7 @@ pub fn object_byte(object: Object, copy: u16, places: &Locals) -> Byte
         },
         Object::Local(number) => Byte::Frame {
             copy,
-            offset: offset_at(&places.locals, number),
+            offset: offset_at(&places.locals, number as usize),
         },
         Object::Register(address) => Byte::Device { address },
     }

@@ -10,8 +10,8 @@ use std::alloc::{AllocError, Global};
 pub fn labels_of(
     alloc: Global,
     cases: &[TCase],
-    default: Option<u32>,
-) -> Result<Vec<u32>, AllocError>
+    default: Option<usize>,
+) -> Result<Vec<usize>, AllocError>
     ensures { IfOk result (λ found. found.items ≡ labels.labels_of cases.now default) }
 {
     let mut found = Vec::new(alloc);
@@ -28,25 +28,25 @@ pub fn labels_of(
 }
 
 /// Whether a label stands after so many statements.
-pub fn has(found: &[u32], statements: usize) -> bool
+pub fn has(found: &[usize], statements: usize) -> bool
     ensures { result ≡ labels.has found.now statements }
 {
     for label in found {
-        if *label as usize == statements {
+        if *label == statements {
             return true;
         }
     }
     false
 }
 
-fn counts(found: &[u32], label: u32, statements: usize) -> bool
+fn counts(found: &[usize], label: usize, statements: usize) -> bool
     ensures { result ≡ labels.counts found.now label statements }
 {
-    (label as usize) < statements && !has(found, label as usize)
+    label < statements && !has(found, label)
 }
 
 /// How many different labels stand before so many statements.
-pub fn segments_before(found: &[u32], statements: usize) -> usize
+pub fn segments_before(found: &[usize], statements: usize) -> usize
     ensures value { result ≡ labels.segments_before statements found.now }
     ensures bound { result ≤ length found.now }
 {

@@ -335,8 +335,8 @@ fn comparisons(
     site: &Site,
     value: &TExpr,
     cases: &[TCase],
-    default: Option<u32>,
-    found: &[u32],
+    default: Option<usize>,
+    found: &[usize],
     count: usize,
 ) -> Result<Vec<Core>, AllocError>
     ensures { IfOk result (λ made. trees_in made.items ≡ switches.comparisons (ground_of site.now) (expression_of value.now) cases.now default found.now count) }
@@ -362,7 +362,7 @@ fn put_switch(
     statements: &[TStmt],
     value: &TExpr,
     cases: &[TCase],
-    default: Option<u32>,
+    default: Option<usize>,
     out: &mut Vec<Core>,
 ) -> Result<(), AllocError>
     requires { HasRoom jumps (1 + length cases.now + nodes_of_body (statements_of (map statement_of statements.now))) }
@@ -370,7 +370,7 @@ fn put_switch(
 {
     put_value(site, value, out)?;
     let found = labels_of(site.alloc, cases, default)?;
-    let labels: &[u32] = &found;
+    let labels: &[usize] = &found;
     let many = labels.len();
     if many == 0 {
         return Ok(());

@@ -84,24 +84,24 @@ fn put_cases(
     site: &Site,
     ty: IntTy,
     bytes: u16,
-    found: &[u32],
+    found: &[usize],
     cases: &[TCase],
     out: &mut Vec<Core>,
 ) -> Result<(), AllocError>
     ensures { OnOk result (Appends out.old.items out.new.items (switches.cases_code (ground_of site.now) ty bytes found.now cases.now)) }
 {
     for case in cases {
-        let segment = segments_before(found, case.target as usize);
+        let segment = segments_before(found, case.target);
         put_case(site, ty, bytes, *case, segment, out)?;
     }
     Ok(())
 }
 
-fn otherwise_segment(found: &[u32], count: usize, default: Option<u32>) -> usize
+fn otherwise_segment(found: &[usize], count: usize, default: Option<usize>) -> usize
     ensures { result ≡ switches.otherwise_segment found.now count default }
 {
     match default {
-        Some(target) => segments_before(found, target as usize),
+        Some(target) => segments_before(found, target),
         None => count,
     }
 }
@@ -113,8 +113,8 @@ pub fn put_comparisons(
     site: &Site,
     value: &TExpr,
     cases: &[TCase],
-    default: Option<u32>,
-    found: &[u32],
+    default: Option<usize>,
+    found: &[usize],
     count: usize,
     out: &mut Vec<Core>,
 ) -> Result<(), AllocError>

@@ -57,14 +57,14 @@ impl<'a> Machine<'a> {
 
     // A switch goes on at the statement of this number.
     #[tactic(auto, using(crate::proofs::Gives::all_behind))]
-    fn jump(&mut self, code: Code<'a>, statements: &'a Vec<TStmt>, target: u32) -> Outcome
+    fn jump(&mut self, code: Code<'a>, statements: &'a Vec<TStmt>, target: usize) -> Outcome
         ensures tells { HasRoom 2 self.old → (w : Worlds Bytes) → silent result self.new w ≡ rules.jump (statement_in code.entry) target (statements_of (map statement_of statements.now.items)) (stack_of self.old) self.old.copy (memory_of self.old) w }
         ensures others { self.new ≡ record self.old { stack = self.new.stack; focus = self.new.focus } }
         ensures quiet { is_quiet result ≡ true }
         ensures room { vec_capacity self.old.stack ≤ vec_capacity self.new.stack }
     {
         self.wait(Pending::Doing(code, Stage::Turns));
-        self.go_waiting(Focus::Past, Pending::Before(statements, target as usize))
+        self.go_waiting(Focus::Past, Pending::Before(statements, target))
     }
 
     // The label of this number of a switch with these statements is compared with a value.
@@ -73,7 +73,7 @@ impl<'a> Machine<'a> {
         &mut self,
         code: Code<'a>,
         statements: &'a Vec<TStmt>,
-        default: Option<u32>,
+        default: Option<usize>,
         value: Datum,
         cases: &'a Vec<TCase>,
         next: usize,

@@ -175,7 +175,7 @@ impl Memory {
         ensures { cell_or_none result ≡ cell_in self.now object }
     {
         match object {
-            Object::Fixed(number) => cells_in(&self.fixed, number as usize),
+            Object::Fixed(number) => cells_in(&self.fixed, number),
             Object::Variable { copy, number } => {
                 cells_of(self.frames(copy.root), copy.function, number)
             }
@@ -246,7 +246,7 @@ impl Memory {
         ensures { (o : AnyObject) → cell_in self.new o ≡ if same_object o object then put_cell (cell_in self.old o) offset byte else cell_in self.old o }
     {
         match object {
-            Object::Fixed(number) => put_in(&mut self.fixed, number as usize, offset, byte),
+            Object::Fixed(number) => put_in(&mut self.fixed, number, offset, byte),
             Object::Variable { copy, number } => match copy.root {
                 Root::Main => put_in_frame(&mut self.main, copy.function, number, offset, byte),
                 Root::Isr => put_in_frame(&mut self.handler, copy.function, number, offset, byte),
@@ -268,7 +268,7 @@ impl Memory {
         ensures { (o : AnyObject) → cell_in self.new o ≡ if same_object o object then cleared_cell (cell_in self.old o) else cell_in self.old o }
     {
         match object {
-            Object::Fixed(number) => clear_in(&mut self.fixed, number as usize),
+            Object::Fixed(number) => clear_in(&mut self.fixed, number),
             Object::Variable { copy, number } => match copy.root {
                 Root::Main => clear_in_frame(&mut self.main, copy.function, number),
                 Root::Isr => clear_in_frame(&mut self.handler, copy.function, number),

@@ -39,7 +39,7 @@ fn points_to(program: &Typed, pointer: Ty, ty: Ty) -> bool
     ensures { result ≡ stated.has_type (typing.pointed (program_of program.now) pointer) ty }
 {
     match pointer {
-        Ty::Pointer(row) => match program.targets.get(row as usize) {
+        Ty::Pointer(row) => match program.targets.get(row) {
             Some(target) => target.ty == ty,
             None => false,
         },

@@ -103,10 +103,7 @@ pub fn spot_of(program: &Typed, copy: CopyOf, name: Name) -> Spot
 {
     match name {
         Name::Static(number) => behind(Object::Fixed(number), 0),
-        Name::Param(number) => {
-            let number = number as usize;
-            behind(Object::Variable { copy, number }, 0)
-        }
+        Name::Param(number) => behind(Object::Variable { copy, number }, 0),
         Name::Local(number) => behind(local_of(program, copy, number), 0),
         Name::Register(address) => Spot::Device(address),
     }
@@ -134,7 +131,7 @@ pub fn object_bytes(program: &Typed, object: Object) -> u64
     ensures { result ≡ stated.object_bytes (program_of program.now) object }
 {
     match object {
-        Object::Fixed(number) => match program.statics.get(number as usize) {
+        Object::Fixed(number) => match program.statics.get(number) {
             Some(found) => program.bytes_of(found.ty.ty),
             None => 0,
         },

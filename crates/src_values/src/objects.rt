@@ -21,7 +21,7 @@ pub struct CopyOf {
 /// of a function copy: its parameters are counted first, then its locals.
 #[derive(Clone, Copy, PartialEq, Eq)]
 pub enum Object {
-    Fixed(u32),
+    Fixed(usize),
     Variable { copy: CopyOf, number: usize },
 }
 

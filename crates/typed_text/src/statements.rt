@@ -105,7 +105,7 @@ fn put_case(out: &mut Listing, case: TCase, depth: u32) -> Result<(), AllocError
 fn put_cases(
     out: &mut Listing,
     cases: &[TCase],
-    default: Option<u32>,
+    default: Option<usize>,
     depth: u32,
 ) -> Result<(), AllocError> {
     for case in cases {
