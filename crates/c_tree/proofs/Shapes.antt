@@ -244,11 +244,11 @@ pub made_next_enumerator : (y : _) → next_enumerator_of (roll-NextEnumerator y
 unfolding binary_of enumerator_of operand_of param_of postfix_suffix_of prefix_of primary_of spec_of suffix_of assign_of cast_of choice_of cond_of declarator_of enum_body_of expr_of member_of next_assign_of next_declarator_of next_enumerator_of next_operand_of next_param_of postfix_of specs_of struct_body_of target_of type_name_of
 made_next_enumerator y = fold-roll-NextEnumerator Tree EnumeratorTree Tree ParamTree Post Pre Tree SpecTree SuffixTree Tree Tree ChoiceParts Tree DeclaratorTree SpecTree Tree MemberTree (ℕ × Tree) (ℕ × DeclaratorTree) (ℕ × EnumeratorTree) (Symbol × Tree) (ℕ × ParamTree) Tree SpecTrees SpecTree (Tree × Symbol) TypeTree binary_step enumerator_step operand_step param_step postfix_suffix_step prefix_step primary_step spec_step suffix_step assign_step cast_step choice_step cond_step declarator_step enum_body_step expr_step member_step next_assign_step next_declarator_step next_enumerator_step next_operand_step next_param_step postfix_step specs_step struct_body_step target_step type_name_step y
 
-pub show_next_operand : (x : NextOperand) → next_operand_of x ≡ (signed (out-NextOperand x).operator, binary_of (out-NextOperand x).operand)
+pub show_next_operand : (x : NextOperand) → next_operand_of x ≡ (signed (out-NextOperand x).operator.sign, binary_of (out-NextOperand x).operand)
 unfolding binary_of enumerator_of operand_of param_of postfix_suffix_of prefix_of primary_of spec_of suffix_of assign_of cast_of choice_of cond_of declarator_of enum_body_of expr_of member_of next_assign_of next_declarator_of next_enumerator_of next_operand_of next_param_of postfix_of specs_of struct_body_of target_of type_name_of
 show_next_operand x = fold_out-NextOperand Tree EnumeratorTree Tree ParamTree Post Pre Tree SpecTree SuffixTree Tree Tree ChoiceParts Tree DeclaratorTree SpecTree Tree MemberTree (ℕ × Tree) (ℕ × DeclaratorTree) (ℕ × EnumeratorTree) (Symbol × Tree) (ℕ × ParamTree) Tree SpecTrees SpecTree (Tree × Symbol) TypeTree binary_step enumerator_step operand_step param_step postfix_suffix_step prefix_step primary_step spec_step suffix_step assign_step cast_step choice_step cond_step declarator_step enum_body_step expr_step member_step next_assign_step next_declarator_step next_enumerator_step next_operand_step next_param_step postfix_step specs_step struct_body_step target_step type_name_step x
 
-pub made_next_operand : (y : _) → next_operand_of (roll-NextOperand y) ≡ (signed y.operator, binary_of y.operand)
+pub made_next_operand : (y : _) → next_operand_of (roll-NextOperand y) ≡ (signed y.operator.sign, binary_of y.operand)
 unfolding binary_of enumerator_of operand_of param_of postfix_suffix_of prefix_of primary_of spec_of suffix_of assign_of cast_of choice_of cond_of declarator_of enum_body_of expr_of member_of next_assign_of next_declarator_of next_enumerator_of next_operand_of next_param_of postfix_of specs_of struct_body_of target_of type_name_of
 made_next_operand y = fold-roll-NextOperand Tree EnumeratorTree Tree ParamTree Post Pre Tree SpecTree SuffixTree Tree Tree ChoiceParts Tree DeclaratorTree SpecTree Tree MemberTree (ℕ × Tree) (ℕ × DeclaratorTree) (ℕ × EnumeratorTree) (Symbol × Tree) (ℕ × ParamTree) Tree SpecTrees SpecTree (Tree × Symbol) TypeTree binary_step enumerator_step operand_step param_step postfix_suffix_step prefix_step primary_step spec_step suffix_step assign_step cast_step choice_step cond_step declarator_step enum_body_step expr_step member_step next_assign_step next_declarator_step next_enumerator_step next_operand_step next_param_step postfix_step specs_step struct_body_step target_step type_name_step y
 

@@ -156,7 +156,7 @@ see_next_assign x = ap (λ (n : ℕ × Tree). punct Comma n.0 ∷ spelled n.1) (
 pub see_next_declarator : (x : NextDeclarator) → spell_next_declarator x ≡ punct Comma (out-NextDeclarator x).comma ∷ spell_declarator (out-NextDeclarator x).declarator
 see_next_declarator x = ap (λ (n : ℕ × DeclaratorTree). punct Comma n.0 ∷ spelled_declarator n.1) (show_next_declarator x)
 
-pub see_next_operand : (x : NextOperand) → spell_next_operand x ≡ signed (out-NextOperand x).operator ∷ spell_binary (out-NextOperand x).operand
+pub see_next_operand : (x : NextOperand) → spell_next_operand x ≡ signed (out-NextOperand x).operator.sign ∷ spell_binary (out-NextOperand x).operand
 see_next_operand x = ap (λ (n : Symbol × Tree). n.0 ∷ spelled n.1) (show_next_operand x)
 
 pub see_next_param : (x : NextParam) → spell_next_param x ≡ punct Comma (out-NextParam x).comma ∷ spell_param (out-NextParam x).param

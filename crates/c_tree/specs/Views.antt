@@ -198,7 +198,7 @@ abbrev pub next_enumerator_step : LayerNextEnumerator → ℕ × EnumeratorTree
 next_enumerator_step n = (n.comma, n.enumerator)
 
 abbrev pub next_operand_step : LayerNextOperand → Symbol × Tree
-next_operand_step n = (signed n.operator, n.operand)
+next_operand_step n = (signed n.operator.sign, n.operand)
 
 abbrev pub next_param_step : LayerNextParam → ℕ × ParamTree
 next_param_step n = (n.comma, n.param)

@@ -2,7 +2,7 @@
 //!
 //! A field of type `u32` that is named after a token is the line of that token.
 
-use crate::word::{Constant, Name, Pointer, Sign, Word};
+use crate::word::{Constant, Infix, Name, Pointer, Sign, Word};
 
 /// The specifiers of a declaration (ISO/IEC 9899:1990, 6.5), at least one.
 #[cycle(expression)]
@@ -233,7 +233,7 @@ pub enum Binary {
 #[cycle(expression)]
 #[derive(Drop)]
 pub struct NextOperand {
-    pub operator: Sign,
+    pub operator: Infix,
     pub operand: Binary,
 }
 

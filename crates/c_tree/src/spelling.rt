@@ -310,7 +310,7 @@ fn put_binary(out: &mut Vec<TokKind>, binary: &Binary) -> Result<(), AllocError>
 fn put_next_operand(out: &mut Vec<TokKind>, next_operand: &NextOperand) -> Result<(), AllocError>
     ensures { IfOk result (λ _. out.new.items ≡ out.old.items ++ kinds_of (spell_next_operand next_operand.now)) }
 {
-    punct(out, next_operand.operator.punct)?;
+    punct(out, next_operand.operator.sign.punct)?;
     put_binary(out, &next_operand.operand)
 }
 

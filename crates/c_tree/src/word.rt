@@ -1,5 +1,8 @@
 //! The tokens that a tree keeps: each with its line.
 
+ghost use Rattle.std.specs.Prelude.{◌<◌, ◌≤◌};
+ghost use Rattle.c_tree.specs.Kinds.{tier_of};
+
 use c_token::{Keyword, Punct};
 
 /// An identifier (ISO/IEC 9899:1990, 6.1.2): its bytes, and its line, counted from 1.
@@ -29,6 +32,15 @@ pub struct Word {
 pub struct Sign {
     pub punct: Punct,
     pub line: u32,
+}
+
+/// An operator between two operands (ISO/IEC 9899:1990, 6.3.5 to 6.3.14), from `*` in tier 1 to `||` in tier 10. The comma
+/// is none: it stands in a list of its own.
+#[derive(Clone, Copy)]
+pub struct Infix {
+    pub sign: Sign,
+    pub ghost binds: { 0 < tier_of sign.punct },
+    pub ghost no_comma: { tier_of sign.punct ≤ 10 },
 }
 
 /// An integer or a character constant (ISO/IEC 9899:1990, 6.1.3), and its line.

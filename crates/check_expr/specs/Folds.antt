@@ -1,10 +1,9 @@
 -- Expressions as the code has them, in lists: what each list makes of a term, and what is read before anything is made.
-use Rattle.std.specs.Prelude.{◌≡◌, ℕ, List, [], ◌∷◌, ◌++◌}
+use Rattle.std.specs.Prelude.{ℕ, List, [], ◌∷◌, ◌++◌}
 use Rattle.c_ints.specs.declared.operators.UnOp.TheVariants as unop
 use Rattle.c_token.specs.declared.token.Punct.{Punct}
 use Rattle.c_token.specs.declared.token.Punct.TheVariants as marks
 use Rattle.c_token.specs.declared.token.TokKind.{TokKind}
-use Rattle.c_token.specs.declared.token.TokKind.TheVariants as kinds
 use Rattle.c_tree.specs.Lists.{ChoiceParts}
 use Rattle.c_tree.specs.Trees as tree
 use Rattle.c_tree.specs.Trees.{Tree, Post, Pre}
@@ -69,10 +68,6 @@ abbrev pub arguments_read : Tree → Rule (List Operand)
 arguments_read e = do
   list ← judged e
   arguments_in list.listed list
-
--- An operator that leaves no list behind it, as a comma does.
-pub record IsOperator (sign : Punct) : Type 0 where
-  pub leaves : (before : List Operand) (x y : Operand) (t : Term) → listed_by (kinds.Punct sign) before x y t ≡ t
 
 -- ---- left sides: read from left to right, assigned to from right to left
 

@@ -3,12 +3,11 @@
 //! Each function of the recursion has a frame of its own, hence `inline(never)`: a frame holds
 //! what one function needs, and a tree of thousands of levels stays within the call stack.
 
-ghost use Rattle.std.specs.Prelude.{◌≡◌, ◌∷◌, [], map, IfErr, IfOk};
+ghost use Rattle.std.specs.Prelude.{◌≡◌, ◌∷◌, [], map};
 ghost use Rattle.c_token.specs.declared.token.TokKind.TheVariants as kinds;
 ghost use Rattle.c_tree.specs.Views.{assign_of, binary_of, cast_of, choice_of, cond_of, expr_of, next_assign_of, next_operand_of, operand_of as tree_operand_of, postfix_of, postfix_suffix_of, primary_of, target_of};
 ghost use Rattle.type_rules.specs.Expressions as rule;
 ghost use Rattle.c_operate.specs.Answers.{Answers};
-ghost use Rattle.c_operate.specs.declared.error.CheckError.TheVariants.{NoMemory};
 ghost use Rattle.c_operate.specs.Tables.{known_of};
 ghost use Rattle.c_operate.specs.Terms.{operand_of, term_of};
 ghost use Rattle.check_expr.specs.Folds as fold;
@@ -173,18 +172,6 @@ fn operands(binary: &Binary, checker: &mut Checker) -> Result<Term, CheckError>
     }
 }
 
-// A comma stands in a list of its own, and is no operator of a chain: no text has such a tree, which would be one
-// argument here and two by the rules.
-fn refuse_comma(sign: Punct) -> Result<(), CheckError>
-    ensures operator { IfOk result (λ _. fold.IsOperator sign) }
-    ensures refused { IfErr result (λ e. e ≡ NoMemory) }
-{
-    match sign {
-        Punct::Comma => Err(CheckError::NoMemory),
-        _ => Ok(()),
-    }
-}
-
 #[cycle(expression)]
 #[inline(never)]
 fn chain(others: &[NextOperand], checker: &mut Checker, first: Term) -> Result<Term, CheckError>
@@ -192,11 +179,10 @@ fn chain(others: &[NextOperand], checker: &mut Checker, first: Term) -> Result<T
 {
     let mut left = first;
     for next in others {
-        refuse_comma(next.operator.punct)?;
         let a = used(left, checker)?;
         let b = operands(&next.operand, checker)?;
         let b = used(b, checker)?;
-        left = combined(checker.alloc, &checker.types, next.operator.punct, a, b)?;
+        left = combined(checker.alloc, &checker.types, next.operator.sign.punct, a, b)?;
     }
     Ok(left)
 }

@@ -14,7 +14,7 @@ use c_tree::expression::{
     NextDeclarator, NextEnumerator, NextOperand, NextParam, Operand, Param, Postfix, PostfixSuffix,
     Prefix, Primary, Spec, Specs, StructBody, Suffix, Target, TypeName,
 };
-use c_tree::word::{Constant, Name, Pointer, Sign, Word};
+use c_tree::word::{Constant, Infix, Name, Pointer, Sign, Word};
 use std::alloc::{AllocError, Global};
 
 /// An identifier as a primary expression (ISO/IEC 9899:1990, 6.3.1).
@@ -130,8 +130,8 @@ pub fn chain(alloc: Global, first: Binary, others: Vec<NextOperand>) -> Result<B
 
 /// A binary operator, and the operand on its right (ISO/IEC 9899:1990, 6.3.5 to 6.3.14).
 #[tactic(auto, using(c_tree::proofs::Shapes::made_next_operand))]
-pub fn next_operand(operator: Sign, operand: Binary) -> NextOperand
-    ensures { next_operand_of result ≡ (signed operator, binary_of operand) }
+pub fn next_operand(operator: Infix, operand: Binary) -> NextOperand
+    ensures { next_operand_of result ≡ (signed operator.sign, binary_of operand) }
 {
     NextOperand { operator, operand }
 }

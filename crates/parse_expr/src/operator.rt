@@ -1,6 +1,6 @@
 //! The operators of expressions, and the parts in which no other reader is called.
 
-ghost use Rattle.std.specs.Prelude.{◌≡◌, ◌<◌, ◌==◌, ℕ, List, Some, None, Err, true, false, if◌then◌else◌, IfOk};
+ghost use Rattle.std.specs.Prelude.{◌≡◌, ◌<◌, ◌≤◌, ◌==◌, ℕ, List, Some, None, Err, true, false, if◌then◌else◌, IfOk};
 ghost use Rattle.c_tree.specs.Words.{signed};
 ghost use Rattle.c_tree.specs.Kinds.{is_assignment, is_prefix, is_leaf, level_of};
 ghost use Rattle.c_tree.specs.Trees as tree;
@@ -19,26 +19,25 @@ use c_token::{Keyword, Punct, Tok, TokKind};
 use c_tree::expression::{
     Binary, Cast, Cond, Operand, Postfix, PostfixSuffix, Prefix, Primary, Target,
 };
-use c_tree::word::{Constant, Sign};
+use c_tree::word::{Constant, Infix, Sign};
 use std::alloc::{AllocError, Global};
 
-/// The binary operator of this level in front, and what is after it.
+/// The binary operator of this level in front, and what is after it. The levels are 1 to 10.
 #[tactic(auto, unfolding(crate::specs::Reader::symbol_at))]
-pub fn behind_operator<'s>(level: usize, toks: &'s [Tok]) -> Option<(Sign, &'s [Tok])>
-    requires { 0 < level }
-    ensures { (text : List ℕ) → Shows (λ x. (signed x.0, symbols_in text x.1.now)) result (symbol_at (λ k. level_of k == level) (symbols_in text toks.now)) }
+pub fn behind_operator<'s>(level: usize, toks: &'s [Tok]) -> Option<(Infix, &'s [Tok])>
+    requires binds { 0 < level }
+    requires no_comma { level ≤ 10 }
+    ensures { (text : List ℕ) → Shows (λ x. (signed x.0.sign, symbols_in text x.1.now)) result (symbol_at (λ k. level_of k == level) (symbols_in text toks.now)) }
 {
     match toks {
         [first, rest @ ..] => match first.kind {
             TokKind::Punct(punct) => {
                 if tier_of(punct) == level {
-                    Some((
-                        Sign {
-                            punct,
-                            line: first.line,
-                        },
-                        rest,
-                    ))
+                    let sign = Sign {
+                        punct,
+                        line: first.line,
+                    };
+                    Some((Infix { sign }, rest))
                 } else {
                     None
                 }

@@ -8,7 +8,7 @@ use Rattle.c_operate.specs.Tables.{known_of}
 use Rattle.c_operate.specs.Terms.{operand_of, term_of}
 use Rattle.check_expr.specs.Folds.{barely, sequenced_from, combined_from, arguments_from, arguments_read, sides_from, choices_from}
 use Rattle.check_expr.specs.Kept.{side_in, choice_in, operands_in}
-use Rattle.check_expr.proofs.Answering.{goes, stops, ends, refuses_as, refuses_bare, answers_bare, no_memory, next_of, pushed}
+use Rattle.check_expr.proofs.Answering.{goes, stops, ends, refuses_as, refuses_bare, answers_bare, next_of, pushed}
 use Rattle.check_expr.proofs.Clauses.{judged_leaf, judged_group, behind_index, behind_call, behind_bare_call, behind_field, behind_step, bracketed_bare, unseen_index, measured_as}
 use Rattle.check_expr.proofs.Folded.{judged_listed, judged_arguments, spread, spread_whole, judged_joined, judged_posted, judged_assigned, judged_chosen, judged_prefixed}
 use Rattle.check_expr.proofs.Runs.{unseen}
@@ -19,7 +19,7 @@ use Rattle.type_rules.specs.Expressions.{judged, judged_behind, bracketed, selec
 use Rattle.type_rules.specs.Known.{given}
 use Rattle.type_rules.specs.Writes.{stepped, call}
 use Rattle.c_tree.specs.declared.expression.PostfixSuffix.TheVariants as PostfixSuffix
-use Rattle.c_tree.specs.declared.expression.Binary.TheViews.{out-Assign, out-Cast, out-Choice, out-Cond, out-Expr, out-Postfix}
+use Rattle.c_tree.specs.declared.expression.Binary.TheViews.{out-Assign, out-Cast, out-Choice, out-Cond, out-Expr, out-NextOperand, out-Postfix}
 use Rattle.check_expr.proofs.expression.+expression.Goals as goal
 
 pub assigned-returns-in_err-targets : goal.assigned-returns-in_err-targets
@@ -191,12 +191,7 @@ chain-returns-in_err-left t c =
     rw (p.1, p.2) (stops _ _ _ _ (c.in_err-left.ensures (known_of c.used-in-loop-next.new.checker)) (goes _ _ _ _ _ c.in_ok-b-2.ensures (goes _ _ _ _ _ c.in_ok-b.ensures (goes _ _ _ _ _ c.in_ok-a.ensures (next_of (λ bs. combined_from (term_of c.loop-next.left) bs (known_of c.loop-next.checker)) next_operand_of _ _ c.next-item.result _ _ c.loop-next-test.true c.next-item.is (show_next_operand c.next-item.result) c.loop-next.invariant)))))
 
 pub chain-loop-next-preserved : goal.chain-loop-next-preserved
-chain-loop-next-preserved t c = alone _ c.in_ok-refuse_comma.ensures.operator _ _ _ _ _ _ _ (goes _ _ _ _ _ (c.in_ok-left.ensures (known_of c.used-in-loop-next.new.checker)) (goes _ _ _ _ _ c.in_ok-b-2.ensures (goes _ _ _ _ _ c.in_ok-b.ensures (goes _ _ _ _ _ c.in_ok-a.ensures (next_of (λ bs. combined_from (term_of c.loop-next.left) bs (known_of c.loop-next.checker)) next_operand_of _ _ c.next-item.result _ _ c.loop-next-test.true c.next-item.is (show_next_operand c.next-item.result) c.loop-next.invariant)))))
-
-pub chain-returns-in_err-refuse_comma : goal.chain-returns-in_err-refuse_comma
-chain-returns-in_err-refuse_comma t c =
-    let p = err_from_is_err_and c.from_residual.result c.from_residual.ensures.1 in
-    rw (p.1, p.2) (no_memory _ _ c.in_err-refuse_comma.ensures.refused)
+chain-loop-next-preserved t c = alone _ (out-NextOperand c.next-item.result).operator.no_comma _ _ _ _ _ _ _ (goes _ _ _ _ _ (c.in_ok-left.ensures (known_of c.used-in-loop-next.new.checker)) (goes _ _ _ _ _ c.in_ok-b-2.ensures (goes _ _ _ _ _ c.in_ok-b.ensures (goes _ _ _ _ _ c.in_ok-a.ensures (next_of (λ bs. combined_from (term_of c.loop-next.left) bs (known_of c.loop-next.checker)) next_operand_of _ _ c.next-item.result _ _ c.loop-next-test.true c.next-item.is (show_next_operand c.next-item.result) c.loop-next.invariant)))))
 
 pub further_arguments-returns-in_err-argument : goal.further_arguments-returns-in_err-argument
 further_arguments-returns-in_err-argument t c =
