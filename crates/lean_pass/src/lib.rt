@@ -9,7 +9,7 @@
 
 mod behind;
 mod dropping;
-mod fit;
+mod admissible;
 mod keeping;
 mod making;
 mod marks;
