@@ -7,7 +7,7 @@ use Rattle.sym_code.specs.declared.code.BlockName.TheVariants.{Start}
 use Rattle.sym_code.specs.declared.code.Sym.{Sym}
 use Rattle.sym_code.specs.declared.code.Sym.TheVariants as syms
 use Rattle.sym_code.specs.declared.code.SymBlock.{SymBlock}
-use Rattle.lean_code.proofs.Fitting.{kept_is_same}
+use Rattle.lean_code.proofs.Admitting.{kept_is_same}
 use Rattle.lean_code.specs.Checked.{Sketch, IsBlockOf}
 use Rattle.lean_code.specs.Admissible.{keeps_all, puts_bytes, ends_by_word, rows_at, IsAdmissible}
 use Rattle.lean_code.specs.Rows.{Keeps, Row, At, olds, puts}
