@@ -25,7 +25,10 @@ fn is_ready(placed: &Placed, list: &[Sym]) -> bool
 
 /// Whether selects can be put into each of these blocks, as `selects` asks for it.
 pub fn can_select(placed: &Placed, blocks: &[SymBlock]) -> bool
-    ensures { result ≡ true → All (CanSelect placed.now) blocks.now }
+    // `true` only where it is so,
+    ensures ready { result ≡ true → All (CanSelect placed.now) blocks.now }
+    // and wherever it is.
+    ensures exactly { All (CanSelect placed.now) blocks.now → result ≡ true }
 {
     for block in blocks {
         if !is_ready(placed, &block.list) {

@@ -31,7 +31,8 @@ pub fn real_words(block: &SymBlock) -> u64
 
 // So many words fit at an address, before the next block.
 fn has_room(start: u16, words: u64, next: Option<u16>) -> bool
-    ensures { result ≡ true → HasRoom start words next }
+    ensures room { result ≡ true → HasRoom start words next }
+    ensures exactly { HasRoom start words next → result ≡ true }
 {
     let start = start as u64;
     if start >= MEMORY_WORDS || words > PAGE_WORDS - start % PAGE_WORDS {
@@ -46,7 +47,8 @@ fn has_room(start: u16, words: u64, next: Option<u16>) -> bool
 // A block has room at its address.
 fn stands(block: &SymBlock, at: &[u16], number: usize) -> bool
     requires { number < 2 ^ 63 }
-    ensures { result ≡ true → Stands block.now (slice_get at.now number) (slice_get at.now (number + 1)) }
+    ensures stands { result ≡ true → Stands block.now (slice_get at.now number) (slice_get at.now (number + 1)) }
+    ensures exactly { Stands block.now (slice_get at.now number) (slice_get at.now (number + 1)) → result ≡ true }
 {
     match at.get(number) {
         Some(start) => has_room(*start, real_words(block), at.get(number + 1).copied()),
@@ -56,7 +58,10 @@ fn stands(block: &SymBlock, at: &[u16], number: usize) -> bool
 
 /// Whether each block has an address, and room there: in its page, and before the next one.
 pub fn fits(blocks: &[SymBlock], at: &[u16]) -> bool
-    ensures { result ≡ true → Fit blocks.now at.now }
+    // `true` only where it is so,
+    ensures fit { result ≡ true → Fit blocks.now at.now }
+    // and wherever it is.
+    ensures exactly { Fit blocks.now at.now → result ≡ true }
 {
     for (number, block) in blocks.iter().enumerate() {
         if !stands(block, at, number) {

@@ -44,7 +44,7 @@ use Rattle.headline_trace.specs.Carried.{frame_of}
 pub record IsNamed (p : Program) (copies : List FnCopy) (content : MapContent) (l : DataLayout) : Type 0 where
   pub frames : (c : CopyOf) → IsReached p c → frame_address content.frames c.root (function_at p c.function).name ≡ (frame l (copy_number copies c.root c.function)).address
 
--- symbolic code as it was selected, without selects, and with them
+-- symbolic code as it was selected, or leaner, without selects, on the pages of what is made of it; and with them
 abbrev pub bare_setting : List SymBlock → List SymBlock → Option ℕ → Placed → List ℕ → (Bool → ℕ) → Setting
 bare_setting given made handler placed at limit = record { program = program_of given handler placed; banked = false; page_of = page_of made at; limit = limit }
 
@@ -52,8 +52,8 @@ abbrev pub full_setting : List SymBlock → Option ℕ → Placed → List ℕ �
 full_setting made handler placed at limit = record { program = program_of made handler placed; banked = true; page_of = page_of made at; limit = limit }
 
 -- The code of one setting is followed by that of another: at most at these prices, and at least by what surely stays of it.
-abbrev pub LeanKeeps : Setting → Setting → (BlockName → ℕ → ℕ) → (BlockName → ℕ → ℕ) → (BlockName → ℕ → ℕ) → Type 0
-LeanKeeps g h price sure new =
+abbrev pub LeanFollows : Setting → Setting → (BlockName → ℕ → ℕ) → (BlockName → ℕ → ℕ) → (BlockName → ℕ → ℕ) → Type 0
+LeanFollows g h price sure new =
     (o : Outside) (e : Entry) (r : Registers) (m : Memory) (n : ℕ) → Goes (weighed_of g price sure e o (sym_start g.program r m)) n
     → (link : runs.Follows (λ event. event) (weighed_of g price sure e o (sym_start g.program r m)) (run_of h new e o (sym_start h.program r m)) n)
     × IsSlow (λ event. event) (weighed_of g price sure e o (sym_start g.program r m)) (run_of h new e o (sym_start h.program r m)) n link
@@ -67,7 +67,7 @@ pub record IsLinked (p : Program) (copies : List FnCopy) (bodies : List Body) (s
   pub price : BlockName → ℕ → ℕ
   pub sure : BlockName → ℕ → ℕ
   pub selected : IsSelected (core_of p copies) copies bodies reaches (bare_setting given made handler placed at limit) price sure
-  pub leaner : LeanKeeps (bare_setting given made handler placed at limit) (bare_setting lean made handler placed at limit) price sure (price_in (block_in made))
+  pub leaner : LeanFollows (bare_setting given made handler placed at limit) (bare_setting lean made handler placed at limit) price sure (price_in (block_in made))
   -- what is known of the selected bits
   pub facts : Facts
   pub selects : HasFlow lean made handler placed at facts (bare_setting lean made handler placed at limit) (full_setting made handler placed at limit)

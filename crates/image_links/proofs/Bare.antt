@@ -1,8 +1,7 @@
 -- Blocks as they were selected have no selects, and taken out of those with selects they leave them.
-use Rattle.std.proofs.Common.{◌≡◌, ℕ, ◌+◌, inl, inr, Bool, true, false, not, ◌&&◌, nat_eq, if◌then◌else◌, List, [], ◌∷◌, ◌++◌, Option, Some, None, refl, sym, ap, ◌∙◌, subst}
+use Rattle.std.proofs.Common.{◌≡◌, ℕ, ◌+◌, inl, inr, Bool, true, false, not, ◌&&◌, nat_eq, if◌then◌else◌, List, [], ◌∷◌, ◌++◌, Option, Some, None, refl, ap, ◌∙◌}
 use Rattle.std.specs.Global.{Global}
 use Rattle.std.specs.declared.vec.Vec.{Vec}
-use Rattle.c_typed.specs.Trees.{Program}
 use Rattle.c_typed.specs.declared.calls.FnId.{FnId}
 use Rattle.c_typed.specs.declared.calls.FnId.TheVariants as callees
 use Rattle.call_graph.specs.Numbers.{handler_at}
@@ -12,14 +11,10 @@ use Rattle.core_code.specs.View.{trees_in}
 use Rattle.core_code.specs.declared.code.Body.{Body}
 use Rattle.core_code.specs.declared.code.Byte.{Byte}
 use Rattle.core_code.specs.declared.code.Byte.TheVariants as bytes
-use Rattle.core_code.specs.declared.code.CoreProgram.{CoreProgram}
 use Rattle.core_code.specs.declared.code.FirstByte.{FirstByte}
 use Rattle.core_code.specs.declared.code.FirstByte.TheVariants as firsts
 use Rattle.isr_save.specs.Start.{vector, byte_code, object_code, objects_code, start_code, reset, main, literal}
-use Rattle.pic_map.specs.declared.Placed.{Placed}
 use Rattle.pic_world.specs.declared.Root.{Root}
-use Rattle.program_code.specs.Joined.{IsJoined}
-use Rattle.program_code.specs.Passed.{IsPassed}
 use Rattle.select_wide.specs.Blocks.{body_at, code_by, ending_at}
 use Rattle.select_wide.specs.Selection.{wide_code}
 use Rattle.sym_code.specs.Programs.{block_in, same_name}
@@ -32,14 +27,9 @@ use Rattle.sym_code.specs.declared.code.Sym.{Sym}
 use Rattle.sym_code.specs.declared.code.Sym.TheVariants as syms
 use Rattle.sym_code.specs.declared.code.SymBlock.{SymBlock}
 use Rattle.bank_page.specs.Selected.{names_of, bare_lists}
-use Rattle.flow_facts.proofs.Kept.{thinning_has_flow}
-use Rattle.headline_trace.specs.Linked.{bare_setting, full_setting}
-use Rattle.src_rules.proofs.Starts.{sound_runs}
-use Rattle.image_links.specs.Passed.{code_of, SelectsAreHad}
+use Rattle.image_links.specs.Passed.{code_of}
 use Rattle.image_links.specs.Plain.{all_plain, all_given}
-use Rattle.image_links.proofs.Blocks.{is_of}
 use Rattle.image_links.proofs.Bodies.{body_plain, helper_plain}
-use Rattle.image_links.proofs.Lowered.{each_given}
 use Rattle.image_links.proofs.Members.{Has}
 use Rattle.image_links.proofs.Rows.{Plain, wide_plain}
 

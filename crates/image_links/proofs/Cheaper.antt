@@ -1,5 +1,5 @@
 -- At lower prices a run costs less between any two moments, so it still follows what it followed.
-use Rattle.std.proofs.Common.{◌≡◌, ℕ, suc, ◌+◌, ◌≤◌, Bool, true, false, if◌then◌else◌, Option, Some, None, arith}
+use Rattle.std.proofs.Common.{ℕ, suc, ◌+◌, ◌≤◌, Bool, true, false, if◌then◌else◌, Option, Some, None, arith}
 use Rattle.pic_world.specs.World.{Outside, Happening, is_due}
 use Rattle.run_links.specs.Runs.{Run, Follows, IsSlow}
 use Rattle.core_code.specs.Cost.{context_cost}

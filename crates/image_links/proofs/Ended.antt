@@ -10,7 +10,7 @@ use Rattle.code_place.specs.Places.{label_at, label_of, is_label, at_if}
 use Rattle.core_code.specs.Tree as trees
 use Rattle.core_code.specs.Tree.{Tree, trees_of}
 use Rattle.core_code.specs.declared.code.FirstByte.{FirstByte}
-use Rattle.lean_code.specs.Fit.{has_word, ends_by_word}
+use Rattle.lean_code.specs.Admissible.{becomes_word, ends_by_word}
 use Rattle.isr_save.specs.Start.{vector, objects_code, start_code, reset, main}
 use Rattle.math_helpers.specs.Routines.{helper_code}
 use Rattle.pic_world.specs.declared.Root.{Root}
@@ -26,13 +26,13 @@ use Rattle.sym_code.specs.declared.code.Sym.TheVariants as syms
 
 ends_joined : (last : Bool) (xs ys : List Sym) → ends_by_word last (xs ++ ys) ≡ ends_by_word (ends_by_word last xs) ys
 ends_joined last [] ys = refl
-ends_joined last (x ∷ xs) ys = ends_joined (has_word x) xs ys
+ends_joined last (x ∷ xs) ys = ends_joined (becomes_word x) xs ys
 
 ends_later : (last : Bool) (list : List Sym) → ends_by_word last list ≡ true → ends_by_word true list ≡ true
 ends_later last [] e = refl
 ends_later last (s ∷ list) e = e
 
-select_word : (s : Sym) → is_select s ≡ true → has_word s ≡ true
+select_word : (s : Sym) → is_select s ≡ true → becomes_word s ≡ true
 select_word (syms.SelectBank bit on) e = refl
 select_word (syms.SelectPage bit target) e = refl
 select_word (syms.Label label) e = absurd (cc)
@@ -45,7 +45,7 @@ select_word (syms.Plain op) e = refl
 select_word (syms.Call target) e = refl
 select_word (syms.Goto target) e = refl
 
-one_word : (s : Sym) → has_word s ≡ true → words_of_one s ≡ 1
+one_word : (s : Sym) → becomes_word s ≡ true → words_of_one s ≡ 1
 one_word (syms.SelectBank bit on) e = refl
 one_word (syms.SelectPage bit target) e = refl
 one_word (syms.Label label) e = absurd (cc)
@@ -58,7 +58,7 @@ one_word (syms.Plain op) e = refl
 one_word (syms.Call target) e = refl
 one_word (syms.Goto target) e = refl
 
-label_wordless : (label : Label) (s : Sym) → is_label label (label_of s) ≡ true → has_word s ≡ false
+label_wordless : (label : Label) (s : Sym) → is_label label (label_of s) ≡ true → becomes_word s ≡ false
 label_wordless label (syms.Label l) e = refl
 label_wordless label (syms.SelectBank bit on) e = absurd (cc)
 label_wordless label (syms.SelectPage bit target) e = absurd (cc)
@@ -74,17 +74,17 @@ label_wordless label (syms.Goto target) e = absurd (cc)
 -- selects are words
 pub ends_bare : (last : Bool) (list : List Sym) → ends_by_word last (bare list) ≡ true → ends_by_word last list ≡ true
 ends_bare last [] e = e
-ends_bare last (s ∷ list) e = by (is_select s) refl e (ends_bare last list) (ends_bare (has_word s) list) where
+ends_bare last (s ∷ list) e = by (is_select s) refl e (ends_bare last list) (ends_bare (becomes_word s) list) where
   by : (b : Bool) → is_select s ≡ b → ends_by_word last (if not b then s ∷ bare list else bare list) ≡ true → (ends_by_word last (bare list) ≡ true → ends_by_word last list ≡ true)
-      → (ends_by_word (has_word s) (bare list) ≡ true → ends_by_word (has_word s) list ≡ true) → ends_by_word (has_word s) list ≡ true
+      → (ends_by_word (becomes_word s) (bare list) ≡ true → ends_by_word (becomes_word s) list ≡ true) → ends_by_word (becomes_word s) list ≡ true
   by true is h left on = ap (λ (b : Bool). ends_by_word b list) (select_word s is) ∙ ends_later last list (left h)
   by false is h left on = on h
 
 -- ---- labels
 word_behind : (list : List Sym) → ends_by_word false list ≡ true → 1 ≤ words_in list
 word_behind [] e = absurd (cc)
-word_behind (s ∷ list) e = by (has_word s) refl (word_behind list) e where
-  by : (b : Bool) → has_word s ≡ b → (ends_by_word false list ≡ true → 1 ≤ words_in list) → ends_by_word b list ≡ true → 1 ≤ words_in (s ∷ list)
+word_behind (s ∷ list) e = by (becomes_word s) refl (word_behind list) e where
+  by : (b : Bool) → becomes_word s ≡ b → (ends_by_word false list ≡ true → 1 ≤ words_in list) → ends_by_word b list ≡ true → 1 ≤ words_in (s ∷ list)
   by true is below h = let one = one_word s is in let sum = sum_by-cons words_of_one s list in omega arith
   by false is below h = let more = below h in let sum = sum_by-cons words_of_one s list in omega arith
 
@@ -98,7 +98,7 @@ pub label_inside : (label : Label) (last : Bool) (at : ℕ) (list : List Sym) (a
     → (at ≤ address) × (address < at + words_in list)
 label_inside label last at [] address e is = absurd (cc)
 label_inside label last at (s ∷ list) address e is =
-    by (is_label label (label_of s)) refl is (label_inside label (has_word s) (at + words_of_one s) list address e) where
+    by (is_label label (label_of s)) refl is (label_inside label (becomes_word s) (at + words_of_one s) list address e) where
       by : (b : Bool) → is_label label (label_of s) ≡ b → option_or (at_if b at) (label_at label (at + words_of_one s) list) ≡ Some address
           → (label_at label (at + words_of_one s) list ≡ Some address → (at + words_of_one s ≤ address) × (address < at + words_of_one s + words_in list))
           → (at ≤ address) × (address < at + words_in (s ∷ list))

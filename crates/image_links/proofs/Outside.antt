@@ -6,9 +6,6 @@ use Rattle.std.specs.declared.vec.Vec.{Vec}
 use Rattle.std.proofs.lemmas.Bool.{lt-ltb}
 use Rattle.call_graph.specs.Numbers.{handler_at}
 use Rattle.call_graph.specs.declared.types.FnCopy.{FnCopy}
-use Rattle.core_code.specs.Tree.{trees_of}
-use Rattle.core_code.specs.View.{trees_in}
-use Rattle.core_code.specs.declared.code.Body.{Body}
 use Rattle.core_code.specs.declared.code.Byte.{Byte}
 use Rattle.core_code.specs.declared.code.Byte.TheVariants as bytes
 use Rattle.core_code.specs.declared.code.CoreProgram.{CoreProgram}
@@ -16,8 +13,6 @@ use Rattle.core_code.specs.declared.code.FirstByte.{FirstByte}
 use Rattle.core_code.specs.declared.code.FirstByte.TheVariants as firsts
 use Rattle.isr_save.specs.Start.{vector, byte_code, object_code, objects_code, start_code, reset, main, literal}
 use Rattle.lower_stmt.specs.FirstBytes.{items_of}
-use Rattle.program_code.specs.Joined.{IsJoined}
-use Rattle.select_wide.specs.Blocks.{body_at}
 use Rattle.sym_code.specs.Programs.{block_in, same_name}
 use Rattle.sym_code.specs.Selects.{is_select, bare}
 use Rattle.sym_code.specs.declared.code.BlockName.{BlockName}
@@ -29,7 +24,7 @@ use Rattle.sym_code.specs.declared.code.Sym.{Sym}
 use Rattle.sym_code.specs.declared.code.Sym.TheVariants as syms
 use Rattle.sym_code.specs.declared.code.SymBlock.{SymBlock}
 use Rattle.chip_trace.specs.Arriving.{is_small, keeps_out}
-use Rattle.image_links.specs.Plain.{all_plain, all_given, is_own}
+use Rattle.image_links.specs.Plain.{all_plain, is_own}
 use Rattle.image_links.proofs.Bare.{all_are, are_joined, in_blocks}
 use Rattle.image_links.proofs.Members.{Has}
 use Rattle.image_links.proofs.Ready.{IsReady}

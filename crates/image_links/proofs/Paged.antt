@@ -3,12 +3,7 @@ use Rattle.std.proofs.Common.{◌≡◌, ℕ, zero, suc, ◌+◌, ◌/◌, ◌�
 use Rattle.std.specs.Option.{option_or}
 use Rattle.std.specs.Prelude.{slice_get, IsSome}
 use Rattle.c_typed.specs.Trees.{Program}
-use Rattle.c_typed.specs.declared.calls.FnId.{FnId}
-use Rattle.c_typed.specs.declared.calls.FnId.TheVariants as callees
-use Rattle.call_graph.specs.Numbers.{handler_at}
 use Rattle.call_graph.specs.declared.types.FnCopy.{FnCopy}
-use Rattle.core_code.specs.View.{trees_in}
-use Rattle.core_code.specs.declared.code.Body.{Body}
 use Rattle.core_code.specs.declared.code.CoreProgram.{CoreProgram}
 use Rattle.code_place.specs.Instructions.{known}
 use Rattle.code_place.specs.Layouts.{page_of}
@@ -16,11 +11,6 @@ use Rattle.code_place.specs.Pages.{page_words}
 use Rattle.code_place.specs.Places.{block_place, label_place, label_at, label_of, is_label, at_if, first_place, target_for, HasAddress, HaveAddresses}
 use Rattle.code_place.specs.Sizes.{Stands}
 use Rattle.pic_map.specs.declared.Placed.{Placed}
-use Rattle.pic_world.specs.declared.Root.{Root}
-use Rattle.program_code.specs.Joined.{IsJoined}
-use Rattle.select_wide.specs.Blocks.{body_at, code_by, ending_at}
-use Rattle.select_wide.specs.Selection.{wide_code}
-use Rattle.src_rules.proofs.Starts.{sound_runs}
 use Rattle.sym_code.specs.Programs.{block_of}
 use Rattle.sym_code.specs.Selects.{bare}
 use Rattle.sym_code.specs.Words.{words_of_one}
@@ -36,7 +26,6 @@ use Rattle.sym_code.specs.declared.code.Target.{Target}
 use Rattle.sym_code.specs.declared.code.Target.TheVariants as targets
 use Rattle.bank_page.specs.Selected.{names_of, bare_lists}
 use Rattle.program_code.specs.Passed.{IsPassed}
-use Rattle.image_links.specs.Passed.{code_of}
 use Rattle.image_links.specs.Plain.{is_own}
 use Rattle.image_links.proofs.Bare.{all_are, bare_itself}
 use Rattle.image_links.proofs.Ended.{ends_bare, label_paged}
@@ -47,7 +36,7 @@ use Rattle.image_links.proofs.Ready.{IsReady, ready}
 use Rattle.image_links.proofs.Statics.{some_is}
 use Rattle.image_links.proofs.Thinned.{names_kept, lists_kept}
 use Rattle.image_links.proofs.Selects.{block_words}
-use Rattle.lean_code.specs.Fit.{ends_by_word}
+use Rattle.lean_code.specs.Admissible.{ends_by_word}
 
 -- ---- lists
 has_at : {A : Type 0} (xs : List A) (k : ℕ) (x : A) → slice_get xs k ≡ Some x → Has xs x

@@ -1,5 +1,5 @@
 -- Leaner code follows the code that was selected, at prices within its bounds.
-use Rattle.std.proofs.Common.{◌≡◌, ℕ, List, refl, arith}
+use Rattle.std.proofs.Common.{ℕ, List, refl, arith}
 use Rattle.std.proofs.lemmas.Option.{slice_get_within}
 use Rattle.bank_page.specs.Links.{price_in}
 use Rattle.bank_prices.specs.Prices.{AreSelected}
@@ -12,10 +12,7 @@ use Rattle.headline_trace.specs.Linked.{bare_setting}
 use Rattle.lean_links.specs.Links.{AreFollowed}
 use Rattle.lean_links.proofs.Followed.{lean_blocks_follow}
 use Rattle.lower_stmt.specs.Programs.{core_of}
-use Rattle.pic_map.specs.MapView.{object_of, frame_of}
 use Rattle.pic_map.specs.declared.Placed.{Placed}
-use Rattle.std.specs.Prelude.{map}
-use Rattle.ram_place.specs.Placement.{IsPlacing}
 use Rattle.sym_code.specs.Machine.{sym_start}
 use Rattle.sym_code.specs.Programs.{block_in}
 use Rattle.sym_code.specs.Runs.{weighed_of}

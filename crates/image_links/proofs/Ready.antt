@@ -13,7 +13,7 @@ use Rattle.core_code.specs.declared.code.CoreProgram.{CoreProgram}
 use Rattle.isr_save.specs.Start.{start_code}
 use Rattle.lean_blocks.specs.Leaner.{IsLeaner}
 use Rattle.lean_blocks.proofs.Whole.{blocks_are_leaner}
-use Rattle.lean_code.specs.Fit.{is_byte_act, puts_bytes, ends_by_word}
+use Rattle.lean_code.specs.Admissible.{is_byte_act, puts_bytes, ends_by_word}
 use Rattle.lean_code.specs.Rows.{Keeps, Drops, Puts, Narrows, narrowed, Row, At, olds, puts}
 use Rattle.lower_stmt.specs.Programs.{core_of}
 use Rattle.pic_map.specs.declared.Placed.{Placed}

@@ -15,7 +15,7 @@ use Rattle.call_graph.specs.Numbers.{copy_of}
 use Rattle.call_graph.specs.declared.types.FnCopy.{FnCopy}
 use Rattle.core_code.specs.Operands.{number_left}
 use Rattle.core_code.specs.Tree as trees
-use Rattle.core_code.specs.Tree.{Tree, Trees}
+use Rattle.core_code.specs.Tree.{Tree}
 use Rattle.core_code.specs.declared.code.Byte.{Byte}
 use Rattle.core_code.specs.declared.code.Byte.TheVariants.{Frame, Result}
 use Rattle.pic_world.specs.declared.Root.{Root}

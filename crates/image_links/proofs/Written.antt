@@ -1,5 +1,5 @@
 -- Addresses and sizes of what the passes make are such as a map file can tell.
-use Rattle.std.proofs.Common.{◌≡◌, ℕ, zero, suc, ◌+◌, ◌%◌, ◌<◌, ◌≤◌, inl, inr, Bool, true, false, List, [], ◌∷◌, length, Option, Some, None, refl, sym, ap, ◌∙◌, subst, arith}
+use Rattle.std.proofs.Common.{◌≡◌, ℕ, zero, suc, ◌+◌, ◌<◌, ◌≤◌, inl, inr, Bool, true, false, List, [], ◌∷◌, Option, Some, None, refl, ◌∙◌, subst, arith}
 use Rattle.std.specs.Prelude.{slice_get}
 use Rattle.std.specs.List.{All}
 use Rattle.std.specs.Option.{option_or}
@@ -19,7 +19,6 @@ use Rattle.ram_place.specs.Memory.{regions, IsLowest}
 use Rattle.ram_place.specs.Placement.{IsPlacing}
 use Rattle.sym_code.specs.Programs.{same_name}
 use Rattle.sym_code.specs.Words.{words_in}
-use Rattle.sym_code.specs.declared.code.BlockName.{BlockName}
 use Rattle.sym_code.specs.declared.code.BlockName.TheVariants.{Copy}
 use Rattle.sym_code.specs.declared.code.Label.TheVariants.{Halt}
 use Rattle.sym_code.specs.declared.code.SymBlock.{SymBlock}

@@ -32,7 +32,7 @@ use Rattle.chip_trace.specs.Arriving.{depth_for}
 use Rattle.code_place.specs.Layouts.{layout_of}
 use Rattle.program_code.specs.Passed.{IsPassed}
 use Rattle.program_code.specs.Translated.{HasCalls, IsSpread}
-use Rattle.headline_trace.specs.Linked.{LeanKeeps, bare_setting}
+use Rattle.headline_trace.specs.Linked.{LeanFollows, bare_setting}
 
 -- ---- chains of calls
 -- a chain of at most so many calls leads from one number of a graph to another
@@ -77,7 +77,7 @@ limit_of copies inside = highest inside copies
 pub record IsLeanLink (p : Program) (copies : List FnCopy) (given lean made : List SymBlock) (placed : Placed) (at : List ℕ) : Type 0 where
   pub price : BlockName → ℕ → ℕ
   pub sure : BlockName → ℕ → ℕ
-  pub keeps : LeanKeeps (bare_setting given made (handler_at copies) placed at (limit_of copies)) (bare_setting lean made (handler_at copies) placed at (limit_of copies)) price sure (price_in (block_in made))
+  pub keeps : LeanFollows (bare_setting given made (handler_at copies) placed at (limit_of copies)) (bare_setting lean made (handler_at copies) placed at (limit_of copies)) price sure (price_in (block_in made))
   pub prices : (c : ℕ) (copy : FnCopy) → slice_get copies c ≡ Some copy → is_user copy.function ≡ true → AreDear (layout_of placed) (price (Copy c)) (block_in given (Copy c))
   pub routine_prices : (c : ℕ) (copy : FnCopy) (h : Helper) → slice_get copies c ≡ Some copy → copy.function ≡ callees.Helper h → ArePriced (price (Copy c)) (helper_code h copy.root c)
   pub sures : (c : ℕ) (copy : FnCopy) → slice_get copies c ≡ Some copy → is_user copy.function ≡ true → (n : ℕ) (s : Sym) → slice_get (block_in given (Copy c)) n ≡ Some s

@@ -7,9 +7,9 @@ use Rattle.sym_code.specs.declared.code.BlockName.TheVariants.{Start}
 use Rattle.sym_code.specs.declared.code.Sym.{Sym}
 use Rattle.sym_code.specs.declared.code.Sym.TheVariants as syms
 use Rattle.sym_code.specs.declared.code.SymBlock.{SymBlock}
-use Rattle.lean_code.proofs.Fitting.{kept_is_same}
+use Rattle.lean_code.proofs.Admitting.{kept_is_same}
 use Rattle.lean_code.specs.Checked.{Sketch, IsBlockOf}
-use Rattle.lean_code.specs.Fit.{keeps_all, puts_bytes, ends_by_word, rows_at, IsFit}
+use Rattle.lean_code.specs.Admissible.{keeps_all, puts_bytes, ends_by_word, rows_at, IsAdmissible}
 use Rattle.lean_code.specs.Rows.{Keeps, Row, At, olds, puts}
 use Rattle.lean_pass.specs.Made.{IsAsGiven, IsLean, Kept, Made}
 use Rattle.lean_blocks.specs.Leaner.{IsLeaner, BlocksAreLeaner}
@@ -51,16 +51,16 @@ all_as_given (g ∷ given) [] z = z
 all_as_given (g ∷ given) (b ∷ lean) z = (as_given g b z.0, all_as_given given lean z.1)
 
 -- ---- those of a certificate
-module _ (variables : ℕ → ℕ) (k : Sketch) (fit : IsFit variables k) where
+module _ (variables : ℕ → ℕ) (k : Sketch) (admissible : IsAdmissible variables k) where
   by_rows : (given block : SymBlock) → IsBlockOf k given block → IsLeaner given block
   by_rows given block is = record {
     name = is.name;
     rows = rows_at k given.name;
     before = is.before;
     after = is.after;
-    numbers = fit.numbers given.name;
-    start = λ name. is.after ∙ kept_is_same (rows_at k given.name) (ap (λ (n : BlockName). keeps_all (rows_at k n)) name ∙ fit.start) ∙ sym is.before;
-    ends = λ e. ap (ends_by_word true) is.after ∙ fit.ends given.name;
+    numbers = admissible.numbers given.name;
+    start = λ name. is.after ∙ kept_is_same (rows_at k given.name) (ap (λ (n : BlockName). keeps_all (rows_at k n)) name ∙ admissible.start) ∙ sym is.before;
+    ends = λ e. ap (ends_by_word true) is.after ∙ admissible.ends given.name;
   }
 
   all_by_rows : (given lean : List SymBlock) → AllZip (IsBlockOf k) given lean → AllZip IsLeaner given lean
@@ -71,4 +71,4 @@ module _ (variables : ℕ → ℕ) (k : Sketch) (fit : IsFit variables k) where
 
 pub blocks_are_leaner : BlocksAreLeaner
 blocks_are_leaner l handler variables given lean (Kept as_was) = all_as_given given lean as_was
-blocks_are_leaner l handler variables given lean (Made k layout same made steady fit rows) = all_by_rows variables k fit given lean made.blocks
+blocks_are_leaner l handler variables given lean (Made k layout same made steady admissible rows) = all_by_rows variables k admissible given lean made.blocks

@@ -4,12 +4,12 @@ use Rattle.std.specs.List.{AllZip}
 use Rattle.sym_code.specs.Layout.{DataLayout}
 use Rattle.sym_code.specs.declared.code.BlockName.TheVariants.{Start}
 use Rattle.sym_code.specs.declared.code.SymBlock.{SymBlock}
-use Rattle.lean_code.specs.Fit.{puts_bytes, ends_by_word}
+use Rattle.lean_code.specs.Admissible.{puts_bytes, ends_by_word}
 use Rattle.lean_code.specs.Rows.{Row, olds, puts}
 use Rattle.lean_pass.specs.Made.{IsLean}
 
--- It is made by these rows of a certificate, of which each number fits into a literal. The start block stays as it is, and each ends by
--- a word that did.
+-- There are rows by which it is made of the given one, of which each number that is put fits into a literal. The start block stays as
+-- it is, and each ends by a word that did.
 pub record IsLeaner (given block : SymBlock) : Type 0 where
   pub name : block.name ≡ given.name
   pub rows : List Row

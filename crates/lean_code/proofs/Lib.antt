@@ -18,5 +18,5 @@ pub mod Whole
 pub mod Checking
 pub mod Shrinking
 mod Worked
-pub mod Fitting
+pub mod Admitting
 pub mod Weighed

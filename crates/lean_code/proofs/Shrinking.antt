@@ -9,7 +9,7 @@ use Rattle.sym_code.specs.declared.code.Sym.{Sym}
 use Rattle.sym_code.specs.declared.code.Sym.TheVariants as syms
 use Rattle.lean_code.specs.Rows.{Keeps, Drops, Puts, Narrows, narrowed, Row, At, olds, puts, place_in}
 use Rattle.lean_code.specs.Links.{price_at, CarriedIsCheaper}
-use Rattle.lean_code.specs.Fit.{is_byte_act, puts_bytes, BytesKeep}
+use Rattle.lean_code.specs.Admissible.{is_byte_act, puts_bytes, BytesKeep}
 use Rattle.lean_code.specs.Shrinks.{RowsShrink, RowsKeep}
 use Rattle.lean_code.proofs.Lists.{never}
 

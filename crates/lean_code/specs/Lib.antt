@@ -6,5 +6,5 @@ pub mod Checked
 pub mod Shrinks
 pub mod Sample
 pub mod Steady
-pub mod Fit
+pub mod Admissible
 pub mod Weighed

@@ -7,7 +7,7 @@
 #![tactic(auto)]
 
 ghost use Rattle.lean_code.specs.Checked.{TestIsRight};
-ghost use Rattle.lean_code.specs.Fit.{FitIsFit, KeptIsSame, BytesKeep};
+ghost use Rattle.lean_code.specs.Admissible.{TestedIsAdmissible, KeptIsSame, BytesKeep};
 ghost use Rattle.lean_code.specs.Links.{CarriedIsCheaper, LeanKeeps};
 ghost use Rattle.lean_code.specs.Sample.{SamplePasses};
 ghost use Rattle.lean_code.specs.Shrinks.{RowsShrink, RowsKeep};
@@ -26,9 +26,9 @@ pub fn lean_weighed()
     ensures always { AlwaysOpen }
 {}
 
-/// A certificate that passes the tests of what a pass needs besides is fit, and what stays as it is is the given code.
-pub fn fit_is_fit()
-    ensures fit { FitIsFit }
+/// A certificate that passes the tests of what a pass needs besides is admissible, and what stays as it is is the given code.
+pub fn tested_is_admissible()
+    ensures admissible { TestedIsAdmissible }
     ensures same { KeptIsSame }
 {}
 

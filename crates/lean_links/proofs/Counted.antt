@@ -1,9 +1,9 @@
 -- Each instruction that counts stays.
-use Rattle.std.proofs.Common.{◌≡◌, ℕ, zero, suc, ◌≤◌, Bool, true, false, not, ◌&&◌, if◌then◌else◌, List, [], ◌∷◌, slice_get, Option, Some, refl, sym, ap, ◌∙◌, true≢false, arith}
+use Rattle.std.proofs.Common.{◌≡◌, ℕ, zero, suc, ◌≤◌, Bool, true, false, not, ◌&&◌, if◌then◌else◌, List, [], ◌∷◌, slice_get, Some, refl, sym, ap, ◌∙◌, true≢false, arith}
 use Rattle.std.proofs.lemmas.Option.{none-some}
 use Rattle.sym_code.specs.Marks.{is_marked}
 use Rattle.sym_code.specs.declared.code.Sym.{Sym}
-use Rattle.lean_code.specs.Fit.{loses_mark, keeps_marks}
+use Rattle.lean_code.specs.Admissible.{loses_mark, keeps_marks}
 use Rattle.lean_code.specs.Links.{counts}
 use Rattle.lean_code.specs.Rows.{Row, old_of, is_dropped, olds}
 

@@ -1,15 +1,11 @@
 -- Whatever the pass makes follows the given blocks.
-use Rattle.std.proofs.Common.{◌≡◌, ℕ, ◌<◌, ◌≤◌, Bool, true, List, map, map-id, length, slice_get, Option, Some, refl, sym, ◌∙◌, subst, arith}
+use Rattle.std.proofs.Common.{◌≡◌, ℕ, true, List, map, map-id, slice_get, Option, Some, refl, sym, ◌∙◌, subst, arith}
 use Rattle.std.proofs.Math.Path.{fun_ext}
 use Rattle.std.specs.List.{AllZip}
-use Rattle.c_typed.specs.declared.calls.Helper.{Helper}
-use Rattle.pic_map.specs.declared.Placed.{Placed}
 use Rattle.pic_world.specs.World.{Happening}
-use Rattle.pic_world.specs.declared.Root.{Root}
 use Rattle.run_links.specs.Runs.{Run, Goes, Follows, IsSlow}
-use Rattle.sym_code.specs.Layout.{DataLayout, frame, is_whole}
+use Rattle.sym_code.specs.Layout.{DataLayout}
 use Rattle.sym_code.specs.Machine.{sym_start}
-use Rattle.sym_code.specs.Marks.{is_marked}
 use Rattle.sym_code.specs.Programs.{block_in}
 use Rattle.sym_code.specs.Runs.{run_of}
 use Rattle.sym_code.specs.declared.code.BlockName.{BlockName}
@@ -18,20 +14,19 @@ use Rattle.sym_code.specs.declared.code.Sym.{Sym}
 use Rattle.sym_code.specs.declared.code.SymBlock.{SymBlock}
 use Rattle.code_place.specs.Layouts.{layout_of}
 use Rattle.math_helpers.specs.Routines.{helper_code}
-use Rattle.math_helpers.specs.Shape.{frame_size, ArePriced}
+use Rattle.math_helpers.specs.Shape.{ArePriced}
 use Rattle.select_wide.specs.Links.{AreDear}
 use Rattle.bank_page.specs.Links.{price_in}
 use Rattle.bank_prices.proofs.Whole.{blocks_are_dear, routines_are_priced}
-use Rattle.bank_prices.specs.Prices.{AreSelected}
 use Rattle.lean_code.proofs.Checking.{test_is_right}
 use Rattle.lean_code.proofs.Shrinking.{carried_is_cheaper}
 use Rattle.lean_code.proofs.Weighed.{lean_weighed, always_open}
 use Rattle.lean_code.specs.Checked.{Sketch, lean_of, is_lean}
-use Rattle.lean_code.specs.Fit.{rows_at, IsFit, AreByRows}
+use Rattle.lean_code.specs.Admissible.{rows_at, IsAdmissible, AreByRows}
 use Rattle.lean_code.specs.Links.{counts, carried}
 use Rattle.lean_code.specs.Rows.{Lean, olds, puts, old_program}
 use Rattle.lean_code.specs.Steady.{are_steady}
-use Rattle.lean_pass.specs.Made.{IsAsGiven, IsLean, Kept, Made}
+use Rattle.lean_pass.specs.Made.{IsAsGiven, Kept, Made}
 use Rattle.lean_prices.proofs.Blocks.{lean_blocks_are_dear, lean_routines_are_priced}
 use Rattle.lean_prices.proofs.Named.{blocks_are_steady}
 use Rattle.lean_links.proofs.Counted.{marked_counts}
@@ -74,7 +69,7 @@ module _ (l : DataLayout) (handler : Option ℕ) (variables : ℕ → ℕ) (give
       }
 
 -- ---- blocks that a certificate makes
-module _ (k : Sketch) (variables : ℕ → ℕ) (given lean : List SymBlock) (new : BlockName → ℕ → ℕ) (tested : is_lean k ≡ true) (steady : are_steady k.blocks ≡ true) (fit : IsFit variables k) (rows : AreByRows k given lean) where
+module _ (k : Sketch) (variables : ℕ → ℕ) (given lean : List SymBlock) (new : BlockName → ℕ → ℕ) (tested : is_lean k ≡ true) (steady : are_steady k.blocks ≡ true) (admissible : IsAdmissible variables k) (rows : AreByRows k given lean) where
   -- prices know no limit and no page
   abbrev any : Lean
   any = lean_of k (λ i. 0) (λ i. 0) (λ i. 0)
@@ -88,7 +83,7 @@ module _ (k : Sketch) (variables : ℕ → ℕ) (given lean : List SymBlock) (ne
   code_follows : CodeFollows k.layout k.handler (λ name. olds (rows_at k name)) (λ name. puts (rows_at k name)) price sure new
   code_follows page limit o e r m n goes =
       let x = lean_of k limit page page in
-      lean_weighed x (test_is_right k tested limit page page) price new sure (carried_is_cheaper x new) (λ name j. omega arith) o e r m n goes (always_open x fit.hidden e o (sym_start (old_program x) r m) n)
+      lean_weighed x (test_is_right k tested limit page page) price new sure (carried_is_cheaper x new) (λ name j. omega arith) o e r m n goes (always_open x admissible.hidden e o (sym_start (old_program x) r m) n)
 
   blocks_follow : CodeFollows k.layout k.handler (block_in given) (block_in lean) price sure new
   blocks_follow =
@@ -99,7 +94,7 @@ module _ (k : Sketch) (variables : ℕ → ℕ) (given lean : List SymBlock) (ne
   made_followed l handler same handled = record {
     price = price;
     sure = sure;
-    sures = λ name j s got marked. marked_counts variables (rows_at k name) j s (fit.marks name) (subst (λ (list : List Sym). slice_get list j ≡ Some s) (rows.given_is name) got) marked;
+    sures = λ name j s got marked. marked_counts variables (rows_at k name) j s (admissible.marks name) (subst (λ (list : List Sym). slice_get list j ≡ Some s) (rows.given_is name) got) marked;
     keeps = subst (λ (x : DataLayout). CodeFollows x handler (block_in given) (block_in lean) price sure new) same
         (subst (λ (x : Option ℕ). CodeFollows k.layout x (block_in given) (block_in lean) price sure new) handled blocks_follow);
     dear = λ placed made is has whole name.
@@ -113,4 +108,4 @@ module _ (k : Sketch) (variables : ℕ → ℕ) (given lean : List SymBlock) (ne
 
 pub lean_blocks_follow : LeanBlocksFollow
 lean_blocks_follow l handler variables given lean (Kept all) new = kept_followed l handler variables given lean new all
-lean_blocks_follow l handler variables given lean (Made k same handled by steady fit rows) new = made_followed k variables given lean new by.tested steady fit rows l handler same handled
+lean_blocks_follow l handler variables given lean (Made k same handled by steady admissible rows) new = made_followed k variables given lean new by.tested steady admissible rows l handler same handled

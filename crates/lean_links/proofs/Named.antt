@@ -1,5 +1,5 @@
 -- Blocks that were left as they are, by their names.
-use Rattle.std.proofs.Common.{◌≡◌, Bool, true, false, if◌then◌else◌, List, [], ◌∷◌, refl, sym, ap, true≢false}
+use Rattle.std.proofs.Common.{◌≡◌, Bool, true, false, if◌then◌else◌, List, [], ◌∷◌, refl, ap, true≢false}
 use Rattle.std.specs.List.{AllZip}
 use Rattle.sym_code.specs.Programs.{same_name, block_in}
 use Rattle.sym_code.specs.declared.code.BlockName.{BlockName}

@@ -5,4 +5,4 @@ pub mod Cuts
 pub mod Whole
 pub mod Putting
 pub mod Joins
-mod Fits
+mod Admitting

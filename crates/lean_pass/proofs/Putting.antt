@@ -16,9 +16,9 @@ use Rattle.sym_code.specs.declared.code.SymBlock.{SymBlock}
 use Rattle.lean_code.specs.Rows as certified
 use Rattle.lean_code.specs.Rows.{olds, puts, is_label}
 use Rattle.lean_code.specs.Checked as listed
-use Rattle.lean_code.specs.Fit.{are_fit, AreByRows}
+use Rattle.lean_code.specs.Admissible.{are_admissible, AreByRows}
 use Rattle.lean_code.specs.Steady.{are_steady}
-use Rattle.lean_code.proofs.Fitting.{fit_is_fit}
+use Rattle.lean_code.proofs.Admitting.{tested_is_admissible}
 use Rattle.lean_code.specs.Checked.{rows_in, row_in, ListedBlock}
 use Rattle.lean_pass.specs.Made.{IsSeen, put_of, is_named, are_distinct, Serves, IsAsGiven, IsLean, Kept, Made, HasName}
 use Rattle.lean_pass.specs.Tests.{has_none}
@@ -297,10 +297,10 @@ none_listed l k none a = by k.hidden.has.items none
     by [] e = refl
     by (b ∷ bs) e = never e
 
-pub is_made : (l : DataLayout) (k : Sketch) (variables : ℕ → ℕ) (given made : List SymBlock) → listed.is_lean (sketch_of l k) ≡ true → are_steady (blocks_of k.blocks.items) ≡ true → are_fit variables (blocks_of k.blocks.items) ≡ true → has_none k.hidden.has.items ≡ true
+pub is_made : (l : DataLayout) (k : Sketch) (variables : ℕ → ℕ) (given made : List SymBlock) → listed.is_lean (sketch_of l k) ≡ true → are_steady (blocks_of k.blocks.items) ≡ true → are_admissible variables (blocks_of k.blocks.items) ≡ true → has_none k.hidden.has.items ≡ true
     → AllZip IsSeen given k.blocks.items → are_distinct k.blocks.items ≡ true → AllZip (listed.IsBlockOf (sketch_of l k)) given made → IsLean l k.handler variables given made
-is_made l k variables given made tested steady fit none seen distinct all =
-    Made (sketch_of l k) refl refl (record { tested = tested; blocks = all }) steady (fit_is_fit variables (sketch_of l k) fit (none_listed l k none)) (by_rows l k given made seen distinct all)
+is_made l k variables given made tested steady admissible none seen distinct all =
+    Made (sketch_of l k) refl refl (record { tested = tested; blocks = all }) steady (tested_is_admissible variables (sketch_of l k) admissible (none_listed l k none)) (by_rows l k given made seen distinct all)
 
 -- ---- names
 
@@ -321,4 +321,4 @@ made_names k (g ∷ given) (m ∷ made) all = (record { name = all.0.name }, mad
 
 pub names_stay : (l : DataLayout) (handler : Option ℕ) (variables : ℕ → ℕ) (given made : List SymBlock) → IsLean l handler variables given made → AllZip HasName given made
 names_stay l handler variables given made (Kept all) = kept_names given made all
-names_stay l handler variables given made (Made k same handled by steady fit rows) = made_names k given made by.blocks
+names_stay l handler variables given made (Made k same handled by steady admissible rows) = made_names k given made by.blocks

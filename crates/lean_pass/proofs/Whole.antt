@@ -9,7 +9,7 @@ use Rattle.sym_code.specs.declared.code.Sym.TheVariants as syms
 use Rattle.lean_code.specs.Rows.{is_label, olds, old_program}
 use Rattle.lean_code.specs.Checked as listed
 use Rattle.lean_code.specs.Checked.{ListedBlock, ListedRow, Listed, Sketch, rows_in, is_right_at, are_right}
-use Rattle.lean_pass.specs.Tests.{has_word, is_main, main_begins, main_lands}
+use Rattle.lean_pass.specs.Tests.{finds_word, is_main, main_begins, main_lands}
 use Rattle.lean_pass.specs.Views.{set_of, block_of, row_of, rows_of}
 use Rattle.lean_pass.specs.declared.rows.LeanBlock.{LeanBlock}
 use Rattle.lean_pass.specs.declared.rows.Row.{Row}
@@ -31,24 +31,24 @@ right_end k b at whole left is e = ap (λ (l : List Row). are_right k b at (rows
 pub none_outer : (b : LeanBlock) → block_of b ≡ listed.no_block → set_of b.outer ≡ []
 none_outer b e = ap (λ (x : ListedBlock). x.outer) e
 
-word_at : (rows : List ListedRow) → is_word (slice_get (olds (rows_in rows)) (labels_in_front (olds (rows_in rows)))) ≡ has_word rows
+word_at : (rows : List ListedRow) → is_word (slice_get (olds (rows_in rows)) (labels_in_front (olds (rows_in rows)))) ≡ finds_word rows
 word_at [] = refl
 word_at (Listed s act n ∷ rows) = by_sym s (word_at rows)
   where
-    by_sym : (s : Sym) → is_word (slice_get (olds (rows_in rows)) (labels_in_front (olds (rows_in rows)))) ≡ has_word rows
-        → is_word (slice_get (s ∷ olds (rows_in rows)) (labels_in_front (s ∷ olds (rows_in rows)))) ≡ (if is_label s then has_word rows else true)
+    by_sym : (s : Sym) → is_word (slice_get (olds (rows_in rows)) (labels_in_front (olds (rows_in rows)))) ≡ finds_word rows
+        → is_word (slice_get (s ∷ olds (rows_in rows)) (labels_in_front (s ∷ olds (rows_in rows)))) ≡ (if is_label s then finds_word rows else true)
     by_sym (syms.Label label) e = e
     by_sym s e = refl
 
-lands_is : (q : Program) (name : BlockName) (rows : List ListedRow) → q.block name ≡ olds (rows_in rows) → lands q (front q name) ≡ has_word rows
+lands_is : (q : Program) (name : BlockName) (rows : List ListedRow) → q.block name ≡ olds (rows_in rows) → lands q (front q name) ≡ finds_word rows
 unfolding stand
 lands_is q name rows is =
     ap (λ (n : ℕ). is_word (slice_get (q.block name) n)) (zero-add (labels_in_front (q.block name)))
     ∙ ap (λ (l : List Sym). is_word (slice_get l (labels_in_front l))) is ∙ word_at rows
 
-pub main_lands_is : (k : Sketch) (b : ListedBlock) → b ≡ listed.block_in k.blocks (names.Copy 0) → has_word b.rows ≡ main_lands k
+pub main_lands_is : (k : Sketch) (b : ListedBlock) → b ≡ listed.block_in k.blocks (names.Copy 0) → finds_word b.rows ≡ main_lands k
 main_lands_is k b is =
-    ap (λ (x : ListedBlock). has_word x.rows) is
+    ap (λ (x : ListedBlock). finds_word x.rows) is
     ∙ sym (lands_is (old_program (listed.lean_of k (λ i. 0) (λ i. 0) (λ i. 0))) (names.Copy 0) (listed.block_in k.blocks (names.Copy 0)).rows refl)
 
 pub main_is : (k : Sketch) (b : ListedBlock) → b ≡ listed.block_in k.blocks (names.Copy 0) → is_main b ≡ main_begins k

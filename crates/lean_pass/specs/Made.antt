@@ -11,7 +11,7 @@ use Rattle.sym_code.specs.declared.code.SymBlock.{SymBlock}
 use Rattle.lean_code.specs.Rows as certified
 use Rattle.lean_code.specs.Rows.{olds, is_label}
 use Rattle.lean_code.specs.Checked as listed
-use Rattle.lean_code.specs.Fit.{IsFit, AreByRows}
+use Rattle.lean_code.specs.Admissible.{IsAdmissible, AreByRows}
 use Rattle.lean_code.specs.Steady.{are_steady}
 use Rattle.lean_pass.specs.Views.{act_of, rows_of}
 use Rattle.lean_pass.specs.declared.rows.Act.{Act}
@@ -46,7 +46,7 @@ pub record IsAsGiven (given made : SymBlock) : Type 0 where
 -- The given blocks, or those that a certificate makes that passes the tests. Given is how many bytes the variables of each copy have.
 pub data IsLean (l : DataLayout) (handler : Option ℕ) (variables : ℕ → ℕ) (given made : List SymBlock) : Type 0 where
   Kept : AllZip IsAsGiven given made → IsLean l handler variables given made
-  Made : (k : listed.Sketch) → k.layout ≡ l → k.handler ≡ handler → listed.IsLeanOf k given made → are_steady k.blocks ≡ true → IsFit variables k → AreByRows k given made → IsLean l handler variables given made
+  Made : (k : listed.Sketch) → k.layout ≡ l → k.handler ≡ handler → listed.IsLeanOf k given made → are_steady k.blocks ≡ true → IsAdmissible variables k → AreByRows k given made → IsLean l handler variables given made
 
 pub record HasName (given made : SymBlock) : Type 0 where
   pub name : made.name ≡ given.name

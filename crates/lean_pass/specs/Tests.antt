@@ -8,9 +8,10 @@ use Rattle.lean_code.specs.Checked.{ListedBlock, ListedRow, Listed, Sketch, ahea
 abbrev pub goes_on_from : ListedRow → List ListedRow → Bool
 goes_on_from (Listed s act n) rest = goes_on (At s act None ∷ rows_in rest)
 
-abbrev pub has_word : List ListedRow → Bool
-has_word [] = false
-has_word (Listed s act n ∷ rows) = if is_label s then has_word rows else true
+-- behind the labels in front of a list stands a word
+abbrev pub finds_word : List ListedRow → Bool
+finds_word [] = false
+finds_word (Listed s act n ∷ rows) = if is_label s then finds_word rows else true
 
 abbrev pub is_main : ListedBlock → Bool
 is_main b = not b.inside && begins [] (ahead b.rows)

@@ -7,9 +7,9 @@
 //! promises of such code holds of them. How a certificate is searched for is nobody's concern, and how much is left out isn't promised.
 #![tactic(auto)]
 
+mod admissible;
 mod behind;
 mod dropping;
-mod fit;
 mod keeping;
 mod making;
 mod marks;

@@ -5,7 +5,7 @@ ghost use Rattle.std.specs.List.{All, AllZip};
 ghost use Rattle.sym_code.specs.WellFormed.{is_well_formed, are_well_formed};
 ghost use Rattle.lean_code.specs.Rows as certified;
 ghost use Rattle.lean_code.specs.Checked as listed;
-ghost use Rattle.lean_code.specs.Fit.{are_fit};
+ghost use Rattle.lean_code.specs.Admissible.{are_admissible};
 ghost use Rattle.lean_code.specs.Steady.{are_steady};
 ghost use Rattle.code_place.specs.Layouts.{layout_of};
 ghost use Rattle.lean_pass.specs.Made as stated;
@@ -241,7 +241,7 @@ pub fn made_by(
     requires distinct { stated.are_distinct sketch.now.blocks.items ≡ true }
     requires tested { listed.is_lean (sketch_of (layout_of placed.now) sketch.now) ≡ true }
     requires steady { are_steady (blocks_of sketch.now.blocks.items) ≡ true }
-    requires fit { are_fit (variables_of variables.now) (blocks_of sketch.now.blocks.items) ≡ true }
+    requires admissible { are_admissible (variables_of variables.now) (blocks_of sketch.now.blocks.items) ≡ true }
     requires open_bytes { has_none sketch.now.hidden.has.items ≡ true }
     ensures { IfOk result (λ made. stated.IsLean (layout_of placed.now) sketch.now.handler (variables_of variables.now) given.now made.items) }
 {

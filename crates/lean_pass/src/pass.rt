@@ -6,7 +6,7 @@ ghost use Rattle.code_place.specs.Layouts.{layout_of};
 ghost use Rattle.lean_pass.specs.Made.{IsLean, HasName};
 ghost use Rattle.lean_pass.specs.Views.{variables_of};
 
-use crate::fit::{are_fit, has_none};
+use crate::admissible::{are_admissible, has_none};
 use crate::making::{are_distinct, as_given, blocks_for, made_by};
 use crate::rows::Sketch;
 use crate::search::search;
@@ -78,7 +78,7 @@ fn leaned(
     if !are_steady(&sketch.blocks) {
         return kept(alloc, blocks, handler, placed, variables);
     }
-    if !are_fit(variables, &sketch.blocks) {
+    if !are_admissible(variables, &sketch.blocks) {
         return kept(alloc, blocks, handler, placed, variables);
     }
     if !has_none(&sketch.hidden) {

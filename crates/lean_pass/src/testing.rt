@@ -262,7 +262,7 @@ impl<'a> Ground<'a> {
         ensures { result ≡ stated.main_lands (sketch_of (layout_of self.now.placed.now) sketch.now) }
     {
         let main = block_named(&sketch.blocks, &self.none, BlockName::Copy(0));
-        has_word(&main.rows)
+        finds_word(&main.rows)
     }
 
     /// Whether a certificate is right.
@@ -290,13 +290,13 @@ fn goes_on_from(row: &Row, rest: &[Row]) -> bool
     }
 }
 
-fn has_word(rows: &[Row]) -> bool
-    ensures { result ≡ stated.has_word (rows_of rows.now) }
+fn finds_word(rows: &[Row]) -> bool
+    ensures { result ≡ stated.finds_word (rows_of rows.now) }
 {
     match rows {
         [] => false,
         [row, rest @ ..] => if is_label(row.sym) {
-            has_word(rest)
+            finds_word(rest)
         } else {
             true
         },

@@ -6,7 +6,6 @@ use Rattle.call_graph.specs.Numbers.{handler_at}
 use Rattle.call_graph.specs.declared.types.FnCopy.{FnCopy}
 use Rattle.core_code.specs.declared.code.CoreProgram.{CoreProgram}
 use Rattle.lower_stmt.specs.Bodies.{body_of, bodies_of, first_bytes}
-use Rattle.lean_pass.specs.Made.{IsLean}
 use Rattle.lower_stmt.specs.FirstBytes.{items_of}
 use Rattle.lower_stmt.specs.Programs.{core_of}
 use Rattle.pic_map.specs.declared.Placed.{Placed}
@@ -18,6 +17,7 @@ use Rattle.code_place.specs.Layouts.{layout_of}
 use Rattle.code_place.specs.Places.{block_place, label_place, BlocksHaveAddresses, HoldsInstructions, IsErasedElsewhere, TargetsStand}
 use Rattle.code_place.specs.Sizes.{Fit}
 use Rattle.flow_facts.specs.Thin.{IsThinned}
+use Rattle.lean_pass.specs.Made.{IsLean}
 use Rattle.program_code.specs.Joined.{IsJoined}
 
 -- The blocks have the selects that they need, but for those that flow facts make needless.

@@ -7,7 +7,7 @@ use Rattle.pic_world.specs.World.{World, device_value, after_device_read, after_
 use Rattle.core_code.specs.Bytes as bytes
 use Rattle.core_code.specs.Bytes.{Held, Unset, Number, Part}
 use Rattle.core_code.specs.Machine as core
-use Rattle.core_code.specs.Machine.{Task, Put, PutBit, PutBack, Join, Waiting, after_read, is_own, is_valid, put, when, with_bit, has_bit, bit_read, bit_write, memory_with, after_write}
+use Rattle.core_code.specs.Machine.{Task, PutBit, PutBack, Join, Waiting, after_read, is_own, is_valid, put, when, with_bit, bit_read, bit_write, memory_with, after_write}
 use Rattle.core_code.specs.declared.code.Byte.{Byte}
 use Rattle.core_code.specs.declared.code.Byte.TheVariants.{Device}
 use Rattle.sym_code.specs.Cost.{sure_prices, most_prices}

@@ -4,7 +4,7 @@ use Rattle.pic_world.specs.Registers.{is_register, lowest}
 use Rattle.pic_world.specs.World.{World, ReadOf, noted, device_value, after_device_read}
 use Rattle.pic_world.specs.declared.Cell.TheVariants as cells
 use Rattle.core_code.specs.Bytes as bytes
-use Rattle.core_code.specs.Bytes.{Held, Unset, Number, Part, is_private}
+use Rattle.core_code.specs.Bytes.{Held, Number, is_private}
 use Rattle.core_code.specs.Cost.{one_if, is_kept}
 use Rattle.core_code.specs.Machine as core
 use Rattle.core_code.specs.Machine.{Task, Do, Put, PutBit, PutBack, Join, LoadFrom, StoreTo, Over, Waiting, static_bytes, held_at, after_read, noting_if, may_hold, is_own, is_valid, put, passed, copy, when, is_others, may_call, opened}

@@ -8,7 +8,7 @@ use Rattle.core_code.specs.Bytes as bytes
 use Rattle.core_code.specs.Bytes.{Held}
 use Rattle.core_code.specs.Cost.{restoring, least_leave}
 use Rattle.core_code.specs.Machine as core
-use Rattle.core_code.specs.Machine.{Task, Do, Over, Waiting, InLoop, InCall, InHandler, tasks, can_pass, may_call, is_entry, is_copy, opened, when}
+use Rattle.core_code.specs.Machine.{Task, Over, Waiting, InLoop, InCall, InHandler, tasks, can_pass, may_call, is_entry, is_copy, opened}
 use Rattle.core_code.specs.Tree.{Tree, trees_of, list_of}
 use Rattle.sym_code.specs.Cost.{sure_prices, most_prices, instruction_cost}
 use Rattle.sym_code.specs.Effect.{Thread, Memory, Quiet, Ends, Leaves, Stuck, effect_of, root_of, is_in_page, call, jump_to}

@@ -11,14 +11,14 @@ use Rattle.core_code.specs.Bytes as bytes
 use Rattle.core_code.specs.Bytes.{Held, Number, without_frame}
 use Rattle.core_code.specs.Cost.{one_if, is_kept, load_cost, cost_of, leaving, least_of, task_most, least_task, step_most, step_least, context_cost}
 use Rattle.core_code.specs.Machine as core
-use Rattle.core_code.specs.Machine.{Task, Do, Put, PutBit, PutBack, Join, LoadFrom, StoreTo, Over, Waiting, InLoop, InCall, InHandler, when, tasks, operate, act, may_interrupt, core_step, core_step_at, put}
+use Rattle.core_code.specs.Machine.{Task, Do, Put, PutBit, PutBack, Join, LoadFrom, StoreTo, Over, Waiting, InHandler, tasks, operate, act, may_interrupt, core_step, put}
 use Rattle.core_code.specs.Tree.{Tree, Set, Address, Copy, Load, Store, Unary, Binary, Convert, BitRead, BitWrite, Call, Leave, Many, If, Loop, Exit, Again}
 use Rattle.core_code.specs.declared.code.Byte.TheVariants.{Device}
 use Rattle.sym_code.specs.Cost.{Prices, sure_prices, most_prices, thread_cost, step_cost, step_cost_at}
 use Rattle.sym_code.specs.Effect.{Thread, Memory, Port, Rests, effect, effect_rest, effect_at, root_of}
 use Rattle.sym_code.specs.Layout.{shown}
 use Rattle.sym_code.specs.Machine as sym_machine
-use Rattle.sym_code.specs.Machine.{Machine, running, settled, sym_step, sym_step_at, at_front}
+use Rattle.sym_code.specs.Machine.{Machine, running, settled, sym_step, sym_step_at}
 use Rattle.sym_code.specs.Programs.{Position, lands, front}
 use Rattle.sym_code.specs.Registers.{Registers, Fits}
 use Rattle.sym_code.specs.declared.code.BlockName.TheVariants as names

@@ -5,9 +5,9 @@ use Rattle.pic_world.specs.World.{World}
 use Rattle.pic_world.specs.declared.Root.{Root}
 use Rattle.pic_world.specs.declared.Root.TheVariants.{Main, Isr}
 use Rattle.core_code.specs.Bytes as bytes
-use Rattle.core_code.specs.Bytes.{Held, Number, Memory, Object, Fixed, FrameOf, Place, byte_in, behind, is_private, same_byte, with_byte, with_bytes, without_frame, without_results, is_in_frame, is_result_of}
+use Rattle.core_code.specs.Bytes.{Held, Number, Memory, behind, same_byte, with_byte, with_bytes, without_frame, without_results}
 use Rattle.core_code.specs.Machine as core
-use Rattle.core_code.specs.Machine.{Setting, Program, Task, Do, Put, PutBit, PutBack, Join, LoadFrom, StoreTo, Over, Waiting, InLoop, InCall, InHandler, Machine, Next, Goes, Stuck, Still, goes, when, tasks, is_own, is_valid, is_reached, may_hold, memory_with, opened, may_call, can_pass, is_others, passed, pass, put, copy, written, writes, unary, convert, binary, binary_at, after_helper, load, store, loading, storing, load_from, store_to, bit_read, bit_write, call, begins, chosen, exit, again, leave, at_end, operate, act, may_interrupt, enter, core_step, core_run, core_start, core_moment, gone}
+use Rattle.core_code.specs.Machine.{Program, Task, Do, Put, PutBit, PutBack, Join, LoadFrom, StoreTo, Over, Waiting, InLoop, InCall, InHandler, Machine, Next, Goes, Stuck, Still, goes, when, tasks, is_own, is_valid, may_hold, memory_with, opened, may_call, passed, put, copy, written}
 use Rattle.core_code.specs.Operands.{number_behind, number_from, number_left}
 use Rattle.core_code.specs.Tree.{Tree}
 use Rattle.core_code.specs.declared.code.Byte.{Byte}

@@ -5,9 +5,9 @@ use Rattle.pic_world.specs.Bits.{bit}
 use Rattle.pic_world.specs.World.{World, arrived, is_due, entered, device_value}
 use Rattle.pic_world.specs.declared.Root.TheVariants.{Main, Isr}
 use Rattle.core_code.specs.Bytes as bytes
-use Rattle.core_code.specs.Bytes.{Held, Number, Memory, Object, Fixed, FrameOf, Place, byte_in, behind, is_private, same_byte, with_byte, with_bytes, without_frame, without_results}
+use Rattle.core_code.specs.Bytes.{Held, Number, Memory, Object, Fixed, FrameOf, Place, byte_in, behind, is_private, same_byte, with_byte, with_bytes, without_frame}
 use Rattle.core_code.specs.Machine as core
-use Rattle.core_code.specs.Machine.{Setting, Program, Task, Do, Put, PutBit, PutBack, Join, LoadFrom, StoreTo, Over, Waiting, InLoop, InCall, InHandler, Machine, Next, Goes, Stuck, Still, goes, when, tasks, is_own, is_valid, is_reached, is_among, callers, may_hold, memory_with, opened, may_call, put, copy, written, writes, unary, convert, binary, after_helper, load, store, loading, storing, load_from, store_to, bit_read, bit_write, call, begins, chosen, exit, again, leave, at_end, operate, act, may_interrupt, enter, core_step, core_run, core_start, core_moment, gone}
+use Rattle.core_code.specs.Machine.{Setting, Program, Task, Do, Put, PutBit, PutBack, Join, LoadFrom, StoreTo, Over, Waiting, InLoop, InCall, InHandler, Machine, Next, Goes, Stuck, Still, goes, tasks, is_own, is_valid, is_reached, is_among, callers, may_hold, memory_with, opened, may_call, put, copy, written, writes, after_helper, load, store, loading, storing, load_from, store_to, bit_write, call, begins, chosen, exit, again, leave, at_end, operate, act, may_interrupt, enter, core_step, core_run, core_start, core_moment, gone}
 use Rattle.c_ints.specs.Range.{bytes_of}
 use Rattle.core_code.specs.Operands.{number_left, is_helped, fits_unary, fits_together}
 use Rattle.core_code.specs.Tree.{Tree, Set, Address, Copy, Load, Store, Unary, Binary, Convert, BitRead, BitWrite, Call, Leave, Many, If, Loop, Exit, Again, list_of}

@@ -15,7 +15,7 @@ use Rattle.sym_code.specs.Layout.{frame, may_meet}
 use Rattle.select_wide.specs.Blocks.{is_user}
 use Rattle.select_trace.proofs.Truths.{or_true, and_left, and_right, both, or_right, or_left, lt_of, nat_same, same_nat, true_false}
 use Rattle.select_trace.proofs.Placed as placed
-use Rattle.select_trace.proofs.Placed.{slot, root_self, same_roots, other_root}
+use Rattle.select_trace.proofs.Placed.{slot, root_self}
 use Rattle.select_trace.proofs.Sites.{Site, layout}
 
 -- a copy that is no helper

@@ -4,14 +4,14 @@ use Rattle.std.proofs.lemmas.List.{append-nil}
 use Rattle.pic_world.specs.Bits.{bit}
 use Rattle.pic_world.specs.World.{World}
 use Rattle.core_code.specs.Bytes as bytes
-use Rattle.core_code.specs.Bytes.{Held, Unset, Number, Part, Object, Fixed, FrameOf, Place, byte_in, behind, is_private}
+use Rattle.core_code.specs.Bytes.{Held, Part, Object, Place, byte_in, behind}
 use Rattle.core_code.specs.Machine as core
-use Rattle.core_code.specs.Machine.{Task, Do, Put, LoadFrom, StoreTo, Waiting, InLoop, InCall, InHandler, static_bytes, object_bytes, is_own, is_reached, is_among, callers, lives_in, when, put, copy, may_hold, memory_with, after_write, held_at, after_read, noting_if, loading, storing, load, store, load_from, store_to, written}
+use Rattle.core_code.specs.Machine.{Task, Waiting, is_own, when, loading, storing, load, store}
 use Rattle.core_code.specs.Values.{pointer_in}
 use Rattle.core_code.specs.declared.code.Byte.{Byte}
 use Rattle.sym_code.specs.Effect.{Memory, Silent, access_of}
 use Rattle.sym_code.specs.Layout as layouts
-use Rattle.sym_code.specs.Layout.{address_byte, owner, shown, Of, Watched, Constant}
+use Rattle.sym_code.specs.Layout.{shown}
 use Rattle.sym_code.specs.Machine.{Machine}
 use Rattle.sym_code.specs.Programs.{Position}
 use Rattle.sym_code.specs.Registers.{Registers, Fits, pointer}

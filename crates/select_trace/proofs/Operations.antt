@@ -6,10 +6,10 @@ use Rattle.c_ints.specs.declared.operators.UnOp.{UnOp}
 use Rattle.c_ints.specs.declared.types.IntTy.{IntTy}
 use Rattle.pic_world.specs.World.{World}
 use Rattle.core_code.specs.Bytes as bytes
-use Rattle.core_code.specs.Bytes.{Held, Number, is_private, with_bytes}
+use Rattle.core_code.specs.Bytes.{Held, is_private, with_bytes}
 use Rattle.core_code.specs.Cost.{cost_of, leaving, least_of, unary_cost, binary_cost, widening_cost, copy_cost}
 use Rattle.core_code.specs.Machine as core
-use Rattle.core_code.specs.Machine.{Task, Do, Put, PutBit, PutBack, Join, LoadFrom, StoreTo, Over, Waiting, InLoop, InCall, InHandler, is_own, is_valid, when, writes, and_then, operated, unary, convert, binary, binary_at, extent, fits_call, after_helper, has_operands, operate, act, exit, again, at_end, put}
+use Rattle.core_code.specs.Machine.{Task, Waiting, is_own, is_valid, when, writes, and_then, operated, unary, convert, binary, extent, fits_call, after_helper, has_operands, operate}
 use Rattle.core_code.specs.Operands.{number_left, is_helped, fits_unary, fits_together}
 use Rattle.core_code.specs.Tree.{Tree, Set, Address, Copy, Load, Store, Unary, Binary, Convert, BitRead, BitWrite, Call, Leave, Many, If, Loop, Exit, Again}
 use Rattle.core_code.specs.Values.{Value, byte_count, byte_of, value_in, converted, unary_value, binary_value, right_type}

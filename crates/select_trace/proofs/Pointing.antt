@@ -3,9 +3,9 @@ use Rattle.std.proofs.Common.{◌≡◌, ℕ, suc, ◌+◌, ◌%◌, ◌<◌, �
 use Rattle.pic_world.specs.Bits.{bit, truth}
 use Rattle.pic_world.specs.World.{World}
 use Rattle.core_code.specs.Bytes as bytes
-use Rattle.core_code.specs.Bytes.{Held, Unset, Number, Part, Object, Fixed, FrameOf, Place, byte_in, place_of, behind, with_bytes}
+use Rattle.core_code.specs.Bytes.{Held, Part, Object, Fixed, FrameOf, Place, byte_in, behind, with_bytes}
 use Rattle.core_code.specs.Machine as core
-use Rattle.core_code.specs.Machine.{Task, Do, LoadFrom, StoreTo, Waiting, static_bytes, object_bytes, is_own, is_valid, writes, when, address_of, loading, storing, load, store}
+use Rattle.core_code.specs.Machine.{Task, Waiting, static_bytes, is_own, is_valid, writes, when, address_of}
 use Rattle.core_code.specs.Values.{Pointer, byte_of}
 use Rattle.core_code.specs.declared.code.Byte.{Byte}
 use Rattle.core_code.specs.declared.code.Byte.TheVariants.{Static, Frame, Result, Device}
@@ -27,12 +27,9 @@ use Rattle.sym_code.specs.declared.code.Register.TheVariants.{Fsr, Indf, Status}
 use Rattle.sym_code.specs.declared.code.Sym.{Sym}
 use Rattle.sym_code.specs.declared.code.Sym.TheVariants as syms
 use Rattle.select_code.specs.Pieces.{byte_behind}
-use Rattle.select_wide.specs.Pieces.{rising}
-use Rattle.select_wide.specs.Pointers.{address_code, pointer_code, load_byte_code, load_code, store_byte_code, store_all_code}
-use Rattle.sym_code.specs.Touching.{touches}
-use Rattle.select_trace.proofs.Truths.{and_left, and_right, lt_of, le_of, same_nat, nat_same, nat_other}
-use Rattle.select_trace.proofs.Standing.{Has, moved, has_front, has_back}
-use Rattle.select_trace.proofs.Labels.{len_append}
+use Rattle.select_wide.specs.Pointers.{address_code}
+use Rattle.select_trace.proofs.Truths.{and_left, and_right, lt_of, le_of, same_nat}
+use Rattle.select_trace.proofs.Standing.{Has}
 use Rattle.select_trace.proofs.Placed as placed
 use Rattle.select_trace.proofs.Placed.{slot}
 use Rattle.select_trace.proofs.Sites.{Site, layout}
@@ -47,7 +44,7 @@ use Rattle.select_trace.proofs.Tests.{behind_none, own_part, own_behind}
 use Rattle.select_trace.proofs.Control.{left_to, here_left, when_after}
 use Rattle.select_trace.proofs.Stores.{fit_with, with_small}
 use Rattle.select_trace.proofs.Values.{own_agrees}
-use Rattle.select_trace.proofs.Prices.{dear_words, one_three, dear_three}
+use Rattle.select_trace.proofs.Prices.{dear_words, one_three}
 
 -- ---- prices of instructions that name no byte by its name
 pub dear_one : (x : Sym) (y : List Sym) → dear_words (x ∷ y) ≤ 3 + dear_words y

@@ -13,7 +13,7 @@ use Rattle.sym_code.specs.Cost.{Prices, sure_prices, most_prices, instruction_co
 use Rattle.sym_code.specs.Effect.{Setting, Thread, Memory, Write, written, Effect, Stuck, Quiet, effect, effect_of, effect_at, effect_if, root_of, is_in_page, goto, jump_to}
 use Rattle.sym_code.specs.Layout.{shown}
 use Rattle.sym_code.specs.Machine as sym_machine
-use Rattle.sym_code.specs.Machine.{Machine, running, sym_step}
+use Rattle.sym_code.specs.Machine.{Machine, sym_step}
 use Rattle.sym_code.specs.Marks.{is_marked}
 use Rattle.sym_code.specs.Programs.{Position, position, is_word, lands, stand, onward, label_from}
 use Rattle.sym_code.specs.Registers.{Registers, Fits}
@@ -29,7 +29,7 @@ use Rattle.select_trace.proofs.Machines.{at, lower, Calm, inside_as, running_at,
 use Rattle.select_trace.proofs.Live.{IsUser, is_live, below, Passing, Chain}
 use Rattle.select_trace.proofs.Memory.{Agree}
 use Rattle.select_trace.proofs.Blocks.{block, is_leaver, next_lands, here_lands}
-use Rattle.select_trace.proofs.Relation.{place, Here, Frames, AreBytes, Stands, least_at, most_at, Path, stop, further, Went, weaken}
+use Rattle.select_trace.proofs.Relation.{place, Here, Frames, AreBytes, Stands, least_at, most_at, stop, further, Went, weaken}
 use Rattle.select_trace.proofs.Prices.{dear_words, most_is}
 
 abbrev pub thread : Site → ℕ → ℕ → List Position → Registers → Thread

@@ -11,7 +11,7 @@ use Rattle.core_code.specs.Bytes as bytes
 use Rattle.core_code.specs.Bytes.{Held, Unset, Number, Part, is_private}
 use Rattle.core_code.specs.Cost.{one_if}
 use Rattle.core_code.specs.Machine as core
-use Rattle.core_code.specs.Machine.{Task, Put, Waiting, static_bytes, held_at, after_read, may_hold, after_write, memory_with, may_call, can_pass, opened, is_others, passed, pass, is_own, is_valid, put, copy, when, is_entry}
+use Rattle.core_code.specs.Machine.{Task, Waiting, static_bytes, after_write, memory_with, may_call, can_pass, opened, passed, is_own, is_valid, put, when, is_entry}
 use Rattle.core_code.specs.declared.code.Byte.{Byte}
 use Rattle.core_code.specs.declared.code.Byte.TheVariants.{Static, Frame, Result, Device}
 use Rattle.sym_code.specs.Effect.{Memory, with_byte, write, Port, Shared, Quiet, Writes, Silent, Event, effect_of, access_of, root_of}

@@ -5,7 +5,7 @@ use Rattle.std.proofs.lemmas.Nat.{or_lt}
 use Rattle.pic_world.specs.Bits.{truth}
 use Rattle.pic_world.specs.World.{World}
 use Rattle.core_code.specs.Bytes as bytes
-use Rattle.core_code.specs.Bytes.{Held, Unset, Number, Part, Object, Place, byte_in, behind, same_object}
+use Rattle.core_code.specs.Bytes.{Held, Part, Place, behind}
 use Rattle.core_code.specs.Machine as core
 use Rattle.core_code.specs.Machine.{is_own}
 use Rattle.core_code.specs.Values.{number_in, pointer_in, pointer_if, truth_of, truth_in}

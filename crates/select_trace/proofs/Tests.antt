@@ -15,7 +15,6 @@ use Rattle.sym_code.specs.Layout.{address_of, object, frame, lies_in, is_whole}
 use Rattle.select_code.specs.Pieces.{byte_behind}
 use Rattle.select_trace.proofs.Truths.{or_true, and_left, and_right, both, le_of, of_le, same_nat, other_nat}
 use Rattle.select_trace.proofs.Placed as placed
-use Rattle.select_trace.proofs.Placed.{slot}
 use Rattle.select_trace.proofs.Slots.{good_rises}
 use Rattle.select_trace.proofs.Sites.{Site, layout}
 use Rattle.select_trace.proofs.Live.{IsUser, There}

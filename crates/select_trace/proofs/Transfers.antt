@@ -4,16 +4,16 @@ use Rattle.pic_world.specs.Bits.{truth}
 use Rattle.pic_world.specs.World.{World, ReadOf, WriteOf, noted}
 use Rattle.pic_world.specs.declared.Cell.TheVariants as cells
 use Rattle.core_code.specs.Bytes as bytes
-use Rattle.core_code.specs.Bytes.{Held, Unset, Number, Part, Object, Fixed, FrameOf, byte_in, behind, is_private}
+use Rattle.core_code.specs.Bytes.{Held, Unset, Number, Part, Object, Fixed, FrameOf, byte_in, behind}
 use Rattle.core_code.specs.Cost.{load_cost, one_if}
 use Rattle.core_code.specs.Machine as core
-use Rattle.core_code.specs.Machine.{Task, Put, Waiting, InLoop, InCall, InHandler, static_bytes, object_bytes, is_own, is_reached, is_among, callers, lives_in, when, put, copy, may_hold, memory_with, after_write, held_at, after_read, noting_if, loading, storing, load_from, store_to, written, goes}
+use Rattle.core_code.specs.Machine.{Task, Put, Waiting, InLoop, InCall, InHandler, static_bytes, is_own, is_reached, is_among, callers, when, put, may_hold, memory_with, after_write, held_at, after_read, noting_if, loading, storing, load_from, store_to, written, goes}
 use Rattle.core_code.specs.declared.code.Byte.{Byte}
 use Rattle.core_code.specs.declared.code.Byte.TheVariants.{Static, Frame}
 use Rattle.math_helpers.specs.Shape.{is_straight}
 use Rattle.sym_code.specs.Effect.{Memory, Event, Silent, Shared, access_of, access_by, root_of}
 use Rattle.sym_code.specs.Layout as layouts
-use Rattle.sym_code.specs.Layout.{owner, shown, Of, Watched, Constant}
+use Rattle.sym_code.specs.Layout.{shown, Of}
 use Rattle.sym_code.specs.Machine.{Machine}
 use Rattle.sym_code.specs.Programs.{Position}
 use Rattle.sym_code.specs.Registers.{Registers, Fits, pointer}
@@ -46,7 +46,7 @@ use Rattle.select_trace.proofs.Testing.{total_append}
 use Rattle.select_trace.proofs.Control.{left_to, when_after}
 use Rattle.select_trace.proofs.Control as control
 use Rattle.select_trace.proofs.Stores.{store_goes, static_store, private_goes}
-use Rattle.select_trace.proofs.Bytes.{soon_left, soon_to, put_moves, after_map, static_read}
+use Rattle.select_trace.proofs.Bytes.{put_moves, after_map, static_read}
 use Rattle.select_trace.proofs.Prices.{dear_words}
 use Rattle.select_trace.proofs.Pointing.{dear_one, dear_movwf_register, dear_file_register, advances, indf_is}
 use Rattle.select_trace.proofs.Loads.{loading_soon, storing_soon}

@@ -18,7 +18,7 @@ use Rattle.core_code.specs.Machine.{Waiting, is_own}
 use Rattle.core_code.specs.Operands.{number_left, is_helped, fits_bytes, fits_together}
 use Rattle.core_code.specs.Tree.{Tree}
 use Rattle.core_code.specs.Values as values
-use Rattle.core_code.specs.Values.{Value, Number, byte_of, right_type}
+use Rattle.core_code.specs.Values.{Value, byte_of, right_type}
 use Rattle.core_code.specs.declared.code.Byte.{Byte}
 use Rattle.math_helpers.specs.Wanted.{byte_at}
 use Rattle.select_code.specs.Pieces.{byte_behind}

@@ -1,6 +1,6 @@
 -- Operators that a routine computes, as selection asks.
 use Rattle.std.proofs.Common.{◌≡◌, ℕ, ◌+◌, ◌*◌, ◌%◌, ◌^◌, ◌<◌, ◌≤◌, Bool, true, false, not, nat_lt, if◌then◌else◌, List, ◌++◌, length, Option, Some, None, option_map, refl, sym, ap, ◌∙◌, subst, arith, pos, ℤ}
-use Rattle.c_ints.specs.Operators.{cut_to, outcome, shifts, type_of}
+use Rattle.c_ints.specs.Operators.{cut_to, outcome, type_of}
 use Rattle.c_ints.specs.Operators as operators
 use Rattle.c_ints.specs.Quantity.{Quantity}
 use Rattle.c_ints.specs.Range.{bytes_of, cut}

@@ -26,7 +26,6 @@ use Rattle.select_trace.proofs.Values.{scene}
 use Rattle.helper_trace.specs.Operators.{CopiesRun, Copies}
 use Rattle.helper_trace.specs.Silent.{number_at, AreQuiet, AreStraight, Begins, Passes}
 use Rattle.helper_trace.proofs.Means as means
-use Rattle.helper_trace.proofs.Means.{Means}
 use Rattle.helper_trace.proofs.Quiet.{runs_then, costs_then}
 use Rattle.value_trace.proofs.Setup.{slot_is, has_drop, behind_lands}
 use Rattle.value_trace.proofs.Sizes.{straight_of, Short, copies_short}

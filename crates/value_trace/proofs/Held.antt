@@ -7,7 +7,7 @@ use Rattle.c_ints.specs.Quantity.{Quantity}
 use Rattle.c_ints.specs.Range.{bytes_of, pattern}
 use Rattle.c_ints.specs.declared.types.IntTy.{IntTy}
 use Rattle.core_code.specs.Bytes as bytes
-use Rattle.core_code.specs.Bytes.{Held, Unset, Part, Object, Place, behind, byte_in}
+use Rattle.core_code.specs.Bytes.{Held, Unset, Part, Place, behind, byte_in}
 use Rattle.core_code.specs.Values.{Value, Number, Pointer, byte_of, number_in, with_low, joined, pointer_in, pointer_if, or_number, value_in}
 use Rattle.core_code.specs.declared.code.Byte.{Byte}
 use Rattle.math_helpers.specs.Wanted.{byte_at}

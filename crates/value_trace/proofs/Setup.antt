@@ -7,8 +7,7 @@ use Rattle.pic_world.specs.Roots.{same_root}
 use Rattle.core_code.specs.Machine.{is_own}
 use Rattle.core_code.specs.declared.code.Byte.{Byte}
 use Rattle.core_code.specs.declared.code.Byte.TheVariants.{Static, Frame, Result, Device}
-use Rattle.math_helpers.specs.Shape.{is_straight, sum_from}
-use Rattle.sym_code.specs.Effect.{Setting, Thread, Memory, root_of}
+use Rattle.sym_code.specs.Effect.{root_of}
 use Rattle.sym_code.specs.Layout.{DataLayout, frame, address_of, general_at, is_whole, owner, Of}
 use Rattle.sym_code.specs.Programs.{position, stand, lands}
 use Rattle.sym_code.specs.declared.code.BlockName.TheVariants.{Copy}

@@ -8,7 +8,7 @@ use Rattle.core_code.specs.Machine.{Waiting, is_own}
 use Rattle.core_code.specs.declared.code.Byte.{Byte}
 use Rattle.math_helpers.specs.Shape.{is_straight, sum_from}
 use Rattle.math_helpers.specs.Wanted.{byte_at}
-use Rattle.sym_code.specs.Effect.{Setting, Thread, Memory, root_of}
+use Rattle.sym_code.specs.Effect.{Setting, Memory, root_of}
 use Rattle.sym_code.specs.Layout.{frame}
 use Rattle.sym_code.specs.Machine.{Machine}
 use Rattle.sym_code.specs.Programs.{Position, position, stand}
@@ -20,8 +20,8 @@ use Rattle.sym_code.specs.declared.code.Sym.{Sym}
 use Rattle.sym_code.specs.declared.code.Sym.TheVariants as syms
 use Rattle.select_trace.proofs.Standing.{Has}
 use Rattle.select_trace.proofs.Sites.{Site, layout}
-use Rattle.select_trace.proofs.Live.{IsUser, user_below, is_live, below, chain_user, one_to_one, valid_on}
-use Rattle.select_trace.proofs.Memory.{Shown, Agrees, Agree, agree_bytes}
+use Rattle.select_trace.proofs.Live.{IsUser, user_below, is_live, below, chain_user, one_to_one}
+use Rattle.select_trace.proofs.Memory.{Shown}
 use Rattle.select_trace.proofs.Blocks.{block}
 use Rattle.select_trace.proofs.Relation.{place}
 use Rattle.select_trace.proofs.Steps.{Fit}

@@ -7,7 +7,7 @@ use Rattle.c_ints.specs.Range.{bytes_of, cut, pattern}
 use Rattle.c_ints.specs.declared.types.IntTy.{IntTy}
 use Rattle.pic_world.specs.World.{World}
 use Rattle.core_code.specs.Bytes as bytes
-use Rattle.core_code.specs.Bytes.{Held, behind, with_bytes, same_byte}
+use Rattle.core_code.specs.Bytes.{Held, behind, with_bytes}
 use Rattle.core_code.specs.Cost.{widening_cost}
 use Rattle.core_code.specs.Machine.{Waiting, is_own}
 use Rattle.core_code.specs.Values.{Value, Number, Pointer, byte_count, byte_of, value_in, number_in, converted, keeps_pointer}

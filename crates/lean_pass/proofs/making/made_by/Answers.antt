@@ -4,4 +4,4 @@ use Rattle.lean_pass.specs.Views.{variables_of}
 use Rattle.lean_pass.proofs.making.made_by.Goals as goal
 
 pub returns : goal.returns
-returns c = is_made (layout_of c.args.placed.now) c.args.sketch.now (variables_of c.args.variables.now) c.args.given.now c.in_ok-made.made.items c.requires.tested c.requires.steady c.requires.fit c.requires.open_bytes c.requires.seen c.requires.distinct c.in_ok-made.ensures
+returns c = is_made (layout_of c.args.placed.now) c.args.sketch.now (variables_of c.args.variables.now) c.args.given.now c.in_ok-made.made.items c.requires.tested c.requires.steady c.requires.admissible c.requires.open_bytes c.requires.seen c.requires.distinct c.in_ok-made.ensures

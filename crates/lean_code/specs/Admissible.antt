@@ -1,5 +1,5 @@
--- More tests of a certificate, for a pass that stands between others: what is counted stays, the start block stays as it is, numbers are
--- bytes, and each block ends by a word.
+-- When a certificate is admissible for a pass that stands between others: what is counted stays, the start block stays as it is, numbers
+-- are bytes, and each block ends by a word.
 use Rattle.std.specs.Prelude.{◌≡◌, ℕ, ◌<◌, Bool, true, false, not, ◌&&◌, ◌||◌, nat_lt, List, [], ◌∷◌}
 use Rattle.std.specs.List.{list_all}
 use Rattle.sym_code.specs.Marks.{is_marked}
@@ -31,8 +31,8 @@ is_keep act = false
 abbrev pub act_of : Row → Act
 act_of (At s act said) = act
 
-abbrev pub fits_row : (ℕ → ℕ) → Bool → Row → Bool
-fits_row variables whole row = not (loses_mark variables row) && (is_byte_act (act_of row) && (not whole || is_keep (act_of row)))
+abbrev pub is_admissible_row : (ℕ → ℕ) → Bool → Row → Bool
+is_admissible_row variables whole row = not (loses_mark variables row) && (is_byte_act (act_of row) && (not whole || is_keep (act_of row)))
 
 -- ---- lists of rows
 -- no instruction that counts is left out
@@ -51,33 +51,34 @@ keeps_all [] = true
 keeps_all (row ∷ rows) = is_keep (act_of row) && keeps_all rows
 
 -- all these at once, the last one of a block that is to stay as it is
-abbrev pub fits : (ℕ → ℕ) → Bool → List Row → Bool
-fits variables whole [] = true
-fits variables whole (row ∷ rows) = fits_row variables whole row && fits variables whole rows
+abbrev pub are_admissible_rows : (ℕ → ℕ) → Bool → List Row → Bool
+are_admissible_rows variables whole [] = true
+are_admissible_rows variables whole (row ∷ rows) = is_admissible_row variables whole row && are_admissible_rows variables whole rows
 
 -- ---- words
-abbrev pub has_word : Sym → Bool
-has_word s = not (is_label s)
+-- the instruction is no label
+abbrev pub becomes_word : Sym → Bool
+becomes_word s = not (is_label s)
 
 -- the list ends by a word, or is empty behind one
 abbrev pub ends_by_word : Bool → List Sym → Bool
 ends_by_word last [] = last
-ends_by_word last (s ∷ list) = ends_by_word (has_word s) list
+ends_by_word last (s ∷ list) = ends_by_word (becomes_word s) list
 
 -- ---- blocks
-abbrev pub is_fit_block : (ℕ → ℕ) → ListedBlock → Bool
-is_fit_block variables b = fits variables (same_name b.name names.Start) (rows_in b.rows) && ends_by_word true (puts (rows_in b.rows))
+abbrev pub is_admissible_block : (ℕ → ℕ) → ListedBlock → Bool
+is_admissible_block variables b = are_admissible_rows variables (same_name b.name names.Start) (rows_in b.rows) && ends_by_word true (puts (rows_in b.rows))
 
-abbrev pub are_fit : (ℕ → ℕ) → List ListedBlock → Bool
-are_fit variables [] = true
-are_fit variables (b ∷ bs) = is_fit_block variables b && are_fit variables bs
+abbrev pub are_admissible : (ℕ → ℕ) → List ListedBlock → Bool
+are_admissible variables [] = true
+are_admissible variables (b ∷ bs) = is_admissible_block variables b && are_admissible variables bs
 
 -- the rows of the block of a name
 abbrev pub rows_at : Sketch → BlockName → List Row
 rows_at k name = rows_in (listed.block_in k.blocks name).rows
 
 -- A certificate that passes all these, and by which no byte is hidden from accesses through FSR.
-pub record IsFit (variables : ℕ → ℕ) (k : Sketch) : Type 0 where
+pub record IsAdmissible (variables : ℕ → ℕ) (k : Sketch) : Type 0 where
   pub marks : (name : BlockName) → keeps_marks variables (rows_at k name) ≡ true
   pub numbers : (name : BlockName) → puts_bytes (rows_at k name) ≡ true
   pub start : keeps_all (rows_at k names.Start) ≡ true
@@ -90,8 +91,8 @@ pub record AreByRows (k : Sketch) (given made : List SymBlock) : Type 0 where
   pub made_is : (name : BlockName) → block_in made name ≡ puts (rows_at k name)
 
 -- ---- laws
-abbrev pub FitIsFit : Type 0
-FitIsFit = (variables : ℕ → ℕ) (k : Sketch) → are_fit variables k.blocks ≡ true → ((a : ℕ) → k.hidden a ≡ false) → IsFit variables k
+abbrev pub TestedIsAdmissible : Type 0
+TestedIsAdmissible = (variables : ℕ → ℕ) (k : Sketch) → are_admissible variables k.blocks ≡ true → ((a : ℕ) → k.hidden a ≡ false) → IsAdmissible variables k
 
 -- what stays as it is
 abbrev pub KeptIsSame : Type 0

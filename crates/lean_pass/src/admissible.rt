@@ -3,7 +3,7 @@
 
 ghost use Rattle.std.specs.Prelude.{◌≡◌, ◌&&◌, true};
 ghost use Rattle.lean_code.specs.Checked as listed;
-ghost use Rattle.lean_code.specs.Fit as stated;
+ghost use Rattle.lean_code.specs.Admissible as stated;
 ghost use Rattle.lean_code.specs.Rows.{puts};
 ghost use Rattle.lean_pass.specs.Tests as tests;
 ghost use Rattle.lean_pass.specs.Views.{act_of, row_of, rows_of, block_of, blocks_of, variables_of};
@@ -41,19 +41,19 @@ fn is_keep(act: Act) -> bool
     }
 }
 
-fn fits_row(variables: &[u64], whole: bool, row: &Row) -> bool
-    ensures { result ≡ stated.fits_row (variables_of variables.now) whole (listed.row_in (row_of row.now)) }
+fn is_admissible_row(variables: &[u64], whole: bool, row: &Row) -> bool
+    ensures { result ≡ stated.is_admissible_row (variables_of variables.now) whole (listed.row_in (row_of row.now)) }
 {
     !loses_mark(variables, row) && (is_byte_act(row.act) && (!whole || is_keep(row.act)))
 }
 
-#[tactic(auto, using(crate::proofs::Fits::fits_on, crate::proofs::Fits::fits_off, crate::proofs::Fits::fits_end))]
-fn fits(variables: &[u64], whole: bool, rows: &[Row]) -> bool
-    ensures { result ≡ stated.fits (variables_of variables.now) whole (listed.rows_in (rows_of rows.now)) }
+#[tactic(auto, using(crate::proofs::Admitting::admissible_on, crate::proofs::Admitting::admissible_off, crate::proofs::Admitting::admissible_end))]
+fn are_admissible_rows(variables: &[u64], whole: bool, rows: &[Row]) -> bool
+    ensures { result ≡ stated.are_admissible_rows (variables_of variables.now) whole (listed.rows_in (rows_of rows.now)) }
 {
     let mut left = rows;
     while let Some((row, rest)) = first_row(left) {
-        if !fits_row(variables, whole, row) {
+        if !is_admissible_row(variables, whole, row) {
             return false;
         }
         left = rest;
@@ -72,7 +72,7 @@ fn ends_behind(last: bool, row: &Row) -> bool
     }
 }
 
-#[tactic(auto, using(crate::proofs::Fits::ends_on, crate::proofs::Fits::ends_end))]
+#[tactic(auto, using(crate::proofs::Admitting::ends_on, crate::proofs::Admitting::ends_end))]
 fn ends_by_word(rows: &[Row]) -> bool
     ensures { result ≡ stated.ends_by_word true (puts (listed.rows_in (rows_of rows.now))) }
 {
@@ -85,10 +85,10 @@ fn ends_by_word(rows: &[Row]) -> bool
     last
 }
 
-fn is_fit_block(variables: &[u64], block: &LeanBlock) -> bool
-    ensures { result ≡ stated.is_fit_block (variables_of variables.now) (block_of block.now) }
+fn is_admissible_block(variables: &[u64], block: &LeanBlock) -> bool
+    ensures { result ≡ stated.is_admissible_block (variables_of variables.now) (block_of block.now) }
 {
-    fits(
+    are_admissible_rows(
         variables,
         same_name(block.name, BlockName::Start),
         &block.rows,
@@ -96,14 +96,14 @@ fn is_fit_block(variables: &[u64], block: &LeanBlock) -> bool
 }
 
 /// Whether each block passes.
-pub fn are_fit(variables: &[u64], blocks: &[LeanBlock]) -> bool
-    ensures { result ≡ stated.are_fit (variables_of variables.now) (blocks_of blocks.now) }
+pub fn are_admissible(variables: &[u64], blocks: &[LeanBlock]) -> bool
+    ensures { result ≡ stated.are_admissible (variables_of variables.now) (blocks_of blocks.now) }
 {
     match blocks {
         [] => true,
         [block, rest @ ..] => {
-            if is_fit_block(variables, block) {
-                are_fit(variables, rest)
+            if is_admissible_block(variables, block) {
+                are_admissible(variables, rest)
             } else {
                 false
             }

@@ -3,7 +3,7 @@ use Rattle.std.proofs.Common.{◌≡◌, ℕ, Bool, true, false, not, ◌&&◌, 
 use Rattle.sym_code.specs.declared.code.Sym.{Sym}
 use Rattle.sym_code.specs.declared.code.Sym.TheVariants as syms
 use Rattle.lean_code.specs.Checked.{row_in, rows_in}
-use Rattle.lean_code.specs.Fit.{fits_row, fits, has_word, ends_by_word}
+use Rattle.lean_code.specs.Admissible.{is_admissible_row, are_admissible_rows, becomes_word, ends_by_word}
 use Rattle.lean_code.specs.Rows.{Act, Keeps, Drops, Puts, Narrows, At, narrowed, old_of, is_label, is_none, is_dropped, put_by, in_front, puts}
 use Rattle.lean_code.specs.Rows as certified
 use Rattle.lean_pass.specs.Tests.{ends_behind}
@@ -12,22 +12,22 @@ use Rattle.lean_pass.specs.declared.rows.Row.{Row}
 
 module _ (variables : ℕ → ℕ) (entire : Bool) where
   abbrev tested : List Row → Bool
-  tested rows = fits variables entire (rows_in (rows_of rows))
+  tested rows = are_admissible_rows variables entire (rows_in (rows_of rows))
 
-  pub fits_on : (whole : Bool) (left rest : List Row) (row : Row) → left ≡ row ∷ rest → fits_row variables entire (row_in (row_of row)) ≡ true → tested left ≡ whole → tested rest ≡ whole
-  fits_on whole left rest row is so e = ap (λ (c : Bool). c && tested rest) (sym so) ∙ ap tested (sym is) ∙ e
+  pub admissible_on : (whole : Bool) (left rest : List Row) (row : Row) → left ≡ row ∷ rest → is_admissible_row variables entire (row_in (row_of row)) ≡ true → tested left ≡ whole → tested rest ≡ whole
+  admissible_on whole left rest row is so e = ap (λ (c : Bool). c && tested rest) (sym so) ∙ ap tested (sym is) ∙ e
 
-  pub fits_off : (whole : Bool) (left rest : List Row) (row : Row) → left ≡ row ∷ rest → fits_row variables entire (row_in (row_of row)) ≡ false → tested left ≡ whole → false ≡ whole
-  fits_off whole left rest row is so e = ap (λ (c : Bool). c && tested rest) (sym so) ∙ ap tested (sym is) ∙ e
+  pub admissible_off : (whole : Bool) (left rest : List Row) (row : Row) → left ≡ row ∷ rest → is_admissible_row variables entire (row_in (row_of row)) ≡ false → tested left ≡ whole → false ≡ whole
+  admissible_off whole left rest row is so e = ap (λ (c : Bool). c && tested rest) (sym so) ∙ ap tested (sym is) ∙ e
 
-  pub fits_end : (whole : Bool) (left : List Row) → left ≡ [] → tested left ≡ whole → true ≡ whole
-  fits_end whole left is e = ap tested (sym is) ∙ e
+  pub admissible_end : (whole : Bool) (left : List Row) → left ≡ [] → tested left ≡ whole → true ≡ whole
+  admissible_end whole left is e = ap tested (sym is) ∙ e
 
 -- ---- words
 abbrev made : List Row → List Sym
 made rows = puts (rows_in (rows_of rows))
 
-narrow_word : (s : Sym) → has_word (narrowed s) ≡ not (is_label s)
+narrow_word : (s : Sym) → becomes_word (narrowed s) ≡ not (is_label s)
 narrow_word (syms.File op operand to) = refl
 narrow_word (syms.Label label) = refl
 narrow_word s = refl

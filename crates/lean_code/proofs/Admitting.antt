@@ -6,7 +6,7 @@ use Rattle.sym_code.specs.declared.code.BlockName.TheVariants as names
 use Rattle.sym_code.specs.declared.code.Sym.{Sym}
 use Rattle.sym_code.specs.declared.code.Sym.TheVariants as syms
 use Rattle.lean_code.specs.Checked.{ListedBlock, rows_in, no_block, block_in}
-use Rattle.lean_code.specs.Fit.{loses_mark, is_byte_act, is_keep, act_of, fits_row, keeps_marks, puts_bytes, keeps_all, fits, ends_by_word, is_fit_block, are_fit, FitIsFit, KeptIsSame}
+use Rattle.lean_code.specs.Admissible.{loses_mark, is_byte_act, is_keep, act_of, is_admissible_row, keeps_marks, puts_bytes, keeps_all, are_admissible_rows, ends_by_word, is_admissible_block, are_admissible, TestedIsAdmissible, KeptIsSame}
 use Rattle.lean_code.specs.Rows.{Keeps, Row, At, puts}
 use Rattle.lean_code.proofs.Lists.{never}
 
@@ -27,40 +27,40 @@ or_not true a e is = e
 or_not false a e is = never is
 
 -- ---- rows
-fits_marks : (variables : ℕ → ℕ) (whole : Bool) (rows : List Row) → fits variables whole rows ≡ true → keeps_marks variables rows ≡ true
-fits_marks variables whole [] e = refl
-fits_marks variables whole (row ∷ rows) e =
-    let one = and_l (fits_row variables whole row) (fits variables whole rows) e in
+admissible_marks : (variables : ℕ → ℕ) (whole : Bool) (rows : List Row) → are_admissible_rows variables whole rows ≡ true → keeps_marks variables rows ≡ true
+admissible_marks variables whole [] e = refl
+admissible_marks variables whole (row ∷ rows) e =
+    let one = and_l (is_admissible_row variables whole row) (are_admissible_rows variables whole rows) e in
     both (not (loses_mark variables row)) (keeps_marks variables rows) (and_l (not (loses_mark variables row)) (is_byte_act (act_of row) && (not whole || is_keep (act_of row))) one)
-    (fits_marks variables whole rows (and_r (fits_row variables whole row) (fits variables whole rows) e))
+    (admissible_marks variables whole rows (and_r (is_admissible_row variables whole row) (are_admissible_rows variables whole rows) e))
 
-fits_bytes : (variables : ℕ → ℕ) (whole : Bool) (rows : List Row) → fits variables whole rows ≡ true → puts_bytes rows ≡ true
-fits_bytes variables whole [] e = refl
-fits_bytes variables whole (row ∷ rows) e =
-    let one = and_l (fits_row variables whole row) (fits variables whole rows) e in
+admissible_bytes : (variables : ℕ → ℕ) (whole : Bool) (rows : List Row) → are_admissible_rows variables whole rows ≡ true → puts_bytes rows ≡ true
+admissible_bytes variables whole [] e = refl
+admissible_bytes variables whole (row ∷ rows) e =
+    let one = and_l (is_admissible_row variables whole row) (are_admissible_rows variables whole rows) e in
     let act = and_r (not (loses_mark variables row)) (is_byte_act (act_of row) && (not whole || is_keep (act_of row))) one in
     both (is_byte_act (act_of row)) (puts_bytes rows) (and_l (is_byte_act (act_of row)) (not whole || is_keep (act_of row)) act)
-    (fits_bytes variables whole rows (and_r (fits_row variables whole row) (fits variables whole rows) e))
+    (admissible_bytes variables whole rows (and_r (is_admissible_row variables whole row) (are_admissible_rows variables whole rows) e))
 
-fits_whole : (variables : ℕ → ℕ) (whole : Bool) (rows : List Row) → whole ≡ true → fits variables whole rows ≡ true → keeps_all rows ≡ true
-fits_whole variables whole [] is e = refl
-fits_whole variables whole (row ∷ rows) is e =
-    let one = and_l (fits_row variables whole row) (fits variables whole rows) e in
+admissible_whole : (variables : ℕ → ℕ) (whole : Bool) (rows : List Row) → whole ≡ true → are_admissible_rows variables whole rows ≡ true → keeps_all rows ≡ true
+admissible_whole variables whole [] is e = refl
+admissible_whole variables whole (row ∷ rows) is e =
+    let one = and_l (is_admissible_row variables whole row) (are_admissible_rows variables whole rows) e in
     let act = and_r (not (loses_mark variables row)) (is_byte_act (act_of row) && (not whole || is_keep (act_of row))) one in
     both (is_keep (act_of row)) (keeps_all rows) (or_not whole (is_keep (act_of row)) (and_r (is_byte_act (act_of row)) (not whole || is_keep (act_of row)) act) is)
-    (fits_whole variables whole rows is (and_r (fits_row variables whole row) (fits variables whole rows) e))
+    (admissible_whole variables whole rows is (and_r (is_admissible_row variables whole row) (are_admissible_rows variables whole rows) e))
 
 -- ---- names
 -- a block that is found passes the test, and has the name
 abbrev IsFound : (ℕ → ℕ) → BlockName → ListedBlock → Type 0
-IsFound variables name b = (b ≡ no_block) ⊎ ((is_fit_block variables b ≡ true) × (same_name b.name name ≡ true))
+IsFound variables name b = (b ≡ no_block) ⊎ ((is_admissible_block variables b ≡ true) × (same_name b.name name ≡ true))
 
-named : (variables : ℕ → ℕ) (blocks : List ListedBlock) (name : BlockName) → are_fit variables blocks ≡ true → IsFound variables name (block_in blocks name)
+named : (variables : ℕ → ℕ) (blocks : List ListedBlock) (name : BlockName) → are_admissible variables blocks ≡ true → IsFound variables name (block_in blocks name)
 named variables [] name e = inl refl
-named variables (b ∷ bs) name e = by (same_name b.name name) refl (named variables bs name (and_r (is_fit_block variables b) (are_fit variables bs) e))
+named variables (b ∷ bs) name e = by (same_name b.name name) refl (named variables bs name (and_r (is_admissible_block variables b) (are_admissible variables bs) e))
   where
     by : (t : Bool) → same_name b.name name ≡ t → IsFound variables name (block_in bs name) → IsFound variables name (if t then b else block_in bs name)
-    by true is later = inr (and_l (is_fit_block variables b) (are_fit variables bs) e, is)
+    by true is later = inr (and_l (is_admissible_block variables b) (are_admissible variables bs) e, is)
     by false is later = later
 
 module _ (variables : ℕ → ℕ) (name : BlockName) (b : ListedBlock) where
@@ -70,27 +70,27 @@ module _ (variables : ℕ → ℕ) (name : BlockName) (b : ListedBlock) where
   abbrev list : List Row
   list = rows_in b.rows
 
-  fit_rows : is_fit_block variables b ≡ true → fits variables whole list ≡ true
-  fit_rows e = and_l (fits variables whole list) (ends_by_word true (puts list)) e
+  admissible_rows : is_admissible_block variables b ≡ true → are_admissible_rows variables whole list ≡ true
+  admissible_rows e = and_l (are_admissible_rows variables whole list) (ends_by_word true (puts list)) e
 
   marks_by : IsFound variables name b → keeps_marks variables list ≡ true
   marks_by (inl none) = subst (λ (c : ListedBlock). keeps_marks variables (rows_in c.rows) ≡ true) (sym none) refl
-  marks_by (inr h) = fits_marks variables whole list (fit_rows h.0)
+  marks_by (inr h) = admissible_marks variables whole list (admissible_rows h.0)
 
   bytes_by : IsFound variables name b → puts_bytes list ≡ true
   bytes_by (inl none) = subst (λ (c : ListedBlock). puts_bytes (rows_in c.rows) ≡ true) (sym none) refl
-  bytes_by (inr h) = fits_bytes variables whole list (fit_rows h.0)
+  bytes_by (inr h) = admissible_bytes variables whole list (admissible_rows h.0)
 
   ends_by : IsFound variables name b → ends_by_word true (puts list) ≡ true
   ends_by (inl none) = subst (λ (c : ListedBlock). ends_by_word true (puts (rows_in c.rows)) ≡ true) (sym none) refl
-  ends_by (inr h) = and_r (fits variables whole list) (ends_by_word true (puts list)) h.0
+  ends_by (inr h) = and_r (are_admissible_rows variables whole list) (ends_by_word true (puts list)) h.0
 
 start_by : (variables : ℕ → ℕ) (b : ListedBlock) → IsFound variables names.Start b → keeps_all (rows_in b.rows) ≡ true
 start_by variables b (inl none) = subst (λ (c : ListedBlock). keeps_all (rows_in c.rows) ≡ true) (sym none) refl
-start_by variables b (inr h) = fits_whole variables (same_name b.name names.Start) (rows_in b.rows) h.1 (fit_rows variables names.Start b h.0)
+start_by variables b (inr h) = admissible_whole variables (same_name b.name names.Start) (rows_in b.rows) h.1 (admissible_rows variables names.Start b h.0)
 
-pub fit_is_fit : FitIsFit
-fit_is_fit variables k e hidden = record {
+pub tested_is_admissible : TestedIsAdmissible
+tested_is_admissible variables k e hidden = record {
   marks = λ name. marks_by variables name (block_in k.blocks name) (named variables k.blocks name e);
   numbers = λ name. bytes_by variables name (block_in k.blocks name) (named variables k.blocks name e);
   start = start_by variables (block_in k.blocks names.Start) (named variables k.blocks names.Start e);
