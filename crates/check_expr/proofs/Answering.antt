@@ -35,9 +35,6 @@ pub answers_bare : (result : Result checked.Term CheckError) (after : Known) (sa
 answers_bare (Ok x) after said h = ap unlisted h
 answers_bare (Err e) after said h = refuses_bare said e h
 
-pub no_memory : {B : Type 0} (said : Result B Fault) (e : CheckError) → e ≡ errors.NoMemory → Refuses e said
-no_memory said e same = subst (λ x. Refuses x said) (sym same) tt
-
 -- a refusal that is handed on
 pub refused_as : {B : Type 0} (said : Result B Fault) (e e' : CheckError) → e' ≡ e → Refuses e said → Refuses e' said
 refused_as said e e' same h = subst (λ x. Refuses x said) (sym same) h

@@ -1,5 +1,5 @@
 -- Signs that a definition names, and all others.
-use Rattle.std.proofs.Common.{◌≡◌, ◌≤◌, ℕ, List, refl, sym, ap, ◌∙◌, Result}
+use Rattle.std.proofs.Common.{◌≡◌, ◌≤◌, ℕ, List, refl, sym, ap, ◌∙◌, arith, Result}
 use Rattle.c_token.specs.declared.token.Punct.{Punct}
 use Rattle.c_token.specs.declared.token.Punct.TheVariants as marks
 use Rattle.c_token.specs.declared.token.TokKind.TheVariants as kinds

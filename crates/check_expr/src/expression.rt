@@ -182,7 +182,13 @@ fn chain(others: &[NextOperand], checker: &mut Checker, first: Term) -> Result<T
         let a = used(left, checker)?;
         let b = operands(&next.operand, checker)?;
         let b = used(b, checker)?;
-        left = combined(checker.alloc, &checker.types, next.operator.sign.punct, a, b)?;
+        left = combined(
+            checker.alloc,
+            &checker.types,
+            next.operator.sign.punct,
+            a,
+            b,
+        )?;
     }
     Ok(left)
 }
