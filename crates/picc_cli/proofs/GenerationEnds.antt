@@ -1,5 +1,5 @@
 -- How a generation ends, by the program that is made or refused and by what was printed.
-use Rattle.std.proofs.Common.{◌≡◌, ℕ, ◌<◌, ◌⊎◌, inl, inr, ⊎_elim, Option, Some, None, IfSome, List, arith}
+use Rattle.std.proofs.Common.{◌≡◌, ℕ, ◌<◌, inl, inr, ⊎_elim, Option, Some, None, IfSome, List, arith}
 use Rattle.host_io.specs.Host.{Kind, Contents}
 use Rattle.picc_core.proofs.OneAnswer.{one_answer}
 use Rattle.picc_core.specs.Answers.{Tells}
@@ -99,13 +99,3 @@ module _ (functions : ℕ) where
         refused = λ _ _. inl s.ends;
       }
   refused_complete why kind before now (Some o) p q line result tells (inr u) = λ quiet. unmade result (quiet_nine result (λ three. quiet (u.failed three)) u.ends)
-
-  pub unmade_faults : (kind : Kind) (old : Option Contents) (before now : ℕ) (result : ℕ) → result ≡ 9 → now ≡ before → HasFaults kind before now form old result
-  unmade_faults kind old before now result nine same =
-      record {
-        never_falls = omega arith;
-        only = λ three. absurd (omega arith);
-        each = λ more. inr nine;
-        sound = λ is three. absurd (omega arith);
-        missing = λ is lacks. absurd lacks;
-      }
