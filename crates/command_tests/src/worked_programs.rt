@@ -326,12 +326,17 @@ fn a_key_under_forty_ticks(rt: HostRuntime) -> Result<(), Failure> {
 }
 
 #[test]
-fn the_largest_generated_program(rt: HostRuntime) -> Result<(), Failure> {
+fn no_generated_program_is_refused(rt: HostRuntime) -> Result<(), Failure> {
     let alloc = rt.alloc();
-    let mut host = host_with(alloc, None, Vec::new(alloc))?;
-    assert_eq!(rt; run(alloc, &words_of(alloc, "gen 64")?, &mut host)?, 0);
-    let end = "/* gen 64: words 6020 ram 14 depth 1 */\n";
-    assert!(rt; host.printed.ends_with(end.as_bytes()));
-    assert_eq!(rt; host.files.len(), 0);
+    for functions in 1..=64u32 {
+        // main's block and what starts it, and for each function its block and a call
+        let words = functions.saturating_mul(92).saturating_add(132);
+        let line = format!(in alloc; "gen {functions}")?;
+        let end = format!(in alloc; "/* gen {functions}: words {words} ram 14 depth 1 */\n")?;
+        let mut host = host_with(alloc, None, Vec::new(alloc))?;
+        assert_eq!(rt; run(alloc, &words_of(alloc, &line)?, &mut host)?, 0);
+        assert!(rt; host.printed.ends_with(end.as_bytes()));
+        assert_eq!(rt; host.files.len(), 0);
+    }
     Ok(())
 }

@@ -1,4 +1,4 @@
--- Statuses and faults of simulations, comparisons and generated programs.
+-- Statuses and faults of simulations and comparisons.
 use Rattle.std.proofs.Common.{◌≡◌, ℕ, ◌⊎◌, inl, inr, ⊎_elim, true, Option, Some, None, IfSome, List, refl, sym, ◌∙◌, arith}
 use Rattle.host_io.specs.Host.{Kind, Contents}
 use Rattle.picc_cli.specs.declared.comparing.Ended as agree_ends
@@ -9,7 +9,7 @@ use Rattle.picc_cli.specs.declared.simulating.Ended as chip_ends
 use Rattle.picc_cli.specs.declared.simulating.Ended.TheVariants as chip
 use Rattle.picc_cli.specs.Agreement as agreement
 use Rattle.picc_cli.specs.Chip as simulation
-use Rattle.picc_cli.specs.Command.{Simulated, Compared, Form, Simulate, Agree, Generate}
+use Rattle.picc_cli.specs.Command.{Simulated, Compared, Form, Simulate, Agree}
 use Rattle.picc_cli.specs.Finished.{HasFaults, IsStatus, HasStatus, HasTold, IsComplete}
 use Rattle.picc_cli.specs.Inputs as inputs
 use Rattle.picc_cli.specs.Said.{GivesUp, HasOutcomeCause, Says}
@@ -179,56 +179,3 @@ module _ (asked : Compared) where
       by_status (inr (inr (inr (inl e)))) never = inr (inr (inr (inl e)))
       by_status (inr (inr (inr (inr (inl e))))) never = absurd (never e)
       by_status (inr (inr (inr (inr (inr e))))) never = inr (inr (inr (inr e)))
-
--- ---- generated programs
-module _ (functions : ℕ) where
-  abbrev program : Option Form
-  program = Some (Generate functions)
-
-  program_not_two : (result : ℕ) → IsStatus program result → NotTwo result
-  program_not_two result (inl e) two = absurd (omega arith)
-  program_not_two result (inr up) two = up_not_two result up two
-
-  pub program_status : (kind : Kind) (before now : ℕ) (p q : Option (List ℕ)) (line : List ℕ) (result : ℕ) → Says kind before now p q line 0 result → HasStatus program result
-  program_status kind before now p q line result says =
-      let known : IsStatus program result = said_status kind before now p q line 0 result says in
-      with_status (Generate functions) result known (program_not_two result known)
-
-  pub program_faults : (kind : Kind) (old : Option Contents) (before now : ℕ) (p q : Option (List ℕ)) (line : List ℕ) (result : ℕ)
-      → Says kind before now p q line 0 result → HasFaults kind before now program old result
-  program_faults kind old before now p q line result (inl s) =
-      let e = s.ends in let kept = s.kept in
-      record {
-        never_falls = omega arith;
-        only = λ three. absurd (omega arith);
-        each = λ more. absurd (omega arith);
-        sound = λ is three. absurd (omega arith);
-        missing = λ is lacks. absurd lacks;
-      }
-  program_faults kind old before now p q line result (inr u) =
-      record {
-        never_falls = u.never_falls;
-        only = u.failed;
-        each = λ _. u.ends;
-        sound = λ is three. let nine = u.unsound is in absurd (omega arith);
-        missing = λ is lacks. absurd lacks;
-      }
-
-  pub program_unmade : (kind : Kind) (old : Option Contents) (before now : ℕ) (result : ℕ) → result ≡ 9 → now ≡ before → HasFaults kind before now program old result
-  program_unmade kind old before now result nine same =
-      record {
-        never_falls = omega arith;
-        only = λ three. absurd (omega arith);
-        each = λ more. inr nine;
-        sound = λ is three. absurd (omega arith);
-        missing = λ is lacks. absurd lacks;
-      }
-
-  pub program_complete : (kind : Kind) (before now : ℕ) (old : Option Contents) (result : ℕ) → HasFaults kind before now program old result → HasStatus program result
-      → IfSome old (λ o. IsComplete kind before now program o result)
-  program_complete kind before now None result faults status = tt
-  program_complete kind before now (Some o) result faults status = λ quiet. by_status status.known (λ three. quiet (faults.only three)) where
-    by_status : IsStatus program result → (result ≡ 3 → ⊥) → (result ≡ 0) ⊎ (result ≡ 9)
-    by_status (inl e) never = inl e
-    by_status (inr (inl e)) never = absurd (never e)
-    by_status (inr (inr e)) never = inr e

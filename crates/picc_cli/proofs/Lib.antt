@@ -22,6 +22,7 @@ pub mod ChipNames
 pub mod SimulationEnds
 pub mod AgreementEnds
 pub mod SizesTold
+pub mod GenerationEnds
 pub mod FilesKept
 pub mod SimulationWhole
 pub mod AgreementWhole

@@ -45,7 +45,7 @@ no_status_known (Some (Build names)) = inr (inr (inr refl))
 no_status_known (Some (Trace asked)) = inr (inr (inr (inr (inr refl))))
 no_status_known (Some (Simulate asked)) = inr (inr (inr (inr refl)))
 no_status_known (Some (Agree asked)) = inr (inr (inr (inr (inr refl))))
-no_status_known (Some (Generate functions)) = inr (inr refl)
+no_status_known (Some (Generate functions)) = inr (inr (inr refl))
 
 pub no_status : (form : Option Form) → HasStatus form 9
 no_status form = record { known = no_status_known form; usage = λ two. absurd (omega arith); no_form = λ none. inr (inr refl) }
@@ -73,7 +73,7 @@ no_print (Some (Simulate asked)) kind p =
 no_print (Some (Agree asked)) kind p = record { whole = inl (inr refl); prefix = λ up. (agree.NoMemory, [], refl, nothing_of p []) }
 no_print (Some (Generate functions)) kind p =
     let text = generated functions ++ summary_line functions 0 0 0 in
-    record { whole = inl (inr refl); prefix = λ up. (tt, text, record { words = 0; ram = 0; depth = 0; whole = refl }, nothing_of p text) }
+    record { whole = inl (inr refl); prefix = λ up. (None, text, record { words = 0; ram = 0; depth = 0; whole = refl }, nothing_of p text) }
 
 pub no_told : (form : Option Form) (old new : Option Contents) (p : Option (List ℕ)) → IfSome old (λ o. HasTold form o new p p 9)
 no_told form None new p = tt
@@ -82,7 +82,7 @@ no_told (Some (Build names)) (Some o) new p = λ e. absurd (omega arith)
 no_told (Some (Trace asked)) (Some o) new p = inl (inr refl)
 no_told (Some (Simulate asked)) (Some o) new p = tt
 no_told (Some (Agree asked)) (Some o) new p = record { ended = agree.NoMemory; knows = tt; exact = tt; last = inr (inr refl, nothing_of p []) }
-no_told (Some (Generate functions)) (Some o) new p = λ e. absurd (omega arith)
+no_told (Some (Generate functions)) (Some o) new p = record { sized = λ e. absurd (omega arith); refused = λ e. absurd (omega arith) }
 
 -- a board that wasn't asked
 pub not_simulated : (form : Option Form) (old : Option Contents) (board : Known) (p : Option (List ℕ)) → IfSome old (λ o. HasSimulated form o board board p p 9)
@@ -127,4 +127,4 @@ no_end (Some (Agree asked)) kind before now (Some o) = λ quiet.
             refused = λ text script refusal a b c d. inr refl;
           };
     }
-no_end (Some (Generate functions)) kind before now (Some o) = λ quiet. inr refl
+no_end (Some (Generate functions)) kind before now (Some o) = λ quiet. record { ends = inr (inr refl); accepted = λ a. inr refl; refused = λ refusal a. inr refl }

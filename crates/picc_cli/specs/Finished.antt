@@ -9,12 +9,14 @@ use Rattle.picc_cli.specs.declared.tracing.Ended.{Ended}
 use Rattle.picc_cli.specs.Agreement as agreement
 use Rattle.picc_cli.specs.Chip as chip
 use Rattle.picc_cli.specs.Command.{Names, Asked, Compared, Form, Build, Trace, Simulate, Agree, Generate}
+use Rattle.picc_cli.specs.Generated.{generated}
 use Rattle.picc_cli.specs.Lines.{usage_line, cannot_read}
 use Rattle.picc_cli.specs.Outcome as build
 use Rattle.picc_cli.specs.Outcome.{Builds, Refuses, BreaksOff}
 use Rattle.picc_cli.specs.Said.{GivesUp, Prints}
 use Rattle.picc_cli.specs.Simulation.{SimulationCompletes}
-use Rattle.picc_cli.specs.Summary.{IsSummed, GeneratedTells}
+use Rattle.picc_cli.specs.Summary as generation
+use Rattle.picc_cli.specs.Summary.{IsGeneratedText, GenerationTells}
 use Rattle.picc_cli.specs.Trace as trace
 use Rattle.picc_cli.specs.ScriptInput.{IsScript}
 use Rattle.picc_cli.specs.Trace.{Knows, IsTraceText}
@@ -60,7 +62,7 @@ IsStatus (Some (Build names)) result = (result ≡ 0) ⊎ ((result ≡ 1) ⊎ Gi
 IsStatus (Some (Trace asked)) result = (result ≡ 0) ⊎ ((result ≡ 1) ⊎ ((result ≡ 4) ⊎ ((result ≡ 5) ⊎ GivesUp result)))
 IsStatus (Some (Simulate asked)) result = (result ≡ 0) ⊎ ((result ≡ 5) ⊎ ((result ≡ 6) ⊎ GivesUp result))
 IsStatus (Some (Agree asked)) result = (result ≡ 0) ⊎ ((result ≡ 1) ⊎ ((result ≡ 4) ⊎ ((result ≡ 5) ⊎ GivesUp result)))
-IsStatus (Some (Generate functions)) result = (result ≡ 0) ⊎ GivesUp result
+IsStatus (Some (Generate functions)) result = (result ≡ 0) ⊎ ((result ≡ 1) ⊎ GivesUp result)
 
 pub record HasStatus (form : Option Form) (result : ℕ) : Type 0 where
   pub known : IsStatus form result
@@ -91,17 +93,13 @@ pub record TracePrints (kind : Kind) (asked : Asked) (old new : Option (List ℕ
   -- over a sound host, where only files can be missing, the line says which
   pub sound : IsTrue kind.is_sound → result ≡ 3 → (new ≡ option_map (λ text. text ++ cannot_read asked.input) old) ⊎ (new ≡ option_map (λ text. text ++ cannot_read asked.script) old)
 
--- a program that is generated is printed with status 0
-abbrev pub zero_of : Unit {0} → ℕ
-zero_of _ = 0
-
 abbrev pub HasPrinted : Kind → Option Form → Option (List ℕ) → Option (List ℕ) → ℕ → Type 0
 HasPrinted kind None old new result = UsagePrints old new result
 HasPrinted kind (Some (Build names)) old new result = BuildPrints kind names old new result
 HasPrinted kind (Some (Trace asked)) old new result = TracePrints kind asked old new result
 HasPrinted kind (Some (Simulate asked)) old new result = Prints chip.status_of (chip.IsChipText asked) old new result
 HasPrinted kind (Some (Agree asked)) old new result = Prints agreement.status_of (agreement.IsText asked) old new result
-HasPrinted kind (Some (Generate functions)) old new result = Prints zero_of (λ (_ : Unit {0}) text. IsSummed functions text) old new result
+HasPrinted kind (Some (Generate functions)) old new result = Prints generation.status_of (IsGeneratedText functions) old new result
 
 -- ---- where the host tells both
 -- the line that is printed is that of a refusal that holds of the text
@@ -124,7 +122,7 @@ HasTold None old new before after result = Unit {0}
 HasTold (Some (Build names)) old new before after result = result ≡ 1 → BuildTells names old new before after
 HasTold (Some (Trace asked)) old new before after result = GivesUp result ⊎ TraceTells asked old before after result
 HasTold (Some (Agree asked)) old new before after result = agreement.AgreementTells asked old before after result
-HasTold (Some (Generate functions)) old new before after result = result ≡ 0 → GeneratedTells functions before after
+HasTold (Some (Generate functions)) old new before after result = GenerationTells functions before after result
 -- what a simulation does is told with its board (HasSimulated)
 HasTold (Some (Simulate asked)) old new before after result = Unit {0}
 
@@ -160,13 +158,19 @@ pub record AgreementCompletes (asked : Compared) (old : Contents) (result : ℕ)
   pub ends : (result ≡ 0) ⊎ ((result ≡ 1) ⊎ ((result ≡ 4) ⊎ ((result ≡ 5) ⊎ (result ≡ 9))))
   pub files : TraceCompletes (agreement.files_of asked) old result
 
+-- The program is accepted and printed, or refused. Unless memory runs out one of the two comes, and the status says which.
+pub record GenerationCompletes (functions result : ℕ) : Type 0 where
+  pub ends : ((result ≡ 0) × IsAcceptedText (generated functions)) ⊎ (((result ≡ 1) × IsRefusedText (generated functions)) ⊎ (result ≡ 9))
+  pub accepted : IsAcceptedText (generated functions) → (result ≡ 0) ⊎ (result ≡ 9)
+  pub refused : (refusal : Refusal) → Tells (generated functions) refusal → (result ≡ 1) ⊎ (result ≡ 9)
+
 abbrev pub Completes : Option Form → Contents → ℕ → Type 0
 Completes None old result = (result ≡ 2) ⊎ (result ≡ 9)
 Completes (Some (Build names)) old result = BuildCompletes names old result
 Completes (Some (Trace asked)) old result = TraceCompletes asked old result
 Completes (Some (Simulate asked)) old result = SimulationCompletes asked old result
 Completes (Some (Agree asked)) old result = AgreementCompletes asked old result
-Completes (Some (Generate functions)) old result = (result ≡ 0) ⊎ (result ≡ 9)
+Completes (Some (Generate functions)) old result = GenerationCompletes functions result
 
 abbrev pub IsComplete : Kind → ℕ → ℕ → Option Form → Contents → ℕ → Type 0
 IsComplete kind before now form old result = (IsCounted kind before now → ⊥) → Completes form old result

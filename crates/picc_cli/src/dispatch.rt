@@ -23,7 +23,8 @@ const USAGE: &str =
     "usage: picc build IN OUT MAP | trace IN SCRIPT M | sim HEX MAP SCRIPT N | agree IN SCRIPT N | gen K\n";
 
 /// Runs the command of these words, which are those after the program's name, over a host on which no file is open.
-/// The answer is the exit status: 0 where the command did what its form says, 1 where the C text is refused, 2 where
+/// The answer is the exit status: 0 where the command did what its form says, 1 where the C text is refused, which may be the
+/// one that `gen` generates, 2 where
 /// the words are of no form, 3 for a fault of the host, 4 where a step of a trace or of a comparison is undefined, 5 where
 /// a HEX file, a map or a script is none, 6 where a simulation comes to SLEEP or to a word that is no instruction's, 9 when
 /// out of memory.
@@ -52,7 +53,7 @@ pub fn picc<H: Host>(
     ensures status { HasStatus (form_of (words_of words.now)) result }
     ensures printed { HasPrinted (H.kind host.old) (form_of (words_of words.now)) (H.printed host.old) (H.printed host.new) result }
     // What is printed of a refused text, of a file that isn't such as it is to be, and of an accepted one, holds of the files; and
-    // the sizes of a generated program are those of a program.
+    // the sizes of a generated program are those of its typed program, or a refusal of it holds of it.
     ensures told { IfSome (H.contents host.old) (λ old. HasTold (form_of (words_of words.now)) old (H.contents host.new) (H.printed host.old) (H.printed host.new) result) }
     // A simulation runs the chip over the board, on what its three files hold: this is that run, its events, and what the board was
     // asked and told; and 6 comes just where the run of the chip's own definitions stops. Where a file isn't such as it is to be, the

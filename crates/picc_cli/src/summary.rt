@@ -1,16 +1,19 @@
 //! The form `gen`: a program of a given size, and its sizes.
 
-ghost use Rattle.std.specs.Prelude.{◌≡◌, ◌≤◌, ◌++◌, IfOk, IfSome, OnOk, Some};
+ghost use Rattle.std.specs.Prelude.{◌≡◌, ◌≤◌, ◌++◌, IfErr, IfOk, IfSome, OnOk, Some};
 ghost use Rattle.host_io.specs.Host.{Closed};
 ghost use Rattle.picc_cli.specs.Command.{Generate};
 ghost use Rattle.picc_cli.specs.Finished.{HasFaults, HasPrinted, HasStatus, HasTold, IsComplete};
+ghost use Rattle.picc_cli.specs.Generated.{generated};
 ghost use Rattle.picc_cli.specs.Summary.{AreSizes, IsSized, IsSummed, summary_line};
+ghost use Rattle.picc_core.specs.Answers.{TellsError};
+ghost use Rattle.picc_core.specs.Decided.{IsAcceptedText};
 
 use crate::generating::generate;
 use crate::refusal::push_counted;
-use crate::say::say_line;
+use crate::say::{say_line, say_refusal};
 use host_io::Host;
-use picc_core::front;
+use picc_core::{CompileError, front};
 use std::alloc::{AllocError, Global};
 
 /// What a program is stated to take: the words of all blocks of code, how many addresses of data memory its objects and
@@ -22,8 +25,8 @@ struct Sizes {
     depth: u8,
 }
 
-/// Prints the program of so many functions, 1 to 64, and after it a comment with its sizes. The answer is the exit
-/// status.
+/// Prints the program of so many functions, 1 to 64, and after it a comment with its sizes; or the line of a refusal, if one
+/// holds of that program. The answer is the exit status.
 pub fn print_generated<H: Host>(alloc: Global, host: &mut H, functions: u32) -> u8
     requires closed { H.open_file host.old ≡ Closed }
     ensures closed { H.open_file host.new ≡ Closed }
@@ -37,14 +40,17 @@ pub fn print_generated<H: Host>(alloc: Global, host: &mut H, functions: u32) -> 
 {
     match summed(alloc, functions) {
         Ok(text) => say_line(host, 0, &text),
-        Err(_) => 9,
+        Err(CompileError::Refused(refusal)) => say_refusal(alloc, host, "gen", &refusal),
+        Err(CompileError::NoMemory) => 9,
     }
 }
 
-/// The program and the comment.
-fn summed(alloc: Global, functions: u32) -> Result<Vec<u8>, AllocError>
+/// The program and the comment, or why the program is refused.
+fn summed(alloc: Global, functions: u32) -> Result<Vec<u8>, CompileError>
     ensures summed { IfOk result (λ text. IsSummed functions text.items) }
     ensures sized { IfOk result (λ text. IsSized functions text.items) }
+    ensures accepted { IfOk result (λ _. IsAcceptedText (generated functions)) }
+    ensures refused { IfErr result (TellsError (generated functions)) }
 {
     let mut text = generate(alloc, functions)?;
     let sizes = sizes_of(alloc, &text)?;
@@ -52,18 +58,18 @@ fn summed(alloc: Global, functions: u32) -> Result<Vec<u8>, AllocError>
     Ok(text)
 }
 
-/// The sizes of a program. One that is refused has none, and gives up as if out of memory; none that is generated is.
-fn sizes_of(alloc: Global, text: &[u8]) -> Result<Sizes, AllocError>
+/// The sizes of a program, or why it is refused.
+fn sizes_of(alloc: Global, text: &[u8]) -> Result<Sizes, CompileError>
     ensures sizes { IfOk result (λ sizes. AreSizes text.now sizes.words sizes.ram sizes.depth) }
+    ensures accepted { IfOk result (λ _. IsAcceptedText text.now) }
+    ensures refused { IfErr result (TellsError text.now) }
 {
-    match front(alloc, text) {
-        Ok(known) => Ok(Sizes {
-            words: known.words,
-            ram: known.placed.ram,
-            depth: known.copies.depth,
-        }),
-        Err(_) => Err(AllocError),
-    }
+    let known = front(alloc, text)?;
+    Ok(Sizes {
+        words: known.words,
+        ram: known.placed.ram,
+        depth: known.copies.depth,
+    })
 }
 
 /// `/* gen K: words W ram R depth D */`, and a line feed.

@@ -232,16 +232,15 @@ all_answers p content arrivals off search taken (Ok found) searched all ran = λ
 all_answers p content arrivals off search taken (Err x) searched all ran = tt
 
 -- what is met of a run that went on without an undefined step
-pub ran_rest : (p : Program) (content : MapContent) (outside : Outside) (few_steps longest runs : ℕ) {E : Type 0} (result : Result (Option Fault) E) (first next : SourceRun) → IsRunBy p content outside first
+pub ran_rest : (p : Program) (content : MapContent) (outside : Outside) (few_steps longest runs : ℕ) (found : Option Fault) (first next : SourceRun) → IsRunBy p content outside first
     → ((s : SourceSetting) (map : MapContent) → s.outside ≡ outside → IsRun s map first → Looked s few_steps longest None)
     → ((s : SourceSetting) (map : MapContent) → s.outside ≡ outside → IsRun s map first → IsRun s map next)
-    → IfOk result (λ met. (s : SourceSetting) (map : MapContent) → s.outside ≡ outside → IsRun s map next → Met s few_steps runs met)
-    → IfOk result (λ found. RanBy p outside few_steps longest runs found)
-ran_rest p content outside few_steps longest runs (Ok None) first next starts looks goes ends = λ s program is given few.
+    → ((s : SourceSetting) (map : MapContent) → s.outside ≡ outside → IsRun s map next → Met s few_steps runs found)
+    → RanBy p outside few_steps longest runs found
+ran_rest p content outside few_steps longest runs None first next starts looks goes ends = λ s program is given few.
     let h = starts s program is given few in (looks s content is h, ends s content is (goes s content is h))
-ran_rest p content outside few_steps longest runs (Ok (Some fault)) first next starts looks goes ends = λ s program is given few.
+ran_rest p content outside few_steps longest runs (Some fault) first next starts looks goes ends = λ s program is given few.
     let h = starts s program is given few in inr (looks s content is h, ends s content is (goes s content is h))
-ran_rest p content outside few_steps longest runs (Err x) first next starts looks goes ends = tt
 
 pub ran_fault : (p : Program) (content : MapContent) (outside : Outside) (few_steps longest runs : ℕ) (fault : Fault) (first : SourceRun) → IsRunBy p content outside first
     → ((s : SourceSetting) (map : MapContent) → s.outside ≡ outside → IsRun s map first → Looked s few_steps longest (Some fault)) → RanBy p outside few_steps longest runs (Some fault)

@@ -91,6 +91,22 @@ module _ (s : Setting) (given : IsGiven s) where
   few_events zero = omega arith
   few_events (suc n) = let i = few_events n in let m = more_by_one n (is_taken (take s (after s n))) refl in omega (arith, i, m)
 
+-- ---- steps that were defined
+module _ (s : Setting) where
+  defined_more : (n : ℕ) → ((k : ℕ) → k < n → fault_after s k ≡ None) → fault_after s n ≡ None → (k : ℕ) → k < n + 1 → fault_after s k ≡ None
+  defined_more n all this k l = ⊎_elim (λ b. all k b) (λ b. let e : n ≡ k = omega (arith, l, b) in subst (λ j. fault_after s j ≡ None) e this) (cases_lt k n)
+
+  pub defined_next : (n next : ℕ) → next ≡ n + 1 → ((k : ℕ) → k < n → fault_after s k ≡ None) → fault_after s n ≡ None → (k : ℕ) → k < next → fault_after s k ≡ None
+  defined_next n next e all this = subst (λ m. (k : ℕ) → k < m → fault_after s k ≡ None) (sym e) (defined_more n all this)
+
+  none_and_some : {f : Faults} → None ≡ Some f → ⊥
+  none_and_some e = absurd (cc)
+
+  -- where all steps up to the last end were defined, none is met before it
+  pub met_all : (most runs n : ℕ) → ((k : ℕ) → k < n → fault_after s k ≡ None) → 2 * most ≤ n → Met s most runs None
+  met_all most runs n all far fault m =
+      ⊎_elim (λ b. none_and_some (sym (all m.step b) ∙ m.is)) (λ b. m.going n b (inr (inl far))) (cases_lt m.step n)
+
 -- ---- a run
 module _ (s : Setting) (map : MapContent) where
   pub begins : (run : SourceRun) → run.steps ≡ 0 → run.events ≡ 0 → IsSource s map 0 run.source → IsRun s map run
@@ -101,9 +117,6 @@ module _ (s : Setting) (map : MapContent) where
     defined = λ k l. absurd (omega (arith, l, steps));
   }
 
-  defined_more : (n : ℕ) → ((k : ℕ) → k < n → fault_after s k ≡ None) → fault_after s n ≡ None → (k : ℕ) → k < n + 1 → fault_after s k ≡ None
-  defined_more n all this k l = ⊎_elim (λ b. all k b) (λ b. let e : n ≡ k = omega (arith, l, b) in subst (λ j. fault_after s j ≡ None) e this) (cases_lt k n)
-
   pub went : (old new : SourceRun) (event : Option Event) (next : Source) → IsRun s map old → TellsNext s map old.steps (ends.Went event) next
       → new.source ≡ next → new.steps ≡ old.steps + 1 → new.events ≡ old.events + (if is_some event then 1 else 0) → IsRun s map new
   went old new event next is tells source steps events = record {
@@ -111,7 +124,7 @@ module _ (s : Setting) (map : MapContent) where
     events =
         events ∙ (ap (λ k. k + (if is_some event then 1 else 0)) is.events
         ∙ (sym (events_after s is.source.can.given old.steps map event tells.0 tells.1) ∙ ap (λ n. length (after s n).world.trace) (sym steps)));
-    defined = subst (λ n. (k : ℕ) → k < n → fault_after s k ≡ None) (sym steps) (defined_more old.steps is.defined (taken_defined s old.steps tells.0));
+    defined = defined_next s old.steps new.steps steps is.defined (taken_defined s old.steps tells.0);
   }
 
   pub events_few : (run : SourceRun) → IsRun s map run → run.events ≤ run.steps
@@ -160,9 +173,6 @@ module _ (s : Setting) (map : MapContent) where
       met_none : IsEndOf s most runs run.steps → Met s most runs None
       met_none ended fault m =
           ⊎_elim (λ b. none_before m.step ⊥ b fault m.is) (λ b. m.going run.steps b ended) (cases_lt m.step run.steps)
-
-      pub met_all : 2 * most ≤ run.steps → Met s most runs None
-      met_all far = met_none (inr (inl far))
 
       pub met_main : most ≤ main_steps_of run.source → Met s most runs None
       met_main many = let e = is.source.main_steps in met_none (inl (omega (arith, many, e)))

@@ -30,6 +30,12 @@ Goes s map n goings.Went next = IsRun s map next
 Goes s map n goings.Idle next = (is_idle_after s n ≡ true) × IsRun s map next
 Goes s map n (goings.Undefined fault) next = (fault_after s n ≡ Some (fault_in fault))
 
+-- How the step of this number ended.
+abbrev pub Took : Setting → ℕ → Going → Type 0
+Took s n goings.Went = fault_after s n ≡ None
+Took s n goings.Idle = is_idle_after s n ≡ true
+Took s n (goings.Undefined fault) = fault_after s n ≡ Some (fault_in fault)
+
 -- ---- the first undefined step
 -- it is among so many first ones, and begins while the trace is so long at most
 pub record IsFirst (s : Setting) (most longest : ℕ) (fault : Fault) : Type 0 where

@@ -170,7 +170,7 @@ fn fault_in_run<'a>(
     let mut run = SourceRun::new(alloc, program, map)?;
     match run.look(schedule, most, off.events as u64) {
         Some(fault) => Ok(Some(fault)),
-        None => run.to_end(schedule, most, off.runs as u64),
+        None => Ok(run.to_end(schedule, most, off.runs as u64)),
     }
 }
 

@@ -4,7 +4,7 @@ ghost use Rattle.std.specs.Prelude.{◌≡◌, ◌<◌, ◌≤◌, ◌+◌, ◌^
 ghost use Rattle.c_typed.specs.Views.{program_of};
 ghost use Rattle.pic_map.specs.MapContent.{MapContent};
 ghost use Rattle.pic_map.specs.MapView.{content_of};
-ghost use Rattle.run_compare.specs.Looking.{IsRun, Goes, Looked, Met, taken_by};
+ghost use Rattle.run_compare.specs.Looking.{IsRun, Goes, Looked, Met, Took, taken_by};
 ghost use Rattle.src_machine.specs.Steps.{IsGiven};
 ghost use Rattle.src_memory.specs.Seen.{outside_by};
 ghost use Rattle.src_values.specs.Memory.{Setting};
@@ -55,9 +55,11 @@ impl<'a> SourceRun<'a> {
 
     /// Takes the next step under a schedule, the same for the whole run.
     pub fn step(&mut self, schedule: &Script) -> Going
-        requires { self.old.steps + 1 < 2 ^ 60 }
+        requires { self.old.steps < 2 ^ 60 }
         ensures steps { self.new.steps ≡ self.old.steps + taken_by result }
-        ensures goes { (s : Setting) (map : MapContent) → s.outside ≡ outside_by schedule.now → IsRun s map self.old → Goes s map self.old.steps result self.new }
+        ensures took { (s : Setting) (map : MapContent) → s.outside ≡ outside_by schedule.now → IsRun s map self.old → Took s self.old.steps result }
+        // Where one more step can be counted, this is the run behind it.
+        ensures goes { self.old.steps + 1 < 2 ^ 60 → (s : Setting) (map : MapContent) → s.outside ≡ outside_by schedule.now → IsRun s map self.old → Goes s map self.old.steps result self.new }
     {
         match self.source.step(schedule) {
             SrcEnd::Undefined { kind, line } => Going::Undefined(Fault { kind, line }),
@@ -90,34 +92,25 @@ impl<'a> SourceRun<'a> {
     }
 
     /// Goes on to the undefined step that comes before the run's end: main has taken so many steps, or main and the handler
-    /// together twice as many; the run is idle; or more runs of the handler than so many would begin. A run whose steps
-    /// can't be counted ends as if out of memory; none gets there.
-    pub fn to_end(
-        &mut self,
-        schedule: &Script,
-        most: u64,
-        runs: u64,
-    ) -> Result<Option<Fault>, AllocError>
+    /// together twice as many; the run is idle; or more runs of the handler than so many would begin.
+    pub fn to_end(&mut self, schedule: &Script, most: u64, runs: u64) -> Option<Fault>
         requires { most ≤ 2 ^ 59 }
-        ensures { IfOk result (λ met. (s : Setting) (map : MapContent) → s.outside ≡ outside_by schedule.now → IsRun s map self.old → Met s most runs met) }
+        ensures { (s : Setting) (map : MapContent) → s.outside ≡ outside_by schedule.now → IsRun s map self.old → Met s most runs result }
     {
         while self.steps < 2 * most {
             if self.source.main_steps() >= most {
-                return Ok(None);
+                return None;
             }
             if self.source.runs() > runs {
-                return Ok(None);
-            }
-            if self.steps >= MOST_STEPS {
-                return Err(AllocError);
+                return None;
             }
             match self.step(schedule) {
                 Going::Went => {}
-                Going::Idle => return Ok(None),
-                Going::Undefined(fault) => return Ok(Some(fault)),
+                Going::Idle => return None,
+                Going::Undefined(fault) => return Some(fault),
             }
         }
-        Ok(None)
+        None
     }
 }
 

@@ -14,7 +14,7 @@ use Rattle.src_machine.specs.Progress.{main_steps_of, runs_of, undefined_in, mai
 use Rattle.src_machine.specs.Seen.{state_in}
 use Rattle.src_machine.specs.Stepping.{taker_at, taker_of}
 use Rattle.src_machine.specs.Steps.{CanGo, IsGiven, IsOnRun, TellsTake, settled}
-use Rattle.src_machine.specs.Sources.{BeginsAt, IsBehind, IsSource, TellsNext, event_in}
+use Rattle.src_machine.specs.Sources.{BeginsAt, EndsAs, IsBehind, IsSource, TellsNext, event_in}
 use Rattle.src_machine.specs.Telling.{Tells}
 use Rattle.src_machine.specs.declared.machine.Outcome.TheVariants as outcomes
 use Rattle.src_machine.specs.declared.machine.SrcEnd.{SrcEnd}
@@ -222,6 +222,18 @@ module _ (s : Setting) (map : MapContent) (n : ℕ) (old new : Source) (source :
           defined = d;
         },
       )
+
+  -- ---- how the step ended, whatever its number is
+  taken_by : (event : Option Event) (out : Outcome) → take s now ≡ out → Tells s.outside (address_of s.program map) (outcomes.Went event) new.machine out → is_taken (take s (after s n)) ≡ true
+  taken_by event (Went u happening) is told = ap is_taken (sym (take_behind s n now source.behind) ∙ is)
+  taken_by event (Undefined other at) is told = absurd told
+  taken_by event Idle is told = absurd told
+  taken_by event Lost is told = absurd told
+
+  pub ended : (end : SrcEnd) → TellsTake s map now by end old.machine new.machine → EndsAs s n end
+  ended (ends.Went event) tells = taken_by event (take s now) refl tells.told
+  ended (ends.Undefined kind line) tells = follows_undefined kind line tells
+  ended ends.Idle tells = idle_by (take s now) refl tells.told
 
 -- ---- as the code has it
 module _ (s : Setting) (map : MapContent) (n : ℕ) (old mid new : Source) (source : IsSource s map n old) (by : Taker) where

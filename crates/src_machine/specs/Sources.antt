@@ -53,3 +53,10 @@ TellsNext s map n (ends.Went event) next =
     (is_taken (take s (after s n)) ≡ true) × (event ≡ option_map (shown (address_of s.program map)) (event_in (take s (after s n)))) × IsSource s map (n + 1) next
 TellsNext s map n (ends.Undefined kind line) next = fault_after s n ≡ Some (record { kind = kind; line = line })
 TellsNext s map n ends.Idle next = (is_idle_after s n ≡ true) × IsSource s map n next
+
+-- How the step of this number ended, whether or not one more can be counted: it was taken; it is undefined, with this kind and line; or
+-- there is none.
+abbrev pub EndsAs : Setting → ℕ → SrcEnd → Type 0
+EndsAs s n (ends.Went event) = is_taken (take s (after s n)) ≡ true
+EndsAs s n (ends.Undefined kind line) = fault_after s n ≡ Some (record { kind = kind; line = line })
+EndsAs s n ends.Idle = is_idle_after s n ≡ true

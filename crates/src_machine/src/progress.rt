@@ -5,7 +5,7 @@ ghost use Rattle.c_typed.specs.Views.{program_of};
 ghost use Rattle.pic_map.specs.MapContent.{MapContent};
 ghost use Rattle.pic_map.specs.MapView.{content_of};
 ghost use Rattle.src_machine.specs.Progress.{main_steps_of, runs_of, undefined_in, undefined_by, taken_by, main_by, run_by, Notes};
-ghost use Rattle.src_machine.specs.Sources.{IsSource, TellsNext};
+ghost use Rattle.src_machine.specs.Sources.{EndsAs, IsSource, TellsNext};
 ghost use Rattle.src_machine.specs.Steps.{IsGiven};
 ghost use Rattle.src_memory.specs.Seen.{outside_by};
 ghost use Rattle.src_values.specs.Memory.{Setting};
@@ -95,6 +95,8 @@ impl<'a> Source<'a> {
         ensures counted { main_steps_of self.new + runs_of self.new ≤ main_steps_of self.old + runs_of self.old + taken_by result }
         // It is the next step of the definition's run, with its event, its kind and line, or none.
         ensures follows { (s : Setting) (map : MapContent) (n : ℕ) → s.outside ≡ outside_by script.now → n + 1 < 2 ^ 60 → IsSource s map n self.old → TellsNext s map n result self.new }
+        // How it ended is told of the last step that can be counted too.
+        ensures ended { (s : Setting) (map : MapContent) (n : ℕ) → s.outside ≡ outside_by script.now → IsSource s map n self.old → EndsAs s n result }
     {
         if let Some(stop) = self.stop {
             return SrcEnd::Undefined {
