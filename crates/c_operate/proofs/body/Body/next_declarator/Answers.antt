@@ -1,4 +1,4 @@
-use Rattle.std.proofs.Common.{◌≡◌, ℕ, ◌+◌, Ok, length, sym, ap, ◌∙◌}
+use Rattle.std.proofs.Common.{ℕ, Ok, length, sym, ap, ◌∙◌}
 use Rattle.type_rules.specs.Known.{Known}
 use Rattle.c_operate.specs.Tables.{body_of}
 use Rattle.c_operate.proofs.Rows.{one_more}

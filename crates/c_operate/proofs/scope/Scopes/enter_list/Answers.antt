@@ -1,4 +1,4 @@
-use Rattle.std.proofs.Common.{ℕ, length, subst}
+use Rattle.std.proofs.Common.{ℕ, subst}
 use Rattle.type_rules.specs.Names as names
 use Rattle.c_operate.specs.Answers.{Learns}
 use Rattle.c_operate.specs.Tables.{scopes_in}
