@@ -1,5 +1,4 @@
 use Rattle.std.proofs.Common.{Ok, sym, ◌∙◌}
-use Rattle.type_rules.specs.Rows as rows
 use Rattle.c_operate.specs.Tables.{types_in}
 use Rattle.c_operate.proofs.Alike.{row_found, row_put}
 use Rattle.c_operate.proofs.types.Types.row.Goals as goal
