@@ -1,5 +1,5 @@
 -- Rows of tables: a set's are those of the rules; an element that is put last, changed or taken.
-use Rattle.std.proofs.Common.{◌≡◌, ℕ, zero, suc, ◌+◌, ◌<◌, ◌≤◌, Bool, true, false, not, cond, ◌||◌, if◌then◌else◌, List, [], ◌∷◌, ◌++◌, map, length, get_or, set, slice_get, option_map, refl, sym, ap, true≢false, arith}
+use Rattle.std.proofs.Common.{◌≡◌, ℕ, zero, suc, ◌+◌, ◌<◌, ◌≤◌, Bool, true, false, not, cond, ◌||◌, if◌then◌else◌, List, [], ◌∷◌, ◌++◌, map, length, get_or, set, slice_get, option_map, refl, sym, ap, ◌∙◌, true≢false, arith, length-append}
 use Rattle.std.specs.List.{list_any, position_or_len}
 use Rattle.indexmap.specs.IndexSet.{insert_key}
 use Rattle.c_typed.specs.Sameness.{same_qualified}
@@ -31,6 +31,10 @@ module _ (eq : Qualified → Qualified → Bool) (same : (a b : Qualified) → e
   pub row_kept : (ts : List Qualified) (ty : Qualified) → insert_key eq ts ty ≡ with_row ts ty
   row_kept [] ty = refl
   row_kept (t ∷ ts) ty = kept_rows (eq ty t) (same_qualified t ty) (list_any (eq ty) ts) t ty ts (with_row ts ty) (same ty t) (row_kept ts ty)
+
+-- a list with one more at its end
+pub one_more : {A : Type 0} (xs ys : List A) (x : A) → ys ≡ xs ++ x ∷ [] → length ys ≡ length xs + 1
+one_more xs ys x is = ap length is ∙ length-append xs (x ∷ [])
 
 module _ {A B : Type 0} (view : A → B) where
   -- an element that is put last

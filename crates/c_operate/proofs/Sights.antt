@@ -1,5 +1,5 @@
 -- Tables as the rules see them: what a function finds there, and what is known behind it.
-use Rattle.std.proofs.Common.{◌≡◌, ℕ, zero, suc, ◌+◌, ◌*◌, ◌<◌, ◌≤◌, Bool, false, not, bytes_eq, is_some, position, List, [], ◌∷◌, ◌++◌, map, length, get_or, slice_index, slice_get, Some, None, option_map, Result, Ok, Err, Vec, Global, IfOk, IfErr, refl, sym, ap, subst, ◌∙◌, arith, mul_comm, append-nil}
+use Rattle.std.proofs.Common.{◌≡◌, ℕ, zero, suc, ◌+◌, ◌*◌, ◌<◌, ◌≤◌, Bool, false, not, bytes_eq, is_some, position, List, [], ◌∷◌, ◌++◌, map, length, get_or, slice_index, slice_get, Some, None, option_map, Result, Ok, Err, Vec, Global, refl, sym, ap, subst, ◌∙◌, arith, mul_comm, append-nil}
 use Rattle.std.specs.Map.{lookup, keys_of}
 use Rattle.indexmap.specs.IndexMap.{insert_entry}
 use Rattle.c_typed.specs.Sound.{kept}
@@ -14,9 +14,8 @@ use Rattle.type_rules.specs.Names.{entry_of, with_entry, enter}
 use Rattle.type_rules.specs.Places.{member_from}
 use Rattle.type_rules.specs.Rows as rows
 use Rattle.type_rules.specs.Units.{member_tree}
-use Rattle.c_operate.specs.Answers.{Answers, Learns, Refuses}
+use Rattle.c_operate.specs.Answers.{Learns}
 use Rattle.c_operate.specs.declared.error.CheckError.{CheckError}
-use Rattle.c_operate.specs.declared.error.CheckError.TheVariants.{NoMemory}
 use Rattle.c_operate.specs.declared.error.CheckError.TheVariants as errors
 use Rattle.c_operate.specs.declared.error.Kind.TheVariants as kinds
 use Rattle.c_operate.specs.Tables.{shape_of, field_of, tag_of, binding_of}
@@ -26,13 +25,6 @@ use Rattle.c_operate.specs.declared.types.Shape.{Shape}
 use Rattle.c_operate.specs.declared.types.Tag.{Tag}
 use Rattle.c_operate.specs.declared.types.Tag.TheVariants as sorts
 use Rattle.c_operate.proofs.Names.{entry_found, entry_put, entry_there, member_found}
-
--- ---- numbers of tables
-
--- A number that fits is the answer; where it doesn't, memory has run out.
-pub numbered : (r : Result ℕ CheckError) (n : ℕ) (after : Known) (said : Result (ℕ × Known) Fault) → IfOk r (λ m. m ≡ n) → IfErr r (λ e. e ≡ NoMemory) → said ≡ Ok (n, after) → Answers (λ m. m) r after said
-numbered (Ok m) n after said is fails h = h ∙ ap (λ (k : ℕ). Ok (k, after)) (sym is)
-numbered (Err e) n after said is fails h = subst (λ x. Refuses x said) (sym fails) tt
 
 -- ---- types
 

@@ -310,7 +310,13 @@ fn beside_integer(
 }
 
 // An operator whose left operand is a pointer.
-fn beside_pointer(types: &Types, op: BinOp, a: usize, a_null: bool, right: Side) -> Option<Operation>
+fn beside_pointer(
+    types: &Types,
+    op: BinOp,
+    a: usize,
+    a_null: bool,
+    right: Side,
+) -> Option<Operation>
     ensures { (known : Known) → option_map operation_of result ≡ rule.operation_on (types_in types.now known) op a_null right.null (Pointer a) right.ty }
 {
     match right.ty {

@@ -1,6 +1,6 @@
 //! Names and what they stand for (ISO/IEC 9899:1990, 6.1.2.1).
 
-ghost use Rattle.std.specs.Prelude.{◌≡◌, Ok, [], map};
+ghost use Rattle.std.specs.Prelude.{◌≡◌, ◌-◌, Ok, [], length, map};
 ghost use Rattle.std.specs.Option.{option_map};
 ghost use Rattle.type_rules.specs.Known.{Known};
 ghost use Rattle.type_rules.specs.Names as names;
@@ -85,6 +85,13 @@ fn builtin(name: &[u8]) -> Option<Binding>
     Some(Binding::Bit { register, bit })
 }
 
+// The last of these places goes, if there is one.
+fn drop_last(places: &mut Vec<usize>)
+    ensures { length places.new.items ≡ length places.old.items - 1 }
+{
+    let _place = places.pop();
+}
+
 // What a name stands for in a scope.
 fn meaning(scope: &IndexMap<Vec<u8>, Binding>, name: &[u8]) -> Option<Binding>
     ensures { option_map binding_of result ≡ names.entry_of (map (λ e. (e.0.items, binding_of e.1)) scope.now.entries) name.now }
@@ -134,7 +141,7 @@ impl Scopes {
     pub fn leave_list(&mut self) -> Names
         ensures { (known : Known) → names.leave_list (scopes_in self.old known) ≡ Ok (scope_of result, scopes_in self.new known) }
     {
-        let _list = self.lists.pop();
+        drop_last(&mut self.lists);
         match self.open.pop() {
             Some(entries) => Names { entries },
             None => Names::none(self.alloc),

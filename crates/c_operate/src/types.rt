@@ -301,7 +301,12 @@ impl Types {
     }
 
     /// Puts a member after those that a structure has.
-    pub fn add_member(&mut self, number: usize, name: &[u8], ty: Qualified) -> Result<(), CheckError>
+    pub fn add_member(
+        &mut self,
+        number: usize,
+        name: &[u8],
+        ty: Qualified,
+    ) -> Result<(), CheckError>
         ensures { (known : Known) → Learns result (types_in self.new known) (rows.add_member number name.now ty (types_in self.old known)) }
     {
         let bytes = self.bytes_of(ty.ty);

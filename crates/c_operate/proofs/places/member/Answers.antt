@@ -1,4 +1,4 @@
-use Rattle.std.proofs.Common.{sym, ap, ◌∙◌}
+use Rattle.std.proofs.Common.{refl, sym, ap, ◌∙◌}
 use Rattle.c_typed.specs.Views.{place_of}
 use Rattle.type_rules.specs.Places as rule
 use Rattle.c_operate.specs.Tables.{field_of, types_in}
@@ -17,4 +17,4 @@ returns c = λ known.
     (no_table_member (term_of c.args.whole) c.args.name.now c.args.line here _ (c.in_ok-refuse_table.ensures here)
     (is_member (form_of c.args.whole.form) whole reach c.args.name.now c.args.line here (c.in-Some-member_in.index, field) (sym c.in-Some.ensures)
     (sym (c.in-Some-member_in.ensures known ∙ ap (λ ty. rule.member_in here ty.ty c.args.name.now) c.ty-ty.ensures))))
-    (member_as _ _ whole reach c.args.line c.in_ok-number.field-0 c.in-Some-member_in.index field c.ty-ty.result c.part_type-ty.result c.lvalue_term.ensures c.in_ok-place.ensures c.in_ok-number.ensures.ok c.part_type-ty.ensures c.ty-ty.ensures)
+    (member_as _ _ whole reach c.args.line c.in-Some-member_in.index c.in-Some-member_in.index field c.ty-ty.result c.part_type-ty.result c.lvalue_term.ensures c.in_ok-place.ensures refl c.part_type-ty.ensures c.ty-ty.ensures)

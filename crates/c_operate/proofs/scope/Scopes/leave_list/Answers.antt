@@ -1,4 +1,4 @@
-use Rattle.std.proofs.Common.{ℕ, ◌-◌, List, Ok, map, reverse, sym, ap, ◌∙◌}
+use Rattle.std.proofs.Common.{ℕ, ◌-◌, List, Ok, length, map, reverse, sym, ap, ◌∙◌}
 use Rattle.type_rules.specs.Known.{Scope}
 use Rattle.type_rules.specs.Names.{first_scope, without_first}
 use Rattle.c_operate.specs.Tables.{scopes_in}
@@ -9,6 +9,6 @@ use Rattle.c_operate.proofs.scope.Scopes.leave_list.Goals as goal
 pub returns-in-Some : goal.returns-in-Some
 returns-in-Some c = λ known.
     let before = c.args.self.now in
-    ap (λ (l : List Scope). Ok (first_scope l, record (scopes_in before known) { scopes = without_first l; lists = before.lists - 1 }))
+    ap (λ (l : List Scope). Ok (first_scope l, record (scopes_in before known) { scopes = without_first l; lists = length before.lists.items - 1 }))
     (closed (λ m. bindings_of m.entries) before.«open».items c.pop.new.self.items c.in-Some.entries c.in-Some.ensures.items)
-    ∙ ap (λ (n : ℕ). Ok (bindings_of c.in-Some.entries.entries, record (scopes_in before known) { scopes = reverse (map (λ m. bindings_of m.entries) c.pop.new.self.items); lists = n })) (sym c.saturating_sub-self.ensures)
+    ∙ ap (λ (n : ℕ). Ok (bindings_of c.in-Some.entries.entries, record (scopes_in before known) { scopes = reverse (map (λ m. bindings_of m.entries) c.pop.new.self.items); lists = n })) (sym c.drop_last.ensures)

@@ -1,8 +1,6 @@
 use Rattle.std.proofs.Common.{Ok, sym, ◌∙◌}
-use Rattle.type_rules.specs.Rows as rows
 use Rattle.c_operate.specs.Tables.{types_in}
 use Rattle.c_operate.proofs.Alike.{row_found, row_put}
-use Rattle.c_operate.proofs.Sights.{numbered}
 use Rattle.c_operate.proofs.types.Types.row.Goals as goal
 
 pub returns-clause-said : goal.returns-clause-said
@@ -10,5 +8,4 @@ returns-clause-said c = λ known.
     let old = types_in c.args.self.now known in
     let at = c.in_ok-index.ensures.index ∙ row_found c.args.self.now.targets.keys c.args.target in
     let put = c.in_ok-index.ensures.keys ∙ row_put c.args.self.now.targets.keys c.args.target in
-    numbered c.number.result c.in_ok-index.index (record old { targets = c.insert_full.new.self.keys }) (rows.row_of c.args.target old) c.number.ensures.ok c.number.ensures.err
     (λ j. Ok (sym at j, record old { targets = sym put j }))
