@@ -13,13 +13,14 @@ ghost use Rattle.type_rules.specs.Names as names;
 ghost use Rattle.type_rules.specs.Objects as rule;
 ghost use Rattle.type_rules.specs.Rows.{bytes_of, is_complete};
 ghost use Rattle.c_operate.specs.Answers.{Answers, Learns};
-ghost use Rattle.c_operate.specs.Tables.{known_of, scopes_in, types_in};
+ghost use Rattle.c_operate.specs.Tables.{body_in, known_of, scopes_in, types_in};
 ghost use Rattle.check_expr.specs.Views.{is_register, outline_of, specified_of};
 ghost use Rattle.c_check.specs.Views.{any_init, only_one, slot_of};
 
 use crate::initializer::begun;
 use crate::slots::Slot;
 use crate::types::{both, either};
+use c_operate::body::Body;
 use c_operate::checker::Checker;
 use c_operate::error::{CheckError, Kind, refused};
 use c_operate::scope::{Binding, Scopes};
@@ -33,6 +34,9 @@ use std::alloc::{AllocError, Global};
 
 // The greatest number of bytes that an object has, and of elements that an array has.
 const MOST: u64 = 65_535;
+
+// The greatest number that a local has.
+const MOST_LOCALS: usize = 0xffff_ffff;
 
 fn is_within(count: u64) -> bool
     ensures { result ≡ nat_le count 65535 }
@@ -254,6 +258,21 @@ fn is_register(storage: Storage) -> bool
     }
 }
 
+// Puts a local after those that the body has. There is no memory for more than a `u32` numbers.
+fn next_local(
+    body: &mut Body,
+    name: &[u8],
+    ty: Qualified,
+    line: u32,
+) -> Result<u32, CheckError>
+    ensures { (known : Known) → Answers (λ number. number) result (body_in body.new known) (rule.add_local name.now ty line (body_in body.old known)) }
+{
+    if body.local_count() > MOST_LOCALS {
+        return Err(CheckError::NoMemory);
+    }
+    body.add_local(name, ty, line)
+}
+
 /// What the declarator of a local does.
 pub(crate) fn local_object(
     init: Option<&Init>,
@@ -266,7 +285,7 @@ pub(crate) fn local_object(
     ensures { Answers (λ made. map statement_of made.items) result (known_of checker.new) (rule.local_rule (any_init init.entry) name.now ty (is_register specified.storage) line (known_of checker.old)) }
 {
     let fixed = is_register(specified.storage);
-    let local = checker.body.add_local(name, ty, line)?;
+    let local = next_local(&mut checker.body, name, ty, line)?;
     bind_object(&mut checker.scopes, name, Object::Local(local), ty, fixed)?;
     match init {
         Some(init) => begin_local(init, checker, local, name, ty, fixed, line),

@@ -1,13 +1,13 @@
 //! The body of a function while it is checked (ISO/IEC 9899:1990, 6.7.1).
 
-ghost use Rattle.std.specs.Prelude.{◌≡◌, [], map, Ok, IfOk};
+ghost use Rattle.std.specs.Prelude.{◌≡◌, ◌<◌, ◌^◌, [], length, map, Ok, IfOk};
 ghost use Rattle.c_typed.specs.Views.{variable_of};
 ghost use Rattle.type_rules.specs.Known.{Known, no_body};
 ghost use Rattle.type_rules.specs.Objects as objects;
 ghost use Rattle.c_operate.specs.Answers.{Answers};
 ghost use Rattle.c_operate.specs.Tables.{body_of, body_in};
 
-use crate::error::{CheckError, number};
+use crate::error::CheckError;
 use c_typed::{Qualified, Ty, Variable};
 use std::alloc::Global;
 
@@ -72,11 +72,19 @@ impl Body {
         Ok(declarator)
     }
 
-    /// Puts a local after those that the body has, and gives its number.
+    /// How many locals the body has so far.
+    pub fn local_count(&self) -> usize
+        ensures { result ≡ length self.now.locals.items }
+    {
+        self.locals.len()
+    }
+
+    /// Puts a local after those that the body has, and gives its number. A `u32` numbers it.
     pub fn add_local(&mut self, name: &[u8], ty: Qualified, line: u32) -> Result<u32, CheckError>
+        requires { length self.old.locals.items < 2 ^ 32 }
         ensures { (known : Known) → Answers (λ number. number) result (body_in self.new known) (objects.add_local name.now ty line (body_in self.old known)) }
     {
-        let local = number(self.locals.len())?;
+        let local = self.locals.len() as u32;
         self.locals.push(Variable {
             name: name.to_vec(self.alloc)?,
             ty,

@@ -78,17 +78,6 @@ pub fn refused<T>(kind: Kind, line: u32) -> Result<T, CheckError>
     Err(CheckError::Kind { kind, line })
 }
 
-/// A table's next number. There is no memory for a table that is too long for its numbers.
-pub fn number(length: usize) -> Result<u32, CheckError>
-    ensures ok { IfOk result (λ n. n ≡ length) }
-    ensures err { IfErr result (λ e. e ≡ NoMemory) }
-{
-    match u32::try_from(length) {
-        Ok(number) => Ok(number),
-        Err(_) => Err(CheckError::NoMemory),
-    }
-}
-
 /// A text of its own.
 pub fn copied(alloc: Global, text: &[u8]) -> Result<Vec<u8>, CheckError>
     ensures ok { IfOk result (λ copy. copy.items ≡ text.now) }
