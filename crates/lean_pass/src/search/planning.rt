@@ -6,6 +6,7 @@ use crate::search::bits::Bits;
 use crate::search::bodies::{Body, Live, Place, Summary, bodies_of};
 use crate::search::choosing::Aims;
 use crate::search::known::{BYTES, Knowledge};
+use crate::search::learning::learn_all;
 use crate::search::living::{find_live, find_outer};
 use pic_map::Placed;
 use std::alloc::{AllocError, Global};
@@ -162,7 +163,7 @@ fn block_plan(
     Ok(BlockPlan {
         plans: plans_of(alloc, body, summary.named, own)?,
         inside: body.inside,
-        ends: note_of(alloc, &Knowledge::nothing(), summary.back, apart, None)?,
+        ends: note_of(alloc, &body.ends, summary.back, apart, None)?,
         outer: set_of(alloc, summary.outer)?,
     })
 }
@@ -225,16 +226,6 @@ fn is_searched(name: BlockName) -> bool {
     }
 }
 
-fn learn_all(bodies: &mut [Body], ground: &Ground) -> bool {
-    let mut found = true;
-    for body in bodies.iter_mut() {
-        if is_searched(body.name) {
-            found = body.learn(ground) && found;
-        }
-    }
-    found
-}
-
 // The bytes of the handler's that may differ while it doesn't run: those that may at its front.
 fn rest_of(bodies: &[Body], summaries: &[Summary], handler: Option<u16>, isr: Bits) -> Bits {
     for (at, body) in bodies.iter().enumerate() {
@@ -282,7 +273,7 @@ pub fn search(
     let mut summaries = vec![in alloc; Summary::nothing(); blocks.len()]?;
     let main = bytes_of(&ground, false);
     let isr = bytes_of(&ground, true);
-    let found = learn_all(&mut bodies, &ground)
+    let found = learn_all(alloc, &mut bodies, &ground, handler)?
         && search_all(&mut bodies, &mut summaries)
         && find_outer(&bodies, main, isr, &mut summaries);
     if !found {
