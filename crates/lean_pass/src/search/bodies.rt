@@ -63,6 +63,8 @@ pub struct Body {
     pub known: Vec<Knowledge>,
     /// What is known where it returns.
     pub ends: Knowledge,
+    /// A thread begins with it, or it isn't called.
+    pub begins: bool,
     /// What is live before each place.
     pub live: Vec<Live>,
     /// What may differ before each place.
@@ -79,6 +81,9 @@ pub struct Summary {
     pub reads: Bits,
     /// Bytes that may differ in functions that wait for it.
     pub outer: Bits,
+    /// What may differ where it is called, and where it returns.
+    pub entered: Live,
+    pub returned: Live,
 }
 
 impl Live {
@@ -121,6 +126,8 @@ impl Summary {
             named: Bits::none(),
             reads: Bits::none(),
             outer: Bits::none(),
+            entered: Live::nothing(),
+            returned: Live::nothing(),
         }
     }
 }
@@ -290,6 +297,7 @@ fn body_of(
         places: places_of(alloc, ground, blocks, variables, inside, &block.list)?,
         known: vec![in alloc; Knowledge::unreached(); room]?,
         ends: Knowledge::unreached(),
+        begins: false,
         live: vec![in alloc; Live::nothing(); room]?,
         differs: vec![in alloc; Live::nothing(); room]?,
     })
@@ -312,6 +320,14 @@ pub fn bodies_of(
 impl Body {
     pub fn place(&self, at: usize) -> Option<Place> {
         self.places.get(at).copied()
+    }
+
+    /// Whether anything comes to a place.
+    pub fn comes_to(&self, at: usize) -> bool {
+        match self.known.get(at) {
+            Some(known) => known.reached,
+            None => false,
+        }
     }
 
     /// What is live before a place; nothing behind the last one.

@@ -78,11 +78,9 @@ impl Body {
         changed
     }
 
-    fn is_begun(&self) -> bool {
-        match self.known.first() {
-            Some(known) => known.reached,
-            None => true,
-        }
+    fn begin(&mut self) -> bool {
+        self.begins = true;
+        self.come(0, &Knowledge::nothing())
     }
 
     // The block that is called at a place, and what is known there.
@@ -144,8 +142,8 @@ fn learn_round(bodies: &mut [Body], ground: &Ground, ends: &mut [Knowledge]) -> 
 fn open(bodies: &mut [Body], ends: &mut [Knowledge]) -> bool {
     let mut changed = false;
     for own in 0..bodies.len() {
-        if !is_start(bodies[own].name) && !bodies[own].is_begun() {
-            changed = bodies[own].come(0, &Knowledge::nothing()) || changed;
+        if !is_start(bodies[own].name) && !bodies[own].comes_to(0) {
+            changed = bodies[own].begin() || changed;
         }
         if !bodies[own].ends.reached {
             bodies[own].ends = Knowledge::nothing();
@@ -168,7 +166,7 @@ pub fn learn_all(
     let mut ends = vec![in alloc; Knowledge::unreached(); bodies.len()]?;
     for body in bodies.iter_mut() {
         if begins(body.name, handler) {
-            body.come(0, &Knowledge::nothing());
+            body.begin();
         }
     }
     for _round in 0..ROUNDS {

@@ -5,6 +5,7 @@ use crate::rows::{Act, Apart, ByteSet, Facts, Note};
 use crate::search::bits::Bits;
 use crate::search::bodies::{Body, Live, Place, Summary, bodies_of};
 use crate::search::choosing::Aims;
+use crate::search::differing::find_differing;
 use crate::search::known::{BYTES, Knowledge};
 use crate::search::learning::learn_all;
 use crate::search::living::{find_live, find_outer};
@@ -182,20 +183,12 @@ fn search_all(bodies: &mut [Body], summaries: &mut [Summary]) -> bool {
 }
 
 // One kind at a time. Answers whether anything went.
-fn search_once(bodies: &mut [Body], summaries: &[Summary]) -> bool {
+fn search_once(bodies: &mut [Body], summaries: &mut [Summary]) -> bool {
     improve_all(bodies, Aims::Dead, summaries)
-        || (differ_all(bodies, summaries)
+        || (find_differing(bodies, summaries)
             && (improve_all(bodies, Aims::Same, summaries)
                 || improve_all(bodies, Aims::SameZero, summaries)))
         || narrow_all(bodies, summaries)
-}
-
-fn differ_all(bodies: &mut [Body], summaries: &[Summary]) -> bool {
-    let mut found = true;
-    for body in bodies.iter_mut() {
-        found = body.find_differing(summaries) && found;
-    }
-    found
 }
 
 fn improve_all(bodies: &mut [Body], aims: Aims, summaries: &[Summary]) -> bool {
