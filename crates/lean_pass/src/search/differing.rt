@@ -178,9 +178,7 @@ impl Body {
 
 fn enter(callee: Option<usize>, before: Live, summaries: &mut [Summary]) -> bool {
     match callee {
-        Some(callee) => {
-            callee < summaries.len() && more(&mut summaries[callee].entered, before)
-        }
+        Some(callee) => { callee < summaries.len() && more(&mut summaries[callee].entered, before) }
         None => false,
     }
 }

@@ -41,7 +41,13 @@ impl Body {
         }
     }
 
-    fn go_behind(&mut self, at: usize, place: &Place, known: &Knowledge, ends: &[Knowledge]) -> bool {
+    fn go_behind(
+        &mut self,
+        at: usize,
+        place: &Place,
+        known: &Knowledge,
+        ends: &[Knowledge],
+    ) -> bool {
         match place.way {
             Way::Goto(target) => match target {
                 Some(target) => self.come(target, known),
