@@ -166,11 +166,11 @@ impl Body {
         changed
     }
 
-    fn forget_differing(&mut self, begins: bool) {
+    fn forget_differing(&mut self) {
         for live in self.differs.iter_mut() {
             *live = Live::nothing();
         }
-        if begins {
+        if self.begins {
             self.differ(0, Live::all());
         }
     }
@@ -189,8 +189,7 @@ const ROUNDS: u32 = 1000;
 /// Finds what may differ at each place of all blocks. Answers whether that was found.
 pub fn find_differing(bodies: &mut [Body], summaries: &mut [Summary]) -> bool {
     for body in bodies.iter_mut() {
-        let begins = body.begins;
-        body.forget_differing(begins);
+        body.forget_differing();
     }
     for summary in summaries.iter_mut() {
         summary.entered = Live::nothing();

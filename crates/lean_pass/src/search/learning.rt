@@ -119,11 +119,25 @@ fn is_start(name: BlockName) -> bool {
     }
 }
 
+fn places_in(bodies: &[Body], own: usize) -> usize {
+    match bodies.get(own) {
+        Some(body) => body.places.len(),
+        None => 0,
+    }
+}
+
+fn call_in(bodies: &[Body], own: usize, at: usize) -> Option<(usize, Knowledge)> {
+    match bodies.get(own) {
+        Some(body) => body.called_at(at),
+        None => None,
+    }
+}
+
 // What is known at the calls of a block goes to the fronts of those that are called.
 fn enter(bodies: &mut [Body], own: usize) -> bool {
     let mut changed = false;
-    for at in 0..bodies[own].places.len() {
-        if let Some((callee, known)) = bodies[own].called_at(at) {
+    for at in 0..places_in(bodies, own) {
+        if let Some((callee, known)) = call_in(bodies, own, at) {
             if callee < bodies.len() {
                 changed = bodies[callee].come(0, &known) || changed;
             }
