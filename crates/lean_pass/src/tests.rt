@@ -7,7 +7,7 @@ use pic_world::Root;
 use std::alloc::{AllocError, Global};
 use sym_code::{
     BitOperation, BlockName, FileOperation, Into, Label, Literal, LiteralOperation, Operand,
-    Register, Sym, SymBlock, Target,
+    PlainOperation, Register, Sym, SymBlock, Target,
 };
 
 fn object(alloc: Global) -> ObjLine {
@@ -271,5 +271,54 @@ fn a_handler_stores_no_constant(rt: HostRuntime) -> Result<(), AllocError> {
     let wanted = [load(5), Sym::Movwf(ticks()), goto(Label::Restore)];
     assert_eq!(rt; code_of(made.get(0)), &[goto(Label::Halt)][..]);
     assert_eq!(rt; code_of(made.get(1)), &wanted[..]);
+    Ok(())
+}
+
+// What a function returns is in W where it comes back, so that nobody reads the byte in which it is returned.
+#[test]
+fn a_result_is_in_w_behind_a_call(rt: HostRuntime) -> Result<(), AllocError> {
+    let alloc = rt.alloc();
+    let result = Operand::Byte(Byte::Result {
+        root: Root::Main,
+        k: 0,
+    });
+    let call = Sym::Call(Target::Block(BlockName::Copy(2)));
+    let leave = Sym::Plain(PlainOperation::Return);
+    let mut placed = placed(alloc)?;
+    placed.frames.push(frame(alloc, Root::Main, 0x40))?;
+    let mut main = SymBlock::new(alloc, BlockName::Copy(0));
+    let read = to_w(FileOperation::Movf, result);
+    put_list(
+        &mut main,
+        &[call, read, Sym::Movwf(ticks()), goto(Label::Halt)],
+    )?;
+    let mut called = SymBlock::new(alloc, BlockName::Copy(2));
+    let get = to_w(FileOperation::Movf, ticks());
+    put_list(&mut called, &[get, Sym::Movwf(result), leave])?;
+    let mut blocks = Vec::new(alloc);
+    blocks.push(main)?;
+    blocks.push(called)?;
+    let made = lean(alloc, &blocks, None, &placed, &[])?;
+    let wanted = [call, Sym::Movwf(ticks()), goto(Label::Halt)];
+    assert_eq!(rt; code_of(made.get(0)), &wanted[..]);
+    assert_eq!(rt; code_of(made.get(1)), &[get, leave][..]);
+    Ok(())
+}
+
+// A store through FSR asks for no other byte.
+#[test]
+fn a_store_through_fsr_keeps_no_temporary(rt: HostRuntime) -> Result<(), AllocError> {
+    let through = Sym::Movwf(Operand::Register(Register::Indf));
+    let given = [
+        load(5),
+        Sym::Movwf(temporary(0)),
+        through,
+        goto(Label::Halt),
+    ];
+    let made = main_of(rt.alloc(), &given)?;
+    assert_eq!(rt;
+        code_of(made.get(0)),
+        &[load(5), through, goto(Label::Halt)][..]
+    );
     Ok(())
 }

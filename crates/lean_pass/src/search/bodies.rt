@@ -61,6 +61,10 @@ pub struct Body {
     pub places: Vec<Place>,
     /// What is known before each place.
     pub known: Vec<Knowledge>,
+    /// What is known where it returns.
+    pub ends: Knowledge,
+    /// A thread begins with it, or it isn't called.
+    pub begins: bool,
     /// What is live before each place.
     pub live: Vec<Live>,
     /// What may differ before each place.
@@ -77,6 +81,9 @@ pub struct Summary {
     pub reads: Bits,
     /// Bytes that may differ in functions that wait for it.
     pub outer: Bits,
+    /// What may differ where it is called, and where it returns.
+    pub entered: Live,
+    pub returned: Live,
 }
 
 impl Live {
@@ -119,6 +126,8 @@ impl Summary {
             named: Bits::none(),
             reads: Bits::none(),
             outer: Bits::none(),
+            entered: Live::nothing(),
+            returned: Live::nothing(),
         }
     }
 }
@@ -287,6 +296,8 @@ fn body_of(
         inside,
         places: places_of(alloc, ground, blocks, variables, inside, &block.list)?,
         known: vec![in alloc; Knowledge::unreached(); room]?,
+        ends: Knowledge::unreached(),
+        begins: false,
         live: vec![in alloc; Live::nothing(); room]?,
         differs: vec![in alloc; Live::nothing(); room]?,
     })
@@ -311,6 +322,14 @@ impl Body {
         self.places.get(at).copied()
     }
 
+    /// Whether anything comes to a place.
+    pub fn comes_to(&self, at: usize) -> bool {
+        match self.known.get(at) {
+            Some(known) => known.reached,
+            None => false,
+        }
+    }
+
     /// What is live before a place; nothing behind the last one.
     pub fn live_at(&self, at: usize) -> Live {
         match self.live.get(at) {
@@ -327,65 +346,5 @@ impl Body {
             }
         }
         self.places.len()
-    }
-
-    fn come(&mut self, at: usize, known: &Knowledge) -> bool {
-        if at < self.known.len() {
-            self.known[at].come(known)
-        } else {
-            false
-        }
-    }
-
-    // What is known at a place goes on to those behind it.
-    fn go_on(&mut self, ground: &Ground, at: usize, place: &Place) -> bool {
-        let mut known = match self.known.get(at) {
-            Some(known) => *known,
-            None => return false,
-        };
-        if !known.reached {
-            return false;
-        }
-        known.pass(ground, self.inside, place.sym);
-        match place.way {
-            Way::Goto(target) => match target {
-                Some(target) => self.come(target, &known),
-                None => false,
-            },
-            Way::Return => false,
-            Way::Stop => false,
-            Way::Restore => false,
-            _ => {
-                let next = at.saturating_add(1);
-                let on = self.come(next, &known);
-                if place.effect.skips {
-                    let past = self.word_from(next).saturating_add(1);
-                    self.come(past, &known) || on
-                } else {
-                    on
-                }
-            }
-        }
-    }
-
-    fn go_through(&mut self, ground: &Ground) -> bool {
-        let mut changed = false;
-        for at in 0..self.places.len() {
-            if let Some(place) = self.place(at) {
-                changed = self.go_on(ground, at, &place) || changed;
-            }
-        }
-        changed
-    }
-
-    /// Finds what is known before each place. Answers whether that was found.
-    pub fn learn(&mut self, ground: &Ground) -> bool {
-        self.come(0, &Knowledge::nothing());
-        for _round in 0..200 {
-            if !self.go_through(ground) {
-                return true;
-            }
-        }
-        false
     }
 }

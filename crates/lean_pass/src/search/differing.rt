@@ -69,6 +69,20 @@ fn narrowed(place: &Place, before: Live) -> Live {
     after
 }
 
+// Behind a call nothing differs but what did before and what may where the called block returns.
+fn behind_call(callee: Option<usize>, before: Live, summaries: &[Summary]) -> Live {
+    let Some(callee) = callee else {
+        return Live::all();
+    };
+    match summaries.get(callee) {
+        Some(summary) => Live {
+            bytes: before.bytes.join(summary.returned.bytes),
+            ..summary.returned
+        },
+        None => Live::all(),
+    }
+}
+
 fn behind(place: &Place, before: Live, summaries: &[Summary]) -> Live {
     if let Way::Call(callee) = place.way {
         return behind_call(callee, before, summaries);
@@ -81,17 +95,12 @@ fn behind(place: &Place, before: Live, summaries: &[Summary]) -> Live {
     }
 }
 
-fn behind_call(callee: Option<usize>, before: Live, summaries: &[Summary]) -> Live {
-    let Some(callee) = callee else {
-        return Live::all();
-    };
-    match summaries.get(callee) {
-        Some(summary) => Live {
-            bytes: before.bytes.join(summary.named),
-            ..Live::all()
-        },
-        None => Live::all(),
-    }
+// More may differ. Answers whether that is new.
+fn more(live: &mut Live, other: Live) -> bool {
+    let all = live.join(other);
+    let changed = all != *live;
+    *live = all;
+    changed
 }
 
 impl Body {
@@ -102,60 +111,98 @@ impl Body {
         }
     }
 
-    fn differ(&mut self, at: usize, more: Live) -> bool {
-        if at >= self.differs.len() {
-            return false;
+    fn differ(&mut self, at: usize, other: Live) -> bool {
+        if at < self.differs.len() {
+            more(&mut self.differs[at], other)
+        } else {
+            false
         }
-        let all = self.differs[at].join(more);
-        let changed = all != self.differs[at];
-        self.differs[at] = all;
-        changed
     }
 
-    fn differ_on(&mut self, at: usize, place: &Place, summaries: &[Summary]) -> bool {
-        let after = behind(place, self.differs_at(at), summaries);
+    fn differ_next(&mut self, at: usize, place: &Place, after: Live) -> bool {
+        let next = at.saturating_add(1);
+        let on = self.differ(next, after);
+        if place.effect.skips {
+            let past = self.word_from(next).saturating_add(1);
+            self.differ(past, after) || on
+        } else {
+            on
+        }
+    }
+
+    fn differ_on(&mut self, at: usize, own: usize, summaries: &mut [Summary]) -> bool {
+        let Some(place) = self.place(at) else {
+            return false;
+        };
+        if !self.comes_to(at) {
+            return false;
+        }
+        let before = self.differs_at(at);
+        let after = behind(&place, before, summaries);
         match place.way {
             Way::Goto(target) => match target {
                 Some(target) => self.differ(target, after),
                 None => false,
             },
-            Way::Return => false,
+            Way::Call(callee) => {
+                let entered = enter(callee, before, summaries);
+                self.differ_next(at, &place, after) || entered
+            }
+            Way::Return => own < summaries.len() && more(&mut summaries[own].returned, after),
             Way::Stop => false,
             Way::Restore => false,
-            _ => {
-                let next = at.saturating_add(1);
-                let on = self.differ(next, after);
-                if place.effect.skips {
-                    let past = self.word_from(next).saturating_add(1);
-                    self.differ(past, after) || on
-                } else {
-                    on
-                }
-            }
+            _ => self.differ_next(at, &place, after),
         }
     }
 
-    fn differ_round(&mut self, summaries: &[Summary]) -> bool {
+    fn differ_round(&mut self, own: usize, summaries: &mut [Summary]) -> bool {
         let mut changed = false;
+        if own < summaries.len() {
+            changed = self.differ(0, summaries[own].entered);
+        }
         for at in 0..self.places.len() {
-            if let Some(place) = self.place(at) {
-                changed = self.differ_on(at, &place, summaries) || changed;
-            }
+            changed = self.differ_on(at, own, summaries) || changed;
         }
         changed
     }
 
-    /// Finds what may differ at each place. Answers whether that was found.
-    pub fn find_differing(&mut self, summaries: &[Summary]) -> bool {
+    fn forget_differing(&mut self) {
         for live in self.differs.iter_mut() {
             *live = Live::nothing();
         }
-        self.differ(0, Live::all());
-        for _round in 0..200 {
-            if !self.differ_round(summaries) {
-                return true;
-            }
+        if self.begins {
+            self.differ(0, Live::all());
         }
-        false
     }
+}
+
+fn enter(callee: Option<usize>, before: Live, summaries: &mut [Summary]) -> bool {
+    match callee {
+        Some(callee) => { callee < summaries.len() && more(&mut summaries[callee].entered, before) }
+        None => false,
+    }
+}
+
+/// How often all blocks are gone through, at most.
+const ROUNDS: u32 = 1000;
+
+/// Finds what may differ at each place of all blocks. Answers whether that was found.
+pub fn find_differing(bodies: &mut [Body], summaries: &mut [Summary]) -> bool {
+    for body in bodies.iter_mut() {
+        body.forget_differing();
+    }
+    for summary in summaries.iter_mut() {
+        summary.entered = Live::nothing();
+        summary.returned = Live::nothing();
+    }
+    for _round in 0..ROUNDS {
+        let mut changed = false;
+        for own in 0..bodies.len() {
+            changed = bodies[own].differ_round(own, summaries) || changed;
+        }
+        if !changed {
+            return true;
+        }
+    }
+    false
 }

@@ -91,8 +91,8 @@ fn file_effect(op: FileOperation, aim: Aim, into_file: bool) -> Effect {
 
 fn store_effect(aim: Aim, from_w: bool) -> Effect {
     let byte = byte_of(aim);
+    // What FSR points to is the same byte on both machines, so nothing else has to be the same.
     Effect {
-        through: is_through(aim),
         uses_w: from_w,
         writes: byte,
         sets: Flags {

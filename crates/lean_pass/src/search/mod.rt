@@ -6,6 +6,7 @@ mod choosing;
 mod differing;
 mod effects;
 mod known;
+mod learning;
 mod living;
 mod planning;
 

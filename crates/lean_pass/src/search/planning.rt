@@ -5,7 +5,9 @@ use crate::rows::{Act, Apart, ByteSet, Facts, Note};
 use crate::search::bits::Bits;
 use crate::search::bodies::{Body, Live, Place, Summary, bodies_of};
 use crate::search::choosing::Aims;
+use crate::search::differing::find_differing;
 use crate::search::known::{BYTES, Knowledge};
+use crate::search::learning::learn_all;
 use crate::search::living::{find_live, find_outer};
 use pic_map::Placed;
 use std::alloc::{AllocError, Global};
@@ -162,7 +164,7 @@ fn block_plan(
     Ok(BlockPlan {
         plans: plans_of(alloc, body, summary.named, own)?,
         inside: body.inside,
-        ends: note_of(alloc, &Knowledge::nothing(), summary.back, apart, None)?,
+        ends: note_of(alloc, &body.ends, summary.back, apart, None)?,
         outer: set_of(alloc, summary.outer)?,
     })
 }
@@ -181,20 +183,12 @@ fn search_all(bodies: &mut [Body], summaries: &mut [Summary]) -> bool {
 }
 
 // One kind at a time. Answers whether anything went.
-fn search_once(bodies: &mut [Body], summaries: &[Summary]) -> bool {
+fn search_once(bodies: &mut [Body], summaries: &mut [Summary]) -> bool {
     improve_all(bodies, Aims::Dead, summaries)
-        || (differ_all(bodies, summaries)
+        || (find_differing(bodies, summaries)
             && (improve_all(bodies, Aims::Same, summaries)
                 || improve_all(bodies, Aims::SameZero, summaries)))
         || narrow_all(bodies, summaries)
-}
-
-fn differ_all(bodies: &mut [Body], summaries: &[Summary]) -> bool {
-    let mut found = true;
-    for body in bodies.iter_mut() {
-        found = body.find_differing(summaries) && found;
-    }
-    found
 }
 
 fn improve_all(bodies: &mut [Body], aims: Aims, summaries: &[Summary]) -> bool {
@@ -223,16 +217,6 @@ fn is_searched(name: BlockName) -> bool {
         BlockName::Start => false,
         BlockName::Copy(_) => true,
     }
-}
-
-fn learn_all(bodies: &mut [Body], ground: &Ground) -> bool {
-    let mut found = true;
-    for body in bodies.iter_mut() {
-        if is_searched(body.name) {
-            found = body.learn(ground) && found;
-        }
-    }
-    found
 }
 
 // The bytes of the handler's that may differ while it doesn't run: those that may at its front.
@@ -282,7 +266,7 @@ pub fn search(
     let mut summaries = vec![in alloc; Summary::nothing(); blocks.len()]?;
     let main = bytes_of(&ground, false);
     let isr = bytes_of(&ground, true);
-    let found = learn_all(&mut bodies, &ground)
+    let found = learn_all(alloc, &mut bodies, &ground, handler)?
         && search_all(&mut bodies, &mut summaries)
         && find_outer(&bodies, main, isr, &mut summaries);
     if !found {
