@@ -13,8 +13,8 @@ returns-in-Some c =
     subst (λ n. RanBy p outside n c.args.off.now.events c.args.off.now.runs (Some c.in-Some.fault)) c.steps_at-most.ensures.value
     (ran_fault p (content_of c.args.map.now) outside _ c.args.off.now.events c.args.off.now.runs c.in-Some.fault c.in_ok-run.run' (λ s program outside given few. c.in_ok-run.ensures.begins s program given few) c.in-Some.ensures.looked)
 
-pub returns-in-None : goal.returns-in-None
-returns-in-None c =
+pub returns : goal.returns
+returns c =
     let p = program_of c.args.program.now in
     let outside = outside_by c.args.off.now.by_length in
     subst (λ n. RanBy p outside n c.args.off.now.events c.args.off.now.runs c.to_end.result) c.steps_at-most.ensures.value
