@@ -259,12 +259,7 @@ fn is_register(storage: Storage) -> bool
 }
 
 // Puts a local after those that the body has. There is no memory for more than a `u32` numbers.
-fn next_local(
-    body: &mut Body,
-    name: &[u8],
-    ty: Qualified,
-    line: u32,
-) -> Result<u32, CheckError>
+fn next_local(body: &mut Body, name: &[u8], ty: Qualified, line: u32) -> Result<u32, CheckError>
     ensures { (known : Known) → Answers (λ number. number) result (body_in body.new known) (rule.add_local name.now ty line (body_in body.old known)) }
 {
     if body.local_count() > MOST_LOCALS {
