@@ -1,0 +1,13 @@
+pub mod Memory
+pub mod Relation
+pub mod Steps
+pub mod Control
+pub mod Accesses
+pub mod Bits
+pub mod Values
+pub mod Narrow
+pub mod Costs
+pub mod Machines
+pub mod Whole
+pub mod Lending
+pub mod Checking

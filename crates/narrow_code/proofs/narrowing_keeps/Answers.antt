@@ -1,0 +1,9 @@
+use Rattle.narrow_code.proofs.Lending as lending
+use Rattle.narrow_code.proofs.Whole as whole
+use Rattle.narrow_code.proofs.narrowing_keeps.Goals as goal
+
+pub returns-clause-follows : goal.returns-clause-follows
+returns-clause-follows c = whole.narrowing_keeps
+
+pub returns-clause-lending : goal.returns-clause-lending
+returns-clause-lending c = lending.always_open

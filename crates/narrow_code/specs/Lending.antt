@@ -1,0 +1,44 @@
+-- To which frames pointers may lead: to those of which code takes an address.
+use Rattle.std.specs.Prelude.{◌≡◌, ℕ, Bool, true, ◌&&◌, slice_get}
+use Rattle.pic_world.specs.World.{Outside}
+use Rattle.core_code.specs.Bytes.{Held, Unset, Number, Part}
+use Rattle.core_code.specs.Machine.{static_byte}
+use Rattle.core_code.specs.Tree as tree
+use Rattle.core_code.specs.Tree.{Tree, Trees, NoTree, AndTree}
+use Rattle.core_code.specs.declared.code.Byte.{Byte}
+use Rattle.core_code.specs.declared.code.Byte.TheVariants.{Static, Frame, Result, Device}
+use Rattle.narrow_code.specs.Links.{is_lent, IsOpen}
+use Rattle.narrow_code.specs.Plans.{all_given, Narrowing}
+
+-- a byte of a pointer leads to a frame that is lent
+abbrev pub leads_lent : (ℕ → Bool) → Held → Bool
+leads_lent lent Unset = true
+leads_lent lent (Number n) = true
+leads_lent lent (Part object offset high) = is_lent lent object
+
+-- an address is taken of a frame that is lent
+abbrev pub takes_lent : (ℕ → Bool) → Byte → Bool
+takes_lent lent (Static object offset) = true
+takes_lent lent (Frame copy offset) = lent copy
+takes_lent lent (Result root k) = true
+takes_lent lent (Device address) = true
+
+abbrev mutual
+  pub lends : (ℕ → Bool) → Tree → Bool
+  lends lent (tree.Address to place) = takes_lent lent place
+  lends lent (tree.Many ts) = all_lend lent ts
+  lends lent (tree.If test size first second) = lends lent first && lends lent second
+  lends lent (tree.Loop body) = lends lent body
+  lends lent _ = true
+
+  pub all_lend : (ℕ → Bool) → Trees → Bool
+  all_lend lent NoTree = true
+  all_lend lent (AndTree t ts) = lends lent t && all_lend lent ts
+
+pub record IsLending (x : Narrowing) : Type 0 where
+  pub bodies : (c : ℕ) → all_lend x.lent (all_given (x.plan c)) ≡ true
+  pub first : (n offset : ℕ) → leads_lent x.lent (static_byte (slice_get x.rest.first n) offset) ≡ true
+
+-- Where addresses are taken of such frames alone, no pointer ever leads to another one.
+abbrev pub AlwaysOpen : Type 0
+AlwaysOpen = (x : Narrowing) → IsLending x → (o : Outside) (n : ℕ) → IsOpen x o n

@@ -1,0 +1,24 @@
+//! Byte code whose operators are done on the low bytes alone, where nothing asks for the others: when a plan of it is right, a test of
+//! drafts of such plans, and what code keeps that is made by one.
+//!
+//! In: nothing; the crate has definitions and their proofs. Out: nothing.
+//! The promise: code that is made by a plan that is right follows the given code, step by step, under every schedule, and costs no more.
+#![tactic(auto)]
+
+ghost use Rattle.narrow_code.specs.Checked.{TestIsRight};
+ghost use Rattle.narrow_code.specs.Drafts.{PlansAreOfCode};
+ghost use Rattle.narrow_code.specs.Lending.{AlwaysOpen};
+ghost use Rattle.narrow_code.specs.Links.{NarrowingKeeps};
+
+/// Code that is made by a plan that is right follows the given code; its premise on pointers holds where addresses are taken only of
+/// frames that the plan has as lent.
+pub fn narrowing_keeps()
+    ensures follows { NarrowingKeeps }
+    ensures lending { AlwaysOpen }
+{}
+
+/// A draft that passes the test makes a plan that is right, and whatever the draft, the plan is one of the given code.
+pub fn test_is_right()
+    ensures fits { TestIsRight }
+    ensures given { PlansAreOfCode }
+{}
