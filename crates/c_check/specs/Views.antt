@@ -14,7 +14,7 @@ use Rattle.type_rules.specs.Known.{Rule, given, known_here, tried, ◌>>=◌}
 use Rattle.type_rules.specs.Slots as rule
 use Rattle.type_rules.specs.Terms.{Operand}
 use Rattle.c_check.specs.declared.slots.Sink.{Sink}
-use Rattle.c_check.specs.declared.slots.Slot.{Slot}
+use Rattle.c_check.specs.declared.slot.Slot.{Slot}
 
 abbrev pub slot_of : Slot → rule.Slot
 slot_of s = record { ty = s.ty; offset = s.offset }

@@ -12,6 +12,7 @@ mod flow;
 mod initializer;
 mod objects;
 mod parts;
+mod slot;
 mod slots;
 mod statement;
 mod switch;

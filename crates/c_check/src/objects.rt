@@ -13,14 +13,13 @@ ghost use Rattle.type_rules.specs.Names as names;
 ghost use Rattle.type_rules.specs.Objects as rule;
 ghost use Rattle.type_rules.specs.Rows.{bytes_of, is_complete};
 ghost use Rattle.c_operate.specs.Answers.{Answers, Learns};
-ghost use Rattle.c_operate.specs.Tables.{body_in, known_of, scopes_in, types_in};
+ghost use Rattle.c_operate.specs.Tables.{known_of, scopes_in, types_in};
 ghost use Rattle.check_expr.specs.Views.{is_register, outline_of, specified_of};
 ghost use Rattle.c_check.specs.Views.{any_init, only_one, slot_of};
 
 use crate::initializer::begun;
-use crate::slots::Slot;
+use crate::slot::Slot;
 use crate::types::{both, either};
-use c_operate::body::Body;
 use c_operate::checker::Checker;
 use c_operate::error::{CheckError, Kind, refused};
 use c_operate::scope::{Binding, Scopes};
@@ -34,9 +33,6 @@ use std::alloc::{AllocError, Global};
 
 // The greatest number of bytes that an object has, and of elements that an array has.
 const MOST: u64 = 65_535;
-
-// The greatest number that a local has.
-const MOST_LOCALS: usize = 0xffff_ffff;
 
 fn is_within(count: u64) -> bool
     ensures { result ≡ nat_le count 65535 }
@@ -258,16 +254,6 @@ fn is_register(storage: Storage) -> bool
     }
 }
 
-// Puts a local after those that the body has. There is no memory for more than a `u32` numbers.
-fn next_local(body: &mut Body, name: &[u8], ty: Qualified, line: u32) -> Result<u32, CheckError>
-    ensures { (known : Known) → Answers (λ number. number) result (body_in body.new known) (rule.add_local name.now ty line (body_in body.old known)) }
-{
-    if body.local_count() > MOST_LOCALS {
-        return Err(CheckError::NoMemory);
-    }
-    body.add_local(name, ty, line)
-}
-
 /// What the declarator of a local does.
 pub(crate) fn local_object(
     init: Option<&Init>,
@@ -280,7 +266,7 @@ pub(crate) fn local_object(
     ensures { Answers (λ made. map statement_of made.items) result (known_of checker.new) (rule.local_rule (any_init init.entry) name.now ty (is_register specified.storage) line (known_of checker.old)) }
 {
     let fixed = is_register(specified.storage);
-    let local = next_local(&mut checker.body, name, ty, line)?;
+    let local = checker.body.add_local(name, ty, line)?;
     bind_object(&mut checker.scopes, name, Object::Local(local), ty, fixed)?;
     match init {
         Some(init) => begin_local(init, checker, local, name, ty, fixed, line),
@@ -300,7 +286,7 @@ fn one_statement(alloc: Global, statement: TStmt) -> Result<Vec<TStmt>, CheckErr
 fn begin_local(
     init: &Init,
     checker: &mut Checker,
-    local: u32,
+    local: usize,
     name: &[u8],
     ty: Qualified,
     fixed: bool,
@@ -342,7 +328,7 @@ fn is_one_value(init: &Init, ty: Ty) -> bool
 fn local_statements(
     init: &Init,
     alloc: Global,
-    local: u32,
+    local: usize,
     ty: Qualified,
     items: Vec<TItem>,
     line: u32,
@@ -372,7 +358,7 @@ fn only(items: Vec<TItem>) -> Option<TItem>
 // once the local is unset.
 fn begun_as_one(
     alloc: Global,
-    local: u32,
+    local: usize,
     ty: Qualified,
     items: Vec<TItem>,
     line: u32,
@@ -397,7 +383,7 @@ fn begun_as_one(
 #[tactic(auto, using(crate::proofs::Locals::struct_assigned))]
 fn structure_assigned(
     alloc: Global,
-    local: u32,
+    local: usize,
     ty: Qualified,
     from: TPlace,
     size: u64,

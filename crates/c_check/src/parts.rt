@@ -1,6 +1,6 @@
 //! What an initializer gives to a part of an object (ISO/IEC 9899:1990, 6.5.7).
 
-ghost use Rattle.std.specs.Prelude.{◌≡◌, ℕ, ◌+◌, ◌++◌, pos, IfErr, IfOk, OnOk};
+ghost use Rattle.std.specs.Prelude.{◌≡◌, ℕ, ◌+◌, ◌<◌, ◌^◌, ◌++◌, pos, IfErr, OnOk};
 ghost use Rattle.std.specs.Prelude as list;
 ghost use Rattle.c_ints.specs.Range as range;
 ghost use Rattle.c_tree.specs.Words.{quoted};
@@ -14,7 +14,8 @@ ghost use Rattle.c_operate.specs.Terms.{operand_of};
 ghost use Rattle.c_operate.specs.declared.error.CheckError.TheVariants.{NoMemory};
 ghost use Rattle.c_check.specs.Views.{any_slot, begin_scalar, begun_of, slot_of};
 
-use crate::slots::{Sink, Slot};
+use crate::slot::Slot;
+use crate::slots::Sink;
 use crate::text::characters;
 use crate::types::is_char;
 use c_ints::{IntTy, Value};
@@ -93,19 +94,9 @@ fn char_array(types: &Types, ty: Ty) -> Option<u32>
     }
 }
 
-// The offset of the byte behind this one. No memory has an object that is too long for it.
-fn next(offset: u64) -> Result<u64, CheckError>
-    ensures ok { IfOk result (λ n. n ≡ offset + 1) }
-    ensures err { IfErr result (λ e. e ≡ NoMemory) }
-{
-    match offset.checked_add(1) {
-        Some(next) => Ok(next),
-        None => Err(CheckError::NoMemory),
-    }
-}
-
 #[tactic(auto, using(crate::proofs::Puts::one_more, crate::proofs::Puts::all_put))]
 fn push_bytes(begun: &mut Vec<Initial>, offset: u64, bytes: &[u8]) -> Result<(), CheckError>
+    requires { offset < 2 ^ 63 }
     ensures ok { OnOk result (begun.new.items ≡ begun.old.items ++ rule.bytes_at offset bytes.now) }
     ensures err { IfErr result (λ e. e ≡ NoMemory) }
 {
@@ -115,13 +106,14 @@ fn push_bytes(begun: &mut Vec<Initial>, offset: u64, bytes: &[u8]) -> Result<(),
             offset: at,
             byte: InitialByte::Number(*byte),
         })?;
-        at = next(at)?;
+        at += 1;
     }
     Ok(())
 }
 
 // Gives a static object these first bytes.
 fn put_bytes(sink: &mut Sink, offset: u64, bytes: &[u8]) -> Result<(), CheckError>
+    requires { offset < 2 ^ 63 }
     ensures ok { OnOk result (begun_of sink.new ≡ rule.with_initial (rule.bytes_at offset bytes.now) (begun_of sink.old)) }
     ensures err { IfErr result (λ e. e ≡ NoMemory) }
 {
@@ -147,6 +139,7 @@ fn pattern(ty: IntTy, value: Value) -> u32
 
 // The bytes of a number, the lowest first.
 fn put_number(sink: &mut Sink, offset: u64, ty: IntTy, value: Value) -> Result<(), CheckError>
+    requires { offset < 2 ^ 63 }
     ensures ok { OnOk result (begun_of sink.new ≡ rule.with_initial (rule.bytes_at offset (rule.number_bytes ty value)) (begun_of sink.old)) }
     ensures err { IfErr result (λ e. e ≡ NoMemory) }
 {
@@ -168,6 +161,7 @@ fn put_number(sink: &mut Sink, offset: u64, ty: IntTy, value: Value) -> Result<(
 
 #[tactic(auto, using(crate::proofs::Puts::address_put))]
 fn push_address(begun: &mut Vec<Initial>, offset: u64, object: usize) -> Result<(), CheckError>
+    requires { offset < 2 ^ 63 }
     ensures ok { OnOk result (begun.new.items ≡ begun.old.items ++ rule.address_bytes offset object) }
     ensures err { IfErr result (λ e. e ≡ NoMemory) }
 {
@@ -176,13 +170,14 @@ fn push_address(begun: &mut Vec<Initial>, offset: u64, object: usize) -> Result<
         byte: InitialByte::Address { object, byte: 0 },
     })?;
     begun.push(Initial {
-        offset: next(offset)?,
+        offset: offset + 1,
         byte: InitialByte::Address { object, byte: 1 },
     })?;
     Ok(())
 }
 
 fn put_address(sink: &mut Sink, offset: u64, object: usize) -> Result<(), CheckError>
+    requires { offset < 2 ^ 63 }
     ensures ok { OnOk result (begun_of sink.new ≡ rule.with_initial (rule.address_bytes offset object) (begun_of sink.old)) }
     ensures err { IfErr result (λ e. e ≡ NoMemory) }
 {

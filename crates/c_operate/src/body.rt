@@ -1,6 +1,6 @@
 //! The body of a function while it is checked (ISO/IEC 9899:1990, 6.7.1).
 
-ghost use Rattle.std.specs.Prelude.{◌≡◌, ◌<◌, ◌^◌, [], length, map, Ok, IfOk};
+ghost use Rattle.std.specs.Prelude.{◌≡◌, [], map, Ok, IfOk};
 ghost use Rattle.c_typed.specs.Views.{variable_of};
 ghost use Rattle.type_rules.specs.Known.{Known, no_body};
 ghost use Rattle.type_rules.specs.Objects as objects;
@@ -72,19 +72,11 @@ impl Body {
         Ok(declarator)
     }
 
-    /// How many locals the body has so far.
-    pub fn local_count(&self) -> usize
-        ensures { result ≡ length self.now.locals.items }
-    {
-        self.locals.len()
-    }
-
-    /// Puts a local after those that the body has, and gives its number. A `u32` numbers it.
-    pub fn add_local(&mut self, name: &[u8], ty: Qualified, line: u32) -> Result<u32, CheckError>
-        requires { length self.old.locals.items < 2 ^ 32 }
+    /// Puts a local after those that the body has, and gives its number.
+    pub fn add_local(&mut self, name: &[u8], ty: Qualified, line: u32) -> Result<usize, CheckError>
         ensures { (known : Known) → Answers (λ number. number) result (body_in self.new known) (objects.add_local name.now ty line (body_in self.old known)) }
     {
-        let local = self.locals.len() as u32;
+        let local = self.locals.len();
         self.locals.push(Variable {
             name: name.to_vec(self.alloc)?,
             ty,
@@ -94,10 +86,10 @@ impl Body {
     }
 
     /// Gives a local the type that its initializer completed.
-    pub fn complete_local(&mut self, local: u32, ty: Qualified)
+    pub fn complete_local(&mut self, local: usize, ty: Qualified)
         ensures { (known : Known) → objects.complete_local local ty (body_in self.old known) ≡ Ok (body_in self.new known, body_in self.new known) }
     {
-        if let Some(entry) = self.locals.get_mut(local as usize) {
+        if let Some(entry) = self.locals.get_mut(local) {
             entry.ty = ty;
         }
     }

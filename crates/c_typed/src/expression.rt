@@ -16,7 +16,7 @@ pub enum Object {
     /// The parameter of this number of the function that the node stands in.
     Param(usize),
     /// The local of this number of the function that the node stands in.
-    Local(u32),
+    Local(usize),
     /// The device register with this lowest address.
     Register(u8),
 }

@@ -30,19 +30,19 @@ pub enum TStmt {
     },
     /// The declarator of a local that is given no value: its bytes become unset. It is no node.
     Declare {
-        local: u32,
+        local: usize,
         line: u32,
     },
     /// The declarator of a local that is an integer or a pointer, and its value.
     InitScalar {
-        local: u32,
+        local: usize,
         value: TExpr,
         line: u32,
     },
     /// The declarator of a local with a list or a string: its items in order. Bytes without an item
     /// become 0 after them.
     InitList {
-        local: u32,
+        local: usize,
         items: Vec<TItem>,
         line: u32,
     },

@@ -88,7 +88,7 @@ pub fn object_byte(object: Object, copy: u16, places: &Locals) -> Byte
         },
         Object::Local(number) => Byte::Frame {
             copy,
-            offset: offset_at(&places.locals, number as usize),
+            offset: offset_at(&places.locals, number),
         },
         Object::Register(address) => Byte::Device { address },
     }

@@ -139,7 +139,7 @@ fn put_items(site: &Site, to: Byte, items: &[TItem], out: &mut Vec<Core>) -> Res
 #[tactic(auto, using(std::proofs::lemmas::List::append_assoc))]
 pub fn put_list(
     site: &Site,
-    local: u32,
+    local: usize,
     items: &[TItem],
     out: &mut Vec<Core>,
 ) -> Result<(), AllocError>

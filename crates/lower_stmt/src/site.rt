@@ -97,10 +97,10 @@ pub fn put_any(site: &Site, value: &Option<TExpr>, out: &mut Vec<Core>) -> Resul
     }
 }
 
-fn offset_at(offsets: &[u16], number: u32) -> u16
+fn offset_at(offsets: &[u16], number: usize) -> u16
     ensures { result ≡ slice_index offsets.now number }
 {
-    match offsets.get(number as usize) {
+    match offsets.get(number) {
         Some(offset) => *offset,
         None => 0,
     }
@@ -108,7 +108,7 @@ fn offset_at(offsets: &[u16], number: u32) -> u16
 
 /// The first byte of a local.
 #[tactic(auto, unfolding(crate::specs::Ground::ground_of))]
-pub fn local_byte(site: &Site, local: u32) -> Byte
+pub fn local_byte(site: &Site, local: usize) -> Byte
     ensures { result ≡ ground.local_byte (ground_of site.now) local }
 {
     Byte::Frame {
@@ -117,10 +117,10 @@ pub fn local_byte(site: &Site, local: u32) -> Byte
     }
 }
 
-fn size_at(structures: &[Structure], locals: &[Variable], local: u32) -> u64
+fn size_at(structures: &[Structure], locals: &[Variable], local: usize) -> u64
     ensures { result ≡ slice_index (map (variable_bytes (map size_of structures.now)) (map variable_of locals.now)) local }
 {
-    match locals.get(local as usize) {
+    match locals.get(local) {
         Some(variable) => bytes_of(structures, variable.ty.ty),
         None => 0,
     }
@@ -128,7 +128,7 @@ fn size_at(structures: &[Structure], locals: &[Variable], local: u32) -> u64
 
 /// How many bytes a local has.
 #[tactic(auto, unfolding(crate::specs::Ground::ground_of))]
-pub fn local_bytes(site: &Site, local: u32) -> u64
+pub fn local_bytes(site: &Site, local: usize) -> u64
     ensures { result ≡ ground.local_bytes (ground_of site.now) local }
 {
     size_at(site.places.structures, site.locals, local)

@@ -459,17 +459,17 @@ fn cases_words(bytes: u64, cases: &[TCase]) -> u64
 }
 
 // The bytes of the local of that number.
-fn local_bytes(structures: &[Structure], locals: &[Variable], local: u32) -> u64
+fn local_bytes(structures: &[Structure], locals: &[Variable], local: usize) -> u64
     ensures { result ≡ slice_index (map (stated.variable_bytes (map size_of structures.now)) (map variable_of locals.now)) local }
 {
-    match locals.get(local as usize) {
+    match locals.get(local) {
         Some(variable) => bytes_of(structures, variable.ty.ty),
         None => 0,
     }
 }
 
 // A local's list: its items, and 4 words for each byte of the local without an item.
-fn list_words(structures: &[Structure], locals: &[Variable], local: u32, items: &[TItem]) -> u64
+fn list_words(structures: &[Structure], locals: &[Variable], local: usize, items: &[TItem]) -> u64
     ensures { result ≡ capped (stated.items_words (map size_of structures.now) (map item_of items.now) + 4 * (slice_index (map (stated.variable_bytes (map size_of structures.now)) (map variable_of locals.now)) local - stated.items_bytes (map size_of structures.now) (map item_of items.now))) }
 {
     let sum = items_words(structures, items);

@@ -305,7 +305,7 @@ impl<'a> Machine<'a> {
     fn stored_in_list(
         &mut self,
         code: Code<'a>,
-        local: u32,
+        local: usize,
         items: &'a Vec<TItem>,
         stage: Stage,
     ) -> Outcome

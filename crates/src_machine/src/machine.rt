@@ -450,8 +450,11 @@ impl<'a> Machine<'a> {
         match pending {
             Pending::Value(value) => {
                 let value = *value;
-                self.memory
-                    .put_value(Object::Variable { copy, number }, value);
+                let variable = Object::Variable {
+                    copy,
+                    number: number as u128,
+                };
+                self.memory.put_value(variable, value);
             }
             Pending::In(_, _)
             | Pending::To(_)

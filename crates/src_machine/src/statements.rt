@@ -521,7 +521,7 @@ impl<'a> Machine<'a> {
     }
 
     // The declarator of a local: its bytes become unset.
-    fn declared(&mut self, local: u32) -> Object
+    fn declared(&mut self, local: usize) -> Object
         ensures object { result ≡ objects.local_of (program_of self.old.program.now) self.old.copy local }
         ensures memory { memory_of self.new ≡ cleared (memory_of self.old) (objects.local_of (program_of self.old.program.now) self.old.copy local) }
         ensures shape { (p : Program) (map : MapContent) → IsShaped p map self.old.memory → IsShaped p map self.new.memory }
@@ -570,7 +570,7 @@ impl<'a> Machine<'a> {
     }
 
     // The declarator of a local with a list begins.
-    fn listed(&mut self, code: Code<'a>, local: u32, items: &'a Vec<TItem>) -> Outcome
+    fn listed(&mut self, code: Code<'a>, local: usize, items: &'a Vec<TItem>) -> Outcome
         ensures tells { HasRoom 1 self.old → HasItems (statement_in code.entry) items.now → (o : Outside) (w : Worlds Bytes) → silent result self.new w ≡ stated_items (setting_of self.old o) (statement_in code.entry) (objects.local_of (program_of self.old.program.now) self.old.copy local) (map item_of items.now.items) (stack_of self.old) self.old.copy (cleared (memory_of self.old) (objects.local_of (program_of self.old.program.now) self.old.copy local)) w }
         ensures others { self.new ≡ record self.old { stack = self.new.stack; focus = self.new.focus; memory = self.new.memory } }
         ensures quiet { is_quiet result ≡ true }

@@ -82,16 +82,16 @@ fn unset_all(bytes: &mut Vec<Byte>)
 }
 
 // The object of a number gets a byte.
-fn put_in(cells: &mut [Cells], number: usize, offset: u64, byte: Byte)
+fn put_in(cells: &mut [Cells], number: u128, offset: u64, byte: Byte)
     ensures { (k : ℕ) → cell_at cells.new k ≡ if nat_eq k number then put_cell (cell_at cells.old k) offset byte else cell_at cells.old k }
 {
-    if number < cells.len() {
-        put_byte(&mut cells[number].bytes, offset, byte);
+    if number < cells.len() as u128 {
+        put_byte(&mut cells[number as usize].bytes, offset, byte);
     }
 }
 
 // The variable of a number of a function gets a byte.
-fn put_in_frame(frames: &mut [Vec<Cells>], function: usize, number: usize, offset: u64, byte: Byte)
+fn put_in_frame(frames: &mut [Vec<Cells>], function: usize, number: u128, offset: u64, byte: Byte)
     ensures { (f k : ℕ) → variable_at frames.new f k ≡ if nat_eq f function && nat_eq k number then put_cell (variable_at frames.old f k) offset byte else variable_at frames.old f k }
 {
     if function < frames.len() {
@@ -100,16 +100,16 @@ fn put_in_frame(frames: &mut [Vec<Cells>], function: usize, number: usize, offse
 }
 
 // No byte of the object of a number has a value any longer.
-fn clear_in(cells: &mut [Cells], number: usize)
+fn clear_in(cells: &mut [Cells], number: u128)
     ensures { (k : ℕ) → cell_at cells.new k ≡ if nat_eq k number then cleared_cell (cell_at cells.old k) else cell_at cells.old k }
 {
-    if number < cells.len() {
-        unset_all(&mut cells[number].bytes);
+    if number < cells.len() as u128 {
+        unset_all(&mut cells[number as usize].bytes);
     }
 }
 
 // No byte of the variable of a number of a function has a value any longer.
-fn clear_in_frame(frames: &mut [Vec<Cells>], function: usize, number: usize)
+fn clear_in_frame(frames: &mut [Vec<Cells>], function: usize, number: u128)
     ensures { (f k : ℕ) → variable_at frames.new f k ≡ if nat_eq f function && nat_eq k number then cleared_cell (variable_at frames.old f k) else variable_at frames.old f k }
 {
     if function < frames.len() {
@@ -122,7 +122,7 @@ fn clear_all(cells: &mut [Cells])
     ensures { (k : ℕ) → cell_at cells.new k ≡ cleared_cell (cell_at cells.old k) }
 {
     for number in 0..cells.len() {
-        clear_in(cells, number);
+        clear_in(cells, number as u128);
     }
 }
 
@@ -136,13 +136,17 @@ fn clear_frame(frames: &mut [Vec<Cells>], function: usize)
 }
 
 // An object of a list, if it has one of the number.
-fn cells_in(cells: &[Cells], number: usize) -> Option<&Cells>
+fn cells_in(cells: &[Cells], number: u128) -> Option<&Cells>
     ensures { cell_or_none result ≡ cell_at cells.now number }
 {
-    cells.get(number)
+    if number < cells.len() as u128 {
+        Some(&cells[number as usize])
+    } else {
+        None
+    }
 }
 
-fn cells_of(frames: &[Vec<Cells>], function: usize, number: usize) -> Option<&Cells>
+fn cells_of(frames: &[Vec<Cells>], function: usize, number: u128) -> Option<&Cells>
     ensures { cell_or_none result ≡ variable_at frames.now function number }
 {
     cells_in(frames.get(function)?, number)
@@ -175,7 +179,7 @@ impl Memory {
         ensures { cell_or_none result ≡ cell_in self.now object }
     {
         match object {
-            Object::Fixed(number) => cells_in(&self.fixed, number),
+            Object::Fixed(number) => cells_in(&self.fixed, number as u128),
             Object::Variable { copy, number } => {
                 cells_of(self.frames(copy.root), copy.function, number)
             }
@@ -246,7 +250,7 @@ impl Memory {
         ensures { (o : AnyObject) → cell_in self.new o ≡ if same_object o object then put_cell (cell_in self.old o) offset byte else cell_in self.old o }
     {
         match object {
-            Object::Fixed(number) => put_in(&mut self.fixed, number, offset, byte),
+            Object::Fixed(number) => put_in(&mut self.fixed, number as u128, offset, byte),
             Object::Variable { copy, number } => match copy.root {
                 Root::Main => put_in_frame(&mut self.main, copy.function, number, offset, byte),
                 Root::Isr => put_in_frame(&mut self.handler, copy.function, number, offset, byte),
@@ -268,7 +272,7 @@ impl Memory {
         ensures { (o : AnyObject) → cell_in self.new o ≡ if same_object o object then cleared_cell (cell_in self.old o) else cell_in self.old o }
     {
         match object {
-            Object::Fixed(number) => clear_in(&mut self.fixed, number),
+            Object::Fixed(number) => clear_in(&mut self.fixed, number as u128),
             Object::Variable { copy, number } => match copy.root {
                 Root::Main => clear_in_frame(&mut self.main, copy.function, number),
                 Root::Isr => clear_in_frame(&mut self.handler, copy.function, number),

@@ -376,7 +376,7 @@ pub fn read_type(top: Option<&Pending>) -> Ty
 }
 
 #[tactic(auto, using(crate::proofs::Sights::lists))]
-fn list_in(statement: &TStmt) -> Option<(u32, &Vec<TItem>)>
+fn list_in(statement: &TStmt) -> Option<(usize, &Vec<TItem>)>
     ensures { list_seen result ≡ list_in (statement_of statement.now) }
 {
     match statement {
@@ -396,7 +396,7 @@ fn list_in(statement: &TStmt) -> Option<(u32, &Vec<TItem>)>
 }
 
 /// The list that waits, and the number of its local.
-pub fn list_at<'a>(top: Option<&Pending<'a>>) -> Option<(u32, &'a Vec<TItem>)>
+pub fn list_at<'a>(top: Option<&Pending<'a>>) -> Option<(usize, &'a Vec<TItem>)>
     ensures { (x : stated.Focus) (k : List Pending) → list_seen result ≡ list_on (frames_in x (with_top top.entry k)) }
 {
     match top {

@@ -1,13 +1,13 @@
 //! What numbers and names of a program stand for: functions, objects with their sizes, and places.
 
-ghost use Rattle.std.specs.Prelude.{◌≡◌, ◌<◌, ◌^◌, length, map, slice_get};
+ghost use Rattle.std.specs.Prelude.{◌≡◌, length, map, slice_get};
 ghost use Rattle.c_typed.specs.Roots as roots;
-ghost use Rattle.c_typed.specs.Views.{program_of, function_of};
+ghost use Rattle.c_typed.specs.Views.{program_of, function_of, variable_of};
 ghost use Rattle.src_values.specs.Objects as stated;
 
 use crate::objects::{CopyOf, Object, Spot};
 use crate::pointers::behind;
-use c_typed::{Function, Object as Name, Typed};
+use c_typed::{Function, Object as Name, Typed, Variable};
 
 fn same_bytes(a: &[u8], b: &[u8]) -> bool
     ensures { result ≡ roots.same_bytes a.now b.now }
@@ -78,8 +78,7 @@ pub fn line_of(program: &Typed, function: usize) -> u32
 
 // How many parameters a function has.
 fn param_count(program: &Typed, function: usize) -> usize
-    ensures value { result ≡ length (stated.function_at (program_of program.now) function).params }
-    ensures bound { result < 2 ^ 63 }
+    ensures { result ≡ length (stated.function_at (program_of program.now) function).params }
 {
     match program.functions.get(function) {
         Some(found) => found.params.len(),
@@ -88,12 +87,12 @@ fn param_count(program: &Typed, function: usize) -> usize
 }
 
 /// The local of this number of a function copy.
-pub fn local_of(program: &Typed, copy: CopyOf, number: u32) -> Object
+pub fn local_of(program: &Typed, copy: CopyOf, number: usize) -> Object
     ensures { result ≡ stated.local_of (program_of program.now) copy number }
 {
     Object::Variable {
         copy,
-        number: param_count(program, copy.function) + number as usize,
+        number: param_count(program, copy.function) as u128 + number as u128,
     }
 }
 
@@ -103,25 +102,38 @@ pub fn spot_of(program: &Typed, copy: CopyOf, name: Name) -> Spot
 {
     match name {
         Name::Static(number) => behind(Object::Fixed(number), 0),
-        Name::Param(number) => behind(Object::Variable { copy, number }, 0),
+        Name::Param(number) => behind(
+            Object::Variable {
+                copy,
+                number: number as u128,
+            },
+            0,
+        ),
         Name::Local(number) => behind(local_of(program, copy, number), 0),
         Name::Register(address) => Spot::Device(address),
     }
 }
 
+// How many bytes the variable of a number has, 0 where there is none.
+fn bytes_at(program: &Typed, variables: &[Variable], number: u128) -> u64
+    ensures { result ≡ stated.bytes_of_variable (program_of program.now).sizes (slice_get (map variable_of variables.now) number) }
+{
+    if number < variables.len() as u128 {
+        program.bytes_of(variables[number as usize].ty.ty)
+    } else {
+        0
+    }
+}
+
 // How many bytes a variable of a function has: parameters are counted first, then locals.
-fn variable_bytes(program: &Typed, function: &Function, number: usize) -> u64
+fn variable_bytes(program: &Typed, function: &Function, number: u128) -> u64
     ensures { result ≡ stated.bytes_of_variable (program_of program.now).sizes (slice_get (stated.variables_of (function_of function.now)) number) }
 {
-    let count = function.params.len();
-    let variable = if number < count {
-        function.params.get(number)
+    let count = function.params.len() as u128;
+    if number < count {
+        bytes_at(program, &function.params, number)
     } else {
-        function.locals.get(number - count)
-    };
-    match variable {
-        Some(variable) => program.bytes_of(variable.ty.ty),
-        None => 0,
+        bytes_at(program, &function.locals, number - count)
     }
 }
 

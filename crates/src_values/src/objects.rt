@@ -22,7 +22,7 @@ pub struct CopyOf {
 #[derive(Clone, Copy, PartialEq, Eq)]
 pub enum Object {
     Fixed(usize),
-    Variable { copy: CopyOf, number: usize },
+    Variable { copy: CopyOf, number: u128 },
 }
 
 fn same_root(a: Root, b: Root) -> bool

@@ -17,7 +17,7 @@ fn put_head(out: &mut Listing, head: &str, line: u32, depth: u32) -> Result<(), 
 fn put_local(
     out: &mut Listing,
     head: &str,
-    local: u32,
+    local: usize,
     line: u32,
     depth: u32,
 ) -> Result<(), AllocError> {
